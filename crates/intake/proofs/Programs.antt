@@ -61,30 +61,36 @@ pub given_whole : (held : Held) (name : List ℕ) (xs : List ℕ) → length xs 
     → IsGiven (option_map (first 1048577) (held name)) (Ok xs) → IsGiven (held name) (Ok xs)
 given_whole held name xs few given = whole_of (held name) 1048576 1048577 xs (omega arith) few given
 
--- a file may have more bytes than these
-record HasMore (known : Option Bytes) (n : ℕ) : Type 0 where
+-- all that a file may hold, of which something holds
+pub record Whole (known : Option Bytes) (Holds : List ℕ → Type 0) : Type 0 where
   pub whole : List ℕ
   pub given : IsGiven known (Ok whole)
-  pub more : n < length whole
+  pub holds : Holds whole
 
+-- what its first bytes are, and what holds of these
+all_given : (known : Option Bytes) (Holds : List ℕ → Type 0) (m : ℕ) (xs : List ℕ) → Holds xs
+    → ((whole : List ℕ) → xs ≡ take m whole → Holds whole) → IsGiven (option_map (first m) known) (Ok xs) → Whole known Holds
+all_given None Holds m xs here more given = record { whole = xs; given = tt; holds = here }
+all_given (Some (Ok whole)) Holds m xs here more given = record {
+  whole = whole;
+  given = λ other. refl;
+  holds = more whole (same_bytes xs (take m whole) (given (was_read xs NoMemoryInFile)));
+}
+all_given (Some (Err e)) Holds m xs here more given = absurd (was_read xs e (given (was_read xs NoMemoryInFile)))
+
+-- a file may have more bytes than these
 has_more : (known : Option Bytes) (n m : ℕ) (xs : List ℕ) → n < length xs → IsGiven (option_map (first m) known) (Ok xs)
-    → HasMore known n
-has_more None n m xs more given = record { whole = xs; given = tt; more = more }
-has_more (Some (Ok whole)) n m xs more given =
-    let is : xs ≡ take m whole = same_bytes xs (take m whole) (given (was_read xs NoMemoryInFile)) in
-    record {
-      whole = whole;
-      given = λ other. refl;
-      more = no_longer n m whole (subst (λ (ys : List ℕ). n < length ys) is more);
-    }
-has_more (Some (Err e)) n m xs more given = absurd (was_read xs e (given (was_read xs NoMemoryInFile)))
+    → Whole known (λ ys. n < length ys)
+has_more known n m xs more given =
+    all_given known (λ ys. n < length ys) m xs more
+    (λ whole is. no_longer n m whole (subst (λ (ys : List ℕ). n < length ys) is more)) given
 
 -- a file of which too much was read is too long
 pub too_long : (held : Held) (name : List ℕ) (xs : List ℕ) → 1048576 < length xs
     → IsGiven (option_map (first 1048577) (held name)) (Ok xs) → IsTooLong held name
 too_long held name xs more given =
     let all = has_more (held name) 1048576 1048577 xs more given in
-    record { bytes = all.whole; given = all.given; long = all.more }
+    record { bytes = all.whole; given = all.given; long = all.holds }
 
 -- ---- choices
 
@@ -101,22 +107,11 @@ filed_begun n m xs less = elim (cases_lt n (length (take m xs))) [
 ]
 
 -- all of a file that says what its first bytes say
-pub record SaysAsMuch (known : Option Bytes) (n : ℕ) (xs : List ℕ) : Type 0 where
-  pub whole : List ℕ
-  pub given : IsGiven known (Ok whole)
-  pub same : filed_within n whole ≡ filed_within n xs
-
 pub filed_whole : (known : Option Bytes) (n m : ℕ) (xs : List ℕ) → n < m → IsGiven (option_map (first m) known) (Ok xs)
-    → SaysAsMuch known n xs
-filed_whole None n m xs less given = record { whole = xs; given = tt; same = refl }
-filed_whole (Some (Ok whole)) n m xs less given =
-    let is : xs ≡ take m whole = same_bytes xs (take m whole) (given (was_read xs NoMemoryInFile)) in
-    record {
-      whole = whole;
-      given = λ other. refl;
-      same = sym (filed_begun n m whole less) ∙ ap (filed_within n) (sym is);
-    }
-filed_whole (Some (Err e)) n m xs less given = absurd (was_read xs e (given (was_read xs NoMemoryInFile)))
+    → Whole known (λ ys. filed_within n ys ≡ filed_within n xs)
+filed_whole known n m xs less given =
+    all_given known (λ ys. filed_within n ys ≡ filed_within n xs) m xs refl
+    (λ whole is. sym (filed_begun n m whole less) ∙ ap (filed_within n) (sym is)) given
 
 -- a file whose first bytes can't be read can't be read
 pub not_read : (known : Option Bytes) (m : ℕ) → IsGiven (option_map (first m) known) (Err Unread) → IsGiven known (Err Unread)

@@ -32,7 +32,7 @@ pub says_choices : (held : Held) (name xs : List ℕ) (choices : Option (List �
     → IsGiven (option_map (first 16777217) (held name)) (Ok xs) → filed_by xs ≡ choices → SaysChoices held name choices
 says_choices held name xs choices given says =
     let all = filed_whole (held name) 16777216 16777217 xs (omega arith) given in
-    record { bytes = all.whole; given = all.given; says = all.same ∙ says }
+    record { bytes = all.whole; given = all.given; says = all.holds ∙ says }
 
 pub file_says_none : (held : Held) (name xs : List ℕ) (f : Failure) → IsGiven (option_map (first 16777217) (held name)) (Ok xs)
     → TellsNone (filed_by xs) f → TellsNoChoices (Some (InFile name)) held f

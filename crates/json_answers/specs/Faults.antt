@@ -1,31 +1,22 @@
 -- What is told of a fault.
-use Rattle.std.specs.Prelude.{ℕ, ℤ, List, [], ◌∷◌, codes, Option, None, Some}
+use Rattle.std.specs.Prelude.{ℕ, ℤ, List, [], ◌∷◌, codes, take, Option, None, Some}
 use Rattle.serde_json.specs.Data.{Data, string}
 use Rattle.syntax.specs.declared.place.Place.{Place}
-use Rattle.types.specs.Names.{path_text}
+use Rattle.types.specs.Names.{kind_text, path_text}
 use Rattle.types.specs.Run.{Fault}
 use Rattle.types.specs.declared.fault.FaultKind.{FaultKind}
-use Rattle.types.specs.declared.fault.FaultKind.TheVariants.{Index, Overflow, ZeroDivisor}
-use Rattle.types.specs.declared.fault.FaultKind.TheVariants.{OutOfElement, SplitPoint, Raised}
+use Rattle.types.specs.declared.fault.FaultKind.TheVariants.{Raised}
 use Rattle.json_answers.specs.Pieces.{integer, natural, object_of, or_null}
 use Rattle.json_answers.specs.Places.{column_of, line_of, place_at}
 
+-- `F6` of `F6 -3`: the code, without the number of a raised one
 abbrev pub fault_code : FaultKind → List ℕ
-fault_code Index = codes "F1"
-fault_code Overflow = codes "F2"
-fault_code ZeroDivisor = codes "F3"
-fault_code OutOfElement = codes "F4"
-fault_code SplitPoint = codes "F5"
-fault_code (Raised n) = codes "F6"
+fault_code kind = take 2 (kind_text kind)
 
 -- the number of a `fault` statement
 abbrev pub raised_number : FaultKind → Option ℤ
-raised_number Index = None
-raised_number Overflow = None
-raised_number ZeroDivisor = None
-raised_number OutOfElement = None
-raised_number SplitPoint = None
 raised_number (Raised n) = Some n
+raised_number _ = None
 
 -- the task, the statement and where it begins, the kind, and the number of one that was raised
 abbrev pub fault_members : List Place → Fault → List (List ℕ × Data)

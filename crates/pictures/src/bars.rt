@@ -73,16 +73,14 @@ pub fn push_events(
 ) -> Result<(), AllocError> {
     for (number, event) in events.iter().enumerate() {
         if let Some(spell) = spells.of_event(number) {
-            if is_step(event) {
-                push_cell(text, alloc, sheet, number, event, spell)?;
-            }
+            push_cell(text, alloc, sheet, number, event, spell)?;
             push_mark(text, sheet, number, event, spell)?;
         }
     }
     push_edges(text, sheet, spells)
 }
 
-/// The cell of a step.
+/// The cell of a step, and nothing of another event.
 fn push_cell(
     text: &mut String,
     alloc: Global,
@@ -91,6 +89,9 @@ fn push_cell(
     event: &Event,
     spell: &Spell,
 ) -> Result<(), AllocError> {
+    if !is_step(event) {
+        return Ok(());
+    }
     let x = sheet.axis.x(number);
     let place = Rectangle {
         x: x + 5,

@@ -26,19 +26,30 @@ use syntax::parse;
 use types::check::type_check;
 use types::typed::Typed;
 
+/// What is said of a row that is refused nowhere.
+const RIGHT: &str = "right";
+
 /// Compares what is said at a row with what the row wants.
-fn compare<N: Display + Drop, D: Display + Drop>(
-    rt: &impl Abort,
-    alloc: Global,
-    row: N,
-    said: D,
-    want: &str,
-) {
+fn compare<D: Display + Drop>(rt: &impl Abort, alloc: Global, row: &str, said: D, want: &str) {
     let said = format!(in alloc; "{said}").expect(rt, "memory");
     assert!(rt;
         said.as_str() == want,
         "at {row}\nsaid: {said}\nwant: {want}"
     );
+}
+
+/// Compares why there is nothing, or that there is something, with what the row wants.
+fn compare_refusal<T: Drop, E: Display + Drop>(
+    rt: &impl Abort,
+    alloc: Global,
+    row: &str,
+    had: Result<T, E>,
+    want: &str,
+) {
+    match had {
+        Ok(_) => compare(rt, alloc, row, RIGHT, want),
+        Err(error) => compare(rt, alloc, row, error, want),
+    }
 }
 
 /// A program of the language.

@@ -1,5 +1,5 @@
 -- What is told of a witness.
-use Rattle.std.specs.Prelude.{ℕ, Bool, true, false, List, [], ◌∷◌, codes, Option, None, Some, if◌then◌else◌}
+use Rattle.std.specs.Prelude.{ℕ, Bool, List, [], ◌∷◌, codes, Option, None, Some, if◌then◌else◌}
 use Rattle.serde_json.specs.Data.{Data, string}
 use Rattle.syntax.specs.declared.place.Place.{Place}
 use Rattle.types.specs.Code.{Procedure, Program}
@@ -29,8 +29,7 @@ meeting_word Turns = codes "turns"
 
 -- which of them is left pending
 abbrev pub pending_word : (first_pends : Bool) → List ℕ
-pending_word true = codes "first"
-pending_word false = codes "second"
+pending_word first_pends = if first_pends then codes "first" else codes "second"
 
 -- why their sections share places
 abbrev pub sharing_word : Sharing → List ℕ

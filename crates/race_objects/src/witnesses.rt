@@ -31,10 +31,23 @@ pub(crate) fn witness_value(alloc: Global, found: Found<'_>) -> Result<Value, Al
         race,
         witness,
     } = found;
-    let way = way_to_first(witness);
-    let first = way_value(alloc, places, code, race.procedure, race.first.write, way)?;
-    let way = way_to_second(witness);
-    let second = way_value(alloc, places, code, race.procedure, race.second.write, way)?;
+    let (to_first, to_second) = ways_of(witness);
+    let first = way_value(
+        alloc,
+        places,
+        code,
+        race.procedure,
+        race.first.write,
+        to_first,
+    )?;
+    let second = way_value(
+        alloc,
+        places,
+        code,
+        race.procedure,
+        race.second.write,
+        to_second,
+    )?;
     let sharing = sharing_value(alloc, procedure_in(code, race.procedure), witness.sharing)?;
     json!(in alloc; {
         "first": first,
@@ -45,25 +58,15 @@ pub(crate) fn witness_value(alloc: Global, found: Found<'_>) -> Result<Value, Al
     })
 }
 
-/// The way to the race's first access.
-fn way_to_first(witness: &Witness) -> &[Step]
-    ensures { result.now ≡ first_way witness.now }
+/// The ways to the race's first access and to its second.
+fn ways_of(witness: &Witness) -> (&[Step], &[Step])
+    ensures first { result.0.now ≡ first_way witness.now }
+    ensures second { result.1.now ≡ second_way witness.now }
 {
     if witness.first_pends {
-        &witness.pending
+        (&witness.pending, &witness.later)
     } else {
-        &witness.later
-    }
-}
-
-/// The way to its second access.
-fn way_to_second(witness: &Witness) -> &[Step]
-    ensures { result.now ≡ second_way witness.now }
-{
-    if witness.first_pends {
-        &witness.later
-    } else {
-        &witness.pending
+        (&witness.later, &witness.pending)
     }
 }
 

@@ -24,13 +24,17 @@ pub fn explained(
     race: Race,
     witness: &Witness,
 ) -> Result<String, AllocError> {
-    let mut told = String::new(alloc);
     let Some(statements) = Statements::of(alloc, text)? else {
-        return Ok(told);
+        return Ok(String::new(alloc));
     };
     let code = typed.code();
-    told.push('\n')?;
-    push_accesses(&mut told, &statements, code, race, witness)?;
+    let mut told = String::from_str(alloc, "\n")?;
+    let ways = in_order(
+        witness,
+        witness.pending.as_slice(),
+        witness.later.as_slice(),
+    );
+    push_accesses(&mut told, &statements, code, race, ways)?;
     told.push_str("They may run together:\n")?;
     push_ways(alloc, &mut told, &statements, code, race, witness)?;
     push_unfinished(&mut told, witness)?;
@@ -39,19 +43,24 @@ pub fn explained(
     Ok(told)
 }
 
-/// Adds both accesses.
+/// Two things as they come where the first access of the race is left pending, and else the other way round.
+fn in_order<T>(witness: &Witness, one: T, other: T) -> (T, T) {
+    if witness.first_pends {
+        (one, other)
+    } else {
+        (other, one)
+    }
+}
+
+/// Adds both accesses, to which these ways lead.
 fn push_accesses(
     told: &mut String,
     statements: &Statements<'_>,
     code: &Program,
     race: Race,
-    witness: &Witness,
+    ways: (&[Step], &[Step]),
 ) -> Result<(), AllocError> {
-    let (first, second) = if witness.first_pends {
-        (&witness.pending, &witness.later)
-    } else {
-        (&witness.later, &witness.pending)
-    };
+    let (first, second) = ways;
     push_access(told, code, race.procedure, race.first, first)?;
     statements.push_at(told, race.first.label, None)?;
     push_access(told, code, race.procedure, race.second, second)?;
@@ -90,11 +99,7 @@ fn push_ways(
     race: Race,
     witness: &Witness,
 ) -> Result<(), AllocError> {
-    let (pending, later) = if witness.first_pends {
-        (race.first, race.second)
-    } else {
-        (race.second, race.first)
-    };
+    let (pending, later) = in_order(witness, race.first, race.second);
     let mut lines = Vec::new(alloc);
     push_loop(alloc, witness, &mut lines)?;
     push_way(

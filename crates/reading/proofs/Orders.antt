@@ -96,34 +96,37 @@ no_words (w ∷ ws) short = let never : ⊥ = omega arith in absurd never
 -- ---- a program that is timed, and folders
 
 module _ (command : List ℕ) (behind : List (List ℕ)) where
+  -- a command that asks nothing orders a timing or a test
+  orders_else : (P : Order → Type 0) → ((others : List (List ℕ)) (a : Asked) → Asks (command ∷ others) a → ⊥)
+      → ((a : Asked) → Orders (command ∷ behind) (Times a) → P (Times a))
+      → ((folder : List ℕ) → Orders (command ∷ behind) (Tests folder) → P (Tests folder))
+      → (o : Order) → Orders (command ∷ behind) o → P o
+  orders_else P nothing times tests (AsText a) asks = absurd (nothing behind a asks)
+  orders_else P nothing times tests (AsObject x a) p =
+      let first = head_is command p.command behind (codes "--format" ∷ codes "json" ∷ p.behind) p.words_are in
+      absurd (nothing p.behind a (subst (λ (c : List ℕ). Asks (c ∷ p.behind) a) (sym first) p.asks))
+  orders_else P nothing times tests (Times a) p = times a p
+  orders_else P nothing times tests (Tests folder) p = tests folder p
+
   -- `bench` orders a timing
   pub bench_times : (P : Order → Type 0) → command ≡ codes "bench"
       → ((a : Asked) → Asks (codes "cost" ∷ behind) a → a.action ≡ Answer Cost → P (Times a))
       → (o : Order) → Orders (command ∷ behind) o → P o
-  bench_times P is times (AsText a) asks =
-      absurd (bench_asks_nothing behind a (subst (λ (c : List ℕ). Asks (c ∷ behind) a) is asks))
-  bench_times P is times (AsObject x a) p =
-      let first = head_is command p.command behind (codes "--format" ∷ codes "json" ∷ p.behind) p.words_are in
-      absurd (bench_asks_nothing p.behind a (subst (λ (c : List ℕ). Asks (c ∷ p.behind) a) (sym first ∙ is) p.asks))
-  bench_times P is times (Times a) p =
+  bench_times P is times =
+      orders_else P (λ others a asks. bench_asks_nothing others a (subst (λ (c : List ℕ). Asks (c ∷ others) a) is asks))
+      (λ a p.
       let others = tail_is command (codes "bench") behind p.behind p.words_are in
-      times a (subst (λ (ws : List (List ℕ)). Asks (codes "cost" ∷ ws) a) (sym others) p.asks) p.measured
-  bench_times P is times (Tests folder) p =
-      absurd (test_is_bench (sym (head_is command (codes "test") behind (folder ∷ []) p.words_are) ∙ is))
+      times a (subst (λ (ws : List (List ℕ)). Asks (codes "cost" ∷ ws) a) (sym others) p.asks) p.measured)
+      (λ folder p. absurd (test_is_bench (sym (head_is command (codes "test") behind (folder ∷ []) p.words_are) ∙ is)))
 
   -- `test` orders a test
   pub test_tests : (P : Order → Type 0) → command ≡ codes "test"
       → ((folder : List ℕ) → IsTrue (is_file_name folder) → behind ≡ folder ∷ [] → P (Tests folder))
       → (o : Order) → Orders (command ∷ behind) o → P o
-  test_tests P is tests (AsText a) asks =
-      absurd (test_asks_nothing behind a (subst (λ (c : List ℕ). Asks (c ∷ behind) a) is asks))
-  test_tests P is tests (AsObject x a) p =
-      let first = head_is command p.command behind (codes "--format" ∷ codes "json" ∷ p.behind) p.words_are in
-      absurd (test_asks_nothing p.behind a (subst (λ (c : List ℕ). Asks (c ∷ p.behind) a) (sym first ∙ is) p.asks))
-  test_tests P is tests (Times a) p =
-      absurd (test_is_bench (sym is ∙ head_is command (codes "bench") behind p.behind p.words_are))
-  test_tests P is tests (Tests folder) p =
-      tests folder p.named (tail_is command (codes "test") behind (folder ∷ []) p.words_are)
+  test_tests P is tests =
+      orders_else P (λ others a asks. test_asks_nothing others a (subst (λ (c : List ℕ). Asks (c ∷ others) a) is asks))
+      (λ a p. absurd (test_is_bench (sym is ∙ head_is command (codes "bench") behind p.behind p.words_are)))
+      (λ folder p. tests folder p.named (tail_is command (codes "test") behind (folder ∷ []) p.words_are))
 
   -- no other command orders a timing or a test
   pub told_only : (P : Order → Type 0) → (command ≡ codes "test" → ⊥) → (command ≡ codes "bench" → ⊥)

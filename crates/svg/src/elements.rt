@@ -27,6 +27,18 @@ pub struct Rectangle {
     pub height: u32,
 }
 
+impl Rectangle {
+    /// Its lengths, by their names.
+    fn lengths(&self) -> [(&'static str, u32); 4] {
+        [
+            ("x", self.x),
+            ("y", self.y),
+            ("width", self.width),
+            ("height", self.height),
+        ]
+    }
+}
+
 /// A line, from its beginning to its end.
 #[derive(Clone, Copy, Debug)]
 pub struct Line {
@@ -65,7 +77,7 @@ impl Line {
 
 /// A rectangle of a class of the style sheet.
 pub fn push_rectangle(text: &mut String, class: &str, place: &Rectangle) -> Result<(), AllocError> {
-    push_open_rectangle(text, class, place)?;
+    push_open(text, "rect", class, &place.lengths())?;
     text.push_str("/>\n")
 }
 
@@ -76,48 +88,28 @@ pub fn push_titled_rectangle(
     place: &Rectangle,
     title: &str,
 ) -> Result<(), AllocError> {
-    push_open_rectangle(text, class, place)?;
+    push_open(text, "rect", class, &place.lengths())?;
     text.push_str("><title>")?;
     push_escaped(text, title)?;
     text.push_str("</title></rect>\n")
 }
 
-/// A rectangle without its end.
-fn push_open_rectangle(
-    text: &mut String,
-    class: &str,
-    place: &Rectangle,
-) -> Result<(), AllocError> {
-    let x = Px(place.x);
-    let y = Px(place.y);
-    let width = Px(place.width);
-    let height = Px(place.height);
-    write!(
-        text,
-        "<rect class=\"{class}\" x=\"{x}\" y=\"{y}\" width=\"{width}\" height=\"{height}\""
-    )
-}
-
 /// A line of a class.
 pub fn push_line(text: &mut String, class: &str, line: &Line) -> Result<(), AllocError> {
-    let x1 = Px(line.x1);
-    let y1 = Px(line.y1);
-    let x2 = Px(line.x2);
-    let y2 = Px(line.y2);
-    write!(
-        text,
-        "<line class=\"{class}\" x1=\"{x1}\" y1=\"{y1}\" x2=\"{x2}\" y2=\"{y2}\"/>\n"
-    )
+    let ends = [
+        ("x1", line.x1),
+        ("y1", line.y1),
+        ("x2", line.x2),
+        ("y2", line.y2),
+    ];
+    push_open(text, "line", class, &ends)?;
+    text.push_str("/>\n")
 }
 
 /// A small circle of a class, by its middle.
 pub fn push_circle(text: &mut String, class: &str, x: u32, y: u32) -> Result<(), AllocError> {
-    let x = Px(x);
-    let y = Px(y);
-    write!(
-        text,
-        "<circle class=\"{class}\" cx=\"{x}\" cy=\"{y}\" r=\"3\"/>\n"
-    )
+    push_open(text, "circle", class, &[("cx", x), ("cy", y)])?;
+    text.push_str(" r=\"3\"/>\n")
 }
 
 /// A small triangle that points down, by its upper left corner.
@@ -135,11 +127,25 @@ pub fn push_words(
     y: u32,
     words: &str,
 ) -> Result<(), AllocError> {
-    let x = Px(x);
-    let y = Px(y);
-    write!(text, "<text class=\"{class}\" x=\"{x}\" y=\"{y}\">")?;
+    push_open(text, "text", class, &[("x", x), ("y", y)])?;
+    text.push('>')?;
     push_escaped(text, words)?;
     text.push_str("</text>\n")
+}
+
+/// An element of a class without its end: `<line class="steal" x1="14.5" y1="12.6"` of two lengths in tenths of a pixel.
+fn push_open(
+    text: &mut String,
+    element: &str,
+    class: &str,
+    lengths: &[(&str, u32)],
+) -> Result<(), AllocError> {
+    write!(text, "<{element} class=\"{class}\"")?;
+    for (name, tenths) in lengths {
+        let length = Px(*tenths);
+        write!(text, " {name}=\"{length}\"")?;
+    }
+    Ok(())
 }
 
 /// A text as it is written between the tags of XML.

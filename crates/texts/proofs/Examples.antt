@@ -1,6 +1,6 @@
 -- The texts and the statuses of worked outcomes, computed.
 use Rattle.std.proofs.Common.{◌≡◌, List, [], ◌∷◌, Some, refl, codes}
-use Rattle.std.specs.Prelude.{ℕ, pos, negsuc, true, false}
+use Rattle.std.specs.Prelude.{ℕ, ℤ, pos, negsuc, true, false}
 use Rattle.std.specs.Fmt.{digits}
 use Rattle.syntax_tree.specs.declared.tree.ElementType.TheVariants.{Byte}
 use Rattle.types.specs.declared.fault.FaultKind.{FaultKind}
@@ -18,13 +18,13 @@ fault_at path label kind = record { path = path; label = label; kind = kind }
 abbrev array_named : List ℕ → Array
 array_named name = record { name = name; element = Byte; length = 1 }
 
+-- a run that has ended with these arrays, lines and faults
+abbrev ended : (arrays lines : List (List ℤ)) → List Fault → Outcome
+ended arrays lines faults = Ended (record { arrays = arrays; lines = lines; faults = faults })
+
 -- two arrays that hold 7 and 8, and a line that shows them
 abbrev seven_and_eight : Outcome
-seven_and_eight = Ended (record {
-  arrays = (pos 7 ∷ []) ∷ (pos 8 ∷ []) ∷ [];
-  lines = (pos 7 ∷ pos 8 ∷ []) ∷ [];
-  faults = [];
-})
+seven_and_eight = ended ((pos 7 ∷ []) ∷ (pos 8 ∷ []) ∷ []) ((pos 7 ∷ pos 8 ∷ []) ∷ []) []
 
 seven_and_eight_text : outcome_text (array_named (codes "a") ∷ array_named (codes "b") ∷ []) false seven_and_eight ≡ codes "7 8\n"
 unfolding digits
@@ -35,11 +35,9 @@ seven_and_eight_status = refl
 
 -- two tasks and the root raise a fault each
 abbrev three_faults : Outcome
-three_faults = Ended (record {
-  arrays = [];
-  lines = [];
-  faults = fault_at (1 ∷ []) 3 (Raised (pos 1)) ∷ fault_at (2 ∷ []) 5 (Raised (pos 2)) ∷ fault_at [] 6 (Raised (negsuc 2)) ∷ [];
-})
+three_faults =
+    ended [] []
+    (fault_at (1 ∷ []) 3 (Raised (pos 1)) ∷ fault_at (2 ∷ []) 5 (Raised (pos 2)) ∷ fault_at [] 6 (Raised (negsuc 2)) ∷ [])
 
 three_faults_text : outcome_text [] false three_faults ≡ codes "fault 0.1 at 3: F6 1\nfault 0.2 at 5: F6 2\nfault 0 at 6: F6 -3\n"
 unfolding digits
@@ -50,11 +48,7 @@ three_faults_status = refl
 
 -- a byte that 256 doesn't fit
 abbrev full_byte : Outcome
-full_byte = Ended (record {
-  arrays = (pos 255 ∷ []) ∷ [];
-  lines = [];
-  faults = fault_at [] 2 OutOfElement ∷ [];
-})
+full_byte = ended ((pos 255 ∷ []) ∷ []) [] (fault_at [] 2 OutOfElement ∷ [])
 
 full_byte_text : outcome_text (array_named (codes "a") ∷ []) true full_byte ≡ codes "fault 0 at 2: F4\narray a 255\n"
 unfolding digits

@@ -19,13 +19,28 @@ taken_is (Take worker path) y h = refl
 taken_is (Resume worker path) y h = refl
 taken_is _ y h = absurd (none-some y h)
 
-parked_is : (e : Event) (y : List ℕ) → parked e ≡ Some y → is_taking e ≡ false
-parked_is (Park path) y h = refl
-parked_is _ y h = absurd (none-some y h)
+-- a park or end
+abbrev pub is_leaving : Event → Bool
+is_leaving (Park path) = true
+is_leaving (End path) = true
+is_leaving _ = false
 
-ended_is : (e : Event) (y : List ℕ) → ended e ≡ Some y → is_taking e ≡ false
-ended_is (End path) y h = refl
-ended_is _ y h = absurd (none-some y h)
+parked_leaves : (e : Event) (y : List ℕ) → parked e ≡ Some y → is_leaving e ≡ true
+parked_leaves (Park path) y h = refl
+parked_leaves _ y h = absurd (none-some y h)
+
+ended_leaves : (e : Event) (y : List ℕ) → ended e ≡ Some y → is_leaving e ≡ true
+ended_leaves (End path) y h = refl
+ended_leaves _ y h = absurd (none-some y h)
+
+not_both : (b : Bool) → b ≡ true → b ≡ false → ⊥
+not_both b does never = let both : true ≡ false = sym does ∙ never in cc
+
+-- it takes nothing
+leaving_takes_none : (e : Event) → is_leaving e ≡ true → is_taking e ≡ false
+leaving_takes_none (Take worker path) h = absurd (not_both false h refl)
+leaving_takes_none (Resume worker path) h = absurd (not_both false h refl)
+leaving_takes_none _ h = refl
 
 pub taking_at : (es : List Event) (n : ℕ) (y : Hold) → taken_at es n ≡ Some y → IsAtNumber es n true
 taking_at es n y h = option_and_then_some {P = IsAtNumber es n true} taken (slice_get es n) y h
@@ -33,9 +48,9 @@ taking_at es n y h = option_and_then_some {P = IsAtNumber es n true} taken (slic
 
 pub leaving_at : (es : List Event) (n : ℕ) (path : List ℕ) (e : Ending) → IsLeaving es n path e → IsAtNumber es n false
 leaving_at es n path Parked h = option_and_then_some {P = IsAtNumber es n false} parked (slice_get es n) path h
-    (λ e at is. record { event = e; at = at; is = parked_is e path is })
+    (λ e at is. record { event = e; at = at; is = leaving_takes_none e (parked_leaves e path is) })
 leaving_at es n path Ended h = option_and_then_some {P = IsAtNumber es n false} ended (slice_get es n) path h
-    (λ e at is. record { event = e; at = at; is = ended_is e path is })
+    (λ e at is. record { event = e; at = at; is = leaving_takes_none e (ended_leaves e path is) })
 leaving_at es n path Left h = absurd h
 leaving_at es n path Going h = absurd h
 
@@ -53,26 +68,10 @@ takes_none es n e y at never takes =
     cc
 
 -- ---- parks and ends
-abbrev pub is_leaving : Event → Bool
-is_leaving (Park path) = true
-is_leaving (End path) = true
-is_leaving _ = false
-
-parked_leaves : (e : Event) (y : List ℕ) → parked e ≡ Some y → is_leaving e ≡ true
-parked_leaves (Park path) y h = refl
-parked_leaves _ y h = absurd (none-some y h)
-
-ended_leaves : (e : Event) (y : List ℕ) → ended e ≡ Some y → is_leaving e ≡ true
-ended_leaves (End path) y h = refl
-ended_leaves _ y h = absurd (none-some y h)
-
 taken_stays : (e : Event) (y : Hold) → taken e ≡ Some y → is_leaving e ≡ false
 taken_stays (Take worker path) y h = refl
 taken_stays (Resume worker path) y h = refl
 taken_stays _ y h = absurd (none-some y h)
-
-not_both : (b : Bool) → b ≡ true → b ≡ false → ⊥
-not_both b does never = let both : true ≡ false = sym does ∙ never in cc
 
 -- by an event that is no park or end no task leaves its worker's hand
 pub leaves_none : (es : List Event) (n : ℕ) (x : Event) (path : List ℕ) (e : Ending) → slice_get es n ≡ Some x → is_leaving x ≡ false

@@ -90,6 +90,13 @@ fn told_spans(rt: &impl Abort, alloc: Global, text: &str) -> String {
     told
 }
 
+/// Compares what the spans of events are with what is wanted.
+fn compare_spans(rt: &impl Abort, alloc: Global, events: &[Event], want: &str) {
+    let text = spans(alloc, events).expect(rt, "memory");
+    let told = told_spans(rt, alloc, text.as_str());
+    assert_eq!(rt; told.as_str(), want);
+}
+
 #[test]
 fn a_picture_has_its_bars_arrows_and_brackets(rt: HostRuntime) {
     let alloc = rt.alloc();
@@ -119,9 +126,7 @@ fn as_many_cells_are_underlined_as_the_span_says(rt: HostRuntime) {
 fn spans_nest(rt: HostRuntime) {
     let alloc = rt.alloc();
     let (_, events) = trace(&rt, alloc, TWO_WORKERS);
-    let text = spans(alloc, &events).expect(&rt, "memory");
-    let told = told_spans(&rt, alloc, text.as_str());
-    assert_eq!(rt; told.as_str(), "0B0 0E8 1B4 1E9 1B10 1E13 ");
+    compare_spans(&rt, alloc, &events, "0B0 0E8 1B4 1E9 1B10 1E13 ");
 }
 
 #[test]
@@ -146,9 +151,7 @@ fn no_events_have_a_picture(rt: HostRuntime) {
         picture.as_str().contains("2 workers · 0 events · 1 task · 1 finish scope · 0 steals")
     );
     assert!(rt; picture.as_str().ends_with("</svg>\n"));
-    let text = spans(alloc, &[]).expect(&rt, "memory");
-    let told = told_spans(&rt, alloc, text.as_str());
-    assert_eq!(rt; told.as_str(), "");
+    compare_spans(&rt, alloc, &[], "");
 }
 
 #[test]
@@ -158,7 +161,5 @@ fn events_of_no_run_have_a_picture(rt: HostRuntime) {
     let picture = draw(alloc, "no run", &header, &events).expect(&rt, "memory");
     assert!(rt; picture.as_str().contains(">worker 63</text>"));
     assert!(rt; picture.as_str().ends_with("</svg>\n"));
-    let text = spans(alloc, &events).expect(&rt, "memory");
-    let told = told_spans(&rt, alloc, text.as_str());
-    assert_eq!(rt; told.as_str(), "3B2 3E3 3B3 3E12 1B4 1E12 2B5 2E9 ");
+    compare_spans(&rt, alloc, &events, "3B2 3E3 3B3 3E12 1B4 1E12 2B5 2E9 ");
 }

@@ -1,6 +1,6 @@
 -- The text of an event's line kind by kind, and what of it tells which event it is.
 use Rattle.std.proofs.Common.{◌≡◌, ℕ, true, arith, List, [], ◌∷◌, ◌++◌, Option, Some, None, refl, ap, sym, ◌∙◌, append-nil, codes}
-use Rattle.std.specs.Prelude.{option_map, IfSome, sum}
+use Rattle.std.specs.Prelude.{option_map, IfSome, sum, nat_eq, if◌then◌else◌}
 use Rattle.std.specs.Fmt.{decimal}
 use Rattle.types.specs.declared.path.Path.{Path}
 use Rattle.events.specs.Events.{Event, Take, Steal, Steps, Replenish, Spawns, Opens, Parks}
@@ -47,19 +47,21 @@ above_kind _ = refl
 pub kind_then_quote : (k : Kind) → Lacks 34 (kind_name k)
 kind_then_quote k = Lacks-above 97 34 (kind_name k) (above_kind k) (omega arith)
 
+abbrev all_kinds : List Kind
+all_kinds = IsTake ∷ IsSteal ∷ IsStep ∷ IsReplenish ∷ IsSpawn ∷ IsOpen ∷ IsPark ∷ IsEnd ∷ IsPass ∷ IsResume ∷ []
+
+-- the kind whose letters have this sum
+abbrev named : (letters : ℕ) → List Kind → Kind
+named letters [] = IsTake
+named letters (k ∷ ks) = if nat_eq letters (sum (kind_name k)) then k else named letters ks
+
+named_is : (k : Kind) → named (sum (kind_name k)) all_kinds ≡ k
+named_is IsTake = refl
+named_is _ = refl
+
 -- a kind is known by its name
 pub same_kind : (j k : Kind) → kind_name j ≡ kind_name k → j ≡ k
-same_kind IsTake IsTake e = refl
-same_kind IsSteal IsSteal e = refl
-same_kind IsStep IsStep e = refl
-same_kind IsReplenish IsReplenish e = refl
-same_kind IsSpawn IsSpawn e = refl
-same_kind IsOpen IsOpen e = refl
-same_kind IsPark IsPark e = refl
-same_kind IsEnd IsEnd e = refl
-same_kind IsPass IsPass e = refl
-same_kind IsResume IsResume e = refl
-same_kind j k e = let sums : sum (kind_name j) ≡ sum (kind_name k) = ap sum e in absurd (omega arith)
+same_kind j k e = sym (named_is j) ∙ ap (λ (name : List ℕ). named (sum name) all_kinds) e ∙ named_is k
 
 -- the text of an event's line: the kind, and the fields behind it
 pub text_of_event : (e : Event)

@@ -12,26 +12,31 @@ repeat_is : (n : ℕ) → repeat {A = ℕ} n (32 ∷ []) ≡ replicate n 32
 repeat_is zero = refl
 repeat_is (suc n) = ap (λ (l : List ℕ). 32 ∷ l) (repeat_is n)
 
-right_shape : (p k : ℕ) (numeral : List ℕ) → p ≡ k
+-- spaces, the empty texts that a format puts around them, and a numeral with nothing behind it
+right_shape : (p : ℕ) (numeral : List ℕ)
     → (((repeat {A = ℕ} p (32 ∷ []) ++ []) ++ []) ++ []) ++ (numeral ++ repeat {A = ℕ} (p - p) (32 ∷ []))
-    ≡ replicate k 32 ++ numeral
-right_shape p k numeral e =
-    let space : List ℕ = 32 ∷ [] in
-    let fill : List ℕ = repeat p space in
+    ≡ replicate p 32 ++ numeral
+right_shape p numeral =
+    let fill : List ℕ = repeat p (32 ∷ []) in
     let none : p - p ≡ 0 = omega arith in
-    let trimmed = append-nil ((fill ++ []) ++ []) ∙ append-nil (fill ++ []) ∙ append-nil fill in
-    ap (λ m. (((fill ++ []) ++ []) ++ []) ++ (numeral ++ repeat m space)) none
-    ∙ ap (λ l. l ++ (numeral ++ [])) (trimmed ∙ repeat_is p ∙ ap (λ m. replicate m 32) e)
-    ∙ ap (λ l. replicate k 32 ++ l) (append-nil numeral)
+    ap (λ m. (((fill ++ []) ++ []) ++ []) ++ (numeral ++ repeat m (32 ∷ []))) none
+    ∙ ap (λ l. (((fill ++ []) ++ []) ++ []) ++ l) (append-nil numeral)
+    ∙ ap (λ l. l ++ numeral) (append-nil ((fill ++ []) ++ []) ∙ append-nil (fill ++ []) ∙ append-nil fill ∙ repeat_is p)
+
+right_in_places : (most : ℕ) (numeral : List ℕ)
+    → replicate (most - length numeral - 0 - 0) 32 ++ numeral ≡ right_in most numeral
+right_in_places most numeral =
+    let same : most - length numeral - 0 - 0 ≡ most - length numeral = omega arith in
+    ap (λ m. replicate m 32 ++ numeral) same
 
 -- a number right in two places, and in eight
 pub right_in_two : (n : ℕ) → styled_decimal (format_spec 32 3 0 2 18446744073709551615) n ≡ right_in 2 (decimal n)
 unfolding padded_integral char_count lib.Utf8.encode
-right_in_two n = right_shape (2 - length (decimal n) - 0 - 0) (2 - length (decimal n)) (decimal n) (omega arith)
+right_in_two n = right_shape (2 - length (decimal n) - 0 - 0) (decimal n) ∙ right_in_places 2 (decimal n)
 
 pub right_in_eight : (n : ℕ) → styled_decimal (format_spec 32 3 0 8 18446744073709551615) n ≡ right_in 8 (decimal n)
 unfolding padded_integral char_count lib.Utf8.encode
-right_in_eight n = right_shape (8 - length (decimal n) - 0 - 0) (8 - length (decimal n)) (decimal n) (omega arith)
+right_in_eight n = right_shape (8 - length (decimal n) - 0 - 0) (decimal n) ∙ right_in_places 8 (decimal n)
 
 -- the columns of a worker, and of a theft
 pub by_worker : (w : ℕ) (shown path : List ℕ) → shown ≡ right_in 2 (decimal w)

@@ -60,6 +60,13 @@ unfolding escape_byte
 kind_then kind rest ms =
     ap (λ (l : List ℕ). 123 ∷ l) (text_then false (codes "e") (kind_name kind) rest ms refl (IsPlain-kind kind))
 
+-- a task stands last
+task_then : (path rest : List ℕ)
+    → members_text true (text_under (codes "path") (path_text path) no_members) ++ rest
+    ≡ codes ",\"path\":\"" ++ (path_text path ++ (codes "\"}" ++ rest))
+unfolding escape_byte
+task_then path rest = text_then true (codes "path") (path_text path) rest no_members refl (escape-path path)
+
 -- a task and a worker stand last
 worker_then : (worker : ℕ) (path rest : List ℕ)
     → members_text true (text_under (codes "path") (path_text path) (number_under (codes "worker") worker no_members)) ++ rest
@@ -78,11 +85,9 @@ task_words kind path rest =
 
 pub text_of_task : (kind : Kind) (path rest : List ℕ)
     → compact_text (task_object kind path) ++ rest ≡ task_words (kind_name kind) (path_text path) rest
-unfolding escape_byte
 text_of_task kind path rest =
     kind_then kind rest (text_under (codes "path") (path_text path) no_members)
-    ∙ ap (λ (l : List ℕ). codes "{\"e\":\"" ++ (kind_name kind ++ (34 ∷ l)))
-    (text_then true (codes "path") (path_text path) rest no_members refl (escape-path path))
+    ∙ ap (λ (l : List ℕ). codes "{\"e\":\"" ++ (kind_name kind ++ (34 ∷ l))) (task_then path rest)
 
 abbrev pub worker_words : (kind path worker rest : List ℕ) → List ℕ
 worker_words kind path worker rest =

@@ -9,30 +9,24 @@ use Rattle.trace_text.specs.declared.kind.Kind.TheVariants.{Spawn as IsSpawn, Op
 use Rattle.trace_text.specs.declared.kind.Kind.TheVariants.{Park as IsPark, End as IsEnd}
 use Rattle.trace_text.specs.declared.kind.Kind.TheVariants.{Pass as IsPass, Resume as IsResume}
 
-abbrev pub kind_of : Event → Kind
-kind_of (Take worker path) = IsTake
-kind_of (Steal worker from path) = IsSteal
-kind_of (Steps path) = IsStep
-kind_of (Replenish path) = IsReplenish
-kind_of (Spawns path) = IsSpawn
-kind_of (Opens path) = IsOpen
-kind_of (Parks path) = IsPark
-kind_of (Ends path) = IsEnd
-kind_of (Pass scope) = IsPass
-kind_of (Resume worker path) = IsResume
+-- what happens, and to which task: of `pass`, to the owner of the scope
+abbrev pub deed_of : Event → Kind × List ℕ
+deed_of (Take worker path) = (IsTake, path)
+deed_of (Steal worker from path) = (IsSteal, path)
+deed_of (Steps path) = (IsStep, path)
+deed_of (Replenish path) = (IsReplenish, path)
+deed_of (Spawns path) = (IsSpawn, path)
+deed_of (Opens path) = (IsOpen, path)
+deed_of (Parks path) = (IsPark, path)
+deed_of (Ends path) = (IsEnd, path)
+deed_of (Pass scope) = (IsPass, scope.owner)
+deed_of (Resume worker path) = (IsResume, path)
 
--- the task of an event; of `pass`, the owner of the scope
+abbrev pub kind_of : Event → Kind
+kind_of e = (deed_of e).0
+
 abbrev pub task_of : Event → List ℕ
-task_of (Take worker path) = path
-task_of (Steal worker from path) = path
-task_of (Steps path) = path
-task_of (Replenish path) = path
-task_of (Spawns path) = path
-task_of (Opens path) = path
-task_of (Parks path) = path
-task_of (Ends path) = path
-task_of (Pass scope) = scope.owner
-task_of (Resume worker path) = path
+task_of e = (deed_of e).1
 
 abbrev pub kind_name : Kind → List ℕ
 kind_name IsTake = codes "take"

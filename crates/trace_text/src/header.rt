@@ -16,8 +16,7 @@ pub struct Header {
     pub w0: u64,
     /// How many workers the run has, 1 to 64.
     pub workers: u32,
-    ghost weight_in_range: { (1 ≤ w0) × (w0 ≤ 4294967296) },
-    ghost workers_in_range: { (1 ≤ workers) × (workers ≤ 64) },
+    ghost in_range: { (1 ≤ w0) × (w0 ≤ 4294967296) × (1 ≤ workers) × (workers ≤ 64) },
 }
 
 impl Header {

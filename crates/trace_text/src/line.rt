@@ -37,7 +37,7 @@ pub fn push_event(text: &mut String, event: &Event) -> Result<(), AllocError>
 {
     let kind = Kind::of(event);
     match event {
-        Event::Take { worker, path } => push_by_worker(text, kind, path, *worker),
+        Event::Take { worker, path } => push_by_worker(text, kind, path, worker.number()),
         Event::Steal { worker, from, path } => push_steal(text, path, *worker, *from),
         Event::Step { path } => push_of_task(text, kind, path),
         Event::Replenish { path } => push_of_task(text, kind, path),
@@ -46,7 +46,7 @@ pub fn push_event(text: &mut String, event: &Event) -> Result<(), AllocError>
         Event::Park { path } => push_of_task(text, kind, path),
         Event::End { path } => push_of_task(text, kind, path),
         Event::Pass { scope } => push_pass(text, scope),
-        Event::Resume { worker, path } => push_by_worker(text, kind, path, *worker),
+        Event::Resume { worker, path } => push_by_worker(text, kind, path, worker.number()),
     }
 }
 
@@ -60,17 +60,11 @@ fn push_of_task(text: &mut String, kind: Kind, path: &Path) -> Result<(), AllocE
 }
 
 /// `{"e":"take","path":"0.1","worker":0}`
-fn push_by_worker(
-    text: &mut String,
-    kind: Kind,
-    path: &Path,
-    worker: WorkerId,
-) -> Result<(), AllocError>
+fn push_by_worker(text: &mut String, kind: Kind, path: &Path, worker: u32) -> Result<(), AllocError>
     ensures { OnOk result (string_bytes text.new
         ≡ string_bytes text.old ++ line (worker_object kind worker path.now.turns.items)) }
 {
     let name = kind.name();
-    let worker = worker.number();
     write!(
         text,
         "{{\"e\":\"{name}\",\"path\":\"{path}\",\"worker\":{worker}}}\n"

@@ -101,7 +101,7 @@ fn each_names_the_options_of_help(rt: HostRuntime) {
             let want = format!(in alloc; "{options}{help}").expect(&rt, "memory");
             let row = format!(in alloc; "{} of {command}", source.words).expect(&rt, "memory");
             let said = options_at(&rt, alloc, source, command);
-            compare(&rt, alloc, row, said, want.as_str());
+            compare(&rt, alloc, row.as_str(), said, want.as_str());
         }
     }
 }

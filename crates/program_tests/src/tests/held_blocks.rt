@@ -8,8 +8,6 @@ use std::process::Abort;
 /// What is done to the block with a number. New ones come behind the others.
 #[derive(Clone, Copy)]
 enum Step {
-    /// A block that owns 256 offsets, each with its own number.
-    Begin,
     /// The offsets of a range are carved out of it.
     Carve(usize, usize, usize),
     /// Copies are made of the offsets of a range.
@@ -22,139 +20,101 @@ enum Step {
     Again(usize),
 }
 
-use Step::{Again, Begin, Carve, Paste, Share, Write};
+use Step::{Again, Carve, Paste, Share, Write};
 
-/// A step, how many numbers were copied or whether an offset was written, and what is held then.
-type Row = (Step, &'static str, &'static str);
+/// Steps in turn from a block that owns all offsets, and a line before them and behind each: how many numbers were copied or whether an offset was written, and what is held
+/// then. Of each block the numbers at a few offsets are shown, those in brackets as copies.
+type Story = (&'static [Step], &'static str);
 
-/// Steps in turn. Of each block the numbers at a few offsets are shown, those in brackets as copies.
-const STORIES: &[&[Row]] = &[
+const STORIES: &[Story] = &[
     // ---- a part carved out, written and pasted
-    &[
-        (Begin, "", "0 99 100 199 200 255 | "),
-        (
+    (
+        &[
             Carve(0, 100, 200),
-            "100",
-            "0 99 - - 200 255 | - - 100 199 - - | ",
-        ),
-        (
             Write(0, 100, 5),
-            "false",
-            "0 99 - - 200 255 | - - 100 199 - - | ",
-        ),
-        (
             Write(0, 99, 5),
-            "true",
-            "0 5 - - 200 255 | - - 100 199 - - | ",
-        ),
-        (
             Write(1, 199, 6),
-            "true",
-            "0 5 - - 200 255 | - - 100 6 - - | ",
-        ),
-        (Paste(0), "100", "0 5 100 6 200 255 | "),
-    ],
+            Paste(0),
+        ],
+        ": 0 99 100 199 200 255 |
+100: 0 99 - - 200 255 | - - 100 199 - - |
+false: 0 99 - - 200 255 | - - 100 199 - - |
+true: 0 5 - - 200 255 | - - 100 199 - - |
+true: 0 5 - - 200 255 | - - 100 6 - - |
+100: 0 5 100 6 200 255 |
+",
+    ),
     // ---- a whole block moves
-    &[
-        (Begin, "", "0 99 100 199 200 255 | "),
-        (
-            Carve(0, 0, 256),
-            "0",
-            "- - - - - - | 0 99 100 199 200 255 | ",
-        ),
-        (Paste(0), "0", "0 99 100 199 200 255 | "),
-    ],
+    (
+        &[Carve(0, 0, 256), Paste(0)],
+        ": 0 99 100 199 200 255 |
+0: - - - - - - | 0 99 100 199 200 255 |
+0: 0 99 100 199 200 255 |
+",
+    ),
     // ---- the last part that is held moves too
-    &[
-        (Begin, "", "0 99 100 199 200 255 | "),
-        (
-            Carve(0, 0, 100),
-            "100",
-            "- - 100 199 200 255 | 0 99 - - - - | ",
-        ),
-        (
-            Carve(0, 100, 256),
-            "0",
-            "- - - - - - | 0 99 - - - - | - - 100 199 200 255 | ",
-        ),
-        (Paste(1), "156", "- - - - - - | 0 99 100 199 200 255 | "),
-        (Paste(0), "0", "0 99 100 199 200 255 | "),
-    ],
+    (
+        &[Carve(0, 0, 100), Carve(0, 100, 256), Paste(1), Paste(0)],
+        ": 0 99 100 199 200 255 |
+100: - - 100 199 200 255 | 0 99 - - - - |
+0: - - - - - - | 0 99 - - - - | - - 100 199 200 255 |
+156: - - - - - - | 0 99 100 199 200 255 |
+0: 0 99 100 199 200 255 |
+",
+    ),
     // ---- copies keep their numbers, and are not written
-    &[
-        (Begin, "", "0 99 100 199 200 255 | "),
-        (
+    (
+        &[
             Share(0, 0, 256),
-            "",
-            "0 99 100 199 200 255 | (0) (99) (100) (199) (200) (255) | ",
-        ),
-        (
             Write(0, 99, 7),
-            "true",
-            "0 7 100 199 200 255 | (0) (99) (100) (199) (200) (255) | ",
-        ),
-        (
             Write(1, 99, 7),
-            "false",
-            "0 7 100 199 200 255 | (0) (99) (100) (199) (200) (255) | ",
-        ),
-        (
             Carve(0, 0, 100),
-            "100",
-            "- - 100 199 200 255 | (0) (99) (100) (199) (200) (255) | 0 7 - - - - | ",
-        ),
-        (
             Paste(1),
-            "100",
-            "- - 100 199 200 255 | 0 7 (100) (199) (200) (255) | ",
-        ),
-        (Paste(0), "100", "0 7 100 199 200 255 | "),
-    ],
+            Paste(0),
+        ],
+        ": 0 99 100 199 200 255 |
+: 0 99 100 199 200 255 | (0) (99) (100) (199) (200) (255) |
+true: 0 7 100 199 200 255 | (0) (99) (100) (199) (200) (255) |
+false: 0 7 100 199 200 255 | (0) (99) (100) (199) (200) (255) |
+100: - - 100 199 200 255 | (0) (99) (100) (199) (200) (255) | 0 7 - - - - |
+100: - - 100 199 200 255 | 0 7 (100) (199) (200) (255) |
+100: 0 7 100 199 200 255 |
+",
+    ),
     // ---- a part of a block that others have too is carved out, and comes back
-    &[
-        (Begin, "", "0 99 100 199 200 255 | "),
-        (
+    (
+        &[
             Again(0),
-            "",
-            "0 99 100 199 200 255 | 0 99 100 199 200 255 | ",
-        ),
-        (
             Carve(0, 200, 256),
-            "56",
-            "0 99 100 199 - - | 0 99 100 199 200 255 | - - - - 200 255 | ",
-        ),
-        (
             Write(2, 200, 1),
-            "true",
-            "0 99 100 199 - - | 0 99 100 199 200 255 | - - - - 1 255 | ",
-        ),
-        (
             Share(1, 100, 200),
-            "",
-            "0 99 100 199 - - | 0 99 100 199 200 255 | - - - - 1 255 | - - (100) (199) - - | ",
-        ),
-        (
             Paste(2),
-            "0",
-            "0 99 100 199 - - | 0 99 100 199 200 255 | - - - - 1 255 | ",
-        ),
-    ],
+        ],
+        ": 0 99 100 199 200 255 |
+: 0 99 100 199 200 255 | 0 99 100 199 200 255 |
+56: 0 99 100 199 - - | 0 99 100 199 200 255 | - - - - 200 255 |
+true: 0 99 100 199 - - | 0 99 100 199 200 255 | - - - - 1 255 |
+: 0 99 100 199 - - | 0 99 100 199 200 255 | - - - - 1 255 | - - (100) (199) - - |
+0: 0 99 100 199 - - | 0 99 100 199 200 255 | - - - - 1 255 |
+",
+    ),
 ];
 
 const SHOWN: [usize; 6] = [0, 99, 100, 199, 200, 255];
 
+/// A block that owns 256 offsets, each with its own number.
+fn begun(rt: &impl Abort, alloc: Global) -> Block {
+    let mut numbers = Vec::new(alloc);
+    for number in 0..256 {
+        numbers.push(number).expect(rt, "memory");
+    }
+    assert!(rt; numbers.len() <= 256, "a block's numbers");
+    Block::of_numbers(alloc, &numbers).expect(rt, "memory")
+}
+
 /// Does a step, and says how many numbers were copied or whether an offset was written.
 fn act(rt: &impl Abort, alloc: Global, step: Step, all: &mut Vec<Block>) -> String {
     match step {
-        Begin => {
-            let mut numbers = Vec::new(alloc);
-            for number in 0..256 {
-                numbers.push(number).expect(rt, "memory");
-            }
-            assert!(rt; numbers.len() <= 256, "a block's numbers");
-            let block = Block::of_numbers(alloc, &numbers).expect(rt, "memory");
-            all.push(block).expect(rt, "memory");
-        }
         Carve(of, from, to) => {
             let own = all.get_mut(of).expect(rt, "a block");
             assert!(rt; from < to && to <= 256, "offsets of a block");
@@ -194,42 +154,48 @@ fn act(rt: &impl Abort, alloc: Global, step: Step, all: &mut Vec<Block>) -> Stri
     String::new(alloc)
 }
 
-/// Shows what is held by all.
-fn shown(rt: &impl Abort, alloc: Global, all: &[Block]) -> String {
-    let mut text = String::new(alloc);
-    for block in all {
-        for offset in SHOWN {
-            match block.number(offset) {
-                None => write!(text, "- ").expect(rt, "memory"),
-                Some(number) if block.owns_all(offset, offset + 1) => {
-                    write!(text, "{number} ").expect(rt, "memory");
-                }
-                Some(number) => write!(text, "({number}) ").expect(rt, "memory"),
+/// Shows what is held by a block.
+fn show(rt: &impl Abort, block: &Block, text: &mut String) {
+    for offset in SHOWN {
+        match block.number(offset) {
+            None => write!(text, " -").expect(rt, "memory"),
+            Some(number) if block.owns_all(offset, offset + 1) => {
+                write!(text, " {number}").expect(rt, "memory");
             }
+            Some(number) => write!(text, " ({number})").expect(rt, "memory"),
         }
-        text.push_str("| ").expect(rt, "memory");
     }
-    text
+    text.push_str(" |").expect(rt, "memory");
+}
+
+/// Shows what was said of a step, and what is held by all then.
+fn show_all(rt: &impl Abort, said: &str, all: &[Block], text: &mut String) {
+    write!(text, "{said}:").expect(rt, "memory");
+    for block in all {
+        show(rt, block, text);
+    }
+    text.push('\n').expect(rt, "memory");
 }
 
 #[test]
 fn what_blocks_hold_after_each_step(rt: HostRuntime) {
     let alloc = rt.alloc();
-    for story in STORIES {
-        let mut all = Vec::new(alloc);
-        for (step, answer, held) in *story {
+    for (steps, want) in STORIES {
+        let mut all = vec![in alloc; begun(&rt, alloc)].expect(&rt, "memory");
+        let mut told = String::new(alloc);
+        show_all(&rt, "", &all, &mut told);
+        for step in *steps {
             let said = act(&rt, alloc, *step, &mut all);
-            compare(&rt, alloc, *held, said, answer);
-            compare(&rt, alloc, "blocks", shown(&rt, alloc, &all), held);
+            show_all(&rt, said.as_str(), &all, &mut told);
         }
+        compare(&rt, alloc, "a story", told.as_str(), want);
     }
 }
 
 #[test]
 fn what_is_held_goes_into_a_row(rt: HostRuntime) {
     let alloc = rt.alloc();
-    let mut all = Vec::new(alloc);
-    let _ = act(&rt, alloc, Begin, &mut all);
+    let mut all = vec![in alloc; begun(&rt, alloc)].expect(&rt, "memory");
     let _ = act(&rt, alloc, Carve(0, 1, 3), &mut all);
     let mut row = [7, 7, 7, 7];
     all.get(0).expect(&rt, "a block").copy_to(&mut row);

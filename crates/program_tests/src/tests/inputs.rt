@@ -9,6 +9,8 @@ use types::input_error::InputError;
 use types::path::Path;
 use types::scope_id::ScopeId;
 
+const NO_ARRAYS: &str = "main { }";
+
 const BYTE: &str = "main { array a: byte[1]; }";
 
 const BYTES: &str = "main { array a: byte[2]; }";
@@ -33,8 +35,8 @@ fn compare_lists(
 
 /// A program, a list for each array, and the input or its error.
 const LISTS: &[(&str, &[&[i64]], &str)] = &[
-    ("main { }", &[], "[]"),
-    ("main { }", &[&[]], "N4"),
+    (NO_ARRAYS, &[], "[]"),
+    (NO_ARRAYS, &[&[]], "N4"),
     (BYTE, &[&[255]], "[[255]]"),
     (BYTE, &[&[0]], "[[0]]"),
     (BYTE, &[&[256]], "N5 a"),
@@ -77,7 +79,7 @@ const TEXTS: &[(&str, &str, &str)] = &[
     (BYTES, "{}", "[[0, 0]]"),
     (BYTES, "{\"a\":[1,255]}", "[[1, 255]]"),
     (BYTES, " { \"a\" : [ 7 , 0 ] } ", "[[7, 0]]"),
-    ("main { }", "{}", "[]"),
+    (NO_ARRAYS, "{}", "[]"),
     // ---- no JSON, or no object
     (BYTE, "{", "N1"),
     (BYTE, "", "N1"),
@@ -89,7 +91,7 @@ const TEXTS: &[(&str, &str, &str)] = &[
     (BYTE, "{\"z\":[]}", "N3 z"),
     (BYTE, "{\"z\":[],\"b\":1}", "N3 b"),
     (BYTE, "{\"a\":[256],\"b\":1}", "N3 b"),
-    ("main { }", "{\"a\":[]}", "N3 a"),
+    (NO_ARRAYS, "{\"a\":[]}", "N3 a"),
     // ---- no list, or one of another length
     (BYTE, "{\"a\":[1,2]}", "N4 a"),
     (BYTE, "{\"a\":[]}", "N4 a"),
@@ -135,15 +137,16 @@ fn inputs_of_json(rt: HostRuntime) {
     }
 }
 
-/// Steps, nest, and whether they make a budget.
-const BUDGETS: &[(u64, u64, bool)] = &[
-    (0, 0, false),
-    (1, 0, true),
-    (1_000_000_000, 1_000, true),
-    (1_000_000_001, 1_000, false),
-    (1, 1_001, false),
-    (4_294_967_297, 1, false),
-    (1, 4_294_967_296, false),
+/// Steps and nest that make a budget.
+const BUDGETS: &[(u64, u64)] = &[(1, 0), (1_000_000_000, 1_000)];
+
+/// Steps and nest that make none.
+const NO_BUDGETS: &[(u64, u64)] = &[
+    (0, 0),
+    (1_000_000_001, 1_000),
+    (1, 1_001),
+    (4_294_967_297, 1),
+    (1, 4_294_967_296),
 ];
 
 /// Whether a budget has these numbers.
@@ -153,12 +156,18 @@ fn has_numbers(budget: Budget, steps: u64, nest: u64) -> bool {
 
 #[test]
 fn budgets_are_within_their_limits(rt: HostRuntime) {
-    for (steps, nest, want) in BUDGETS {
-        let is_right = match Budget::new(*steps, *nest) {
-            Some(budget) => *want && has_numbers(budget, *steps, *nest),
-            None => !*want,
-        };
-        assert!(rt; is_right, "{steps} steps, nest {nest}");
+    for (steps, nest) in BUDGETS {
+        let budget = Budget::new(*steps, *nest).expect(&rt, "a budget");
+        assert!(rt;
+            has_numbers(budget, *steps, *nest),
+            "{steps} steps, nest {nest}"
+        );
+    }
+    for (steps, nest) in NO_BUDGETS {
+        assert!(rt;
+            Budget::new(*steps, *nest).is_none(),
+            "{steps} steps, nest {nest}"
+        );
     }
 }
 

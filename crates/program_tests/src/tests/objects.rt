@@ -22,6 +22,7 @@ use types::fault::{Fault, FaultKind};
 use types::input::Input;
 use types::outcome::Outcome;
 use types::path::Path;
+use types::typed::Typed;
 use witness::witness::witness_of;
 
 /// Its labels: 1 at 4:3, 2 at 5:3, 3 at 5:11, 4 at 6:3.
@@ -78,20 +79,32 @@ fn ended(alloc: Global) -> Result<Outcome, Fail> {
     })
 }
 
+/// Compares how an outcome of a program is told with what is wanted.
+fn compare_outcome(
+    rt: &impl Abort,
+    alloc: Global,
+    typed: &Typed,
+    places: &[Place],
+    outcome: &Outcome,
+    want: &str,
+) -> Result<(), Fail> {
+    let told = outcome_object(alloc, &typed.code().arrays, places, outcome)?;
+    assert_eq!(rt; told.as_str(), want);
+    Ok(())
+}
+
 #[test]
 fn outcomes_are_told(rt: HostRuntime) -> Result<(), Fail> {
     let alloc = rt.alloc();
     let typed = typed(&rt, alloc, PROGRAM);
     let places = places_of(&rt, alloc, PROGRAM);
-    let told = outcome_object(alloc, &typed.code().arrays, &places, &ended(alloc)?)?;
     let wanted = "{\"arrays\":{\"a\":[255],\"z\":[-9223372036854775808,9223372036854775807]},\
         \"faults\":[{\"column\":11,\"kind\":\"F6\",\"label\":3,\"line\":5,\"number\":-7,\"path\":\"0.1\"},\
         {\"column\":3,\"kind\":\"F4\",\"label\":4,\"line\":6,\"number\":null,\"path\":\"0\"}],\
         \"lines\":[[1,-2],[]],\"status\":2,\"stopped\":false}\n";
-    assert_eq!(rt; told.as_str(), wanted);
-    let told = outcome_object(alloc, &typed.code().arrays, &places, &Outcome::Stopped)?;
-    assert_eq!(rt; told.as_str(), "{\"status\":3,\"stopped\":true}\n");
-    Ok(())
+    compare_outcome(&rt, alloc, &typed, &places, &ended(alloc)?, wanted)?;
+    let wanted = "{\"status\":3,\"stopped\":true}\n";
+    compare_outcome(&rt, alloc, &typed, &places, &Outcome::Stopped, wanted)
 }
 
 #[test]

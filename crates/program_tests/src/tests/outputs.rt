@@ -95,7 +95,8 @@ fn two_arrays(rt: &impl Abort, alloc: Global) -> Vec<Array> {
     arrays
 }
 
-const WITHOUT_ARRAYS: &str = "7 8
+/// Its text without arrays.
+const FAULTED: &str = "7 8
 -9223372036854775808
 fault 0.1.12 at 65535: F1
 fault 0.1.12 at 65535: F2
@@ -105,17 +106,13 @@ fault 0.1.12 at 65535: F5
 fault 0.1.12 at 65535: F6 -3
 ";
 
-const WITH_ARRAYS: &str = "7 8
--9223372036854775808
-fault 0.1.12 at 65535: F1
-fault 0.1.12 at 65535: F2
-fault 0.1.12 at 65535: F3
-fault 0.1.12 at 65535: F4
-fault 0.1.12 at 65535: F5
-fault 0.1.12 at 65535: F6 -3
-array a 255
-array b_2 -1 0 10
-";
+/// What stands behind that of its arrays.
+const ARRAYS: &str = "array a 255\narray b_2 -1 0 10\n";
+
+/// Its text with arrays.
+fn with_arrays(rt: &impl Abort, alloc: Global) -> String {
+    format!(in alloc; "{FAULTED}{ARRAYS}").expect(rt, "memory")
+}
 
 /// Compares what is written of an outcome, and of the two arrays, with what is wanted.
 fn compare_written(rt: &impl Abort, alloc: Global, outcome: &Outcome, arrays: bool, want: &str) {
@@ -130,8 +127,8 @@ fn compare_written(rt: &impl Abort, alloc: Global, outcome: &Outcome, arrays: bo
 fn outcomes_as_text(rt: HostRuntime) {
     let alloc = rt.alloc();
     let outcome = faulted(&rt, alloc);
-    compare_written(&rt, alloc, &outcome, true, WITH_ARRAYS);
-    compare_written(&rt, alloc, &outcome, false, WITHOUT_ARRAYS);
+    compare_written(&rt, alloc, &outcome, true, with_arrays(&rt, alloc).as_str());
+    compare_written(&rt, alloc, &outcome, false, FAULTED);
     compare_written(&rt, alloc, &Outcome::Stopped, true, "stopped\n");
     compare_written(&rt, alloc, &Outcome::Stopped, false, "stopped\n");
 }
@@ -141,7 +138,8 @@ fn a_writer_that_ends_has_a_beginning(rt: HostRuntime) {
     let alloc = rt.alloc();
     let outcome = faulted(&rt, alloc);
     let declared = two_arrays(&rt, alloc);
-    let text = WITH_ARRAYS.as_bytes();
+    let whole = with_arrays(&rt, alloc);
+    let text = whole.as_bytes();
     for end in [End::Fails, End::TakesNothing] {
         for left in 0..text.len() + 1 {
             let mut out = Ending {

@@ -1,47 +1,45 @@
 //! Texts, read by `parse`: which are programs, where the others go wrong, and which are canonical.
 
-use crate::tests::compare;
+use crate::tests::{RIGHT, compare, compare_refusal};
 use std::alloc::Global;
 use std::process::Abort;
 use syntax::{format, parse};
 use syntax_tree::tree::{Program, Stmt};
 
-const PROGRAM: &str = "program";
-
 /// A text, and what `parse` says of it.
 const VERDICTS: &[(&str, &str)] = &[
-    ("", PROGRAM),
-    ("main { }", PROGRAM),
+    ("", RIGHT),
+    ("main { }", RIGHT),
     ("main { print 1 ! 2; }", "S1 at 1:16"),
     ("main { by }", "S2 at 1:8"),
     ("main { skip }", "S2 at 1:13"),
     ("main { print 9223372036854775808; }", "S3 at 1:14"),
-    ("main { print 9223372036854775807; }", PROGRAM),
-    ("main { print 007; }", PROGRAM),
+    ("main { print 9223372036854775807; }", RIGHT),
+    ("main { print 007; }", RIGHT),
     ("main {\n\tskip;\r\n // \u{e9}\u{1f600}!\n  }}", "S2 at 4:4"),
     ("main { // the end", "S2 at 1:18"),
     ("main {\n", "S2 at 2:1"),
-    ("main { } // the end", PROGRAM),
+    ("main { } // the end", RIGHT),
     (
         "proc f(mut s: int, read t: byte, n: int) { } proc g() { f(a, b, 1); }",
-        PROGRAM,
+        RIGHT,
     ),
     ("proc f(mut s: int,) { }", "S2 at 1:19"),
-    ("main { a[0] = -1 * 2 + b[a] % (3 - len(a)); }", PROGRAM),
+    ("main { a[0] = -1 * 2 + b[a] % (3 - len(a)); }", RIGHT),
     (
         "main { if not a < 1 and b == 2 or true { skip; } else { } }",
-        PROGRAM,
+        RIGHT,
     ),
     (
         "main { while x <= 1 { split s at k as l, r { async { } } } finish { } }",
-        PROGRAM,
+        RIGHT,
     ),
     ("main { if a < b < c { } }", "S2 at 1:17"),
     (
         "main { print 1, x != 2; fault 3; var x = 1; x = x + 1; f(); }",
-        PROGRAM,
+        RIGHT,
     ),
-    ("main { array a: int[8]; array b: byte[2]; }", PROGRAM),
+    ("main { array a: int[8]; array b: byte[2]; }", RIGHT),
     ("main { skip; array a: int[8]; }", "S2 at 1:14"),
     ("main { } main { }", "S2 at 1:10"),
     ("skip;", "S2 at 1:1"),
@@ -74,30 +72,24 @@ const VERDICTS: &[(&str, &str)] = &[
     ("main { x = 99999999999999999999999999; ! }", "S3 at 1:12"),
 ];
 
-/// Compares what `parse` says of a text with what is wanted.
-fn compare_read(rt: &impl Abort, alloc: Global, row: &str, text: &str, want: &str) {
-    match parse(alloc, text) {
-        Ok(_) => compare(rt, alloc, row, PROGRAM, want),
-        Err(error) => compare(rt, alloc, row, error, want),
-    }
-}
-
 #[test]
 fn texts_are_read_or_told_where_they_go_wrong(rt: HostRuntime) {
+    let alloc = rt.alloc();
     for (text, want) in VERDICTS {
-        compare_read(&rt, rt.alloc(), text, text, want);
+        compare_refusal(&rt, alloc, text, parse(alloc, text), want);
     }
 }
 
 /// How many bytes of a comment are a text.
-const LENGTHS: &[(usize, &str)] = &[(1_048_576, PROGRAM), (1_048_577, "S5")];
+const LENGTHS: &[(usize, &str)] = &[(1_048_576, RIGHT), (1_048_577, "S5")];
 
 #[test]
 fn the_longest_text_is_read_and_a_longer_one_is_not(rt: HostRuntime) {
     let alloc = rt.alloc();
     for (bytes, want) in LENGTHS {
         let text = "/".repeat(alloc, *bytes).expect(&rt, "memory");
-        compare_read(&rt, alloc, "a long comment", text.as_str(), want);
+        let read = parse(alloc, text.as_str());
+        compare_refusal(&rt, alloc, "a long comment", read, want);
     }
 }
 

@@ -1,9 +1,9 @@
 //! The typing rules, each by programs that keep it and programs that break it alone.
 //!
-//! Nothing is told of a program that breaks no rule; of one that breaks a rule its code is told, and the label where it
-//! is broken in a statement.
+//! Of a program that breaks no rule it is told that it is right; of one that breaks a rule its code is told, and the
+//! label where it is broken in a statement.
 
-use crate::tests::compare;
+use crate::tests::{RIGHT, compare, compare_refusal};
 use std::alloc::Global;
 use std::process::Abort;
 use syntax::parse;
@@ -11,8 +11,6 @@ use types::check::type_check;
 
 /// A program, and what is told of it.
 type Verdict = (&'static str, &'static str);
-
-const RIGHT: &str = "";
 
 /// Y1: names and procedures that aren't in scope.
 const SCOPE: &[Verdict] = &[
@@ -323,10 +321,7 @@ const MAIN: &[Verdict] = &[
 /// Compares what is told of a text with what is wanted: where it goes wrong, or which rule its program breaks.
 fn compare_told(rt: &impl Abort, alloc: Global, row: &str, text: &str, want: &str) {
     match parse(alloc, text) {
-        Ok(program) => match type_check(alloc, program) {
-            Ok(_) => compare(rt, alloc, row, RIGHT, want),
-            Err(error) => compare(rt, alloc, row, error, want),
-        },
+        Ok(program) => compare_refusal(rt, alloc, row, type_check(alloc, program), want),
         Err(error) => compare(rt, alloc, row, error, want),
     }
 }

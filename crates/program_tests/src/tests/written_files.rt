@@ -21,7 +21,7 @@ fn what_was_written_is_read(rt: HostRuntime) {
         compare(
             &rt,
             alloc,
-            row,
+            row.as_str(),
             kept(alloc, &mut files, text),
             "as it was written",
         );

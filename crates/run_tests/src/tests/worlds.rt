@@ -131,30 +131,22 @@ const SPAWN_THREE: &[Of] = &[
     (Spawn, ROOT),
 ];
 
-/// With weight 8 the fourth does.
-const SPAWN_FOUR: &[Of] = &[
-    (Take(0), ROOT),
-    (Open, ROOT),
-    (Spawn, ROOT),
+/// With weight 8 the fourth does, where the first has begun.
+const SPAWN_MORE: &[Of] = &[
     (Spawn, ROOT),
     (Spawn, ROOT),
     (Replenish, ROOT),
     (Spawn, ROOT),
 ];
 
-/// Three tasks end behind their parent.
-const END_THREE: &[Of] = &[
-    (Park, ROOT),
-    (Take(0), FIRST),
-    (Step, FIRST),
-    (End, FIRST),
-    (Take(0), SECOND),
-    (Step, SECOND),
-    (End, SECOND),
-    (Take(0), THIRD),
-    (Step, THIRD),
-    (End, THIRD),
-];
+/// The parent waits, and its tasks end behind it.
+const PARK: &[Of] = &[(Park, ROOT)];
+
+const END_FIRST: &[Of] = &[(Take(0), FIRST), (Step, FIRST), (End, FIRST)];
+
+const END_SECOND: &[Of] = &[(Take(0), SECOND), (Step, SECOND), (End, SECOND)];
+
+const END_THIRD: &[Of] = &[(Take(0), THIRD), (Step, THIRD), (End, THIRD)];
 
 const END_FOURTH: &[Of] = &[(Take(0), FOURTH), (Step, FOURTH), (End, FOURTH)];
 
@@ -202,19 +194,35 @@ const ROWS: &[Row] = &[
     (TWO_ARRAYS, 8, &[BEGIN, GO_ON, END, END], "IllegalAt(13)"),
     (TWO_ARRAYS, 8, &[&[(Take(0), FIRST)]], "IllegalAt(0)"),
     (THREE, 1, &[SPAWN_THREE], "4 0 none"),
-    (THREE, 1, &[SPAWN_THREE, END_THREE, PASS_FIRST], "4 4 none"),
+    (
+        THREE,
+        1,
+        &[
+            SPAWN_THREE,
+            PARK,
+            END_FIRST,
+            END_SECOND,
+            END_THIRD,
+            PASS_FIRST,
+        ],
+        "4 4 none",
+    ),
     (THREE, 1, &[SPAWN_THREE, PASS_FIRST], "IllegalAt(8)"),
-    (FOUR, 8, &[SPAWN_FOUR], "16 0 none"),
+    (FOUR, 8, &[BEGIN, SPAWN_MORE], "16 0 none"),
     (
         FOUR,
         8,
-        &[SPAWN_FOUR, END_THREE, PASS_FIRST],
+        &[
+            BEGIN, SPAWN_MORE, PARK, END_FIRST, END_SECOND, END_THIRD, PASS_FIRST,
+        ],
         "IllegalAt(17)",
     ),
     (
         FOUR,
         8,
-        &[SPAWN_FOUR, END_THREE, END_FOURTH, PASS_FIRST],
+        &[
+            BEGIN, SPAWN_MORE, PARK, END_FIRST, END_SECOND, END_THIRD, END_FOURTH, PASS_FIRST,
+        ],
         "16 16 none",
     ),
 ];
@@ -260,7 +268,7 @@ fn weights_are_halved_and_issued(rt: HostRuntime) {
     let program = accepted(&rt, alloc, FOUR);
     let input = Input::zeros(alloc, program.typed()).expect(&rt, "memory");
     let job = WeightedJob::new(alloc, &program, &input, Budget::usual(), 8).expect(&rt, "a weight");
-    let events = events(&rt, alloc, &[SPAWN_FOUR]);
+    let events = events(&rt, alloc, &[BEGIN, SPAWN_MORE]);
     let world = replay(job, &events).expect(&rt, "legal events");
     for (turns, want) in [(FIRST, 4), (SECOND, 2), (THIRD, 1), (FOURTH, 4), (ROOT, 5)] {
         let weight = world.weight(&path(&rt, alloc, turns));

@@ -6,14 +6,12 @@ use Rattle.trace_layout.proofs.finishes.finishes_of.Goals as goal
 
 pub loop-number-preserved : goal.loop-number-preserved
 loop-number-preserved c =
-    let es = c.args.events.now in
-    let n = c.loop-number.number in
-    let e = c.index-events-number.result in
+    let is = c.index-events-number.is in
+    let at = slice_get_read c.args.events.now (length c.args.events.now) c.loop-number.number _ refl (omega arith) is in
     record {
-      chains = at_more es n e _ c.loop-number.chains c.happens-in-loop-number.new.self (omega arith) c.index-events-number.is
-          c.loop-number.invariant.chains c.in_ok-happens-2.ensures;
-      scopes = c.in_ok-happens.ensures es (slice_get_read es (length es) n e refl (omega arith) c.index-events-number.is)
-          c.loop-number.invariant.scopes;
+      chains = at_more c.args.events.now c.loop-number.number _ _ c.loop-number.chains c.happens-in-loop-number.new.self
+          (omega arith) is c.loop-number.invariant.chains c.in_ok-happens-2.ensures;
+      scopes = c.in_ok-happens.ensures c.args.events.now at c.loop-number.invariant.scopes;
     }
 
 pub returns : goal.returns

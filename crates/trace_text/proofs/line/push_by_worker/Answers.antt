@@ -2,7 +2,6 @@ use Rattle.std.proofs.Common.{ℕ, List, ◌++◌, ap, sym, ◌∙◌, codes}
 use Rattle.std.specs.Fmt.{decimal}
 use Rattle.std.specs.String.{string_bytes}
 use Rattle.types.specs.Names.{path_text}
-use Rattle.trace_text.specs.Kinds.{kind_name}
 use Rattle.trace_text.proofs.Written.{ok_then}
 use Rattle.trace_text.proofs.Texts.{line_of_worker, worker_words}
 use Rattle.trace_text.proofs.line.push_by_worker.Goals as goal
@@ -11,9 +10,6 @@ pub returns : goal.returns
 returns c =
     let old = string_bytes c.args.text.now in
     let path = c.args.path.now.turns.items in
-    let number = c.number-worker.result in
     ok_then c.write.result c.write.ensures.bytes (λ bytes. bytes
-    ∙ ap (λ (l : List ℕ). old ++ worker_words l (path_text path) (decimal number) (codes "\n")) c.name-name.ensures
-    ∙ ap (λ (n : ℕ). old ++ worker_words (kind_name c.args.kind) (path_text path) (decimal n) (codes "\n"))
-    c.number-worker.ensures.same
+    ∙ ap (λ (l : List ℕ). old ++ worker_words l (path_text path) (decimal c.args.worker) (codes "\n")) c.name-name.ensures
     ∙ ap (λ (l : List ℕ). old ++ l) (sym (line_of_worker c.args.kind c.args.worker path)))

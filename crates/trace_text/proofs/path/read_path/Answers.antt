@@ -8,6 +8,9 @@ use Rattle.trace_text.proofs.path.read_path.Goals.{then-turn-eq0-via-then-turn-e
 abbrev shown : Option (Bor (List ℕ)) → Option (List ℕ)
 shown o = option_map (λ b. b.now) o
 
+abbrev so_far : (turns text : List ℕ) → Option (Bor (List ℕ)) → Type 0
+so_far turns text o = ReadSoFar turns (shown o) text
+
 pub returns-then-ne-clause-spelled : goal.returns-then-ne-clause-spelled
 returns-then-ne-clause-spelled c = λ p h same.
     let r = root_is c.cut_at_dot.result.0.now (shown c.cut_at_dot.result.1) c.args.text.now p same c.cut_at_dot.ensures in
@@ -21,9 +24,8 @@ turns-init c =
 
 pub returns-in_default-parse-clause-spelled : goal.returns-in_default-parse-clause-spelled
 returns-in_default-parse-clause-spelled c = λ p h same.
-    let at : Option (Bor (List ℕ)) → Type 0 = λ o. ReadSoFar c.turns.turns.items (shown o) c.args.text.now in
     let n = next_turn c.turns.turns.items c.in-Some.more.now c.cut_at_dot-in-Some.result.0.now c.args.text.now
-    (shown c.cut_at_dot-in-Some.result.1) c.parse.result (subst at c.in-Some.is c.turns.invariant) c.cut_at_dot-in-Some.ensures
+    (shown c.cut_at_dot-in-Some.result.1) c.parse.result (subst (so_far c.turns.turns.items c.args.text.now) c.in-Some.is c.turns.invariant) c.cut_at_dot-in-Some.ensures
     c.parse.ensures.value.0 p h same in
     let parsed = n.parsed in
     let failed = c.in_default-parse.is in
@@ -31,9 +33,8 @@ returns-in_default-parse-clause-spelled c = λ p h same.
 
 pub returns-then-turn-eq0-clause-spelled : goal.returns-then-turn-eq0-clause-spelled
 returns-then-turn-eq0-clause-spelled c = λ p h same.
-    let at : Option (Bor (List ℕ)) → Type 0 = λ o. ReadSoFar c.turns.turns.items (shown o) c.args.text.now in
     let n = next_turn c.turns.turns.items c.in-Some.more.now c.cut_at_dot-in-Some.result.0.now c.args.text.now
-    (shown c.cut_at_dot-in-Some.result.1) c.parse.result (subst at c.in-Some.is c.turns.invariant) c.cut_at_dot-in-Some.ensures
+    (shown c.cut_at_dot-in-Some.result.1) c.parse.result (subst (so_far c.turns.turns.items c.args.text.now) c.in-Some.is c.turns.invariant) c.cut_at_dot-in-Some.ensures
     c.parse.ensures.value.0 p h same in
     let parsed = n.parsed in
     let read = c.in-Ok.is in
@@ -45,12 +46,11 @@ returns-then-turn-eq0-clause-spelled c = λ p h same.
 
 pub turns-preserved : goal.turns-preserved
 turns-preserved c =
-    let at : Option (Bor (List ℕ)) → Type 0 = λ o. ReadSoFar c.turns.turns.items (shown o) c.args.text.now in
     let value = c.in-Ok.ensures.value.0 in
     let low : 1 ≤ c.in-Ok.turn = omega (arith, c.if-turn-eq0.false) in
     let high : c.in-Ok.turn < 2 ^ 32 = omega (arith, value.0.1, value.1) in
     let few : length c.turns.turns.items < 1000 = omega (arith, c.len.ensures, c.if-len.false) in
     rw c.in_ok-push.ensures.items
     (read_more c.turns.turns.items c.in-Some.more.now c.cut_at_dot-in-Some.result.0.now c.args.text.now
-    (shown c.cut_at_dot-in-Some.result.1) c.parse.result c.in-Ok.turn (subst at c.in-Some.is c.turns.invariant)
+    (shown c.cut_at_dot-in-Some.result.1) c.parse.result c.in-Ok.turn (subst (so_far c.turns.turns.items c.args.text.now) c.in-Some.is c.turns.invariant)
     c.cut_at_dot-in-Some.ensures c.parse.ensures.value.0 c.in-Ok.is (low, high) few)
