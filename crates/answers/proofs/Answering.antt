@@ -1,5 +1,5 @@
 -- From what a command wrote, or why it wrote nothing, to what was done.
-use Rattle.std.proofs.Common.{◌≡◌, ◌≢◌, ◌<◌, ◌≤◌, inl, inr, ℕ, List, [], Option, Some, Result, Ok, Err, ap, ◌∙◌, sym, subst, refl}
+use Rattle.std.proofs.Common.{◌≡◌, ◌≢◌, ◌<◌, ◌≤◌, inl, inr, ℕ, List, [], Option, Some, Result, Ok, Err, ap, ◌∙◌, map, sym, subst, refl}
 use Rattle.std.proofs.KnownBytes.{Keeps-refl}
 use Rattle.std.proofs.Math.Dec.{ltb}
 use Rattle.std.proofs.lemmas.Bool.{ltb-false, ltb-true}
@@ -18,7 +18,10 @@ use Rattle.places.specs.Starts.{starts}
 use Rattle.types.specs.Code.{Array, Program}
 use Rattle.types.specs.Outcome.{Outcome}
 use Rattle.types.specs.TreeRuns.{Explored, Ends, Open, NoSuchChoice}
+use Rattle.types.specs.Translation.{array, input as lists_of}
 use Rattle.types.specs.Typed.{code_of, program_of}
+use Rattle.types.specs.declared.code.Array.{Array as rArray}
+use Rattle.types.specs.declared.code.Program.{Program as rProgram}
 use Rattle.types.specs.declared.typed.Typed.{Typed}
 use Rattle.effects.proofs.Members.{false_true}
 use Rattle.parallel_relation.specs.Pairs.{ArePairs, AreListed, HasPair}
@@ -26,14 +29,17 @@ use Rattle.parallel_relation.specs.Together.{LabelsMeet}
 use Rattle.parallel_relation.specs.declared.pairs.Pairs.{Pairs as KeptPairs}
 use Rattle.race_checker.specs.Clash.{IsAccepted}
 use Rattle.race_checker.specs.Races.{IsLeastRace, Race as ProgramRace}
-use Rattle.answers.specs.Answers.{Answers, AnswersCheck, AnswersExplore, AnswersList, AnswersPairs}
-use Rattle.answers.specs.Answers.{Explores, IsExplored}
+use Rattle.answers.specs.Answers.{Answers, AnswersExplore, AnswersPairs, TellsAccepted, accepted_told, command_about}
+use Rattle.answers.specs.Answers.{Explores, HasInput, IsExplored, LacksInput}
 use Rattle.answers.specs.Answers.{Answer, Does, Done, Explains, Failed, IsCodeOf, IsRunBy, LooksForRaces, Shows}
-use Rattle.answers.specs.Answers.{TellsNoCode, TellsNotAccepted, TellsUnspelled, TestsRules}
-use Rattle.answers.specs.Answers.{AnswersLabels, AnswersPlaces, AnswersFormat, AnswersCheckFormat, NeedsLayout}
-use Rattle.answers.specs.Answers.{AnswersShares, command_of}
+use Rattle.answers.specs.Answers.{TellsNoCode, TellsNotAccepted, TellsNotBegun, TellsNotGiven, TellsUnspelled, TestsRules}
+use Rattle.answers.specs.Answers.{AnswersLabels, AnswersPlaces, AnswersFormat, AnswersCheckFormat, IsLayoutOf, NeedsLayout}
+use Rattle.answers.specs.Answers.{AnswersCost, command_of}
 use Rattle.answers.specs.declared.costing.Shares.{Shares}
-use Rattle.answers.specs.declared.costing.Shares.TheVariants.{ByLabel, ByProcedure}
+use Rattle.answers.specs.declared.costing.Shares.TheVariants.{Untold, ByLabel, ByProcedure}
+use Rattle.answers.specs.declared.question.Begun.{Begun}
+use Rattle.answers.specs.declared.telling.About.{About}
+use Rattle.answers.specs.declared.telling.About.TheVariants.{Counts, Lines}
 use Rattle.layout.specs.Kept.{HaveSameTokens, IsLaidOut, KeepsAll}
 use Rattle.std.specs.Str.{IsUtf8, bytes_eq}
 use Rattle.std.proofs.lemmas.Slice.Eq.{bytes_eq-Decides}
@@ -44,8 +50,8 @@ use Rattle.answers.specs.Chosen.{ComesTo}
 use Rattle.intake.specs.Choosing.{TellsNoChoices}
 use Rattle.texts.specs.ExploredText.{open_text}
 use Rattle.intake.specs.Failures.{TellsRaceIn}
-use Rattle.intake.specs.Held.{Held, BeginsWith, TellsNoInput}
-use Rattle.texts.specs.Labels.{accepted_text, pair_text}
+use Rattle.intake.specs.Held.{Held, TellsNoInput}
+use Rattle.texts.specs.Labels.{pair_text}
 use Rattle.texts.specs.OutcomeText.{outcome_text, status_of}
 use Rattle.command_line.specs.Requests.{Settings}
 use Rattle.intake.specs.declared.failure.Failure.{Failure}
@@ -53,10 +59,8 @@ use Rattle.intake.specs.declared.failure.Failure.TheVariants.{CannotRead, NotUtf
 use Rattle.intake.specs.declared.failure.Failure.TheVariants.{Race, NoMemoryInCheck, Input, CannotWriteOutput, NoMemory}
 use Rattle.intake.specs.declared.failure.Failure.TheVariants.{ChoicesNotUnderstood, NoLeaf}
 use Rattle.command_line.specs.declared.request.Command.{Command}
-use Rattle.command_line.specs.declared.request.Command.TheVariants.{Run, Serial, Check, Listing, Pairs, Explore}
-use Rattle.command_line.specs.declared.request.Command.TheVariants.{Labels, Places, Format, CheckFormat, Cost}
-use Rattle.command_line.specs.declared.request.Command.TheVariants.{View, Summary, Draw, Chrome}
-use Rattle.command_line.specs.declared.request.Command.TheVariants.{CostByLabel, CostByProcedure}
+use Rattle.command_line.specs.declared.request.Command.TheVariants.{Run, Serial, Explore}
+use Rattle.command_line.specs.declared.request.Command.TheVariants.{Labels, Places, Format, CheckFormat}
 
 -- ---- failures
 
@@ -127,11 +131,6 @@ module _ (c : Command) (s : Settings) (held : Held) (text : List ℕ) (b : Optio
   no_code_other CannotWriteOutput told = told
   no_code_other _ told = tt
 
-  pub passes_no_code : TestsRules c → (r : Result ℕ Failure) (f : Failure) → IsErrAnd r (λ y. y ≡ f) → TellsNoCode text f
-      → Does c s held text b b r
-  passes_no_code tests r f is told =
-      passes_on r f is (no_code_explained tests f told) (other_failure f (no_code_other f told))
-
   -- ---- a text that spells no program
 
   no_program_explained : (f : Failure) → TellsUnspelled text f → Explains c s held text f
@@ -160,9 +159,29 @@ module _ (c : Command) (s : Settings) (held : Held) (text : List ℕ) (b : Optio
     no_input_other CannotWriteOutput told = told
     no_input_other _ told = tt
 
-    pub passes_no_input : (r : Result ℕ Failure) (f : Failure) → IsErrAnd r (λ y. y ≡ f)
-        → TellsNoInput s.input held code.arrays f → Does c s held text b b r
-    passes_no_input r f is told = passes_on r f is (no_input_explained f told) (other_failure f (no_input_other f told))
+  -- of a command that runs whatever program another runs
+  module _ (d : Command) (runs : (code : Program) → IsRunBy d code → IsRunBy c code) where
+    pub lack_explained : (f : Failure) → LacksInput d s held text f → Explains c s held text f
+    lack_explained f lack = no_input_explained lack.code lack.is_code (runs lack.code lack.is_run) f lack.why
+
+    pub lack_other : (f : Failure) → LacksInput d s held text f → IsOther f
+    lack_other f lack = no_input_other lack.code lack.is_code (runs lack.code lack.is_run) f lack.why
+
+  -- ---- a run without a program or an input
+
+  module _ (tests : TestsRules c) (runs : (code : Program) → IsRunBy c code) where
+    pub not_given_explained : (f : Failure) → TellsNotGiven s held text f → Explains c s held text f
+    not_given_explained f (inl no_code) = no_code_explained tests f no_code
+    not_given_explained f (inr lack) = lack_explained Serial (λ code is_run. runs code) f lack
+
+    pub not_given_other : (f : Failure) → TellsNotGiven s held text f → IsOther f
+    not_given_other f (inl no_code) = no_code_other f no_code
+    not_given_other f (inr lack) = lack_other Serial (λ code is_run. runs code) f lack
+
+    pub passes_not_given : (r : Result ℕ Failure) (f : Failure) → IsErrAnd r (λ y. y ≡ f)
+        → TellsNotGiven s held text f → Does c s held text b b r
+    passes_not_given r f is told =
+        passes_on r f is (not_given_explained f told) (other_failure f (not_given_other f told))
 
 -- ---- a text without an accepted program
 
@@ -189,23 +208,11 @@ told_race text typed back race is_code same least NoMemoryInCheck told = tt
 told_race text typed back race is_code same least _ told = absurd told
 
 rules_tested : (c : Command) → LooksForRaces c → TestsRules c
-rules_tested Run looks = tt
-rules_tested Serial looks = absurd looks
-rules_tested Check looks = tt
-rules_tested Listing looks = tt
-rules_tested Pairs looks = absurd looks
-rules_tested Explore looks = tt
 rules_tested Labels looks = absurd looks
 rules_tested Places looks = absurd looks
 rules_tested Format looks = absurd looks
 rules_tested CheckFormat looks = absurd looks
-rules_tested Cost looks = absurd looks
-rules_tested CostByLabel looks = absurd looks
-rules_tested CostByProcedure looks = absurd looks
-rules_tested View looks = tt
-rules_tested Summary looks = tt
-rules_tested Draw looks = tt
-rules_tested Chrome looks = tt
+rules_tested _ looks = tt
 
 module _ (c : Command) (looks : LooksForRaces c) (s : Settings) (held : Held) (text : List ℕ) (b : Option (List ℕ)) where
   pub not_accepted_explained : (f : Failure) → TellsNotAccepted text f → Explains c s held text f
@@ -223,6 +230,21 @@ module _ (c : Command) (looks : LooksForRaces c) (s : Settings) (held : Held) (t
       → Does c s held text b b r
   passes_not_accepted r f is told =
       passes_on c s held text b r f is (not_accepted_explained f told) (other_failure f (not_accepted_other f told))
+
+  -- nor an input
+  module _ (runs : (code : Program) → IsAccepted code → IsRunBy c code) where
+    pub not_begun_explained : (f : Failure) → TellsNotBegun s held text f → Explains c s held text f
+    not_begun_explained f (inl refused) = not_accepted_explained f refused
+    not_begun_explained f (inr lack) = lack_explained c s held text b Run runs f lack
+
+    pub not_begun_other : (f : Failure) → TellsNotBegun s held text f → IsOther f
+    not_begun_other f (inl refused) = not_accepted_other f refused
+    not_begun_other f (inr lack) = lack_other c s held text b Run runs f lack
+
+    pub passes_not_begun : (r : Result ℕ Failure) (f : Failure) → IsErrAnd r (λ y. y ≡ f)
+        → TellsNotBegun s held text f → Does c s held text b b r
+    passes_not_begun r f is told =
+        passes_on c s held text b r f is (not_begun_explained f told) (other_failure f (not_begun_other f told))
 
 -- want of memory before anything is written
 pub passes_memory : (c : Command) (s : Settings) (held : Held) (text : List ℕ) (b : Option (List ℕ)) (r : Result ℕ Failure)
@@ -248,9 +270,10 @@ module _ (text told : List ℕ) (kept typed : Typed) (same : typed ≡ kept)
   spelled_so : AreTokensOf (chars text) (spelling (program_of typed))
   spelled_so = subst (λ (t : Typed). AreTokensOf (chars text) (spelling (program_of t))) (sym same) spelled
 
-  -- the listing of an accepted program
-  pub listing_answers : told ≡ listed (program_of typed) → AnswersList text told 0
-  listing_answers is = record {
+  -- what is told of an accepted program
+  pub accepted_answers : (about : About) → told ≡ accepted_told about (code_of typed) (program_of typed)
+      → TellsAccepted text (accepted_told about) told 0
+  accepted_answers about is = record {
     code = code_of typed;
     is_code = code_of_text text typed spelled_so;
     accepted = accepted;
@@ -258,15 +281,18 @@ module _ (text told : List ℕ) (kept typed : Typed) (same : typed ≡ kept)
     status_is = refl;
   }
 
-  -- the line that tells an accepted program
-  pub line_answers : told ≡ accepted_text (code_of typed) → AnswersCheck text told 0
-  line_answers is = record {
-    code = code_of typed;
-    is_code = code_of_text text typed spelled_so;
-    accepted = accepted;
-    told_is = is;
-    status_is = refl;
-  }
+-- ---- what is told of an accepted program
+
+-- the commands that ask for it look for races
+pub checks_look : (about : About) → LooksForRaces (command_about about)
+checks_look Counts = tt
+checks_look Lines = tt
+
+-- and what they answer is that
+pub check_answers : (about : About) (s : Settings) (held : Held) (text told : List ℕ) (status : ℕ)
+    → TellsAccepted text (accepted_told about) told status → Answers (command_about about) s held text told status
+check_answers Counts s held text told status answers = answers
+check_answers Lines s held text told status answers = answers
 
 -- ---- listings of any program
 
@@ -302,19 +328,21 @@ places_answer text told listing program places spelled begun is of = record {
 }
 
 -- the text laid out
+pub is_layout : (text laid : List ℕ) (program : tree.Program) → AreTokensOf (chars text) (spelling program) → IsUtf8 laid
+    → IsLaidOut (chars text) (chars laid) → KeepsAll (chars text) (chars laid) → HaveSameTokens (chars text) (chars laid)
+    → IsLayoutOf text program laid
+is_layout text laid program spelled utf8 laid_out kept same =
+    record { is_text = utf8; is_laid = laid_out; kept = kept; same = same (spelling program) spelled }
+
+-- and told
 pub format_answer : (text laid told : List ℕ) (program : tree.Program) → AreTokensOf (chars text) (spelling program)
-    → told ≡ laid → IsUtf8 laid → IsLaidOut (chars text) (chars laid) → KeepsAll (chars text) (chars laid)
-    → HaveSameTokens (chars text) (chars laid) → AnswersFormat text told 0
-format_answer text laid told program spelled is utf8 laid_out kept same =
-    subst (λ (l : List ℕ). AnswersFormat text l 0) (sym is) (record {
-      program = program;
-      spelled = spelled;
-      is_text = utf8;
-      laid = laid_out;
-      kept = kept;
-      same = same (spelling program) spelled;
-      status_is = refl;
-    })
+    → told ≡ laid → IsLayoutOf text program laid → AnswersFormat text told 0
+format_answer text laid told program spelled is layout = record {
+  program = program;
+  spelled = spelled;
+  layout = subst (IsLayoutOf text program) (sym is) layout;
+  status_is = refl;
+}
 
 -- a text that is laid out already
 pub check_format_answer : (text laid : List ℕ) (program : tree.Program) → AreTokensOf (chars text) (spelling program)
@@ -372,27 +400,36 @@ pub shown : (c : Command) (s : Settings) (held : Held) (text : List ℕ) (old ne
 shown c s held text old new r told status answers written is only =
     answered (Answers c s held text) (Explains c s held text) old new r told status tt answers written is only
 
--- ---- shares of a cost
+-- ---- costs
 
 -- the commands that tell them test the rules of types, and run the program
-pub shares_test_rules : (by : Shares) → TestsRules (command_of by)
-shares_test_rules ByLabel = tt
-shares_test_rules ByProcedure = tt
+pub costs_test_rules : (shares : Shares) → TestsRules (command_of shares)
+costs_test_rules Untold = tt
+costs_test_rules ByLabel = tt
+costs_test_rules ByProcedure = tt
 
-pub shares_are_run : (by : Shares) (code : Program) → IsRunBy (command_of by) code
-shares_are_run ByLabel code = tt
-shares_are_run ByProcedure code = tt
+pub costs_are_run : (shares : Shares) (code : Program) → IsRunBy (command_of shares) code
+costs_are_run Untold code = tt
+costs_are_run ByLabel code = tt
+costs_are_run ByProcedure code = tt
 
--- a cost and shares were shown, or the outcome in their place
-pub shares_shown : (by : Shares) (s : Settings) (held : Held) (text : List ℕ) (old new : Option (List ℕ)) (r : Result ℕ Failure)
-    (told : List ℕ) (status : ℕ) → AnswersShares by s held text told status → Writes old new r told → IfOk r (λ x. x ≡ status)
-    → IfErr r (λ f. f ≡ CannotWriteOutput) → Does (command_of by) s held text old new r
-shares_shown ByLabel s held text old new r told status answers written is only =
-    shown CostByLabel s held text old new r told status answers written is only
-shares_shown ByProcedure s held text old new r told status answers written is only =
-    shown CostByProcedure s held text old new r told status answers written is only
+-- what they answer is a cost with shares
+pub cost_answers : (shares : Shares) (s : Settings) (held : Held) (text told : List ℕ) (status : ℕ)
+    → AnswersCost shares s held text told status → Answers (command_of shares) s held text told status
+cost_answers Untold s held text told status answers = answers
+cost_answers ByLabel s held text told status answers = answers
+cost_answers ByProcedure s held text told status answers = answers
 
 -- ---- outcomes
+
+-- arrays that were read of a program are those of its code
+pub declared_of : (read : List rArray) (q : rProgram) (t : Typed) → read ≡ q.arrays.items → q ≡ t.code
+    → map array read ≡ (code_of t).arrays
+declared_of read q t is of = ap (map array) is ∙ ap (λ (p : rProgram). map array p.arrays.items) of
+
+pub declared_by : (read : List rArray) (q : rProgram) (t kept : Typed) → read ≡ q.arrays.items → q ≡ t.code → t ≡ kept
+    → map array read ≡ (code_of kept).arrays
+declared_by read q t kept is of same = declared_of read q t is of ∙ ap (λ (u : Typed). (code_of u).arrays) same
 
 pub outcome_shown : (arrays : Bool) (code : Program) (o p : Outcome) (declared : List Array) → o ≡ p → declared ≡ code.arrays
     → Shows arrays p code (outcome_text declared arrays o) (status_of o)
@@ -450,23 +487,20 @@ module _ (s : Settings) (held : Held) (text : List ℕ) (run : IsExplored s held
       passes_on Explore s held text b r f is (no_choices_explained f told) (other_failure f (no_choices_other f told))
 
 -- what was explored of a program that was accepted
-module _ (s : Settings) (held : Held) (text : List ℕ) (kept typed : Typed) (same : typed ≡ kept)
-    (spelled : AreTokensOf (chars text) (spelling (program_of kept))) (accepted : IsAccepted (code_of typed))
-    (input : List (List ℤ)) (begins : BeginsWith s.input held (code_of typed).arrays input) where
-  abbrev pub is_explored : IsExplored s held text
-  is_explored = record {
-    code = code_of typed;
-    is_code = code_of_text text typed
-        (subst (λ (t : Typed). AreTokensOf (chars text) (spelling (program_of t))) (sym same) spelled);
-    accepted = accepted;
-    input = input;
-    begins = begins;
-  }
+abbrev pub is_explored : (s : Settings) (held : Held) (text : List ℕ) (code : Program) → IsAccepted code
+    → (input : List (List ℤ)) → HasInput s held text code input → IsExplored s held text
+is_explored s held text code accepted input given =
+    record { code = code; accepted = accepted; input = input; given = given }
 
-  abbrev pub explores : (later : Held) → later ≡ held → (e : Explored) → ComesTo s.choices later (code_of kept) input e
-      → Explores s held text e
+-- what was begun
+module _ (s : Settings) (held : Held) (text : List ℕ) (b : Begun)
+    (given : HasInput s held text (code_of b.accepted.typed) (lists_of b.input)) where
+  abbrev pub begun_so : IsExplored s held text
+  begun_so = is_explored s held text (code_of b.accepted.typed) b.accepted.no_clash (lists_of b.input) given
+
+  abbrev pub explores : (later : Held) → later ≡ held → (e : Explored)
+      → ComesTo s.choices later (code_of b.accepted.typed) (lists_of b.input) e → Explores s held text e
   explores later keeps e by = record {
-    run = is_explored;
-    by_choices = subst (λ (h : Held). ComesTo s.choices h (code_of typed) input e) keeps
-        (subst (λ (t : Typed). ComesTo s.choices later (code_of t) input e) (sym same) by);
+    run = begun_so;
+    by_choices = subst (λ (h : Held). ComesTo s.choices h (code_of b.accepted.typed) (lists_of b.input) e) keeps by;
   }

@@ -1,5 +1,5 @@
 -- What a command answers to the text of a program, and why it fails.
-use Rattle.std.specs.Prelude.{ℕ, ℤ, ◌≡◌, ◌≢◌, ◌<◌, ◌⊎◌, ◌+◌, ◌++◌, List, [], Bool, false, IsTrue}
+use Rattle.std.specs.Prelude.{ℕ, ℤ, ◌≡◌, ◌≢◌, ◌⊎◌, ◌+◌, ◌++◌, List, [], Bool, false, IsTrue}
 use Rattle.std.specs.Prelude.{Option, Some, is_some, Result, MatchResult}
 use Rattle.std.specs.Io.KnownBytes.{Appends, Keeps}
 use Rattle.std.specs.List.{flat_map}
@@ -21,7 +21,7 @@ use Rattle.types.specs.Outcome.{Budget, Outcome, outcome}
 use Rattle.types.specs.Resolution.{resolution}
 use Rattle.types.specs.Rules.{BreaksNoRule, errors_of}
 use Rattle.types.specs.Told.{Told}
-use Rattle.types.specs.TreeRuns.{Explored, Open, NoSuchChoice}
+use Rattle.types.specs.TreeRuns.{Explored, NoSuchChoice}
 use Rattle.types.specs.declared.error.TypeError.{TypeError}
 use Rattle.cost.specs.Accounts.{Account, account_of, span_by_label}
 use Rattle.cost.specs.Costs.{cost_of, tally_of}
@@ -33,9 +33,11 @@ use Rattle.race_checker.specs.Clash.{IsAccepted}
 use Rattle.race_checker.specs.Races.{IsLeastRace, Race as ProgramRace}
 use Rattle.texts.specs.Appending.{AppendsBeginning}
 use Rattle.gather.specs.RunErrors.{IsCause}
-use Rattle.answers.specs.Chosen.{ComesTo}
+use Rattle.answers.specs.Chosen.{ComesTo, HasLeaves}
 use Rattle.answers.specs.declared.costing.Shares.{Shares}
-use Rattle.answers.specs.declared.costing.Shares.TheVariants.{ByLabel, ByProcedure}
+use Rattle.answers.specs.declared.costing.Shares.TheVariants.{Untold, ByLabel, ByProcedure}
+use Rattle.answers.specs.declared.telling.About.{About}
+use Rattle.answers.specs.declared.telling.About.TheVariants.{Counts, Lines}
 use Rattle.intake.specs.Choosing.{TellsNoChoices}
 use Rattle.texts.specs.ExploredText.{explored_text, explored_status}
 use Rattle.intake.specs.Failures.{told_procedure, IsToldAs}
@@ -63,25 +65,32 @@ pub record IsCodeOf (text : List ℕ) (code : Program) : Type 0 where
   pub right : BreaksNoRule program
   pub resolved : resolution program ≡ Some code
 
+-- this is the code of the text's program, and this the input that was given
+pub record HasInput (s : Settings) (held : Held) (text : List ℕ) (code : Program) (input : List (List ℤ))
+    : Type 0 where
+  pub is_code : IsCodeOf text code
+  pub begins : BeginsWith s.input held code.arrays input
+
+-- the text's program has no race, and this is its input
+pub record IsExplored (s : Settings) (held : Held) (text : List ℕ) : Type 0 where
+  pub code : Program
+  pub accepted : IsAccepted code
+  pub input : List (List ℤ)
+  pub given : HasInput s held text code input
+
 -- the command runs the program
 abbrev pub IsRunBy : Command → Program → Type 0
 IsRunBy Run code = IsAccepted code
-IsRunBy Serial code = Unit {0}
-IsRunBy Check code = ⊥
-IsRunBy Listing code = ⊥
-IsRunBy Pairs code = ⊥
 IsRunBy Explore code = IsAccepted code
-IsRunBy Labels code = ⊥
-IsRunBy Places code = ⊥
-IsRunBy Format code = ⊥
-IsRunBy CheckFormat code = ⊥
-IsRunBy Cost code = Unit {0}
-IsRunBy CostByLabel code = Unit {0}
-IsRunBy CostByProcedure code = Unit {0}
 IsRunBy View code = IsAccepted code
 IsRunBy Summary code = IsAccepted code
 IsRunBy Draw code = IsAccepted code
 IsRunBy Chrome code = IsAccepted code
+IsRunBy Serial code = Unit {0}
+IsRunBy Cost code = Unit {0}
+IsRunBy CostByLabel code = Unit {0}
+IsRunBy CostByProcedure code = Unit {0}
+IsRunBy _ code = ⊥
 
 -- ---- answers
 
@@ -91,92 +100,95 @@ pub record Shows (arrays : Bool) (o : Outcome) (code : Program) (told : List ℕ
   pub told_is : told ≡ outcome_text code.arrays arrays o
   pub status_is : status ≡ status_of o
 
+-- what is told of the text's program and of the input that was given
+pub record TellsOfRun (s : Settings) (held : Held) (text : List ℕ) (Tells : Program → (input : List (List ℤ)) → Type 0)
+    : Type 0 where
+  pub code : Program
+  pub input : List (List ℤ)
+  pub given : HasInput s held text code input
+  pub tells : Tells code input
+
 -- `serial`: the one-thread outcome of the text's program, of the input and under the budget given
-pub record AnswersSerial (s : Settings) (held : Held) (text told : List ℕ) (status : ℕ) : Type 0 where
-  pub code : Program
-  pub is_code : IsCodeOf text code
-  pub input : List (List ℤ)
-  pub begins : BeginsWith s.input held code.arrays input
-  pub shows : Shows s.arrays (outcome code input s.budget) code told status
+abbrev pub AnswersSerial : Settings → Held → (text told : List ℕ) → (status : ℕ) → Type 0
+AnswersSerial s held text told status =
+    TellsOfRun s held text (λ code input. Shows s.arrays (outcome code input s.budget) code told status)
 
--- what is told of a run that ended without faults is what it cost; of any other its outcome
-pub data TellsCost (code : Program) (o : Outcome) (c : Numbers) (told : List ℕ) (status : ℕ) : Type 0 where
-  numbers : status_of o ≡ 0 → told ≡ cost_text c → status ≡ 0 → TellsCost code o c told status
-  not_ended : status_of o ≢ 0 → Shows false o code told status → TellsCost code o c told status
+-- the lines of a cost, and behind them those of the shares of each label, or of each procedure, of which these are the rows
+abbrev pub cost_lines : Shares → Numbers → (work span : List ℕ) → Program → List ℕ
+cost_lines Untold c work span code = cost_text c
+cost_lines ByLabel c work span code = cost_text c ++ labels_text work span
+cost_lines ByProcedure c work span code = cost_text c ++ procedures_text work span code
 
--- `cost`: what the run on one thread cost, of the text's program on the input and under the budget given
-pub record AnswersCost (s : Settings) (held : Held) (text told : List ℕ) (status : ℕ) : Type 0 where
-  pub code : Program
-  pub is_code : IsCodeOf text code
-  pub input : List (List ℤ)
-  pub begins : BeginsWith s.input held code.arrays input
-  pub tells : TellsCost code (outcome code input s.budget) (cost_of (tally_of code input s.budget)) told status
+-- how many rows there are for them: one for each label of the program, and for 0
+abbrev pub rows_in : Shares → Program → ℕ
+rows_in Untold code = 0
+rows_in ByLabel code = labels_in code + 1
+rows_in ByProcedure code = labels_in code + 1
 
--- the account of a run, with a row for each label of its program, and for 0
-abbrev pub account_in : Program → (input : List (List ℤ)) → Budget → Account
-account_in code input b = account_of code (labels_in code + 1) input b
+-- the account of a run, with these rows
+abbrev pub account_in : Shares → Program → (input : List (List ℤ)) → Budget → Account
+account_in shares code input b = account_of code (rows_in shares code) input b
 
--- the lines of the shares of each label, or of each procedure, of which these are the rows
-abbrev pub shares_text : Shares → (work span : List ℕ) → Program → List ℕ
-shares_text ByLabel work span code = labels_text work span
-shares_text ByProcedure work span code = procedures_text work span code
-
--- those of an account
-abbrev pub shares_in : Shares → Program → Account → List ℕ
-shares_in shares code a = shares_text shares a.work (span_by_label a) code
+-- the lines of what it cost
+abbrev pub lines_in : Shares → Program → (input : List (List ℤ)) → Budget → List ℕ
+lines_in shares code input b =
+    let a = account_in shares code input b in
+    cost_lines shares (cost_of (tally_of code input b)) a.work (span_by_label a) code
 
 -- the command that asks for them
 abbrev pub command_of : Shares → Command
+command_of Untold = Cost
 command_of ByLabel = CostByLabel
 command_of ByProcedure = CostByProcedure
 
--- what is told of a run that ended without faults is what it cost, and behind it shares; of any other its outcome
-pub data TellsShares (code : Program) (o : Outcome) (c : Numbers) (shares told : List ℕ) (status : ℕ) : Type 0 where
-  shared : status_of o ≡ 0 → told ≡ cost_text c ++ shares → status ≡ 0 → TellsShares code o c shares told status
-  not_shared : status_of o ≢ 0 → Shows false o code told status → TellsShares code o c shares told status
+-- what is told of a run that ended without faults is what it cost; of any other its outcome
+pub data TellsCost (code : Program) (o : Outcome) (cost told : List ℕ) (status : ℕ) : Type 0 where
+  numbers : status_of o ≡ 0 → told ≡ cost → status ≡ 0 → TellsCost code o cost told status
+  not_ended : status_of o ≢ 0 → Shows false o code told status → TellsCost code o cost told status
 
--- `cost --by-line` and `cost --by-procedure`: the same, with shares
-pub record AnswersShares (shares : Shares) (s : Settings) (held : Held) (text told : List ℕ) (status : ℕ) : Type 0 where
-  pub code : Program
-  pub is_code : IsCodeOf text code
-  pub input : List (List ℤ)
-  pub begins : BeginsWith s.input held code.arrays input
-  pub tells : TellsShares code (outcome code input s.budget) (cost_of (tally_of code input s.budget))
-      (shares_in shares code (account_in code input s.budget)) told status
+-- `cost`: what the run on one thread cost, of the text's program on the input and under the budget given; with
+-- `--by-line` and `--by-procedure` behind it shares
+abbrev pub AnswersCost : Shares → Settings → Held → (text told : List ℕ) → (status : ℕ) → Type 0
+AnswersCost shares s held text told status =
+    TellsOfRun s held text
+    (λ code input. TellsCost code (outcome code input s.budget) (lines_in shares code input s.budget) told status)
 
 -- `run`: the text's program has no race; the same outcome
 pub record AnswersRun (s : Settings) (held : Held) (text told : List ℕ) (status : ℕ) : Type 0 where
-  pub code : Program
-  pub is_code : IsCodeOf text code
-  pub accepted : IsAccepted code
-  pub input : List (List ℤ)
-  pub begins : BeginsWith s.input held code.arrays input
-  pub shows : Shows s.arrays (outcome code input s.budget) code told status
+  pub run : IsExplored s held text
+  pub shows : Shows s.arrays (outcome run.code run.input s.budget) run.code told status
 
--- `check`: the text's program has no race, and the line tells how many procedures and labels it has
-pub record AnswersCheck (text told : List ℕ) (status : ℕ) : Type 0 where
+-- the text's program has no race, and this is told of it
+pub record TellsAccepted (text : List ℕ) (text_of : Program → tree.Program → List ℕ) (told : List ℕ) (status : ℕ)
+    : Type 0 where
   pub code : Program
   pub is_code : IsCodeOf text code
   pub accepted : IsAccepted code
-  pub told_is : told ≡ accepted_text code
+  pub told_is : told ≡ text_of code is_code.program
   pub status_is : status ≡ 0
 
--- `check --list`: the listing of the text's program, which has no race
-pub record AnswersList (text told : List ℕ) (status : ℕ) : Type 0 where
-  pub code : Program
-  pub is_code : IsCodeOf text code
-  pub accepted : IsAccepted code
-  pub told_is : told ≡ listed is_code.program
-  pub status_is : status ≡ 0
+-- what is told of it: how many procedures and labels it has, or its listing
+abbrev pub accepted_told : About → Program → tree.Program → List ℕ
+accepted_told Counts code program = accepted_text code
+accepted_told Lines code program = listed program
 
--- `mhp`: the pairs of labels of the text's program that may run together, ascending, a line each
-pub record AnswersPairs (text told : List ℕ) (status : ℕ) : Type 0 where
+-- the command that asks for it: `check`, or `check --list`
+abbrev pub command_about : About → Command
+command_about Counts = Check
+command_about Lines = Listing
+
+-- the pairs of labels of the text's program that may run together, ascending, as this text tells them
+pub record TellsPairs (text : List ℕ) (text_of : List (ℕ × ℕ) → List ℕ) (told : List ℕ) (status : ℕ) : Type 0 where
   pub code : Program
   pub is_code : IsCodeOf text code
   pub pairs : List (ℕ × ℕ)
   pub listed : AreListed (LabelsMeet code) pairs
-  pub told_is : told ≡ flat_map pair_text pairs
+  pub told_is : told ≡ text_of pairs
   pub status_is : status ≡ 0
+
+-- `mhp`: a line for each pair
+abbrev pub AnswersPairs : (text told : List ℕ) → (status : ℕ) → Type 0
+AnswersPairs text = TellsPairs text (flat_map pair_text)
 
 -- `list`: the listing of the text's program, whatever rules it breaks
 pub record AnswersLabels (text told : List ℕ) (status : ℕ) : Type 0 where
@@ -194,14 +206,18 @@ pub record AnswersPlaces (text told : List ℕ) (status : ℕ) : Type 0 where
   pub told_is : told ≡ placed_lines places (lines (listed program))
   pub status_is : status ≡ 0
 
--- `fmt`: the text in the canonical layout, with its comments; it spells the same program
+-- this is the text of a program in the canonical layout, with its comments; it spells the same program
+pub record IsLayoutOf (text : List ℕ) (program : tree.Program) (laid : List ℕ) : Type 0 where
+  pub is_text : IsUtf8 laid
+  pub is_laid : IsLaidOut (chars text) (chars laid)
+  pub kept : KeepsAll (chars text) (chars laid)
+  pub same : AreTokensOf (chars laid) (spelling program)
+
+-- `fmt`: the text is told so
 pub record AnswersFormat (text told : List ℕ) (status : ℕ) : Type 0 where
   pub program : tree.Program
   pub spelled : AreTokensOf (chars text) (spelling program)
-  pub is_text : IsUtf8 told
-  pub laid : IsLaidOut (chars text) (chars told)
-  pub kept : KeepsAll (chars text) (chars told)
-  pub same : AreTokensOf (chars told) (spelling program)
+  pub layout : IsLayoutOf text program told
   pub status_is : status ≡ 0
 
 -- `fmt --check`: the text is so laid out, and nothing is written
@@ -211,14 +227,6 @@ pub record AnswersCheckFormat (text told : List ℕ) (status : ℕ) : Type 0 whe
   pub laid : IsLaidOut (chars text) (chars text)
   pub told_is : told ≡ []
   pub status_is : status ≡ 0
-
--- the text's program has no race, and this is its input
-pub record IsExplored (s : Settings) (held : Held) (text : List ℕ) : Type 0 where
-  pub code : Program
-  pub is_code : IsCodeOf text code
-  pub accepted : IsAccepted code
-  pub input : List (List ℤ)
-  pub begins : BeginsWith s.input held code.arrays input
 
 -- what its run comes to by the choices that are given
 pub record Explores (s : Settings) (held : Held) (text : List ℕ) (e : Explored) : Type 0 where
@@ -230,7 +238,7 @@ pub record AnswersExplore (s : Settings) (held : Held) (text told : List ℕ) (s
     : Type 0 where
   pub comes_to : Explored
   pub explores : Explores s held text comes_to
-  pub open_yet : (leaves : ℕ) → comes_to ≡ Open leaves → 0 < leaves
+  pub open_yet : HasLeaves comes_to
   pub told_is : explored_text explores.run.code.arrays s.arrays comes_to ≡ Some told
   pub status_is : status ≡ explored_status comes_to
 
@@ -239,21 +247,18 @@ pub record AnswersExplore (s : Settings) (held : Held) (text told : List ℕ) (s
 abbrev pub Answers : Command → Settings → Held → (text told : List ℕ) → (status : ℕ) → Type 0
 Answers Run s held text told status = AnswersRun s held text told status
 Answers Serial s held text told status = AnswersSerial s held text told status
-Answers Check s held text told status = AnswersCheck text told status
-Answers Listing s held text told status = AnswersList text told status
+Answers Check s held text told status = TellsAccepted text (accepted_told Counts) told status
+Answers Listing s held text told status = TellsAccepted text (accepted_told Lines) told status
 Answers Pairs s held text told status = AnswersPairs text told status
 Answers Explore s held text told status = AnswersExplore s held text told status
 Answers Labels s held text told status = AnswersLabels text told status
 Answers Places s held text told status = AnswersPlaces text told status
 Answers Format s held text told status = AnswersFormat text told status
 Answers CheckFormat s held text told status = AnswersCheckFormat text told status
-Answers Cost s held text told status = AnswersCost s held text told status
-Answers CostByLabel s held text told status = AnswersShares ByLabel s held text told status
-Answers CostByProcedure s held text told status = AnswersShares ByProcedure s held text told status
-Answers View s held text told status = ⊥
-Answers Summary s held text told status = ⊥
-Answers Draw s held text told status = ⊥
-Answers Chrome s held text told status = ⊥
+Answers Cost s held text told status = AnswersCost Untold s held text told status
+Answers CostByLabel s held text told status = AnswersCost ByLabel s held text told status
+Answers CostByProcedure s held text told status = AnswersCost ByProcedure s held text told status
+Answers _ s held text told status = ⊥
 
 -- ---- failures
 
@@ -265,23 +270,11 @@ pub record BreaksRule (text : List ℕ) (e : TypeError) : Type 0 where
 
 -- the command tests the rules of types
 abbrev pub TestsRules : Command → Type 0
-TestsRules Run = Unit {0}
-TestsRules Serial = Unit {0}
-TestsRules Check = Unit {0}
-TestsRules Listing = Unit {0}
-TestsRules Pairs = Unit {0}
-TestsRules Explore = Unit {0}
 TestsRules Labels = ⊥
 TestsRules Places = ⊥
 TestsRules Format = ⊥
 TestsRules CheckFormat = ⊥
-TestsRules Cost = Unit {0}
-TestsRules CostByLabel = Unit {0}
-TestsRules CostByProcedure = Unit {0}
-TestsRules View = Unit {0}
-TestsRules Summary = Unit {0}
-TestsRules Draw = Unit {0}
-TestsRules Chrome = Unit {0}
+TestsRules _ = Unit {0}
 
 -- why a text has no code, memory aside: it spells no program, or one that breaks a rule
 abbrev pub TellsNoCode : (text : List ℕ) → Failure → Type 0
@@ -305,22 +298,14 @@ pub record HasRace (text procedure first second : List ℕ) : Type 0 where
 -- the command looks for races
 abbrev pub LooksForRaces : Command → Type 0
 LooksForRaces Run = Unit {0}
-LooksForRaces Serial = ⊥
 LooksForRaces Check = Unit {0}
 LooksForRaces Listing = Unit {0}
-LooksForRaces Pairs = ⊥
 LooksForRaces Explore = Unit {0}
-LooksForRaces Labels = ⊥
-LooksForRaces Places = ⊥
-LooksForRaces Format = ⊥
-LooksForRaces CheckFormat = ⊥
-LooksForRaces Cost = ⊥
-LooksForRaces CostByLabel = ⊥
-LooksForRaces CostByProcedure = ⊥
 LooksForRaces View = Unit {0}
 LooksForRaces Summary = Unit {0}
 LooksForRaces Draw = Unit {0}
 LooksForRaces Chrome = Unit {0}
+LooksForRaces _ = ⊥
 
 -- why a text has no accepted program, memory aside
 abbrev pub TellsNotAccepted : (text : List ℕ) → Failure → Type 0
@@ -338,6 +323,14 @@ pub record LacksInput (c : Command) (s : Settings) (held : Held) (text : List �
   pub is_code : IsCodeOf text code
   pub is_run : IsRunBy c code
   pub why : TellsNoInput s.input held code.arrays f
+
+-- why a text has no code, or its program no input, memory aside
+abbrev pub TellsNotGiven : Settings → Held → (text : List ℕ) → Failure → Type 0
+TellsNotGiven s held text f = TellsNoCode text f ⊎ LacksInput Serial s held text f
+
+-- why a text has no accepted program, or that program no input, memory aside
+abbrev pub TellsNotBegun : Settings → Held → (text : List ℕ) → Failure → Type 0
+TellsNotBegun s held text f = TellsNotAccepted text f ⊎ LacksInput Run s held text f
 
 -- the text's program is run by choices, but there are none, as the failure says
 pub record LacksChoices (c : Command) (s : Settings) (held : Held) (text : List ℕ) (f : Failure)
@@ -425,3 +418,7 @@ Done Is Why old new r = MatchResult r (Wrote Is old new) (Failed Is Why old new)
 abbrev pub Does : Command → Settings → Held → (text : List ℕ) → (old new : Option (List ℕ))
     → Result ℕ Failure → Type 0
 Does c s held text = Done (Answers c s held text) (Explains c s held text)
+
+-- it was done with the text alone, whatever settings there are and whatever files hold
+abbrev pub DoesAlone : Command → (text : List ℕ) → (old new : Option (List ℕ)) → Result ℕ Failure → Type 0
+DoesAlone c text old new r = (s : Settings) (held : Held) → Does c s held text old new r

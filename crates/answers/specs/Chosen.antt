@@ -1,7 +1,7 @@
 -- By which choices a program is run, and what that comes to.
-use Rattle.std.specs.Prelude.{ℕ, ℤ, ◌≡◌, List, [], Option, None, Some}
+use Rattle.std.specs.Prelude.{ℕ, ℤ, ◌≡◌, ◌<◌, List, [], Option, None, Some}
 use Rattle.types.specs.Code.{Program}
-use Rattle.types.specs.TreeRuns.{Explored, explored}
+use Rattle.types.specs.TreeRuns.{Explored, Open, explored}
 use Rattle.step_trees.specs.Drawing.{drawn_choices}
 use Rattle.command_line.specs.Requests.{Choosing, Listed, InFile, Random}
 use Rattle.intake.specs.Choices.{said_by}
@@ -22,3 +22,7 @@ pub record ComesTo (c : Option Choosing) (held : Held) (p : Program) (input : Li
   pub choices : List ℕ
   pub given : AreChosen c held p input choices
   pub comes_to : e ≡ explored p input choices
+
+-- what is open has a leaf that may step
+abbrev pub HasLeaves : Explored → Type 0
+HasLeaves e = (leaves : ℕ) → e ≡ Open leaves → 0 < leaves

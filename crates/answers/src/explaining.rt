@@ -4,6 +4,7 @@ ghost use Rattle.std.specs.Prelude.{◌≡◌, ◌≤◌, [], IfOk};
 ghost use Rattle.std.specs.String.{string_bytes};
 
 use crate::programs::typed_of;
+use crate::question::Question;
 use crate::unchosen::{choices_explained, no_leaf_explained, open_explained};
 use crate::unlaid::layout_explained;
 use crate::unread::{reread_explained, unreadable_explained, unwritten_explained};
@@ -11,7 +12,6 @@ use command_line::request::{Command, Settings};
 use gather::run_error::RunError;
 use intake::failure::Failure;
 use intake::files::FileSource;
-use intake::input_file::input_of;
 use race_checker::check::{Refused, check};
 use race_words::told::explained;
 use reasons::input_errors::explained_input;
@@ -35,12 +35,12 @@ pub fn explanation<R: Threads + Sync, F: FileSource>(
     rt: &R,
     alloc: Global,
     files: &mut F,
-    settings: Settings<'_>,
-    text: &str,
+    question: Question<'_>,
     failure: &Failure,
 ) -> Result<String, AllocError>
     ensures { F.held files.new ≡ F.held files.old }
 {
+    let Question { text, settings } = question;
     match failure {
         Failure::Syntax(error) => explained_syntax(alloc, text, error),
         Failure::Types(error) => explained_rule(alloc, text, *error),
@@ -51,9 +51,11 @@ pub fn explanation<R: Threads + Sync, F: FileSource>(
         },
         Failure::Run(RunError::TooManyTasks(_)) => explained_tasks(alloc, settings.spread.tasks),
         Failure::Trace(TraceError::NotALine(line)) => {
-            trace_explained(alloc, files, settings, Wrong::Line(*line))
+            trace_explained(alloc, files, settings.trace, Wrong::Line(*line))
         }
-        Failure::Illegal(event) => trace_explained(alloc, files, settings, Wrong::Event(*event)),
+        Failure::Illegal(event) => {
+            trace_explained(alloc, files, settings.trace, Wrong::Event(*event))
+        }
         Failure::NotLaidOut => layout_explained(alloc, text),
         Failure::ChoicesNotUnderstood => choices_explained(alloc, files, settings.choices),
         Failure::NoLeaf(choice) => no_leaf_explained(alloc, *choice),
@@ -123,12 +125,12 @@ fn input_explained<F: FileSource>(
 fn trace_explained<F: FileSource>(
     alloc: Global,
     files: &mut F,
-    settings: Settings<'_>,
+    name: Option<&str>,
     wrong: Wrong,
 ) -> Result<String, AllocError>
     ensures { F.held files.new ≡ F.held files.old }
 {
-    let Some(name) = settings.trace else {
+    let Some(name) = name else {
         return Ok(String::new(alloc));
     };
     let Ok(bytes) = files.read(name) else {
@@ -146,8 +148,7 @@ pub fn run_explanation<F: FileSource>(
     alloc: Global,
     files: &mut F,
     command: Command,
-    settings: Settings<'_>,
-    text: &str,
+    question: Question<'_>,
     status: u8,
 ) -> Result<String, AllocError>
     ensures calm { status ≤ 1 → IfOk result (λ more. string_bytes more ≡ []) }
@@ -156,9 +157,9 @@ pub fn run_explanation<F: FileSource>(
     if status < 2 {
         return Ok(String::new(alloc));
     }
-    match budget_of(command, settings, status) {
+    match budget_of(command, question.settings, status) {
         None => without_run(alloc, command, status),
-        Some(budget) => run_again(alloc, files, settings, text, budget),
+        Some(budget) => run_again(alloc, files, question, budget),
     }
 }
 
@@ -187,18 +188,14 @@ fn budget_of(command: Command, settings: Settings<'_>, status: u8) -> Option<Bud
 fn run_again<F: FileSource>(
     alloc: Global,
     files: &mut F,
-    settings: Settings<'_>,
-    text: &str,
+    question: Question<'_>,
     budget: Budget,
 ) -> Result<String, AllocError>
     ensures { F.held files.new ≡ F.held files.old }
 {
-    let Ok(typed) = typed_of(alloc, text) else {
+    let Ok(given) = question.given(alloc, files) else {
         return Ok(String::new(alloc));
     };
-    let Ok(input) = input_of(alloc, files, &typed, settings.input) else {
-        return Ok(String::new(alloc));
-    };
-    let seen = seen_again(alloc, &typed, &input, budget)?;
-    explained_run(alloc, text, typed.code(), budget, &seen)
+    let seen = seen_again(alloc, &given.typed, &given.input, budget)?;
+    explained_run(alloc, question.text, given.typed.code(), budget, &seen)
 }

@@ -1,12 +1,12 @@
 //! The commands that tell of a program without a run.
 
-ghost use Rattle.std.specs.Prelude.{IfOk};
-ghost use Rattle.types.specs.Typed.{code_of};
+ghost use Rattle.std.specs.Prelude.{◌≡◌, IfOk};
+ghost use Rattle.std.specs.String.{string_bytes};
+ghost use Rattle.types.specs.Typed.{code_of, program_of as program_in};
 ghost use Rattle.parallel_relation.specs.Pairs.{ArePairs};
-ghost use Rattle.command_line.specs.Requests.{Settings as SettingsOf};
-ghost use Rattle.intake.specs.Held.{Held};
-ghost use Rattle.answers.specs.Answers.{Does};
+ghost use Rattle.answers.specs.Answers.{DoesAlone, accepted_told, command_about};
 
+use crate::memory::or_no_memory;
 use crate::programs::{accepted_of, typed_of};
 use crate::showing::{answer, answer_pairs};
 use command_line::request::Command;
@@ -17,52 +17,52 @@ use parallel_relation::pairs::{Pairs, may_run_together};
 use std::alloc::{AllocError, Global};
 use std::io::Write;
 use std::thread::Threads;
+use syntax::listing;
 use texts::labels::accepted_line;
 use types::typed::Typed;
 
-/// `check`: tells how many procedures and labels an accepted program has.
+/// What is told of a program that has no race.
+#[derive(Clone, Copy)]
+pub enum About {
+    /// How many procedures and labels it has: `check`.
+    Counts,
+    /// Its listing: `check --list`.
+    Lines,
+}
+
+/// Writes this of an accepted program.
 pub fn check<R: Threads + Sync, O: Write>(
     rt: &R,
     alloc: Global,
+    about: About,
     text: &str,
     out: &mut O,
 ) -> Result<u8, Failure>
-    ensures { (s : SettingsOf) (held : Held) → Does Command.Check s held text.now
+    ensures { DoesAlone (command_about about) text.now
         (O.contents out.old) (O.contents out.new) result }
 {
     let accepted = accepted_of(rt, alloc, text)?;
-    let Ok(line) = accepted_line(alloc, accepted.typed().code()) else {
-        return Err(Failure::NoMemory);
-    };
-    answer(out, line.as_str())
+    let told = or_no_memory(told_of(alloc, about, accepted.typed()))?;
+    answer(out, told.as_str())
 }
 
-/// `check --list`: writes the listing of an accepted program.
-pub fn list<R: Threads + Sync, O: Write>(
-    rt: &R,
-    alloc: Global,
-    text: &str,
-    out: &mut O,
-) -> Result<u8, Failure>
-    ensures { (s : SettingsOf) (held : Held) → Does Command.Listing s held text.now
-        (O.contents out.old) (O.contents out.new) result }
+/// The text of this.
+fn told_of(alloc: Global, about: About, typed: &Typed) -> Result<String, AllocError>
+    ensures { IfOk result (λ told. string_bytes told
+        ≡ accepted_told about (code_of typed.now) (program_in typed.now)) }
 {
-    let accepted = accepted_of(rt, alloc, text)?;
-    let Ok(listing) = syntax::listing(alloc, accepted.typed().program()) else {
-        return Err(Failure::NoMemory);
-    };
-    answer(out, listing.as_str())
+    match about {
+        About::Counts => Ok(accepted_line(alloc, typed.code())?),
+        About::Lines => Ok(listing(alloc, typed.program())?),
+    }
 }
 
 /// `mhp`: writes the pairs of labels of a program that may run together.
 pub fn pairs<O: Write>(alloc: Global, text: &str, out: &mut O) -> Result<u8, Failure>
-    ensures { (s : SettingsOf) (held : Held) → Does Command.Pairs s held text.now
-        (O.contents out.old) (O.contents out.new) result }
+    ensures { DoesAlone Command.Pairs text.now (O.contents out.old) (O.contents out.new) result }
 {
     let typed = typed_of(alloc, text)?;
-    let Ok(pairs) = pairs_of(alloc, &typed) else {
-        return Err(Failure::NoMemory);
-    };
+    let pairs = or_no_memory(pairs_of(alloc, &typed))?;
     answer_pairs(out, pairs.list())
 }
 

@@ -1,9 +1,9 @@
 //! Texts that aren't their own layout, said at length.
 
-use crate::formatting::laid_of;
 use crate::programs::program_of;
 use crate::unread::place_behind;
-use excerpts::source::push_line;
+use excerpts::source::push_excerpt;
+use layout::laid_out;
 use std::alloc::{AllocError, Global};
 
 /// Where a text goes another way than its layout, and what lays it out.
@@ -11,13 +11,10 @@ pub fn layout_explained(alloc: Global, text: &str) -> Result<String, AllocError>
     let Ok(_program) = program_of(alloc, text) else {
         return Ok(String::new(alloc));
     };
-    let Ok(laid) = laid_of(alloc, text) else {
-        return Ok(String::new(alloc));
-    };
+    let laid = laid_out(alloc, text)?;
     let at = alike(text, laid.as_str());
     let mut told = String::new(alloc);
-    told.push('\n')?;
-    push_line(&mut told, text, place_behind(text.get(..at).unwrap_or("")))?;
+    push_excerpt(&mut told, text, place_behind(text.get(..at).unwrap_or("")))?;
     told.push_str("Here stands ")?;
     push_first(&mut told, text.get(at..).unwrap_or(""))?;
     told.push_str(", and in its layout ")?;

@@ -2,7 +2,7 @@
 
 ghost use Rattle.std.specs.Prelude.{◌≡◌};
 
-use excerpts::source::push_line;
+use excerpts::source::push_excerpt;
 use intake::failure::Failure;
 use intake::files::FileSource;
 use std::alloc::{AllocError, Global};
@@ -47,7 +47,7 @@ pub fn unread_explanation<F: FileSource>(
 {
     match failure {
         Failure::CannotRead { .. } => String::from_str(alloc, UNREAD),
-        Failure::Syntax(SyntaxError::TooLong) => too_long_explained(alloc, files, name),
+        Failure::Syntax(SyntaxError::TooLong) => too_long_explained(alloc, bytes_of(files, name)),
         Failure::NotUtf8 { .. } => match first_of(files, name, MOST_BYTES) {
             Some(bytes) => no_text_explained(alloc, &bytes),
             None => String::from_str(alloc, NO_TEXT),
@@ -66,18 +66,18 @@ pub fn first_of<F: FileSource>(files: &mut F, name: &str, most: usize) -> Option
     files.read_first(name, most).ok()
 }
 
-/// How many bytes the text of a program has that is too long, where they can be counted.
-fn too_long_explained<F: FileSource>(
-    alloc: Global,
-    files: &mut F,
-    name: &str,
-) -> Result<String, AllocError>
+/// How many bytes a file has, up to so many; none where they can't be counted.
+fn bytes_of<F: FileSource>(files: &mut F, name: &str) -> usize
     ensures { F.held files.new ≡ F.held files.old }
 {
-    let many = match first_of(files, name, MOST_COUNTED) {
+    match first_of(files, name, MOST_COUNTED) {
         Some(bytes) => bytes.len(),
         None => 0,
-    };
+    }
+}
+
+/// How many bytes the text of a program has that is too long.
+fn too_long_explained(alloc: Global, many: usize) -> Result<String, AllocError> {
     let mut told = String::new(alloc);
     told.push_str("\nA text has at most 1048576 bytes, and this one has ")?;
     if many >= MOST_COUNTED {
@@ -113,8 +113,7 @@ fn no_text_explained(alloc: Global, bytes: &[u8]) -> Result<String, AllocError> 
         return String::from_str(alloc, NO_TEXT);
     };
     let mut told = String::new(alloc);
-    told.push('\n')?;
-    push_line(&mut told, front, place_behind(front))?;
+    push_excerpt(&mut told, front, place_behind(front))?;
     write!(
         told,
         "Byte {at} of the file, from 0, is {byte}, and begins no character of UTF-8 there.\n"

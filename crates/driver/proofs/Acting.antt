@@ -6,13 +6,11 @@ use Rattle.intake.specs.FailureStatus.{failure_status}
 use Rattle.intake.specs.Messages.{failure_text}
 use Rattle.driver.specs.declared.answered.Answered.{Answered}
 use Rattle.driver.specs.declared.refusal.Refusal.{Refusal}
-use Rattle.std.proofs.Common.{◌≡◌, ℕ, ◌≤◌, length, List, [], Option, Result, Ok, Err, IfOk, IfErr, sym, subst}
+use Rattle.std.proofs.Common.{◌≡◌, ℕ, ◌≤◌, List, [], Option, Result, Ok, Err, IfOk, IfErr, sym, subst}
 use Rattle.std.proofs.lemmas.List.{append-nil}
-use Rattle.std.proofs.KnownBytes.{Keeps-refl, Appends-kept}
+use Rattle.std.proofs.KnownBytes.{Appends-kept}
 use Rattle.std.specs.Io.KnownBytes.{Keeps}
-use Rattle.std.specs.Prelude.{IsErrAnd}
-use Rattle.driver.specs.Acts.{Acts, ExplainsAny, Leaves, Performs, ReadsAndPerforms, Reports, in_short}
-use Rattle.driver.specs.Acts.{on_text, without_text, AnswersTo, ExplainsTo, LeavesTo}
+use Rattle.driver.specs.Acts.{AnswersTo, ExplainsAny, ExplainsTo, IsHandedOn, Leaves, LeavesTo, Performs, Reports, in_short}
 use Rattle.command_line.specs.declared.request.Action.{Action}
 use Rattle.command_line.specs.declared.request.Action.TheVariants.{Answer as AnswerBy, Rewrite}
 use Rattle.driver.specs.Traced.{IsTraceOfText}
@@ -22,13 +20,12 @@ use Rattle.rewriting.specs.Rewriting.{LeavesLaidOut, LeavesRewritten}
 use Rattle.viewing.specs.Views.{IsDrawn, picture_name}
 use Rattle.viewing.proofs.Written.{wrote_anyway}
 use Rattle.texts.specs.Appending.{AppendsBeginning, Writes}
-use Rattle.intake.specs.Held.{Held, HasText, TellsNoProgram}
-use Rattle.command_line.specs.Requests.{Asked, Settings, asked_of}
+use Rattle.intake.specs.Held.{Held}
+use Rattle.command_line.specs.Requests.{Settings}
 use Rattle.command_line.specs.declared.request.Command.{Command}
 use Rattle.command_line.specs.declared.request.Command.TheVariants.{Run, View, Summary, Draw, Chrome}
 use Rattle.intake.specs.declared.failure.Failure.{Failure}
 use Rattle.intake.specs.declared.failure.Failure.TheVariants.{CannotWriteOutput}
-use Rattle.command_line.specs.declared.request.Request.{Request}
 
 -- whether or not all was taken, a beginning was appended
 pub begins : {T E : Type 0} (a b : Option (List ℕ)) (r : Result T E) (t : List ℕ) → Writes a b r t → AppendsBeginning a b t
@@ -36,7 +33,7 @@ begins a b (Ok x) t written = record { begun = t; rest = []; parts = sym (append
 begins a b (Err e) t begun = begun
 
 -- what was answered is handed on: whole, or a writer that fails has a beginning of it
-pub answered_on : (Is : Answer) (Why : Failure → Type 0) → Why CannotWriteOutput → (old mid new : Option (List ℕ)) (status : ℕ)
+answered_on : (Is : Answer) (Why : Failure → Type 0) → Why CannotWriteOutput → (old mid new : Option (List ℕ)) (status : ℕ)
     (r : Result ℕ Failure) → Wrote Is old mid status → Keeps mid new → IfOk r (λ n. n ≡ status)
     → IfErr r (λ f. f ≡ CannotWriteOutput) → Done Is Why old new r
 answered_on Is Why why old mid new status (Ok n) wrote keeps is _ =
@@ -96,40 +93,28 @@ leaves_to : (x : Action) (file : List ℕ) (s : Settings) (text : List ℕ) (hel
 leaves_to (AnswerBy c) file s text held later status r only w = leaves_on c s text held later status r only w
 leaves_to Rewrite file s text held later status r only w = rewritten_on file text held later r only w
 
-pub handed_over : (x : Action) (file : List ℕ) (s : Settings) (text : List ℕ) (held later : Held) (old mid new : Option (List ℕ)) (status : ℕ)
-    (r : Result ℕ Failure) → Performs x file s text held later old mid (Ok status) → Keeps mid new → IfOk r (λ n. n ≡ status)
-    → IfErr r (λ f. f ≡ CannotWriteOutput) → Performs x file s text held later old new r
-handed_over x file s text held later old mid new status r performs keeps is only = record {
-  done = answered_on (AnswersTo x s held text) (ExplainsTo x file s held text) (may_fail_to x file s held text) old mid new status r
-      performs.done keeps is only;
-  leaves = leaves_to x file s text held later status r only performs.leaves;
-}
+-- what was done is handed on
+pub done_on : (Is : Answer) (Why : Failure → Type 0) → Why CannotWriteOutput → (old mid new : Option (List ℕ))
+    (done r : Result ℕ Failure) → Done Is Why old mid done → IsHandedOn done mid new r → Done Is Why old new r
+done_on Is Why why old mid new (Ok status) r did on = answered_on Is Why why old mid new status r did on.0 on.1.0 on.1.1
+done_on Is Why why old mid new (Err f) r did on =
+    subst (Done Is Why old new) (sym on.1) (subst (λ (b : Option (List ℕ)). Done Is Why old b (Err f)) (sym on.0) did)
 
--- files were read before, and are read behind it
-module _ (a : Asked) (held mid later last : Held) (before : mid ≡ held) (behind : last ≡ later) where
-  pub performed_on_text : (old new : Option (List ℕ)) (r : Result ℕ Failure) (text : List ℕ) → HasText held a.file text
-      → length text ≤ 1048576 → Performs a.action a.file a.settings text mid later old new r
-      → ReadsAndPerforms a held last old new r
-  performed_on_text old new r text has short performs =
-      on_text text has short
-      (subst (λ (h : Held). Performs a.action a.file a.settings text held h old new r) (sym behind)
-      (subst (λ (h : Held). Performs a.action a.file a.settings text h later old new r) before performs))
+left_on : (x : Action) (file : List ℕ) (s : Settings) (text : List ℕ) (held later : Held) (mid new : Option (List ℕ))
+    (done r : Result ℕ Failure) → LeavesTo x file s text held later done → IsHandedOn done mid new r
+    → LeavesTo x file s text held later r
+left_on x file s text held later mid new (Ok status) r leaves on =
+    leaves_to x file s text held later status r on.1.1 leaves
+left_on x file s text held later mid new (Err f) r leaves on =
+    subst (LeavesTo x file s text held later) (sym on.1) leaves
 
-pub performed_without_text : (a : Asked) (held later : Held) (b : Option (List ℕ)) (r : Result ℕ Failure) (f : Failure)
-    → later ≡ held → IsErrAnd r (λ y. y ≡ f) → TellsNoProgram held a.file f → ReadsAndPerforms a held later b b r
-performed_without_text a held later b (Ok x) f keeps is told = absurd is
-performed_without_text a held later b (Err y) f keeps is told =
-    without_text (subst (TellsNoProgram held a.file) (sym is) told) (Keeps-refl b) keeps
-
--- what was done by a request is what was asked
-pub acts : (a : Asked) (request : Request) → asked_of request ≡ a → (held later : Held)
-    (old new err_old err_new : Option (List ℕ)) (result : Result ℕ Failure) (status : ℕ)
-    → ReadsAndPerforms (asked_of request) held later old new result
-    → Reports request.telling.explain err_old err_new result status → Acts a held later old new err_old err_new status
-acts a request is held later old new err_old err_new result status performs reports = record {
-  result = result;
-  performs = subst (λ (b : Asked). ReadsAndPerforms b held later old new result) is performs;
-  reports = subst (λ (b : Asked). Reports b.telling.explain err_old err_new result status) is reports;
+pub handed_over : (x : Action) (file : List ℕ) (s : Settings) (text : List ℕ) (held later : Held)
+    (old mid new : Option (List ℕ)) (done r : Result ℕ Failure) → Performs x file s text held later old mid done
+    → IsHandedOn done mid new r → Performs x file s text held later old new r
+handed_over x file s text held later old mid new done r performs on = record {
+  done = done_on (AnswersTo x s held text) (ExplainsTo x file s held text) (may_fail_to x file s held text) old mid new done r
+      performs.done on;
+  leaves = left_on x file s text held later mid new done r performs.leaves on;
 }
 
 -- a refusal that was told
@@ -145,17 +130,6 @@ pub followed : (explain : Bool) (old new : Option (List ℕ)) (a : Answered) (st
     → AppendsBeginning old new (string_bytes a.more) → Reports explain old new (Ok a.status) status
 followed explain old new a status bare calm is told =
     (is, record { more = string_bytes a.more; bare = bare; calm = calm; told = told })
-
--- what was done is that of the same result
-pub short_of : (a : Asked) (held later : Held) (old new : Option (List ℕ)) (r : Result Answered Refusal) (s : Result ℕ Failure)
-    → in_short r ≡ s → ReadsAndPerforms a held later old new s → ReadsAndPerforms a held later old new (in_short r)
-short_of a held later old new r s same done = subst (ReadsAndPerforms a held later old new) (sym same) done
-
--- and that of a refusal with the same failure
-pub refused_of : (a : Asked) (held later : Held) (old new : Option (List ℕ)) (r : Refusal) (f : Failure) → r.failure ≡ f
-    → ReadsAndPerforms a held later old new (Err f) → ReadsAndPerforms a held later old new (in_short (Err r))
-refused_of a held later old new r f same done =
-    subst (λ (g : Failure). ReadsAndPerforms a held later old new (Err g)) (sym same) done
 
 -- what is reported of a result is reported of the same
 pub reported_by : (explain : Bool) (old new : Option (List ℕ)) (r s : Result Answered Refusal) (status : ℕ) → r ≡ s

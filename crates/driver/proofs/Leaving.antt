@@ -1,5 +1,5 @@
 -- What files hold behind a run as tasks.
-use Rattle.std.proofs.Common.{◌≡◌, ℕ, List, Option, Some, None, Result, Ok, Err, ap, ◌∙◌, refl, subst, sym}
+use Rattle.std.proofs.Common.{◌≡◌, inl, inr, ℕ, List, Option, Some, None, Result, Ok, Err, ap, ◌∙◌, refl, subst, sym}
 use Rattle.std.specs.Prelude.{IfErr, IsErrAnd}
 use Rattle.types.specs.Code.{Array}
 use Rattle.command_line.specs.Requests.{Settings}
@@ -8,7 +8,7 @@ use Rattle.intake.specs.Held.{Held, TellsNoInput}
 use Rattle.intake.specs.declared.failure.Failure.{Failure}
 use Rattle.intake.specs.declared.failure.Failure.TheVariants.{NoMemory}
 use Rattle.intake.specs.declared.failure.Failure.TheVariants.{Run as RunFailed, StrangeEvents, CannotWrite, CannotWriteOutput}
-use Rattle.answers.specs.Answers.{Explains, IsExplored, TellsNotAccepted}
+use Rattle.answers.specs.Answers.{Explains, IsExplored, TellsNotAccepted, TellsNotBegun}
 use Rattle.answers.proofs.Answering.{IsOther}
 use Rattle.command_line.specs.declared.request.Command.TheVariants.{Run}
 use Rattle.viewing.specs.Files.{Wrote, WritesTo}
@@ -50,16 +50,20 @@ IsEarly CannotWriteOutput = ⊥
 IsEarly (CannotWrite told) = ⊥
 IsEarly _ = Unit {0}
 
-pub early_not_accepted : (text : List ℕ) (f : Failure) → TellsNotAccepted text f → IsEarly f
+early_not_accepted : (text : List ℕ) (f : Failure) → TellsNotAccepted text f → IsEarly f
 early_not_accepted text CannotWriteOutput told = told
 early_not_accepted text (CannotWrite name) told = told
 early_not_accepted text _ told = tt
 
-pub early_no_input : (input : Option (List ℕ)) (held : Held) (arrays : List Array) (f : Failure)
+early_no_input : (input : Option (List ℕ)) (held : Held) (arrays : List Array) (f : Failure)
     → TellsNoInput input held arrays f → IsEarly f
 early_no_input input held arrays CannotWriteOutput told = told
 early_no_input input held arrays (CannotWrite name) told = told
 early_no_input input held arrays _ told = tt
+
+pub early_not_begun : (s : Settings) (held : Held) (text : List ℕ) (f : Failure) → TellsNotBegun s held text f → IsEarly f
+early_not_begun s held text f (inl refused) = early_not_accepted text f refused
+early_not_begun s held text f (inr lack) = early_no_input s.input held lack.code.arrays f lack.why
 
 early_no_outcome : (s : Settings) (f : Failure) → TellsNoOutcome s f → IsEarly f
 early_no_outcome s CannotWriteOutput told = told

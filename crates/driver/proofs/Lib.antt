@@ -1,4 +1,5 @@
 pub mod Objects
+pub mod Ordered
 pub mod Acting
 pub mod Leaving
 pub mod TracedRuns

@@ -1,6 +1,7 @@
 -- What the program does with the files that its words name, and how it reports.
-use Rattle.std.specs.Prelude.{ℕ, ◌≡◌, ◌≤◌, List, [], ◌++◌, length, Option, Result, Ok, Err, codes, IsErrAnd}
+use Rattle.std.specs.Prelude.{ℕ, ◌≡◌, ◌≤◌, List, [], ◌++◌, Option, Result, Ok, Err, codes, IfOk, IfErr}
 use Rattle.std.specs.Prelude.{Bool, false}
+use Rattle.std.specs.String.{string_bytes}
 use Rattle.std.specs.Io.KnownBytes.{Keeps}
 use Rattle.answers.specs.Answers.{Answer, Answers, Done, Explains}
 use Rattle.rewriting.specs.Rewriting.{AnswersRewrite, ExplainsRewrite, LeavesRewritten}
@@ -8,14 +9,15 @@ use Rattle.viewing.specs.Files.{WritesTo}
 use Rattle.viewing.specs.Views.{AnswersTrace, ExplainsTrace, IsDrawn, picture_name}
 use Rattle.texts.specs.Appending.{AppendsBeginning}
 use Rattle.intake.specs.FailureStatus.{failure_status}
-use Rattle.intake.specs.Held.{Held, HasText, TellsNoProgram}
+use Rattle.intake.specs.Held.{Held}
 use Rattle.intake.specs.Messages.{failure_text}
-use Rattle.command_line.specs.Requests.{Asked, Settings}
+use Rattle.command_line.specs.Requests.{Settings}
 use Rattle.command_line.specs.declared.request.Action.{Action}
 use Rattle.command_line.specs.declared.request.Action.TheVariants.{Answer as AnswerBy, Rewrite}
 use Rattle.command_line.specs.declared.request.Command.{Command}
 use Rattle.command_line.specs.declared.request.Command.TheVariants.{Run, View, Summary, Draw, Chrome}
 use Rattle.intake.specs.declared.failure.Failure.{Failure}
+use Rattle.intake.specs.declared.failure.Failure.TheVariants.{CannotWriteOutput}
 use Rattle.driver.specs.Traced.{IsTraceOfText, WritesTrace}
 use Rattle.driver.specs.declared.answered.Answered.{Answered}
 use Rattle.driver.specs.declared.refusal.Refusal.{Refusal}
@@ -69,16 +71,6 @@ pub record Performs (x : Action) (file : List ℕ) (s : Settings) (text : List �
   pub done : Done (AnswersTo x s held text) (ExplainsTo x file s held text) old new r
   pub leaves : LeavesTo x file s text held later r
 
--- the file has a text of at most 1,048,576 bytes, and what is asked was done with it; or it has none, and
--- nothing was written
-pub data ReadsAndPerforms (a : Asked) (held later : Held) (old new : Option (List ℕ))
-    (r : Result ℕ Failure) : Type 0 where
-  on_text : (text : List ℕ) → HasText held a.file text → length text ≤ 1048576
-      → Performs a.action a.file a.settings text held later old new r
-      → ReadsAndPerforms a held later old new r
-  without_text : IsErrAnd r (TellsNoProgram held a.file) → Keeps old new → later ≡ held
-      → ReadsAndPerforms a held later old new r
-
 -- the line of a failure was appended as far as it was taken; where that is asked for, more stands behind it
 pub record IsTold (explain : Bool) (old new : Option (List ℕ)) (f : Failure) : Type 0 where
   pub more : List ℕ
@@ -104,9 +96,15 @@ abbrev pub in_short : Result Answered Refusal → Result ℕ Failure
 in_short (Ok answered) = Ok answered.status
 in_short (Err refusal) = Err refusal.failure
 
--- what is asked was done, and reported
-pub record Acts (a : Asked) (held later : Held) (old new : Option (List ℕ))
-    (err_old err_new : Option (List ℕ)) (status : ℕ) : Type 0 where
-  pub result : Result ℕ Failure
-  pub performs : ReadsAndPerforms a held later old new result
-  pub reports : Reports a.telling.explain err_old err_new result status
+-- behind an answer a writer handed on what it kept back, or failed; behind a failure it is as it was
+abbrev pub IsHandedOn : (done : Result ℕ Failure) → (old new : Option (List ℕ)) → Result ℕ Failure → Type 0
+IsHandedOn (Ok status) old new r =
+    Keeps old new × (IfOk r (λ n. n ≡ status) × IfErr r (λ f. f ≡ CannotWriteOutput))
+IsHandedOn (Err f) old new r = (new ≡ old) × (r ≡ Err f)
+
+-- behind the line of a refusal, and behind an answer, more is said only where that is asked for; behind an answer with
+-- status 0 or 1 nothing is
+pub record IsSaid (explain : Bool) (r : Result Answered Refusal) : Type 0 where
+  pub bare : IfErr r (λ refusal. explain ≡ false → string_bytes refusal.more ≡ [])
+  pub quiet : IfOk r (λ answered. explain ≡ false → string_bytes answered.more ≡ [])
+  pub calm : IfOk r (λ answered. answered.status ≤ 1 → string_bytes answered.more ≡ [])

@@ -1,11 +1,11 @@
 -- What is asked, told as one object.
-use Rattle.std.specs.Prelude.{ℕ, ◌≡◌, ◌≤◌, List, [], length, Option, Result, Ok, Err, IsErrAnd, MatchResult}
-use Rattle.command_line.specs.Requests.{Asked, Settings}
-use Rattle.intake.specs.Held.{Held, HasText, TellsNoProgram}
+use Rattle.std.specs.Prelude.{ℕ, List, Option, Result, Ok, Err, MatchResult}
+use Rattle.command_line.specs.Requests.{Settings}
+use Rattle.intake.specs.Held.{Held}
 use Rattle.intake.specs.declared.failure.Failure.{Failure}
 use Rattle.answers.specs.Answers.{Explains, Wrote}
 use Rattle.objects.specs.Objects.{ObjectOf}
-use Rattle.objects.specs.Failing.{FailedAsObject, IsToldAsObject, TellsFailure}
+use Rattle.objects.specs.Failing.{FailedAsObject, TellsFailure}
 use Rattle.objects.specs.declared.told.Told.{Told}
 use Rattle.reading.specs.Orders.{command_of}
 use Rattle.reading.specs.declared.order.Subject.{Subject}
@@ -18,20 +18,6 @@ pub record TellsObject (x : Subject) (file : List ℕ) (s : Settings) (text : Li
       (FailedAsObject (ObjectOf (command_of x) s held text) (Explains (command_of x) s held text)
       (TellsFailure file text) old new)
   pub leaves : Leaves (command_of x) s text held later r
-
--- the failure says why a file gives no text of a program, and its object was told
-pub record TellsUnread (held : Held) (file : List ℕ) (old new : Option (List ℕ)) (f : Failure) : Type 0 where
-  pub why : TellsNoProgram held file f
-  pub told : IsToldAsObject (TellsFailure file [] f) old new
-
--- the file has a text of at most 1,048,576 bytes, and what is asked of it was told; or it has none
-pub data ReadsAndTells (x : Subject) (a : Asked) (held later : Held) (old new : Option (List ℕ))
-    (r : Result ℕ Failure) : Type 0 where
-  on_text : (text : List ℕ) → HasText held a.file text → length text ≤ 1048576
-      → TellsObject x a.file a.settings text held later old new r
-      → ReadsAndTells x a held later old new r
-  without_text : IsErrAnd r (TellsUnread held a.file old new) → later ≡ held
-      → ReadsAndTells x a held later old new r
 
 -- the status of an object
 abbrev pub status_in : Result Told Failure → Result ℕ Failure

@@ -1,14 +1,42 @@
 -- What words order was done, and reported.
-use Rattle.std.specs.Prelude.{ℕ, Bool, false, List, Option, Result}
+use Rattle.std.specs.Prelude.{ℕ, ◌≤◌, Bool, false, List, [], length, Option, Result, IsErrAnd, ◌≡◌}
+use Rattle.std.specs.Io.KnownBytes.{Keeps}
 use Rattle.command_line.specs.Requests.{Asked}
-use Rattle.intake.specs.Held.{Held}
+use Rattle.intake.specs.Held.{Held, HasText, TellsNoProgram}
 use Rattle.intake.specs.declared.failure.Failure.{Failure}
+use Rattle.objects.specs.Failing.{IsToldAsObject, TellsFailure}
 use Rattle.reading.specs.Orders.{Order, AsText, AsObject, Times, Tests}
 use Rattle.reading.specs.declared.order.Subject.{Subject}
-use Rattle.driver.specs.Acts.{Acts, Reports}
-use Rattle.driver.specs.Objects.{ReadsAndTells}
-use Rattle.driver.specs.Trying.{ReadsAndTimes, TestsFolder}
+use Rattle.driver.specs.Acts.{Performs, Reports}
+use Rattle.driver.specs.Objects.{TellsObject}
+use Rattle.driver.specs.Trying.{TestsFolder, TimesRuns}
+use Rattle.driver.specs.declared.doing.Doing.{Doing}
+use Rattle.driver.specs.declared.doing.Doing.TheVariants.{Answering, Describing, Timing}
 use Rattle.trials.specs.Folders.{Folders}
+
+-- this was done with the text of a program: what is asked of it, or it was told as one object, or its runs were timed
+abbrev pub DoesWith : Doing → Asked → (text : List ℕ) → (held later : Held) → (old new : Option (List ℕ))
+    → Result ℕ Failure → Type 0
+DoesWith Answering a text held later old new r = Performs a.action a.file a.settings text held later old new r
+DoesWith (Describing x) a text held later old new r = TellsObject x a.file a.settings text held later old new r
+DoesWith Timing a text held later old new r = TimesRuns a.settings text held later old new r
+
+-- why a file has no text of a program was told as one object where that is done; else nothing was written
+abbrev pub TellsUnread : Doing → (file : List ℕ) → (old new : Option (List ℕ)) → Failure → Type 0
+TellsUnread (Describing x) file old new f = IsToldAsObject (TellsFailure file [] f) old new
+TellsUnread _ file old new f = Keeps old new
+
+-- the failure says why a file has no text of a program, and so it was told
+pub record HasNone (d : Doing) (held : Held) (file : List ℕ) (old new : Option (List ℕ)) (f : Failure) : Type 0 where
+  pub why : TellsNoProgram held file f
+  pub told : TellsUnread d file old new f
+
+-- the file has a text of at most 1,048,576 bytes, and this was done with it; or it has none
+pub data ReadsAnd (d : Doing) (a : Asked) (held later : Held) (old new : Option (List ℕ)) (r : Result ℕ Failure)
+    : Type 0 where
+  on_text : (text : List ℕ) → HasText held a.file text → length text ≤ 1048576
+      → DoesWith d a text held later old new r → ReadsAnd d a held later old new r
+  without_text : IsErrAnd r (HasNone d held a.file old new) → later ≡ held → ReadsAnd d a held later old new r
 
 -- this was done, with a result that was reported
 pub record ActsBy (Does : Result ℕ Failure → Type 0) (explain : Bool) (err_old err_new : Option (List ℕ)) (status : ℕ)
@@ -17,17 +45,27 @@ pub record ActsBy (Does : Result ℕ Failure → Type 0) (explain : Bool) (err_o
   pub does : Does result
   pub reports : Reports explain err_old err_new result status
 
+-- this was done with the file of a program, and reported
+abbrev pub ActsWith : Doing → (a : Asked) → (held later : Held) → (old new : Option (List ℕ))
+    → (err_old err_new : Option (List ℕ)) → (status : ℕ) → Type 0
+ActsWith d a held later old new err_old err_new status =
+    ActsBy (ReadsAnd d a held later old new) a.telling.explain err_old err_new status
+
+-- what is asked was done, and reported
+abbrev pub Acts : (a : Asked) → (held later : Held) → (old new : Option (List ℕ))
+    → (err_old err_new : Option (List ℕ)) → (status : ℕ) → Type 0
+Acts a held later old new err_old err_new status = ActsWith Answering a held later old new err_old err_new status
+
 -- what is asked was told as one object, and reported
 abbrev pub TellsAs : (x : Subject) → (a : Asked) → (held later : Held) → (old new : Option (List ℕ))
     → (err_old err_new : Option (List ℕ)) → (status : ℕ) → Type 0
 TellsAs x a held later old new err_old err_new status =
-    ActsBy (ReadsAndTells x a held later old new) a.telling.explain err_old err_new status
+    ActsWith (Describing x) a held later old new err_old err_new status
 
 -- the runs of a program were timed, and that reported
 abbrev pub TimesAs : (a : Asked) → (held later : Held) → (old new : Option (List ℕ))
     → (err_old err_new : Option (List ℕ)) → (status : ℕ) → Type 0
-TimesAs a held later old new err_old err_new status =
-    ActsBy (ReadsAndTimes a held later old new) a.telling.explain err_old err_new status
+TimesAs a held later old new err_old err_new status = ActsWith Timing a held later old new err_old err_new status
 
 -- the programs of a folder were tested, and that reported
 abbrev pub TestsAs : (folder : List ℕ) → Folders → (held later : Held) → (old new : Option (List ℕ))

@@ -11,10 +11,10 @@ use Rattle.interleave.specs.Worlds.{LeadsTo, outcome_of}
 use Rattle.trace_text.specs.Headers.{TraceHeader}
 use Rattle.trace_text.specs.Lines.{trace_text}
 use Rattle.command_line.specs.Requests.{Settings}
-use Rattle.intake.specs.Held.{Held, BeginsWith}
+use Rattle.intake.specs.Held.{Held}
 use Rattle.intake.specs.declared.failure.Failure.{Failure}
 use Rattle.intake.specs.declared.failure.Failure.TheVariants.{Run as RunFailed, StrangeEvents, CannotWrite, NoMemory}
-use Rattle.answers.specs.Answers.{IsCodeOf, IsExplored, IsTraced}
+use Rattle.answers.specs.Answers.{HasInput, IsExplored, IsTraced}
 use Rattle.viewing.specs.Files.{WritesTo}
 
 -- what a run is asked for
@@ -42,10 +42,9 @@ pub record IsTraceOfText (s : Settings) (held : Held) (text bytes : List ℕ) : 
 
 -- the program of a text, which has this code, has no race, and came to this outcome on the input that was given
 pub record HasRun (s : Settings) (held : Held) (text : List ℕ) (code : Program) (o : Outcome) : Type 0 where
-  pub is_code : IsCodeOf text code
   pub accepted : IsAccepted code
   pub input : List (List ℤ)
-  pub begins : BeginsWith s.input held code.arrays input
+  pub given : HasInput s held text code input
   pub is_outcome : o ≡ outcome code input s.budget
 
 -- where a file is named the right bytes are written to it, and to no other; else to none

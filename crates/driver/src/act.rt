@@ -1,31 +1,23 @@
 //! The whole program, over files and writers that it is lent.
 
-ghost use Rattle.std.specs.Io.KnownBytes.{Keeps};
-ghost use Rattle.std.specs.Prelude.{ℕ, ◌≡◌, ◌≤◌, ◌⊎◌, List, [], length, codes, true, false, map, Err, IfOk, IfErr};
+ghost use Rattle.std.specs.Prelude.{ℕ, ◌≡◌, ◌≤◌, ◌⊎◌, List, codes, true, false, map, Err};
 ghost use Rattle.std.specs.String.{string_bytes};
-ghost use Rattle.driver.specs.Acts.{Acts, ReadsAndPerforms, Reports, in_short};
+ghost use Rattle.driver.specs.Acts.{IsSaid, Reports, in_short};
 ghost use Rattle.intake.specs.Failures.{TellsNotUtf8};
-ghost use Rattle.intake.specs.Held.{HasText, TellsNoProgram};
 ghost use Rattle.intake.specs.declared.failure.Failure.{Failure as FailureOf};
-ghost use Rattle.command_line.specs.Requests.{Asked, Asks, asked_of};
+ghost use Rattle.command_line.specs.Requests.{Asked, Asks};
 ghost use Rattle.reading.specs.Files.{names_once};
 ghost use Rattle.reading.specs.Orders.{AsksForObject, AsksToTest, AsksToTime};
 ghost use Rattle.reading.specs.Orders.{Order as OrderIn, Orders, names_once as order_names_once, order as order_said};
 ghost use Rattle.reading.specs.declared.order.Subject.{Subject};
-ghost use Rattle.driver.specs.Orders.{ActsOn, TellsAs, TestsAs, TimesAs};
-ghost use Rattle.command_line.specs.declared.request.Color.TheVariants.{Always, Never};
-ghost use Rattle.excerpts.specs.declared.paint.Paint.TheVariants.{Coloured, Plain};
+ghost use Rattle.driver.specs.Orders.{Acts, ActsOn, TellsAs, TestsAs, TimesAs};
 
 use crate::answered::Answered;
-use crate::as_object::perform_as_object;
-use crate::commands;
+use crate::doing::{Doing, read_and_do};
 use crate::refusal::Refusal;
 use crate::terminal::Terminal;
-use crate::trying::{test, time};
-use command_line::request::{Color, Request, Telling};
-use excerpts::paint::Paint;
+use crate::trying::test;
 use intake::failure::Failure;
-use intake::files::{FileSource, read_program};
 use options::reply::Reply;
 use reading::order::Order;
 use reading::words::order_of;
@@ -38,7 +30,8 @@ use texts::emit::append;
 use trials::folders::FolderSource;
 
 /// Does what the words behind the program's name order, and answers the exit status. Words that name a file twice are a
-/// mistake, so that none is lost that is read. `--progress` has `terminal` told how far a run has come, and `bench` has the time from it.
+/// mistake, so that none is lost that is read. `--progress` has `terminal` told how far a run has come, and `bench` has
+/// the time from it.
 pub fn act<R: Threads + Wait + Sync, F: FolderSource, O: Write, E: Write, T: Terminal>(
     rt: &R,
     alloc: Global,
@@ -52,7 +45,8 @@ pub fn act<R: Threads + Wait + Sync, F: FolderSource, O: Write, E: Write, T: Ter
         → Acts a (F.held files.old) (F.held files.new) (O.contents out.old) (O.contents out.new)
         (E.contents err.old) (E.contents err.new) result }
     ensures as_object { (x : Subject) (a : Asked) → AsksForObject (map string_bytes words.now) x a
-        → names_once a ≡ true → TellsAs x a (F.held files.old) (F.held files.new) (O.contents out.old) (O.contents out.new)
+        → names_once a ≡ true → TellsAs x a (F.held files.old) (F.held files.new)
+        (O.contents out.old) (O.contents out.new)
         (E.contents err.old) (E.contents err.new) result }
     ensures timed { (a : Asked) → AsksToTime (map string_bytes words.now) a → names_once a ≡ true
         → TimesAs a (F.held files.old) (F.held files.new) (O.contents out.old) (O.contents out.new)
@@ -88,15 +82,16 @@ fn carry_out<R: Threads + Wait + Sync, F: FolderSource, O: Write, E: Write, T: T
 {
     match order {
         Order::AsText(request) => {
-            let done = perform(rt, alloc, request, files, out, terminal);
+            let done = read_and_do(rt, alloc, Doing::Answering, request, files, out, terminal);
             report(done, request.telling.explain, err)
         }
         Order::AsObject(subject, request) => {
-            let done = perform_as_object(rt, alloc, subject, request, files, out, terminal);
+            let doing = Doing::Describing(subject);
+            let done = read_and_do(rt, alloc, doing, request, files, out, terminal);
             report(done, request.telling.explain, err)
         }
         Order::Times(request) => {
-            let done = time(rt, alloc, request, files, out, terminal);
+            let done = read_and_do(rt, alloc, Doing::Timing, request, files, out, terminal);
             report(done, request.telling.explain, err)
         }
         Order::Tests(folder) => {
@@ -108,9 +103,7 @@ fn carry_out<R: Threads + Wait + Sync, F: FolderSource, O: Write, E: Write, T: T
 
 /// Says on the standard error what stands behind an answer, or why there is none; `explain` says whether more was asked.
 fn report<E: Write>(done: Result<Answered, Refusal>, explain: bool, err: &mut E) -> u8
-    requires bare { IfErr done (λ refusal. explain ≡ false → string_bytes refusal.more ≡ []) }
-    requires quiet { IfOk done (λ answered. explain ≡ false → string_bytes answered.more ≡ []) }
-    requires calm { IfOk done (λ answered. answered.status ≤ 1 → string_bytes answered.more ≡ []) }
+    requires said { IsSaid explain done }
     ensures { Reports explain (E.contents err.old) (E.contents err.new) (in_short done) result }
 {
     match done {
@@ -129,107 +122,6 @@ pub fn refuse_words<E: Write>(alloc: Global, error: &io::Error, err: &mut E) -> 
         _ => Failure::not_utf8(alloc, "command line"),
     };
     Refusal::bare(alloc, failure).tell(err)
-}
-
-/// Does one command.
-fn perform<R: Threads + Wait + Sync, F: FileSource, O: Write, T: Terminal>(
-    rt: &R,
-    alloc: Global,
-    request: Request<'_>,
-    files: &mut F,
-    out: &mut O,
-    terminal: &mut T,
-) -> Result<Answered, Refusal>
-    ensures done { ReadsAndPerforms (asked_of request.entry) (F.held files.old) (F.held files.new)
-        (O.contents out.old) (O.contents out.new) (in_short result) }
-    ensures bare { IfErr result
-        (λ refusal. request.entry.telling.explain ≡ false → string_bytes refusal.more ≡ []) }
-    ensures quiet { IfOk result
-        (λ answered. request.entry.telling.explain ≡ false → string_bytes answered.more ≡ []) }
-    ensures calm { IfOk result (λ answered. answered.status ≤ 1 → string_bytes answered.more ≡ []) }
-{
-    let read = match text_in(alloc, files, request.file) {
-        Ok(text) => text,
-        Err(failure) => {
-            let paint = paint_of(request.telling, terminal);
-            return Err(Refusal::unread(alloc, files, request, paint, failure));
-        }
-    };
-    let text = read.as_str();
-    let paint = paint_of(request.telling, terminal);
-    match commands::perform(rt, alloc, request, text, files, out, terminal) {
-        Ok(status) => followed(alloc, files, request, text, paint, handed_on(out, status)),
-        Err(failure) => Err(Refusal::explained(rt, alloc, files, request, text, paint, failure)),
-    }
-}
-
-/// The text that the file of a program holds.
-pub(crate) fn text_in<F: FileSource>(
-    alloc: Global,
-    files: &mut F,
-    name: &str,
-) -> Result<String, Failure>
-    ensures text { IfOk result (λ text. HasText (F.held files.old) name.now (string_bytes text)) }
-    ensures short { IfOk result (λ text. length (string_bytes text) ≤ 1048576) }
-    ensures why { IfErr result (TellsNoProgram (F.held files.old) name.now) }
-    ensures keeps { F.held files.new ≡ F.held files.old }
-{
-    let bytes = read_program(alloc, files, name)?;
-    match String::from_utf8(bytes) {
-        Ok(text) => Ok(text),
-        Err(_) => Err(Failure::not_utf8(alloc, name)),
-    }
-}
-
-/// Whether what explains a refusal is coloured.
-pub(crate) fn paint_of<T: Terminal>(telling: Telling, terminal: &T) -> Paint
-    ensures always { telling.color ≡ Always → result ≡ Coloured }
-    ensures never { telling.color ≡ Never → result ≡ Plain }
-{
-    let is_coloured = match telling.color {
-        Color::Always => true,
-        Color::Never => false,
-        Color::Auto => terminal.has_colours(),
-    };
-    if is_coloured {
-        Paint::Coloured
-    } else {
-        Paint::Plain
-    }
-}
-
-/// The same, with what explains an outcome behind its status, and nothing behind the line of a failure.
-pub(crate) fn followed<F: FileSource>(
-    alloc: Global,
-    files: &mut F,
-    request: Request<'_>,
-    text: &str,
-    paint: Paint,
-    done: Result<u8, Failure>,
-) -> Result<Answered, Refusal>
-    ensures same { in_short result ≡ done }
-    ensures bare { IfErr result (λ refusal. string_bytes refusal.more ≡ []) }
-    ensures quiet { IfOk result
-        (λ answered. request.entry.telling.explain ≡ false → string_bytes answered.more ≡ []) }
-    ensures calm { IfOk result (λ answered. answered.status ≤ 1 → string_bytes answered.more ≡ []) }
-    ensures keeps { F.held files.new ≡ F.held files.old }
-{
-    match done {
-        Ok(status) => Ok(Answered::explained(alloc, files, request, text, paint, status)),
-        Err(failure) => Err(Refusal::bare(alloc, failure)),
-    }
-}
-
-/// Hands on what a writer keeps back of an answer with this status.
-pub(crate) fn handed_on<O: Write>(out: &mut O, status: u8) -> Result<u8, Failure>
-    ensures keeps { Keeps (O.contents out.old) (O.contents out.new) }
-    ensures status { IfOk result (λ s. s ≡ status) }
-    ensures failure { IfErr result (λ f. f ≡ Failure.CannotWriteOutput) }
-{
-    match out.flush() {
-        Ok(()) => Ok(status),
-        Err(_) => Err(Failure::CannotWriteOutput),
-    }
 }
 
 /// Prints the reply to words that ask nothing of a program: help and pages on the output with status 0, a

@@ -4,9 +4,11 @@ ghost use Rattle.std.specs.Prelude.{◌≡◌, ◌≤◌, [], false};
 ghost use Rattle.std.specs.String.{string_bytes};
 ghost use Rattle.texts.specs.Appending.{AppendsBeginning};
 
+use crate::said::said;
+use crate::source::Source;
 use answers::explaining::run_explanation;
+use answers::question::Question;
 use command_line::request::{Action, Request};
-use excerpts::paint::{Paint, painted};
 use intake::files::FileSource;
 use std::alloc::{AllocError, Global};
 use std::io::Write;
@@ -25,8 +27,7 @@ impl Answered {
         alloc: Global,
         files: &mut F,
         request: Request<'_>,
-        text: &str,
-        paint: Paint,
+        source: &Source,
         status: u8,
     ) -> Answered
         ensures status { result.status ≡ status }
@@ -40,12 +41,10 @@ impl Answered {
                 more: String::new(alloc),
             };
         }
-        match coloured(alloc, files, request, text, paint, status) {
-            Ok(more) => Answered { status, more },
-            Err(AllocError) => Answered {
-                status,
-                more: String::new(alloc),
-            },
+        let more = outcome_explained(alloc, files, request, source.text.as_str(), status);
+        Answered {
+            status,
+            more: said(alloc, more, source.paint),
         }
     }
 
@@ -60,22 +59,22 @@ impl Answered {
     }
 }
 
-/// What explains an outcome, so coloured.
-fn coloured<F: FileSource>(
+/// What explains an outcome.
+fn outcome_explained<F: FileSource>(
     alloc: Global,
     files: &mut F,
     request: Request<'_>,
     text: &str,
-    paint: Paint,
     status: u8,
 ) -> Result<String, AllocError>
     ensures { F.held files.new ≡ F.held files.old }
 {
-    match request.action {
-        Action::Rewrite => Ok(String::new(alloc)),
-        Action::Answer(command) => {
-            let more = run_explanation(alloc, files, command, request.settings, text, status)?;
-            painted(alloc, more, paint)
-        }
-    }
+    let Action::Answer(command) = request.action else {
+        return Ok(String::new(alloc));
+    };
+    let question = Question {
+        text,
+        settings: request.settings,
+    };
+    run_explanation(alloc, files, command, question, status)
 }

@@ -6,13 +6,14 @@ ghost use Rattle.driver.specs.Acts.{Performs};
 ghost use Rattle.driver.specs.Traced.{IsTraceOfText, WritesTrace};
 
 use crate::tracing::run_of;
-use answers::costing::{tell_cost, tell_cost_by_label, tell_cost_by_procedure};
+use answers::costing::{Shares, tell_cost};
 use answers::formatting::{check_format, format};
 use answers::listing::{list_labels, list_places};
+use answers::question::Question;
 use answers::running::{run_by_choices, run_serially};
 use answers::showing::show;
-use answers::telling::{check, list, pairs};
-use command_line::request::{Action, Command, Request, Settings};
+use answers::telling::{About, check, pairs};
+use command_line::request::{Action, Command, Request};
 use intake::failure::Failure;
 use intake::files::FileSource;
 use rewriting::rewrite::rewrite;
@@ -21,8 +22,8 @@ use std::alloc::Global;
 use std::io::Write;
 use std::sync::Wait;
 use std::thread::Threads;
-use viewing::drawing::{draw, draw_for_viewer};
-use viewing::tables::{view, view_numbers};
+use viewing::drawing::{Form, draw};
+use viewing::tables::{Look, view};
 
 /// What is asked of the text of a program.
 pub fn perform<R: Threads + Wait + Sync, F: FileSource, O: Write, W: Watch>(
@@ -38,32 +39,30 @@ pub fn perform<R: Threads + Wait + Sync, F: FileSource, O: Write, W: Watch>(
         (settings_of request.entry.settings) text.now
         (F.held files.old) (F.held files.new) (O.contents out.old) (O.contents out.new) result }
 {
+    let question = Question {
+        text,
+        settings: request.settings,
+    };
     match request.action {
         Action::Rewrite => rewrite(alloc, request.file, text, files, out),
         Action::Answer(command) => match command {
-            Command::Run => run_as_tasks(rt, alloc, request.settings, text, files, out),
-            Command::Serial => run_serially(alloc, request.settings, text, files, out, watch),
-            Command::Check => check(rt, alloc, text, out),
-            Command::Listing => list(rt, alloc, text, out),
+            Command::Run => run_as_tasks(rt, alloc, question, files, out),
+            Command::Serial => run_serially(alloc, question, files, out, watch),
+            Command::Check => check(rt, alloc, About::Counts, text, out),
+            Command::Listing => check(rt, alloc, About::Lines, text, out),
             Command::Labels => list_labels(alloc, text, out),
             Command::Places => list_places(alloc, text, out),
             Command::Format => format(alloc, text, out),
             Command::CheckFormat => check_format(alloc, text, out),
-            Command::Cost => tell_cost(alloc, request.settings, text, files, out),
-            Command::CostByLabel => tell_cost_by_label(alloc, request.settings, text, files, out),
-            Command::CostByProcedure => tell_cost_by_procedure(
-                alloc,
-                request.settings,
-                text,
-                files,
-                out,
-            ),
+            Command::Cost => tell_cost(alloc, Shares::Untold, question, files, out),
+            Command::CostByLabel => tell_cost(alloc, Shares::ByLabel, question, files, out),
+            Command::CostByProcedure => tell_cost(alloc, Shares::ByProcedure, question, files, out),
             Command::Pairs => pairs(alloc, text, out),
-            Command::Explore => run_by_choices(rt, alloc, request.settings, text, files, out),
-            Command::View => view(rt, alloc, request.settings, text, files, out),
-            Command::Summary => view_numbers(rt, alloc, request.settings, text, files, out),
-            Command::Draw => draw(rt, alloc, request.settings, text, files, out),
-            Command::Chrome => draw_for_viewer(rt, alloc, request.settings, text, files, out),
+            Command::Explore => run_by_choices(rt, alloc, question, files, out),
+            Command::View => view(rt, alloc, Look::Table, question, files, out),
+            Command::Summary => view(rt, alloc, Look::Numbers, question, files, out),
+            Command::Draw => draw(rt, alloc, Form::Picture, question, files, out),
+            Command::Chrome => draw(rt, alloc, Form::Spans, question, files, out),
         },
     }
 }
@@ -73,21 +72,20 @@ pub fn perform<R: Threads + Wait + Sync, F: FileSource, O: Write, W: Watch>(
 fn run_as_tasks<R: Threads + Wait + Sync, F: FileSource, O: Write>(
     rt: &R,
     alloc: Global,
-    settings: Settings<'_>,
-    text: &str,
+    question: Question<'_>,
     files: &mut F,
     out: &mut O,
 ) -> Result<u8, Failure>
-    ensures done { Does Command.Run (settings_of settings.entry) (F.held files.old) text.now
-        (O.contents out.old) (O.contents out.new) result }
-    ensures trace { let s = settings_of settings.entry in WritesTrace s.trace
-        (IsTraceOfText s (F.held files.old) text.now) (F.held files.old) (F.held files.new) result }
+    ensures done { Does Command.Run (settings_of question.entry.settings) (F.held files.old)
+        question.entry.text.now (O.contents out.old) (O.contents out.new) result }
+    ensures trace { let s = settings_of question.entry.settings in WritesTrace s.trace
+        (IsTraceOfText s (F.held files.old) question.entry.text.now) (F.held files.old) (F.held files.new) result }
 {
-    let ran = run_of(rt, alloc, settings, text, files)?;
+    let ran = run_of(rt, alloc, question, files)?;
     show(
         out,
-        &ran.accepted.typed().code().arrays,
+        &ran.given.accepted.typed().code().arrays,
         &ran.outcome,
-        settings.arrays,
+        question.settings.arrays,
     )
 }

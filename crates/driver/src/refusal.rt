@@ -6,14 +6,17 @@ ghost use Rattle.intake.specs.FailureStatus.{failure_status};
 ghost use Rattle.intake.specs.Messages.{failure_text};
 ghost use Rattle.texts.specs.Appending.{AppendsBeginning};
 
+use crate::said::said;
+use crate::source::Source;
 use answers::explaining::explanation;
+use answers::question::Question;
 use answers::unread::unread_explanation;
-use command_line::request::{Request, Settings};
-use excerpts::paint::{Paint, painted};
+use command_line::request::Request;
+use excerpts::paint::Paint;
 use intake::failure::Failure;
 use intake::files::FileSource;
 use intake::message::emit_message;
-use std::alloc::{AllocError, Global};
+use std::alloc::Global;
 use std::io::Write;
 use std::thread::Threads;
 use texts::emit::append;
@@ -43,8 +46,7 @@ impl Refusal {
         alloc: Global,
         files: &mut F,
         request: Request<'_>,
-        text: &str,
-        paint: Paint,
+        source: &Source,
         failure: Failure,
     ) -> Refusal
         ensures failure { result.failure ≡ failure }
@@ -54,9 +56,14 @@ impl Refusal {
         if !request.telling.explain {
             return Refusal::bare(alloc, failure);
         }
-        match coloured(rt, alloc, files, request.settings, text, paint, &failure) {
-            Ok(more) => Refusal { failure, more },
-            Err(AllocError) => Refusal::bare(alloc, failure),
+        let question = Question {
+            text: source.text.as_str(),
+            settings: request.settings,
+        };
+        let more = explanation(rt, alloc, files, question, &failure);
+        Refusal {
+            failure,
+            more: said(alloc, more, source.paint),
         }
     }
 
@@ -75,9 +82,10 @@ impl Refusal {
         if !request.telling.explain {
             return Refusal::bare(alloc, failure);
         }
-        match unread_coloured(alloc, files, request.file, paint, &failure) {
-            Ok(more) => Refusal { failure, more },
-            Err(AllocError) => Refusal::bare(alloc, failure),
+        let more = unread_explanation(alloc, files, request.file, &failure);
+        Refusal {
+            failure,
+            more: said(alloc, more, paint),
         }
     }
 
@@ -96,34 +104,4 @@ impl Refusal {
             Err(_) => status,
         }
     }
-}
-
-/// What explains a failure, so coloured.
-fn coloured<R: Threads + Sync, F: FileSource>(
-    rt: &R,
-    alloc: Global,
-    files: &mut F,
-    settings: Settings<'_>,
-    text: &str,
-    paint: Paint,
-    failure: &Failure,
-) -> Result<String, AllocError>
-    ensures { F.held files.new ≡ F.held files.old }
-{
-    let more = explanation(rt, alloc, files, settings, text, failure)?;
-    painted(alloc, more, paint)
-}
-
-/// What explains why the file of a program gave no text, so coloured.
-fn unread_coloured<F: FileSource>(
-    alloc: Global,
-    files: &mut F,
-    name: &str,
-    paint: Paint,
-    failure: &Failure,
-) -> Result<String, AllocError>
-    ensures { F.held files.new ≡ F.held files.old }
-{
-    let more = unread_explanation(alloc, files, name, failure)?;
-    painted(alloc, more, paint)
 }

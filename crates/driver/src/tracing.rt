@@ -2,30 +2,25 @@
 
 ghost use Rattle.std.specs.Prelude.{◌≡◌, ◌<◌, IfErr, IfOk};
 ghost use Rattle.std.specs.String.{string_bytes};
-ghost use Rattle.types.specs.Contents.{FitsArrays};
-ghost use Rattle.types.specs.Outcome.{outcome as one_thread_outcome};
-ghost use Rattle.types.specs.Translation.{budget as budget_of};
 ghost use Rattle.types.specs.Translation.{input as lists_in, outcome as outcome_in};
 ghost use Rattle.types.specs.Typed.{code_of};
 ghost use Rattle.command_line.specs.Requests.{settings as settings_of};
 ghost use Rattle.answers.specs.Answers.{IsTraced};
+ghost use Rattle.answers.specs.Outcomes.{Fits, IsOutcomeOf};
 ghost use Rattle.objects.specs.Objects.{FailsEarly};
 ghost use Rattle.driver.specs.Traced.{HasRun, IsTraceOf, IsTraceOfText, TellsNoOutcome, TellsNoRun};
 ghost use Rattle.driver.specs.Traced.{WritesTrace};
 
-use answers::programs::accepted_of;
+use answers::question::{Begun, Question};
 use command_line::request::{Command, Settings, Spread};
 use intake::failure::Failure;
 use intake::files::{FileSource, write_file};
-use intake::input_file::input_of;
 use logged_run::error::LoggedRunError;
 use logged_run::run::{header_of, run_logged};
-use race_checker::accepted::Accepted;
 use std::alloc::Global;
 use std::sync::Wait;
 use std::thread::Threads;
 use trace_text::write::write_lines;
-use types::input::Input;
 use types::outcome::Outcome;
 use workers::gate::NoGate;
 use workers::run::run;
@@ -34,7 +29,7 @@ use workers::settings::Settings as RunSettings;
 /// A program that was run as tasks, and what it came to.
 #[derive(Drop)]
 pub struct Ran {
-    pub accepted: Accepted,
+    pub given: Begun,
     pub outcome: Outcome,
 }
 
@@ -42,21 +37,19 @@ pub struct Ran {
 pub fn run_of<R: Threads + Wait + Sync, F: FileSource>(
     rt: &R,
     alloc: Global,
-    settings: Settings<'_>,
-    text: &str,
+    question: Question<'_>,
     files: &mut F,
 ) -> Result<Ran, Failure>
-    ensures ran { IfOk result (λ r. HasRun (settings_of settings.entry) (F.held files.old) text.now
-        (code_of r.accepted.typed) (outcome_in r.outcome)) }
-    ensures why { IfErr result
-        (FailsEarly Command.Run (settings_of settings.entry) (F.held files.old) text.now) }
-    ensures trace { let s = settings_of settings.entry in WritesTrace s.trace
-        (IsTraceOfText s (F.held files.old) text.now) (F.held files.old) (F.held files.new) result }
+    ensures ran { IfOk result (λ r. HasRun (settings_of question.entry.settings) (F.held files.old)
+        question.entry.text.now (code_of r.given.accepted.typed) (outcome_in r.outcome)) }
+    ensures why { IfErr result (FailsEarly Command.Run (settings_of question.entry.settings)
+        (F.held files.old) question.entry.text.now) }
+    ensures trace { let s = settings_of question.entry.settings in WritesTrace s.trace
+        (IsTraceOfText s (F.held files.old) question.entry.text.now) (F.held files.old) (F.held files.new) result }
 {
-    let accepted = accepted_of(rt, alloc, text)?;
-    let input = input_of(alloc, files, accepted.typed(), settings.input)?;
-    let outcome = outcome_of(rt, alloc, settings, &accepted, &input, files)?;
-    Ok(Ran { accepted, outcome })
+    let given = question.begun(rt, alloc, files)?;
+    let outcome = outcome_of(rt, alloc, question.settings, &given, files)?;
+    Ok(Ran { given, outcome })
 }
 
 /// The outcome of a run as tasks. Where a file is named for its trace, that is written before the outcome is told.
@@ -64,22 +57,21 @@ fn outcome_of<R: Threads + Wait + Sync, F: FileSource>(
     rt: &R,
     alloc: Global,
     settings: Settings<'_>,
-    accepted: &Accepted,
-    input: &Input,
+    given: &Begun,
     files: &mut F,
 ) -> Result<Outcome, Failure>
-    requires { FitsArrays (code_of accepted.now.typed).arrays (lists_in input.now) }
-    ensures outcome { IfOk result (λ o. outcome_in o ≡ one_thread_outcome
-        (code_of accepted.now.typed) (lists_in input.now) (budget_of settings.entry.budget)) }
+    requires { Fits given.now.accepted.typed given.now.input }
+    ensures outcome { IfOk result
+        (IsOutcomeOf given.now.accepted.typed given.now.input settings.entry.budget) }
     ensures why { IfErr result (TellsNoRun (settings_of settings.entry)) }
     ensures trace { let s = settings_of settings.entry in WritesTrace s.trace
-        (IsTraceOf (code_of accepted.now.typed) (lists_in input.now) s)
+        (IsTraceOf (code_of given.now.accepted.typed) (lists_in given.now.input) s)
         (F.held files.old) (F.held files.new) result }
 {
     match settings.trace {
-        None => untraced(rt, alloc, settings, accepted, input),
+        None => untraced(rt, alloc, settings, given),
         Some(name) => {
-            let (outcome, trace) = traced(rt, alloc, settings, accepted, input)?;
+            let (outcome, trace) = traced(rt, alloc, settings, given)?;
             write_file(alloc, files, name, trace.as_bytes())?;
             Ok(outcome)
         }
@@ -91,15 +83,21 @@ fn untraced<R: Threads + Wait + Sync>(
     rt: &R,
     alloc: Global,
     settings: Settings<'_>,
-    accepted: &Accepted,
-    input: &Input,
+    given: &Begun,
 ) -> Result<Outcome, Failure>
-    requires { FitsArrays (code_of accepted.now.typed).arrays (lists_in input.now) }
-    ensures outcome { IfOk result (λ o. outcome_in o ≡ one_thread_outcome
-        (code_of accepted.now.typed) (lists_in input.now) (budget_of settings.entry.budget)) }
+    requires { Fits given.now.accepted.typed given.now.input }
+    ensures outcome { IfOk result
+        (IsOutcomeOf given.now.accepted.typed given.now.input settings.entry.budget) }
     ensures why { IfErr result (TellsNoOutcome (settings_of settings.entry)) }
 {
-    match run(rt, alloc, accepted, input, run_settings(settings), &NoGate) {
+    match run(
+        rt,
+        alloc,
+        &given.accepted,
+        &given.input,
+        run_settings(settings),
+        &NoGate,
+    ) {
         Ok(outcome) => Ok(outcome),
         Err(error) => Err(Failure::Run(error)),
     }
@@ -110,19 +108,18 @@ fn traced<R: Threads + Wait + Sync>(
     rt: &R,
     alloc: Global,
     settings: Settings<'_>,
-    accepted: &Accepted,
-    input: &Input,
+    given: &Begun,
 ) -> Result<(Outcome, String), Failure>
-    requires fits { FitsArrays (code_of accepted.now.typed).arrays (lists_in input.now) }
+    requires fits { Fits given.now.accepted.typed given.now.input }
     requires traced { IsTraced (settings_of settings) }
-    ensures outcome { IfOk result (λ r. outcome_in r.0 ≡ one_thread_outcome
-        (code_of accepted.now.typed) (lists_in input.now) (budget_of settings.entry.budget)) }
-    ensures trace { IfOk result (λ r. IsTraceOf (code_of accepted.now.typed) (lists_in input.now)
-        (settings_of settings.entry) (string_bytes r.1)) }
+    ensures outcome { IfOk result
+        (λ r. IsOutcomeOf given.now.accepted.typed given.now.input settings.entry.budget r.0) }
+    ensures trace { IfOk result (λ r. IsTraceOf (code_of given.now.accepted.typed)
+        (lists_in given.now.input) (settings_of settings.entry) (string_bytes r.1)) }
     ensures why { IfErr result (TellsNoOutcome (settings_of settings.entry)) }
 {
     let on = run_settings(settings);
-    let (outcome, log) = match run_logged(rt, alloc, accepted, input, on, &NoGate) {
+    let (outcome, log) = match run_logged(rt, alloc, &given.accepted, &given.input, on, &NoGate) {
         Ok(logged) => logged,
         Err(LoggedRunError::Run(error)) => return Err(Failure::Run(error)),
         Err(LoggedRunError::Unlogged) => return Err(Failure::StrangeEvents),

@@ -4,13 +4,15 @@ use Rattle.std.specs.Prelude.{IfErr}
 use Rattle.types.specs.Code.{Program}
 use Rattle.command_line.specs.Requests.{Settings}
 use Rattle.command_line.specs.declared.request.Command.{Command}
-use Rattle.intake.specs.Held.{Held, TellsNoInput}
+use Rattle.intake.specs.Held.{Held}
 use Rattle.intake.specs.declared.failure.Failure.{Failure}
 use Rattle.intake.specs.declared.failure.Failure.TheVariants.{NoMemory}
-use Rattle.answers.specs.Answers.{Explains, IsCodeOf, IsRunBy, LooksForRaces, TellsNoCode, TellsNotAccepted, TestsRules}
+use Rattle.race_checker.specs.Clash.{IsAccepted}
+use Rattle.answers.specs.Answers.{Explains, IsRunBy, LooksForRaces, TestsRules}
+use Rattle.answers.specs.Answers.{TellsNoCode, TellsNotAccepted, TellsNotBegun, TellsNotGiven}
 use Rattle.answers.proofs.Answering.{IsOther, other_failure}
-use Rattle.answers.proofs.Answering.{no_code_explained, no_code_other, no_input_explained, no_input_other}
-use Rattle.answers.proofs.Answering.{not_accepted_explained, not_accepted_other}
+use Rattle.answers.proofs.Answering.{no_code_explained, no_code_other, not_given_explained, not_given_other}
+use Rattle.answers.proofs.Answering.{not_accepted_explained, not_accepted_other, not_begun_explained, not_begun_other}
 use Rattle.objects.specs.Objects.{FailsEarly}
 
 module _ (c : Command) (s : Settings) (held : Held) (text : List ℕ) where
@@ -22,17 +24,22 @@ module _ (c : Command) (s : Settings) (held : Held) (text : List ℕ) where
   no_code_early tests f told =
       early f (no_code_explained c s held text None tests f told) (no_code_other c s held text None f told)
 
-  -- a program without an input
-  pub no_input_early : (code : Program) → IsCodeOf text code → IsRunBy c code → (f : Failure)
-      → TellsNoInput s.input held code.arrays f → FailsEarly c s held text f
-  no_input_early code is_code is_run f told =
-      early f (no_input_explained c s held text None code is_code is_run f told)
-      (no_input_other c s held text None code is_code is_run f told)
+  -- or a program without an input
+  pub not_given_early : TestsRules c → ((code : Program) → IsRunBy c code) → (f : Failure)
+      → TellsNotGiven s held text f → FailsEarly c s held text f
+  not_given_early tests runs f told =
+      early f (not_given_explained c s held text None tests runs f told) (not_given_other c s held text None tests runs f told)
 
   -- a text without an accepted program
   pub not_accepted_early : LooksForRaces c → (f : Failure) → TellsNotAccepted text f → FailsEarly c s held text f
   not_accepted_early looks f told =
       early f (not_accepted_explained c looks s held text None f told) (not_accepted_other c looks s held text None f told)
+
+  -- or one without an input
+  pub not_begun_early : (looks : LooksForRaces c) → ((code : Program) → IsAccepted code → IsRunBy c code) → (f : Failure)
+      → TellsNotBegun s held text f → FailsEarly c s held text f
+  not_begun_early looks runs f told =
+      early f (not_begun_explained c looks s held text None runs f told) (not_begun_other c looks s held text None runs f told)
 
   pub memory_early : FailsEarly c s held text NoMemory
   memory_early = early NoMemory tt tt

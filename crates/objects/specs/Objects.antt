@@ -1,5 +1,5 @@
 -- What a command answers to a program's text as one object, and why it has no answer.
-use Rattle.std.specs.Prelude.{ℕ, ℤ, ◌≡◌, ◌≢◌, List}
+use Rattle.std.specs.Prelude.{ℕ, ◌≡◌, ◌≢◌, List}
 use Rattle.std.specs.Str.{chars}
 use Rattle.syntax.specs.Lexical.{AreTokensOf}
 use Rattle.syntax.specs.Spelling.{spelling}
@@ -11,21 +11,18 @@ use Rattle.types.specs.Code.{Array, Program}
 use Rattle.types.specs.Outcome.{Outcome, outcome}
 use Rattle.cost.specs.Costs.{cost_of, tally_of}
 use Rattle.cost.specs.declared.cost.Cost.{Cost as Numbers}
-use Rattle.parallel_relation.specs.Pairs.{AreListed}
-use Rattle.parallel_relation.specs.Together.{LabelsMeet}
-use Rattle.race_checker.specs.Clash.{IsAccepted}
 use Rattle.texts.specs.OutcomeText.{status_of}
 use Rattle.command_line.specs.Requests.{Settings}
 use Rattle.command_line.specs.declared.request.Command.{Command}
 use Rattle.command_line.specs.declared.request.Command.TheVariants.{Run, Serial, Check, Pairs, Cost}
-use Rattle.intake.specs.Held.{Held, BeginsWith}
+use Rattle.intake.specs.Held.{Held}
 use Rattle.intake.specs.declared.failure.Failure.{Failure}
 use Rattle.intake.specs.declared.failure.Failure.TheVariants.{CannotWriteOutput}
 use Rattle.json_answers.specs.Costs.{cost_json}
 use Rattle.json_answers.specs.Outcomes.{outcome_json}
 use Rattle.json_answers.specs.Pieces.{line}
 use Rattle.json_answers.specs.Programs.{accepted_json, pairs_json}
-use Rattle.answers.specs.Answers.{Explains, IsCodeOf}
+use Rattle.answers.specs.Answers.{Explains, IsExplored, TellsAccepted, TellsOfRun, TellsPairs}
 
 -- where the statements of the text's program begin
 abbrev pub ArePlaces : (text : List ℕ) → List Place → Type 0
@@ -40,21 +37,14 @@ pub record TellsOutcome (declared : List Array) (o : Outcome) (text told : List 
   pub status_is : status ≡ status_of o
 
 -- `serial`: the one-thread outcome of the text's program, of the input and under the budget given
-pub record ObjectOfSerial (s : Settings) (held : Held) (text told : List ℕ) (status : ℕ) : Type 0 where
-  pub code : Program
-  pub is_code : IsCodeOf text code
-  pub input : List (List ℤ)
-  pub begins : BeginsWith s.input held code.arrays input
-  pub tells : TellsOutcome code.arrays (outcome code input s.budget) text told status
+abbrev pub ObjectOfSerial : Settings → Held → (text told : List ℕ) → (status : ℕ) → Type 0
+ObjectOfSerial s held text told status =
+    TellsOfRun s held text (λ code input. TellsOutcome code.arrays (outcome code input s.budget) text told status)
 
 -- `run`: the text's program has no race; the same outcome
 pub record ObjectOfRun (s : Settings) (held : Held) (text told : List ℕ) (status : ℕ) : Type 0 where
-  pub code : Program
-  pub is_code : IsCodeOf text code
-  pub accepted : IsAccepted code
-  pub input : List (List ℤ)
-  pub begins : BeginsWith s.input held code.arrays input
-  pub tells : TellsOutcome code.arrays (outcome code input s.budget) text told status
+  pub run : IsExplored s held text
+  pub tells : TellsOutcome run.code.arrays (outcome run.code run.input s.budget) text told status
 
 -- what is told of a run that ended without faults is what it cost; of any other its outcome
 pub data TellsNumbers (code : Program) (o : Outcome) (c : Numbers) (text told : List ℕ) (status : ℕ) : Type 0 where
@@ -63,30 +53,18 @@ pub data TellsNumbers (code : Program) (o : Outcome) (c : Numbers) (text told : 
       → TellsNumbers code o c text told status
 
 -- `cost`: what the run on one thread cost
-pub record ObjectOfCost (s : Settings) (held : Held) (text told : List ℕ) (status : ℕ) : Type 0 where
-  pub code : Program
-  pub is_code : IsCodeOf text code
-  pub input : List (List ℤ)
-  pub begins : BeginsWith s.input held code.arrays input
-  pub tells : TellsNumbers code (outcome code input s.budget) (cost_of (tally_of code input s.budget)) text told
-      status
+abbrev pub ObjectOfCost : Settings → Held → (text told : List ℕ) → (status : ℕ) → Type 0
+ObjectOfCost s held text told status =
+    TellsOfRun s held text (λ code input.
+    TellsNumbers code (outcome code input s.budget) (cost_of (tally_of code input s.budget)) text told status)
 
 -- `check`: the text's program has no race, and so many procedures and labels
-pub record ObjectOfCheck (text told : List ℕ) (status : ℕ) : Type 0 where
-  pub code : Program
-  pub is_code : IsCodeOf text code
-  pub accepted : IsAccepted code
-  pub told_is : told ≡ line (accepted_json code)
-  pub status_is : status ≡ 0
+abbrev pub ObjectOfCheck : (text told : List ℕ) → (status : ℕ) → Type 0
+ObjectOfCheck text = TellsAccepted text (λ code program. line (accepted_json code))
 
 -- `mhp`: the pairs of labels of the text's program that may run together, ascending
-pub record ObjectOfPairs (text told : List ℕ) (status : ℕ) : Type 0 where
-  pub code : Program
-  pub is_code : IsCodeOf text code
-  pub pairs : List (ℕ × ℕ)
-  pub listed : AreListed (LabelsMeet code) pairs
-  pub told_is : told ≡ line (pairs_json pairs)
-  pub status_is : status ≡ 0
+abbrev pub ObjectOfPairs : (text told : List ℕ) → (status : ℕ) → Type 0
+ObjectOfPairs text = TellsPairs text (λ pairs. line (pairs_json pairs))
 
 -- the object told, with its status, answers what is asked of a program's text
 abbrev pub ObjectOf : Command → Settings → Held → (text told : List ℕ) → (status : ℕ) → Type 0

@@ -1,17 +1,17 @@
 -- What `fmt --write` leaves, and why it fails.
 use Rattle.std.proofs.Common.{◌≡◌, ◌≢◌, ℕ, List, [], Option, Result, Ok, Err, ap, ◌∙◌, refl, subst, sym}
 use Rattle.std.specs.Prelude.{IfErr, IfOk, IsErrAnd}
-use Rattle.std.specs.Str.{chars, IsUtf8}
+use Rattle.std.specs.Str.{chars}
 use Rattle.syntax.specs.Lexical.{AreTokensOf}
 use Rattle.syntax.specs.Spelling.{spelling}
 use Rattle.syntax_tree.specs.Tree as tree
-use Rattle.layout.specs.Kept.{HaveSameTokens, IsLaidOut, KeepsAll}
+use Rattle.layout.specs.Kept.{IsLaidOut}
 use Rattle.texts.specs.Appending.{Writes}
 use Rattle.intake.specs.Failures.{TellsUnwritten}
 use Rattle.intake.specs.Held.{Held, IsGiven, KeepsOthers}
 use Rattle.intake.specs.declared.failure.Failure.{Failure}
 use Rattle.intake.specs.declared.failure.Failure.TheVariants.{Syntax, CannotWrite, CannotWriteOutput, NoMemory}
-use Rattle.answers.specs.Answers.{Done, NeedsLayout, TellsUnspelled}
+use Rattle.answers.specs.Answers.{Done, IsLayoutOf, NeedsLayout, TellsUnspelled}
 use Rattle.rewriting.specs.Rewriting.{AnswersRewrite, ExplainsRewrite, LeavesLaidOut, LeavesRewritten, Rewrote, was_laid_out, rewritten}
 use Rattle.answers.proofs.Answering.{IsOther, answered, other_failure, passed_on}
 
@@ -118,18 +118,13 @@ same_laid told laid text of same laid_out =
 
 -- what was written
 pub rewrote : (file text laid bytes : List ℕ) (held later : Held) (program : tree.Program) → bytes ≡ laid
-    → AreTokensOf (chars text) (spelling program) → IsUtf8 laid → IsLaidOut (chars text) (chars laid)
-    → KeepsAll (chars text) (chars laid) → HaveSameTokens (chars text) (chars laid)
-    → IsGiven (later file) (Ok bytes) → KeepsOthers file held later → LeavesLaidOut file text held later
-rewrote file text laid bytes held later program of spelled utf8 laid_out kept same given others =
-    rewritten (record {
-      bytes = laid;
-      is_text = utf8;
-      laid = laid_out;
-      kept = kept;
-      program = program;
-      spelled = spelled;
-      same = same (spelling program) spelled;
-      given = subst (λ (l : List ℕ). IsGiven (later file) (Ok l)) of given;
-      others = others;
-    })
+    → AreTokensOf (chars text) (spelling program) → IsLayoutOf text program laid → IsGiven (later file) (Ok bytes)
+    → KeepsOthers file held later → LeavesLaidOut file text held later
+rewrote file text laid bytes held later program of spelled layout given others = rewritten (record {
+  bytes = laid;
+  program = program;
+  spelled = spelled;
+  layout = layout;
+  given = subst (λ (l : List ℕ). IsGiven (later file) (Ok l)) of given;
+  others = others;
+})

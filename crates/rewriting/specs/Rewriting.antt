@@ -1,15 +1,15 @@
 -- What `fmt --write` leaves of the file of a program, and why it fails.
 use Rattle.std.specs.Prelude.{ℕ, ◌≡◌, List, [], Result, Ok, Err}
-use Rattle.std.specs.Str.{chars, IsUtf8}
+use Rattle.std.specs.Str.{chars}
 use Rattle.std.specs.String.{string_bytes}
 use Rattle.syntax.specs.Lexical.{AreTokensOf}
 use Rattle.syntax.specs.Spelling.{spelling}
 use Rattle.syntax_tree.specs.Tree as tree
-use Rattle.layout.specs.Kept.{IsLaidOut, KeepsAll}
+use Rattle.layout.specs.Kept.{IsLaidOut}
 use Rattle.intake.specs.Held.{Held, IsGiven, KeepsOthers}
 use Rattle.intake.specs.declared.failure.Failure.{Failure}
 use Rattle.intake.specs.declared.failure.Failure.TheVariants.{Syntax, CannotWrite, CannotWriteOutput, NoMemory}
-use Rattle.answers.specs.Answers.{NeedsLayout, TellsUnspelled}
+use Rattle.answers.specs.Answers.{IsLayoutOf, NeedsLayout, TellsUnspelled}
 
 -- nothing is told of a text that spells a program
 pub record AnswersRewrite (text told : List ℕ) (status : ℕ) : Type 0 where
@@ -30,12 +30,9 @@ ExplainsRewrite file text _ = ⊥
 -- program
 pub record Rewrote (file text : List ℕ) (held later : Held) : Type 0 where
   pub bytes : List ℕ
-  pub is_text : IsUtf8 bytes
-  pub laid : IsLaidOut (chars text) (chars bytes)
-  pub kept : KeepsAll (chars text) (chars bytes)
   pub program : tree.Program
   pub spelled : AreTokensOf (chars text) (spelling program)
-  pub same : AreTokensOf (chars bytes) (spelling program)
+  pub layout : IsLayoutOf text program bytes
   pub given : IsGiven (later file) (Ok bytes)
   pub others : KeepsOthers file held later
 

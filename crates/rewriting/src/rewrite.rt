@@ -3,11 +3,12 @@
 ghost use Rattle.answers.specs.Answers.{Done};
 ghost use Rattle.rewriting.specs.Rewriting.{AnswersRewrite, ExplainsRewrite, LeavesRewritten};
 
-use answers::formatting::laid_of;
+use answers::memory::or_no_memory;
 use answers::programs::program_of;
 use answers::showing::answer;
 use intake::failure::Failure;
 use intake::files::{FileSource, write_file};
+use layout::laid_out;
 use std::alloc::Global;
 use std::io::Write;
 
@@ -25,7 +26,7 @@ pub fn rewrite<F: FileSource, O: Write>(
     ensures leaves { LeavesRewritten file.now text.now (F.held files.old) (F.held files.new) result }
 {
     let _program = program_of(alloc, text)?;
-    let laid = laid_of(alloc, text)?;
+    let laid = or_no_memory(laid_out(alloc, text))?;
     if laid.as_str() == text {
         return answer(out, "");
     }

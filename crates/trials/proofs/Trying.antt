@@ -70,11 +70,7 @@ compared held t text p input bytes same has_text is_code accepted begins given i
   told = told_by p input;
   status = status_of (outcome p input usual.budget);
   answers = record {
-    code = p;
-    is_code = is_code;
-    accepted = accepted;
-    input = input;
-    begins = begins;
+    run = record { code = p; accepted = accepted; input = input; given = record { is_code = is_code; begins = begins } };
     shows = record { told_is = refl; status_is = refl };
   };
   bytes = bytes;

@@ -1,15 +1,14 @@
 -- How long runs of a program take, and what is told of that.
-use Rattle.std.specs.Prelude.{ℕ, ℤ, ◌≡◌, ◌≢◌, List, ◌++◌, length, false, codes}
+use Rattle.std.specs.Prelude.{ℕ, ◌≡◌, ◌≢◌, List, ◌++◌, length, false, codes}
 use Rattle.std.specs.Fmt.{decimal}
 use Rattle.types.specs.Code.{Program}
 use Rattle.types.specs.Outcome.{Outcome, outcome}
-use Rattle.race_checker.specs.Clash.{IsAccepted}
 use Rattle.cost.specs.Costs.{cost_of, tally_of}
 use Rattle.cost.specs.declared.cost.Cost.{Cost as Numbers}
 use Rattle.texts.specs.OutcomeText.{status_of}
-use Rattle.intake.specs.Held.{Held, BeginsWith}
+use Rattle.intake.specs.Held.{Held}
 use Rattle.command_line.specs.Requests.{Settings}
-use Rattle.answers.specs.Answers.{IsCodeOf, Shows}
+use Rattle.answers.specs.Answers.{IsExplored, Shows}
 use Rattle.trials.specs.Five.{AreOf}
 use Rattle.trials.specs.declared.times.Times.{Times}
 use Rattle.trials.specs.declared.times.Timed.{Timed}
@@ -54,9 +53,6 @@ pub data TellsTimes (code : Program) (o : Outcome) (c : Numbers) (told : List �
 
 -- `bench`: the text's program has no race; how long its runs took, on the input and under the budget given
 pub record AnswersTimes (s : Settings) (held : Held) (text told : List ℕ) (status : ℕ) : Type 0 where
-  pub code : Program
-  pub is_code : IsCodeOf text code
-  pub accepted : IsAccepted code
-  pub input : List (List ℤ)
-  pub begins : BeginsWith s.input held code.arrays input
-  pub tells : TellsTimes code (outcome code input s.budget) (cost_of (tally_of code input s.budget)) told status
+  pub run : IsExplored s held text
+  pub tells : TellsTimes run.code (outcome run.code run.input s.budget)
+      (cost_of (tally_of run.code run.input s.budget)) told status

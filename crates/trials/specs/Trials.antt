@@ -9,7 +9,9 @@ use Rattle.std.specs.Prelude.{String}
 use Rattle.std.specs.String.{string_bytes, string_cmp}
 use Rattle.std.specs.Global.{Global}
 use Rattle.types.specs.Code.{Program}
-use Rattle.types.specs.Outcome.{outcome}
+use Rattle.types.specs.Outcome.{Outcome, outcome}
+use Rattle.types.specs.Translation.{input as lists_of}
+use Rattle.types.specs.Typed.{code_of}
 use Rattle.texts.specs.OutcomeText.{outcome_text}
 use Rattle.command_line.specs.Requests.{Settings, usual}
 use Rattle.command_line.specs.declared.request.Command.TheVariants.{Run}
@@ -19,6 +21,7 @@ use Rattle.intake.specs.declared.failure.Failure.{Failure}
 use Rattle.intake.specs.declared.failure.Failure.TheVariants.{CannotWriteOutput}
 use Rattle.answers.specs.Answers.{AnswersRun, Explains}
 use Rattle.trials.specs.Folders.{AreGiven, Folders, TellsNoFolder}
+use Rattle.trials.specs.declared.outcomes.Case.{Case}
 use Rattle.trials.specs.declared.trial.Folder.{Folder as rFolder}
 use Rattle.trials.specs.declared.trial.Trial.{Trial as rTrial}
 
@@ -68,6 +71,14 @@ settings_of t = record usual { input = input_file t }
 -- what a program tells, run as usual
 abbrev pub told_by : Program → (input : List (List ℤ)) → List ℕ
 told_by p input = outcome_text p.arrays false (outcome p input usual.budget)
+
+-- whether what is told of an outcome of a case's program is what it should tell
+abbrev pub is_wanted : Case → Outcome → Bool
+is_wanted c o = bytes_eq (outcome_text (code_of c.accepted.now.typed).arrays false o) c.wanted.now
+
+-- whether what it tells, run as usual, is
+abbrev pub tells_wanted : Case → Bool
+tells_wanted c = bytes_eq (told_by (code_of c.accepted.now.typed) (lists_of c.input.now)) c.wanted.now
 
 -- `run` answers so much to its text, and its `.out` file holds bytes: whether these are the same
 pub record IsCompared (held : Held) (t : Trial) (same : Bool) : Type 0 where

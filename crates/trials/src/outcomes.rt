@@ -1,14 +1,11 @@
 //! Whether a program tells what it should, however it is run.
 
-ghost use Rattle.std.specs.Prelude.{◌≡◌, ◌≤◌, false, IfErr, IfOk};
-ghost use Rattle.std.specs.Str.{bytes_eq};
-ghost use Rattle.types.specs.Contents.{FitsArrays};
-ghost use Rattle.types.specs.Translation.{input as lists_in, outcome as outcome_in};
-ghost use Rattle.types.specs.Typed.{code_of};
-ghost use Rattle.texts.specs.OutcomeText.{outcome_text};
+ghost use Rattle.std.specs.Prelude.{◌≡◌, ◌≤◌, IfErr, IfOk};
+ghost use Rattle.types.specs.Translation.{outcome as outcome_in};
 ghost use Rattle.command_line.specs.Requests.{usual};
+ghost use Rattle.answers.specs.Outcomes.{Fits};
 ghost use Rattle.trials.specs.Runs.{TellsNoRun};
-ghost use Rattle.trials.specs.Trials.{told_by};
+ghost use Rattle.trials.specs.Trials.{is_wanted, tells_wanted};
 
 use crate::runs::{Runs, on_workers};
 use command_line::request::Settings;
@@ -22,84 +19,85 @@ use texts::emit::emit;
 use types::input::Input;
 use types::outcome::Outcome;
 
-/// Whether a program, run as usual, tells these bytes: on one thread, and as tasks on 1 and on 4 workers.
-pub fn tells<R: Threads + Wait + Sync, W: Runs>(
-    rt: &R,
-    alloc: Global,
-    runs: &W,
-    accepted: &Accepted,
-    input: &Input,
-    wanted: &[u8],
-) -> Result<bool, Failure>
-    requires { FitsArrays (code_of accepted.now.typed).arrays (lists_in input.now) }
-    ensures same { IfOk result (λ same. same
-        ≡ bytes_eq (told_by (code_of accepted.now.typed) (lists_in input.now)) wanted.now) }
-    ensures why { IfErr result (TellsNoRun usual) }
-{
-    if !tells_on_one_thread(alloc, accepted, input, wanted)? {
-        return Ok(false);
-    }
-    if !tells_as_tasks(rt, alloc, runs, accepted, input, wanted, 1)? {
-        return Ok(false);
-    }
-    tells_as_tasks(rt, alloc, runs, accepted, input, wanted, 4)
+/// A program on an input, and the bytes that it should tell, run as usual.
+#[derive(Clone, Copy)]
+pub struct Case<'c> {
+    pub alloc: Global,
+    pub accepted: &'c Accepted,
+    pub input: &'c Input,
+    pub wanted: &'c [u8],
 }
 
-/// Whether it does on one thread.
-fn tells_on_one_thread(
-    alloc: Global,
-    accepted: &Accepted,
-    input: &Input,
-    wanted: &[u8],
-) -> Result<bool, Failure>
-    requires { FitsArrays (code_of accepted.now.typed).arrays (lists_in input.now) }
-    ensures same { IfOk result (λ same. same
-        ≡ bytes_eq (told_by (code_of accepted.now.typed) (lists_in input.now)) wanted.now) }
-    ensures why { IfErr result (λ f. f ≡ Failure.NoMemory) }
-{
-    match serial(alloc, accepted.typed(), input, Settings::usual().budget) {
-        Ok(outcome) => is_told(alloc, accepted, &outcome, wanted),
-        Err(_) => Err(Failure::NoMemory),
+impl Case<'_> {
+    /// Whether it tells them: on one thread, and as tasks on 1 and on 4 workers.
+    pub fn tells<R: Threads + Wait + Sync, W: Runs>(
+        &self,
+        rt: &R,
+        runs: &W,
+    ) -> Result<bool, Failure>
+        requires { Fits self.now.accepted.now.typed self.now.input.now }
+        ensures same { IfOk result (λ same. same ≡ tells_wanted self.now) }
+        ensures why { IfErr result (TellsNoRun usual) }
+    {
+        if !self.tells_on_one_thread()? {
+            return Ok(false);
+        }
+        if !self.tells_as_tasks(rt, runs, 1)? {
+            return Ok(false);
+        }
+        self.tells_as_tasks(rt, runs, 4)
     }
-}
 
-/// Whether it does as tasks on so many workers.
-fn tells_as_tasks<R: Threads + Wait + Sync, W: Runs>(
-    rt: &R,
-    alloc: Global,
-    runs: &W,
-    accepted: &Accepted,
-    input: &Input,
-    wanted: &[u8],
-    workers: u64,
-) -> Result<bool, Failure>
-    requires fits { FitsArrays (code_of accepted.now.typed).arrays (lists_in input.now) }
-    requires workers { (1 ≤ workers) × (workers ≤ 64) }
-    ensures same { IfOk result (λ same. same
-        ≡ bytes_eq (told_by (code_of accepted.now.typed) (lists_in input.now)) wanted.now) }
-    ensures why { IfErr result (TellsNoRun usual) }
-{
-    let settings = on_workers(Settings::usual(), workers);
-    match runs.outcome(rt, alloc, accepted, input, settings) {
-        Ok(outcome) => is_told(alloc, accepted, &outcome, wanted),
-        Err(failure) => Err(failure),
+    /// Whether it does on one thread.
+    fn tells_on_one_thread(&self) -> Result<bool, Failure>
+        requires { Fits self.now.accepted.now.typed self.now.input.now }
+        ensures same { IfOk result (λ same. same ≡ tells_wanted self.now) }
+        ensures why { IfErr result (λ f. f ≡ Failure.NoMemory) }
+    {
+        match serial(
+            self.alloc,
+            self.accepted.typed(),
+            self.input,
+            Settings::usual().budget,
+        ) {
+            Ok(outcome) => self.is_told(&outcome),
+            Err(_) => Err(Failure::NoMemory),
+        }
     }
-}
 
-/// Whether these bytes are what is told of an outcome of a program.
-fn is_told(
-    alloc: Global,
-    accepted: &Accepted,
-    outcome: &Outcome,
-    wanted: &[u8],
-) -> Result<bool, Failure>
-    ensures same { IfOk result (λ same. same ≡ bytes_eq
-        (outcome_text (code_of accepted.now.typed).arrays false (outcome_in outcome.now)) wanted.now) }
-    ensures why { IfErr result (λ f. f ≡ Failure.NoMemory) }
-{
-    let mut told = Vec::new(alloc);
-    match emit(&mut told, outcome, &accepted.typed().code().arrays, false) {
-        Ok(()) => Ok(told.as_slice() == wanted),
-        Err(_) => Err(Failure::NoMemory),
+    /// Whether it does as tasks on so many workers.
+    fn tells_as_tasks<R: Threads + Wait + Sync, W: Runs>(
+        &self,
+        rt: &R,
+        runs: &W,
+        workers: u64,
+    ) -> Result<bool, Failure>
+        requires fits { Fits self.now.accepted.now.typed self.now.input.now }
+        requires workers { (1 ≤ workers) × (workers ≤ 64) }
+        ensures same { IfOk result (λ same. same ≡ tells_wanted self.now) }
+        ensures why { IfErr result (TellsNoRun usual) }
+    {
+        let settings = on_workers(Settings::usual(), workers);
+        match runs.outcome(rt, self.alloc, self.accepted, self.input, settings) {
+            Ok(outcome) => self.is_told(&outcome),
+            Err(failure) => Err(failure),
+        }
+    }
+
+    /// Whether they are what is told of an outcome of the program.
+    fn is_told(&self, outcome: &Outcome) -> Result<bool, Failure>
+        ensures same { IfOk result (λ same. same ≡ is_wanted self.now (outcome_in outcome.now)) }
+        ensures why { IfErr result (λ f. f ≡ Failure.NoMemory) }
+    {
+        let mut told = Vec::new(self.alloc);
+        match emit(
+            &mut told,
+            outcome,
+            &self.accepted.typed().code().arrays,
+            false,
+        ) {
+            Ok(()) => Ok(told.as_slice() == self.wanted),
+            Err(_) => Err(Failure::NoMemory),
+        }
     }
 }

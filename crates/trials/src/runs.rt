@@ -2,12 +2,8 @@
 
 ghost use denote.Param.Send.{IsSync};
 ghost use Rattle.std.specs.Prelude.{◌≡◌, ◌≤◌, IfErr, IfOk};
-ghost use Rattle.types.specs.Contents.{FitsArrays};
-ghost use Rattle.types.specs.Outcome.{outcome as one_thread_outcome};
-ghost use Rattle.types.specs.Translation.{budget as budget_of};
-ghost use Rattle.types.specs.Translation.{input as lists_in, outcome as outcome_in};
-ghost use Rattle.types.specs.Typed.{code_of};
 ghost use Rattle.command_line.specs.Requests.{settings as settings_of};
+ghost use Rattle.answers.specs.Outcomes.{Fits, IsOutcomeOf};
 ghost use Rattle.trials.specs.Runs.{TellsNoRun};
 
 use command_line::request::{Settings, Spread};
@@ -31,9 +27,9 @@ pub trait Runs {
         settings: Settings<'_>,
     ) -> Result<Outcome, Failure>
         requires shared { IsSync R.row }
-        requires fits { FitsArrays (code_of accepted.now.typed).arrays (lists_in input.now) }
-        ensures outcome { IfOk result (λ o. outcome_in o ≡ one_thread_outcome
-            (code_of accepted.now.typed) (lists_in input.now) (budget_of settings.entry.budget)) }
+        requires fits { Fits accepted.now.typed input.now }
+        ensures outcome { IfOk result
+            (IsOutcomeOf accepted.now.typed input.now settings.entry.budget) }
         ensures why { IfErr result (TellsNoRun (settings_of settings.entry)) };
 }
 

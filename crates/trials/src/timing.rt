@@ -2,15 +2,13 @@
 
 ghost use Rattle.std.specs.Prelude.{◌≡◌, ◌≤◌, ◌++◌, IfErr, IfOk, OnOk};
 ghost use Rattle.std.specs.String.{string_bytes};
-ghost use Rattle.types.specs.Contents.{FitsArrays};
-ghost use Rattle.types.specs.Outcome.{outcome as one_thread_outcome};
 ghost use Rattle.types.specs.Translation.{budget as budget_of, input as lists_in};
-ghost use Rattle.types.specs.Translation.{outcome as outcome_in};
 ghost use Rattle.types.specs.Typed.{code_of};
 ghost use Rattle.cost.specs.Costs.{cost_of, tally_of};
 ghost use Rattle.command_line.specs.Requests.{settings as settings_of};
 ghost use Rattle.command_line.specs.declared.request.Command.TheVariants.{Run};
 ghost use Rattle.answers.specs.Answers.{Done, Explains};
+ghost use Rattle.answers.specs.Outcomes.{Fits, IsOutcomeOf};
 ghost use Rattle.trials.specs.Runs.{TellsNoRun};
 ghost use Rattle.trials.specs.Times.{AnswersTimes, AreAllOfFive, AreOfFive, counts};
 ghost use Rattle.trials.specs.Times.{times_line as line_of_times, times_text};
@@ -19,14 +17,13 @@ ghost use Rattle.trials.specs.declared.times.Timed.{Timed as TimedOf};
 use crate::clock::Stopwatch;
 use crate::runs::{Runs, on_workers};
 use crate::times::{Timed, Times};
-use answers::programs::accepted_of;
+use answers::question::Question;
 use answers::showing::{answer, show, status};
 use command_line::request::Settings;
 use cost::cost::{Cost, Costed, measure};
 use flat_run::serial;
 use intake::failure::Failure;
 use intake::files::FileSource;
-use intake::input_file::input_of;
 use race_checker::accepted::Accepted;
 use std::alloc::{AllocError, Global};
 use std::io::Write;
@@ -49,31 +46,30 @@ pub struct Timing<'t, W, C> {
 pub fn bench<R: Threads + Wait + Sync, F: FileSource, O: Write, W: Runs, C: Stopwatch>(
     rt: &R,
     timing: Timing<'_, W, C>,
-    settings: Settings<'_>,
-    text: &str,
+    question: Question<'_>,
     files: &mut F,
     out: &mut O,
 ) -> Result<u8, Failure>
-    ensures done { let s = settings_of settings.entry in
-        Done (AnswersTimes s (F.held files.old) text.now) (Explains Run s (F.held files.old) text.now)
+    ensures done { let s = settings_of question.entry.settings in let text = question.entry.text.now in
+        Done (AnswersTimes s (F.held files.old) text) (Explains Run s (F.held files.old) text)
         (O.contents out.old) (O.contents out.new) result }
     ensures keeps { F.held files.new ≡ F.held files.old }
 {
     let Timing { alloc, runs, clock } = timing;
-    let accepted = accepted_of(rt, alloc, text)?;
-    let input = input_of(alloc, files, accepted.typed(), settings.input)?;
-    let costed = measured(alloc, &accepted, &input, settings)?;
+    let given = question.begun(rt, alloc, files)?;
+    let costed = measured(alloc, &given.accepted, &given.input, question.settings)?;
     if status(&costed.outcome) == 0 {
         let job = Job {
             alloc,
-            accepted: &accepted,
-            input: &input,
-            settings,
+            accepted: &given.accepted,
+            input: &given.input,
+            settings: question.settings,
         };
         let told = job.told(rt, runs, clock, &costed.cost)?;
         answer(out, told.as_str())
     } else {
-        show(out, &accepted.typed().code().arrays, &costed.outcome, false)
+        let arrays = &given.accepted.typed().code().arrays;
+        show(out, arrays, &costed.outcome, false)
     }
 }
 
@@ -84,9 +80,9 @@ fn measured(
     input: &Input,
     settings: Settings<'_>,
 ) -> Result<Costed, Failure>
-    requires { FitsArrays (code_of accepted.now.typed).arrays (lists_in input.now) }
-    ensures outcome { IfOk result (λ c. outcome_in c.outcome ≡ one_thread_outcome
-        (code_of accepted.now.typed) (lists_in input.now) (budget_of settings.entry.budget)) }
+    requires { Fits accepted.now.typed input.now }
+    ensures outcome { IfOk result
+        (λ c. IsOutcomeOf accepted.now.typed input.now settings.entry.budget c.outcome) }
     ensures cost { IfOk result (λ c. c.cost ≡ cost_of (tally_of
         (code_of accepted.now.typed) (lists_in input.now) (budget_of settings.entry.budget))) }
     ensures why { IfErr result (λ f. f ≡ Failure.NoMemory) }
@@ -115,7 +111,7 @@ impl Job<'_> {
         clock: &mut C,
         cost: &Cost,
     ) -> Result<String, Failure>
-        requires { FitsArrays (code_of self.now.accepted.now.typed).arrays (lists_in self.now.input.now) }
+        requires { Fits self.now.accepted.now.typed self.now.input.now }
         ensures text { IfOk result
             (λ text. (t : TimedOf) × AreAllOfFive t × (string_bytes text ≡ times_text t cost.now)) }
         ensures why { IfErr result (TellsNoRun (settings_of self.now.settings)) }
@@ -138,7 +134,7 @@ impl Job<'_> {
 
     /// The times of five runs on one thread.
     fn on_one_thread<C: Stopwatch>(&self, clock: &mut C) -> Result<Times, Failure>
-        requires { FitsArrays (code_of self.now.accepted.now.typed).arrays (lists_in self.now.input.now) }
+        requires { Fits self.now.accepted.now.typed self.now.input.now }
         ensures five { IfOk result AreOfFive }
         ensures why { IfErr result (λ f. f ≡ Failure.NoMemory) }
     {
@@ -153,7 +149,7 @@ impl Job<'_> {
 
     /// The time of one.
     fn once_on_one_thread<C: Stopwatch>(&self, clock: &mut C) -> Result<u64, Failure>
-        requires { FitsArrays (code_of self.now.accepted.now.typed).arrays (lists_in self.now.input.now) }
+        requires { Fits self.now.accepted.now.typed self.now.input.now }
         ensures why { IfErr result (λ f. f ≡ Failure.NoMemory) }
     {
         let begun = clock.micros();
@@ -176,7 +172,7 @@ impl Job<'_> {
         clock: &mut C,
         workers: u64,
     ) -> Result<Times, Failure>
-        requires fits { FitsArrays (code_of self.now.accepted.now.typed).arrays (lists_in self.now.input.now) }
+        requires fits { Fits self.now.accepted.now.typed self.now.input.now }
         requires workers { (1 ≤ workers) × (workers ≤ 64) }
         ensures five { IfOk result AreOfFive }
         ensures why { IfErr result (TellsNoRun (settings_of self.now.settings)) }
@@ -198,7 +194,7 @@ impl Job<'_> {
         clock: &mut C,
         workers: u64,
     ) -> Result<u64, Failure>
-        requires fits { FitsArrays (code_of self.now.accepted.now.typed).arrays (lists_in self.now.input.now) }
+        requires fits { Fits self.now.accepted.now.typed self.now.input.now }
         requires workers { (1 ≤ workers) × (workers ≤ 64) }
         ensures why { IfErr result (TellsNoRun (settings_of self.now.settings)) }
     {

@@ -10,7 +10,7 @@ ghost use Rattle.intake.specs.Messages.{failure_text};
 ghost use Rattle.trials.specs.Trials.{IsCompared, IsLine, IsUncompared};
 ghost use Rattle.trials.specs.Trials.{file as file_of, has_name as has_name_of, input_file, trial as trial_of};
 
-use crate::outcomes::tells;
+use crate::outcomes::Case;
 use crate::runs::Runs;
 use crate::stems::has_name;
 use answers::programs::accepted_of;
@@ -100,7 +100,13 @@ impl Trial<'_> {
         let accepted = accepted_of(rt, alloc, text)?;
         let input = self.input(alloc, files, accepted.typed())?;
         let wanted = self.wanted(alloc, files)?;
-        tells(rt, alloc, runs, &accepted, &input, &wanted)
+        let case = Case {
+            alloc,
+            accepted: &accepted,
+            input: &input,
+            wanted: &wanted,
+        };
+        case.tells(rt, runs)
     }
 
     /// What its arrays hold at first: what its `.json` file says, if the folder has one.

@@ -1,5 +1,5 @@
 -- From a trace that is there, or from why it isn't, to what was done.
-use Rattle.std.proofs.Common.{◌≡◌, inl, inr, ℕ, List, Option, Result, ap, ◌∙◌, refl, subst}
+use Rattle.std.proofs.Common.{◌≡◌, inl, inr, ℕ, List, [], Option, Result, ap, ◌∙◌, refl, subst}
 use Rattle.std.specs.Prelude.{IsErrAnd}
 use Rattle.types.specs.Code.{Program}
 use Rattle.race_checker.specs.Clash.{IsAccepted}
@@ -18,10 +18,10 @@ use Rattle.intake.specs.declared.failure.Failure.{Failure}
 use Rattle.intake.specs.declared.failure.Failure.TheVariants.{CannotRead, NotUtf8, Syntax, Types}
 use Rattle.intake.specs.declared.failure.Failure.TheVariants.{Race, NoMemoryInCheck, Input, NoMemory}
 use Rattle.intake.specs.declared.failure.Failure.TheVariants.{Trace, Illegal, CannotWrite}
-use Rattle.answers.specs.Answers.{IsCodeOf, IsExplored, TellsNotAccepted}
+use Rattle.answers.specs.Answers.{IsCodeOf, IsExplored, TellsNotAccepted, TellsNotBegun}
 use Rattle.answers.proofs.Answering.{IsOther, other_failure, passed_on}
-use Rattle.viewing.specs.Views.{AnswersPicture, AnswersTrace, Draws, ExplainsTrace, HasTrace, HoldsTrace, IsDrawnTo, TellsIllegal}
-use Rattle.viewing.specs.Views.{TellsNoLines, TellsNoTrace, Views, command_of, picture_name, trace_name}
+use Rattle.viewing.specs.Views.{AnswersTrace, Draws, ExplainsTrace, HasTrace, HoldsTrace, IsDrawnTo, TellsIllegal}
+use Rattle.viewing.specs.Views.{TellsNoLines, TellsNoTrace, TellsTrace, Views, command_of, picture_name, trace_name}
 use Rattle.viewing.specs.declared.drawing.Form.{Form}
 use Rattle.viewing.specs.declared.drawing.Form.TheVariants.{Picture, Spans}
 
@@ -53,14 +53,14 @@ refused_at j es e n is refused = subst (IsRefused j es) is refused
 module _ (s : Settings) (held : Held) (text : List ℕ) where
   -- ---- why there is no trace
 
-  pub not_accepted : (f : Failure) → TellsNotAccepted text f → TellsNoTrace s held text f
+  not_accepted : (f : Failure) → TellsNotAccepted text f → TellsNoTrace s held text f
   not_accepted (Syntax e) told = told
   not_accepted (Types e) told = told
   not_accepted (Race procedure first second) told = told
   not_accepted NoMemoryInCheck told = told
   not_accepted _ told = absurd told
 
-  pub no_input : (code : Program) → IsCodeOf text code → IsAccepted code → (f : Failure)
+  no_input : (code : Program) → IsCodeOf text code → IsAccepted code → (f : Failure)
       → TellsNoInput s.input held code.arrays f → TellsNoTrace s held text f
   no_input code is_code is_run (CannotRead name) told =
       inl (record { code = code; is_code = is_code; is_run = is_run; why = told })
@@ -69,6 +69,10 @@ module _ (s : Settings) (held : Held) (text : List ℕ) where
   no_input code is_code is_run (Input e) told = record { code = code; is_code = is_code; is_run = is_run; why = told }
   no_input code is_code is_run NoMemory told = tt
   no_input code is_code is_run _ told = absurd told
+
+  pub not_begun : (f : Failure) → TellsNotBegun s held text f → TellsNoTrace s held text f
+  not_begun f (inl refused) = not_accepted f refused
+  not_begun f (inr lack) = no_input lack.code lack.is_code lack.is_run f lack.why
 
   pub no_lines : IsExplored s held text → (f : Failure) → TellsNoLines held (trace_name s) f → TellsNoTrace s held text f
   no_lines run (CannotRead name) told = inr (record { run = run; why = told })
@@ -140,7 +144,6 @@ pub draws_form : (form : Form) → Draws (command_of form)
 draws_form Picture = tt
 draws_form Spans = tt
 
-pub form_answers : (form : Form) (s : Settings) (held : Held) (text told : List ℕ) (status : ℕ)
-    → AnswersPicture s held text told status → AnswersTrace (command_of form) s held text told status
-form_answers Picture s held text told status is = is
-form_answers Spans s held text told status is = is
+pub form_tells : (form : Form) (h : Header) (es : List Event) → TellsTrace (command_of form) h es []
+form_tells Picture h es = refl
+form_tells Spans h es = refl

@@ -9,7 +9,7 @@ use Rattle.interleave.specs.World.{World}
 use Rattle.interleave.specs.Worlds.{IsFirstIllegal, LeadsTo}
 use Rattle.trace_numbers.specs.Summary.{IsSummary}
 use Rattle.trace_numbers.specs.Text.{summary_text}
-use Rattle.trace_numbers.specs.declared.summary.Summary.{Summary as Numbers}
+use Rattle.trace_numbers.specs.declared.summary.Summary.{Summary as SummaryOf}
 use Rattle.trace_text.specs.Headers.{header_of}
 use Rattle.trace_text.specs.Reading.{IsRefusal, IsTrace}
 use Rattle.trace_text.specs.Table.{table_text}
@@ -23,9 +23,11 @@ use Rattle.intake.specs.declared.failure.Failure.{Failure}
 use Rattle.intake.specs.declared.failure.Failure.TheVariants.{CannotRead, NotUtf8, Input}
 use Rattle.intake.specs.declared.failure.Failure.TheVariants.{Trace, Illegal}
 use Rattle.intake.specs.declared.failure.Failure.TheVariants.{CannotWrite, CannotWriteOutput, NoMemory}
-use Rattle.answers.specs.Answers.{Answer, Done, IsExplored, LacksInput, TellsNotAccepted}
+use Rattle.answers.specs.Answers.{Done, IsExplored, LacksInput, TellsNotAccepted}
 use Rattle.viewing.specs.declared.drawing.Form.{Form}
 use Rattle.viewing.specs.declared.drawing.Form.TheVariants.{Picture, Spans}
+use Rattle.viewing.specs.declared.tables.Look.{Look}
+use Rattle.viewing.specs.declared.tables.Look.TheVariants.{Table, Numbers}
 
 -- ---- names
 
@@ -58,39 +60,33 @@ pub record HasTrace (s : Settings) (held : Held) (text : List ℕ) (h : Header) 
 
 -- ---- answers
 
--- `view`: the table of the trace's events
-pub record AnswersView (s : Settings) (held : Held) (text told : List ℕ) (status : ℕ) : Type 0 where
-  pub header : Header
-  pub events : List Event
-  pub trace : HasTrace s held text header events
-  pub told_is : told ≡ table_text (map event_of events)
-  pub status_is : status ≡ 0
+-- the command that has a trace looked at so
+abbrev pub command_by : Look → Command
+command_by Table = View
+command_by Numbers = Summary
 
--- `view --summary`: its numbers
-pub record AnswersSummary (s : Settings) (held : Held) (text told : List ℕ) (status : ℕ) : Type 0 where
-  pub header : Header
-  pub events : List Event
-  pub trace : HasTrace s held text header events
-  pub numbers : Numbers
-  pub are : IsSummary events numbers
-  pub told_is : told ≡ summary_text header.workers numbers
-  pub status_is : status ≡ 0
+-- this is the text of the numbers of events, in a run on so many workers
+pub record IsSummaryText (workers : ℕ) (es : List Event) (told : List ℕ) : Type 0 where
+  pub numbers : SummaryOf
+  pub are : IsSummary es numbers
+  pub told_is : told ≡ summary_text workers numbers
 
--- `view --svg` and `view --chrome`: nothing stands on the standard output
-pub record AnswersPicture (s : Settings) (held : Held) (text told : List ℕ) (status : ℕ) : Type 0 where
-  pub header : Header
-  pub events : List Event
-  pub trace : HasTrace s held text header events
-  pub told_is : told ≡ []
-  pub status_is : status ≡ 0
+-- what is told of a trace: by `view` the table of its events, by `view --summary` its numbers; by `view --svg` and
+-- `view --chrome` nothing stands on the standard output
+abbrev pub TellsTrace : Command → Header → List Event → (told : List ℕ) → Type 0
+TellsTrace View h es told = told ≡ table_text (map event_of es)
+TellsTrace Summary h es told = IsSummaryText h.workers es told
+TellsTrace Draw h es told = told ≡ []
+TellsTrace Chrome h es told = told ≡ []
+TellsTrace _ h es told = ⊥
 
 -- the text told, with its status, answers what is asked of a trace
-abbrev pub AnswersTrace : Command → Settings → Held → (text : List ℕ) → Answer
-AnswersTrace View s held text = AnswersView s held text
-AnswersTrace Summary s held text = AnswersSummary s held text
-AnswersTrace Draw s held text = AnswersPicture s held text
-AnswersTrace Chrome s held text = AnswersPicture s held text
-AnswersTrace _ s held text = λ told status. ⊥
+pub record AnswersTrace (c : Command) (s : Settings) (held : Held) (text told : List ℕ) (status : ℕ) : Type 0 where
+  pub header : Header
+  pub events : List Event
+  pub trace : HasTrace s held text header events
+  pub tells : TellsTrace c header events told
+  pub status_is : status ≡ 0
 
 -- ---- failures
 

@@ -1,17 +1,19 @@
 //! `view --svg` and `view --chrome`: a trace is drawn, into a file.
 
-ghost use Rattle.std.specs.Prelude.{◌≡◌, IfErr};
+ghost use Rattle.std.specs.Prelude.{◌≡◌};
 ghost use Rattle.command_line.specs.Requests.{settings as settings_of};
 ghost use Rattle.viewing.specs.Files.{WritesTo};
 ghost use Rattle.viewing.specs.Views.{IsDrawn, Views, command_of, picture_name as name_of_picture};
 
 use crate::traces::{Trace, trace_name, trace_of};
+use answers::memory::or_no_memory;
+use answers::question::Question;
 use answers::showing::answer;
-use command_line::request::{Command, Settings};
+use command_line::request::Settings;
 use intake::failure::Failure;
 use intake::files::{FileSource, write_file};
 use pictures::timeline;
-use std::alloc::Global;
+use std::alloc::{AllocError, Global};
 use std::io::Write;
 use std::thread::Threads;
 use trace_spans::chrome;
@@ -25,57 +27,23 @@ pub enum Form {
     Spans,
 }
 
-/// `view --svg`: draws a trace as a picture, into its file; gives the exit status.
+/// Draws a trace so, into the file of the picture; gives the exit status.
 pub fn draw<R: Threads + Sync, F: FileSource, O: Write>(
     rt: &R,
     alloc: Global,
-    settings: Settings<'_>,
-    text: &str,
-    files: &mut F,
-    out: &mut O,
-) -> Result<u8, Failure>
-    ensures done { Views Command.Draw (settings_of settings.entry) (F.held files.old) text.now
-        (O.contents out.old) (O.contents out.new) result }
-    ensures picture { let s = settings_of settings.entry in WritesTo (name_of_picture s)
-        (IsDrawn s (F.held files.old) text.now) (F.held files.old) (F.held files.new) result }
-{
-    draw_as(rt, alloc, Form::Picture, settings, text, files, out)
-}
-
-/// `view --chrome`: writes a trace for a trace viewer, into its file; gives the exit status.
-pub fn draw_for_viewer<R: Threads + Sync, F: FileSource, O: Write>(
-    rt: &R,
-    alloc: Global,
-    settings: Settings<'_>,
-    text: &str,
-    files: &mut F,
-    out: &mut O,
-) -> Result<u8, Failure>
-    ensures done { Views Command.Chrome (settings_of settings.entry) (F.held files.old) text.now
-        (O.contents out.old) (O.contents out.new) result }
-    ensures picture { let s = settings_of settings.entry in WritesTo (name_of_picture s)
-        (IsDrawn s (F.held files.old) text.now) (F.held files.old) (F.held files.new) result }
-{
-    draw_as(rt, alloc, Form::Spans, settings, text, files, out)
-}
-
-/// Draws a trace so, into the file of the picture.
-fn draw_as<R: Threads + Sync, F: FileSource, O: Write>(
-    rt: &R,
-    alloc: Global,
     form: Form,
-    settings: Settings<'_>,
-    text: &str,
+    question: Question<'_>,
     files: &mut F,
     out: &mut O,
 ) -> Result<u8, Failure>
-    ensures done { Views (command_of form) (settings_of settings.entry) (F.held files.old) text.now
-        (O.contents out.old) (O.contents out.new) result }
-    ensures picture { let s = settings_of settings.entry in WritesTo (name_of_picture s)
-        (IsDrawn s (F.held files.old) text.now) (F.held files.old) (F.held files.new) result }
+    ensures done { Views (command_of form) (settings_of question.entry.settings) (F.held files.old)
+        question.entry.text.now (O.contents out.old) (O.contents out.new) result }
+    ensures picture { let s = settings_of question.entry.settings in WritesTo (name_of_picture s)
+        (IsDrawn s (F.held files.old) question.entry.text.now) (F.held files.old) (F.held files.new) result }
 {
-    let trace = trace_of(rt, alloc, settings, text, files)?;
-    let picture = drawn(alloc, form, trace_name(settings), &trace)?;
+    let settings = question.settings;
+    let trace = trace_of(rt, alloc, question, files)?;
+    let picture = or_no_memory(drawn(alloc, form, trace_name(settings), &trace))?;
     write_file(alloc, files, picture_name(settings), picture.as_bytes())?;
     answer(out, "")
 }
@@ -91,15 +59,9 @@ fn picture_name<'w>(settings: Settings<'w>) -> &'w str
 }
 
 /// A trace drawn so; the heading is that of a picture.
-fn drawn(alloc: Global, form: Form, heading: &str, trace: &Trace) -> Result<String, Failure>
-    ensures { IfErr result (λ failure. failure ≡ Failure.NoMemory) }
-{
-    let drawn = match form {
+fn drawn(alloc: Global, form: Form, heading: &str, trace: &Trace) -> Result<String, AllocError> {
+    match form {
         Form::Picture => timeline::draw(alloc, heading, &trace.header, &trace.events),
         Form::Spans => chrome::spans(alloc, &trace.events),
-    };
-    match drawn {
-        Ok(picture) => Ok(picture),
-        Err(_) => Err(Failure::NoMemory),
     }
 }

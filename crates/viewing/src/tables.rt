@@ -1,92 +1,66 @@
 //! `view` and `view --summary`: what the events of a trace are, and what they come to.
 
-ghost use Rattle.std.specs.Prelude.{◌≡◌, IfErr, IfOk, map};
+ghost use Rattle.std.specs.Prelude.{◌≡◌, IfOk};
 ghost use Rattle.std.specs.String.{string_bytes};
-ghost use Rattle.events.specs.Events.{event as event_of};
-ghost use Rattle.trace_numbers.specs.Summary.{IsSummary};
-ghost use Rattle.trace_numbers.specs.Text.{summary_text as text_of_summary};
-ghost use Rattle.trace_text.specs.Table.{table_text};
 ghost use Rattle.command_line.specs.Requests.{settings as settings_of};
-ghost use Rattle.viewing.specs.Views.{Views};
+ghost use Rattle.viewing.specs.Views.{IsSummaryText, TellsTrace, Views, command_by};
 
-use crate::traces::trace_of;
+use crate::traces::{Trace, trace_of};
+use answers::memory::or_no_memory;
+use answers::question::Question;
 use answers::showing::answer;
-use command_line::request::{Command, Settings};
-use events::event::Event;
 use intake::failure::Failure;
 use intake::files::FileSource;
-use std::alloc::Global;
+use std::alloc::{AllocError, Global};
 use std::io::Write;
 use std::thread::Threads;
-use trace_numbers::summary::{Summary, summarize};
+use trace_numbers::summary::summarize;
 use trace_numbers::text::summary_text;
+use trace_text::table;
 
-/// `view`: writes the table of a trace's events; gives the exit status.
+/// What is told of a trace.
+#[derive(Clone, Copy)]
+pub enum Look {
+    /// The table of its events: `view`.
+    Table,
+    /// What they come to: `view --summary`.
+    Numbers,
+}
+
+/// Writes what is to be told of a trace; gives the exit status.
 pub fn view<R: Threads + Sync, F: FileSource, O: Write>(
     rt: &R,
     alloc: Global,
-    settings: Settings<'_>,
-    text: &str,
+    look: Look,
+    question: Question<'_>,
     files: &mut F,
     out: &mut O,
 ) -> Result<u8, Failure>
-    ensures done { Views Command.View (settings_of settings.entry) (F.held files.old) text.now
-        (O.contents out.old) (O.contents out.new) result }
+    ensures done { Views (command_by look) (settings_of question.entry.settings) (F.held files.old)
+        question.entry.text.now (O.contents out.old) (O.contents out.new) result }
     ensures keeps { F.held files.new ≡ F.held files.old }
 {
-    let trace = trace_of(rt, alloc, settings, text, files)?;
-    let table = table_of(alloc, &trace.events)?;
-    answer(out, table.as_str())
-}
-
-/// `view --summary`: writes the numbers of a trace; gives the exit status.
-pub fn view_numbers<R: Threads + Sync, F: FileSource, O: Write>(
-    rt: &R,
-    alloc: Global,
-    settings: Settings<'_>,
-    text: &str,
-    files: &mut F,
-    out: &mut O,
-) -> Result<u8, Failure>
-    ensures done { Views Command.Summary (settings_of settings.entry) (F.held files.old) text.now
-        (O.contents out.old) (O.contents out.new) result }
-    ensures keeps { F.held files.new ≡ F.held files.old }
-{
-    let trace = trace_of(rt, alloc, settings, text, files)?;
-    let numbers = numbers_of(alloc, &trace.events)?;
-    let told = told_by(alloc, &numbers, trace.header.workers)?;
+    let trace = trace_of(rt, alloc, question, files)?;
+    let told = or_no_memory(shown(alloc, look, &trace))?;
     answer(out, told.as_str())
 }
 
-/// The table of events.
-fn table_of(alloc: Global, events: &[Event]) -> Result<String, Failure>
-    ensures table { IfOk result (λ text. string_bytes text ≡ table_text (map event_of events.now)) }
-    ensures why { IfErr result (λ failure. failure ≡ Failure.NoMemory) }
+/// What is to be told of a trace.
+fn shown(alloc: Global, look: Look, trace: &Trace) -> Result<String, AllocError>
+    ensures { IfOk result (λ text. TellsTrace (command_by look)
+        trace.now.header trace.now.events.items (string_bytes text)) }
 {
-    match trace_text::table::view(alloc, events) {
-        Ok(table) => Ok(table),
-        Err(_) => Err(Failure::NoMemory),
+    match look {
+        Look::Table => table::view(alloc, &trace.events),
+        Look::Numbers => numbers_shown(alloc, trace),
     }
 }
 
-/// The numbers of events.
-fn numbers_of(alloc: Global, events: &[Event]) -> Result<Summary, Failure>
-    ensures numbers { IfOk result (IsSummary events.now) }
-    ensures why { IfErr result (λ failure. failure ≡ Failure.NoMemory) }
+/// The numbers of a trace.
+fn numbers_shown(alloc: Global, trace: &Trace) -> Result<String, AllocError>
+    ensures { IfOk result (λ text. IsSummaryText trace.now.header.workers trace.now.events.items
+        (string_bytes text)) }
 {
-    match summarize(alloc, events) {
-        Ok(numbers) => Ok(numbers),
-        Err(_) => Err(Failure::NoMemory),
-    }
-}
-
-/// The text of numbers of a run on so many workers.
-fn told_by(alloc: Global, numbers: &Summary, workers: u32) -> Result<String, Failure>
-    ensures text { IfOk result (λ text. string_bytes text ≡ text_of_summary workers numbers.now) }
-    ensures why { IfErr result (λ failure. failure ≡ Failure.NoMemory) }
-{
-    match summary_text(alloc, numbers, workers) {
-        Ok(text) => Ok(text),
-        Err(_) => Err(Failure::NoMemory),
-    }
+    let numbers = summarize(alloc, &trace.events)?;
+    summary_text(alloc, &numbers, trace.header.workers)
 }

@@ -1,19 +1,18 @@
 //! The trace that a file holds.
 
 ghost use Rattle.std.specs.Prelude.{◌≡◌, IfErr, IfOk, OnOk};
-ghost use Rattle.types.specs.Contents.{FitsArrays};
 ghost use Rattle.types.specs.Translation.{input as lists_in};
 ghost use Rattle.types.specs.Typed.{code_of};
 ghost use Rattle.command_line.specs.Requests.{settings as settings_of};
+ghost use Rattle.answers.specs.Outcomes.{Fits};
 ghost use Rattle.viewing.specs.Views.{AreLegal, HasTrace, HoldsTrace, TellsIllegal, TellsNoLines};
 ghost use Rattle.viewing.specs.Views.{TellsNoTrace, trace_name as name_of_trace};
 
-use answers::programs::accepted_of;
+use answers::question::Question;
 use command_line::request::Settings;
 use events::event::Event;
 use intake::failure::Failure;
 use intake::files::{FileSource, read_file};
-use intake::input_file::input_of;
 use interleave::error::ReplayError;
 use interleave::job::WeightedJob;
 use interleave::laws::replays_refuse_the_first;
@@ -36,20 +35,18 @@ pub struct Trace {
 pub fn trace_of<R: Threads + Sync, F: FileSource>(
     rt: &R,
     alloc: Global,
-    settings: Settings<'_>,
-    text: &str,
+    question: Question<'_>,
     files: &mut F,
 ) -> Result<Trace, Failure>
-    ensures trace { IfOk result (λ t. HasTrace (settings_of settings.entry) (F.held files.old)
-        text.now t.header t.events.items) }
-    ensures why { IfErr result
-        (TellsNoTrace (settings_of settings.entry) (F.held files.old) text.now) }
+    ensures trace { IfOk result (λ t. HasTrace (settings_of question.entry.settings) (F.held files.old)
+        question.entry.text.now t.header t.events.items) }
+    ensures why { IfErr result (TellsNoTrace (settings_of question.entry.settings) (F.held files.old)
+        question.entry.text.now) }
     ensures keeps { F.held files.new ≡ F.held files.old }
 {
-    let accepted = accepted_of(rt, alloc, text)?;
-    let input = input_of(alloc, files, accepted.typed(), settings.input)?;
-    let trace = trace_in(alloc, files, trace_name(settings))?;
-    judge(alloc, &accepted, &input, &trace)?;
+    let given = question.begun(rt, alloc, files)?;
+    let trace = trace_in(alloc, files, trace_name(question.settings))?;
+    judge(alloc, &given.accepted, &given.input, &trace)?;
     Ok(trace)
 }
 
@@ -81,7 +78,7 @@ fn trace_in<F: FileSource>(alloc: Global, files: &mut F, name: &str) -> Result<T
 
 /// Finds whether the events of a trace are legal in a program's run on an input.
 fn judge(alloc: Global, accepted: &Accepted, input: &Input, trace: &Trace) -> Result<(), Failure>
-    requires { FitsArrays (code_of accepted.now.typed).arrays (lists_in input.now) }
+    requires { Fits accepted.now.typed input.now }
     ensures legal { OnOk result
         (AreLegal (code_of accepted.now.typed) (lists_in input.now)
         trace.now.header trace.now.events.items) }

@@ -1,5 +1,6 @@
 use Rattle.std.proofs.Common.{refl}
 use Rattle.std.specs.String.{string_bytes}
+use Rattle.std.proofs.lemmas.Result.{IfOk-at_ok}
 use Rattle.std.proofs.lemmas.Str.{IsUtf8-string_bytes}
 use Rattle.syntax_tree.specs.Tree.{program as tree_of}
 use Rattle.intake.specs.declared.failure.Failure.TheVariants.{NotLaidOut}
@@ -15,6 +16,7 @@ returns g c s held =
       refl,
       needs_layout text laid (tree_of c.in_ok-_program._program) c.in_ok-_program.ensures.spelled c.utf8.text
           (IsUtf8-string_bytes c.in_ok-laid.laid)
-          (differ c.eq.result c.as_str.result.now laid text c.as_str.ensures.value c.eq.ensures c.if-eq.false) c.in_ok-laid.ensures.laid,
+          (differ c.eq.result c.as_str.result.now laid text c.as_str.ensures.value c.eq.ensures c.if-eq.false)
+          (IfOk-at_ok _ c.in_ok-laid.ensures.value c.laid_out.ensures.laid),
     )
     (other_failure NotLaidOut tt)

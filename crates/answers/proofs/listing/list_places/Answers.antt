@@ -1,4 +1,5 @@
 use Rattle.std.proofs.Common.{List, ap, ◌∙◌}
+use Rattle.std.proofs.lemmas.Result.{IfOk-at_ok}
 use Rattle.std.specs.Str.Lines.{lines}
 use Rattle.syntax.specs.declared.place.Place.{Place}
 use Rattle.syntax_tree.specs.Tree.{program as tree_of}
@@ -14,8 +15,8 @@ returns g c s held =
     let spelled = c.in_ok-program.ensures.spelled in
     shown Places s held text _ _ c.answer.result c.as_str-2.result.now 0
     (places_answer text c.as_str-2.result.now c.as_str.result.now program c.in_ok-places.places.items spelled
-    (c.in_ok-places.ensures.begun program spelled)
-    (c.as_str-2.ensures.value ∙ c.in_ok-placed.ensures.text
+    (IfOk-at_ok _ c.in_ok-places.ensures.value (c.statement_places.ensures.begun program spelled))
+    (c.as_str-2.ensures.value ∙ IfOk-at_ok _ c.in_ok-placed.ensures.value c.placed_listing.ensures
     ∙ ap (λ (l : List Place). placed_lines l (lines c.as_str.result.now)) c.deref.ensures.value)
-    (c.as_str.ensures.value ∙ c.in_ok-listing.ensures.text))
+    (c.as_str.ensures.value ∙ IfOk-at_ok _ c.in_ok-listing.ensures.value c.listing.ensures))
     c.answer.ensures.text c.answer.ensures.status c.answer.ensures.failure

@@ -1,6 +1,7 @@
 use Rattle.std.proofs.Common.{inl, inr, refl}
+use Rattle.std.proofs.lemmas.Bool.{false≢true}
 use Rattle.reading.specs.Orders.{AsText, AsObject, Times, Tests, order}
-use Rattle.driver.proofs.Objects.{ordered}
+use Rattle.driver.proofs.Ordered.{ordered}
 use Rattle.driver.proofs.act.act.Goals as goal
 
 pub returns-in-Err-clause-asked : goal.returns-in-Err-clause-asked
@@ -35,7 +36,7 @@ pub returns-in-Err-clause-twice : goal.returns-in-Err-clause-twice
 returns-in-Err-clause-twice g c o orders twice = (c.tell_command_line.ensures, refl)
 
 pub returns-in-Ok-clause-twice : goal.returns-in-Ok-clause-twice
-returns-in-Ok-clause-twice g c o orders twice = absurd (c.in-Ok.ensures.twice o orders twice)
+returns-in-Ok-clause-twice g c o orders twice = absurd (false≢true (c.in-Ok.ensures.twice o orders twice))
 
 pub returns-in-Err-clause-always : goal.returns-in-Err-clause-always
 returns-in-Err-clause-always g c = inl (c.tell_command_line.ensures, refl)

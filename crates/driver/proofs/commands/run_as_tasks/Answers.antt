@@ -1,11 +1,10 @@
-use Rattle.std.proofs.Common.{ℕ, ap, ◌∙◌, map}
+use Rattle.std.proofs.Common.{ℕ, map}
 use Rattle.types.specs.Outcome.{outcome}
 use Rattle.types.specs.Translation.{array, budget, outcome as outcome_of}
 use Rattle.types.specs.Typed.{code_of}
-use Rattle.types.specs.declared.typed.Typed.{Typed}
 use Rattle.command_line.specs.Requests.{settings}
 use Rattle.command_line.specs.declared.request.Command.TheVariants.{Run}
-use Rattle.answers.proofs.Answering.{outcome_shown, passes_on, shown}
+use Rattle.answers.proofs.Answering.{declared_by, is_explored, outcome_shown, passes_on, shown}
 use Rattle.driver.specs.Traced.{IsTraceOfText}
 use Rattle.driver.specs.declared.tracing.Ran.{Ran}
 use Rattle.driver.proofs.Leaving.{passes_failed, told_behind}
@@ -14,38 +13,32 @@ use Rattle.driver.proofs.commands.run_as_tasks.Goals as goal
 pub returns-in_err-ran-clause-done : goal.returns-in_err-ran-clause-done
 returns-in_err-ran-clause-done g c =
     let why = c.in_err-ran.ensures.why in
-    passes_on Run (settings c.args.settings) (g.F.FileSource.held c.args.files.now) c.args.text.now _ _ _
+    passes_on Run (settings c.args.question.settings) (g.F.FileSource.held c.args.files.now) c.args.question.text.now _ _ _
     c.from_residual.ensures.1 why.why why.early
 
 pub returns-in_err-ran-clause-trace : goal.returns-in_err-ran-clause-trace
 returns-in_err-ran-clause-trace g c =
-    let s = settings c.args.settings in let held = g.F.FileSource.held c.args.files.now in
-    let traced = IsTraceOfText s held c.args.text.now in
+    let s = settings c.args.question.settings in let held = g.F.FileSource.held c.args.files.now in
+    let traced = IsTraceOfText s held c.args.question.text.now in
     passes_failed Ran ℕ traced traced held _ (λ bytes is. is) s.trace _ _ c.from_residual.ensures.1 c.in_err-ran.ensures.trace
 
 pub returns-clause-done : goal.returns-clause-done
 returns-clause-done g c =
-    let ran = c.in_ok-ran.ensures.ran in
-    let p = code_of c.in_ok-ran.ran.accepted.typed in
-    let arrays =
-    ap (map array) c.deref.ensures.value
-    ∙ ap (λ (q : _). map array q.arrays.items) c.code.ensures.field
-    ∙ ap (λ (t : Typed). map array t.code.arrays.items) c.typed.ensures.field in
-    shown Run (settings c.args.settings) (g.F.FileSource.held c.args.files.now) c.args.text.now _ _ c.show.result _ _
+    let s = settings c.args.question.settings in let held = g.F.FileSource.held c.args.files.now in
+    let text = c.args.question.text.now in let ran = c.in_ok-ran.ensures.ran in
+    let p = code_of c.in_ok-ran.ran.given.accepted.typed in
+    shown Run s held text _ _ c.show.result _ _
     (record {
-      code = p;
-      is_code = ran.is_code;
-      accepted = ran.accepted;
-      input = ran.input;
-      begins = ran.begins;
-      shows = outcome_shown c.args.settings.arrays p (outcome_of c.in_ok-ran.ran.outcome)
-          (outcome p ran.input (budget c.args.settings.budget)) (map array c.deref.result.now) ran.is_outcome arrays;
+      run = is_explored s held text p ran.accepted ran.input ran.given;
+      shows = outcome_shown s.arrays p (outcome_of c.in_ok-ran.ran.outcome)
+          (outcome p ran.input (budget c.args.question.settings.budget)) (map array c.deref.result.now) ran.is_outcome
+          (declared_by _ _ _ _ c.deref.ensures.value c.code.ensures.field c.typed.ensures.field);
     })
     c.show.ensures.text c.show.ensures.status c.show.ensures.failure
 
 pub returns-clause-trace : goal.returns-clause-trace
 returns-clause-trace g c =
-    let s = settings c.args.settings in let held = g.F.FileSource.held c.args.files.now in
-    let traced = IsTraceOfText s held c.args.text.now in
+    let s = settings c.args.question.settings in let held = g.F.FileSource.held c.args.files.now in
+    let traced = IsTraceOfText s held c.args.question.text.now in
     told_behind Ran ℕ traced traced held _ (λ bytes is. is) s.trace c.in_ok-ran.ran c.show.result c.in_ok-ran.ensures.trace
     c.show.ensures.failure

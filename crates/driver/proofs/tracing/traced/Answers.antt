@@ -14,7 +14,7 @@ use Rattle.driver.proofs.tracing.traced.Goals as goal
 pub returns-in-Ok-write_lines-clause-outcome : goal.returns-in-Ok-write_lines-clause-outcome
 returns-in-Ok-write_lines-clause-outcome g c =
     c.in-Ok.ensures.outcome
-    ∙ ap (λ (b : Budget). outcome (code_of c.args.accepted.now.typed) (lists_in c.args.input.now) (budget b))
+    ∙ ap (λ (b : Budget). outcome (code_of c.args.given.now.accepted.typed) (lists_in c.args.given.now.input) (budget b))
     c.run_settings-on.ensures.budget
 
 pub returns-in-Ok-write_lines-clause-trace : goal.returns-in-Ok-write_lines-clause-trace
@@ -25,5 +25,5 @@ returns-in-Ok-write_lines-clause-trace g c =
     c.in-Ok.ensures.job on.budget on.w0 (c.header_of.ensures.budget ∙ on.budget) (c.header_of.ensures.w0 ∙ on.w0)
     (c.header_of.ensures.workers ∙ on.workers) c.in-Ok.ensures.told
     (c.in-Ok.ensures.outcome
-    ∙ ap (λ (b : Budget). outcome (code_of c.args.accepted.now.typed) (lists_in c.args.input.now) (budget b)) on.budget)
+    ∙ ap (λ (b : Budget). outcome (code_of c.args.given.now.accepted.typed) (lists_in c.args.given.now.input) (budget b)) on.budget)
     (c.in-Ok-write_lines.ensures ∙ ap (λ (es : List Event). trace_text (header_in h) (map event_of es)) c.events.ensures)

@@ -8,5 +8,5 @@ use Rattle.driver.proofs.tracing.untraced.Goals as goal
 pub returns-in-Ok-clause-outcome : goal.returns-in-Ok-clause-outcome
 returns-in-Ok-clause-outcome g c =
     c.in-Ok.ensures.outcome
-    ∙ ap (λ (b : Budget). outcome (code_of c.args.accepted.now.typed) (lists_in c.args.input.now) (budget b))
+    ∙ ap (λ (b : Budget). outcome (code_of c.args.given.now.accepted.typed) (lists_in c.args.given.now.input) (budget b))
     c.run_settings.ensures.budget

@@ -1,24 +1,28 @@
-use Rattle.std.proofs.Common.{List, ap, ◌∙◌, map, refl}
-use Rattle.events.specs.Events.{event as event_of}
-use Rattle.events.specs.declared.event.Event.{Event}
-use Rattle.trace_text.specs.Table.{table_text}
+use Rattle.std.proofs.Common.{List, ℕ, refl, subst, sym}
+use Rattle.std.proofs.lemmas.Result.{IfOk-at_ok}
 use Rattle.command_line.specs.Requests.{settings}
-use Rattle.command_line.specs.declared.request.Command.TheVariants.{View}
 use Rattle.answers.proofs.Answering.{answered}
-use Rattle.viewing.specs.Views.{AnswersTrace, ExplainsTrace}
+use Rattle.viewing.specs.Views.{AnswersTrace, ExplainsTrace, TellsTrace, command_by}
+use Rattle.viewing.proofs.Viewing.{views_no_trace}
 use Rattle.viewing.proofs.tables.view.Goals as goal
+
+pub returns-in_err-trace-clause-done : goal.returns-in_err-trace-clause-done
+returns-in_err-trace-clause-done g c =
+    let s = settings c.args.question.settings in let held = g.F.FileSource.held c.args.files.now in
+    views_no_trace s held c.args.question.text.now (command_by c.args.look) _ _ _ c.from_residual.ensures.1
+    c.in_err-trace.ensures.why
 
 pub returns-clause-done : goal.returns-clause-done
 returns-clause-done g c =
-    let s = settings c.args.settings in let held = g.F.FileSource.held c.args.files.now in let text = c.args.text.now in
-    let trace = c.in_ok-trace.trace in
-    answered (AnswersTrace View s held text) (ExplainsTrace View s held text) _ _ c.answer.result c.as_str.result.now 0 tt
+    let s = settings c.args.question.settings in let held = g.F.FileSource.held c.args.files.now in
+    let text = c.args.question.text.now in let by = command_by c.args.look in let trace = c.in_ok-trace.trace in
+    answered (AnswersTrace by s held text) (ExplainsTrace by s held text) _ _ c.answer.result c.as_str.result.now 0 tt
     (record {
       header = trace.header;
       events = trace.events.items;
       trace = c.in_ok-trace.ensures.trace;
-      told_is = c.as_str.ensures.value ∙ c.in_ok-table.ensures.table
-          ∙ ap (λ (es : List Event). table_text (map event_of es)) c.deref.ensures.value;
+      tells = subst (λ (told : List ℕ). TellsTrace by trace.header trace.events.items told) (sym c.as_str.ensures.value)
+          (IfOk-at_ok _ c.in_ok-told.ensures.value c.shown.ensures);
       status_is = refl;
     })
     c.answer.ensures.text c.answer.ensures.status c.answer.ensures.failure

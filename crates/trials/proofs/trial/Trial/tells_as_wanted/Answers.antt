@@ -81,8 +81,11 @@ returns-clause-why g c =
     let text = c.args.text.now in
     let kept = c.in_ok-accepted.accepted.typed in
     let input = lists_of c.in_ok-input.input in
-    let run = is_explored s held text kept kept refl c.in_ok-accepted.ensures.spelled c.in_ok-accepted.accepted.no_clash input
-    (subst (λ (t2 : Typed). BeginsWith (input_file t) held (code_of t2).arrays input) c.typed.ensures.field c.in_ok-input.ensures.begins) in
+    let run = is_explored s held text (code_of kept) c.in_ok-accepted.accepted.no_clash input (record {
+      is_code = code_of_text text kept c.in_ok-accepted.ensures.spelled;
+      begins = subst (λ (t2 : Typed). BeginsWith (input_file t) held (code_of t2).arrays input) c.typed.ensures.field
+          c.in_ok-input.ensures.begins;
+    }) in
     IfErr-weaker c.tells.result _ (IsUncompared held t) (λ f told.
     without_answer text c.requires (no_run_explained s held text run f (same_tasks usual s refl f told))
     (other_failure f (no_run_other usual f told))) c.tells.ensures.why

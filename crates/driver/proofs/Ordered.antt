@@ -1,0 +1,52 @@
+-- From a program that is read to what was ordered.
+use Rattle.std.proofs.Common.{◌≡◌, ℕ, ◌≤◌, length, List, Option, Result, Err, sym, subst, false}
+use Rattle.command_line.specs.Requests.{Asked}
+use Rattle.intake.specs.Held.{Held, HasText, TellsNoProgram}
+use Rattle.intake.specs.declared.failure.Failure.{Failure}
+use Rattle.reading.specs.Orders.{Order}
+use Rattle.trials.specs.Folders.{Folders}
+use Rattle.driver.specs.Acts.{Reports}
+use Rattle.driver.specs.Orders.{ActsOn, ActsWith, DoesWith, ReadsAnd, TellsUnread, TestsAs, on_text, without_text}
+use Rattle.driver.specs.Trying.{TestsFolder}
+use Rattle.driver.specs.declared.doing.Doing.{Doing}
+
+-- what is done is the same
+pub does_so : (d e : Doing) → d ≡ e → (a : Asked) (text : List ℕ) (held later : Held) (old new : Option (List ℕ))
+    (r : Result ℕ Failure) → DoesWith e a text held later old new r → DoesWith d a text held later old new r
+does_so d e same a text held later old new r does =
+    subst (λ (x : Doing). DoesWith x a text held later old new r) (sym same) does
+
+pub unread_so : (d e : Doing) → d ≡ e → (file : List ℕ) (old new : Option (List ℕ)) (f : Failure)
+    → TellsUnread e file old new f → TellsUnread d file old new f
+unread_so d e same file old new f told = subst (λ (x : Doing). TellsUnread x file old new f) (sym same) told
+
+module _ (d : Doing) (a : Asked) (held : Held) (old new : Option (List ℕ)) where
+  -- files were read before, and are read behind it, and the result is the same
+  pub read_on_text : (mid later last : Held) → mid ≡ held → last ≡ later → (r s : Result ℕ Failure) → r ≡ s
+      → (text : List ℕ) → HasText held a.file text → length text ≤ 1048576 → DoesWith d a text mid later old new s
+      → ReadsAnd d a held last old new r
+  read_on_text mid later last before behind r s same text has short does =
+      subst (ReadsAnd d a held last old new) (sym same) (on_text text has short
+      (subst (λ (h : Held). DoesWith d a text held h old new s) (sym behind)
+      (subst (λ (h : Held). DoesWith d a text h later old new s) before does)))
+
+  pub read_without_text : (later : Held) (f : Failure) → later ≡ held → TellsNoProgram held a.file f
+      → TellsUnread d a.file old new f → ReadsAnd d a held later old new (Err f)
+  read_without_text later f keeps why told = without_text (record { why = why; told = told }) keeps
+
+-- ---- what was ordered
+
+module _ (held later : Held) (old new err_old err_new : Option (List ℕ)) (status : ℕ) where
+  pub acted : (d : Doing) (a : Asked) (r : Result ℕ Failure) → ReadsAnd d a held later old new r
+      → Reports a.telling.explain err_old err_new r status → ActsWith d a held later old new err_old err_new status
+  acted d a r does reports = record { result = r; does = does; reports = reports }
+
+module _ (named : Folders) (held later : Held) (old new err_old err_new : Option (List ℕ)) (status : ℕ) where
+  pub tested_as : (folder : List ℕ) (r : Result ℕ Failure) → TestsFolder named held later folder old new r
+      → Reports false err_old err_new r status → TestsAs folder named held later old new err_old err_new status
+  tested_as folder r does reports = record { result = r; does = does; reports = reports }
+
+  -- one order is another
+  pub ordered : (o p : Order) → o ≡ p → ActsOn o named held later old new err_old err_new status
+      → ActsOn p named held later old new err_old err_new status
+  ordered o p same acts = subst (λ (q : Order). ActsOn q named held later old new err_old err_new status) same acts

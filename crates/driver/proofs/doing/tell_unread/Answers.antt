@@ -1,0 +1,16 @@
+use Rattle.std.proofs.KnownBytes.{Keeps-refl}
+use Rattle.driver.specs.declared.doing.Doing.TheVariants.{Answering, Timing}
+use Rattle.driver.proofs.Ordered.{unread_so}
+use Rattle.driver.proofs.doing.tell_unread.Goals as goal
+
+pub returns-in-Answering : goal.returns-in-Answering
+returns-in-Answering g c =
+    unread_so c.args.doing Answering c.in-Answering.is c.args.file.now _ _ c.args.failure.now (Keeps-refl _)
+
+pub returns-in-Describing : goal.returns-in-Describing
+returns-in-Describing g c =
+    unread_so c.args.doing _ c.in-Describing.is c.args.file.now _ _ c.args.failure.now c.tell_refusal.ensures
+
+pub returns-in-Timing : goal.returns-in-Timing
+returns-in-Timing g c =
+    unread_so c.args.doing Timing c.in-Timing.is c.args.file.now _ _ c.args.failure.now (Keeps-refl _)

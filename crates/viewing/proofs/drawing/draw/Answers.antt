@@ -1,0 +1,45 @@
+use Rattle.std.proofs.Common.{refl}
+use Rattle.command_line.specs.Requests.{settings}
+use Rattle.answers.proofs.Answering.{answered}
+use Rattle.viewing.specs.Views.{AnswersTrace, ExplainsTrace, IsDrawn, command_of, picture_name}
+use Rattle.viewing.proofs.Viewing.{draws_form, form_tells, views_no_trace, views_unwritten}
+use Rattle.viewing.proofs.Written.{wrote, wrote_anyway}
+use Rattle.viewing.proofs.drawing.draw.Goals as goal
+
+pub returns-in_err-trace-clause-done : goal.returns-in_err-trace-clause-done
+returns-in_err-trace-clause-done g c =
+    let s = settings c.args.question.settings in let held = g.F.FileSource.held c.args.files.now in
+    views_no_trace s held c.args.question.text.now (command_of c.args.form) _ _ _ c.from_residual.ensures.1
+    c.in_err-trace.ensures.why
+
+pub returns-in_err-write_file-clause-done : goal.returns-in_err-write_file-clause-done
+returns-in_err-write_file-clause-done g c =
+    let s = settings c.args.question.settings in let held = g.F.FileSource.held c.args.files.now in
+    views_unwritten s held c.args.question.text.now (command_of c.args.form) (draws_form c.args.form) _ _
+    c.in_ok-trace.ensures.trace _ c.picture_name.ensures _ _ _ c.from_residual-in_err-write_file.ensures.1
+    c.in_err-write_file.ensures.why
+
+pub returns-clause-done : goal.returns-clause-done
+returns-clause-done g c =
+    let s = settings c.args.question.settings in let held = g.F.FileSource.held c.args.files.now in
+    let text = c.args.question.text.now in let by = command_of c.args.form in let trace = c.in_ok-trace.trace in
+    answered (AnswersTrace by s held text) (ExplainsTrace by s held text) _ _ c.answer.result _ 0 tt
+    (record {
+      header = trace.header;
+      events = trace.events.items;
+      trace = c.in_ok-trace.ensures.trace;
+      tells = form_tells c.args.form trace.header trace.events.items;
+      status_is = refl;
+    })
+    c.answer.ensures.text c.answer.ensures.status c.answer.ensures.failure
+
+pub returns-clause-picture : goal.returns-clause-picture
+returns-clause-picture g c =
+    let s = settings c.args.question.settings in let held = g.F.FileSource.held c.args.files.now in
+    let text = c.args.question.text.now in let trace = c.in_ok-trace.trace in
+    wrote_anyway (picture_name s) (IsDrawn s held text) held _ c.answer.result
+    (wrote _ (picture_name s) c.picture_name.ensures (IsDrawn s held text) held _ _ c.in_ok-trace.ensures.keeps
+    c.as_bytes.result.now
+    (record { header = trace.header; events = trace.events.items; trace = c.in_ok-trace.ensures.trace })
+    c.in_ok-write_file.ensures.written c.in_ok-write_file.ensures.others)
+    c.answer.ensures.failure
