@@ -5,7 +5,7 @@ use Rattle.types.specs.declared.code.Stmt.{Stmt}
 use Rattle.types.specs.Code.{Codes, Program}
 use Rattle.types.specs.Contents.{held_by}
 use Rattle.types.specs.Outcome.{start, outcome, outcome_by}
-use Rattle.types.specs.Run.{State, Block}
+use Rattle.types.specs.Run.{State, Block, keeping}
 use Rattle.types.specs.Translation.{codes, program, budget}
 use Rattle.serial_run.specs.declared.store.Store.{Store}
 use Rattle.serial_run.specs.declared.thread.Plan.{Plan}
@@ -19,7 +19,6 @@ use Rattle.cost.specs.declared.frame.Frame.TheVariants.{Rest}
 use Rattle.cost.specs.declared.account.Account.{Account as rAccount}
 use Rattle.cost.specs.Accounts.{Account, nothing_noted}
 use Rattle.cost.specs.Costs.{nothing_done}
-use Rattle.plain_code.specs.Means.{keeping}
 use Rattle.cost.specs.Laws.{totals, untallied}
 use Rattle.cost.specs.Resume.{Standing, doing, placed, resume, standing}
 use Rattle.cost.specs.Translation.{account}

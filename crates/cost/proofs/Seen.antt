@@ -1,9 +1,8 @@
 -- A run that keeps more beside its states is the run that keeps less.
 use Rattle.std.proofs.Common.{◌≡◌, ℕ, zero, suc, ◌+◌, [], refl, ap, ◌∙◌, inr}
 use Rattle.types.specs.Code.{Codes, Program}
-use Rattle.types.specs.Run.{State, Rules, Work, run}
+use Rattle.types.specs.Run.{State, Rules, Work, run, keeping}
 use Rattle.types.proofs.Views.{View, Never, surely, IsView, whole_view, within_follows}
-use Rattle.plain_code.specs.Means.{keeping}
 
 module _ {X Y : Type 0} (less : X → Y) where
   -- a state, with less of what is kept beside it

@@ -4,7 +4,6 @@ use Rattle.std.specs.Prelude.{ℕ, zero, suc, ◌+◌, length}
 use Rattle.types.specs.Code.{Codes, Program}
 use Rattle.types.specs.Meaning.{hushed, joined, child, after_body, after_finish}
 use Rattle.types.specs.Run.{State, Rules, Work, Block, stopped, run}
-use Rattle.plain_code.specs.Means.{bare, keeping}
 use Rattle.spawn_copies.specs.Copied.{copied_at}
 
 -- what is written in a book
@@ -23,7 +22,7 @@ pub record Book (X : Type 0) : Type 0 where
 module _ {X : Type 0} (book : Book X) where
   -- a parent goes on as it was, but with what its child wrote, told and has in the book
   abbrev pub after_booked : (before out : State X) → State X
-  after_booked before out = keeping (book.ends before.extra out.extra) (after_body (bare before) (bare out))
+  after_booked before out = record (after_body before out) { extra = book.ends before.extra out.extra }
 
   -- the rules of one thread, where `begin` runs an async's body
   abbrev pub booked_by : ((label : ℕ) → Codes → State X → State X) → Rules X

@@ -1,14 +1,13 @@
 -- What holds of tallies and accounts, whatever the program.
 use Rattle.std.specs.List.{sum}
 use Rattle.std.specs.Prelude.{◌+◌, ◌≡◌, ◌≤◌}
-use Rattle.types.specs.Run.{State}
-use Rattle.plain_code.specs.Means.{bare, keeping}
+use Rattle.types.specs.Run.{State, keeping}
 use Rattle.cost.specs.declared.tally.Tally.{Tally}
 use Rattle.cost.specs.Accounts.{Account}
 
 -- a state with nothing kept beside
 abbrev pub untallied : State Tally → State (Unit {0})
-untallied = bare
+untallied = keeping tt
 
 -- one with the tally alone
 abbrev pub totals : State Account → State Tally

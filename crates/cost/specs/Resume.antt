@@ -2,7 +2,7 @@
 use Rattle.std.specs.Prelude.{ℕ, List, [], ◌∷◌, ◌++◌, map, ℤ}
 use Rattle.types.specs.Code.{Code, Program}
 use Rattle.types.specs.Meaning.{after_async, after_finish}
-use Rattle.types.specs.Run.{Fault, State, Work, Block, Turn, go_on, act}
+use Rattle.types.specs.Run.{Fault, State, Work, Block, Turn, go_on, act, keeping}
 use Rattle.types.specs.Translation.{codes, truth, environment, fault}
 use Rattle.serial_run.specs.declared.store.Store.{Store}
 use Rattle.serial_run.specs.declared.thread.Thread.{Thread}
@@ -14,7 +14,6 @@ use Rattle.cost.specs.declared.frame.Owner.{Owner}
 use Rattle.cost.specs.declared.frame.Told.{Told}
 use Rattle.cost.specs.declared.account.Account.{Account as rAccount}
 use Rattle.cost.specs.Accounts.{Account, accounted, accounted_rules, ends_behind, leaves_behind}
-use Rattle.plain_code.specs.Means.{keeping}
 use Rattle.cost.specs.Translation.{account}
 
 -- a state, and how many asyncs may still stand inside one another

@@ -36,9 +36,6 @@ as_early_through x xs ys h go =
       label = let one : k.item.label ≤ h.item.label = k.label in let two : h.item.label ≤ x.label = h.label in omega arith;
     }
 
-pub none_first : AreFirsts (λ x. ⊥) []
-none_first = record { among = λ x m. elim m [ ]; first = λ x h. absurd h }
-
 -- firsts of the same accesses
 pub firsts_same : (those these : Access → Type 0) (xs : List Access) → ((x : Access) → those x → these x)
     → ((x : Access) → these x → those x) → AreFirsts those xs → AreFirsts these xs

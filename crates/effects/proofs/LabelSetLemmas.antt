@@ -1,6 +1,6 @@
 -- Bits of words, and labels of sets.
 use Rattle.std.proofs.Common.{◌≡◌, ◌≢◌, ◌⊎◌, inl, inr, ℕ, zero, suc, ◌+◌, ◌*◌, ◌/◌, ◌%◌, ◌^◌, ◌<◌, ◌≤◌, max, refl, sym, ◌∙◌, ap, subst, arith}
-use Rattle.std.proofs.Common.{eq-eqb, List, ◌++◌, length, take, take_all, replicate, below_more, true≢false}
+use Rattle.std.proofs.Common.{eq-eqb, List, ◌++◌, length, take, take_all, replicate, true≢false}
 use Rattle.std.proofs.lemmas.List.{get_or_past}
 use Rattle.std.proofs.lemmas.Bool.{eqb-true, eqb-false, ltb-true, ltb-false, cases_lt}
 use Rattle.std.proofs.lemmas.Nat.Bits.{bit_at-trailing_zeros, bit_at-zero, bit_at-lt, bit_at_or, bit_at-pow_same, bit_at-pow_other, shr_and_one}
@@ -197,10 +197,6 @@ no_label words k below above l h = no_label_case words k below above l h (nat_lt
 -- past the end of a list stand zeros
 pub zeros_behind : (xs : List ℕ) (i : ℕ) → length xs ≤ i → by_number 0 xs i ≡ 0
 zeros_behind xs i h = get_or_past xs i 0 h
-
--- one more word without a bit
-pub zeros_more : (words : ℕ → ℕ) (k : ℕ) → ((i : ℕ) → i < k → words i ≡ 0) → words k ≡ 0 → (i : ℕ) → i < k + 1 → words i ≡ 0
-zeros_more words k below here = below_more (λ i. words i ≡ 0) k below here
 
 -- nothing was new up to here, nor is here
 pub still_unchanged : (init now new : ℕ → ℕ) (k w : ℕ) (grown here : Bool) → new ≡ bind k (bit_or (now k) w) now

@@ -16,6 +16,7 @@ pub mod Members
 pub mod Missing
 pub mod NeedsListed
 pub mod NeedsOfAsyncs
+pub mod OneList
 pub mod OutlineLemmas
 pub mod OwnAccesses
 pub mod OwnAllowed

@@ -14,6 +14,7 @@ use Rattle.effects.specs.Statements.{Block, Stands, HasStatement, IsPartOf}
 use Rattle.effects.specs.Visits.{Visit, visits_in, visits_inside, in_async, in_finish}
 use Rattle.effects.specs.declared.visits.Standing.{Standing}
 use Rattle.effects.proofs.Members.{in_left, in_right, in_parts}
+use Rattle.effects.proofs.Statements.{size, size_in}
 
 pub first_or_next : {A : Type 0} {x y : A} {xs : List A} → Member x (y ∷ xs) → (x ≡ y) ⊎ Member x xs
 first_or_next first = inl refl
@@ -31,6 +32,14 @@ stands_through Stands.here k h = Stands.inside k h
 stands_through (Stands.inside j g) k h = Stands.inside j (stands_through g k h)
 stands_through (Stands.later g) k h = Stands.later (stands_through g k h)
 
+block_small : {s : Code} {b : Codes} → Block s b → size b ≤ size_in s
+block_small Block.if_body = omega arith
+block_small Block.if_other = omega arith
+block_small Block.while = omega arith
+block_small Block.split = omega arith
+block_small Block.async = omega arith
+block_small Block.finish = omega arith
+
 module _ (p : Program) where
   has_through : {b : Codes} {l m : ℕ} {s t : Code} → HasStatement p l s → Block s b → Stands b m t → HasStatement p m t
   has_through (HasStatement.in_procedure f g) k h = HasStatement.in_procedure f (stands_through g k h)
@@ -38,6 +47,17 @@ module _ (p : Program) where
 
   pub part_inside : (l : ℕ) (k s : Code) (b : Codes) → HasStatement p l k → k ≡ s → Block s b → IsPartOf p b
   part_inside l k s b h e blk = λ m t st. has_through (subst (HasStatement p l) e h) blk st
+
+  -- a block of a statement of the program: its statements are no more, and the program's
+  pub record IsInside (k : Code) (b : Codes) : Type 0 where
+    pub small : size b ≤ size_in k
+    pub part : IsPartOf p b
+
+  pub is_inside : (l : ℕ) (k s : Code) (b : Codes) → HasStatement p l k → k ≡ s → Block s b → IsInside k b
+  is_inside l k s b h e blk = record {
+    small = subst (λ (j : Code). size b ≤ size_in j) (sym e) (block_small blk);
+    part = part_inside l k s b h e blk;
+  }
 
   -- those of a list
   pub stands_at : (ss : List Stmt) (k : ℕ) (d : Stmt) → k < length ss
@@ -101,13 +121,12 @@ is_call p sound l k f es ss h e = by (subst (HasStatement p l) e h)
 -- ---- each label has one statement
 abbrev mutual
   listed_inside : Code → List (ℕ × Code)
-  listed_inside (Do s) = []
   listed_inside (If t b c) = listed b ++ listed c
   listed_inside (While t b) = listed b
   listed_inside (Split s e l r b) = listed b
-  listed_inside (Call f es ss) = []
   listed_inside (Async b) = listed b
   listed_inside (Finish b) = listed b
+  listed_inside _ = []
 
   listed : Codes → List (ℕ × Code)
   listed End = []
@@ -128,13 +147,12 @@ mutual
   unfolding keys_of
 
   keys_inside : (s : Code) → keys_of (listed_inside s) ≡ labels_inside s
-  keys_inside (Do s) = refl
   keys_inside (If t b c) = keys_joined (listed b) (listed c) ∙ ap (λ ks. ks ++ keys_of (listed c)) (keys_in b) ∙ ap (λ ks. labels_of b ++ ks) (keys_in c)
   keys_inside (While t b) = keys_in b
   keys_inside (Split s e l r b) = keys_in b
-  keys_inside (Call f es ss) = refl
   keys_inside (Async b) = keys_in b
   keys_inside (Finish b) = keys_in b
+  keys_inside _ = refl
 
   keys_in : (b : Codes) → keys_of (listed b) ≡ labels_of b
   keys_in End = refl

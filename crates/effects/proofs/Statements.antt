@@ -2,10 +2,9 @@
 use Rattle.std.proofs.Common.{◌≡◌, ℕ, zero, suc, ◌+◌, ◌-◌, ◌<◌, ◌≤◌, arith, List, [], ◌∷◌, drop, length, Vec, Global, sym, ap, ◌∙◌, add-one}
 use Rattle.std.proofs.Math.Seq.{drop-cons}
 use Rattle.std.specs.Prelude.{slice_index_or}
-use Rattle.sections.specs.declared.id.SectionId.{SectionId}
 use Rattle.types.specs.Code.{Code, Do, If, While, Split, Call, Async, Finish, Codes, End, Then}
 use Rattle.types.specs.Translation.{number, truth, code, codes}
-use Rattle.types.specs.declared.code.Number.{Number}
+use Rattle.types.specs.declared.code.Sides.{Sides}
 use Rattle.types.specs.declared.code.Truth.{Truth}
 use Rattle.types.specs.declared.code.Stmt.{Stmt}
 use Rattle.types.specs.declared.code.StmtKind.{StmtKind}
@@ -21,9 +20,10 @@ pub is_While : (k : StmtKind) (t : Truth) (v : Vec Stmt Global) (b : List Stmt) 
     → code k ≡ While (truth t) (codes b)
 is_While k t v b is e = ap code is ∙ code_While t v ∙ ap (λ b. While (truth t) (codes b)) (sym e)
 
-pub is_Split : (k : StmtKind) (s : SectionId) (n : Number) (l r : SectionId) (v : Vec Stmt Global) (b : List Stmt)
-    → k ≡ rSplit s n l r v → b ≡ v.items → code k ≡ Split s.number (number n) l.number r.number (codes b)
-is_Split k s n l r v b is e = ap code is ∙ code_Split s n l r v ∙ ap (λ b. Split s.number (number n) l.number r.number (codes b)) (sym e)
+pub is_Split : (k : StmtKind) (s : Sides) (v : Vec Stmt Global) (b : List Stmt) → k ≡ rSplit s v → b ≡ v.items
+    → code k ≡ Split s.section.number (number s.at) s.left.number s.right.number (codes b)
+is_Split k s v b is e =
+    ap code is ∙ code_Split s v ∙ ap (λ b. Split s.section.number (number s.at) s.left.number s.right.number (codes b)) (sym e)
 
 pub is_Async : (k : StmtKind) (v : Vec Stmt Global) (b : List Stmt) → k ≡ rAsync v → b ≡ v.items → code k ≡ Async (codes b)
 is_Async k v b is e = ap code is ∙ code_Async v ∙ ap (λ b. Async (codes b)) (sym e)

@@ -1,9 +1,9 @@
 -- The rows of the table for All and Pending, as a reader would write them.
-use Rattle.std.specs.Prelude.{ℕ, ◌≡◌, ◌⊎◌, Bool, true}
+use Rattle.std.specs.Prelude.{ℕ, ◌≡◌, ◌⊎◌, ◌↔◌, Bool, true}
 use Rattle.sections.specs.Member.{Member}
-use Rattle.types.specs.Code.{Code, Do, If, While, Split, Call, Async, Finish, Codes, Then, Program}
+use Rattle.types.specs.Code.{Code, Do, If, While, Split, Call, Async, Finish, Codes, End, Then, Program}
 use Rattle.types.specs.Run.{procedure_of}
-use Rattle.effects.specs.Effects.{past_split, past_call, Inner, Subject, All, Pending}
+use Rattle.effects.specs.Effects.{past_split, past_call, Inner, Subject, AllOf, All, PendingOf, Pending}
 
 module _ (p : Program) (subject : Subject) where
   -- one of these, in other names
@@ -54,3 +54,19 @@ module _ (p : Program) (subject : Subject) where
         → Inner p s b out → has b x ≡ true → has (Then l s rest) (subject.renamed out x) ≡ true
     pub async : (l : ℕ) (b rest : Codes) (x : subject.Item)
         → All p subject b x → has (Then l (Async b) rest) x ≡ true
+
+  -- All and Pending meet the rows, and every set that does has them
+  pub record IsLeastSolution : Type 0 where
+    pub all_of_statement : (l : ℕ) (s : Code) (x : subject.Item)
+        → AllOf p subject l s x ↔ (Member x (subject.own l s) ⊎ AllInside s x)
+    pub pending_of_statement : (s : Code) (x : subject.Item) → PendingOf p subject s x ↔ LeftBy s x
+    pub all_of_list : (l : ℕ) (s : Code) (rest : Codes) (x : subject.Item)
+        → All p subject (Then l s rest) x ↔ (AllOf p subject l s x ⊎ All p subject rest x)
+    pub pending_of_list : (l : ℕ) (s : Code) (rest : Codes) (x : subject.Item)
+        → Pending p subject (Then l s rest) x
+        ↔ (PendingOf p subject s x ⊎ Pending p subject rest x)
+    pub nothing : (x : subject.Item) → All p subject End x → ⊥
+    pub least : (has : Codes → subject.Item → Bool) → SolvesAll has
+        → (b : Codes) (x : subject.Item) → All p subject b x → has b x ≡ true
+    pub least_pending : (has : Codes → subject.Item → Bool) → SolvesPending has
+        → (b : Codes) (x : subject.Item) → Pending p subject b x → has b x ≡ true

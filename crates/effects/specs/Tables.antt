@@ -1,5 +1,5 @@
 -- All and Pending as lists, over tables of what each procedure's body has.
-use Rattle.std.specs.Prelude.{ℕ, zero, suc, List, [], ◌++◌, map}
+use Rattle.std.specs.Prelude.{ℕ, zero, suc, List, [], ◌++◌, map, ◌↔◌}
 use Rattle.sections.specs.Member.{Member}
 use Rattle.types.specs.Code.{Code, Do, If, While, Split, Call, Async, Finish, Codes, End, Then}
 use Rattle.types.specs.Code.{Program}
@@ -80,3 +80,16 @@ module _ (p : Program) (subject : Subject) where
   abbrev pub IsStablePending : (alls pendings : Table subject) → Type 0
   IsStablePending alls pendings = (f : ℕ) (x : subject.Item)
       → Member x (left_in subject alls pendings (procedure_of p f).body) → Member x (pendings f)
+
+  -- tables that list only what is derived, and to which one more round adds nothing, list all of it; and rounds
+  -- from nothing on list only what is derived
+  pub record StableIsLeast : Type 0 where
+    pub alls : (table : Table subject) → IsDerived table → IsStable table
+        → (b : Codes) (x : subject.Item) → Member x (all_in subject table b) ↔ All p subject b x
+    pub pendings : (alls pendings : Table subject) → IsDerived alls → IsStable alls
+        → IsDerivedPending pendings → IsStablePending alls pendings
+        → (b : Codes) (x : subject.Item)
+        → Member x (left_in subject alls pendings b) ↔ Pending p subject b x
+    pub rounds : (k : ℕ) → IsDerived (alls_after k)
+    pub pending_rounds : (alls : Table subject) → IsDerived alls
+        → (k : ℕ) → IsDerivedPending (pendings_after alls k)

@@ -19,15 +19,18 @@ visit v = record {
   code = code v.statement.now.kind;
 }
 
+-- where the inside of a statement stands: around it, unless it is the first that isn't open
+abbrev pub closed_by : (inside : Standing) → (around : Standing) → Standing
+closed_by inside Open = inside
+closed_by inside around = around
+
 -- where the body of an async stands
 abbrev pub in_async : Standing → Standing
-in_async Open = Begun
-in_async w = w
+in_async = closed_by Begun
 
 -- and that of a finish, which waits for what isn't pending anyway
 abbrev pub in_finish : Standing → Standing
-in_finish Open = Awaited
-in_finish w = w
+in_finish = closed_by Awaited
 
 abbrev mutual
   -- the statements inside a statement

@@ -54,16 +54,21 @@ impl Accesses {
         }
     }
 
-    /// Puts an access in.
-    pub fn insert(&mut self, alloc: Global, access: Access) -> Result<(), AllocError>
+    /// The statement with this label writes a section, or reads it.
+    pub fn insert(
+        &mut self,
+        alloc: Global,
+        section: SectionId,
+        write: bool,
+        label: Label,
+    ) -> Result<(), AllocError>
         ensures { OnOk result ((x : PlainAccess) → HasAccess self.new x
-            ↔ (HasAccess self.old x ⊎ (IsUseOf access.section.number access.write x
-            × (x.label ≡ access.label)))) }
+            ↔ (HasAccess self.old x ⊎ (IsUseOf section.number write x × (x.label ≡ label)))) }
     {
-        if access.write {
-            self.writes.insert(alloc, access.section, access.label)
+        if write {
+            self.writes.insert(alloc, section, label)
         } else {
-            self.reads.insert(alloc, access.section, access.label)
+            self.reads.insert(alloc, section, label)
         }
     }
 

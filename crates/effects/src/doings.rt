@@ -5,7 +5,7 @@ ghost use Rattle.sections.specs.Translation.{section as section_of};
 ghost use Rattle.types.specs.Run.{procedure_of};
 ghost use Rattle.types.specs.Translation.{code as plain_code, codes as codes_of};
 ghost use Rattle.types.specs.Translation.{program as program_of};
-ghost use Rattle.effects.specs.Effects.{accesses, All, AllOf, past_call};
+ghost use Rattle.effects.specs.Effects.{accesses, All, past_call};
 ghost use Rattle.effects.specs.Firsts.{AddsFirsts, kept_in};
 ghost use Rattle.effects.specs.Rows.{AllInside, Renamed};
 ghost use Rattle.effects.specs.Sound.{IsSound};
@@ -36,30 +36,12 @@ pub fn add_block(
         (kept_in into.old) (kept_in into.new)) }
 {
     for place in (0..block.len()).rev() {
-        add_statement(alloc, code, table, &block[place], into)?;
+        let statement = &block[place];
+        let own = own_accesses(alloc, statement.label, &statement.kind)?;
+        into.add_all(&own)?;
+        add_inside(alloc, code, table, statement, into)?;
     }
     Ok(())
-}
-
-/// Adds what a statement may do.
-#[cycle(doings)]
-fn add_statement(
-    alloc: Global,
-    code: &Program,
-    table: &[Summary],
-    statement: &Stmt,
-    into: &mut Firsts,
-) -> Result<(), AllocError>
-    requires sound { IsSound (program_of code.now) }
-    requires summaries { AreOfProcedures (program_of code.now) table.now }
-    requires there { HasStatement (program_of code.now) statement.now.label
-        (plain_code statement.now.kind) }
-    ensures { OnOk result (AddsFirsts (AllOf (program_of code.now) accesses statement.now.label
-        (plain_code statement.now.kind)) (kept_in into.old) (kept_in into.new)) }
-{
-    let own = own_accesses(alloc, statement.label, &statement.kind)?;
-    into.add_all(&own)?;
-    add_inside(alloc, code, table, statement, into)
 }
 
 /// Adds what the blocks and the call of a statement may do.
@@ -85,17 +67,13 @@ fn add_inside(
             add_block(alloc, code, table, body, into)?;
             add_block(alloc, code, table, other, into)
         }
-        StmtKind::While { body, .. } => add_block(alloc, code, table, body, into),
-        StmtKind::Split {
-            section,
-            left,
-            right,
-            body,
-            ..
-        } => {
+        StmtKind::While { body, .. } | StmtKind::Async { body } | StmtKind::Finish { body } => {
+            add_block(alloc, code, table, body, into)
+        }
+        StmtKind::Split { sides, body } => {
             let mut inside = Firsts::new(alloc);
             add_block(alloc, code, table, body, &mut inside)?;
-            let outside = inside.past_split(alloc, *section, *left, *right)?;
+            let outside = inside.past_split(alloc, sides.section, sides.left, sides.right)?;
             into.add_all(outside.items())
         }
         StmtKind::Call {
@@ -103,8 +81,6 @@ fn add_inside(
             sections,
             ..
         } => add_call(alloc, code, table, *procedure, sections, into),
-        StmtKind::Async { body } => add_block(alloc, code, table, body, into),
-        StmtKind::Finish { body } => add_block(alloc, code, table, body, into),
     }
 }
 

@@ -1,14 +1,14 @@
 //! Laws of the definitions, each the contract of a function that does nothing.
 
-ghost use Rattle.std.specs.Prelude.{◌≡◌, ◌⊎◌, ◌↔◌, ℕ, ℤ, List, [], ◌∷◌, map, length, Bool, true};
+ghost use Rattle.std.specs.Prelude.{◌≡◌, ◌⊎◌, ◌↔◌, ℕ, ℤ, List, [], ◌∷◌, map, length};
 ghost use Rattle.std.specs.Prelude.{false, Some};
 ghost use Rattle.sections.specs.Place.{Place, Window, sides_of};
 ghost use Rattle.sections.specs.Member.{Member};
 ghost use Rattle.sections.specs.Origins.{IsNumbered};
 ghost use Rattle.sections.specs.Overlap.{overlap};
 ghost use Rattle.sections.specs.Placed.{Apart};
-ghost use Rattle.types.specs.Code.{Number, Truth, Primitive, Code, Do, Split, Call, Codes, End};
-ghost use Rattle.types.specs.Code.{Then, Procedure, Program};
+ghost use Rattle.types.specs.Code.{Number, Truth, Primitive, Code, Do, Split, Call, Codes};
+ghost use Rattle.types.specs.Code.{Procedure, Program};
 ghost use Rattle.types.specs.Indexed.{indexed, indexed_truth};
 ghost use Rattle.types.specs.Value.{Environment, number, truth};
 ghost use Rattle.types.specs.Run.{State, Rules, Work, run, primitive, procedure_of, entry};
@@ -18,12 +18,12 @@ ghost use Rattle.types.specs.Outcome.{whole_arrays};
 ghost use Rattle.types.specs.Typed.{code_of};
 ghost use Rattle.effects.specs.Accesses.{Access, own_accesses, reads};
 ghost use Rattle.effects.specs.Effects.{accesses, labels, AllOf, All, PendingOf, Pending};
-ghost use Rattle.effects.specs.Rows.{AllInside, LeftBy, SolvesAll, SolvesPending};
+ghost use Rattle.effects.specs.Rows.{IsLeastSolution};
 ghost use Rattle.effects.specs.Footprint.{Touches, Overwrites, MayTouch, MayWrite, MayTouchOf};
 ghost use Rattle.effects.specs.Footprint.{MayWriteOf, MayStillTouch, MayStillWrite};
 ghost use Rattle.effects.specs.Footprint.{MayStillTouchOf, MayStillWriteOf};
-ghost use Rattle.effects.specs.Tables.{Table, all_in, left_in, alls_after, pendings_after};
-ghost use Rattle.effects.specs.Tables.{IsDerived, IsDerivedPending, IsStable, IsStablePending};
+ghost use Rattle.effects.specs.Tables.{Table, IsDerived, IsDerivedPending, IsStable, IsStablePending};
+ghost use Rattle.effects.specs.Tables.{StableIsLeast};
 ghost use Rattle.effects.specs.Rounds.{possible, summaries, pending_summaries, needs_of};
 ghost use Rattle.effects.specs.Needs.{Provides, needs_in};
 ghost use Rattle.effects.specs.Sound.{Allowed, SplitsWell, PassesWell, is_writable};
@@ -33,38 +33,11 @@ ghost use Rattle.effects.specs.Kept.{SameWindows, KeepsWindows, WorkFollows};
 
 use types::typed::Typed;
 
-/// Every well-typed program is sound: the typing rules and the resolution of names give it.
-pub fn typed_programs_are_sound(typed: &Typed)
-    ensures { IsSound (code_of typed.now) }
-{}
-
 /// All and Pending are solutions of the table's rows, and the least of them: of accesses, and of
 /// labels.
 pub fn effects_are_the_least_solution()
-    ensures all_of_statement { (p : Program) (l : ℕ) (s : Code) (x : Access)
-        → AllOf p accesses l s x ↔ (Member x (own_accesses l s) ⊎ AllInside p accesses s x) }
-    ensures pending_of_statement { (p : Program) (s : Code) (x : Access)
-        → PendingOf p accesses s x ↔ LeftBy p accesses s x }
-    ensures all_of_list { (p : Program) (l : ℕ) (s : Code) (rest : Codes) (x : Access)
-        → All p accesses (Then l s rest) x ↔ (AllOf p accesses l s x ⊎ All p accesses rest x) }
-    ensures pending_of_list { (p : Program) (l : ℕ) (s : Code) (rest : Codes) (x : Access)
-        → Pending p accesses (Then l s rest) x
-        ↔ (PendingOf p accesses s x ⊎ Pending p accesses rest x) }
-    ensures nothing { (p : Program) (x : Access) → All p accesses End x → ⊥ }
-    ensures least { (p : Program) (has : Codes → Access → Bool) → SolvesAll p accesses has
-        → (b : Codes) (x : Access) → All p accesses b x → has b x ≡ true }
-    ensures least_pending { (p : Program) (has : Codes → Access → Bool)
-        → SolvesPending p accesses has
-        → (b : Codes) (x : Access) → Pending p accesses b x → has b x ≡ true }
-    ensures labels_of_statement { (p : Program) (l : ℕ) (s : Code) (x : ℕ)
-        → AllOf p labels l s x ↔ (Member x (l ∷ []) ⊎ AllInside p labels s x) }
-    ensures pending_labels_of_statement { (p : Program) (s : Code) (x : ℕ)
-        → PendingOf p labels s x ↔ LeftBy p labels s x }
-    ensures least_labels { (p : Program) (has : Codes → ℕ → Bool) → SolvesAll p labels has
-        → (b : Codes) (x : ℕ) → All p labels b x → has b x ≡ true }
-    ensures least_pending_labels { (p : Program) (has : Codes → ℕ → Bool)
-        → SolvesPending p labels has
-        → (b : Codes) (x : ℕ) → Pending p labels b x → has b x ≡ true }
+    ensures accesses { (p : Program) → IsLeastSolution p accesses }
+    ensures labels { (p : Program) → IsLeastSolution p labels }
 {}
 
 /// What is left pending is among all that is done.
@@ -78,28 +51,8 @@ pub fn pending_is_among_all()
 /// Tables that list only what is derived, and to which one more round adds nothing, are the least
 /// solution; and rounds from nothing on list only what is derived.
 pub fn stable_tables_are_least()
-    ensures alls { (p : Program) (table : Table accesses)
-        → IsDerived p accesses table → IsStable p accesses table
-        → (b : Codes) (x : Access) → Member x (all_in accesses table b) ↔ All p accesses b x }
-    ensures pendings { (p : Program) (alls pendings : Table accesses)
-        → IsDerived p accesses alls → IsStable p accesses alls
-        → IsDerivedPending p accesses pendings → IsStablePending p accesses alls pendings
-        → (b : Codes) (x : Access)
-        → Member x (left_in accesses alls pendings b) ↔ Pending p accesses b x }
-    ensures rounds { (p : Program) (k : ℕ) → IsDerived p accesses (alls_after p accesses k) }
-    ensures pending_rounds { (p : Program) (alls : Table accesses) → IsDerived p accesses alls
-        → (k : ℕ) → IsDerivedPending p accesses (pendings_after p accesses alls k) }
-    ensures labels { (p : Program) (table : Table labels)
-        → IsDerived p labels table → IsStable p labels table
-        → (b : Codes) (x : ℕ) → Member x (all_in labels table b) ↔ All p labels b x }
-    ensures pending_labels { (p : Program) (alls pendings : Table labels)
-        → IsDerived p labels alls → IsStable p labels alls
-        → IsDerivedPending p labels pendings → IsStablePending p labels alls pendings
-        → (b : Codes) (x : ℕ)
-        → Member x (left_in labels alls pendings b) ↔ Pending p labels b x }
-    ensures label_rounds { (p : Program) (k : ℕ) → IsDerived p labels (alls_after p labels k) }
-    ensures pending_label_rounds { (p : Program) (alls : Table labels) → IsDerived p labels alls
-        → (k : ℕ) → IsDerivedPending p labels (pendings_after p labels alls k) }
+    ensures accesses { (p : Program) → StableIsLeast p accesses }
+    ensures labels { (p : Program) → StableIsLeast p labels }
 {}
 
 /// The rounds of a sound program come to stable tables, so that what its procedures may do, leave

@@ -22,7 +22,7 @@ pub fn own_accesses(alloc: Global, label: Label, kind: &StmtKind) -> Result<Vec<
         StmtKind::Do(primitive) => accesses_of(alloc, label, primitive),
         StmtKind::If { guard, .. } => guard_reads(alloc, label, guard),
         StmtKind::While { guard, .. } => guard_reads(alloc, label, guard),
-        StmtKind::Split { at, .. } => reads(alloc, label, at),
+        StmtKind::Split { sides, .. } => reads(alloc, label, &sides.at),
         StmtKind::Call { values, .. } => all_reads(alloc, label, values),
         StmtKind::Async { .. } => Ok(Vec::new(alloc)),
         StmtKind::Finish { .. } => Ok(Vec::new(alloc)),

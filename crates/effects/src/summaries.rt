@@ -6,7 +6,6 @@ ghost use Rattle.types.specs.Code.{Program};
 ghost use Rattle.effects.specs.Summarized.{AreSummaries};
 
 use crate::asyncs::needs_of_asyncs;
-use crate::laws::typed_programs_are_sound;
 use crate::needs::Needs;
 use crate::summary::Summary;
 use crate::tables::table;
@@ -14,6 +13,7 @@ use std::alloc::{AllocError, Global};
 use std::collections::BTreeMap;
 use types::code::Label;
 use types::ids::ProcedureId;
+use types::laws::typed_programs_are_sound;
 use types::typed::Typed;
 
 /// The summary of each procedure, and what each async needs. `summarize` makes them.

@@ -5,7 +5,6 @@ ghost use Rattle.effects.specs.LabelSets.{HasLabel, HasNew};
 ghost use Rattle.effects.specs.SummaryRows.{HasRow};
 ghost use Rattle.effects.specs.declared.summary.Row.{Row as TheRow};
 
-use crate::access::Access;
 use crate::accesses::Accesses;
 use crate::label_set::LabelSet;
 use sections::id::SectionId;
@@ -55,22 +54,8 @@ impl Summary {
             ↔ (HasRow self.old r l ⊎ ((r ≡ row) × (l ≡ label)))) }
     {
         match row {
-            Row::All { section, write } => {
-                let access = Access {
-                    label,
-                    section,
-                    write,
-                };
-                self.all.insert(alloc, access)
-            }
-            Row::Pending { section, write } => {
-                let access = Access {
-                    label,
-                    section,
-                    write,
-                };
-                self.pending.insert(alloc, access)
-            }
+            Row::All { section, write } => self.all.insert(alloc, section, write, label),
+            Row::Pending { section, write } => self.pending.insert(alloc, section, write, label),
             Row::Labels => self.labels.insert(label),
             Row::PendingLabels => self.pending_labels.insert(label),
         }

@@ -5,11 +5,9 @@ pub mod ListLemmas
 pub mod ListingLemmas
 pub mod MeetingLemmas
 pub mod MeetingsExact
-pub mod OneList
 pub mod Ordering
 pub mod PairsLemmas
 pub mod Programs
-pub mod RowsLemmas
 pub mod SpreadLemmas
 pub mod StatementParts
 pub mod Sums

@@ -2,7 +2,7 @@
 use Rattle.std.proofs.Common.{◌≡◌, ◌⊎◌, inl, inr, ℕ, zero, suc, ◌+◌, ◌<◌, List, [], ◌∷◌, ◌++◌, length, refl, sym, ap, subst, ◌∙◌, arith}
 use Rattle.std.proofs.lemmas.Bool.{cases_lt}
 use Rattle.std.proofs.lemmas.Option.{slice_get_past}
-use Rattle.std.specs.Prelude.{◌↔◌, Bool, true, false, Option, Some, None, slice_get}
+use Rattle.std.specs.Prelude.{◌↔◌, Bool, Option, Some, None, slice_get}
 use Rattle.sections.specs.Member.{Member, first, next}
 use Rattle.types.specs.Code.{Codes, Program}
 use Rattle.types.specs.Run.{procedure_of}
@@ -111,33 +111,6 @@ module _ (labels : LabelSet) (s : ℕ) (w : Bool) where
   uses_all xs n within same g = gains_same (λ x. IsUseOf s w x × HasAccess xs x) g
       (λ x k. (k.1.0, subst (HasAccess xs) (same_use s w x k.1.0) ((same x.label).0 k.1.1)))
       (λ x k. let h = (same x.label).1 (subst (HasAccess xs) (sym (same_use s w x k.0)) k.1) in (within x.label h, (k.0, h)))
-
-module _ (has : Access → Type 0) where
-  pub sections_none : Gains (λ (x : Access). ⊥) (λ x. (x.section < 0) × has x) (InList [])
-  sections_none = record {
-    keeps = λ x k. absurd k;
-    has = λ x k. let h : x.section < 0 = k.0 in absurd (omega arith);
-    only = λ x k. elim k [ ];
-  }
-
-  -- what is read of a section, and what is written
-  pub sections_next : {f g h k : Access → Type 0} (n : ℕ) → Gains f (λ x. (x.section < n) × has x) g
-      → Gains g (λ x. IsUseOf n false x × has x) h → Gains h (λ x. IsUseOf n true x × has x) k
-      → Gains f (λ x. (x.section < n + 1) × has x) k
-  sections_next n g a b = gains_next (λ x. x.section) n has g
-      (gains_joined (λ x. (x.section ≡ n) × has x) a b
-      (λ x k. elim k [ inl c ↦ (c.0.0, c.1) | inr c ↦ (c.0.0, c.1) ])
-      (λ x k. by_kind x x.write refl k))
-    where
-      by_kind : (x : Access) (w : Bool) → x.write ≡ w → (x.section ≡ n) × has x
-          → (IsUseOf n false x × has x) ⊎ (IsUseOf n true x × has x)
-      by_kind x true e k = inr ((k.0, e), k.1)
-      by_kind x false e k = inl ((k.0, e), k.1)
-
-  pub sections_all : (xs : List rAccess) (n : ℕ) → ((x : Access) → has x → x.section < n)
-      → Gains (λ (x : Access). ⊥) (λ x. (x.section < n) × has x) (InList xs) → (x : Access) → InList xs x ↔ has x
-  sections_all xs n within g x =
-      (λ h. elim (g.only x h) [ inl o ↦ absurd o | inr k ↦ k.1 ], λ h. g.has x (within x h, h))
 
 -- one more element of a list
 get_pushed : {A : Type 0} (xs : List A) (y : A) (f : ℕ) → f < length xs → slice_get (xs ++ y ∷ []) f ≡ slice_get xs f

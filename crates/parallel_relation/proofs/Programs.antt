@@ -7,7 +7,7 @@ use Rattle.sections.specs.Origins.{Root, Left, Right}
 use Rattle.types.specs.declared.code.Operator.TheVariants.{Plus}
 use Rattle.types.specs.Code.{Scalar, Element, Chain, Link, Done, Compare, Assign, Store, Print, Do, While, Split}
 use Rattle.types.specs.Code.{Call, Async, Finish, End, Procedure, Program}
-use Rattle.types.proofs.Programs.{◌⨾◌, lit, ints, main_of as program_of}
+use Rattle.types.proofs.Programs.{◌⨾◌, lit, ints, main_of as program_of, over_ints}
 
 -- async { a[0] = 7; } b[0] = 8; print a[0];
 abbrev pub unfinished : Program
@@ -44,15 +44,7 @@ split_in_loop = program_of (ints 115 8 ∷ []) 1 (Root ∷ Left 0 ∷ Right 0 �
 
 -- proc g(mut s: int) { async { s[0] = 1; } } main { finish { g(a); a[0] = 2; } }
 abbrev pub spawner : Procedure
-spawner = record {
-  name = 103 ∷ [];
-  parameters = record { may_write = true; element = Int } ∷ [];
-  scalars = 0;
-  slots = 0;
-  sections = Root ∷ [];
-  section_names = (115 ∷ []) ∷ [];
-  body = (1, Async ((2, Do (Store 0 (lit 0) (lit 1))) ⨾ End)) ⨾ End;
-}
+spawner = over_ints 103 0 ((1, Async ((2, Do (Store 0 (lit 0) (lit 1))) ⨾ End)) ⨾ End)
 
 abbrev pub call_then_store : Program
 call_then_store = record {

@@ -1,18 +1,15 @@
 -- Pairs that are added number by number.
-use Rattle.std.proofs.Common.{◌≡◌, ◌⊎◌, inl, inr, ℕ, ◌+◌, ◌<◌, ◌≤◌, List, length, ap, subst, arith}
+use Rattle.std.proofs.Common.{◌≡◌, ◌⊎◌, inl, inr, ℕ, ◌+◌, ◌<◌, ◌≤◌, length, ap, subst, arith}
 use Rattle.std.proofs.lemmas.Bool.{cases_lt}
 use Rattle.std.proofs.lemmas.List.{get_or_past}
-use Rattle.std.proofs.lemmas.Option.{slice_get_past}
-use Rattle.std.specs.Prelude.{◌↔◌, IsSomeAnd}
+use Rattle.std.specs.Prelude.{◌↔◌}
 use Rattle.types.specs.Code.{End, Procedure, Program}
 use Rattle.types.specs.Run.{procedure_of, no_procedure}
 use Rattle.effects.specs.Effects.{labels, All, Pending}
-use Rattle.effects.specs.LabelSets.{HasLabel}
-use Rattle.effects.specs.declared.label_set.LabelSet.{LabelSet}
 use Rattle.effects.specs.Summarized.{body_of}
 use Rattle.parallel_relation.specs.Around.{Adds, each}
 use Rattle.parallel_relation.specs.Found.{FoundMeets}
-use Rattle.parallel_relation.specs.Rows.{HasIn, HasAt}
+use Rattle.parallel_relation.specs.Rows.{HasAt}
 use Rattle.parallel_relation.specs.Spread.{Turns}
 use Rattle.parallel_relation.specs.declared.found.Found.{Found}
 use Rattle.parallel_relation.proofs.LabelsLemmas.{callee_body}
@@ -27,15 +24,6 @@ pub adds_next : {f g h : ℕ → ℕ → Type 0} (n : ℕ) (m : ℕ → ℕ → 
 adds_next n m g h = adds_joined (λ x y. (x < n + 1) × m x y) g h
     (λ x y k. elim k [ inl a ↦ (let l : x < n = a.0 in omega arith, a.1) | inr b ↦ (let e : x ≡ n = b.0 in omega arith, b.1) ])
     (λ x y k. elim (below_next x n k.0) [ inl a ↦ inl (a, k.1) | inr b ↦ inr (b, k.1) ])
-
--- at first there are none
-pub adds_none_below : (f m : ℕ → ℕ → Type 0) → Adds f (λ x y. (x < 0) × m x y) f
-adds_none_below f m = adds_nothing f (λ x y. (x < 0) × m x y) (λ x y k. let h : x < 0 = k.0 in omega arith)
-
--- and in the end all
-pub adds_all_below : {f g : ℕ → ℕ → Type 0} (n : ℕ) (these those : ℕ → Type 0) → ((x : ℕ) → these x → x < n)
-    → Adds f (λ x y. (x < n) × each these those x y) g → Adds f (each these those) g
-adds_all_below n these those below h = adds_same (each these those) h (λ x y k. k.1) (λ x y k. (below x k.0, k))
 
 -- what procedures of smaller numbers meet
 pub data CalledBelow (p : Program) (calls ends : ℕ → ℕ → Type 0) (n : ℕ) (x y : ℕ) : Type 0 where
@@ -144,30 +132,3 @@ module _ (row : ℕ) where
   turned_all {f} h = adds_same (λ x y. (y ≡ row) × Turns f x y) h
       (λ x y k. (k.1.0, (let l : x < row = k.0 in let e : y ≡ row = k.1.0 in omega arith, k.1.1)))
       (λ x y k. (let l : x < y = k.1.0 in let e : y ≡ row = k.0 in omega arith, (k.0, k.1.1)))
-
--- so are all rows, one by one
-pub turns_next : {f g h : ℕ → ℕ → Type 0} (n : ℕ) → Adds f (λ x y. (y < n) × Turns f x y) g
-    → Adds g (λ x y. (y ≡ n) × Turns g x y) h → Adds f (λ x y. (y < n + 1) × Turns f x y) h
-turns_next {f} {g} {h} n a b = adds_joined (λ x y. (y < n + 1) × Turns f x y) a b
-    (λ x y k. elim k [
-      | inl m ↦ (let l : y < n = m.0 in omega arith, m.1)
-      | inr m ↦ (let e : y ≡ n = m.0 in omega arith, (m.1.0, before x y m.0 m.1.0 m.1.1))
-    ])
-    (λ x y k. elim (below_next y n k.0) [ inl l ↦ inl (l, k.1) | inr e ↦ inr (e, (k.1.0, a.keeps y x k.1.1)) ])
-  where
-    before : (x y : ℕ) → y ≡ n → x < y → g y x → f y x
-    before x y e l k = elim (a.only y x k) [ inl o ↦ o | inr m ↦ absurd (let j : y < x = m.1.0 in omega arith) ]
-
-pub no_turns : (f : ℕ → ℕ → Type 0) → Adds f (λ x y. (y < 0) × Turns f x y) f
-no_turns f = adds_nothing f (λ x y. (y < 0) × Turns f x y) (λ x y k. let h : y < 0 = k.0 in omega arith)
-
-pub row_within : (rows : List LabelSet) (i y : ℕ) → HasIn rows i y → i < length rows
-row_within rows i y h = elim (cases_lt i (length rows)) [
-  | inl l ↦ l
-  | inr past ↦ absurd (subst (λ o. IsSomeAnd o (λ (r : LabelSet). HasLabel r y)) (slice_get_past rows i past) h)
-]
-
-pub all_turns : (rows : List LabelSet) (n : ℕ) (g : ℕ → ℕ → Type 0) → length rows ≤ n
-    → Adds (HasIn rows) (λ x y. (y < n) × Turns (HasIn rows) x y) g → Adds (HasIn rows) (Turns (HasIn rows)) g
-all_turns rows n g past h = adds_same (Turns (HasIn rows)) h (λ x y k. k.1)
-    (λ x y k. (let l = row_within rows y x k.1 in omega arith, k))

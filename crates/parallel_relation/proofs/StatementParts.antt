@@ -12,43 +12,44 @@ only_one l x first = refl
 only_one l x (next h) = elim h [ ]
 
 module _ (p : Program) where
+  -- what the blocks of a statement have, and the procedure of its call
+  abbrev pub Within : (Codes → ℕ → Type 0) → Code → ℕ → Type 0
+  Within has (Do s) x = ⊥
+  Within has (If t b c) x = has b x ⊎ has c x
+  Within has (While t b) x = has b x
+  Within has (Split s e l r b) x = has b x
+  Within has (Call f es ss) x = has (procedure_of p f).body x
+  Within has (Async b) x = has b x
+  Within has (Finish b) x = has b x
+
   -- the labels inside a statement, and in its call
   abbrev pub Done : Code → ℕ → Type 0
-  Done (Do s) x = ⊥
-  Done (If t b c) x = All p labels b x ⊎ All p labels c x
-  Done (While t b) x = All p labels b x
-  Done (Split s e l r b) x = All p labels b x
-  Done (Call f es ss) x = All p labels (procedure_of p f).body x
-  Done (Async b) x = All p labels b x
-  Done (Finish b) x = All p labels b x
+  Done s x = Within (All p labels) s x
 
   -- those that it leaves pending
   abbrev pub Left : Code → ℕ → Type 0
-  Left (Do s) x = ⊥
-  Left (If t b c) x = Pending p labels b x ⊎ Pending p labels c x
-  Left (While t b) x = Pending p labels b x
-  Left (Split s e l r b) x = Pending p labels b x
-  Left (Call f es ss) x = Pending p labels (procedure_of p f).body x
   Left (Async b) x = All p labels b x
   Left (Finish b) x = ⊥
+  Left s x = Within (Pending p labels) s x
 
-  done_inner : {s : Code} {b : Codes} {out : ℕ → ℕ} → Inner p s b out → (x y : ℕ) → All p labels b x → y ≡ x → Done s y
-  done_inner (Inner.if_body {b = b}) x y h e = inl (subst (All p labels b) (sym e) h)
-  done_inner (Inner.if_other {c = c}) x y h e = inr (subst (All p labels c) (sym e) h)
-  done_inner (Inner.while {b = b}) x y h e = subst (All p labels b) (sym e) h
-  done_inner (Inner.split {b = b}) x y h e = subst (All p labels b) (sym e) h
-  done_inner (Inner.call {f = f}) x y h e = subst (All p labels (procedure_of p f).body) (sym e) h
+  within_inner : (has : Codes → ℕ → Type 0) {s : Code} {b : Codes} {out : ℕ → ℕ} → Inner p s b out → (x y : ℕ) → has b x → y ≡ x
+      → Within has s y
+  within_inner has (Inner.if_body {b = b}) x y h e = inl (subst (has b) (sym e) h)
+  within_inner has (Inner.if_other {c = c}) x y h e = inr (subst (has c) (sym e) h)
+  within_inner has (Inner.while {b = b}) x y h e = subst (has b) (sym e) h
+  within_inner has (Inner.split {b = b}) x y h e = subst (has b) (sym e) h
+  within_inner has (Inner.call {f = f}) x y h e = subst (has (procedure_of p f).body) (sym e) h
 
-  left_inner : {s : Code} {b : Codes} {out : ℕ → ℕ} → Inner p s b out → (x y : ℕ) → Pending p labels b x → y ≡ x → Left s y
-  left_inner (Inner.if_body {b = b}) x y h e = inl (subst (Pending p labels b) (sym e) h)
-  left_inner (Inner.if_other {c = c}) x y h e = inr (subst (Pending p labels c) (sym e) h)
-  left_inner (Inner.while {b = b}) x y h e = subst (Pending p labels b) (sym e) h
-  left_inner (Inner.split {b = b}) x y h e = subst (Pending p labels b) (sym e) h
-  left_inner (Inner.call {f = f}) x y h e = subst (Pending p labels (procedure_of p f).body) (sym e) h
+  left_within : {s : Code} {b : Codes} {out : ℕ → ℕ} → Inner p s b out → (x : ℕ) → Within (Pending p labels) s x → Left s x
+  left_within Inner.if_body x h = h
+  left_within Inner.if_other x h = h
+  left_within Inner.while x h = h
+  left_within Inner.split x h = h
+  left_within Inner.call x h = h
 
   pub done_of : {l : ℕ} {s : Code} {x : ℕ} → AllOf p labels l s x → (x ≡ l) ⊎ Done s x
   done_of (AllOf.own_access {l = l} {x = x} m) = inl (only_one l x m)
-  done_of (AllOf.inner {x = x} {y = y} i h e) = inr (done_inner i x y h e)
+  done_of (AllOf.inner {x = x} {y = y} i h e) = inr (within_inner (All p labels) i x y h e)
   done_of (AllOf.async h) = inr h
   done_of (AllOf.finish h) = inr h
 
@@ -66,7 +67,7 @@ module _ (p : Program) where
   of_done l (Finish b) x h = AllOf.finish h
 
   pub left_of : {s : Code} {x : ℕ} → PendingOf p labels s x → Left s x
-  left_of (PendingOf.inner {x = x} {y = y} i h e) = left_inner i x y h e
+  left_of (PendingOf.inner {x = x} {y = y} i h e) = left_within i y (within_inner (Pending p labels) i x y h e)
   left_of (PendingOf.async h) = h
 
   pub of_left : (s : Code) (x : ℕ) → Left s x → PendingOf p labels s x

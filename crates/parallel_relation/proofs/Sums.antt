@@ -1,22 +1,15 @@
 -- Sets and pairs that are added up.
-use Rattle.std.proofs.Common.{◌⊎◌, inl, inr, ℕ, Result, Ok, Err, OnOk, IfOk}
+use Rattle.std.proofs.Common.{◌⊎◌, inl, inr, ℕ, Result, Ok, Err, OnOk}
 use Rattle.std.specs.Prelude.{◌↔◌}
-use Rattle.parallel_relation.specs.Around.{Adds, Gains, none}
+use Rattle.parallel_relation.specs.Around.{Adds, Gains}
 
 -- what follows from what holds of an Ok
 pub on_ok : {T E : Type 0} {P Q : Type 0} (r : Result T E) → (P → Q) → OnOk r P → OnOk r Q
 on_ok (Ok x) f h = f h
 on_ok (Err e) f h = h
 
-pub if_ok : {T E : Type 0} {P Q : T → Type 0} (r : Result T E) → ((x : T) → P x → Q x) → IfOk r P → IfOk r Q
-if_ok (Ok x) f h = f x h
-if_ok (Err e) f h = h
-
 pub gains_union : {A : Type 0} (before more after : A → Type 0) → ((x : A) → after x ↔ (before x ⊎ more x)) → Gains before more after
 gains_union before more after h = record { keeps = λ x k. (h x).1 (inl k); has = λ x k. (h x).1 (inr k); only = λ x k. (h x).0 k }
-
-pub gains_copy : (those after : ℕ → Type 0) → ((x : ℕ) → after x ↔ those x) → Gains none those after
-gains_copy those after h = record { keeps = λ x k. absurd k; has = λ x k. (h x).1 k; only = λ x k. inr ((h x).0 k) }
 
 -- some and then some more, where both together are known
 pub gains_joined : {A : Type 0} {a b c d e : A → Type 0} (m : A → Type 0) → Gains a b c → Gains c d e

@@ -1,8 +1,12 @@
 -- The pairs that may run together as lists, over tables of what each procedure's body has.
-use Rattle.std.specs.Prelude.{ℕ, List, [], ◌∷◌, ◌++◌, map, Bool, true, if◌then◌else◌}
+use Rattle.std.specs.Prelude.{ℕ, List, [], ◌∷◌, ◌++◌, map, Bool, true, if◌then◌else◌, ◌↔◌}
+use Rattle.sections.specs.Member.{Member}
 use Rattle.types.specs.Code.{Code, Do, If, While, Split, Call, Async, Finish, Codes, End, Then}
+use Rattle.types.specs.Code.{Program}
 use Rattle.effects.specs.Effects.{Subject}
-use Rattle.effects.specs.Tables.{Table, all_of, all_in, left_by}
+use Rattle.effects.specs.Tables.{Table, all_of, all_in, left_by, IsDerived, IsDerivedPending}
+use Rattle.effects.specs.Tables.{IsStable, IsStablePending}
+use Rattle.parallel_relation.specs.Together.{Together}
 
 -- each of the first with each of the second
 abbrev pub crossed : {A : Type 0} → List A → List A → List (A × A)
@@ -44,3 +48,11 @@ module _ (subject : Subject) (alls pendings : Table subject) where
   -- the pairs of a list of statements
   abbrev pub met_in : Codes → List (subject.Item × subject.Item)
   met_in = added_in (λ l. true)
+
+-- over tables that are the least solution, the listed pairs are those that may run together
+abbrev pub ListsAreExact : Program → Subject → Type 0
+ListsAreExact p subject = (alls pendings : Table subject)
+    → IsDerived p subject alls → IsStable p subject alls
+    → IsDerivedPending p subject pendings → IsStablePending p subject alls pendings
+    → (b : Codes) (x y : subject.Item)
+    → Member (x, y) (met_in subject alls pendings b) ↔ Together p subject b x y

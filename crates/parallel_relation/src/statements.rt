@@ -70,16 +70,10 @@ fn add_inside(
         StmtKind::While { body, .. } | StmtKind::Async { body } | StmtKind::Finish { body } => {
             add_block(alloc, lists, body, into)
         }
-        StmtKind::Split {
-            section,
-            left,
-            right,
-            body,
-            ..
-        } => {
+        StmtKind::Split { sides, body } => {
             let mut inside = Vec::new(alloc);
             add_block(alloc, lists, body, &mut inside)?;
-            add_around(&inside, *section, *left, *right, into)
+            add_around(&inside, sides.section, sides.left, sides.right, into)
         }
         StmtKind::Call {
             procedure,
@@ -127,16 +121,10 @@ pub fn add_left_by(
             add_left(alloc, lists, other, into)
         }
         StmtKind::While { body, .. } => add_left(alloc, lists, body, into),
-        StmtKind::Split {
-            section,
-            left,
-            right,
-            body,
-            ..
-        } => {
+        StmtKind::Split { sides, body } => {
             let mut inside = Vec::new(alloc);
             add_left(alloc, lists, body, &mut inside)?;
-            add_around(&inside, *section, *left, *right, into)
+            add_around(&inside, sides.section, sides.left, sides.right, into)
         }
         StmtKind::Call {
             procedure,

@@ -1,9 +1,9 @@
 -- Rounds that mark procedures which aren't calm.
-use Rattle.std.proofs.Common.{◌≡◌, ℕ, zero, suc, ◌+◌, ◌<◌, ◌≤◌, List, [], ◌∷◌, length, map, replicate, refl, sym, ap, ◌∙◌, subst, arith, le_refl}
-use Rattle.std.proofs.lemmas.Bool.{false≢true, true≢false, eqb-false, eqb-true, ltb-false, ltb-true}
-use Rattle.std.proofs.lemmas.List.{length-set, get_or-map, get_or_past}
+use Rattle.std.proofs.Common.{◌≡◌, ℕ, zero, suc, ◌+◌, ◌<◌, ◌≤◌, List, [], ◌∷◌, length, map, refl, sym, ap, ◌∙◌, subst, arith}
+use Rattle.std.proofs.lemmas.Bool.{false≢true, eqb-false, eqb-true}
+use Rattle.std.proofs.lemmas.List.{length-set, get_or-map, get_or-set_other}
 use Rattle.std.specs.Bool.{OnFalse, OnTrue}
-use Rattle.std.specs.Prelude.{Bool, true, false, nat_eq, nat_lt, slice_index_or, slice_set}
+use Rattle.std.specs.Prelude.{Bool, true, false, nat_eq, slice_index_or, slice_set}
 use Rattle.types.specs.Code.{Program}
 use Rattle.types.specs.Run.{no_procedure, procedure_of}
 use Rattle.types.specs.Translation.{codes, procedure}
@@ -21,14 +21,6 @@ marked_fewer (false ∷ bs) zero lt is = absurd (false≢true is)
 marked_fewer (true ∷ bs) (suc k) lt is = let h = marked_fewer bs k (omega (arith, lt)) is in omega (arith, h)
 marked_fewer (false ∷ bs) (suc k) lt is = marked_fewer bs k (omega (arith, lt)) is
 
--- what is told elsewhere stays
-mark_elsewhere : (calm : List Bool) (k f : ℕ) → (k ≡ f → ⊥) → calm_at (slice_set calm k false) f ≡ calm_at calm f
-mark_elsewhere [] k f ne = refl
-mark_elsewhere (b ∷ bs) zero zero ne = absurd (ne refl)
-mark_elsewhere (b ∷ bs) zero (suc f) ne = refl
-mark_elsewhere (b ∷ bs) (suc k) zero ne = refl
-mark_elsewhere (b ∷ bs) (suc k) (suc f) ne = mark_elsewhere bs k f (λ e. ne (ap suc e))
-
 -- a procedure that is there and calm
 pub record IsThere (calm : List Bool) (k : ℕ) : Type 0 where
   pub below : k < length calm
@@ -40,15 +32,6 @@ calm_there (b ∷ bs) zero is = record { below = omega arith; told = is }
 calm_there (b ∷ bs) (suc k) is =
     let h = calm_there bs k is in
     record { below = let lt = h.below in omega (arith, lt); told = h.told }
-
--- at first none is marked
-all_calm : (n f : ℕ) → calm_at (replicate n true) f ≡ true
-all_calm zero f = refl
-all_calm (suc n) zero = refl
-all_calm (suc n) (suc f) = all_calm n f
-
-pub none_marked : (p : Program) (n : ℕ) → AreMarked p (replicate n true)
-none_marked p n f is = absurd (true≢false (sym (all_calm n f) ∙ is))
 
 -- the procedures from one on were looked at, and what is calm among them is plain
 abbrev AreLooked : Program → List Bool → (from : ℕ) → Type 0
@@ -63,47 +46,6 @@ pub record Rounded (p : Program) (before calm : List Bool) (left : ℕ) (found :
   pub not_more : calm_count calm ≤ calm_count before
   pub fewer : OnTrue found (calm_count calm < calm_count before)
   pub looked : OnFalse found (AreLooked p calm left)
-
--- a procedure that isn't there does nothing
-past_plain : (p : Program) (calm : List Bool) (f : ℕ) → length p.procedures ≤ f
-    → are_plain_by calm (procedure_of p f).body ≡ true
-past_plain p calm f le =
-    ap (λ g. are_plain_by calm g.body) (get_or_past p.procedures f no_procedure le)
-
-pub none_looked : (p : Program) (calm : List Bool) (left : ℕ) → left ≡ length p.procedures → AreMarked p calm
-    → Rounded p calm calm left false
-none_looked p calm left e marked = record {
-  within = omega (arith, e);
-  same = refl;
-  marked = marked;
-  not_more = le_refl (calm_count calm);
-  fewer = tt;
-  looked = λ f le is. past_plain p calm f (omega (arith, e, le));
-}
-
--- one more was looked at
-pub looked_one : (p : Program) (before calm : List Bool) (left k : ℕ) (found : Bool) → k + 1 ≡ left → Rounded p before calm left found
-    → (calm_at calm k ≡ true → are_plain_by calm (procedure_of p k).body ≡ true) → Rounded p before calm k found
-looked_one p before calm left k found e so here = record {
-  within = let h = so.within in omega (arith, e, h);
-  same = so.same;
-  marked = so.marked;
-  not_more = so.not_more;
-  fewer = so.fewer;
-  looked = by found so.looked;
-}
-  where
-    at : (f : ℕ) (b : Bool) → nat_lt k f ≡ b → AreLooked p calm left → k ≤ f → calm_at calm f ≡ true
-        → are_plain_by calm (procedure_of p f).body ≡ true
-    at f true later more le is = let h = ltb-true k f later in more f (omega (arith, e, h)) is
-    at f false later more le is =
-        let h = ltb-false k f later in
-        let this : k ≡ f = omega (arith, h, le) in
-        subst (λ n. are_plain_by calm (procedure_of p n).body ≡ true) this (here (subst (λ n. calm_at calm n ≡ true) (sym this) is))
-
-    by : (b : Bool) → OnFalse b (AreLooked p calm left) → OnFalse b (AreLooked p calm k)
-    by true h = tt
-    by false h = λ f le is. at f (nat_lt k f) refl h le is
 
 -- or was marked
 pub marked_one : (p : Program) (before calm : List Bool) (left k : ℕ) (found : Bool) → k + 1 ≡ left → Rounded p before calm left found
@@ -124,7 +66,7 @@ marked_one p before calm left k found e so is not =
     by : (f : ℕ) (b : Bool) → nat_eq k f ≡ b → Reaches p (procedure_of p k).body → calm_at (slice_set calm k false) f ≡ false
         → Reaches p (procedure_of p f).body
     by f true same reaches told = subst (λ n. Reaches p (procedure_of p n).body) (eqb-true k f same) reaches
-    by f false other reaches told = so.marked f (sym (mark_elsewhere calm k f (eqb-false k f other)) ∙ told)
+    by f false other reaches told = so.marked f (sym (get_or-set_other calm k f false true (λ same. eqb-false k f other (sym same))) ∙ told)
 
 -- a round that marked none looked at all
 round_calms : (p : Program) (before calm : List Bool) (left : ℕ) → length before ≡ length p.procedures → left ≡ 0

@@ -1,20 +1,6 @@
 -- What a run does as it does on one thread, and which steps are told to its rules.
 use Rattle.std.specs.Prelude.{ℕ, zero, suc, ◌+◌, ◌≡◌}
-use Rattle.types.specs.Run.{State}
-
--- a state, and this kept beside
-abbrev pub keeping : {X Y : Type 0} → Y → State X → State Y
-keeping y st = record {
-  flow = st.flow;
-  environment = st.environment;
-  store = st.store;
-  lines = st.lines;
-  faults = st.faults;
-  steps = st.steps;
-  path = st.path;
-  spawned = st.spawned;
-  extra = y;
-}
+use Rattle.types.specs.Run.{State, keeping}
 
 -- a state with nothing beside
 abbrev pub bare : {X : Type 0} → State X → State (Unit {0})

@@ -1,6 +1,7 @@
 -- What a call may do, by the summary of its callee.
 use Rattle.std.proofs.Common.{◌≡◌, ◌<◌, ◌≤◌, ◌∙◌, ℕ, List, map, length, sym, subst}
 use Rattle.std.proofs.lemmas.List.{length-map}
+use Rattle.std.specs.Prelude.{◌↔◌}
 use Rattle.sections.specs.Translation.{section}
 use Rattle.sections.specs.declared.id.SectionId.{SectionId}
 use Rattle.types.specs.Code.{Codes}
@@ -14,6 +15,7 @@ use Rattle.effects.specs.Firsts.{AreFirsts, IsPassed}
 use Rattle.effects.specs.Rows.{Renamed}
 use Rattle.effects.specs.Sound.{IsSound}
 use Rattle.effects.specs.Summarized.{IsSummary, body_of}
+use Rattle.effects.specs.declared.accesses.Accesses.{Accesses}
 use Rattle.effects.specs.declared.summary.Summary.{Summary}
 use Rattle.effects.proofs.DoingLemmas.{passed_renamed, all_in_callee, body_of_callee}
 use Rattle.race_checker.proofs.Finding.{pending_in_callee}
@@ -39,20 +41,18 @@ module _ (code : rProgram) (f : ℕ) (ss : List SectionId) (s : Summary)
   as_many : length (map section ss) ≡ length (procedure_of (program code) f).parameters
   as_many = length-map ss section ∙ number
 
-  pub callee_all : (xs : List Access) → AreFirsts (IsPassed (HasAccess s.all) (map section ss)) xs
-      → AreFirsts (Renamed (program code) accesses (past_call (map section ss))
-      (All (program code) accesses (procedure_of (program code) f).body)) xs
-  callee_all =
-      passed_renamed (program code) (map section ss) (HasAccess s.all)
-      (All (program code) accesses (procedure_of (program code) f).body)
-      (λ x. (exact.all x).0) (λ x. (exact.all x).1) (all_in_callee (program code) sound f
-      (length (map section ss)) as_many)
+  -- what is kept of the callee is, passed to the call, what that does of it
+  abbrev pub Passed : (kept : Accesses) (done : Access → Type 0) → Type 0
+  Passed kept done =
+      (xs : List Access) → AreFirsts (IsPassed (HasAccess kept) (map section ss)) xs
+      → AreFirsts (Renamed (program code) accesses (past_call (map section ss)) done) xs
 
-  pub callee_pending : (xs : List Access) → AreFirsts (IsPassed (HasAccess s.pending) (map section ss)) xs
-      → AreFirsts (Renamed (program code) accesses (past_call (map section ss))
-      (Pending (program code) accesses (procedure_of (program code) f).body)) xs
-  callee_pending =
-      passed_renamed (program code) (map section ss) (HasAccess s.pending)
-      (Pending (program code) accesses (procedure_of (program code) f).body)
-      (λ x. (exact.pending x).0) (λ x. (exact.pending x).1) (pending_in_callee (program code) sound f
-      (length (map section ss)) as_many)
+  passed : (kept : Accesses) (done : Access → Type 0) → ((x : Access) → HasAccess kept x ↔ done x)
+      → ((x : Access) → done x → x.section < length (map section ss)) → Passed kept done
+  passed kept done exactly = passed_renamed (program code) (map section ss) (HasAccess kept) done (λ x. (exactly x).0) (λ x. (exactly x).1)
+
+  pub callee_all : Passed s.all (All (program code) accesses (procedure_of (program code) f).body)
+  callee_all = passed s.all _ exact.all (all_in_callee (program code) sound f (length (map section ss)) as_many)
+
+  pub callee_pending : Passed s.pending (Pending (program code) accesses (procedure_of (program code) f).body)
+  callee_pending = passed s.pending _ exact.pending (pending_in_callee (program code) sound f (length (map section ss)) as_many)

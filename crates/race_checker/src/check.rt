@@ -15,13 +15,13 @@ ghost use Rattle.race_checker.specs.Translation.{found};
 use crate::accepted::Accepted;
 use crate::race::{Race, lesser};
 use crate::walk::{found_in, procedure_of};
-use effects::laws::typed_programs_are_sound;
 use effects::summaries::{Summaries, summarize};
 use rayon::prelude::*;
 use std::alloc::{AllocError, Global};
 use std::thread::Threads;
 use types::code::Program;
 use types::ids::ProcedureId;
+use types::laws::typed_programs_are_sound;
 use types::typed::Typed;
 
 /// Why a program isn't accepted.

@@ -173,15 +173,9 @@ fn found_of<R: Threads + Sync>(
             let turn = found_in(rt, alloc, code, summaries, procedure, body)?.with_own(&own)?;
             Ok(turn.in_turn(&procedure_of(code, procedure).sections, procedure))
         }
-        StmtKind::Split {
-            section,
-            left,
-            right,
-            body,
-            ..
-        } => {
+        StmtKind::Split { sides, body } => {
             let found = found_in(rt, alloc, code, summaries, procedure, body)?;
-            let outside = found.past_split(alloc, *section, *left, *right)?;
+            let outside = found.past_split(alloc, sides.section, sides.left, sides.right)?;
             outside.with_own(&own)
         }
         StmtKind::Call {

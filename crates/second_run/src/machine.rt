@@ -9,7 +9,7 @@ use sections::window::{Place, Window};
 use serial_run::store::Store;
 use serial_run::thread::{Flow, Plan, Thread};
 use std::alloc::AllocError;
-use types::code::{Label, Number, Primitive, Stmt, StmtKind, Truth};
+use types::code::{Label, Number, Primitive, Sides, Stmt, StmtKind, Truth};
 use types::element::holds;
 use types::ids::ProcedureId;
 use types::input::Input;
@@ -135,18 +135,15 @@ impl<'p> Machine<'p> {
                 }
                 _ => Ok(()),
             },
-            StmtKind::Split {
-                section,
-                at,
-                left,
-                right,
-                body,
-            } => self.split(label, *section, at, (*left, *right), body),
+            StmtKind::Split { sides, body } => self.split(label, sides, body),
             StmtKind::Call {
                 procedure,
                 values,
                 sections,
-            } => self.call(label, *procedure, values, sections),
+            } => match self.numbers(label, values)? {
+                Some(values) => self.call(label, *procedure, values, sections),
+                None => Ok(()),
+            },
             StmtKind::Async { body } => self.begin(label, body),
             StmtKind::Finish { body } => {
                 let faults = self.seen.many;
@@ -193,22 +190,15 @@ impl<'p> Machine<'p> {
     }
 
     /// A block in which both sides of a section have names.
-    fn split(
-        &mut self,
-        label: Label,
-        section: SectionId,
-        at: &Number,
-        names: (SectionId, SectionId),
-        body: &'p [Stmt],
-    ) -> Result<(), AllocError> {
-        let Some(point) = self.number(label, at)? else {
+    fn split(&mut self, label: Label, split: &Sides, body: &'p [Stmt]) -> Result<(), AllocError> {
+        let Some(point) = self.number(label, &split.at)? else {
             return Ok(());
         };
-        let window = self.thread.environment.window(section);
+        let window = self.thread.environment.window(split.section);
         match sides(window, point) {
             Some((left, right)) => {
-                self.thread.environment.name_window(names.1, right)?;
-                self.thread.environment.name_window(names.0, left)?;
+                self.thread.environment.name_window(split.right, right)?;
+                self.thread.environment.name_window(split.left, left)?;
                 self.enter(body)
             }
             None => {
@@ -218,17 +208,14 @@ impl<'p> Machine<'p> {
         }
     }
 
-    /// A call: its numbers from left to right, then the body.
+    /// A call with these numbers: the body comes next.
     fn call(
         &mut self,
         label: Label,
         procedure: ProcedureId,
-        values: &[Number],
+        values: Vec<i64>,
         sections: &[SectionId],
     ) -> Result<(), AllocError> {
-        let Some(values) = self.numbers(label, values)? else {
-            return Ok(());
-        };
         let Some(procedure) = self.plan.program.procedures.get(procedure.number) else {
             return Ok(());
         };

@@ -76,18 +76,24 @@ impl Window {
         Some((left, right))
     }
 
-    /// The place of the element `index`, or None where the window has none.
+    /// The place of the element `index`, or None where the window has none: in a few instructions, as runs ask for it
+    /// at each access.
+    #[inline(always)]
     pub fn place(self, index: i64) -> Option<Place>
         ensures { MatchOption result (place_in (window_of self) index ≡ None)
             (λ q. place_in (window_of self) index ≡ Some (place_of q)) }
     {
-        match usize::try_from(index) {
-            Ok(index) if index < self.len => Some(Place {
-                array: self.array,
-                index: self.at + index,
-            }),
-            _ => None,
+        if index < 0 {
+            return None;
         }
+        let index = index as usize;
+        if index >= self.len {
+            return None;
+        }
+        Some(Place {
+            array: self.array,
+            index: self.at + index,
+        })
     }
 
     /// The place behind the last one.

@@ -105,10 +105,10 @@ module _ (p : Program) where
   element_lies w (negsuc n) q lies e = absurd (let bad : ⊥ = cc in bad)
   element_lies w (pos i) q lies e = some_element_lies w i (nat_lt i w.length) q refl lies e
 
-  -- where a store writes, its array has a place
-  pub target_lies : (st : State (Unit {0})) (s : ℕ) (i e : Number) (q : Place) (v : ℤ) → LiesInArrays p st.environment
-      → Ok (q, v) ≡ target p st s i e → q.index < (array_of p q.array).length
-  target_lies st s i e q v lies is = by_index (number_at st i) is
+  -- a store writes where an element of its section is
+  pub target_of : (st : State (Unit {0})) (s : ℕ) (i e : Number) (q : Place) (v : ℤ) → Ok (q, v) ≡ target p st s i e
+      → (at : ℤ) × (Ok q ≡ element_of (st.environment.windows s) at)
+  target_of st s i e q v is = by_index (number_at st i) is
     where
       by_fit : (b : Bool) (r : Place) (x : ℤ) → Ok (q, v) ≡ fitting b r x → q ≡ r
       by_fit true r x is =
@@ -120,22 +120,30 @@ module _ (p : Program) where
 
       by_element : (at x : ℤ) (r : Valued Place) → r ≡ element_of (st.environment.windows s) at
           → Ok (q, v) ≡ then_try r (λ q. fitting (holds_number (array_of p q.array).element x) q x)
-          → q.index < (array_of p q.array).length
+          → (at : ℤ) × (Ok q ≡ element_of (st.environment.windows s) at)
       by_element at x (Ok r) from is =
           let same = by_fit (holds_number (array_of p r.array).element x) r x is in
-          element_lies (st.environment.windows s) at q (lies s) (ap Ok same ∙ from)
+          (at, ap Ok same ∙ from)
       by_element at x (Err f) from is = absurd (let bad : ⊥ = cc in bad)
 
       by_number : (at : ℤ) (r : Valued ℤ) → Ok (q, v) ≡ then_try r (λ x. then_try (element_of (st.environment.windows s) at)
-          (λ q. fitting (holds_number (array_of p q.array).element x) q x)) → q.index < (array_of p q.array).length
+          (λ q. fitting (holds_number (array_of p q.array).element x) q x))
+          → (at : ℤ) × (Ok q ≡ element_of (st.environment.windows s) at)
       by_number at (Ok x) is = by_element at x (element_of (st.environment.windows s) at) refl is
       by_number at (Err f) is = absurd (let bad : ⊥ = cc in bad)
 
       by_index : (r : Valued ℤ) → Ok (q, v) ≡ then_try r (λ at. then_try (number_at st e) (λ x.
           then_try (element_of (st.environment.windows s) at)
-          (λ q. fitting (holds_number (array_of p q.array).element x) q x))) → q.index < (array_of p q.array).length
+          (λ q. fitting (holds_number (array_of p q.array).element x) q x)))
+          → (at : ℤ) × (Ok q ≡ element_of (st.environment.windows s) at)
       by_index (Ok at) is = by_number at (number_at st e) is
       by_index (Err f) is = absurd (let bad : ⊥ = cc in bad)
+
+  -- where a store writes, its array has a place
+  pub target_lies : (st : State (Unit {0})) (s : ℕ) (i e : Number) (q : Place) (v : ℤ) → LiesInArrays p st.environment
+      → Ok (q, v) ≡ target p st s i e → q.index < (array_of p q.array).length
+  target_lies st s i e q v lies is =
+      let element = target_of st s i e q v is in element_lies (st.environment.windows s) element.0 q (lies s) element.1
 
   -- such a place is one of the store
   pub store_has_place : (t : Thread Store) (q : Place) → IsInBounds p t → q.index < (array_of p q.array).length → HasPlace t.store q

@@ -7,12 +7,10 @@ use Rattle.std.specs.Prelude.{ℤ, map, slice_get, slice_index_or, Some, None, R
 use Rattle.types.specs.Code.{End}
 use Rattle.types.specs.declared.fault.FaultKind.{FaultKind}
 use Rattle.types.specs.declared.code.Number.{Number as rNumber}
-use Rattle.types.specs.declared.code.Array.{Array as rArray}
 use Rattle.types.specs.declared.code.Procedure.{Procedure as rProcedure}
-use Rattle.types.specs.Outcome.{whole_arrays}
 use Rattle.types.specs.Run.{no_procedure}
-use Rattle.sections.specs.Place.{Place, Window}
-use Rattle.types.specs.Translation.{number as number_of, array, codes, procedure}
+use Rattle.sections.specs.Place.{Place}
+use Rattle.types.specs.Translation.{number as number_of, codes, procedure}
 use Rattle.types.specs.Value.{Environment, Valued, then_try, number, numbers}
 
 -- of two facts for Ok follows a third
@@ -69,17 +67,6 @@ module _ (env : Environment) (read : Place → ℤ) where
 
   pub followed-none : (es : List rNumber) (so_far : List ℤ) → es ≡ [] → Ok so_far ≡ followed es so_far
   followed-none es so_far none = ap Ok (sym (append-nil so_far)) ∙ ap (λ l. followed l so_far) (sym none)
-
--- the windows so far, followed by those of the arrays that are left
-pub windows-more : (arrays : List rArray) (i : ℕ) (a : rArray) (ws : List Window) (w : Window) → i < length arrays → a ≡ get_or arrays i a
-    → w ≡ record { array = i; at = 0; length = a.length }
-    → (ws ++ w ∷ []) ++ whole_arrays (i + 1) (map array (drop (i + 1) arrays)) ≡ ws ++ whole_arrays i (map array (drop i arrays))
-windows-more arrays i a ws w lt at is =
-    let more : suc i ≡ i + 1 = omega arith in
-    append_assoc ws (w ∷ []) (whole_arrays (i + 1) (map array (drop (i + 1) arrays)))
-    ∙ ap (λ v. ws ++ v ∷ whole_arrays (i + 1) (map array (drop (i + 1) arrays))) is
-    ∙ ap (λ l. ws ++ whole_arrays i (map array l))
-    (sym (drop-cons arrays i a lt ∙ ap (λ x. x ∷ drop (suc i) arrays) (sym at) ∙ ap (λ j. a ∷ drop j arrays) more))
 
 -- the body of the procedure at a number
 pub body_at : (ps : List rProcedure) (f : ℕ) (x : rProcedure) → slice_get ps f ≡ Some x

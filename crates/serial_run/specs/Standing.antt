@@ -40,10 +40,6 @@ pub record Standing : Type 0 where
   pub state : State (Unit {0})
   pub nest : ℕ
 
--- where the thread stands
-abbrev pub standing : Thread Store → Standing
-standing t = record { state = state_of t; nest = t.nest }
-
 -- the task keeps its budget, its children and its windows, and its memory what writes leave
 pub record KeepsTask {S A : Type 0} (shape : S → A) (old new : Thread S) : Type 0 where
   pub steps : new.steps ≡ old.steps

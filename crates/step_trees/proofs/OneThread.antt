@@ -91,11 +91,6 @@ comes_same : {n steps : ℕ} {path : List ℕ} {t : Tree} {a : Contents} {out ot
     → ComesTo n steps path t a out → ComesTo n steps path t a other
 comes_same {n = n} {steps = steps} {path = path} {t = t} {a = a} e c = subst (ComesTo n steps path t a) (sym e) c
 
-not_stopped : {A : Type 0} (f : Flow) → (f ≡ Stopped → ⊥) → (fs : List Fault) → (f ≡ On → A) → (f ≡ Faulted → A) → A
-not_stopped On h fs a b = a refl
-not_stopped Faulted h fs a b = b refl
-not_stopped Stopped h fs a b = absurd (h refl)
-
 async_on : (f : Flow) → (f ≡ Stopped → ⊥) → after_async f ≡ On
 async_on On h = refl
 async_on Faulted h = refl

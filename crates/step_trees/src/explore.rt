@@ -23,13 +23,13 @@ use crate::rest::block_alone;
 use crate::tree::{Round, Tree, and_then, beside};
 use crate::turn::{Becomes, step as leaf_turn};
 use crate::walk::{Place, found, settled};
-use effects::laws::typed_programs_are_sound;
 use race_checker::accepted::Accepted;
 use serial_run::store::Store;
 use serial_run::thread::{Plan, main_environment};
 use std::alloc::{AllocError, Global};
 use types::budget::Budget;
 use types::input::Input;
+use types::laws::typed_programs_are_sound;
 use types::outcome::Outcome;
 use types::path::Path;
 

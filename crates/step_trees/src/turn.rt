@@ -90,13 +90,10 @@ fn statement<'p>(turn: Turn<'p>, stmt: &'p Stmt) -> Result<(Becomes<'p>, Store),
         StmtKind::Do(statement) => primitive(turn, label, statement),
         StmtKind::If { guard, body, other } => choose(turn, label, guard, body, other),
         StmtKind::While { guard, body } => turn_loop(turn, stmt, guard, body),
-        StmtKind::Split {
-            section,
-            at,
-            left,
-            right,
-            body,
-        } => split(turn, label, *section, at, (*left, *right), body),
+        StmtKind::Split { sides, body } => {
+            let both = (sides.left, sides.right);
+            split(turn, label, sides.section, &sides.at, both, body)
+        }
         StmtKind::Call {
             procedure,
             values,

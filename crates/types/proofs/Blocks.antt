@@ -3,8 +3,7 @@ use Rattle.std.proofs.Common.{◌≡◌, ℕ, List, [], ◌∷◌, ◌++◌, Vec
 use mathlib.Core.Former.{Count}
 use Rattle.types.specs.Code.{If, While, Split, Async, Finish, Codes, End, Then}
 use Rattle.types.specs.Translation.{number, truth, code, row_codes, codes}
-use Rattle.types.specs.declared.code.Number.{Number}
-use Rattle.sections.specs.declared.id.SectionId.{SectionId}
+use Rattle.types.specs.declared.code.Sides.{Sides}
 use Rattle.types.specs.declared.code.Truth.{Truth}
 use Rattle.types.specs.declared.code.Stmt.{Stmt}
 use Rattle.types.specs.declared.code.StmtKind.{StmtKind, Row_of-Stmt, end_of-Stmt, more_of-Stmt, items-the_row-Stmt}
@@ -20,7 +19,7 @@ row_codes_are n (more_of-Stmt l s rest) = ap (Then l (code s)) (row_codes_are _ 
 abbrev block_in : StmtKind → (n : Count) × Row_of-Stmt n
 block_in (rIf' _ _ b _ _) = (_, b)
 block_in (rWhile' _ _ b) = (_, b)
-block_in (rSplit' _ _ _ _ _ b) = (_, b)
+block_in (rSplit' _ _ b) = (_, b)
 block_in (rAsync' _ b) = (_, b)
 block_in (rFinish' _ b) = (_, b)
 block_in _ = (_, end_of-Stmt)
@@ -38,10 +37,11 @@ code_Async v = let r = block_in (rAsync v) in ap Async (row_codes_are r.0 r.1 �
 pub code_Finish : (v : Vec Stmt Global) → code (rFinish v) ≡ Finish (codes v.items)
 code_Finish v = let r = block_in (rFinish v) in ap Finish (row_codes_are r.0 r.1 ∙ ap codes (items_hidden-the_row-Stmt-0 v))
 
-pub code_Split : (s : SectionId) (e : Number) (l r : SectionId) (v : Vec Stmt Global)
-    → code (rSplit s e l r v) ≡ Split s.number (number e) l.number r.number (codes v.items)
-code_Split s e l r v =
-    let b = block_in (rSplit s e l r v) in ap (Split s.number (number e) l.number r.number) (row_codes_are b.0 b.1 ∙ ap codes (items_hidden-the_row-Stmt-0 v))
+pub code_Split : (s : Sides) (v : Vec Stmt Global)
+    → code (rSplit s v) ≡ Split s.section.number (number s.at) s.left.number s.right.number (codes v.items)
+code_Split s v =
+    let b = block_in (rSplit s v) in
+    ap (Split s.section.number (number s.at) s.left.number s.right.number) (row_codes_are b.0 b.1 ∙ ap codes (items_hidden-the_row-Stmt-0 v))
 
 pub code_If : (t : Truth) (v w : Vec Stmt Global) → code (rIf t v w) ≡ If (truth t) (codes v.items) (codes w.items)
 code_If t v w =

@@ -37,6 +37,18 @@ main_of arrays slots sections body = record {
   };
 }
 
+-- a procedure whose name is one letter, with `mut s: int` and so many scalars as its parameters
+abbrev pub over_ints : (letter scalars : ℕ) → Codes → Procedure
+over_ints letter scalars body = record {
+  name = letter ∷ [];
+  parameters = record { may_write = true; element = Int } ∷ [];
+  scalars = scalars;
+  slots = scalars;
+  sections = Root ∷ [];
+  section_names = (115 ∷ []) ∷ [];
+  body = body;
+}
+
 -- finish { async { a[0] = 7; } b[0] = 8; } print a[0], b[0];
 abbrev pub two_arrays : Program
 two_arrays = main_of (ints 97 1 ∷ ints 98 1 ∷ []) 0 (Root ∷ Root ∷ []) (
@@ -178,20 +190,12 @@ scalars = main_of [] 2 [] (
 
 -- proc down(mut s: int, n: int) { if n > 0 { down(s, n - 1); s[0] = s[0] + n; } }
 abbrev pub down : Procedure
-down = record {
-  name = 100 ∷ [];
-  parameters = record { may_write = true; element = Int } ∷ [];
-  scalars = 1;
-  slots = 1;
-  sections = Root ∷ [];
-  section_names = (115 ∷ []) ∷ [];
-  body = (
-    1,
-    If (Compare Less (lit 0) (Scalar 0))
-        ((2, Call 0 (Chain (Scalar 0) (Link Minus (lit 1) Done) ∷ []) (0 ∷ [])) ⨾
-        (3, Do (Store 0 (lit 0) (Chain (Element 0 (lit 0)) (Link Plus (Scalar 0) Done)))) ⨾ End) End,
-  ) ⨾ End;
-}
+down = over_ints 100 1 ((
+  1,
+  If (Compare Less (lit 0) (Scalar 0))
+      ((2, Call 0 (Chain (Scalar 0) (Link Minus (lit 1) Done) ∷ []) (0 ∷ [])) ⨾
+      (3, Do (Store 0 (lit 0) (Chain (Element 0 (lit 0)) (Link Plus (Scalar 0) Done)))) ⨾ End) End,
+) ⨾ End)
 
 -- array a: int[1]; down(a, n); print a[0];
 abbrev pub deep_call : ℕ → Program

@@ -12,6 +12,7 @@ use Rattle.syntax_tree.specs.declared.tree.Stmt.TheVariants.{Print as tree_Print
 use Rattle.types.specs.Code as code
 use Rattle.types.specs.declared.code.Number.{Number}
 use Rattle.types.specs.declared.code.Primitive.TheVariants.{Skip as rSkip, Assign as rAssign, Store as rStore, Print as rPrint, Fault as rRaise}
+use Rattle.types.specs.declared.code.Sides.{Sides}
 use Rattle.types.specs.declared.code.Stmt.{Stmt as rStmt}
 use Rattle.types.specs.declared.code.StmtKind.{StmtKind}
 use Rattle.types.specs.declared.code.StmtKind.TheVariants.{Do as rDo, If as rIf, While as rWhile, Split as rSplit, Async as rAsync, Finish as rFinish}
@@ -112,26 +113,26 @@ module _ (fs : List Procedure) (here there : Scope) where
         place = out_by (inside_async (next here)) there b n k m (left_async here b) i.place;
       }
 
-  pub resolves_Split : (x : List ℕ) (e : Expr) (l r : List ℕ) (b : Block) (s : SectionId) (at : Number) (left right : SectionId) (v : Vec rStmt Global)
-      (mid : Scope) (n k : ℕ) → Marks n k → mid ≡ with_sides s.number l r (next here)
-      → naming_section here.label (meant x here.names) ≡ [] → meant x here.names ≡ Some (ASection s.number)
-      → number_errors here.label here.names e ≡ [] → resolution.number here.names e ≡ number at
+  pub resolves_Split : (x : List ℕ) (e : Expr) (l r : List ℕ) (b : Block) (s : Sides) (v : Vec rStmt Global)
+      (mid : Scope) (n k : ℕ) → Marks n k → mid ≡ with_sides s.section.number l r (next here)
+      → naming_section here.label (meant x here.names) ≡ [] → meant x here.names ≡ Some (ASection s.section.number)
+      → number_errors here.label here.names e ≡ [] → resolution.number here.names e ≡ number s.at
       → declaring (Some here.label) (meant r here.names)
       ++ declaring (Some here.label) (meant l ((r, ASection (length here.sections + 1)) ∷ here.names)) ≡ []
-      → left.number ≡ length here.sections → right.number ≡ length here.sections + 1
-      → Inside mid b v n k there → Resolves fs here (Split x e l r b) (rSplit s at left right v) there
-  resolves_Split x e l r b s at left right v mid n k m is named known right_at same declared l_is r_is inside =
-      let section : section_of here.names x ≡ s.number = ap section_or_0 known in
+      → s.left.number ≡ length here.sections → s.right.number ≡ length here.sections + 1
+      → Inside mid b v n k there → Resolves fs here (Split x e l r b) (rSplit s v) there
+  resolves_Split x e l r b s v mid n k m is named known right_at same declared l_is r_is inside =
+      let section : section_of here.names x ≡ s.section.number = ap section_or_0 known in
       let from = with_sides (section_of here.names x) l r (next here) in
       let i = moved_inside mid from b v n k there (is ∙ ap (λ z. with_sides z l r (next here)) (sym section)) inside in
       record {
         right = none_both _ _ (none_both _ _ named (none_both _ _ right_at declared)) i.right;
         kind = ap (λ z. code.Split z (resolution.number here.names e) (length here.sections) (length here.sections + 1) (resolution.codes fs from b)) section
-            ∙ ap (λ z. code.Split s.number z (length here.sections) (length here.sections + 1) (resolution.codes fs from b)) same
-            ∙ ap (λ z. code.Split s.number (number at) z (length here.sections + 1) (resolution.codes fs from b)) (sym l_is)
-            ∙ ap (λ z. code.Split s.number (number at) left.number z (resolution.codes fs from b)) (sym r_is)
-            ∙ ap (code.Split s.number (number at) left.number right.number) i.code
-            ∙ sym (code_Split s at left right v);
+            ∙ ap (λ z. code.Split s.section.number z (length here.sections) (length here.sections + 1) (resolution.codes fs from b)) same
+            ∙ ap (λ z. code.Split s.section.number (number s.at) z (length here.sections + 1) (resolution.codes fs from b)) (sym l_is)
+            ∙ ap (λ z. code.Split s.section.number (number s.at) s.left.number z (resolution.codes fs from b)) (sym r_is)
+            ∙ ap (code.Split s.section.number (number s.at) s.left.number s.right.number) i.code
+            ∙ sym (code_Split s v);
         place = out_by from there b n k m (left_sides here (section_of here.names x) l r b) i.place;
       }
 

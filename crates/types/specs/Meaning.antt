@@ -32,7 +32,7 @@ after_async On = On
 after_async Faulted = On
 
 -- the parent goes on as it was, but with what the body wrote and told
-abbrev pub after_body : (before out : State (Unit {0})) → State (Unit {0})
+abbrev pub after_body : {X : Type 0} → (before out : State X) → State X
 after_body before out =
     joined before (record before {
       flow = after_async out.flow;

@@ -42,6 +42,20 @@ pub record State (X : Type 0) : Type 0 where
   pub spawned : ℕ
   pub extra : X
 
+-- a state, and this kept beside
+abbrev pub keeping : {X Y : Type 0} → Y → State X → State Y
+keeping y st = record {
+  flow = st.flow;
+  environment = st.environment;
+  store = st.store;
+  lines = st.lines;
+  faults = st.faults;
+  steps = st.steps;
+  path = st.path;
+  spawned = st.spawned;
+  extra = y;
+}
+
 -- the function that gives v at x and is f elsewhere
 abbrev pub bind : {A : Type 0} → ℕ → A → (ℕ → A) → ℕ → A
 bind x v f y = if nat_eq x y then v else f y

@@ -87,7 +87,8 @@ abbrev mutual
   code (rDo s) = Do (primitive s)
   code (rIf t p b q c) = If (truth t) (row_codes b) (row_codes c)
   code (rWhile t p b) = While (truth t) (row_codes b)
-  code (rSplit s e l r p b) = Split s.number (number e) l.number r.number (row_codes b)
+  code (rSplit s p b) =
+      Split s.section.number (number s.at) s.left.number s.right.number (row_codes b)
   code (rCall f es ss) = Call f.number (map number es.items) (map section ss.items)
   code (rAsync p b) = Async (row_codes b)
   code (rFinish p b) = Finish (row_codes b)

@@ -81,10 +81,7 @@ pub enum StmtKind {
     },
     /// `split s at 2 as l, r { .. }`
     Split {
-        section: SectionId,
-        at: Number,
-        left: SectionId,
-        right: SectionId,
+        sides: Sides,
         body: Vec<Stmt>,
     },
     /// `f(a, 1);`
@@ -101,6 +98,15 @@ pub enum StmtKind {
     Finish {
         body: Vec<Stmt>,
     },
+}
+
+/// `s at 2 as l, r`: which section is split, where, and what its sides are.
+#[derive(Drop)]
+pub struct Sides {
+    pub section: SectionId,
+    pub at: Number,
+    pub left: SectionId,
+    pub right: SectionId,
 }
 
 /// A statement that runs in one step.

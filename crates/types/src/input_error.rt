@@ -50,14 +50,15 @@ impl fmt::Display for InputError {
     ghost output = { λ e. Some (error_text e) };
 
     fn fmt<W: fmt::Write>(&self, f: &mut fmt::Formatter<W>) -> fmt::Result {
+        let code = self.code();
         match self {
-            InputError::NotJson => write!(f, "N1"),
-            InputError::NotAnObject => write!(f, "N2"),
-            InputError::UnknownArray { name } => write!(f, "N3 {name}"),
-            InputError::WrongNumberOfLists => write!(f, "N4"),
-            InputError::WrongLength { name } => write!(f, "N4 {name}"),
-            InputError::WrongElement { name } => write!(f, "N5 {name}"),
-            InputError::OutOfMemory => write!(f, "N6"),
+            InputError::UnknownArray { name } => write!(f, "{code} {name}"),
+            InputError::WrongLength { name } => write!(f, "{code} {name}"),
+            InputError::WrongElement { name } => write!(f, "{code} {name}"),
+            InputError::NotJson => write!(f, "{code}"),
+            InputError::NotAnObject => write!(f, "{code}"),
+            InputError::WrongNumberOfLists => write!(f, "{code}"),
+            InputError::OutOfMemory => write!(f, "{code}"),
         }
     }
 }

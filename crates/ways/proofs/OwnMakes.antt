@@ -13,9 +13,6 @@ use Rattle.effects.specs.Translation.{access}
 use Rattle.effects.specs.declared.access.Access.{Access as rAccess}
 use Rattle.effects.specs.Rounds.{same_access, lists}
 
-abbrev make : ℕ → ℕ → Bool → Access
-make l s w = record { label = l; section = s; write = w }
-
 -- a statement's accesses have its label
 reads_label : (l : ℕ) (ss : List ℕ) (x : Access) → Member x (reads l ss) → x.label ≡ l
 reads_label l [] x m = elim m [ ]

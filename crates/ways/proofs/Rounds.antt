@@ -6,14 +6,14 @@ use Rattle.std.specs.Prelude.{Bool, true, false, ◌||◌, Option, None, Some, I
 use Rattle.types.specs.Code.{Program}
 use Rattle.types.specs.Run.{procedure_of}
 use Rattle.effects.specs.Accesses.{Access}
-use Rattle.ways.specs.Known.{AreNoLonger, AreShortest, AreWays, IsFrom, IsPut, way_at, way_known, entry}
+use Rattle.ways.specs.Known.{AreNoLonger, AreShortest, AreWays, IsFrom, way_at, way_known, entry}
 use Rattle.ways.specs.Least.{AtMost, IsLeast}
 use Rattle.ways.specs.Settled.{HasPut, Improves, IsShortestAt, ListsAll, Rounded, total, weight}
 use Rattle.ways.specs.Ways.{Way}
 use Rattle.ways.specs.declared.known.Entry.{Entry}
 use Rattle.ways.specs.declared.known.Known.{Known}
 use Rattle.ways.specs.declared.step.Step.{Step}
-use Rattle.ways.proofs.Leasts.{at_most_more, at_most_same}
+use Rattle.ways.proofs.Leasts.{at_most_more}
 
 -- ---- how far ways can still be shortened
 weight_no_more : (a b : Option (List Step)) → ((n : ℕ) → AtMost length a n → AtMost length b n) → weight b ≤ weight a
@@ -61,19 +61,6 @@ put_same e way known h = record {
   put = λ b. absurd (true≢false (sym b));
   fits = λ b. absurd (true≢false (sym b));
   shorter = λ b. absurd (true≢false (sym b));
-}
-
-pub put_new : (e : Entry) (way : List Step) (old new : Known) → IsPut e way old new → length way < 2 ^ 64
-    → (AtMost length (way_at old e) (length way) → ⊥) → HasPut e way true old new
-put_new e way old new put fits none = record {
-  known = at_most_same length (way_at new e) way put.here;
-  same = λ b. absurd (true≢false b);
-  put = λ b. put;
-  fits = λ b. fits;
-  shorter = λ b n h. elim (cases_lt (length way) n) [
-    | inl less ↦ less
-    | inr le ↦ absurd (none (at_most_more length (way_at old e) n (length way) le h))
-  ];
 }
 
 -- ---- one entry

@@ -178,19 +178,14 @@ fn way_inside(
             let step = sought.step(statement, Rule::Turn);
             way_behind(alloc, code, known, Some(sought), step, body)
         }
-        StmtKind::Split {
-            section,
-            left,
-            right,
-            body,
-            ..
-        } => {
+        StmtKind::Split { sides, body } => {
             let step = sought.step(statement, Rule::Side);
-            let aim = sought.inside(*section, *left, *right, *left);
+            let aim = sought.inside(sides.section, sides.left, sides.right, sides.left);
             let by_left = way_behind(alloc, code, known, aim, step, body)?;
-            let aim = sought.inside(*section, *left, *right, *right);
+            let aim = sought.inside(sides.section, sides.left, sides.right, sides.right);
             let by_right = way_behind(alloc, code, known, aim, step, body)?;
-            let aim = sought.inside(*section, *left, *right, sought.access.section);
+            let itself = sought.access.section;
+            let aim = sought.inside(sides.section, sides.left, sides.right, itself);
             let by_itself = way_behind(alloc, code, known, aim, step, body)?;
             Ok(shorter(by_left, shorter(by_right, by_itself)))
         }

@@ -1,11 +1,8 @@
 -- What is answered of a race, from the least ways that meet in both directions.
 use Rattle.std.proofs.Common.{◌≡◌, ◌⊎◌, inl, inr, ℕ, ◌+◌, ◌≤◌, length, refl, sym, subst, arith, true≢false}
 use Rattle.std.specs.Prelude.{Bool, true, false, Option, None, Some}
-use Rattle.types.specs.Code.{Codes, End, Program}
-use Rattle.effects.specs.Accesses.{Access}
-use Rattle.effects.specs.Effects.{accesses}
+use Rattle.types.specs.Code.{Codes, Program}
 use Rattle.effects.specs.Sound.{IsSound}
-use Rattle.parallel_relation.specs.Together.{Together}
 use Rattle.race_checker.specs.Races.{Race, IsRace, numbered}
 use Rattle.witness.specs.Crossed.{Crossed, MeetIn, both, crossed, toward}
 use Rattle.ways.specs.Least.{AtMost, IsLesserOf, IsLeast, all_covered}
@@ -69,16 +66,6 @@ race_found p r b found sound e h none race =
     subst (λ (c : Codes). Meets p c s.meeting s.pending s.later (pending_one s.first_pends r) (later_one s.first_pends r)) e s.shows in
     subst (λ (o : Option (Bool × Crossed)). AtMost size o (length s.pending + length s.later)) none
     (h.least (s.first_pends, record { meeting = s.meeting; pending = s.pending; later = s.later }) m tt)
-
--- where no statement stands there is no race
-pub no_race : (p : Program) (r : Race) → (numbered p r.procedure).body ≡ End → IsRace p r → ⊥
-no_race p r e race = elim race.pair [
-  | inl h ↦ ended r.first r.second (subst (λ (c : Codes). Together p accesses c r.first r.second) e h)
-  | inr h ↦ ended r.second r.first (subst (λ (c : Codes). Together p accesses c r.second r.first) e h)
-]
-  where
-    ended : (x y : Access) → Together p accesses End x y → ⊥
-    ended x y k = elim k [ ]
 
 -- what is found has no more steps than any
 pub found_fewest : (p : Program) (r : Race) (b : Codes) (w : Witness) (d : Bool × Crossed) → (numbered p r.procedure).body ≡ b

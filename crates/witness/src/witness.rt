@@ -13,11 +13,11 @@ ghost use Rattle.witness.specs.Witness.{IsShortest, IsWitness, ShowIn};
 
 use crate::crossing::{Crossing, Meeting, Pairing, crossing_in};
 use crate::sharing::{Sharing, sharing_of};
-use effects::laws::typed_programs_are_sound;
 use race_checker::race::Race;
 use std::alloc::{AllocError, Global};
 use types::code::{Procedure, Program, Stmt};
 use types::ids::ProcedureId;
+use types::laws::typed_programs_are_sound;
 use types::typed::Typed;
 use ways::aim::Aim;
 use ways::step::Step;

@@ -25,7 +25,7 @@ use crate::check::limits::MOST_LABELS;
 use crate::check::names::Meaning;
 use crate::check::procedures::Procedures;
 use crate::check::scope::{Mark, Scope};
-use crate::code::{Number, Primitive, Stmt, StmtKind, Truth};
+use crate::code::{Number, Primitive, Sides, Stmt, StmtKind, Truth};
 use crate::error::TypeError;
 use crate::ids::Slot;
 use sections::id::SectionId;
@@ -257,10 +257,12 @@ impl Statements<'_> {
         let (left, right) = scope.sides(label, section, left, right)?;
         let body = self.inside(scope, mark, body)?;
         Ok(StmtKind::Split {
-            section,
-            at,
-            left,
-            right,
+            sides: Sides {
+                section,
+                at,
+                left,
+                right,
+            },
             body,
         })
     }
@@ -498,12 +500,10 @@ fn assigned(scope: &Scope, name: &String) -> Result<Slot, TypeError>
     match scope.names.meaning(name) {
         None => Err(TypeError::NotInScope { label }),
         Some(Meaning::Section(_)) => Err(TypeError::WrongKind { label }),
-        Some(Meaning::Scalar(slot)) => {
-            if slot.number < scope.outside {
-                return Err(TypeError::AssignedOutsideAsync { label });
-            }
-            Ok(slot)
+        Some(Meaning::Scalar(slot)) if slot.number < scope.outside => {
+            Err(TypeError::AssignedOutsideAsync { label })
         }
+        Some(Meaning::Scalar(slot)) => Ok(slot),
     }
 }
 
@@ -520,11 +520,7 @@ fn written(scope: &Scope, name: &String) -> Result<SectionId, TypeError>
     match scope.names.meaning(name) {
         None => Err(TypeError::NotInScope { label }),
         Some(Meaning::Scalar(_)) => Err(TypeError::WrongKind { label }),
-        Some(Meaning::Section(section)) => {
-            if !scope.kind(section).may_write {
-                return Err(TypeError::ReadOnly { label });
-            }
-            Ok(section)
-        }
+        Some(Meaning::Section(section)) if scope.kind(section).may_write => Ok(section),
+        Some(Meaning::Section(_)) => Err(TypeError::ReadOnly { label }),
     }
 }

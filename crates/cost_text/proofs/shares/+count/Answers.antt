@@ -28,7 +28,7 @@ in_statement-returns-in-While t c =
 pub in_statement-returns-in-Split : goal.in_statement-returns-in-Split
 in_statement-returns-in-Split t c =
     let s = c.in-Split in
-    let all = ap plain_code s.is ∙ code_Split s.section s.at s.left s.right s.body in
+    let all = ap plain_code s.is ∙ code_Split s.sides s.body in
     one_block c.args.table.now _ _ _ _ c.in_block-in-Split.ensures c.deref-in-Split.ensures.value (ap (share_inside c.args.table.now) all)
 
 pub in_statement-returns-in-Async : goal.in_statement-returns-in-Async

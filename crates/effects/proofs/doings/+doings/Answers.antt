@@ -12,8 +12,9 @@ use Rattle.effects.specs.Statements.{Block}
 use Rattle.effects.specs.Translation.{access}
 use Rattle.effects.proofs.DoingLemmas.{adds_end, adds_firsts, adds_front, adds_then, adds_whole, firsts_added, on_ok}
 use Rattle.effects.proofs.FirstLabels.{firsts_of_firsts, firsts_renamed}
-use Rattle.effects.proofs.StatementLemmas.{is_call, part_at, part_inside}
-use Rattle.effects.proofs.Statements.{size, size_in, codes_before, smaller, size-drop, is_If, is_While, is_Split, is_Async, is_Finish}
+use Rattle.effects.proofs.OneList.{of_same}
+use Rattle.effects.proofs.StatementLemmas.{is_call, is_inside, part_at}
+use Rattle.effects.proofs.Statements.{size, size_in, codes_before, smaller, size-drop, is_If, is_Split}
 use Rattle.effects.proofs.doings.+doings.Goals as goal
 
 pub add_block-loop-place-init : goal.add_block-loop-place-init
@@ -21,8 +22,8 @@ add_block-loop-place-init t c =
     adds_end (program c.args.code.now) (codes (drop (length c.args.block.now) c.args.block.now)) (kept_in c.args.into.now)
     (ap codes (drop_all (length c.args.block.now) c.args.block.now (omega arith)))
 
-pub add_block-add_statement-requires : goal.add_block-add_statement-requires
-add_block-add_statement-requires t c =
+pub add_block-add_inside-requires : goal.add_block-add_inside-requires
+add_block-add_inside-requires t c =
     let p = program c.args.code.now in
     let xs = c.args.block.now in
     let k = c.loop-place.place in
@@ -45,9 +46,13 @@ add_block-loop-place-preserved t c =
     let k = c.loop-place.place in
     let x = c.index-block-place.result in
     let here = codes_before xs k x c.loop-place-test.true c.loop-place.auto.place c.index-block-place.is in
-    subst (λ (b : Codes). AddsFirsts (All p accesses b) (kept_in c.args.into.now) (kept_in c.add_statement.new.into)) (sym here)
+    let whole =
+    adds_whole p x.label (code x.kind) (map access c.deref.result.now) (kept_in c.loop-place.into) (kept_in c.add_all.new.self)
+    (kept_in c.add_inside.new.into) (ap (map access) c.deref.ensures.value ∙ c.in_ok-own.ensures) c.in_ok-add_all.ensures
+    c.in_ok-add_inside.ensures in
+    subst (λ (b : Codes). AddsFirsts (All p accesses b) (kept_in c.args.into.now) (kept_in c.add_inside.new.into)) (sym here)
     (adds_front p x.label (code x.kind) (codes (drop k xs)) (kept_in c.args.into.now) (kept_in c.loop-place.into)
-    (kept_in c.add_statement.new.into) c.loop-place.invariant c.in_ok-add_statement.ensures)
+    (kept_in c.add_inside.new.into) c.loop-place.invariant whole)
 
 pub add_block-returns : goal.add_block-returns
 add_block-returns t c =
@@ -55,142 +60,57 @@ add_block-returns t c =
     subst (λ k. AddsFirsts (All (program c.args.code.now) accesses (codes (drop k c.args.block.now))) (kept_in c.args.into.now)
     (kept_in c.loop-place.into)) first c.loop-place.invariant
 
-pub add_statement-returns : goal.add_statement-returns
-add_statement-returns t c =
-    let p = program c.args.code.now in
-    let l = c.args.statement.now.label in
-    let k = code c.args.statement.now.kind in
-    on_ok c.add_inside.result
-    (λ h. adds_whole p l k (map access c.deref.result.now) (kept_in c.args.into.now) (kept_in c.add_all.new.self)
-    (kept_in c.add_inside.new.into) (ap (map access) c.deref.ensures.value ∙ c.in_ok-own.ensures) c.in_ok-add_all.ensures h)
-    c.add_inside.ensures
-
 pub add_inside-add_block-requires : goal.add_inside-add_block-requires
 add_inside-add_block-requires t c =
-    let p = program c.args.code.now in
-    let is = is_If _ c.in-If.guard c.in-If.body c.in-If.other c.deref.result.now c.in-If.other.items c.in-If.is c.deref.ensures.value refl in (
-      omega (arith, ap size_in is),
-      (
-        c.requires.sound,
-        (
-          c.requires.summaries,
-          part_inside p c.args.statement.now.label (code c.args.statement.now.kind) _ _ c.requires.there is Block.if_body,
-        ),
-      ),
-    )
+    let is = is_If _ c.in-If.guard c.in-If.body c.in-If.other c.deref.result.now c.in-If.other.items c.in-If.is c.deref.ensures.value refl in
+    let inside = is_inside (program c.args.code.now) c.args.statement.now.label (code c.args.statement.now.kind) _ _ c.requires.there is Block.if_body in
+    (omega (arith, inside.small), (c.requires.sound, (c.requires.summaries, inside.part)))
 
 pub add_inside-add_block-requires-in-If : goal.add_inside-add_block-requires-in-If
 add_inside-add_block-requires-in-If t c =
-    let p = program c.args.code.now in
-    let is = is_If _ c.in-If.guard c.in-If.body c.in-If.other c.in-If.body.items c.deref-in-If.result.now c.in-If.is refl c.deref-in-If.ensures.value in (
-      omega (arith, ap size_in is),
-      (
-        c.requires.sound,
-        (
-          c.requires.summaries,
-          part_inside p c.args.statement.now.label (code c.args.statement.now.kind) _ _ c.requires.there is Block.if_other,
-        ),
-      ),
-    )
+    let is = is_If _ c.in-If.guard c.in-If.body c.in-If.other c.in-If.body.items c.deref-in-If.result.now c.in-If.is refl c.deref-in-If.ensures.value in
+    let inside = is_inside (program c.args.code.now) c.args.statement.now.label (code c.args.statement.now.kind) _ _ c.requires.there is Block.if_other in
+    (omega (arith, inside.small), (c.requires.sound, (c.requires.summaries, inside.part)))
 
 pub add_inside-add_block-requires-in-While : goal.add_inside-add_block-requires-in-While
 add_inside-add_block-requires-in-While t c =
-    let p = program c.args.code.now in
-    let is = is_While _ c.in-While.guard c.in-While.body c.deref-in-While.result.now c.in-While.is c.deref-in-While.ensures.value in (
-      omega (arith, ap size_in is),
-      (
-        c.requires.sound,
-        (
-          c.requires.summaries,
-          part_inside p c.args.statement.now.label (code c.args.statement.now.kind) _ _ c.requires.there is Block.while,
-        ),
-      ),
-    )
-
-pub add_inside-add_block-requires-in-Async : goal.add_inside-add_block-requires-in-Async
-add_inside-add_block-requires-in-Async t c =
-    let p = program c.args.code.now in
-    let is = is_Async _ c.in-Async.body c.deref-in-Async.result.now c.in-Async.is c.deref-in-Async.ensures.value in (
-      omega (arith, ap size_in is),
-      (
-        c.requires.sound,
-        (
-          c.requires.summaries,
-          part_inside p c.args.statement.now.label (code c.args.statement.now.kind) _ _ c.requires.there is Block.async,
-        ),
-      ),
-    )
-
-pub add_inside-add_block-requires-in-Finish : goal.add_inside-add_block-requires-in-Finish
-add_inside-add_block-requires-in-Finish t c =
-    let p = program c.args.code.now in
-    let is = is_Finish _ c.in-Finish.body c.deref-in-Finish.result.now c.in-Finish.is c.deref-in-Finish.ensures.value in (
-      omega (arith, ap size_in is),
-      (
-        c.requires.sound,
-        (
-          c.requires.summaries,
-          part_inside p c.args.statement.now.label (code c.args.statement.now.kind) _ _ c.requires.there is Block.finish,
-        ),
-      ),
-    )
+    let k = c.args.statement.now.kind in
+    let b = c.deref-in-While.result.now in
+    let block = of_same k c.in-While.body (λ s. Block s (codes b)) b c.deref-in-While.ensures.value c.in-While.is (λ t. Block.while) Block.async Block.finish in
+    let inside = is_inside (program c.args.code.now) c.args.statement.now.label (code k) (code k) (codes b) c.requires.there refl block in
+    (omega (arith, inside.small), (c.requires.sound, (c.requires.summaries, inside.part)))
 
 pub add_inside-add_block-requires-in-Split : goal.add_inside-add_block-requires-in-Split
 add_inside-add_block-requires-in-Split t c =
-    let p = program c.args.code.now in
-    let is = is_Split _ c.in-Split.section c.in-Split.at c.in-Split.left c.in-Split.right c.in-Split.body c.deref-in-Split.result.now c.in-Split.is c.deref-in-Split.ensures.value in (
-      omega (arith, ap size_in is),
-      (
-        c.requires.sound,
-        (
-          c.requires.summaries,
-          part_inside p c.args.statement.now.label (code c.args.statement.now.kind) _ _ c.requires.there is Block.split,
-        ),
-      ),
-    )
+    let is = is_Split _ c.in-Split.sides c.in-Split.body c.deref-in-Split.result.now c.in-Split.is c.deref-in-Split.ensures.value in
+    let inside = is_inside (program c.args.code.now) c.args.statement.now.label (code c.args.statement.now.kind) _ _ c.requires.there is Block.split in
+    (omega (arith, inside.small), (c.requires.sound, (c.requires.summaries, inside.part)))
 
 pub add_inside-returns-in-While : goal.add_inside-returns-in-While
 add_inside-returns-in-While t c =
-    let p = program c.args.code.now in
-    let is = is_While _ c.in-While.guard c.in-While.body c.deref-in-While.result.now c.in-While.is c.deref-in-While.ensures.value in
+    let old = kept_in c.args.into.now in
+    let new = kept_in c.add_block-in-While.new.into in
     on_ok c.add_block-in-While.result
-    (λ h. subst (λ (k : Code). AddsFirsts (AllInside p accesses k) (kept_in c.args.into.now) (kept_in c.add_block-in-While.new.into)) (sym is) h)
+    (λ h. of_same c.args.statement.now.kind c.in-While.body (λ s. AddsFirsts (AllInside (program c.args.code.now) accesses s) old new)
+    c.deref-in-While.result.now c.deref-in-While.ensures.value c.in-While.is (λ t. h) h h)
     c.add_block-in-While.ensures
-
-pub add_inside-returns-in-Async : goal.add_inside-returns-in-Async
-add_inside-returns-in-Async t c =
-    let p = program c.args.code.now in
-    let is = is_Async _ c.in-Async.body c.deref-in-Async.result.now c.in-Async.is c.deref-in-Async.ensures.value in
-    on_ok c.add_block-in-Async.result
-    (λ h. subst (λ (k : Code). AddsFirsts (AllInside p accesses k) (kept_in c.args.into.now) (kept_in c.add_block-in-Async.new.into)) (sym is) h)
-    c.add_block-in-Async.ensures
-
-pub add_inside-returns-in-Finish : goal.add_inside-returns-in-Finish
-add_inside-returns-in-Finish t c =
-    let p = program c.args.code.now in
-    let is = is_Finish _ c.in-Finish.body c.deref-in-Finish.result.now c.in-Finish.is c.deref-in-Finish.ensures.value in
-    on_ok c.add_block-in-Finish.result
-    (λ h. subst (λ (k : Code). AddsFirsts (AllInside p accesses k) (kept_in c.args.into.now) (kept_in c.add_block-in-Finish.new.into)) (sym is) h)
-    c.add_block-in-Finish.ensures
 
 pub add_inside-returns-in_ok-add_block-in-If : goal.add_inside-returns-in_ok-add_block-in-If
 add_inside-returns-in_ok-add_block-in-If t c =
     let p = program c.args.code.now in
     let is = is_If _ c.in-If.guard c.in-If.body c.in-If.other c.deref.result.now c.deref-in-If.result.now c.in-If.is c.deref.ensures.value c.deref-in-If.ensures.value in
-    let b = codes c.deref.result.now in
-    let d = codes c.deref-in-If.result.now in
     on_ok c.add_block-in-If.result
     (λ h. subst (λ (k : Code). AddsFirsts (AllInside p accesses k) (kept_in c.args.into.now) (kept_in c.add_block-in-If.new.into)) (sym is)
-    (adds_then (All p accesses b) (All p accesses d) (kept_in c.args.into.now) (kept_in c.add_block.new.into)
-    (kept_in c.add_block-in-If.new.into) c.in_ok-add_block-in-If.ensures h))
+    (adds_then (All p accesses (codes c.deref.result.now)) (All p accesses (codes c.deref-in-If.result.now)) (kept_in c.args.into.now)
+    (kept_in c.add_block.new.into) (kept_in c.add_block-in-If.new.into) c.in_ok-add_block-in-If.ensures h))
     c.add_block-in-If.ensures
 
 pub add_inside-returns-in_ok-outside-in-Split : goal.add_inside-returns-in_ok-outside-in-Split
 add_inside-returns-in_ok-outside-in-Split t c =
     let p = program c.args.code.now in
-    let out = past_split c.in-Split.section.number c.in-Split.left.number c.in-Split.right.number in
+    let out = past_split c.in-Split.sides.section.number c.in-Split.sides.left.number c.in-Split.sides.right.number in
     let b = codes c.deref-in-Split.result.now in
-    let is = is_Split _ c.in-Split.section c.in-Split.at c.in-Split.left c.in-Split.right c.in-Split.body c.deref-in-Split.result.now c.in-Split.is c.deref-in-Split.ensures.value in
+    let is = is_Split _ c.in-Split.sides c.in-Split.body c.deref-in-Split.result.now c.in-Split.is c.deref-in-Split.ensures.value in
     let inside = kept_in c.add_block-in-Split.new.into in
     let outside = kept_in c.in_ok-outside-in-Split.outside in
     let renamed_firsts : AreFirsts (Renamed p accesses out (All p accesses b)) outside =

@@ -11,10 +11,7 @@ invariant-add_block-loop-place l =
     AddsFirsts (All (program l.code) accesses (codes (drop l.place l.block))) (kept_in l.initial.into) (kept_in l.into)
 
 abbrev pub decreases-add_block : goal.decreases-add_block
-decreases-add_block l = 3 * size (codes l.block.now)
-
-abbrev pub decreases-add_statement : goal.decreases-add_statement
-decreases-add_statement l = 3 * size_in (code l.statement.now.kind) + 2
+decreases-add_block l = 2 * size (codes l.block.now)
 
 abbrev pub decreases-add_inside : goal.decreases-add_inside
-decreases-add_inside l = 3 * size_in (code l.statement.now.kind) + 1
+decreases-add_inside l = 2 * size_in (code l.statement.now.kind) + 1

@@ -1,18 +1,19 @@
-use Rattle.effects.specs.Effects.{accesses, labels}
-use Rattle.effects.proofs.LeastRows.{all_rows, pending_rows, all_lists, pending_lists, all_none, least, least_pending}
+use Rattle.types.specs.Code.{Program}
+use Rattle.effects.specs.Effects.{Subject, accesses, labels}
+use Rattle.effects.specs.Rows.{IsLeastSolution}
+use Rattle.effects.proofs.LeastRows as rows
 use Rattle.effects.proofs.laws.effects_are_the_least_solution.Goals as goal
 
-pub returns : goal.returns
-returns c = record {
-  all_of_statement = λ p. all_rows p accesses;
-  pending_of_statement = λ p. pending_rows p accesses;
-  all_of_list = λ p. all_lists p accesses;
-  pending_of_list = λ p. pending_lists p accesses;
-  nothing = λ p. all_none p accesses;
-  least = λ p has solves b x h. least p accesses has solves h;
-  least_pending = λ p has solves b x h. least_pending p accesses has solves h;
-  labels_of_statement = λ p. all_rows p labels;
-  pending_labels_of_statement = λ p. pending_rows p labels;
-  least_labels = λ p has solves b x h. least p labels has solves h;
-  least_pending_labels = λ p has solves b x h. least_pending p labels has solves h;
+solution : (p : Program) (subject : Subject) → IsLeastSolution p subject
+solution p subject = record {
+  all_of_statement = rows.all_rows p subject;
+  pending_of_statement = rows.pending_rows p subject;
+  all_of_list = rows.all_lists p subject;
+  pending_of_list = rows.pending_lists p subject;
+  nothing = rows.all_none p subject;
+  least = λ has solves b x h. rows.least p subject has solves h;
+  least_pending = λ has solves b x h. rows.least_pending p subject has solves h;
 }
+
+pub returns : goal.returns
+returns c = record { accesses = λ p. solution p accesses; labels = λ p. solution p labels }

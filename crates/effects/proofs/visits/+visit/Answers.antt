@@ -34,7 +34,7 @@ visit_inside-returns-in_ok-visit_block-in-Split t c =
     c.in_ok-visit_block-in-Split.ensures
     ∙ ap (λ b. before ++ visits_in c.args.standing (codes b)) c.deref-in-Split.ensures.value
     ∙ inside_of before c.args.standing
-    (ap code c.in-Split.is ∙ code_Split c.in-Split.section c.in-Split.at c.in-Split.left c.in-Split.right c.in-Split.body)
+    (ap code c.in-Split.is ∙ code_Split c.in-Split.sides c.in-Split.body)
 
 pub visit_inside-returns-in_ok-visit_block-in-Async : goal.visit_inside-returns-in_ok-visit_block-in-Async
 visit_inside-returns-in_ok-visit_block-in-Async t c =

@@ -9,7 +9,7 @@ use Rattle.parallel_relation.specs.Around.{Gains, both}
 use Rattle.parallel_relation.proofs.LabelsLemmas.{gains_statement, one_less_left, none_is_left}
 use Rattle.parallel_relation.proofs.StatementParts.{Done}
 use Rattle.effects.proofs.Statements.{size, size_in, codes_at, is_If}
-use Rattle.parallel_relation.proofs.OneList.{of_list, size_of_list}
+use Rattle.effects.proofs.OneList.{of_list, size_of_list}
 use Rattle.parallel_relation.proofs.Sums.{gains_joined, gains_nothing, on_ok}
 use Rattle.parallel_relation.proofs.labels.+labels.Goals as goal
 

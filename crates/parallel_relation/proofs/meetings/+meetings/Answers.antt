@@ -8,7 +8,7 @@ use Rattle.parallel_relation.specs.Listing.{alls_of, pendings_of, is_asked}
 use Rattle.parallel_relation.specs.Meetings.{added_in, added_inside}
 use Rattle.parallel_relation.specs.Order.{meeting_of}
 use Rattle.parallel_relation.specs.Translation.{meeting}
-use Rattle.parallel_relation.proofs.OneList.{of_list, size_of_list}
+use Rattle.effects.proofs.OneList.{of_list, size_of_list}
 use Rattle.parallel_relation.proofs.Sums.{on_ok}
 use Rattle.parallel_relation.proofs.meetings.+meetings.Goals as goal
 

@@ -1,13 +1,14 @@
-use Rattle.std.proofs.Common.{◌≡◌, inl, inr, map, refl, sym, ap}
+use Rattle.std.proofs.Common.{◌≡◌, ◌++◌, OnOk, map, refl, sym, ap}
 use Rattle.std.proofs.lemmas.List.{append-nil}
 use Rattle.std.proofs.lemmas.Option.{slice_get_past}
 use Rattle.types.specs.Translation.{code, codes}
 use Rattle.effects.specs.Effects.{accesses}
-use Rattle.effects.specs.Tables.{all_in}
+use Rattle.effects.specs.Tables.{all_in, all_inside}
 use Rattle.effects.specs.Translation.{access}
 use Rattle.effects.proofs.Appending.{in_two_steps}
 use Rattle.effects.proofs.ClosingLemmas.{got}
-use Rattle.effects.proofs.Statements.{is_If, is_While, is_Split, is_Async, is_Finish}
+use Rattle.effects.proofs.OneList.{of_same}
+use Rattle.effects.proofs.Statements.{is_If, is_Split}
 use Rattle.parallel_relation.specs.Listing.{alls_of}
 use Rattle.parallel_relation.proofs.Sums.{on_ok}
 use Rattle.parallel_relation.proofs.statements.+done.Goals as goal
@@ -19,22 +20,18 @@ add_inside-returns-in_ok-add_block-in-If t c =
 
 pub add_inside-returns-in-While : goal.add_inside-returns-in-While
 add_inside-returns-in-While t c =
-    let h = c.add_block-in-While.ensures in
-    let same = c.deref-in-While.ensures.value in
-    elim c.in-While.is [
-      | inl k ↦ rw (is_While _ k.0 c.in-While.body c.deref-in-While.result.now k.1 same) h
-      | inr k ↦ elim k [
-        | inl m ↦ rw (is_Async _ c.in-While.body c.deref-in-While.result.now m same) h
-        | inr m ↦ rw (is_Finish _ c.in-While.body c.deref-in-While.result.now m same) h
-      ]
-    ]
+    let out = c.add_block-in-While in
+    of_same c.args.kind.now c.in-While.body
+    (λ j. OnOk out.result (map access out.new.into.items ≡ map access c.args.into.now.items
+    ++ all_inside accesses (alls_of c.args.lists.now) j))
+    c.deref-in-While.result.now c.deref-in-While.ensures.value c.in-While.is (λ t. out.ensures) out.ensures out.ensures
 
 pub add_inside-returns-in_ok-add_block-in-Split : goal.add_inside-returns-in_ok-add_block-in-Split
 add_inside-returns-in_ok-add_block-in-Split t c =
     let s = c.in-Split in
     let inside : map access c.deref-in-Split-2.result.now ≡ all_in accesses (alls_of c.args.lists.now) (codes c.deref-in-Split.result.now) =
     rw (c.deref-in-Split-2.ensures.value, c.in_ok-add_block-in-Split.ensures, c.new-inside.ensures.items) refl in
-    rw (is_Split _ s.section s.at s.left s.right s.body c.deref-in-Split.result.now s.is c.deref-in-Split.ensures.value, ← inside) c.add_around.ensures
+    rw (is_Split _ s.sides s.body c.deref-in-Split.result.now s.is c.deref-in-Split.ensures.value, ← inside) c.add_around.ensures
 
 pub add_inside-returns-in-Some : goal.add_inside-returns-in-Some
 add_inside-returns-in-Some t c =

@@ -30,7 +30,7 @@ add_left_by-returns-in_ok-add_left-in-Split t c =
     let s = c.in-Split in
     let inside : map access c.deref-in-Split-2.result.now ≡ left_in accesses (alls_of c.args.lists.now) (pendings_of c.args.lists.now) (codes c.deref-in-Split.result.now) =
     rw (c.deref-in-Split-2.ensures.value, c.in_ok-add_left-in-Split.ensures, c.new-inside.ensures.items) refl in
-    rw (is_Split _ s.section s.at s.left s.right s.body c.deref-in-Split.result.now s.is c.deref-in-Split.ensures.value, ← inside) c.add_around.ensures
+    rw (is_Split _ s.sides s.body c.deref-in-Split.result.now s.is c.deref-in-Split.ensures.value, ← inside) c.add_around.ensures
 
 pub add_left_by-returns-in-Some : goal.add_left_by-returns-in-Some
 add_left_by-returns-in-Some t c =

@@ -99,13 +99,13 @@ walk_inside-returns-in_ok-add_labels_of-in-While t c =
 pub walk_inside-walk-requires-in-Split : goal.walk_inside-walk-requires-in-Split
 walk_inside-walk-requires-in-Split t c =
     let s = c.in-Split in
-    let is = is_Split _ s.section s.at s.left s.right s.body c.deref-in-Split.result.now s.is c.deref-in-Split.ensures.value in
+    let is = is_Split _ s.sides s.body c.deref-in-Split.result.now s.is c.deref-in-Split.ensures.value in
     (omega (arith, ap size_in is), c.requires)
 
 pub walk_inside-returns-in-Split : goal.walk_inside-returns-in-Split
 walk_inside-returns-in-Split t c =
     let s = c.in-Split in
-    rw (is_Split _ s.section s.at s.left s.right s.body c.deref-in-Split.result.now s.is c.deref-in-Split.ensures.value) c.walk-in-Split.ensures
+    rw (is_Split _ s.sides s.body c.deref-in-Split.result.now s.is c.deref-in-Split.ensures.value) c.walk-in-Split.ensures
 
 pub walk_inside-walk-requires-in-Async : goal.walk_inside-walk-requires-in-Async
 walk_inside-walk-requires-in-Async t c =

@@ -36,5 +36,5 @@ pub is_plain-returns-in-Split : goal.is_plain-returns-in-Split
 is_plain-returns-in-Split t c =
     c.are_plain-in-Split.ensures
     ∙ sym (ap (is_plain_by c.args.calm.now)
-    (is_Split _ c.in-Split.section c.in-Split.at c.in-Split.left c.in-Split.right c.in-Split.body c.deref-in-Split.result.now c.in-Split.is
+    (is_Split _ c.in-Split.sides c.in-Split.body c.deref-in-Split.result.now c.in-Split.is
     c.deref-in-Split.ensures.value))

@@ -150,19 +150,19 @@ found_of-found_in-requires-in-While g t c κs within =
     let stands = stands_while _ _ _ _ c.requires.stands _ _ is in
     (omega (arith, ap size_in is), (within, (search (sendable, crosses) depth 40, (c.requires.sound, (c.requires.summaries, (c.requires.procedure, stands))))))
 
-pub found_of-in_turn-requires-clause-pending : goal.found_of-in_turn-requires-clause-pending
-found_of-in_turn-requires-clause-pending g t c =
+pub found_of-in_turn-requires : goal.found_of-in_turn-requires
+found_of-in_turn-requires g t c =
     let is = is_While _ c.in-While.guard c.in-While.body c.deref-in-While.result.now c.in-While.is c.deref-in-While.ensures.value in
-    in_these _ c.procedure_of.ensures
-    (in_range _ c.in_ok-turn-in-While.turn.pending _ (pending_of_turn _ _ _ _ _ _ _ is _ (ap (map access) c.deref-in-While-2.ensures.value ∙ c.in_ok-own.ensures) _ _ c.in_ok-found_in-in-While.ensures
-    c.in_ok-turn-in-While.ensures) (below_pending _ c.requires.sound _ _ _ c.requires.stands))
-
-pub found_of-in_turn-requires-clause-all : goal.found_of-in_turn-requires-clause-all
-found_of-in_turn-requires-clause-all g t c =
-    let is = is_While _ c.in-While.guard c.in-While.body c.deref-in-While.result.now c.in-While.is c.deref-in-While.ensures.value in
-    in_these _ c.procedure_of.ensures
-    (in_range _ c.in_ok-turn-in-While.turn.all _ (all_of_turn _ _ _ _ _ _ _ is _ (ap (map access) c.deref-in-While-2.ensures.value ∙ c.in_ok-own.ensures) _ _ c.in_ok-found_in-in-While.ensures
-    c.in_ok-turn-in-While.ensures) (below_of _ c.requires.sound _ _ _ c.requires.stands))
+    let own = ap (map access) c.deref-in-While-2.ensures.value ∙ c.in_ok-own.ensures in
+    let turn = c.in_ok-turn-in-While in
+    record {
+      pending = in_these _ c.procedure_of.ensures
+          (in_range _ turn.turn.pending _ (pending_of_turn _ _ _ _ _ _ _ is _ own _ _ c.in_ok-found_in-in-While.ensures turn.ensures)
+          (below_pending _ c.requires.sound _ _ _ c.requires.stands));
+      all = in_these _ c.procedure_of.ensures
+          (in_range _ turn.turn.all _ (all_of_turn _ _ _ _ _ _ _ is _ own _ _ c.in_ok-found_in-in-While.ensures turn.ensures)
+          (below_of _ c.requires.sound _ _ _ c.requires.stands));
+    }
 
 pub found_of-returns-in-While : goal.found_of-returns-in-While
 found_of-returns-in-While g t c =
@@ -173,16 +173,16 @@ found_of-returns-in-While g t c =
 pub found_of-found_in-requires-in-Split : goal.found_of-found_in-requires-in-Split
 found_of-found_in-requires-in-Split g t c κs within =
     let s = c.in-Split in
-    let is = is_Split _ s.section s.at s.left s.right s.body c.deref-in-Split.result.now s.is c.deref-in-Split.ensures.value in
+    let is = is_Split _ s.sides s.body c.deref-in-Split.result.now s.is c.deref-in-Split.ensures.value in
     let stands = stands_split _ _ _ _ c.requires.stands _ _ _ _ _ is in
     (omega (arith, ap size_in is), (within, (search (sendable, crosses) depth 40, (c.requires.sound, (c.requires.summaries, (c.requires.procedure, stands))))))
 
 pub found_of-returns-in-Split : goal.found_of-returns-in-Split
 found_of-returns-in-Split g t c =
     let s = c.in-Split in
-    let is = is_Split _ s.section s.at s.left s.right s.body c.deref-in-Split.result.now s.is c.deref-in-Split.ensures.value in
+    let is = is_Split _ s.sides s.body c.deref-in-Split.result.now s.is c.deref-in-Split.ensures.value in
     found_of_arm _ _ _ _ _ _ is (λ x y h. h) _ (ap (map access) c.deref-in-Split-2.ensures.value ∙ c.in_ok-own.ensures) _
-    (found_inside_split _ _ _ s.section.number (number s.at) s.left.number s.right.number _ _ _ c.in_ok-found-in-Split.ensures c.in_ok-outside-in-Split.ensures) _
+    (found_inside_split _ _ _ s.sides.section.number (number s.sides.at) s.sides.left.number s.sides.right.number _ _ _ c.in_ok-found-in-Split.ensures c.in_ok-outside-in-Split.ensures) _
     c.with_own-in-Split.ensures
 
 pub found_of-returns-in-Call : goal.found_of-returns-in-Call

@@ -16,7 +16,7 @@ use Rattle.step_trees.proofs.explore.explore_random.Goals as goal
 pub returns : goal.returns
 returns c =
     let p = code_of c.args.accepted.now.typed in let i = input c.args.input.now in let seed = c.args.seed in
-    let sound = subst (λ t. IsSound (code_of t)) c.typed.ensures.field c.typed_programs_are_sound.ensures in
+    let sound = subst (λ t. IsSound (code_of t)) c.typed.ensures.field c.typed_programs_are_sound.ensures.typed in
     let accepted = subst (λ t. IsAccepted (code_of t)) c.typed.ensures.field c.typed.ensures.no_clash in
     let cs = drawn_choices p i seed in let result = c.by_draws.result in
     let whole = from_beginning p i (c.in_ok-plan.plan, c.in_ok-plan.course) c.in_ok-plan.ensures

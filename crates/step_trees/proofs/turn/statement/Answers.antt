@@ -21,7 +21,7 @@ returns-in-If c =
 pub returns-in-Split : goal.returns-in-Split
 returns-in-Split c =
     let s = c.in-Split in
-    let same = is_Split _ s.section s.at s.left s.right s.body _ s.is c.deref-in-Split.ensures.value in
+    let same = is_Split _ s.sides s.body _ s.is c.deref-in-Split.ensures.value in
     after_as c.args.turn c.args.stmt.now.label c.split.result (sym same) c.split.ensures
 
 pub returns-in-Async : goal.returns-in-Async

@@ -21,7 +21,7 @@ pub in_statement-returns-in-Split : goal.in_statement-returns-in-Split
 in_statement-returns-in-Split t c =
     let body = c.in_block-in-Split.ensures ∙ ap (λ b. min (statements (codes b)) 18446744073709551615) c.deref-in-Split.ensures.value in
     let s = c.in-Split in
-    let all = ap statements_in (ap plain_code s.is ∙ code_Split s.section s.at s.left s.right s.body) in
+    let all = ap statements_in (ap plain_code s.is ∙ code_Split s.sides s.body) in
     omega (arith, c.saturating_add-in-Split.ensures, body, all)
 
 pub in_statement-returns-in-Async : goal.in_statement-returns-in-Async

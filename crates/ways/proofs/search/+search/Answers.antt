@@ -85,25 +85,25 @@ way_inside-way_behind-requires-in-While t c =
 
 pub way_inside-way_behind-requires-in-Split : goal.way_inside-way_behind-requires-in-Split
 way_inside-way_behind-requires-in-Split t c =
-    let is = is_Split _ c.in-Split.section c.in-Split.at c.in-Split.left c.in-Split.right c.in-Split.body c.deref-in-Split.result.now c.in-Split.is c.deref-in-Split.ensures.value in (
+    let is = is_Split _ c.in-Split.sides c.in-Split.body c.deref-in-Split.result.now c.in-Split.is c.deref-in-Split.ensures.value in (
       omega (arith, ap size_in is),
-      inside_ways (program c.args.code.now) c.args.known.now c.args.sought c.in-Split.section.number c.in-Split.left.number c.in-Split.right.number
-          c.in-Split.left c.inside-aim.result c.inside-aim.ensures c.requires.ways,
+      inside_ways (program c.args.code.now) c.args.known.now c.args.sought c.in-Split.sides.section.number c.in-Split.sides.left.number c.in-Split.sides.right.number
+          c.in-Split.sides.left c.inside-aim.result c.inside-aim.ensures c.requires.ways,
     )
 
 pub way_inside-way_behind-requires-in-Split-2 : goal.way_inside-way_behind-requires-in-Split-2
 way_inside-way_behind-requires-in-Split-2 t c =
-    let is = is_Split _ c.in-Split.section c.in-Split.at c.in-Split.left c.in-Split.right c.in-Split.body c.deref-in-Split-2.result.now c.in-Split.is c.deref-in-Split-2.ensures.value in (
+    let is = is_Split _ c.in-Split.sides c.in-Split.body c.deref-in-Split-2.result.now c.in-Split.is c.deref-in-Split-2.ensures.value in (
       omega (arith, ap size_in is),
-      inside_ways (program c.args.code.now) c.args.known.now c.args.sought c.in-Split.section.number c.in-Split.left.number c.in-Split.right.number
-          c.in-Split.right c.inside-aim-in-Split.result c.inside-aim-in-Split.ensures c.requires.ways,
+      inside_ways (program c.args.code.now) c.args.known.now c.args.sought c.in-Split.sides.section.number c.in-Split.sides.left.number c.in-Split.sides.right.number
+          c.in-Split.sides.right c.inside-aim-in-Split.result c.inside-aim-in-Split.ensures c.requires.ways,
     )
 
 pub way_inside-way_behind-requires-in-Split-3 : goal.way_inside-way_behind-requires-in-Split-3
 way_inside-way_behind-requires-in-Split-3 t c =
-    let is = is_Split _ c.in-Split.section c.in-Split.at c.in-Split.left c.in-Split.right c.in-Split.body c.deref-in-Split-3.result.now c.in-Split.is c.deref-in-Split-3.ensures.value in (
+    let is = is_Split _ c.in-Split.sides c.in-Split.body c.deref-in-Split-3.result.now c.in-Split.is c.deref-in-Split-3.ensures.value in (
       omega (arith, ap size_in is),
-      inside_ways (program c.args.code.now) c.args.known.now c.args.sought c.in-Split.section.number c.in-Split.left.number c.in-Split.right.number
+      inside_ways (program c.args.code.now) c.args.known.now c.args.sought c.in-Split.sides.section.number c.in-Split.sides.left.number c.in-Split.sides.right.number
           c.args.sought.access.section c.inside-aim-in-Split-2.result c.inside-aim-in-Split-2.ensures c.requires.ways,
     )
 
@@ -148,15 +148,15 @@ way_inside-returns-in_ok-by_itself-in-Split t c =
     let sought = c.args.sought in
     let l = c.args.statement.now.label in
     let b = c.in-Split in
-    let s = b.section.number in
-    let i = b.left.number in
-    let r = b.right.number in
+    let s = b.sides.section.number in
+    let i = b.sides.left.number in
+    let r = b.sides.right.number in
     let ys = b.body.items in
-    at_code _ _ _ _ _ _ _ _ (is_Split _ b.section b.at b.left b.right b.body ys b.is refl)
+    at_code _ _ _ _ _ _ _ _ (is_Split _ b.sides b.body ys b.is refl)
     (least_split _ _ _ _ _ s _ i r (codes ys) _ _ _ _ _ c.shorter-in-Split.ensures c.shorter-in-Split-2.ensures
-    (side_found_in p k sought l s i r c.deref-in-Split.result.now ys b.left _ c.inside-aim.result _
+    (side_found_in p k sought l s i r c.deref-in-Split.result.now ys b.sides.left _ c.inside-aim.result _
     c.deref-in-Split.ensures.value c.inside-aim.ensures c.step-step-in-Split.ensures c.in_ok-by_left-in-Split.ensures)
-    (side_found_in p k sought l s i r c.deref-in-Split-2.result.now ys b.right _ c.inside-aim-in-Split.result _
+    (side_found_in p k sought l s i r c.deref-in-Split-2.result.now ys b.sides.right _ c.inside-aim-in-Split.result _
     c.deref-in-Split-2.ensures.value c.inside-aim-in-Split.ensures c.step-step-in-Split.ensures c.in_ok-by_right-in-Split.ensures)
     (side_found_in p k sought l s i r c.deref-in-Split-3.result.now ys sought.access.section _ c.inside-aim-in-Split-2.result _
     c.deref-in-Split-3.ensures.value c.inside-aim-in-Split-2.ensures c.step-step-in-Split.ensures c.in_ok-by_itself-in-Split.ensures))

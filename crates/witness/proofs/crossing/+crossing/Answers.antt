@@ -7,7 +7,7 @@ use Rattle.types.specs.Translation.{code, codes, program}
 use Rattle.types.specs.declared.code.Stmt.{Stmt}
 use Rattle.effects.specs.Translation.{access}
 use Rattle.effects.proofs.Statements.{size_in, size-drop, smaller, codes_before, is_If, is_While}
-use Rattle.parallel_relation.proofs.OneList.{of_block, size_of_list}
+use Rattle.effects.proofs.OneList.{of_block, size_of_list}
 use Rattle.witness.specs.Crossed.{IsInTurn, MeetAt, MeetIn, both, crossed}
 use Rattle.ways.specs.Known.{steps}
 use Rattle.ways.specs.Least.{IsLeast, all_covered}

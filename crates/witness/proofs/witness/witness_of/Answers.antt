@@ -19,7 +19,7 @@ returns-in_default-2-clause-found c = λ is_race.
     let found = subst (λ (q : Program). IsLeast size all_covered (ShowIn q b r) (directed c.in_ok-first_pends.field-0)) is c.in_ok-first_pends.ensures in
     let body = ap (λ (q : Program). (numbered q r.procedure).body) (sym is) ∙ ap (λ (g : Procedure). g.body) (sym c.in-Some.ensures.some)
     ∙ ap codes (sym c.deref.ensures.value) in
-    absurd (race_found p r b (directed c.in_ok-first_pends.field-0) c.typed_programs_are_sound.ensures body found (ap directed c.in_default-2.is) is_race)
+    absurd (race_found p r b (directed c.in_ok-first_pends.field-0) c.typed_programs_are_sound.ensures.typed body found (ap directed c.in_default-2.is) is_race)
 
 pub returns-clause-shortest : goal.returns-clause-shortest
 returns-clause-shortest c =

@@ -5,7 +5,7 @@ use Rattle.types.specs.declared.path.Path.{Path}
 use Rattle.types.specs.declared.value.Environment.{Environment as rEnvironment}
 use Rattle.types.specs.Contents.{FitsArrays}
 use Rattle.types.specs.Meaning.{child, hushed}
-use Rattle.types.specs.Run.{Flow, State}
+use Rattle.types.specs.Run.{Flow, State, keeping}
 use Rattle.types.specs.Translation.{program, codes, environment, fault}
 use Rattle.serial_run.specs.declared.store.Store.{Store}
 use Rattle.serial_run.specs.declared.thread.Thread.{Thread}
@@ -18,7 +18,6 @@ use Rattle.spawn_copies.specs.Copied.{copied_at}
 use Rattle.cost.specs.Books.{beginning_booked}
 use Rattle.cost.specs.Accounts.{Account, begins_at, accounting}
 use Rattle.cost.specs.Frames.{cost, costs, rate}
-use Rattle.plain_code.specs.Means.{keeping}
 use Rattle.cost.specs.Machines.{IsSoundFrame, stack}
 use Rattle.cost.specs.Resume.{standing}
 use Rattle.cost.specs.Translation.{account}

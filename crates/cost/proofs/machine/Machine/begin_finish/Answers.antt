@@ -2,6 +2,7 @@ use Rattle.std.proofs.Common.{arith, ap, ◌∙◌, refl, ◌*◌, Vec, Global, 
 use Rattle.std.specs.Prelude.{ℕ, ℤ}
 use Rattle.types.specs.declared.fault.Fault.{Fault}
 use Rattle.types.specs.Meaning.{hushed}
+use Rattle.types.specs.Run.{keeping}
 use Rattle.types.specs.Translation.{program, codes, fault}
 use Rattle.serial_run.specs.declared.store.Store.{Store}
 use Rattle.serial_run.specs.declared.thread.Thread.{Thread}
@@ -9,7 +10,6 @@ use Rattle.serial_run.specs.Standing.{flow, state_of}
 use Rattle.cost.specs.declared.frame.Frame.TheVariants.{Rest, EndFinish}
 use Rattle.cost.specs.declared.frame.Outer.{Outer}
 use Rattle.cost.specs.Frames.{rate}
-use Rattle.plain_code.specs.Means.{keeping}
 use Rattle.cost.specs.Machines.{stack}
 use Rattle.cost.specs.Resume.{standing}
 use Rattle.cost.specs.Translation.{account}

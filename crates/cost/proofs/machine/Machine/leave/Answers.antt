@@ -12,10 +12,9 @@ use Rattle.cost.specs.Machines.{Does, IsSoundFrame, stack, turn_of}
 use Rattle.types.specs.Contents.{FitsArrays}
 use Rattle.serial_run.specs.Bounds.{LiesInArrays}
 use Rattle.serial_run.specs.Lists.{lists_of}
-use Rattle.types.specs.Run.{Flow, State}
+use Rattle.types.specs.Run.{Flow, State, keeping}
 use Rattle.cost.specs.Resume.{Standing, end_finish, faults_in, frame, lines_in, resume, standing}
 use Rattle.cost.specs.Accounts.{Account, ends_behind, leaves_behind}
-use Rattle.plain_code.specs.Means.{keeping}
 use Rattle.serial_run.specs.Standing.{flow, state_of}
 use Rattle.serial_run.specs.declared.store.Store.{Store}
 use Rattle.serial_run.specs.declared.thread.Thread.{Thread}

@@ -310,7 +310,8 @@ split-returns-clause-ok t c =
     let e = c.step.ensures in
     let numbers = c.in_ok-left.ensures.numbers in
     resolves_Split fs here (scope_of c.inside.new.scope) (string_bytes c.args.section.now) (expr c.args.at.now) l r (block c.args.body.now)
-    c.in_ok-section.section c.in_ok-at.at c.in_ok-left.left c.in_ok-left.right c.in_ok-body.body
+    (record { section = c.in_ok-section.section; at = c.in_ok-at.at; left = c.in_ok-left.left; right = c.in_ok-left.right })
+    c.in_ok-body.body
     (scope_of c.sides.new.self) c.mark-mark.result.names c.mark-mark.result.outside
     (record { names = c.mark-mark.ensures.names; outside = c.mark-mark.ensures.outside })
     (c.in_ok-left.ensures.place ∙ ap (with_sides c.in_ok-section.section.number l r) e)

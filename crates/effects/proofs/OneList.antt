@@ -1,9 +1,8 @@
 -- A statement with one list of statements inside, whichever it is.
 use Rattle.std.proofs.Common.{◌≡◌, ◌⊎◌, inl, inr, ℕ, List, Vec, Global, refl, sym, subst}
-use Rattle.sections.specs.declared.id.SectionId.{SectionId}
 use Rattle.types.specs.Code.{Truth, Number, Code, While, Split, Async, Finish}
 use Rattle.types.specs.Translation.{number, truth, code, codes}
-use Rattle.types.specs.declared.code.Number.{Number as rNumber}
+use Rattle.types.specs.declared.code.Sides.{Sides}
 use Rattle.types.specs.declared.code.Truth.{Truth as rTruth}
 use Rattle.types.specs.declared.code.Stmt.{Stmt}
 use Rattle.types.specs.declared.code.StmtKind.{StmtKind}
@@ -11,27 +10,35 @@ use Rattle.types.specs.declared.code.StmtKind.TheVariants.{While as rWhile, Spli
 use Rattle.effects.proofs.Statements.{size, size_in, is_While, is_Split, is_Async, is_Finish}
 
 module _ (k : StmtKind) (v : Vec Stmt Global) where
-  -- it is a split, an async or a finish
-  abbrev pub HasBlock : Type 0
-  HasBlock =
-      ((s : SectionId) × (n : rNumber) × (l : SectionId) × (r : SectionId) × k ≡ rSplit s n l r v) ⊎ ((k ≡ rAsync v) ⊎ (k ≡ rFinish v))
+  -- it is a loop, an async or a finish, whose list has the names around it
+  abbrev pub HasSameNames : Type 0
+  HasSameNames = ((t : rTruth) × k ≡ rWhile t v) ⊎ ((k ≡ rAsync v) ⊎ (k ≡ rFinish v))
 
-  -- one of these, or a loop
+  -- it is a split, an async or a finish, which runs its list once
+  abbrev pub HasBlock : Type 0
+  HasBlock = ((s : Sides) × k ≡ rSplit s v) ⊎ ((k ≡ rAsync v) ⊎ (k ≡ rFinish v))
+
+  -- one of all these
   abbrev pub HasList : Type 0
   HasList = ((t : rTruth) × k ≡ rWhile t v) ⊎ HasBlock
 
   -- what is so of all of these is so of it
   module _ (P : Code → Type 0) (b : List Stmt) (e : b ≡ v.items) where
+    pub of_same : HasSameNames → ((t : Truth) → P (While t (codes b))) → P (Async (codes b)) → P (Finish (codes b)) → P (code k)
+    of_same (inl h) loop async finish = subst P (sym (is_While k h.0 v b h.1 e)) (loop (truth h.0))
+    of_same (inr (inl h)) loop async finish = subst P (sym (is_Async k v b h e)) async
+    of_same (inr (inr h)) loop async finish = subst P (sym (is_Finish k v b h e)) finish
+
     pub of_block : HasBlock → ((s : ℕ) (n : Number) (l r : ℕ) → P (Split s n l r (codes b))) → P (Async (codes b)) → P (Finish (codes b))
         → P (code k)
     of_block (inl h) split async finish =
-        subst P (sym (is_Split k h.0 h.1 h.2 h.3 v b h.4 e)) (split h.0.number (number h.1) h.2.number h.3.number)
+        let s = h.0 in subst P (sym (is_Split k s v b h.1 e)) (split s.section.number (number s.at) s.left.number s.right.number)
     of_block (inr (inl h)) split async finish = subst P (sym (is_Async k v b h e)) async
     of_block (inr (inr h)) split async finish = subst P (sym (is_Finish k v b h e)) finish
 
     pub of_list : HasList → ((t : Truth) → P (While t (codes b))) → ((s : ℕ) (n : Number) (l r : ℕ) → P (Split s n l r (codes b)))
         → P (Async (codes b)) → P (Finish (codes b)) → P (code k)
-    of_list (inl h) loop split async finish = subst P (sym (is_While k h.0 v b h.1 e)) (loop (truth h.0))
+    of_list (inl h) loop split async finish = of_same (inl h) loop async finish
     of_list (inr h) loop split async finish = of_block h split async finish
 
   -- it holds as many as its list
