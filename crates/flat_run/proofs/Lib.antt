@@ -28,5 +28,4 @@ pub mod Limiting
 pub mod LineKinds
 pub mod Lying
 pub mod BlockCode
-pub mod Wholes
 pub mod Nesting

@@ -53,21 +53,15 @@ split_keeps seats id v left_over none s was at =
     let right : Share = share 1 [] in
     let cut : List Share = set s.views id left in
     let empty : length v.drawn ≡ 0 = ap length none in
+    let seats_left = sum_by-set_share (λ u. u.seats) s.views id v left at in
+    let seats_right = sum_by_push (λ (u : Share). u.seats) cut right in
+    let drawn_left = sum_by-set_share (λ u. length u.drawn) s.views id v left at in
+    let drawn_right = sum_by_push (λ (u : Share). length u.drawn) cut right in
     record {
       word = was.word;
       most = was.most;
-      all = omega (
-        arith,
-        was.all,
-        sum_by-set_share (λ u. u.seats) s.views id v left at,
-        sum_by_push (λ (u : Share). u.seats) cut right,
-      );
-      count = omega (
-        arith,
-        was.count,
-        sum_by-set_share (λ u. length u.drawn) s.views id v left at,
-        sum_by_push (λ (u : Share). length u.drawn) cut right,
-      );
+      all = omega (arith, was.all, seats_left, seats_right);
+      count = omega (arith, was.count, drawn_left, drawn_right);
       once = λ x. omega (
         arith,
         was.once x,
@@ -88,22 +82,15 @@ join_keeps seats id v other w s was at two there =
     let before : get_elem? s.views other ≡ some w
     = ⊎_elim (λ (t : (other ≡ id) × (both ≡ w)). absurd (two t.0))
     (λ (t : (other ≢ id) × (get_elem? s.views other ≡ some w)). t.1) (at_set s.views id other both w there) in
+    let seats_both = sum_by-set_share (λ u. u.seats) s.views id v both at in
+    let seats_spent = sum_by-set_share (λ u. u.seats) cut other w spent there in
+    let drawn_both = sum_by-set_share (λ u. length u.drawn) s.views id v both at in
+    let drawn_spent = sum_by-set_share (λ u. length u.drawn) cut other w spent there in
     record {
       word = was.word;
       most = was.most;
-      all = omega (
-        arith,
-        was.all,
-        sum_by-set_share (λ u. u.seats) s.views id v both at,
-        sum_by-set_share (λ u. u.seats) cut other w spent there,
-      );
-      count = omega (
-        arith,
-        was.count,
-        long,
-        sum_by-set_share (λ u. length u.drawn) s.views id v both at,
-        sum_by-set_share (λ u. length u.drawn) cut other w spent there,
-      );
+      all = omega (arith, was.all, seats_both, seats_spent);
+      count = omega (arith, was.count, long, drawn_both, drawn_spent);
       once = λ x. omega (
         arith,
         was.once x,
