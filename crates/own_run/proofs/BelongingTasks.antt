@@ -3,6 +3,7 @@ use Rattle.std.proofs.lemmas.Option.{same_Some}
 use Rattle.std.proofs.Common.{◌≡◌, ℕ, List, [], ◌∷◌, refl, sym, ap, ◌∙◌}
 use Rattle.std.specs.Prelude.{ℤ, ◌||◌, true, nat_eq}
 use Rattle.std.specs.Cmp.Lexicographic.{pointwise}
+use Rattle.sections.specs.Covers.{has}
 use Rattle.sections.specs.Place.{Place}
 use Rattle.types.specs.Code.{Do, If, While, Split, Call, Async, Finish, Codes, End, Then, Program}
 use Rattle.types.specs.Contents.{FitsArrays}
@@ -17,7 +18,6 @@ use Rattle.race_checker.specs.Clash.{IsAccepted}
 use Rattle.race_checker.specs.Scope.{IsScoped}
 use Rattle.race_checker.proofs.Calming.{is_calm}
 use Rattle.race_checker.proofs.Scoping.{is_scoped}
-use Rattle.own_run.specs.Places.{within}
 use Rattle.own_run.specs.OwnRun.{Start, Child, Own, back_from}
 use Rattle.own_run.specs.Given.{given, in_truth, root_of}
 use Rattle.own_run.specs.Frames.{Frame, Rest, Again, AtEnd, Back, Standing, IsGivenChild}
@@ -76,7 +76,7 @@ module _ (p : Program) (needs : Codes → Needs) (scoped : IsScoped p) (calm : I
   -- of each path there is one start: what a task of a listed path owns in the end is what is listed
   pub given_back : {u : Start} {st : State Own} → Reached p needs fresh root u (record { frames = []; state = st }) → (c : Child)
       → Belongs p c → IsGivenChild p needs fresh root c → pointwise nat_eq st.path c.listed.path ≡ true → (q : Place)
-      → (st.extra.owned q || back_from st.extra.pending q) ≡ within c.listed.windows q
+      → (st.extra.owned q || back_from st.extra.pending q) ≡ has c.listed.windows q
   given_back {u} {st} end c of is e q =
       let task = (goes p needs scoped calm provided fresh root named may_begin end).task in
       let path : u.path ≡ c.start.path = sym task.path ∙ paths_same st.path c.listed.path e ∙ is.listed in
@@ -96,7 +96,7 @@ module _ (p : Program) (needs : Codes → Needs) (scoped : IsScoped p) (calm : I
 abbrev pub IsGivenBack : Program → List (List ℤ) → Budget → Child → Type 0
 IsGivenBack p input b c =
     (r : TaskResult) (k : IsTaskResult p input b r) → pointwise nat_eq k.state.path c.listed.path ≡ true → (q : Place)
-    → (k.state.extra.owned q || back_from k.state.extra.pending q) ≡ within c.listed.windows q
+    → (k.state.extra.owned q || back_from k.state.extra.pending q) ≡ has c.listed.windows q
 
 module _ (p : Program) (sound : IsSound p) (accepted : IsAccepted p) (input : List (List ℤ)) (b : Budget)
     (fits : FitsArrays p.arrays input) where

@@ -2,6 +2,7 @@
 use Rattle.std.proofs.Common.{◌≡◌, ℕ, zero, suc, List, [], ◌∷◌, ◌++◌, Option, Some, None, refl, sym, subst, inl, inr}
 use Rattle.std.specs.Prelude.{ℤ, Bool, true, false, if◌then◌else◌}
 use Rattle.std.proofs.lemmas.Bool.{or_cases}
+use Rattle.sections.specs.Covers.{has}
 use Rattle.sections.specs.Place.{Place}
 use Rattle.types.specs.Code.{Codes, Program}
 use Rattle.types.specs.Value.{Environment}
@@ -11,7 +12,7 @@ use Rattle.types.specs.Laws.{IsKept}
 use Rattle.types.proofs.Keeps.{run_keeps}
 use Rattle.effects.specs.Needs.{Needs}
 use Rattle.effects.proofs.Members.{false_true, in_left}
-use Rattle.own_run.specs.Places.{or_else, within, only, written, touched}
+use Rattle.own_run.specs.Places.{only, written, touched, first_of}
 use Rattle.own_run.specs.Apart.{Aside, nothing, merged, child_apart, apart_rules_by, begin_apart}
 use Rattle.own_run.specs.Results.{Settled, fill}
 use Rattle.own_run.specs.OwnRun.{Start, Child, back_from, beginning}
@@ -22,15 +23,15 @@ use Rattle.own_run.proofs.Windows.{named_some, some_named}
 abbrev A : Type 0
 A = State Aside
 
-pub there_or : (u v w : Option ℤ) → (IsThere v → IsThere w) → IsThere (or_else u v) → IsThere (or_else u w)
+pub there_or : (u v w : Option ℤ) → (IsThere v → IsThere w) → IsThere (first_of u v) → IsThere (first_of u w)
 there_or None v w f h = f h
 there_or (Some x) v w f h = h
 
-pub there_left : (u v : Option ℤ) → IsThere u → IsThere (or_else u v)
+pub there_left : (u v : Option ℤ) → IsThere u → IsThere (first_of u v)
 there_left None v h = absurd h
 there_left (Some x) v h = h
 
-pub there_right : (u v : Option ℤ) → IsThere v → IsThere (or_else u v)
+pub there_right : (u v : Option ℤ) → IsThere v → IsThere (first_of u v)
 there_right None v h = h
 there_right (Some x) v h = tt
 
@@ -43,10 +44,10 @@ written_touched env n q h =
     let i = named_some env n.writes q h in
     some_named env (n.writes ++ n.reads) i.section q (in_left n.reads i.listed) i.place
 
-aside_there : (w : Bool) (m old mine : Option ℤ) → (w ≡ true → IsThere mine → IsThere m) → IsThere (or_else old mine)
-    → IsThere (or_else (or_else (if w then m else None) old) (if w then None else mine))
-aside_there true m (Some v) mine f h = there_left (or_else m (Some v)) None (there_right m (Some v) tt)
-aside_there true m None mine f h = there_left (or_else m None) None (there_left m None (f refl h))
+aside_there : (w : Bool) (m old mine : Option ℤ) → (w ≡ true → IsThere mine → IsThere m) → IsThere (first_of old mine)
+    → IsThere (first_of (first_of (if w then m else None) old) (if w then None else mine))
+aside_there true m (Some v) mine f h = there_left (first_of m (Some v)) None (there_right m (Some v) tt)
+aside_there true m None mine f h = there_left (first_of m None) None (there_left m None (f refl h))
 aside_there false m (Some v) mine f h = tt
 aside_there false m None mine f h = h
 
@@ -54,7 +55,7 @@ module _ (begin : Codes → A → A) (begins : (b : Codes) (st : A) → R st (be
   present : IsKept (apart_rules_by begin) R
   present = record {
     idle = λ st to path spawned extra stores q h.
-        subst (λ (x : Aside). IsThere (or_else (x.contents q) (to.store q))) (sym extra)
+        subst (λ (x : Aside). IsThere (first_of (x.contents q) (to.store q))) (sym extra)
         (there_or (st.extra.contents q) (st.store q) (to.store q) (stores q) h);
     further = λ a b c h k q i. k q (h q i);
     stepped = λ l st q h. h;
@@ -90,17 +91,17 @@ module _ (p : Program) (needs : Codes → Needs) (fresh : ℕ) where
   filled_there [] so_far q h = h
   filled_there (c ∷ cs) so_far q h =
       filled_there cs (fill c.listed (comes_to p needs fresh c.start) so_far) q
-      (there_right (only (within c.listed.windows) (comes_to p needs fresh c.start).contents q) (so_far.contents q) h)
+      (there_right (only (has c.listed.windows) (comes_to p needs fresh c.start).contents q) (so_far.contents q) h)
 
   pub back_there : (cs : List Child) (so_far : Settled) (q : Place)
-      → Each (λ c. (q : Place) → within c.listed.windows q ≡ true → IsThere (c.start.contents q)) cs
+      → Each (λ c. (q : Place) → has c.listed.windows q ≡ true → IsThere (c.start.contents q)) cs
       → back_from cs q ≡ true → IsThere ((filled p needs fresh cs so_far).contents q)
   back_there [] so_far q h e = absurd (false_true e)
   back_there (c ∷ cs) so_far q h e =
-      elim (or_cases (within c.listed.windows q) (back_from cs q) e) as
+      elim (or_cases (has c.listed.windows q) (back_from cs q) e) as
       (λ _. IsThere ((filled p needs fresh (c ∷ cs) so_far).contents q)) [
         | inl w ↦ filled_there cs (fill c.listed (comes_to p needs fresh c.start) so_far) q
-            (there_left (only (within c.listed.windows) (comes_to p needs fresh c.start).contents q) (so_far.contents q)
-            (only_there (within c.listed.windows q) ((comes_to p needs fresh c.start).contents q) w (comes_present c.start q (h.0 q w))))
+            (there_left (only (has c.listed.windows) (comes_to p needs fresh c.start).contents q) (so_far.contents q)
+            (only_there (has c.listed.windows q) ((comes_to p needs fresh c.start).contents q) w (comes_present c.start q (h.0 q w))))
         | inr w ↦ back_there cs (fill c.listed (comes_to p needs fresh c.start) so_far) q h.1 w
       ]

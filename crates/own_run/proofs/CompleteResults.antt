@@ -4,11 +4,12 @@ use Rattle.std.proofs.Common.{sym, ap, ◌∙◌, subst, arith, append_assoc, le
 use Rattle.std.proofs.lemmas.Bool.{eq-eqb, and_from, or_from, or_left, or_right}
 use Rattle.std.proofs.lemmas.List.{append-nil}
 use Rattle.std.specs.Prelude.{◌≢◌, Bool, true, false, ◌||◌, nat_eq, map, flat_map, if◌then◌else◌}
+use Rattle.sections.specs.Covers.{has, is_in}
 use Rattle.sections.specs.Place.{Place, Window}
 use Rattle.types.specs.Code.{Codes, Program}
 use Rattle.types.specs.Run.{Block}
 use Rattle.effects.specs.Needs.{Needs}
-use Rattle.own_run.specs.Places.{Places, covered, within, has_one, meets}
+use Rattle.own_run.specs.Places.{Places, has_one, meets}
 use Rattle.own_run.specs.Results.{TaskResult, Settled, none_yet, fill, complete, and_then}
 use Rattle.own_run.specs.OwnRun.{Start, Child, at_first, result_of, beginning}
 use Rattle.own_run.specs.Given.{filled, in_truth, comes_to, own, below}
@@ -68,7 +69,7 @@ taken_one t ys rs (later {y = y} {ys = us} {zs = vs} i) h =
     passed_over y t.path (take t.path vs) vs (t, us) (inserted_each _ i h.0).0 (taken_one t us vs i h.1)
 
 -- ---- places that come back
-not_one : (set : Places) (w : Window) → ((q : Place) → covered w q ≡ true → set q ≡ false) → (at n : ℕ) → w.at ≤ at
+not_one : (set : Places) (w : Window) → ((q : Place) → is_in w q ≡ true → set q ≡ false) → (at n : ℕ) → w.at ≤ at
     → at + n ≡ w.at + w.length → has_one set w.array at n ≡ false
 not_one set w h at zero le e = refl
 not_one set w h at (suc n) le e =
@@ -77,12 +78,12 @@ not_one set w h at (suc n) le e =
     (in_covered w (record { array = w.array; index = at }) (record { array = refl; low = le; high = omega (arith, e) })))
     (not_one set w h (at + 1) n (omega (arith, le)) (omega (arith, e)))
 
-pub not_met : (set : Places) (ws : List Window) → ((q : Place) → within ws q ≡ true → set q ≡ false) → meets set ws ≡ false
+pub not_met : (set : Places) (ws : List Window) → ((q : Place) → has ws q ≡ true → set q ≡ false) → meets set ws ≡ false
 not_met set [] h = refl
 not_met set (w ∷ ws) h =
     or_from (has_one set w.array w.at w.length) (meets set ws)
-    (not_one set w (λ q c. h q (or_left (covered w q) (within ws q) c)) w.at w.length (le_refl w.at) refl)
-    (not_met set ws (λ q c. h q (or_right (covered w q) (within ws q) c)))
+    (not_one set w (λ q c. h q (or_left (is_in w q) (has ws q) c)) w.at w.length (le_refl w.at) refl)
+    (not_met set ws (λ q c. h q (or_right (is_in w q) (has ws q) c)))
 
 -- ---- settling
 module _ (p : Program) (needs : Codes → Needs) (fresh : ℕ) (root : Start) where
@@ -121,7 +122,7 @@ module _ (p : Program) (needs : Codes → Needs) (fresh : ℕ) (root : Start) wh
       let i = pick (subst (λ l. Shuffled (r ∷ l) rs) (append_assoc tail (flat_map (results n) cs) ts) s) in
       let long = length_inserted i.put in
       let mine = inserted_each IsParted i.put ps in
-      let more : Places = λ q. owned q || within c.listed.windows q in
+      let more : Places = λ q. owned q || has c.listed.windows q in
       let at : r.path ≡ c.listed.path = own_path c.start ∙ sym h.0.is.listed in
       let take_it = ap (λ q. take q rs) (sym at) ∙ taken_one r i.others rs i.put o in
       let child =

@@ -4,9 +4,10 @@ use Rattle.std.proofs.Common.{◌≡◌, ℕ, zero, suc, ◌+◌, List, [], ◌�
 use Rattle.std.proofs.Common.{◌∙◌, subst, append_assoc}
 use Rattle.std.proofs.lemmas.List.{append-nil}
 use Rattle.std.specs.Prelude.{Bool, true, false, nat_eq, ◌||◌, map, flat_map, if◌then◌else◌}
+use Rattle.sections.specs.Covers.{has}
 use Rattle.types.specs.Code.{Codes, Program}
 use Rattle.effects.specs.Needs.{Needs}
-use Rattle.own_run.specs.Places.{Places, within, meets}
+use Rattle.own_run.specs.Places.{Places, meets}
 use Rattle.own_run.specs.Results.{TaskResult, Settled, none_yet, fill}
 use Rattle.own_run.specs.OwnRun.{Start, Child, result_of}
 use Rattle.own_run.specs.Given.{own, given, IsOwn, below}
@@ -65,7 +66,7 @@ module _ (p : Program) (needs : Codes → Needs) (fresh : ℕ) (root : Start) wh
       let child = deep c.start h.0.nest h.0.is.is g.one.1 t.others f.one deeper in
       let others = (settle_sound p needs fresh root k c.start h.0.is.is g.one.1 t.others f.one deeper).others in
       let tail =
-      fill_used k n deep (λ q. owned q || within c.listed.windows q) cs
+      fill_used k n deep (λ q. owned q || has c.listed.windows q) cs
       (fill c.listed f.one.0 so_far) f.one.1 h.1 others x f.next ts sh in
       let whole =
       one (subst (λ r. Inserted r g.one.1 rs) is_own (took c.listed.path rs g.one g.first))

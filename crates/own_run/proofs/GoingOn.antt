@@ -29,6 +29,7 @@ use Rattle.own_run.specs.declared.frame.Frame.{Frame as rFrame}
 use Rattle.own_run.specs.declared.frame.Frame.TheVariants.{Rest as rRest}
 use Rattle.own_run.specs.declared.run.Run.{Run}
 use Rattle.own_run.specs.declared.turn.Done.{Done}
+use Rattle.own_run.specs.declared.turn.Done.TheVariants.{Exceeded, Gone}
 use Rattle.own_run.specs.declared.turn.Step.{Step as rStep}
 use Rattle.own_run.specs.declared.turn.Step.TheVariants.{Did as rDid}
 use Rattle.own_run.specs.declared.turn.Turn.TheVariants.{Going, Over}
@@ -109,6 +110,16 @@ goes_more needs a b c h k = λ close fs x shows.
       quietly_more (program a.plan.program.now) needs a.thread.nest close first.1 onward,
       record { plan = second.2.plan ∙ first.2.plan; nest = second.2.nest ∙ first.2.nest; stands = second.2.stands },
     )
+
+-- then by a step in place that did nothing else
+pub goes_did : (needs : Codes → Needs) (a b c : Run) (s : rStep) (d : Done) → GoesOn needs a b → IsStep needs b s c → s ≡ rDid d → d ≡ Gone
+    → GoesOn needs a c
+goes_did needs a b c s d so_far is to same = goes_more needs a b c so_far (goes_turn needs b c (did needs b c s d Gone is to same))
+
+-- or that was over the budget
+pub goes_exceeded : (needs : Codes → Needs) (a b c : Run) (s : rStep) (d : Done) → GoesOn needs a b → IsStep needs b s c → s ≡ rDid d
+    → d ≡ Exceeded → GoesOn needs a c
+goes_exceeded needs a b c s d so_far is to same = goes_more needs a b c so_far (goes_over needs b c (did needs b c s d Exceeded is to same))
 
 -- on the same plan
 pub goes_plan : (needs : Codes → Needs) (a b : Run) (fs : List (Frame Own)) (x : Own) → Shows a fs x → GoesOn needs a b

@@ -1,14 +1,14 @@
 -- What holdings hold, as contents and sets of places.
 use Rattle.std.proofs.Common.{◌≡◌, List, [], ◌∷◌, ◌++◌, refl, sym, ap, ◌∙◌, subst, Option, Some, None}
 use Rattle.std.specs.Prelude.{ℤ, Bool, true, false, ◌&&◌, ◌||◌, not, option_map, is_some, if◌then◌else◌}
+use Rattle.sections.specs.Covers.{has, is_in}
 use Rattle.blocks.proofs.BlockLemmas.{some_there, owned_number-shared}
 use Rattle.sections.proofs.Windows.{places_same}
-use Rattle.sections.specs.Covers.{has, is_in}
 use Rattle.sections.specs.Place.{Place, Window, same_place}
 use Rattle.types.specs.Contents.{write, IsThere}
 use Rattle.holdings.specs.Held.{Held, Map, Owned, Shared, in_place_of, number_of, numbers, owned_number, owned, put, as_owned, as_shared}
-use Rattle.holdings.specs.Held.{only as only_at, without as without_at, over as over_at, IsThere as AreThere, AreApart, first_of}
-use Rattle.own_run.specs.Places.{Places, covered, within, only, without}
+use Rattle.holdings.specs.Held.{only, without, over, IsThere as AreThere, AreApart, first_of}
+use Rattle.own_run.specs.Places.{Places}
 
 -- ---- a write
 
@@ -63,17 +63,10 @@ owned-over q v m = λ t r. owned_over (same_place q r) v (m q) (m r) (λ same. a
 
 -- ---- windows
 
-pub has-within : (ws : List Window) (q : Place) → has ws q ≡ within ws q
-has-within [] q = refl
-has-within (w ∷ ws) q = ap (λ (b : Bool). is_in w q || b) (has-within ws q)
-
-pub has-is-within : (ws : List Window) → has ws ≡ within ws
-has-is-within ws = λ t q. has-within ws q t
-
-pub within-append : (ws vs : List Window) (q : Place) → within (ws ++ vs) q ≡ within ws q || within vs q
-within-append [] vs q = refl
-within-append (w ∷ ws) vs q =
-    ap (λ (b : Bool). covered w q || b) (within-append ws vs q) ∙ or_assoc (covered w q) (within ws q) (within vs q)
+pub has-append : (ws vs : List Window) (q : Place) → has (ws ++ vs) q ≡ has ws q || has vs q
+has-append [] vs q = refl
+has-append (w ∷ ws) vs q =
+    ap (λ (b : Bool). is_in w q || b) (has-append ws vs q) ∙ or_assoc (is_in w q) (has ws q) (has vs q)
   where
     or_assoc : (a b c : Bool) → a || (b || c) ≡ (a || b) || c
     or_assoc true b c = refl
@@ -95,19 +88,18 @@ pub all_there : (set : Place → Bool) (m : Map Held) → ((q : Place) → set q
 all_there set m there q e n = held_some (m q) (there q e) n
 
 -- what was carved, pasted over copies
-pub pasted : (ws rs : List Window) (m child own to : Map Held) → to ≡ over_at (as_owned (owned own)) child
-    → own ≡ only_at (has ws) m → child ≡ as_shared (only_at (has rs) (numbers m))
-    → to ≡ over_at (as_owned (owned (only_at (within ws) m))) (as_shared (only_at (within rs) (numbers m)))
+pub pasted : (ws rs : List Window) (m child own to : Map Held) → to ≡ over (as_owned (owned own)) child
+    → own ≡ only (has ws) m → child ≡ as_shared (only (has rs) (numbers m))
+    → to ≡ over (as_owned (owned (only (has ws) m))) (as_shared (only (has rs) (numbers m)))
 pasted ws rs m child own to is taken shared =
     is
-    ∙ ap (λ (o : Map Held). over_at (as_owned (owned o)) child) (taken ∙ ap (λ (s : Places). only_at s m) (has-is-within ws))
-    ∙ ap (over_at (as_owned (owned (only_at (within ws) m))))
-    (shared ∙ ap (λ (s : Places). as_shared (only_at s (numbers m))) (has-is-within rs))
+    ∙ ap (λ (o : Map Held). over (as_owned (owned o)) child) taken
+    ∙ ap (over (as_owned (owned (only (has ws) m)))) shared
 
 module _ (ws rs : Place → Bool) (m : Map Held) (own : (q : Place) → ws q ≡ true → is_some (owned m q) ≡ true) where
   -- what a child has: what was carved, over copies
   abbrev pub childs : Map Held
-  childs = over_at (as_owned (owned (only_at ws m))) (as_shared (only_at rs (numbers m)))
+  childs = over (as_owned (owned (only ws m))) (as_shared (only rs (numbers m)))
 
   child_at : (w r : Bool) (o : Option Held) → (w ≡ true → is_some (owned_number o) ≡ true)
       → (option_map number_of (first_of (option_map Owned (owned_number (if w then o else None)))
@@ -134,7 +126,7 @@ module _ (ws rs : Place → Bool) (m : Map Held) (own : (q : Place) → ws q ≡
   left_number false o = refl
 
   -- what is left to the parent
-  pub left_contents : numbers (without_at ws m) ≡ without ws (numbers m)
+  pub left_contents : numbers (without ws m) ≡ without ws (numbers m)
   left_contents = λ t q. left_number (ws q) (m q) t
 
   abbrev outside : Places
@@ -148,8 +140,8 @@ module _ (ws rs : Place → Bool) (m : Map Held) (own : (q : Place) → ws q ≡
   left_is_own false (Some (Shared v)) = refl
   left_is_own false None = refl
 
-  pub left_owned : owns (without_at ws m) ≡ outside
+  pub left_owned : owns (without ws m) ≡ outside
   left_owned = λ t q. left_is_own (ws q) (m q) t
 
-pub copies_apart : (rs : Place → Bool) (m : Map Held) (other : Map ℤ) → AreApart other (owned (as_shared (only_at rs (numbers m))))
-copies_apart rs m other q there = owned_number-shared (only_at rs (numbers m) q)
+pub copies_apart : (rs : Place → Bool) (m : Map Held) (other : Map ℤ) → AreApart other (owned (as_shared (only rs (numbers m))))
+copies_apart rs m other q there = owned_number-shared (only rs (numbers m) q)

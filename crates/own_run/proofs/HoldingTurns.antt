@@ -3,6 +3,7 @@ use Rattle.std.proofs.Common.{◌≡◌, ℕ, zero, suc, ◌+◌, ◌<◌, List,
 use Rattle.std.proofs.Common.{◌∙◌, subst, inl, inr, arith}
 use Rattle.std.proofs.lemmas.Bool.{or_left, or_right, false_from_ne_true, or_cases}
 use Rattle.std.specs.Prelude.{ℤ, ◌⊎◌, true, ◌||◌, slice_get, slice_index_or}
+use Rattle.sections.specs.Covers.{has, is_in}
 use Rattle.sections.specs.Place.{Window, Place, In, nowhere}
 use Rattle.types.specs.Code.{Truth, Code, While, Async, Codes, End, Then, Array, Program}
 use Rattle.types.specs.Contents.{FitsArrays, also, IsThere}
@@ -15,7 +16,6 @@ use Rattle.effects.specs.Needs.{Needs, Provides}
 use Rattle.effects.proofs.Members.{false_true, in_parts}
 use Rattle.race_checker.specs.Scope.{Scope, Top, InScope, arrays_of, IsScoped}
 use Rattle.race_checker.specs.Calm.{IsCalm}
-use Rattle.own_run.specs.Places.{covered, within}
 use Rattle.own_run.specs.Results.{TaskResult, Settled, none_yet, complete}
 use Rattle.own_run.specs.OwnRun.{Action, Start, Own, Step, at_first, result_of, back_from, own_rules}
 use Rattle.own_run.specs.OwnRun.{beginning}
@@ -291,10 +291,10 @@ module _ (p : Program) (needs : Codes → Needs) (is_scoped : IsScoped p) (is_ca
   array_there (x ∷ xs) (row ∷ rows) (also e f) zero a q i = get_there row q.index (let h = i.high in omega (arith, h, e))
   array_there (x ∷ xs) (row ∷ rows) (also e f) (suc k) a q i = array_there xs rows f k (a + 1) q i
 
-  window_within : (ws : List Window) (k : ℕ) (q : Place) → In (slice_index_or ws k nowhere) q → within ws q ≡ true
+  window_within : (ws : List Window) (k : ℕ) (q : Place) → In (slice_index_or ws k nowhere) q → has ws q ≡ true
   window_within [] k q i = absurd (not_nowhere q i)
-  window_within (w ∷ ws) zero q i = or_left (covered w q) (within ws q) (in_covered w q i)
-  window_within (w ∷ ws) (suc k) q i = or_right (covered w q) (within ws q) (window_within ws k q i)
+  window_within (w ∷ ws) zero q i = or_left (is_in w q) (has ws q) (in_covered w q i)
+  window_within (w ∷ ws) (suc k) q i = or_right (is_in w q) (has ws q) (window_within ws k q i)
 
   -- the root can begin on an input that fits
   pub root_begins : (input : List (List ℤ)) (nest : ℕ) → FitsArrays p.arrays input → MayBegin p needs (root_of p input nest)

@@ -3,6 +3,7 @@ use Rattle.std.proofs.Common.{◌≡◌, ℕ, zero, suc, ◌<◌, List, [], ◌�
 use Rattle.std.proofs.Common.{◌∙◌, subst, inl, inr}
 use Rattle.std.proofs.lemmas.Bool.{or_left, or_right, or_from, or_parts, false_from_ne_true, and_parts, or_cases}
 use Rattle.std.specs.Prelude.{ℤ, ◌⊎◌, Bool, true, false, not, ◌&&◌, ◌||◌, map, ok_or, if◌then◌else◌}
+use Rattle.sections.specs.Covers.{has}
 use Rattle.sections.specs.Place.{Window, Place, In, sides_of, same_place}
 use Rattle.types.specs.declared.fault.FaultKind.{FaultKind}
 use Rattle.types.specs.declared.fault.FaultKind.TheVariants.{SplitPoint, Raised}
@@ -16,12 +17,12 @@ use Rattle.types.proofs.Keeps.{still_there}
 use Rattle.effects.specs.Accesses.{Access}
 use Rattle.effects.specs.Effects.{past_call, if_body, if_other, while, AllOf, All, PendingOf, Pending, accesses}
 use Rattle.effects.specs.Footprint.{Touches, Overwrites}
-use Rattle.effects.specs.Needs.{Needs, AreNeeds, Provides}
+use Rattle.effects.specs.Needs.{Needs, AreNeeds, Provides, ProvidesIn}
 use Rattle.effects.proofs.Members.{false_true}
-use Rattle.race_checker.specs.Scope.{Scope, Top, Inside, InScope, may_writes, Scoped, IsScoped}
-use Rattle.race_checker.specs.Calm.{IsCalm}
+use Rattle.race_checker.specs.Scope.{Scope, Top, Inside, InScope, FitsScope, may_writes, Scoped, IsScoped}
+use Rattle.race_checker.specs.Calm.{Calm, IsCalm}
 use Rattle.race_checker.proofs.Scoping.{length_may_writes}
-use Rattle.own_run.specs.Places.{Places, within, written, touched}
+use Rattle.own_run.specs.Places.{Places, written, touched}
 use Rattle.own_run.specs.Ready.{Around, Ready}
 use Rattle.own_run.specs.Results.{Listed, Settled}
 use Rattle.own_run.specs.OwnRun.{Child, Own, child_of, list_child, begin_own, back_from, own_rules}
@@ -32,7 +33,7 @@ use Rattle.own_run.specs.Settling.{Parted}
 use Rattle.own_run.proofs.Lists.{each_last}
 use Rattle.own_run.proofs.Windows.{named_some, some_named, passed_same, sides_some, around_split, split_agree}
 use Rattle.own_run.proofs.AccessNames.{named_all, touches_more, overwrites_more}
-use Rattle.own_run.proofs.Simulation.{behind, part_ready, again_ready, split_ready, call_ready, ReadyOf}
+use Rattle.own_run.proofs.Simulation.{behind, part_ready, again_ready, split_ready, call_ready, unlocked_ready, ReadyOf}
 use Rattle.own_run.proofs.Stacks.{anywhere, restack, anchor, unlock, unlock_ready}
 use Rattle.own_run.proofs.ComesBack.{written_touched}
 
@@ -42,26 +43,26 @@ none q = ⊥
 back_left : (cs : List Child) (c : Child) (q : Place) → back_from cs q ≡ true → back_from (cs ++ c ∷ []) q ≡ true
 back_left [] c q e = absurd (false_true e)
 back_left (d ∷ cs) c q e =
-    elim (or_cases (within d.listed.windows q) (back_from cs q) e) as (λ _. back_from ((d ∷ cs) ++ c ∷ []) q ≡ true) [
-      | inl w ↦ or_left (within d.listed.windows q) (back_from (cs ++ c ∷ []) q) w
-      | inr w ↦ or_right (within d.listed.windows q) (back_from (cs ++ c ∷ []) q) (back_left cs c q w)
+    elim (or_cases (has d.listed.windows q) (back_from cs q) e) as (λ _. back_from ((d ∷ cs) ++ c ∷ []) q ≡ true) [
+      | inl w ↦ or_left (has d.listed.windows q) (back_from (cs ++ c ∷ []) q) w
+      | inr w ↦ or_right (has d.listed.windows q) (back_from (cs ++ c ∷ []) q) (back_left cs c q w)
     ]
 
-back_last : (cs : List Child) (c : Child) (q : Place) → within c.listed.windows q ≡ true → back_from (cs ++ c ∷ []) q ≡ true
-back_last [] c q e = or_left (within c.listed.windows q) false e
-back_last (d ∷ cs) c q e = or_right (within d.listed.windows q) (back_from (cs ++ c ∷ []) q) (back_last cs c q e)
+back_last : (cs : List Child) (c : Child) (q : Place) → has c.listed.windows q ≡ true → back_from (cs ++ c ∷ []) q ≡ true
+back_last [] c q e = or_left (has c.listed.windows q) false e
+back_last (d ∷ cs) c q e = or_right (has d.listed.windows q) (back_from (cs ++ c ∷ []) q) (back_last cs c q e)
 
 back_split : (cs : List Child) (c : Child) (q : Place) → back_from (cs ++ c ∷ []) q ≡ true
-    → (back_from cs q ≡ true) ⊎ (within c.listed.windows q ≡ true)
+    → (back_from cs q ≡ true) ⊎ (has c.listed.windows q ≡ true)
 back_split [] c q e =
-    elim (or_cases (within c.listed.windows q) false e) as
-    (λ _. (false ≡ true) ⊎ (within c.listed.windows q ≡ true)) [ inl w ↦ inr w | inr w ↦ inl w ]
+    elim (or_cases (has c.listed.windows q) false e) as
+    (λ _. (false ≡ true) ⊎ (has c.listed.windows q ≡ true)) [ inl w ↦ inr w | inr w ↦ inl w ]
 back_split (d ∷ cs) c q e =
-    elim (or_cases (within d.listed.windows q) (back_from (cs ++ c ∷ []) q) e) as
-    (λ _. (back_from (d ∷ cs) q ≡ true) ⊎ (within c.listed.windows q ≡ true)) [
-      | inl w ↦ inl (or_left (within d.listed.windows q) (back_from cs q) w)
-      | inr w ↦ elim (back_split cs c q w) as (λ _. (back_from (d ∷ cs) q ≡ true) ⊎ (within c.listed.windows q ≡ true)) [
-        | inl k ↦ inl (or_right (within d.listed.windows q) (back_from cs q) k)
+    elim (or_cases (has d.listed.windows q) (back_from (cs ++ c ∷ []) q) e) as
+    (λ _. (back_from (d ∷ cs) q ≡ true) ⊎ (has c.listed.windows q ≡ true)) [
+      | inl w ↦ inl (or_left (has d.listed.windows q) (back_from cs q) w)
+      | inr w ↦ elim (back_split cs c q w) as (λ _. (back_from (d ∷ cs) q ≡ true) ⊎ (has c.listed.windows q ≡ true)) [
+        | inl k ↦ inl (or_right (has d.listed.windows q) (back_from cs q) k)
         | inr k ↦ inr k
       ]
     ]
@@ -74,27 +75,27 @@ pub parted_less : (o n : Places) (cs : List Child) → ((q : Place) → o q ≡ 
 parted_less o n [] h k = tt
 parted_less o n (c ∷ cs) h k = (
   (λ q w. h q (k.0 q w)),
-  parted_less (λ q. o q || within c.listed.windows q) (λ q. n q || within c.listed.windows q) cs
-      (λ q e. let t = or_parts (o q) (within c.listed.windows q) e in or_from (n q) (within c.listed.windows q) (h q t.0) t.1) k.1,
+  parted_less (λ q. o q || has c.listed.windows q) (λ q. n q || has c.listed.windows q) cs
+      (λ q e. let t = or_parts (o q) (has c.listed.windows q) e in or_from (n q) (has c.listed.windows q) (h q t.0) t.1) k.1,
 )
 
 parted_last : (o : Places) (cs : List Child) (c : Child)
-    → ((q : Place) → within c.listed.windows q ≡ true → (o q ≡ false) × (back_from cs q ≡ false)) → Parted o (lists cs)
+    → ((q : Place) → has c.listed.windows q ≡ true → (o q ≡ false) × (back_from cs q ≡ false)) → Parted o (lists cs)
     → Parted o (lists (cs ++ c ∷ []))
 parted_last o [] c h k = ((λ q w. (h q w).0), tt)
 parted_last o (d ∷ cs) c h k = (
   k.0,
-  parted_last (λ q. o q || within d.listed.windows q) cs c
+  parted_last (λ q. o q || has d.listed.windows q) cs c
       (λ q w. let i = h q w in let t =
-      or_parts (within d.listed.windows q) (back_from cs q) i.1 in (or_from (o q) (within d.listed.windows q) i.0 t.0, t.1)) k.1,
+      or_parts (has d.listed.windows q) (back_from cs q) i.1 in (or_from (o q) (has d.listed.windows q) i.0 t.0, t.1)) k.1,
 )
 
 owned_apart : (o : Places) (cs : List Child) → Parted o (lists cs) → (q : Place) → o q ≡ true → back_from cs q ≡ false
 owned_apart o [] k q e = refl
 owned_apart o (c ∷ cs) k q e =
-    or_from (within c.listed.windows q) (back_from cs q)
-    (false_from_ne_true (within c.listed.windows q) (λ w. false_true (sym (k.0 q w) ∙ e)))
-    (owned_apart (λ q. o q || within c.listed.windows q) cs k.1 q (or_left (o q) (within c.listed.windows q) e))
+    or_from (has c.listed.windows q) (back_from cs q)
+    (false_from_ne_true (has c.listed.windows q) (λ w. false_true (sym (k.0 q w) ∙ e)))
+    (owned_apart (λ q. o q || has c.listed.windows q) cs k.1 q (or_left (o q) (has c.listed.windows q) e))
 
 -- what is there, or owned, stays so or comes back
 pub record Moves (st to : State Own) : Type 0 where
@@ -126,6 +127,24 @@ module _ (p : Program) (needs : Codes → Needs) where
   returns_move st to m (Again l t b ∷ gs) h = returns_move st to m gs h
   returns_move st to m (AtEnd before ∷ gs) h = (comes_move st to before m h.0, h.1, h.2, h.3)
   returns_move st to m (Back env ∷ gs) h = returns_move st to m gs h
+
+  -- what comes back doesn't depend on the names of sections
+  returns_in : (st : State Own) (env : Environment) (gs : List (Frame Own)) → Returns p needs st gs
+      → Returns p needs (record st { environment = env }) gs
+  returns_in st env =
+      returns_move st (record st { environment = env }) (record { there = λ q. inl; owned = λ q. inl; back = λ q. inr; no_more = λ q i. i })
+
+  -- a block where nothing is locked has what it touches
+  remains_alone : (f : ℕ → Window) (c : Contents) (o : Places) (b : Codes) (sc : Scope) (env : Environment)
+      → ((s : ℕ) → InScope sc s → f s ≡ env.windows s) → FitsScope sc env → Scoped p sc b → Calm p sc b → ProvidesIn p needs b
+      → ((q : Place) → Touches env (All p accesses b) q → IsThere (c q))
+      → ((q : Place) → Overwrites env (All p accesses b) q → o q ≡ true)
+      → Remains p needs f anywhere c o none b sc env
+  remains_alone f c o b sc env known fits scoped calm provided held wrote = record {
+    inside = λ z i. tt;
+    known = known;
+    ready = unlocked_ready p needs (having sc env c o) (locked_after p needs env none b) b fits scoped calm provided held wrote (λ q. inr);
+  }
 
   -- ---- a state that differs in nothing that is held but by what was written
   pub record Alike (st to : State Own) : Type 0 where
@@ -356,9 +375,7 @@ module _ (p : Program) (needs : Codes → Needs) where
           );
           carried = h.carried;
           parted = h.parted;
-          returns =
-              returns_move st (record st { environment = to })
-              (record { there = λ q. inl; owned = λ q. inl; back = λ q. inr; no_more = λ q i. i }) gs h.returns;
+          returns = returns_in st to gs h.returns;
         }
       where
         in_scope : (z : ℕ) → InScope (Inside s u v sc) z → (z ≡ u) ⊎ (z ≡ v) ⊎ (st.environment.windows z ≡ env.windows z)
@@ -400,9 +417,7 @@ module _ (p : Program) (needs : Codes → Needs) where
           );
           carried = h.carried;
           parted = h.parted;
-          returns =
-              returns_move st (record st { environment = to })
-              (record { there = λ q. inl; owned = λ q. inl; back = λ q. inr; no_more = λ q i. i }) gs h.returns;
+          returns = returns_in st to gs h.returns;
         }
 
     -- the body of a finish
@@ -416,21 +431,9 @@ module _ (p : Program) (needs : Codes → Needs) where
           stack = (
             sc,
             env,
-            record {
-              inside = λ z i. tt;
-              known = h.known;
-              ready = record {
-                fits = h.ready.fits;
-                scoped = h.ready.scoped;
-                calm = h.ready.calm;
-                provided = h.ready.provided;
-                free = λ q t n. n;
-                held = λ q t. h.ready.held q (touches_more env _ _ q (λ y i. AllOf.finish i) t);
-                wrote = λ q t. h.ready.wrote q (overwrites_more env _ _ q (λ y i. AllOf.finish i) t);
-                kept = λ q. inl;
-                added = λ q. inr;
-              };
-            },
+            remains_alone _ _ _ b sc env h.known h.ready.fits h.ready.scoped h.ready.calm h.ready.provided
+                (λ q t. h.ready.held q (touches_more env _ _ q (λ y i. AllOf.finish i) t))
+                (λ q t. h.ready.wrote q (overwrites_more env _ _ q (λ y i. AllOf.finish i) t)),
             unlock p needs st.environment.windows (InScope sc) st.store st.extra.owned m none gs (λ q n. absurd n) h.lower,
           );
           carried = tt;
@@ -479,23 +482,11 @@ module _ (p : Program) (needs : Codes → Needs) where
             begins = (
               sc,
               env,
-              record {
-                inside = λ z i. tt;
-                known = h.known;
-                ready = record {
-                  fits = h.ready.fits;
-                  scoped = h.ready.scoped;
-                  calm = h.ready.calm;
-                  provided = h.ready.provided.1;
-                  free = λ q t k. k;
-                  held = λ q t. only_there (touched st.environment (needs b) q) (st.store q)
-                      (touches_touched sc env l s gs st h b a h.ready.scoped q t)
-                      (h.ready.held q (touches_more env _ _ q (λ y i. AllOf.async i) t));
-                  wrote = λ q t. overwrites_written sc env l s gs st h b a h.ready.scoped q t;
-                  kept = λ q. inl;
-                  added = λ q. inr;
-                };
-              },
+              remains_alone _ _ _ b sc env h.known h.ready.fits h.ready.scoped h.ready.calm h.ready.provided.1
+                  (λ q t. only_there (touched st.environment (needs b) q) (st.store q)
+                  (touches_touched sc env l s gs st h b a h.ready.scoped q t)
+                  (h.ready.held q (touches_more env _ _ q (λ y i. AllOf.async i) t)))
+                  (λ q t. overwrites_written sc env l s gs st h b a h.ready.scoped q t),
               tt,
             );
           });

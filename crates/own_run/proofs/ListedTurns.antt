@@ -1,6 +1,6 @@
 -- What a turn makes of the lists of a task's children: what it does says it.
-use Rattle.std.proofs.Common.{◌≡◌, ℕ, zero, suc, List, [], ◌∷◌, Option, Ok, Err, refl, ap, ◌∙◌, subst, inl, inr}
-use Rattle.std.specs.Prelude.{Bool, true, false, ◌⊎◌, ok_or}
+use Rattle.std.proofs.Common.{◌≡◌, ℕ, zero, suc, List, [], ◌∷◌, Option, Ok, Err, refl, ap, subst}
+use Rattle.std.specs.Prelude.{Bool, true, false, ok_or}
 use Rattle.sections.specs.Place.{sides_of}
 use Rattle.types.specs.declared.fault.FaultKind.TheVariants.{SplitPoint}
 use Rattle.types.specs.Code.{Code, Do, If, While, Split, Call, Async, Finish, Codes, End, Then, Program, Number}
@@ -11,15 +11,12 @@ use Rattle.types.proofs.Keeps.{primitive_keeps}
 use Rattle.effects.specs.Needs.{Needs}
 use Rattle.effects.proofs.Members.{false_true}
 use Rattle.own_run.specs.Results.{Settled}
-use Rattle.own_run.specs.OwnRun.{Child, Action, Step, Spawn, EnterFinish, Own, notes, own_rules, child_of}
+use Rattle.own_run.specs.OwnRun.{Child, Step, Own, notes, own_rules, child_of}
 use Rattle.own_run.specs.Frames.{Frame, Rest, Again, AtEnd, Back, Standing, by_value, chosen, paid, by_flow, turn}
 use Rattle.own_run.specs.Frames.{done_by, done_at, done_in}
 use Rattle.own_run.specs.Stops.{is_over, is_next_over, stops}
-use Rattle.own_run.specs.RunTurns.{BeginsAs, DoneAs}
 use Rattle.own_run.specs.Translation.{start}
-use Rattle.own_run.specs.Worth.{Lists, around, lists, inside, ListsChild, ListsAs}
-use Rattle.own_run.specs.declared.start.Start.{Start as rStart}
-use Rattle.own_run.specs.declared.turn.Done.TheVariants.{Gone, Entered, Exceeded}
+use Rattle.own_run.specs.Worth.{Lists, around, lists, ListsAs}
 use Rattle.own_run.proofs.TurnActions.{silent}
 
 abbrev listing : List Child → List (List Child) → Lists
@@ -96,22 +93,15 @@ module _ (p : Program) (needs : Codes → Needs) (close : State Own → Option S
 
   paid_lists : (nest n l : ℕ) (s : Code) (fs : List (Frame Own)) (st : State Own)
       → ListsAs (done_by needs nest n s st) (listing st.extra.pending (around fs)) (lists (paid p (r nest) n l s fs st))
-  paid_lists nest zero l s fs st = refl
-  paid_lists zero (suc n) l (Async b) fs st = refl
   paid_lists (suc m) (suc n) l (Async b) fs st =
       record { child = child_of (needs b) m b (record st { steps = n }); start = refl; lists = refl }
-  paid_lists zero (suc n) l (Finish b) fs st = refl
-  paid_lists zero (suc n) l (Do s) fs st = do_lists zero n fs st l s
-  paid_lists zero (suc n) l (If t b c) fs st = if_lists zero n fs st l t b c
-  paid_lists zero (suc n) l (While t b) fs st = while_lists zero n fs st l t b
-  paid_lists zero (suc n) l (Split s e x y b) fs st = split_lists zero n fs st l s x y e b
-  paid_lists zero (suc n) l (Call f es ss) fs st = call_lists zero n fs st l f es ss
-  paid_lists (suc m) (suc n) l (Finish b) fs st = refl
-  paid_lists (suc m) (suc n) l (Do s) fs st = do_lists (suc m) n fs st l s
-  paid_lists (suc m) (suc n) l (If t b c) fs st = if_lists (suc m) n fs st l t b c
-  paid_lists (suc m) (suc n) l (While t b) fs st = while_lists (suc m) n fs st l t b
-  paid_lists (suc m) (suc n) l (Split s e x y b) fs st = split_lists (suc m) n fs st l s x y e b
-  paid_lists (suc m) (suc n) l (Call f es ss) fs st = call_lists (suc m) n fs st l f es ss
+  paid_lists nest (suc n) l (Do s) fs st = do_lists nest n fs st l s
+  paid_lists nest (suc n) l (If t b c) fs st = if_lists nest n fs st l t b c
+  paid_lists nest (suc n) l (While t b) fs st = while_lists nest n fs st l t b
+  paid_lists nest (suc n) l (Split s e x y b) fs st = split_lists nest n fs st l s x y e b
+  paid_lists nest (suc n) l (Call f es ss) fs st = call_lists nest n fs st l f es ss
+  -- a finish begins no task, nor does what is over the budget
+  paid_lists nest n l s fs st = refl
 
   flow_lists : (nest : ℕ) (g : Flow) (l : ℕ) (s : Code) (fs below : List (Frame Own)) (st : State Own) → around fs ≡ around below
       → ListsAs (done_at needs nest g s st) (listing st.extra.pending (around below)) (lists (by_flow p (r nest) g l s fs below st))

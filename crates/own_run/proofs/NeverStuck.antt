@@ -1,5 +1,4 @@
 -- No finish is stuck: wherever a task that may come about stands at the end of a finish, results of own runs settle.
-use Rattle.std.proofs.lemmas.Option.{same_Some}
 use Rattle.std.proofs.Common.{◌≡◌, ℕ, zero, suc, ◌+◌, ◌<◌, ◌≤◌, List, [], ◌∷◌, length, Some, Ok, Err, refl, sym, ap}
 use Rattle.std.proofs.Common.{◌∙◌, subst, arith, inl, inr, le_refl}
 use Rattle.std.proofs.lemmas.List.{append-nil}
@@ -16,7 +15,7 @@ use Rattle.race_checker.specs.Scope.{IsScoped}
 use Rattle.race_checker.specs.Calm.{IsCalm}
 use Rattle.own_run.specs.Results.{TaskResult, Settled, none_yet, complete, and_then}
 use Rattle.own_run.specs.OwnRun.{Start, Child, Own, result_of, own_rules}
-use Rattle.own_run.specs.Given.{filled, in_truth, own, given, below, IsOwn}
+use Rattle.own_run.specs.Given.{filled, in_truth, own, given, below, IsOfOwnRun, IsOwn}
 use Rattle.own_run.specs.Frames.{Frame, Rest, Again, AtEnd, Back, Standing, by_value, chosen, acted, paid, by_flow}
 use Rattle.own_run.specs.Frames.{turn, handed, IsBegun, HasBegun, IsTask, IsGivenChild}
 use Rattle.own_run.specs.Holds.{MayBegin, Holds}
@@ -26,7 +25,7 @@ use Rattle.own_run.specs.Lists.{Each, Shuffled, none, one, here}
 use Rattle.own_run.proofs.Lists.{each_more, each_append}
 use Rattle.own_run.specs.Settling.{NoTwice}
 use Rattle.own_run.proofs.CompleteResults.{Stands, fill_complete, settle_complete, none_in}
-use Rattle.own_run.proofs.TaskRuns.{lists_given}
+use Rattle.own_run.proofs.TaskRuns.{lists_given, own_if_given}
 use Rattle.own_run.proofs.OnePath.{Once, Names, names, From, own_path, all_once, below_once, shuffled_each}
 use Rattle.own_run.proofs.SettledResults.{lists_true}
 use Rattle.own_run.proofs.TasksEnd.{own_ends, each_below, below_parted, weight, Falls, spends, sheds, flow_falls}
@@ -115,19 +114,17 @@ module _ (p : Program) (needs : Codes → Needs) (fresh : ℕ) where
 
   -- ---- results are own
   module _ (root : Start) where
-    own_is_own : (s : Start) → given p needs fresh root s.path ≡ Some s → IsOwn p needs fresh root (result_of (own p needs fresh s))
-    own_is_own s is t e =
-        ap (λ s. result_of (own p needs fresh s))
-        (same_Some _ _ (sym is ∙ ap (given p needs fresh root) (sym (own_path p needs fresh s)) ∙ e))
+    own_is_own : (s : Start) → given p needs fresh root s.path ≡ Some s → IsOfOwnRun p needs fresh root (result_of (own p needs fresh s))
+    own_is_own s is = record { start = s; of_path = ap (given p needs fresh root) (own_path p needs fresh s) ∙ is; is = refl }
 
     each_own : (results : Child → List TaskResult) (cs : List Child) → Each (IsGivenChild p needs fresh root) cs
-        → ((c : Child) → IsGivenChild p needs fresh root c → Each (IsOwn p needs fresh root) (results c))
-        → Each (IsOwn p needs fresh root) (flat_map results cs)
+        → ((c : Child) → IsGivenChild p needs fresh root c → Each (IsOfOwnRun p needs fresh root) (results c))
+        → Each (IsOfOwnRun p needs fresh root) (flat_map results cs)
     each_own results [] h f = tt
     each_own results (c ∷ cs) h f =
-        each_append (IsOwn p needs fresh root) (results c) (flat_map results cs) (f c h.0) (each_own results cs h.1 f)
+        each_append (IsOfOwnRun p needs fresh root) (results c) (flat_map results cs) (f c h.0) (each_own results cs h.1 f)
 
-    below_own : (n : ℕ) (s : Start) → given p needs fresh root s.path ≡ Some s → Each (IsOwn p needs fresh root) (below p needs fresh n s)
+    below_own : (n : ℕ) (s : Start) → given p needs fresh root s.path ≡ Some s → Each (IsOfOwnRun p needs fresh root) (below p needs fresh n s)
     below_own zero s is = tt
     below_own (suc n) s is =
         each_own (λ c. result_of (own p needs fresh c.start) ∷ below p needs fresh n c.start) (own p needs fresh s).extra.pending
@@ -278,5 +275,7 @@ module _ (p : Program) (needs : Codes → Needs) (scoped : IsScoped p) (calm : I
         (λ st r. record { state = st; ended = r })
         (λ before fs st r lighter.
         let k = can_leave s (record { frames = AtEnd before ∷ fs; state = st }) r in
-        lighter (handed before k.comes st) (le_refl st.steps) (leaves k.results r k.owns k.settles))
+        lighter (handed before k.comes st) (le_refl st.steps)
+        (leaves k.results r
+        (each_more (IsOfOwnRun p needs fresh root) (IsOwn p needs fresh root) k.results (own_if_given p needs fresh root) k.owns) k.settles))
         (λ f fs st r. inr (turns r)) t.frames t.state r

@@ -4,6 +4,7 @@ use Rattle.std.proofs.Common.{arith}
 use Rattle.std.proofs.lemmas.Option.{slice_get-get_or}
 use Rattle.std.specs.Prelude.{ℤ, pos, Bool, true, false, ◌⊎◌, ◌||◌, is_some, slice_get, slice_index_or}
 use Rattle.std.proofs.lemmas.Bool.{or_cases}
+use Rattle.sections.specs.Covers.{has, is_in}
 use Rattle.sections.proofs.Members.{same_truth}
 use Rattle.effects.proofs.Members.{false_true}
 use Rattle.sections.specs.Place.{Place, Window}
@@ -13,7 +14,6 @@ use Rattle.types.specs.Outcome.{whole_arrays}
 use Rattle.holdings.specs.Held.{as_owned, numbers, owned}
 use Rattle.holdings.specs.Holdings.{held, listed}
 use Rattle.holdings.specs.declared.holdings.Holdings.{Holdings}
-use Rattle.own_run.specs.Places.{covered, within}
 use Rattle.own_run.specs.Translation.{contents_of, owned_by}
 use Rattle.own_run.proofs.Windows.{covered_in, in_covered}
 
@@ -38,58 +38,58 @@ abbrev whole : (n : ℕ) → Array → Window
 whole n x = record { array = n; at = 0; length = x.length }
 
 -- the arrays from the n-th on stand at n and behind
-behind : (n : ℕ) (xs : List Array) (q : Place) → within (whole_arrays n xs) q ≡ true → n ≤ q.array
+behind : (n : ℕ) (xs : List Array) (q : Place) → has (whole_arrays n xs) q ≡ true → n ≤ q.array
 behind n [] q h = false_true h
 behind n (x ∷ xs) q h =
-    elim (or_cases (covered (whole n x) q) (within (whole_arrays (n + 1) xs) q) h) as (λ _. n ≤ q.array) [
+    elim (or_cases (is_in (whole n x) q) (has (whole_arrays (n + 1) xs) q) h) as (λ _. n ≤ q.array) [
       | inl c ↦ let i = (covered_in (whole n x) q c).array in omega (arith, i)
       | inr c ↦ let i = behind (n + 1) xs q c in omega (arith, i)
     ]
 
 inside : (n k : ℕ) (xs : List Array) (rows : List (List ℤ)) → FitsArrays xs rows → (q : Place) → q.array ≡ n + k
-    → within (whole_arrays n xs) q ≡ true → is_some (slice_get (slice_index_or rows k []) q.index) ≡ true
+    → has (whole_arrays n xs) q ≡ true → is_some (slice_get (slice_index_or rows k []) q.index) ≡ true
 inside n k [] rows fits q e h = false_true h
 inside n k (x ∷ xs) [] fits q e h = elim fits [ ]
 inside n zero (x ∷ xs) (r ∷ rs) (also l fits) q e h =
-    elim (or_cases (covered (whole n x) q) (within (whole_arrays (n + 1) xs) q) h) as (λ _. is_some (slice_get r q.index) ≡ true) [
+    elim (or_cases (is_in (whole n x) q) (has (whole_arrays (n + 1) xs) q) h) as (λ _. is_some (slice_get r q.index) ≡ true) [
       | inl c ↦ let i = (covered_in (whole n x) q c).high in is_there r q.index (omega (arith, i, l))
       | inr c ↦ let i = behind (n + 1) xs q c in absurd (omega (arith, i, e))
     ]
 inside n (suc k) (x ∷ xs) (r ∷ rs) (also l fits) q e h =
-    elim (or_cases (covered (whole n x) q) (within (whole_arrays (n + 1) xs) q) h)
+    elim (or_cases (is_in (whole n x) q) (has (whole_arrays (n + 1) xs) q) h)
     as (λ _. is_some (slice_get (slice_index_or rs k []) q.index) ≡ true) [
       | inl c ↦ let i = (covered_in (whole n x) q c).array in absurd (omega (arith, i, e))
       | inr c ↦ inside (n + 1) k xs rs fits q (omega (arith, e)) c
     ]
 
 outside : (n k : ℕ) (xs : List Array) (rows : List (List ℤ)) → FitsArrays xs rows → (q : Place) → q.array ≡ n + k
-    → is_some (slice_get (slice_index_or rows k []) q.index) ≡ true → within (whole_arrays n xs) q ≡ true
+    → is_some (slice_get (slice_index_or rows k []) q.index) ≡ true → has (whole_arrays n xs) q ≡ true
 outside n zero [] [] fits q e h = false_true h
 outside n (suc k) [] [] fits q e h = false_true h
 outside n k [] (r ∷ rs) fits q e h = elim fits [ ]
 outside n k (x ∷ xs) [] fits q e h = elim fits [ ]
 outside n zero (x ∷ xs) (r ∷ rs) (also l fits) q e h =
     let i = there_is r q.index h in
-    or_first (covered (whole n x) q) (within (whole_arrays (n + 1) xs) q)
+    or_first (is_in (whole n x) q) (has (whole_arrays (n + 1) xs) q)
     (in_covered (whole n x) q
     (record { array = omega (arith, e); low = omega arith; high = omega (arith, i, l) }))
 outside n (suc k) (x ∷ xs) (r ∷ rs) (also l fits) q e h =
-    or_second (covered (whole n x) q) (within (whole_arrays (n + 1) xs) q)
+    or_second (is_in (whole n x) q) (has (whole_arrays (n + 1) xs) q)
     (outside (n + 1) k xs rs fits q (omega (arith, e)) h)
 
 -- all places of all arrays are owned
 pub root_owns : (h : Holdings) (xs : List Array) (rows : List (List ℤ)) → FitsArrays xs rows → held h ≡ as_owned (listed rows)
-    → owned_by h ≡ within (whole_arrays 0 xs)
+    → owned_by h ≡ has (whole_arrays 0 xs)
 root_owns h xs rows fits is = ap (λ m q. is_some (owned m q)) is ∙ (λ t q. one q t)
   where
     some_owned : (v : Option ℤ) → is_some (owned (as_owned (λ q. v)) (record { array = 0; index = 0 })) ≡ is_some v
     some_owned None = refl
     some_owned (Some v) = refl
 
-    one : (q : Place) → is_some (owned (as_owned (listed rows)) q) ≡ within (whole_arrays 0 xs) q
+    one : (q : Place) → is_some (owned (as_owned (listed rows)) q) ≡ has (whole_arrays 0 xs) q
     one q =
         some_owned (listed rows q)
-        ∙ same_truth (is_some (listed rows q)) (within (whole_arrays 0 xs) q) (outside 0 q.array xs rows fits q (omega arith))
+        ∙ same_truth (is_some (listed rows q)) (has (whole_arrays 0 xs) q) (outside 0 q.array xs rows fits q (omega arith))
         (inside 0 q.array xs rows fits q (omega arith))
 
 -- with the numbers of the input

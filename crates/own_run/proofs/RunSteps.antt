@@ -1,6 +1,6 @@
 -- What statements whose step was taken make of a run.
 use Rattle.std.proofs.Common.{◌≡◌, ◌≢◌, ℕ, zero, suc, ◌+◌, ◌-◌, List, [], ◌∷◌, ◌++◌, Ok, Err, refl, sym, ap, ◌∙◌, subst, inr, arith}
-use Rattle.std.specs.Prelude.{ℤ, Bool, true, false, Option}
+use Rattle.std.specs.Prelude.{ℤ, Bool, true, false, Option, Result, OnOk}
 use Rattle.sections.specs.Place.{Place}
 use Rattle.types.specs.declared.fault.FaultKind.{FaultKind}
 use Rattle.types.specs.Code.{Code, Codes, Number, Truth, Program, Primitive, Skip, Assign, Store, Print, Raise, Do, If, While, Split, Call, Async, Finish}
@@ -11,6 +11,7 @@ use Rattle.effects.specs.Needs.{Needs}
 use Rattle.serial_run.specs.declared.thread.Flow.TheVariants.{On as rOn}
 use Rattle.serial_run.specs.declared.thread.Thread.{Thread}
 use Rattle.serial_run.specs.Standing.{KeepsTask, flow as flow_of}
+use Rattle.serial_run.proofs.Steps.{on_ok_both}
 use Rattle.own_run.specs.Frames.{Frame, Standing, by_flow, by_value, acted, done_at, done_by, paid}
 use Rattle.own_run.specs.OwnRun.{Own, Action, EnterFinish, Spawn, Step, begin_own, child_of, list_child, notes, own_rules}
 use Rattle.own_run.specs.Results.{Settled}
@@ -106,6 +107,17 @@ turns_fault old t l k go is state kept = record {
     is = ap (with_own x) state;
   });
 }
+
+-- the same, where a thread has told of it
+pub acts_faulted : {T E : Type 0} (r : Result T E) (old : Run) (t : Thread TaskMemory) (l : ℕ) (k : FaultKind) (c : Code)
+    → ((needs : Codes → Needs) (close : State Own → Option Settled) (fs : List (Frame Own)) (x : Own)
+    → acted (program old.plan.program.now) (own_rules needs old.thread.nest close) l c fs (with_own x (state_of old.thread))
+    ≡ record { frames = fs; state = fault l k (with_own x (state_of old.thread)) })
+    → OnOk r (state_of t ≡ fault l k (state_of old.thread)) → OnOk r (KeepsTask shape old.thread t)
+    → OnOk r (Acts l c old (record old { thread = t }))
+acts_faulted r old t l k c is same keeps =
+    on_ok_both r (λ state kept needs close.
+    turns_fault old t l k (acted (program old.plan.program.now) (own_rules needs old.thread.nest close) l c) (is needs close) state kept) same keeps
 
 -- ---- steps that are noted
 

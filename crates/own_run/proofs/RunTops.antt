@@ -1,19 +1,19 @@
 -- The top frame of a run, and what its statement may touch.
-use Rattle.std.proofs.Common.{◌≡◌, ℕ, zero, suc, ◌+◌, List, [], ◌∷◌, ◌++◌, length, Ok, Err, refl, sym, ap, ◌∙◌, subst, arith}
+use Rattle.std.proofs.Common.{◌≡◌, ℕ, zero, suc, ◌+◌, List, [], ◌∷◌, ◌++◌, length, Ok, refl, sym, ap, ◌∙◌, subst, arith}
 use Rattle.std.proofs.Common.{Global, Vec, take}
 use Rattle.std.proofs.Math.Nat.{ℕ_set}
 use Rattle.std.proofs.lemmas.List.{length-append, set-get_or}
-use Rattle.std.specs.Prelude.{ℤ, Bool, true, false, slice_index_or, slice_set}
+use Rattle.std.specs.Prelude.{ℤ, Bool, slice_index_or, slice_set}
 use Rattle.std.specs.Vec.{with_item}
 use Rattle.types.proofs.Bindings.{element_in}
 use Rattle.sections.specs.Member.{first}
 use Rattle.sections.specs.Place.{Place, In}
 use Rattle.types.specs.Code.{Code, Codes, Then, Number, Program, Primitive, Skip, Assign, Store, Print, Raise, Do, If, While, Split, Call, Async, Finish}
-use Rattle.types.specs.Run.{State, array_of, number_at}
+use Rattle.types.specs.Run.{State}
 use Rattle.types.specs.Translation.{program}
-use Rattle.types.specs.Value.{Valued, element_of, holds_number, then_try}
 use Rattle.effects.specs.Needs.{Needs}
-use Rattle.serial_run.specs.Primitive.{fitting, target}
+use Rattle.serial_run.specs.Primitive.{target}
+use Rattle.serial_run.proofs.BoundsLemmas.{target_of}
 use Rattle.own_run.specs.Frames.{Frame, Rest}
 use Rattle.own_run.specs.Holds.{HasOwn}
 use Rattle.own_run.specs.OwnRun.{Own}
@@ -105,34 +105,8 @@ module _ (p : Program) where
   -- a store writes in the window of its section
   target_in : (st : State (Unit {0})) (s : ℕ) (i e : Number) (q : Place) (v : ℤ) → Ok (q, v) ≡ target p st s i e
       → In (st.environment.windows s) q
-  target_in st s i e q v is = by_index (number_at st i) is
-    where
-      by_fit : (b : Bool) (r : Place) (x : ℤ) → Ok (q, v) ≡ fitting b r x → q ≡ r
-      by_fit true r x is =
-          let written : Place × ℤ = (q, v) in
-          let given : Place × ℤ = (r, x) in
-          let same : written ≡ given = cc in
-          ap (λ (t : Place × ℤ). t.0) same
-      by_fit false r x is = absurd (let bad : ⊥ = cc in bad)
-
-      by_element : (at x : ℤ) (r : Valued Place) → r ≡ element_of (st.environment.windows s) at
-          → Ok (q, v) ≡ then_try r (λ q. fitting (holds_number (array_of p q.array).element x) q x)
-          → In (st.environment.windows s) q
-      by_element at x (Ok r) from is =
-          let same = by_fit (holds_number (array_of p r.array).element x) r x is in
-          element_in (st.environment.windows s) at q (sym (ap Ok same ∙ from))
-      by_element at x (Err f) from is = absurd (let bad : ⊥ = cc in bad)
-
-      by_number : (at : ℤ) (r : Valued ℤ) → Ok (q, v) ≡ then_try r (λ x. then_try (element_of (st.environment.windows s) at)
-          (λ q. fitting (holds_number (array_of p q.array).element x) q x)) → In (st.environment.windows s) q
-      by_number at (Ok x) is = by_element at x (element_of (st.environment.windows s) at) refl is
-      by_number at (Err f) is = absurd (let bad : ⊥ = cc in bad)
-
-      by_index : (r : Valued ℤ) → Ok (q, v) ≡ then_try r (λ at. then_try (number_at st e) (λ x.
-          then_try (element_of (st.environment.windows s) at)
-          (λ q. fitting (holds_number (array_of p q.array).element x) q x))) → In (st.environment.windows s) q
-      by_index (Ok at) is = by_number at (number_at st e) is
-      by_index (Err f) is = absurd (let bad : ⊥ = cc in bad)
+  target_in st s i e q v is =
+      let element = target_of p st s i e q v is in element_in (st.environment.windows s) element.0 q (sym element.1)
 
 module _ (needs : Codes → Needs) (IsAsync : ℕ → Codes → Type 0) (r : Run) (x : Own) (l : ℕ) (rest : Codes) (fs : List (Frame Own))
     (owned : x.owned ≡ owned_by r.thread.store.holdings) (hs : Vec rFrame Global) where

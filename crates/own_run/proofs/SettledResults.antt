@@ -4,6 +4,7 @@ use Rattle.std.proofs.Common.{◌≡◌, ℕ, zero, suc, ◌+◌, List, [], ◌�
 use Rattle.std.proofs.Common.{◌∙◌, subst}
 use Rattle.std.proofs.lemmas.Bool.{eqb-true, and_parts}
 use Rattle.std.specs.Prelude.{ℤ, Bool, true, false, ◌||◌, nat_eq, map, slice_get, if◌then◌else◌}
+use Rattle.sections.specs.Covers.{has}
 use Rattle.types.specs.Code.{Codes, Program}
 use Rattle.types.specs.Contents.{held_by, shown}
 use Rattle.types.specs.Run.{State, Block}
@@ -12,7 +13,7 @@ use Rattle.effects.specs.Needs.{Needs, Provides}
 use Rattle.effects.proofs.Members.{false_true}
 use Rattle.race_checker.specs.Scope.{IsScoped}
 use Rattle.race_checker.specs.Calm.{IsCalm}
-use Rattle.own_run.specs.Places.{Places, within, meets}
+use Rattle.own_run.specs.Places.{Places, meets}
 use Rattle.own_run.specs.Apart.{nothing, merged, apart, apart_outcome}
 use Rattle.own_run.specs.Results.{TaskResult, Settled, none_yet, fill, complete, and_then}
 use Rattle.own_run.specs.OwnRun.{Start, Child, Own, at_first, result_of, begun_by, kth, beginning}
@@ -136,7 +137,7 @@ module _ (p : Program) (needs : Codes → Needs) (fresh : ℕ) where
         t.this c.start (ap (given p needs fresh root) (t.at ∙ k.0.listed) ∙ k.0.is) in
         let child = h c.start k.0.is g.one.1 t.others f.one (ap (λ r. deeper r g.one.1) (sym own_result) ∙ f.first) in
         let others =
-        fill_sound deeper h (λ q. owned q || within c.listed.windows q) cs
+        fill_sound deeper h (λ q. owned q || has c.listed.windows q) cs
         (fill c.listed f.one.0 so_far) f.one.1 k.1 child.others x f.next in
         record { same = others.same ∙ ap (λ y. filled p needs fresh cs (fill c.listed y so_far)) child.same; others = others.others }
 

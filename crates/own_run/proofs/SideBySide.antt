@@ -8,7 +8,7 @@ use Rattle.sections.proofs.Windows.{places_same}
 use Rattle.sections.specs.Place.{Place, In, same_place}
 use Rattle.types.specs.declared.fault.FaultKind.{FaultKind}
 use Rattle.types.specs.Code.{Number, Truth}
-use Rattle.types.specs.Contents.{read, write}
+use Rattle.types.specs.Contents.{Contents, read, write}
 use Rattle.types.specs.Value.{Environment, Valued, then_try, number, truth}
 use Rattle.types.specs.Indexed.{indexed, indexed_truth}
 use Rattle.types.specs.Laws.{SameOn}
@@ -16,7 +16,7 @@ use Rattle.types.specs.Run.{Fault, Flow, On, Faulted, Stopped, State, fault, at_
 use Rattle.types.specs.Run.{assign, bind, print, put, choose, number_at, numbers_at, truth_at}
 use Rattle.types.proofs.Readings.{number_same, truth_same}
 use Rattle.race_checker.specs.Scope.{InScope, Scope}
-use Rattle.own_run.specs.Places.{or_else}
+use Rattle.own_run.specs.Places.{first_of}
 use Rattle.own_run.specs.Ready.{Around}
 use Rattle.own_run.specs.Apart.{Aside, is_stopped, stops_anywhere, merged}
 
@@ -53,22 +53,32 @@ pub data Agree (x : Around) (locked : Place → Type 0) (o : S) (a : A) : Type 0
 abbrev pub Dies : (A → A) → Type 0
 Dies go = (a : A) → a.extra.stopped ≡ true → (go a).extra.stopped ≡ true
 
+-- where both were changed alike they stand at the same: the path and the number of children stay
+changed : {f g : Flow} {e h : Environment} {b c : Contents} {ls ms : List (List ℤ)} {fs gs : List Fault} {j k : ℕ} (x y : Around)
+    (locked final : Set) (o : S) (a : A) → f ≡ g → e ≡ h → ((z : ℕ) → InScope y.scope z → e.windows z ≡ y.env.windows z)
+    → ((q : Place) → y.held q → b q ≡ first_of (a.extra.contents q) (c q)) → ((q : Place) → (y.wrote q → ⊥) → b q ≡ y.base q)
+    → ls ≡ ms → fs ≡ gs → j ≡ k → a.extra.stopped ≡ false → ((q : Place) → (final q → ⊥) → a.extra.contents q ≡ None) → Same x locked o a
+    → Same y final (record o { flow = f; environment = e; store = b; lines = ls; faults = fs; steps = j })
+    (record a { flow = g; environment = h; store = c; lines = ms; faults = gs; steps = k })
+changed x y locked final o a flow environment windows store stays lines faults steps alive out s = record {
+  flow = flow;
+  environment = environment;
+  windows = windows;
+  store = store;
+  stays = stays;
+  lines = lines;
+  faults = faults;
+  steps = steps;
+  path = s.path;
+  spawned = s.spawned;
+  alive = alive;
+  out = out;
+}
+
 module _ (x : Around) where
   pub widen : (locked final : Set) (o : S) (a : A) → ((q : Place) → locked q → final q) → Same x locked o a → Same x final o a
-  widen locked final o a f s = record {
-    flow = s.flow;
-    environment = s.environment;
-    windows = s.windows;
-    store = s.store;
-    stays = s.stays;
-    lines = s.lines;
-    faults = s.faults;
-    steps = s.steps;
-    path = s.path;
-    spawned = s.spawned;
-    alive = s.alive;
-    out = λ q n. s.out q (λ l. n (f q l));
-  }
+  widen locked final o a f s =
+      changed x x locked final o a s.flow s.environment s.windows s.store s.stays s.lines s.faults s.steps s.alive (λ q n. s.out q (λ l. n (f q l))) s
 
   -- ---- what is changed in both
   -- how they go on, what they told, and their steps
@@ -76,39 +86,15 @@ module _ (x : Around) where
       → f ≡ g → ls ≡ ms → fs ≡ gs → j ≡ k → Same x locked o a
       → Same x locked (record o { flow = f; lines = ls; faults = fs; steps = j })
       (record a { flow = g; lines = ms; faults = gs; steps = k })
-  told locked o a flow lines faults steps s = record {
-    flow = flow;
-    environment = s.environment;
-    windows = s.windows;
-    store = s.store;
-    stays = s.stays;
-    lines = lines;
-    faults = faults;
-    steps = steps;
-    path = s.path;
-    spawned = s.spawned;
-    alive = s.alive;
-    out = s.out;
-  }
+  told locked o a flow lines faults steps s =
+      changed x x locked locked o a flow s.environment s.windows s.store s.stays lines faults steps s.alive s.out s
 
   -- where they stand, under what names
   pub stand : {e f : Environment} (sc : Scope) (env : Environment) (locked : Set) (o : S) (a : A)
       → e ≡ f → ((z : ℕ) → InScope sc z → e.windows z ≡ env.windows z) → Same x locked o a
       → Same (record x { scope = sc; env = env }) locked (record o { environment = e }) (record a { environment = f })
-  stand sc env locked o a environment windows s = record {
-    flow = s.flow;
-    environment = environment;
-    windows = windows;
-    store = s.store;
-    stays = s.stays;
-    lines = s.lines;
-    faults = s.faults;
-    steps = s.steps;
-    path = s.path;
-    spawned = s.spawned;
-    alive = s.alive;
-    out = s.out;
-  }
+  stand sc env locked o a environment windows s =
+      changed x (record x { scope = sc; env = env }) locked locked o a s.flow environment windows s.store s.stays s.lines s.faults s.steps s.alive s.out s
 
   -- ---- going on
   stops_on : (f : Flow) (a : A) (to : A → A) → f ≡ a.flow → Dies to → stops_anywhere a ≡ true → stops_anywhere (at_flow f a to) ≡ true
@@ -167,7 +153,7 @@ module _ (x : Around) where
 
   -- what is read is the same
   pub reads_same : (locked : Set) (o : S) (a : A) → Same x locked o a → (q : Place) → x.held q → (locked q → ⊥) → o.store q ≡ a.store q
-  reads_same locked o a s q h n = s.store q h ∙ ap (λ v. or_else v (a.store q)) (s.out q n)
+  reads_same locked o a s q h n = s.store q h ∙ ap (λ v. first_of v (a.store q)) (s.out q n)
 
   -- sections whose places are the same for both
   abbrev pub Readable : Set → List ℕ → Type 0
@@ -213,9 +199,9 @@ module _ (x : Around) where
     pub print_same : (vs : List ℤ) → Same x locked (print vs o) (print vs a)
     print_same vs = told locked o a s.flow (ap (λ ls. ls ++ vs ∷ []) s.lines) s.faults s.steps s
 
-    write_at : (b : Bool) (n u v w : Option ℤ) → (b ≡ true → u ≡ None) → v ≡ or_else u w
-        → (if b then n else v) ≡ or_else u (if b then n else w)
-    write_at true n u v w f e = ap (λ y. or_else y n) (sym (f refl))
+    write_at : (b : Bool) (n u v w : Option ℤ) → (b ≡ true → u ≡ None) → v ≡ first_of u w
+        → (if b then n else v) ≡ first_of u (if b then n else w)
+    write_at true n u v w f e = ap (λ y. first_of y n) (sym (f refl))
     write_at false n u v w f e = e
 
     stays_at : (b : Bool) (n v w : Option ℤ) → (b ≡ true → ⊥) → v ≡ w → (if b then n else v) ≡ w
@@ -224,21 +210,12 @@ module _ (x : Around) where
 
     write_same : (q : Place) (v : ℤ) → (locked q → ⊥) → x.wrote q
         → Same x locked (record o { store = write q v o.store }) (record a { store = write q v a.store })
-    write_same q v n w = record {
-      flow = s.flow;
-      environment = s.environment;
-      windows = s.windows;
-      store = λ r h. write_at (same_place q r) (Some v) (a.extra.contents r) (o.store r) (a.store r)
-          (λ e. s.out r (λ l. n (subst locked (sym (places_same q r e)) l))) (s.store r h);
-      stays = λ r m. stays_at (same_place q r) (Some v) (o.store r) (x.base r) (λ e. m (subst x.wrote (places_same q r e) w)) (s.stays r m);
-      lines = s.lines;
-      faults = s.faults;
-      steps = s.steps;
-      path = s.path;
-      spawned = s.spawned;
-      alive = s.alive;
-      out = s.out;
-    }
+    write_same q v n w =
+        changed x x locked locked o a s.flow s.environment s.windows
+        (λ r h. write_at (same_place q r) (Some v) (a.extra.contents r) (o.store r) (a.store r)
+        (λ e. s.out r (λ l. n (subst locked (sym (places_same q r e)) l))) (s.store r h))
+        (λ r m. stays_at (same_place q r) (Some v) (o.store r) (x.base r) (λ e. m (subst x.wrote (places_same q r e) w)) (s.stays r m))
+        s.lines s.faults s.steps s.alive s.out s
 
     pub put_same : (l : ℕ) (fits : Bool) (q : Place) (v : ℤ) → (locked q → ⊥) → x.wrote q
         → Same x locked (put l fits q v o) (put l fits q v a)

@@ -26,7 +26,7 @@ use Rattle.effects.proofs.Members.{false_true}
 use Rattle.race_checker.specs.Scope.{Top, Inside, InScope, FitsScope, may_writes, Scoped, ScopedOf, IsScoped}
 use Rattle.race_checker.specs.Calm.{Calm, CalmOf, IsCalm}
 use Rattle.race_checker.proofs.Scoping.{length_may_writes}
-use Rattle.own_run.specs.Places.{or_else, written, touched}
+use Rattle.own_run.specs.Places.{written, touched, first_of}
 use Rattle.own_run.specs.Apart.{Aside, nothing, is_stopped, stops_anywhere, merged, child_apart, set_aside, gather}
 use Rattle.own_run.specs.Apart.{apart_rules_by, begin_apart}
 use Rattle.own_run.specs.Ready.{Around, Ready}
@@ -253,20 +253,28 @@ module _ (p : Program) (needs : Codes → Needs) where
   abbrev alone : Around → Contents → Set → Codes → Around
   alone x base held b = record x { base = base; wrote = Overwrites x.env (All p accesses b); held = held }
 
-  pub lone_ready : (x : Around) (base : Contents) (held : Set) (b : Codes) → FitsScope x.scope x.env → Scoped p x.scope b → Calm p x.scope b
-      → ProvidesIn p needs b → ((q : Place) → Touches x.env (All p accesses b) q → held q)
-      → Ready p needs (alone x base held b) nowhere (Overwrites x.env (Pending p accesses b)) b
-  lone_ready x base held b fits scoped calm provided h = record {
+  -- it is ready where nothing is locked
+  pub unlocked_ready : (x : Around) (final : Set) (b : Codes) → FitsScope x.scope x.env → Scoped p x.scope b → Calm p x.scope b
+      → ProvidesIn p needs b → ((q : Place) → Touches x.env (All p accesses b) q → x.held q)
+      → ((q : Place) → Overwrites x.env (All p accesses b) q → x.wrote q)
+      → ((q : Place) → Overwrites x.env (Pending p accesses b) q → final q) → Ready p needs x nowhere final b
+  unlocked_ready x final b fits scoped calm provided held wrote added = record {
     fits = fits;
     scoped = scoped;
     calm = calm;
     provided = provided;
     free = λ q t n. n;
-    held = h;
-    wrote = λ q t. t;
+    held = held;
+    wrote = wrote;
     kept = λ q n. absurd n;
-    added = λ q t. t;
+    added = added;
   }
+
+  pub lone_ready : (x : Around) (base : Contents) (held : Set) (b : Codes) → FitsScope x.scope x.env → Scoped p x.scope b → Calm p x.scope b
+      → ProvidesIn p needs b → ((q : Place) → Touches x.env (All p accesses b) q → held q)
+      → Ready p needs (alone x base held b) nowhere (Overwrites x.env (Pending p accesses b)) b
+  lone_ready x base held b fits scoped calm provided h =
+      unlocked_ready (alone x base held b) (Overwrites x.env (Pending p accesses b)) b fits scoped calm provided h (λ q t. t) (λ q t. t)
 
   not_stopped : (f g : Flow) → f ≡ g → is_stopped f ≡ false → is_stopped g ≡ false
   not_stopped f g e h = ap is_stopped (sym e) ∙ h
@@ -340,17 +348,17 @@ module _ (p : Program) (needs : Codes → Needs) where
 
     -- what the body wrote is set aside, and what it didn't stays
     aside_at : (w : Bool) (new old c mine : Option ℤ) → (w ≡ true → new ≡ c) → (w ≡ true → old ≡ None)
-        → (w ≡ false → new ≡ or_else old mine)
-        → new ≡ or_else (or_else (if w then c else None) old) (if w then None else mine)
+        → (w ≡ false → new ≡ first_of old mine)
+        → new ≡ first_of (first_of (if w then c else None) old) (if w then None else mine)
     aside_at true new old c mine f g h =
-        f refl ∙ sym (else_none c) ∙ ap (λ v. or_else v None) (sym (else_none c) ∙ ap (or_else c) (sym (g refl)))
+        f refl ∙ sym (else_none c) ∙ ap (λ v. first_of v None) (sym (else_none c) ∙ ap (first_of c) (sym (g refl)))
       where
-        else_none : (v : Option ℤ) → or_else v None ≡ v
+        else_none : (v : Option ℤ) → first_of v None ≡ v
         else_none None = refl
         else_none (Some v) = refl
     aside_at false new old c mine f g h = h refl
 
-    none_at : (w : Bool) (c old : Option ℤ) → (w ≡ true → ⊥) → old ≡ None → or_else (if w then c else None) old ≡ None
+    none_at : (w : Bool) (c old : Option ℤ) → (w ≡ true → ⊥) → old ≡ None → first_of (if w then c else None) old ≡ None
     none_at true c old m e = absurd (m refl)
     none_at false c old m e = e
 
@@ -412,7 +420,7 @@ module _ (p : Program) (needs : Codes → Needs) where
       flow = k.flow;
       environment = k.environment;
       windows = k.windows;
-      store = λ q v. k.store q v.1 ∙ ap (λ m. or_else m (a.store q)) v.0;
+      store = λ q v. k.store q v.1 ∙ ap (λ m. first_of m (a.store q)) v.0;
       stays = λ q m. refl;
       lines = refl;
       faults = refl;
@@ -428,14 +436,14 @@ module _ (p : Program) (needs : Codes → Needs) where
       left = joined o (record oo { flow = after_finish oo.flow oo.faults })
 
       leave_store : Same within_finish (Overwrites x.env (Pending p accesses b)) oo aa → (q : Place) → x.held q
-          → oo.store q ≡ or_else (a.extra.contents q) (merged aa q)
+          → oo.store q ≡ first_of (a.extra.contents q) (merged aa q)
       leave_store h q t = by_aside (a.extra.contents q) refl
         where
-          by_aside : (v : Option ℤ) → a.extra.contents q ≡ v → oo.store q ≡ or_else v (merged aa q)
+          by_aside : (v : Option ℤ) → a.extra.contents q ≡ v → oo.store q ≡ first_of v (merged aa q)
           by_aside None e = h.store q (e, t)
           by_aside (Some v) e =
               h.stays q (λ w. none-some _ (sym (k.out q (r.free q (of_finish q (overwrites_touch x.env _ q w)))) ∙ e))
-              ∙ k.store q t ∙ ap (λ u. or_else u (a.store q)) e
+              ∙ k.store q t ∙ ap (λ u. first_of u (a.store q)) e
 
       flow_alive : (b : Bool) (f g : Flow) → b ≡ false → f ≡ g → f ≡ (if b then Stopped else g)
       flow_alive true f g q e = absurd (false_true (sym q))

@@ -78,8 +78,7 @@ module _ (p : Program) (needs : Codes → Needs) where
       record {
         inside = left.inside;
         known = left.known;
-        ready =
-            anchor_ready sc env locked fewer (locked_after p needs env locked b) b k left.ready;
+        ready = anchor_ready sc env locked fewer _ b k left.ready;
       },
       anchor f (InScope sc) (locked_after p needs env locked b) (locked_after p needs env fewer b) fs
           (keeps_on locked fewer (Overwrites env (Pending p accesses b)) k) below,
@@ -90,9 +89,7 @@ module _ (p : Program) (needs : Codes → Needs) where
       record {
         inside = left.inside;
         known = left.known;
-        ready =
-            anchor_ready sc env locked fewer (locked_after p needs env locked (Then l (While t b) End))
-            (Then l (While t b) End) k left.ready;
+        ready = anchor_ready sc env locked fewer _ (Then l (While t b) End) k left.ready;
       },
       anchor f (InScope sc) (locked_after p needs env locked (Then l (While t b) End))
           (locked_after p needs env fewer (Then l (While t b) End)) fs

@@ -12,8 +12,8 @@ use Rattle.types.specs.Translation.{code, codes, environment, program, truth}
 use Rattle.effects.specs.Needs.{Needs}
 use Rattle.own_run.specs.Frames.{Frame, Rest, Again, Back, Standing, done_in, turn}
 use Rattle.own_run.specs.OwnRun.{Action, Own, own_rules}
-use Rattle.own_run.specs.RunTurns.{DidNext, DoneAs, GoesAs, GoesTo, IsTurn, TurnOf, Turns, below_top, taken_off, turn_of}
-use Rattle.own_run.specs.Standings.{Stacked, state_of, with_own}
+use Rattle.own_run.specs.RunTurns.{DidNext, DoneAs, GoesAs, GoesTo, Going_on, IsTurn, TurnOf, Turns, below_top, taken_off, turn_of}
+use Rattle.own_run.specs.Standings.{Shows, Stacked, state_of, with_own}
 use Rattle.own_run.specs.Stops.{stops}
 use Rattle.own_run.specs.declared.frame.Frame.{Frame as rFrame}
 use Rattle.own_run.specs.declared.frame.Frame.TheVariants.{Rest as rRest, Again as rAgain, EndCall as rEndCall}
@@ -52,6 +52,16 @@ module _ (v : Vec rFrame Global) (g : rFrame) (some : 0 < length v.items) (read 
   is_kept = with_own_item v (v.len - 1) g read
 
 module _ (needs : Codes → Needs) (old : Run) (hs : List rFrame) where
+  -- what was done over other frames goes on from there
+  moved : {go : Going_on} {gs : List (Frame Own)} (v : Vec rFrame Global) (new : Run) (fs : List (Frame Own)) (x : Own)
+      → Turns go (record old { frames = v }) new → Stacked v.items fs → Shows old gs x
+      → GoesTo old (go fs (with_own x (state_of old.thread))) new
+  moved v new fs x turns frames shows = record {
+    plan = turns.plan;
+    nest = turns.nest;
+    stands = turns.stands fs x (record { frames = frames; owned = shows.owned; pending = shows.pending; few = shows.few });
+  }
+
   -- the top frame is a block, of which the first statement is done and the rest stays
   pub first_is_turn : (block rest : Bor (List Stmt)) (s : Stmt) (put : Vec rFrame Global) (d : Done) (new : Run)
       → old.frames.items ≡ hs ++ rRest block ∷ [] → block.now ≡ s ∷ rest.now → put.items ≡ hs ++ rRest rest ∷ []
@@ -65,16 +75,8 @@ module _ (needs : Codes → Needs) (old : Run) (hs : List rFrame) where
       (λ below stacked.
       goes_as old (turn (program old.plan.program.now) (own_rules needs old.thread.nest close) f below st)
       (done_in needs old.thread.nest f st) (stops old.thread.nest f st) d new
-      (record {
-        plan = next.turns.plan;
-        nest = next.turns.nest;
-        stands = next.turns.stands (Rest (codes rest.now) ∷ below) x (record {
-          frames = stacked-pushed hs put.items (rRest rest) (Rest (codes rest.now)) below is_put refl stacked;
-          owned = shows.owned;
-          pending = shows.pending;
-          few = shows.few;
-        });
-      })
+      (moved put new (Rest (codes rest.now) ∷ below) x next.turns
+      (stacked-pushed hs put.items (rRest rest) (Rest (codes rest.now)) below is_put refl stacked) shows)
       (next.noted x))
 
   -- it is the next turn of a loop, and was taken off
@@ -91,16 +93,7 @@ module _ (needs : Codes → Needs) (old : Run) (hs : List rFrame) where
       (λ below stacked.
       goes_as old (turn (program old.plan.program.now) (own_rules needs old.thread.nest close) f below st)
       (done_in needs old.thread.nest f st) (stops old.thread.nest f st) d new
-      (record {
-        plan = next.turns.plan;
-        nest = next.turns.nest;
-        stands = next.turns.stands below x (record {
-          frames = subst (λ (gs : List rFrame). Stacked gs below) (sym is_popped) stacked;
-          owned = shows.owned;
-          pending = shows.pending;
-          few = shows.few;
-        });
-      })
+      (moved popped new below x next.turns (subst (λ (gs : List rFrame). Stacked gs below) (sym is_popped) stacked) shows)
       (next.noted x))
 
   -- it is a block at its end
@@ -111,17 +104,8 @@ module _ (needs : Codes → Needs) (old : Run) (hs : List rFrame) where
       on_this old.frames.items hs (rRest block) (rRest block) (Rest End) fs top refl (λ f shows. shows ∙ ap (λ b. Rest (codes b)) none)
       shows.frames (λ (fs : List (Frame Own)). TurnOf needs close old fs st (Going new))
       (λ below stacked. (
-        record {
-          plan = turns.plan;
-          nest = turns.nest;
-          stands = turns.stands (Rest End ∷ below) x (record {
-            frames =
-                stacked-pushed hs old.frames.items (rRest block) (Rest End) below top (ap (λ b. Rest (codes b)) (sym none)) stacked;
-            owned = shows.owned;
-            pending = shows.pending;
-            few = shows.few;
-          });
-        },
+        moved old.frames new (Rest End ∷ below) x turns
+            (stacked-pushed hs old.frames.items (rRest block) (Rest End) below top (ap (λ b. Rest (codes b)) (sym none)) stacked) shows,
         (refl, inl refl),
       ))
 
@@ -134,15 +118,6 @@ module _ (needs : Codes → Needs) (old : Run) (hs : List rFrame) where
       on_this old.frames.items hs (rEndCall env) (rEndCall env) f fs top refl (λ f shows. shows)
       shows.frames (λ (fs : List (Frame Own)). TurnOf needs close old fs st (Going new))
       (λ below stacked. (
-        record {
-          plan = turns.plan;
-          nest = turns.nest;
-          stands = turns.stands (f ∷ below) x (record {
-            frames = stacked-pushed hs old.frames.items (rEndCall env) f below top refl stacked;
-            owned = shows.owned;
-            pending = shows.pending;
-            few = shows.few;
-          });
-        },
+        moved old.frames new (f ∷ below) x turns (stacked-pushed hs old.frames.items (rEndCall env) f below top refl stacked) shows,
         (refl, inl refl),
       ))

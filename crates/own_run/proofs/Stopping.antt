@@ -4,6 +4,7 @@ use Rattle.std.proofs.Common.{◌≡◌, ℕ, zero, suc, ◌+◌, List, [], ◌�
 use Rattle.std.proofs.Common.{ap, ◌∙◌, subst}
 use Rattle.std.specs.Prelude.{Bool, true, false, nat_eq, ◌||◌, ok_or, if◌then◌else◌}
 use Rattle.std.proofs.Math.Bool.{or-false, or_assoc}
+use Rattle.sections.specs.Covers.{has}
 use Rattle.sections.specs.Place.{Place, sides_of}
 use Rattle.types.specs.declared.fault.FaultKind.TheVariants.{SplitPoint}
 use Rattle.types.specs.Code.{Primitive, Skip, Assign, Store, Print, Raise, Code, Do, If, While, Split, Call, Async}
@@ -13,7 +14,7 @@ use Rattle.types.specs.Run.{Flow, On, Faulted, Stopped, Fault, State, Rules, wit
 use Rattle.types.specs.Run.{primitive, number_at, numbers_at, truth_at, window_at, array_of}
 use Rattle.types.specs.Meaning.{after_finish}
 use Rattle.effects.specs.Needs.{Needs}
-use Rattle.own_run.specs.Places.{Places, within, meets}
+use Rattle.own_run.specs.Places.{Places, meets}
 use Rattle.own_run.specs.Apart.{is_stopped}
 use Rattle.own_run.specs.Results.{Listed, TaskResult, Settled, none_yet, fill, complete}
 use Rattle.own_run.specs.OwnRun.{Own, own_rules, begin_own, result_of}
@@ -137,7 +138,7 @@ fill_stopped deeper h owned [] so_far rs x e =
 fill_stopped deeper h owned (c ∷ cs) so_far rs x e =
     let g = gives (take c.path rs) _ x (unless_none (meets owned c.windows) _ e) in
     let f = gives (deeper g.one.0 g.one.1) _ x g.next in
-    fill_stopped deeper h (λ q. owned q || within c.windows q) cs (fill c f.one.0 so_far) f.one.1 x f.next
+    fill_stopped deeper h (λ q. owned q || has c.windows q) cs (fill c f.one.0 so_far) f.one.1 x f.next
     ∙ or_assoc so_far.stopped f.one.0.stopped (some_stopped f.one.1)
     ∙ ap (λ b. so_far.stopped || b) (h g.one.0 g.one.1 f.one f.first ∙ sym (take_stopped c.path rs g.one g.first))
 

@@ -1,6 +1,7 @@
 -- What a turn leaves to do is of the program, and a task's places, with those that come back, stay the same.
 use Rattle.std.proofs.Common.{◌≡◌, ℕ, zero, suc, List, [], ◌∷◌, ◌++◌, Ok, Err, refl, sym, ap, ◌∙◌, subst}
 use Rattle.std.specs.Prelude.{Bool, true, false, not, ◌&&◌, ◌||◌, Option, ok_or}
+use Rattle.sections.specs.Covers.{has}
 use Rattle.sections.specs.Place.{Place, sides_of}
 use Rattle.types.specs.declared.fault.FaultKind.TheVariants.{SplitPoint}
 use Rattle.types.specs.Code.{Primitive, Skip, Assign, Store, Print, Raise, Code, Do, If, While, Split, Call, Async}
@@ -10,7 +11,7 @@ use Rattle.types.specs.Run.{Flow, On, Faulted, Stopped, State, Rules, with_value
 use Rattle.types.specs.Run.{primitive, number_at, numbers_at, truth_at, window_at, array_of, with_sides}
 use Rattle.effects.specs.Needs.{Needs}
 use Rattle.effects.specs.Statements.{Block, Stands, HasStatement, IsPartOf}
-use Rattle.own_run.specs.Places.{Places, written, within}
+use Rattle.own_run.specs.Places.{Places, written}
 use Rattle.own_run.specs.Results.{Settled}
 use Rattle.own_run.specs.OwnRun.{Child, Own, back_from, begin_own, child_of, own_rules}
 use Rattle.own_run.specs.Frames.{Frame, Rest, Again, AtEnd, Back, Standing, by_value, chosen, acted, paid, by_flow, turn, handed}
@@ -31,15 +32,15 @@ back_around (Back env ∷ fs) q = back_around fs q
 abbrev pub all_places : List (Frame Own) → (owned : Places) → List Child → Places
 all_places fs o cs q = (o q || back_from cs q) || back_around fs q
 
-back_last : (cs : List Child) (c : Child) (q : Place) → back_from (cs ++ c ∷ []) q ≡ (back_from cs q || within c.listed.windows q)
-back_last [] c q = or_none (within c.listed.windows q)
+back_last : (cs : List Child) (c : Child) (q : Place) → back_from (cs ++ c ∷ []) q ≡ (back_from cs q || has c.listed.windows q)
+back_last [] c q = or_none (has c.listed.windows q)
   where
     or_none : (w : Bool) → (w || false) ≡ w
     or_none true = refl
     or_none false = refl
 back_last (d ∷ cs) c q =
-    ap (λ (b : Bool). within d.listed.windows q || b) (back_last cs c q)
-    ∙ or_nested (within d.listed.windows q) (back_from cs q) (within c.listed.windows q)
+    ap (λ (b : Bool). has d.listed.windows q || b) (back_last cs c q)
+    ∙ or_nested (has d.listed.windows q) (back_from cs q) (has c.listed.windows q)
   where
     or_nested : (a b c : Bool) → (a || (b || c)) ≡ ((a || b) || c)
     or_nested true b c = refl
@@ -78,7 +79,7 @@ module _ (p : Program) where
   -- so is a child's body, and what it owns is what comes back from it
   pub record Belongs (c : Child) : Type 0 where
     pub body : IsPartOf p c.start.body
-    pub places : (q : Place) → c.start.owned q ≡ within c.listed.windows q
+    pub places : (q : Place) → c.start.owned q ≡ has c.listed.windows q
 
   -- so is what is left to do, and so are the children around the open finishes
   abbrev pub AllBelong : List (Frame Own) → Type 0
@@ -168,7 +169,7 @@ module _ (p : Program) where
           frames = k.frames;
           children = each_last Belongs st.extra.pending c k.children (record { body = i; places = λ q. refl });
           places = λ q.
-              let w = within c.listed.windows q in
+              let w = has c.listed.windows q in
               ap (λ (back : Bool). ((st.extra.owned q && not w) || back) || back_around fs q) (back_last st.extra.pending c q)
               ∙ ap (λ (here : Bool). here || back_around fs q)
               (gone_and_back (st.extra.owned q) (back_from st.extra.pending q) w (h q))

@@ -22,7 +22,7 @@ use Rattle.own_run.specs.Frames.{done_by, done_at, done_in, handed}
 use Rattle.own_run.specs.Quiet.{Quietly, here, further}
 use Rattle.own_run.specs.Reached.{begun}
 use Rattle.own_run.specs.Left.{rate, block_cost, left_of, left_of_paused, left_of_start, left_after, stop_cost}
-use Rattle.own_run.specs.Left.{cost as cost_of, costs as costs_of}
+use Rattle.own_run.specs.Left.{cost as cost_of, costs as costs_of, total}
 use Rattle.own_run.specs.RunTurns.{GoesAs, GoesTo, IsTurn, TurnOf, EndsAs, WaitsAs, Waits}
 use Rattle.own_run.specs.Standings.{IsAt, Shows, ShowsFrame, Stacked, state_of, with_own}
 use Rattle.own_run.specs.Translation.{start}
@@ -49,8 +49,7 @@ cost (AtEnd before) = 8
 cost (Back env) = 1
 
 abbrev costs : List (Frame Own) → ℕ
-costs [] = 0
-costs (f ∷ fs) = cost f + costs fs
+costs = total cost
 
 block_costs : (b : Codes) → cost (Rest b) ≤ 2
 block_costs End = omega arith
@@ -239,9 +238,20 @@ module _ (fresh : ℕ) (p : Program) (needs : Codes → Needs) (close : State Ow
       omega (arith, h, g)
 
 -- ---- the same of runs in Rust
-costs_snoc : (gs : List rFrame) (g : rFrame) → costs_of (gs ++ g ∷ []) ≡ costs_of gs + cost_of g
-costs_snoc [] g = omega arith
-costs_snoc (f ∷ gs) g = let h = costs_snoc gs g in omega (arith, h)
+pub total_snoc : {A : Type 0} (f : A → ℕ) (xs : List A) (x : A) → total f (xs ++ x ∷ []) ≡ total f xs + f x
+total_snoc f [] x = omega arith
+total_snoc f (y ∷ ys) x = let h = total_snoc f ys x in omega (arith, h)
+
+-- a sum over frames is one over what they show
+pub totals_same : (f : rFrame → ℕ) (g : Frame Own → ℕ) → ((top : rFrame) (t : Frame Own) → ShowsFrame top t → f top ≡ g t)
+    → (gs : List rFrame) (fs : List (Frame Own)) → Stacked gs fs → total f gs ≡ total g fs
+totals_same f g same gs [] e = ap (total f) e
+totals_same f g same gs (t ∷ fs) (below, top, e, shows, rest) =
+    let a = ap (total f) e in
+    let b = total_snoc f below top in
+    let c = same top t shows in
+    let d = totals_same f g same below fs rest in
+    omega (arith, a, b, c, d)
 
 block_same : (b : List Stmt) → block_cost b ≡ cost (Rest (codes b))
 block_same [] = refl
@@ -254,13 +264,7 @@ frame_same (rEndFinish o) f (before, e, h) = ap cost (sym e)
 frame_same (rEndCall env) f e = ap cost (sym e)
 
 pub costs_same : (gs : List rFrame) (fs : List (Frame Own)) → Stacked gs fs → costs_of gs ≡ costs fs
-costs_same gs [] e = ap costs_of e
-costs_same gs (f ∷ fs) (below, top, e, shows, rest) =
-    let a = ap costs_of e in
-    let b = costs_snoc below top in
-    let c = frame_same top f shows in
-    let d = costs_same below fs rest in
-    omega (arith, a, b, c, d)
+costs_same = totals_same cost_of cost frame_same
 
 flow_same : (f : rFlow) → stop_cost f ≡ stops (flow f)
 flow_same rOn = refl

@@ -1,11 +1,11 @@
 -- What comes of a start, what the task of each path is given, and what is told of a run.
 use Rattle.std.specs.Prelude.{ℕ, zero, suc, ◌≡◌, List, [], ◌∷◌, flat_map, ℤ, Option, Some}
+use Rattle.sections.specs.Covers.{has}
 use Rattle.types.specs.Code.{Codes, Program}
 use Rattle.types.specs.Contents.{held_by, shown}
 use Rattle.types.specs.Run.{State, Block, entry}
 use Rattle.types.specs.Outcome.{Outcome, outcome_by, whole_arrays}
 use Rattle.effects.specs.Needs.{Needs}
-use Rattle.own_run.specs.Places.{within}
 use Rattle.own_run.specs.Apart.{nothing, stops_anywhere, merged, apart}
 use Rattle.own_run.specs.Results.{TaskResult, Settled, none_yet, fill, complete, and_then}
 use Rattle.own_run.specs.OwnRun.{Start, Child, Own, beginning, result_of, begun_by, kth, flow_after}
@@ -57,7 +57,7 @@ root_of p input nest = record {
   body = p.main.body;
   environment = entry [] (whole_arrays 0 p.arrays);
   contents = held_by input;
-  owned = within (whole_arrays 0 p.arrays);
+  owned = has (whole_arrays 0 p.arrays);
   nest = nest;
   path = [];
 }

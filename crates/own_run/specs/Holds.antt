@@ -1,5 +1,6 @@
 -- A task has what it touches up to its innermost finish's end, and owns where it may write.
 use Rattle.std.specs.Prelude.{ℕ, ◌≡◌, ◌⊎◌, List, [], ◌∷◌, map, true}
+use Rattle.sections.specs.Covers.{has}
 use Rattle.sections.specs.Place.{Window, Place, In}
 use Rattle.sections.specs.Member.{Member}
 use Rattle.types.specs.Code.{Code, While, Codes, End, Then, Program}
@@ -11,7 +12,7 @@ use Rattle.effects.specs.Effects.{Pending, accesses}
 use Rattle.effects.specs.Footprint.{Overwrites}
 use Rattle.effects.specs.Needs.{Needs}
 use Rattle.race_checker.specs.Scope.{Scope, InScope}
-use Rattle.own_run.specs.Places.{Places, empty, within, written, touched}
+use Rattle.own_run.specs.Places.{Places, empty, written, touched}
 use Rattle.own_run.specs.Ready.{Around, Ready}
 use Rattle.own_run.specs.OwnRun.{Start, Child, Own, back_from}
 use Rattle.own_run.specs.Frames.{Frame, Rest, Again, AtEnd, Back, Standing}
@@ -75,7 +76,7 @@ module _ (p : Program) (needs : Codes → Needs) where
 
   -- a child has what comes back from it, and can begin
   pub record Carries (c : Child) : Type 0 where
-    pub there : (q : Place) → within c.listed.windows q ≡ true → IsThere (c.start.contents q)
+    pub there : (q : Place) → has c.listed.windows q ≡ true → IsThere (c.start.contents q)
     pub begins : MayBegin c.start
 
   -- so it is for the finishes around, and their children can begin

@@ -29,10 +29,14 @@ cost (Again l t b) = 1
 cost (EndFinish outer) = 8
 cost (EndCall env) = 1
 
+-- a sum over frames
+abbrev pub total : {A : Type 0} → (A → ℕ) → List A → ℕ
+total f [] = 0
+total f (x ∷ xs) = f x + total f xs
+
 -- and frames
 abbrev pub costs : List Frame → ℕ
-costs [] = 0
-costs (f ∷ fs) = cost f + costs fs
+costs = total cost
 
 -- a task that goes on may need one turn more, to be stopped
 abbrev pub stop_cost : Flow → ℕ

@@ -1,15 +1,16 @@
 -- A task's own run: its asyncs are listed, and what comes of them is put in at a finish's end.
 use Rattle.std.specs.Prelude.{ℕ, zero, suc, ◌+◌, List, [], ◌∷◌, ◌++◌, map, Bool, true, false, not}
 use Rattle.std.specs.Prelude.{◌&&◌, ◌||◌, Option, Some, None, slice_get, if◌then◌else◌}
+use Rattle.sections.specs.Covers.{has}
 use Rattle.types.specs.Code.{Codes, Program}
 use Rattle.types.specs.Contents.{Contents}
 use Rattle.types.specs.Value.{Environment}
 use Rattle.types.specs.Run.{Flow, On, Stopped, State, Rules, Block, stopped, run}
 use Rattle.types.specs.Meaning.{hushed, after_finish}
 use Rattle.effects.specs.Needs.{Needs}
-use Rattle.own_run.specs.Places.{written, touched, Places, within, only, without}
+use Rattle.own_run.specs.Places.{written, touched, Places, only, without}
 use Rattle.own_run.specs.Apart.{is_stopped}
-use Rattle.own_run.specs.Results.{Listed, TaskResult, Settled, and_then}
+use Rattle.own_run.specs.Results.{Listed, TaskResult, Settled, and_then, returned}
 use Rattle.own_run.specs.Settling.{settle}
 
 -- what a task starts with, but for its steps
@@ -103,7 +104,7 @@ list_child n nest b st =
       spawned = st.spawned + 1;
       extra = notes (Spawn c.start) (record st.extra {
         pending = st.extra.pending ++ c ∷ [];
-        owned = λ q. st.extra.owned q && not (within c.listed.windows q);
+        owned = λ q. st.extra.owned q && not (has c.listed.windows q);
       });
     }
 
@@ -114,8 +115,7 @@ begin_own needs (suc n) b st = list_child (needs b) n b st
 
 -- the places that come back from those that it lists
 abbrev pub back_from : List Child → Places
-back_from [] q = false
-back_from (c ∷ cs) q = within c.listed.windows q || back_from cs q
+back_from cs = returned (map (λ c. c.listed) cs)
 
 -- whether a task goes on behind a finish
 abbrev pub flow_after : Settled → Flow

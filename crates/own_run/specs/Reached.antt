@@ -6,7 +6,7 @@ use Rattle.types.specs.Run.{State}
 use Rattle.effects.specs.Needs.{Needs}
 use Rattle.own_run.specs.Results.{TaskResult, Settled}
 use Rattle.own_run.specs.OwnRun.{Start, Child, Own, at_first, beginning, result_of, own_rules}
-use Rattle.own_run.specs.Given.{in_truth, IsOwn}
+use Rattle.own_run.specs.Given.{in_truth, IsOfOwnRun, IsOwn}
 use Rattle.own_run.specs.Frames.{Frame, Rest, Again, AtEnd, Standing, turn, handed}
 use Rattle.own_run.specs.Holds.{HasOwn, HasNeeds}
 use Rattle.own_run.specs.Settling.{settle}
@@ -44,7 +44,7 @@ module _ (p : Program) (needs : Codes → Needs) (fresh : ℕ) (root : Start) wh
   -- results of own runs settle what a task has made so far
   pub record CanSettle (st : State Own) : Type 0 where
     pub results : List TaskResult
-    pub owns : Each (IsOwn p needs fresh root) results
+    pub owns : Each (IsOfOwnRun p needs fresh root) results
     pub comes : Settled
     pub settles : settle (result_of st) results ≡ Some comes
 

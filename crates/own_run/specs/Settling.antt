@@ -2,8 +2,9 @@
 use Rattle.std.specs.Prelude.{ℕ, zero, suc, ◌+◌, ◌≡◌, ◌≢◌, List, [], ◌∷◌, length, true, false}
 use Rattle.std.specs.Prelude.{◌||◌, nat_eq, Option, Some, None, if◌then◌else◌}
 use Rattle.std.specs.Cmp.Lexicographic.{pointwise}
+use Rattle.sections.specs.Covers.{has}
 use Rattle.sections.specs.Place.{Place}
-use Rattle.own_run.specs.Places.{Places, within, meets}
+use Rattle.own_run.specs.Places.{Places, meets}
 use Rattle.own_run.specs.Lists.{Each}
 use Rattle.own_run.specs.Results.{Listed, TaskResult, Settled, none_yet, fill, complete, and_then}
 
@@ -27,7 +28,7 @@ fill_all deeper owned (c ∷ cs) so_far rs =
     if meets owned c.windows then None else
     and_then (take c.path rs) (λ found.
     and_then (deeper found.0 found.1) (λ child.
-    fill_all deeper (λ q. owned q || within c.windows q) cs (fill c child.0 so_far) child.1))
+    fill_all deeper (λ q. owned q || has c.windows q) cs (fill c child.0 so_far) child.1))
 
 -- settles a result with others, at most k within one another, and leaves the others
 abbrev pub settle_within : ℕ → TaskResult → List TaskResult → Option (Settled × List TaskResult)
@@ -49,8 +50,8 @@ settle r rs = and_then (settle_within (length rs + 1) r rs) none_left
 abbrev pub Parted : Places → List Listed → Type 0
 Parted owned [] = Unit {0}
 Parted owned (c ∷ cs) =
-    ((q : Place) → within c.windows q ≡ true → owned q ≡ false)
-    × Parted (λ q. owned q || within c.windows q) cs
+    ((q : Place) → has c.windows q ≡ true → owned q ≡ false)
+    × Parted (λ q. owned q || has c.windows q) cs
 
 -- so it is of a result
 abbrev pub IsParted : TaskResult → Type 0

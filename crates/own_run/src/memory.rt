@@ -1,10 +1,11 @@
 //! What a task reads and writes.
 
 ghost use Rattle.std.specs.Prelude.{◌≡◌, ◌&&◌, ◌++◌, ◌∷◌, [], ℤ, true, not, map, IfOk, IfSome, OnOk};
+ghost use Rattle.sections.specs.Covers.{has};
 ghost use Rattle.sections.specs.Translation.{section as section_of, window as window_of};
 ghost use Rattle.types.specs.Contents.{read as read_of, IsThere};
 ghost use Rattle.types.specs.Translation.{environment as environment_of};
-ghost use Rattle.own_run.specs.Places.{Places as PlaceSet, within, only, without};
+ghost use Rattle.own_run.specs.Places.{Places as PlaceSet, only, without};
 ghost use Rattle.own_run.specs.Translation.{contents_of, owned_by};
 
 use flat_run::arrays::Arrays;
@@ -104,18 +105,18 @@ impl TaskMemory {
         writes: &[Window],
         reads: &[Window],
     ) -> Result<Holdings, HoldError>
-        requires owned { (q : _) → within (map window_of writes.now) q ≡ true
+        requires owned { (q : _) → has (map window_of writes.now) q ≡ true
             → owned_by self.old.holdings q ≡ true }
-        requires there { (q : _) → within (map window_of reads.now) q ≡ true
+        requires there { (q : _) → has (map window_of reads.now) q ≡ true
             → IsThere (contents_of self.old.holdings q) }
         ensures contents { IfOk result (λ c. contents_of c
-            ≡ only (within (map window_of (writes.now ++ reads.now)))
+            ≡ only (has (map window_of (writes.now ++ reads.now)))
             (contents_of self.old.holdings)) }
-        ensures owned { IfOk result (λ c. owned_by c ≡ within (map window_of writes.now)) }
+        ensures owned { IfOk result (λ c. owned_by c ≡ has (map window_of writes.now)) }
         ensures left { OnOk result (contents_of self.new.holdings
-            ≡ without (within (map window_of writes.now)) (contents_of self.old.holdings)) }
+            ≡ without (has (map window_of writes.now)) (contents_of self.old.holdings)) }
         ensures keeps { OnOk result (owned_by self.new.holdings
-            ≡ (λ q. owned_by self.old.holdings q && not (within (map window_of writes.now) q))) }
+            ≡ (λ q. owned_by self.old.holdings q && not (has (map window_of writes.now) q))) }
         ensures refused { IfErr result (λ e. e ≡ OutOfMemory) }
     {
         let mut child = self.holdings.share(alloc, reads)?;
@@ -134,18 +135,18 @@ impl TaskMemory {
         writes: &[Window],
         reads: &[SectionId],
     ) -> Result<Holdings, HoldError>
-        requires owned { (q : _) → within (map window_of writes.now) q ≡ true
+        requires owned { (q : _) → has (map window_of writes.now) q ≡ true
             → owned_by self.old.holdings q ≡ true }
-        requires there { (q : _) → within (map (environment_of environment.now).windows
+        requires there { (q : _) → has (map (environment_of environment.now).windows
             (map section_of reads.now)) q ≡ true → IsThere (contents_of self.old.holdings q) }
-        ensures contents { IfOk result (λ c. contents_of c ≡ only (within (map window_of writes.now
+        ensures contents { IfOk result (λ c. contents_of c ≡ only (has (map window_of writes.now
             ++ map (environment_of environment.now).windows (map section_of reads.now)))
             (contents_of self.old.holdings)) }
-        ensures owned { IfOk result (λ c. owned_by c ≡ within (map window_of writes.now)) }
+        ensures owned { IfOk result (λ c. owned_by c ≡ has (map window_of writes.now)) }
         ensures left { OnOk result (contents_of self.new.holdings
-            ≡ without (within (map window_of writes.now)) (contents_of self.old.holdings)) }
+            ≡ without (has (map window_of writes.now)) (contents_of self.old.holdings)) }
         ensures keeps { OnOk result (owned_by self.new.holdings
-            ≡ (λ q. owned_by self.old.holdings q && not (within (map window_of writes.now) q))) }
+            ≡ (λ q. owned_by self.old.holdings q && not (has (map window_of writes.now) q))) }
         ensures refused { IfErr result (λ e. e ≡ OutOfMemory) }
     {
         match only_one(reads) {

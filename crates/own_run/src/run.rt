@@ -250,14 +250,9 @@ impl<'p> Run<'p> {
                 self.turn_loop(label, guard, body)?;
                 Ok(Done::Gone)
             }
-            StmtKind::Split {
-                section,
-                at,
-                left,
-                right,
-                body,
-            } => {
-                self.split(label, *section, at, (*left, *right), body)?;
+            StmtKind::Split { sides, body } => {
+                let both = (sides.left, sides.right);
+                self.split(label, sides.section, &sides.at, both, body)?;
                 Ok(Done::Gone)
             }
             StmtKind::Call {

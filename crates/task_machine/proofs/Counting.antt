@@ -1,5 +1,5 @@
 -- What a turn makes of the finishes that are open, and of the steps that are left.
-use Rattle.std.proofs.Common.{◌≡◌, ℕ, zero, suc, ◌+◌, ◌≤◌, List, [], ◌∷◌, ◌++◌, Option, None, Ok, Err, refl, sym, ap}
+use Rattle.std.proofs.Common.{◌≡◌, ℕ, zero, suc, ◌+◌, ◌≤◌, List, [], ◌∷◌, Option, None, Ok, Err, refl, sym, ap}
 use Rattle.std.proofs.Common.{◌∙◌, arith, inl, inr, le_refl}
 use Rattle.std.specs.Prelude.{Bool, true, false, ok_or}
 use Rattle.sections.specs.Place.{sides_of}
@@ -13,6 +13,7 @@ use Rattle.own_run.specs.Results.{Settled}
 use Rattle.own_run.specs.OwnRun.{Action, Step, Spawn, EnterFinish, EndFinish, EndTask, Own, own_rules}
 use Rattle.own_run.specs.Frames.{Frame, Rest, Again, AtEnd, Back, Standing, by_value, chosen, acted, paid, by_flow, turn}
 use Rattle.own_run.specs.Frames.{done_by, done_at, done_in}
+use Rattle.own_run.specs.Left.{total}
 use Rattle.own_run.specs.Quiet.{IsLittle, Quietly, here, further}
 use Rattle.own_run.specs.RunTurns.{GoesAs, GoesOn, GoesTo, IsTurn, TurnOf, EndsAs, WaitsAs}
 use Rattle.own_run.specs.Standings.{Shows, ShowsFrame, Stacked, state_of, with_own}
@@ -26,6 +27,7 @@ use Rattle.own_run.specs.declared.turn.Turn.{Turn}
 use Rattle.own_run.specs.declared.turn.Turn.TheVariants.{Going, Spawns, EntersFinish, EndsFinish, Ended, Over}
 use Rattle.own_run.proofs.ListedTurns.{over_does_nothing}
 use Rattle.own_run.proofs.TasksEnd.{primitive_less}
+use Rattle.own_run.proofs.TurnsLeft.{totals_same}
 use Rattle.task_machine.specs.Finishes.{ends_finish, open_finishes}
 
 -- ---- the same of frames as they are defined
@@ -36,8 +38,7 @@ ends (AtEnd before) = 1
 ends (Back env) = 0
 
 abbrev opens : List (Frame Own) → ℕ
-opens [] = 0
-opens (f ∷ fs) = ends f + opens fs
+opens = total ends
 
 -- how many finishes are begun
 abbrev entered : List Action → ℕ
@@ -197,10 +198,6 @@ module _ (p : Program) (needs : Codes → Needs) (close : State Own → Option S
       record { steps = omega (arith, s, e, i); finishes = omega (arith, t, e, j) }
 
 -- ---- the same of runs in Rust
-open_snoc : (gs : List rFrame) (g : rFrame) → open_finishes (gs ++ g ∷ []) ≡ open_finishes gs + ends_finish g
-open_snoc [] g = omega arith
-open_snoc (f ∷ gs) g = let h = open_snoc gs g in omega (arith, h)
-
 frame_same : (g : rFrame) (f : Frame Own) → ShowsFrame g f → ends_finish g ≡ ends f
 frame_same (rRest b) f e = ap ends (sym e)
 frame_same (rAgain l t b) f e = ap ends (sym e)
@@ -208,13 +205,7 @@ frame_same (rEndFinish o) f (before, e, h) = ap ends (sym e)
 frame_same (rEndCall env) f e = ap ends (sym e)
 
 opens_same : (gs : List rFrame) (fs : List (Frame Own)) → Stacked gs fs → open_finishes gs ≡ opens fs
-opens_same gs [] e = ap open_finishes e
-opens_same gs (f ∷ fs) (below, top, e, shows, rest) =
-    let a = ap open_finishes e in
-    let b = open_snoc below top in
-    let c = frame_same top f shows in
-    let d = opens_same below fs rest in
-    omega (arith, a, b, c, d)
+opens_same = totals_same ends_finish ends frame_same
 
 -- a task at its beginning has no finish open
 pub none_open : (r : Run) (b : Codes) → Stacked r.frames.items (Rest b ∷ []) → open_finishes r.frames.items ≡ 0

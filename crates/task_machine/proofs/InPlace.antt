@@ -5,7 +5,7 @@ use Rattle.types.specs.Code.{Codes}
 use Rattle.effects.specs.Needs.{Needs}
 use Rattle.effects.specs.Rounds.{needs_of}
 use Rattle.own_run.specs.MayRun.{MayStart}
-use Rattle.own_run.specs.RunTurns.{IsAtEnd, IsEnding, IsMore, IsStep, IsTurn, StepsUpTo, turn_of}
+use Rattle.own_run.specs.RunTurns.{GoesUpTo, IsAtEnd, IsEnding, IsMore, IsStep, IsTurn, StepsUpTo, turn_of}
 use Rattle.own_run.specs.Translation.{start}
 use Rattle.own_run.specs.declared.run.Run.{Run}
 use Rattle.own_run.specs.declared.start.Start.{Start}
@@ -21,7 +21,7 @@ use Rattle.own_run.specs.declared.turn.Turn.TheVariants.{Ended as RunEnded, Over
 use Rattle.gather.specs.Jobs.{program_of, lists_of, budget_of}
 use Rattle.task_machine.specs.Tasks.{GoesBy, IsBody}
 use Rattle.task_machine.specs.Turns.{Becomes, EndsBy, GoesInPlace, HasDone, InPlace, Keeps, Parts, RunsToEnd}
-use Rattle.task_machine.specs.Turns.{TakesOneTurn, TakesTurn, TurnsInPlace, turning}
+use Rattle.task_machine.specs.Turns.{TakesOneTurn, TakesSo, TakesTurn, TurnsInPlace, turning}
 use Rattle.task_machine.specs.Units.{held}
 use Rattle.task_machine.specs.declared.task.Body.{Body}
 use Rattle.task_machine.specs.declared.task.Task.{Task}
@@ -89,6 +89,21 @@ own_run : (Takes : Run → Run → Type 0) (b new : Body) (went : InPlace Takes 
 own_run Takes b new went is =
     subst (GoesBy b.job b.outer.items b.opened) (same_Some _ _ (sym is.has ∙ went.has)) is.goes
 
+-- its run is at an end
+runs_to_end : (b new : Body) (last after : Run) → new ≡ record b { run = Some after } → GoesBy b.job b.outer.items b.opened last
+    → after ≡ last → IsAtEnd last → RunsToEnd new
+runs_to_end b new last after is goes same end = subst RunsToEnd (sym is) (record {
+  run = after;
+  has = refl;
+  goes = subst (GoesBy b.job b.outer.items b.opened) (sym same) goes;
+  end = subst IsAtEnd (sym same) end;
+})
+
+-- its run became another
+pub in_place : {Takes : Run → Run → Type 0} (b : Body) (run after : Run) → b.run ≡ Some run → Takes run after
+    → InPlace Takes b (record b { run = Some after })
+in_place b run after has takes = record { run = run; has = has; after = after; takes = takes; is = refl }
+
 -- a turn that ends a finish or the task is more than a step
 is_more : (t : RunTurn) → IsEnding t → IsMore t
 is_more (RunGoing r) e = e
@@ -124,12 +139,7 @@ module _ (b new : Body) (s : RunStep) (went : GoesInPlace b s new) where
   pub went_to_end : s ≡ AtEnd → IsBody b → RunsToEnd new
   went_to_end to is =
       let far = subst Far to went.takes in
-      subst RunsToEnd (sym went.is) (record {
-        run = went.after;
-        has = refl;
-        goes = subst (GoesBy b.job b.outer.items b.opened) (sym far.step.0) (goes_to is AtEnd far);
-        end = subst IsAtEnd (sym far.step.0) far.step.1;
-      })
+      runs_to_end b new far.last went.after went.is (goes_to is AtEnd far) far.step.0 far.step.1
 
 module _ (b new : Body) (s : RunStep) (went : TurnsInPlace b s new) where
   abbrev One : RunStep → Type 0
@@ -154,12 +164,7 @@ module _ (b new : Body) (s : RunStep) (went : TurnsInPlace b s new) where
   pub turned_to_end : s ≡ AtEnd → IsBody b → RunsToEnd new
   turned_to_end to is =
       let stays = subst One to went.takes in
-      subst RunsToEnd (sym went.is) (record {
-        run = went.after;
-        has = refl;
-        goes = subst (GoesBy b.job b.outer.items b.opened) (sym stays.0) (goes_by is);
-        end = subst IsAtEnd (sym stays.0) stays.1;
-      })
+      runs_to_end b new went.run went.after went.is (goes_by is) stays.0 stays.1
 
 -- ---- where the run is at an end
 module _ (b : Body) (h : RunsToEnd b) (run : Run) (same : run ≡ h.run) (turn : RunTurn)
@@ -191,6 +196,16 @@ module _ (old : Task) (new : Body) (s : RunStep) (t : Turn) where
       subst (λ (x : Body). Becomes (turning x) old.share.weight (turn_of went.after d) t) went.is
       (becomes went.after (ap (λ (x : Body). x.run) went.is))
 
+  -- a turn at an end is that of the task
+  ends_so : (Comes : Run → RunTurn → Type 0) (Takes : Run → Run → Type 0) (went : InPlace Takes old.body.value new)
+      → EndsBy new old.share.weight t
+      → ((turn : RunTurn) → IsEnding turn → IsTurn (needs_of (program_of old.body.value.job)) went.after turn → Comes went.run turn)
+      → TakesSo Comes old t
+  ends_so Comes Takes went ends comes =
+      let e = subst (λ (x : Body). EndsBy x old.share.weight t) went.is ends in
+      let is = subst (λ (r : Run). IsTurn (needs_of (program_of old.body.value.job)) r e.turn) (sym (same_Some _ _ e.has)) e.is in
+      record { run = went.run; has = went.has; turn = e.turn; goes = comes e.turn e.ending is; becomes = e.becomes }
+
   pub did_turn : GoesInPlace old.body.value s new → (d : Done) → s ≡ Did d → Done_as d → TakesTurn old t
   did_turn went d to becomes =
       let needs = needs_of (program_of old.body.value.job) in
@@ -207,19 +222,12 @@ module _ (old : Task) (new : Body) (s : RunStep) (t : Turn) where
   end_turn went to ends =
       let needs = needs_of (program_of old.body.value.job) in
       let far = subst (λ (s : RunStep). StepsUpTo needs went.run s went.after) to went.takes in
-      let e = subst (λ (x : Body). EndsBy x old.share.weight t) went.is ends in
-      record {
-        run = went.run;
-        has = went.has;
-        turn = e.turn;
-        goes = record {
-          last = far.last;
-          reached = far.reached;
-          turn = subst (λ (r : Run). IsTurn needs r e.turn) (sym (same_Some _ _ e.has) ∙ far.step.0) e.is;
-          more = is_more e.turn e.ending;
-        };
-        becomes = e.becomes;
-      }
+      ends_so (GoesUpTo needs) (λ r after. StepsUpTo needs r s after) went ends (λ turn ending is. record {
+        last = far.last;
+        reached = far.reached;
+        turn = subst (λ (r : Run). IsTurn needs r turn) far.step.0 is;
+        more = is_more turn ending;
+      })
 
   pub did_one_turn : TurnsInPlace old.body.value s new → (d : Done) → s ≡ Did d → Done_as d → TakesOneTurn old t
   did_one_turn went d to becomes =
@@ -228,7 +236,7 @@ module _ (old : Task) (new : Body) (s : RunStep) (t : Turn) where
         run = went.run;
         has = went.has;
         turn = turn_of went.after d;
-        is = subst (λ (s : RunStep). IsStep needs went.run s went.after) to went.takes;
+        goes = subst (λ (s : RunStep). IsStep needs went.run s went.after) to went.takes;
         becomes = becomes_so (λ r after. IsStep needs r s after) went d becomes;
       }
 
@@ -237,11 +245,5 @@ module _ (old : Task) (new : Body) (s : RunStep) (t : Turn) where
   end_one_turn went to ends =
       let needs = needs_of (program_of old.body.value.job) in
       let stays = subst (λ (s : RunStep). IsStep needs went.run s went.after) to went.takes in
-      let e = subst (λ (x : Body). EndsBy x old.share.weight t) went.is ends in
-      record {
-        run = went.run;
-        has = went.has;
-        turn = e.turn;
-        is = subst (λ (r : Run). IsTurn needs r e.turn) (sym (same_Some _ _ e.has) ∙ stays.0) e.is;
-        becomes = e.becomes;
-      }
+      ends_so (IsTurn needs) (λ r after. IsStep needs r s after) went ends
+      (λ turn ending is. subst (λ (r : Run). IsTurn needs r turn) stays.0 is)

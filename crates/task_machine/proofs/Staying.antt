@@ -58,17 +58,8 @@ module _ (j : Job) where
 
     same_goes : (r : Run) → Opened old 0 r → MayRun (program_of j) (lists_of j) (budget_of j) r → GoesBy j outer n r
     same_goes r o may =
-        let s = g.scopes in
-        let f = o.finishes in
-        let a = g.opened in
-        let b = o.steps in
-        record {
-          job = g.job;
-          may = may;
-          budget = ap (λ (q : Plan). q.budget) o.plan ∙ g.budget;
-          scopes = omega (arith, s, f);
-          opened = omega (arith, a, b);
-        }
+        let same : n + 0 ≡ n = omega arith in
+        subst (λ (k : ℕ). GoesBy j outer k r) same (goes_by outer outer n 0 old r g o may (omega arith))
 
     pub going : (r : Run) → Taken (Going r) → GoesBy j outer n r
     going r is =

@@ -1,5 +1,6 @@
 -- The finishes that are open in a task.
-use Rattle.std.specs.Prelude.{ℕ, ◌+◌, List, [], ◌∷◌}
+use Rattle.std.specs.Prelude.{ℕ, List}
+use Rattle.own_run.specs.Left.{total}
 use Rattle.own_run.specs.declared.frame.Frame.{Frame}
 use Rattle.own_run.specs.declared.frame.Frame.TheVariants.{Rest, Again, EndFinish, EndCall}
 
@@ -12,5 +13,4 @@ ends_finish (EndCall env) = 0
 
 -- how many of them are
 abbrev pub open_finishes : List Frame → ℕ
-open_finishes [] = 0
-open_finishes (f ∷ fs) = ends_finish f + open_finishes fs
+open_finishes = total ends_finish

@@ -149,21 +149,21 @@ pub record EndsBy (b : Body) (units : ℕ) (new : Turn) : Type 0 where
   pub ending : IsEnding turn
   pub becomes : Becomes (turning b) units turn new
 
--- the run of a task went on up to a turn, and this became of the task, whose run was taken out
-pub record TakesTurn (old : Task) (new : Turn) : Type 0 where
+-- the run of a task came so to a turn, and this became of the task, whose run was taken out
+pub record TakesSo (Comes : Run → RunTurn → Type 0) (old : Task) (new : Turn) : Type 0 where
   pub run : Run
   pub has : old.body.value.run ≡ Some run
   pub turn : RunTurn
-  pub goes : GoesUpTo (needs_of (program_of old.body.value.job)) run turn
+  pub goes : Comes run turn
   pub becomes : Becomes (record old.body.value { run = None }) old.share.weight turn new
 
--- the same, where the run took one turn
-pub record TakesOneTurn (old : Task) (new : Turn) : Type 0 where
-  pub run : Run
-  pub has : old.body.value.run ≡ Some run
-  pub turn : RunTurn
-  pub is : IsTurn (needs_of (program_of old.body.value.job)) run turn
-  pub becomes : Becomes (record old.body.value { run = None }) old.share.weight turn new
+-- it went on up to the turn
+abbrev pub TakesTurn : (old : Task) → (new : Turn) → Type 0
+TakesTurn old new = TakesSo (GoesUpTo (needs_of (program_of old.body.value.job))) old new
+
+-- it took that turn alone
+abbrev pub TakesOneTurn : (old : Task) → (new : Turn) → Type 0
+TakesOneTurn old new = TakesSo (IsTurn (needs_of (program_of old.body.value.job))) old new
 
 -- a task wants weight for one that it began, and that starts so
 pub record IsWanting (b : Body) (s : Start) : Type 0 where

@@ -54,11 +54,11 @@ pub returns-in_ok-split-in-Split-clause-did : goal.returns-in_ok-split-in-Split-
 returns-in_ok-split-in-Split-clause-did g c =
     let needs = g.N.Needed.needs c.args.needed.now in
     let m = c.args.self.now in let x = c.args.stmt.now in
-    let s = c.in-Split.section.number in let left = c.in-Split.left.number in let right = c.in-Split.right.number in
-    let at = number c.in-Split.at in let body = codes c.deref-in-Split.result.now in
+    let s = c.in-Split.sides.section.number in let left = c.in-Split.sides.left.number in let right = c.in-Split.sides.right.number in
+    let at = number c.in-Split.sides.at in let body = codes c.deref-in-Split.result.now in
     let is : Split s at left right body ≡ code x.kind
     = ap (λ l. Split s at left right (codes l)) c.deref-in-Split.ensures.value
-    ∙ sym (ap code c.in-Split.is ∙ code_Split c.in-Split.section c.in-Split.at c.in-Split.left c.in-Split.right c.in-Split.body) in
+    ∙ sym (ap code c.in-Split.is ∙ code_Split c.in-Split.sides c.in-Split.body) in
     did_same needs x.label (Split s at left right body) (code x.kind) m Gone _ is
     (did_Split needs x.label m _ s left right at body c.in_ok-split-in-Split.ensures)
 

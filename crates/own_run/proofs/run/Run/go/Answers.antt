@@ -2,11 +2,11 @@ use Rattle.std.proofs.Common.{◌≡◌, refl, sym, subst}
 use Rattle.types.specs.Translation.{program}
 use Rattle.serial_run.specs.declared.thread.Plan.{Plan}
 use Rattle.flat_run.specs.Machines.{AreCodes}
-use Rattle.own_run.specs.RunTurns.{IsMore, IsStep, IsTurn, turn_of}
+use Rattle.own_run.specs.RunTurns.{IsMore, IsStep, turn_of}
 use Rattle.own_run.specs.declared.run.Run.{Run}
 use Rattle.own_run.specs.declared.turn.Done.{Done}
 use Rattle.own_run.specs.declared.turn.Done.TheVariants.{Gone, Spawned, Entered, Exceeded}
-use Rattle.own_run.proofs.GoingOn.{at_once_leaves_fewer, did, goes_at_once, goes_more, goes_nowhere, goes_over, goes_plan, goes_turn}
+use Rattle.own_run.proofs.GoingOn.{at_once_leaves_fewer, did, goes_at_once, goes_did, goes_exceeded, goes_more, goes_nowhere, goes_plan}
 use Rattle.own_run.proofs.TurnsLeft.{leaves_fewer}
 use Rattle.own_run.proofs.run.Run.go.Goals as goal
 
@@ -65,9 +65,8 @@ turns-smaller-in-Gone g c =
 
 pub turns-preserved-in-Gone : goal.turns-preserved-in-Gone
 turns-preserved-in-Gone g c =
-    let needs = g.N.Needed.needs c.args.needed.now in
-    goes_more needs c.args.self.now c.turns.self c.step.new.self c.turns.invariant (goes_turn needs c.turns.self c.step.new.self
-    (did needs c.turns.self c.step.new.self _ _ _ c.in_ok-done-in-None.ensures.step c.in-Did.is c.in-Gone.is))
+    goes_did (g.N.Needed.needs c.args.needed.now) c.args.self.now c.turns.self c.step.new.self _ _ c.turns.invariant
+    c.in_ok-done-in-None.ensures.step c.in-Did.is c.in-Gone.is
 
 pub turns-smaller : goal.turns-smaller
 turns-smaller g c =
@@ -78,9 +77,8 @@ turns-smaller g c =
 
 pub turns-preserved : goal.turns-preserved
 turns-preserved g c =
-    let needs = g.N.Needed.needs c.args.needed.now in
-    goes_more needs c.args.self.now c.turns.self c.step.new.self c.turns.invariant (goes_over needs c.turns.self c.step.new.self
-    (did needs c.turns.self c.step.new.self _ _ _ c.in_ok-done-in-None.ensures.step c.in-Did.is c.in-Exceeded.is))
+    goes_exceeded (g.N.Needed.needs c.args.needed.now) c.args.self.now c.turns.self c.step.new.self _ _ c.turns.invariant
+    c.in_ok-done-in-None.ensures.step c.in-Did.is c.in-Exceeded.is
 
 pub returns-in_default : goal.returns-in_default
 returns-in_default g c =

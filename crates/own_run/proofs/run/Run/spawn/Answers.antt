@@ -2,6 +2,7 @@ use Rattle.std.proofs.Common.{◌≡◌, ◌+◌, ◌-◌, ◌≤◌, ap, ◌∙
 use Rattle.std.proofs.lemmas.Bool.{or_right}
 use Rattle.std.proofs.lemmas.List.{map-append}
 use Rattle.std.specs.Prelude.{ℤ, ◌&&◌, not}
+use Rattle.sections.specs.Covers.{has}
 use Rattle.sections.specs.Place.{Window}
 use Rattle.sections.specs.Translation.{section, window}
 use Rattle.types.specs.Run.{State}
@@ -10,13 +11,13 @@ use Rattle.types.specs.declared.fault.Fault.{Fault as rFault}
 use Rattle.serial_run.proofs.Steps.{map-pushed}
 use Rattle.serial_run.specs.Standing.{flow}
 use Rattle.own_run.specs.OwnRun.{Child, Own, Spawn, Start, child_of, list_child}
-use Rattle.own_run.specs.Places.{only, within, without}
+use Rattle.own_run.specs.Places.{only, without}
 use Rattle.own_run.specs.Results.{Listed}
 use Rattle.own_run.specs.Standings.{IsAt, state_of, with_own}
 use Rattle.own_run.specs.Translation.{contents_of, listed, owned_by, start}
 use Rattle.own_run.specs.declared.result.Listed.{Listed as rListed}
 use Rattle.own_run.specs.declared.run.Run.{Run}
-use Rattle.own_run.proofs.HeldPlaces.{within-append}
+use Rattle.own_run.proofs.HeldPlaces.{has-append}
 use Rattle.own_run.proofs.RunSteps.{begin_some, done_some, over_some}
 use Rattle.own_run.proofs.run.Run.spawn.Goals as goal
 
@@ -27,9 +28,9 @@ part_for-requires-clause-there g c = λ q inside.
     let reads : map env.windows (map section c.reads.result.now) ≡ map env.windows n.reads
     = ap (map env.windows) c.reads.ensures in
     c.requires.can.0.there q
-    (ap (λ (ws : List Window). within ws q) (map-append env.windows n.writes n.reads)
-    ∙ within-append (map env.windows n.writes) (map env.windows n.reads) q
-    ∙ or_right (within (map env.windows n.writes) q) _ (ap (λ (ws : List Window). within ws q) (sym reads) ∙ inside))
+    (ap (λ (ws : List Window). has ws q) (map-append env.windows n.writes n.reads)
+    ∙ has-append (map env.windows n.writes) (map env.windows n.reads) q
+    ∙ or_right (has (map env.windows n.writes) q) _ (ap (λ (ws : List Window). has ws q) (sym reads) ∙ inside))
 
 pub returns-clause-did : goal.returns-clause-did
 returns-clause-did g c =
@@ -54,10 +55,10 @@ returns-clause-did g c =
     ∙ sym (map-append env.windows n.writes n.reads) in
     let child : (x : Own) → Child = λ x. child_of n (nest - 1) b (with_own x (state_of m.thread)) in
     let is_start : (x : Own) → (child x).start ≡ s = λ x.
-    let holds : only (within (map env.windows (n.writes ++ n.reads))) store ≡ contents_of c.in_ok-holdings.holdings
-    = sym (c.in_ok-holdings.ensures.contents ∙ ap (λ (ws : List Window). only (within ws) store) both) in
-    let owns : within (map env.windows n.writes) ≡ owned_by c.in_ok-holdings.holdings
-    = sym (c.in_ok-holdings.ensures.owned ∙ ap within writes) in
+    let holds : only (has (map env.windows (n.writes ++ n.reads))) store ≡ contents_of c.in_ok-holdings.holdings
+    = sym (c.in_ok-holdings.ensures.contents ∙ ap (λ (ws : List Window). only (has ws) store) both) in
+    let owns : has (map env.windows n.writes) ≡ owned_by c.in_ok-holdings.holdings
+    = sym (c.in_ok-holdings.ensures.owned ∙ ap has writes) in
     let given : (child x).start ≡ record {
       body = b;
       environment = env;
@@ -108,7 +109,7 @@ returns-clause-did g c =
               own = to.extra;
               shows = record {
                 frames = shows.frames;
-                owned = (λ t q. shows.owned t q && not (within (sym writes t) q)) ∙ sym c.in_ok-holdings.ensures.keeps;
+                owned = (λ t q. shows.owned t q && not (has (sym writes t) q)) ∙ sym c.in_ok-holdings.ensures.keeps;
                 pending =
                     map-append (λ (c : Child). c.listed) x.pending (child x ∷ [])
                     ∙ ap (λ (ls : List Listed). ls ++ (child x).listed ∷ []) shows.pending
@@ -119,7 +120,7 @@ returns-clause-did g c =
               is = λ t. record {
                 flow = flow (c.requires.room.on t);
                 environment = env;
-                store = (c.in_ok-holdings.ensures.left ∙ ap (λ (ws : List Window). without (within ws) store) writes) t;
+                store = (c.in_ok-holdings.ensures.left ∙ ap (λ (ws : List Window). without (has ws) store) writes) t;
                 lines = (ap (λ (v : Vec (Vec ℤ Global) Global). map numbers v.items) c.replace.ensures.after
                     ∙ ap (map numbers) c.new-2.ensures.items) t;
                 faults = (ap (λ (v : Vec rFault Global). map fault v.items) c.replace-2.ensures.after

@@ -1,19 +1,13 @@
 use Rattle.std.proofs.Common.{◌∙◌, sym}
 use Rattle.types.specs.Code.{While}
-use Rattle.types.specs.Translation.{program, truth, codes}
-use Rattle.serial_run.proofs.Steps.{on_ok_both}
-use Rattle.own_run.specs.Frames.{acted}
-use Rattle.own_run.specs.OwnRun.{own_rules}
+use Rattle.types.specs.Translation.{truth, codes}
 use Rattle.own_run.specs.Standings.{state_of, with_own}
-use Rattle.own_run.proofs.RunSteps.{turns_fault, value_faults}
+use Rattle.own_run.proofs.RunSteps.{acts_faulted, value_faults}
 use Rattle.own_run.proofs.run.Run.turn_loop.Goals as goal
 
 pub returns-in-Err : goal.returns-in-Err
 returns-in-Err c =
-    let m = c.args.self.now in let p = program m.plan.program.now in
-    let l = c.args.label in let k = c.in-Err.kind in
-    on_ok_both c.fault.result
-    (λ state kept needs close. turns_fault m c.fault.new.self l k
-    (acted p (own_rules needs m.thread.nest close) l (While (truth c.args.guard.now) (codes c.args.body.now)))
-    (λ fs x. value_faults l fs (with_own x (state_of m.thread)) _ k _ (sym c.in-Err.is ∙ c.truth.ensures)) state kept)
+    let m = c.args.self.now in let l = c.args.label in let k = c.in-Err.kind in
+    acts_faulted c.fault.result m c.fault.new.self l k (While (truth c.args.guard.now) (codes c.args.body.now))
+    (λ needs close fs x. value_faults l fs (with_own x (state_of m.thread)) _ k _ (sym c.in-Err.is ∙ c.truth.ensures))
     c.fault.ensures.state c.fault.ensures.task

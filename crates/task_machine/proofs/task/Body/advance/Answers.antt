@@ -1,9 +1,10 @@
-use Rattle.std.proofs.Common.{◌∙◌, refl, subst, sym}
+use Rattle.std.proofs.Common.{◌∙◌, subst, sym}
 use Rattle.std.proofs.lemmas.Option.{same_Some}
 use Rattle.effects.specs.Rounds.{needs_of}
 use Rattle.own_run.proofs.GoingOn.{goes_nowhere}
 use Rattle.gather.specs.Jobs.{program_of}
 use Rattle.task_machine.specs.Tasks.{GoesBy}
+use Rattle.task_machine.proofs.InPlace.{in_place}
 use Rattle.task_machine.proofs.Staying.{can_go}
 use Rattle.task_machine.proofs.task.Body.advance.Goals as goal
 
@@ -16,10 +17,4 @@ step-requires c =
     can_go b.job b.outer.items b.opened run run goes (goes_nowhere (needs_of (program_of b.job)) run)
 
 pub returns-in-Ok : goal.returns-in-Ok
-returns-in-Ok c = record {
-  run = c.in-Some.run';
-  has = c.in-Some.is;
-  after = c.step.new.self;
-  takes = c.in-Ok.ensures.step;
-  is = refl;
-}
+returns-in-Ok c = in_place c.args.self.now c.in-Some.run' c.step.new.self c.in-Some.is c.in-Ok.ensures.step

@@ -1,9 +1,10 @@
-use Rattle.std.proofs.Common.{◌∙◌, refl, subst, sym}
+use Rattle.std.proofs.Common.{◌∙◌, subst, sym}
 use Rattle.std.proofs.lemmas.Option.{same_Some}
 use Rattle.types.specs.Code.{Program}
 use Rattle.program_code.specs.Pieces.{IsCodeOfProgram}
 use Rattle.own_run.specs.RunTurns.{NextIsOf}
 use Rattle.task_machine.specs.Tasks.{GoesBy}
+use Rattle.task_machine.proofs.InPlace.{in_place}
 use Rattle.task_machine.proofs.Staying.{can_go, next_of}
 use Rattle.task_machine.proofs.task.Body.go.Goals as goal
 
@@ -21,10 +22,4 @@ go-requires c =
     }
 
 pub returns-in-Ok : goal.returns-in-Ok
-returns-in-Ok c = record {
-  run = c.in-Some.run';
-  has = c.in-Some.is;
-  after = c.go.new.self;
-  takes = c.in-Ok.ensures.step;
-  is = refl;
-}
+returns-in-Ok c = in_place c.args.self.now c.in-Some.run' c.go.new.self c.in-Some.is c.in-Ok.ensures.step

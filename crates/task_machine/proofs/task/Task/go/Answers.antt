@@ -29,29 +29,27 @@ at_end-requires c =
     let went = subst (λ (x : Body). GoesInPlace x s new) c.deref_mut.ensures.value c.in_ok-done.ensures in
     record { end = went_to_end b new s went c.in-AtEnd.is c.requires.task }
 
-pub returns-in-Did-clause-turn : goal.returns-in-Did-clause-turn
-returns-in-Did-clause-turn c =
+pub returns-in-Did : goal.returns-in-Did
+returns-in-Did c =
     let old = c.args.self in let new = c.go.new.self in let s = c.in_ok-done.field-0 in
     let went = subst (λ (x : Body). GoesInPlace x s new) c.deref_mut.ensures.value c.in_ok-done.ensures in
-    IfOk-weaker c.did.result _ (TakesTurn old) (λ t becomes. did_turn old new s t went c.in-Did.done c.in-Did.is becomes)
-    c.did.ensures.becomes
+    record {
+      turn =
+          IfOk-weaker c.did.result _ (TakesTurn old) (λ t becomes. did_turn old new s t went c.in-Did.done c.in-Did.is becomes) c.did.ensures.becomes;
+      tasks = c.did.ensures.tasks;
+      units =
+          IfOk-weaker c.did.result _ (λ t. units_after t ≡ units_of old) (λ t units. units ∙ went_units old.body.value new s went old.share.weight)
+          c.did.ensures.units;
+    }
 
-pub returns-in-Did-clause-units : goal.returns-in-Did-clause-units
-returns-in-Did-clause-units c =
+pub returns-in-AtEnd : goal.returns-in-AtEnd
+returns-in-AtEnd c =
     let old = c.args.self in let new = c.go.new.self in let s = c.in_ok-done.field-0 in
     let went = subst (λ (x : Body). GoesInPlace x s new) c.deref_mut.ensures.value c.in_ok-done.ensures in
-    IfOk-weaker c.did.result _ (λ t. units_after t ≡ units_of old)
-    (λ t units. units ∙ went_units old.body.value new s went old.share.weight) c.did.ensures.units
-
-pub returns-in-AtEnd-clause-turn : goal.returns-in-AtEnd-clause-turn
-returns-in-AtEnd-clause-turn c =
-    let old = c.args.self in let new = c.go.new.self in let s = c.in_ok-done.field-0 in
-    let went = subst (λ (x : Body). GoesInPlace x s new) c.deref_mut.ensures.value c.in_ok-done.ensures in
-    IfOk-weaker c.at_end.result _ (TakesTurn old) (λ t ends. end_turn old new s t went c.in-AtEnd.is ends) c.at_end.ensures.ends
-
-pub returns-in-AtEnd-clause-units : goal.returns-in-AtEnd-clause-units
-returns-in-AtEnd-clause-units c =
-    let old = c.args.self in let new = c.go.new.self in let s = c.in_ok-done.field-0 in
-    let went = subst (λ (x : Body). GoesInPlace x s new) c.deref_mut.ensures.value c.in_ok-done.ensures in
-    IfOk-weaker c.at_end.result _ (λ t. units_after t ≡ units_of old)
-    (λ t units. units ∙ went_units old.body.value new s went old.share.weight) c.at_end.ensures.units
+    record {
+      turn = IfOk-weaker c.at_end.result _ (TakesTurn old) (λ t ends. end_turn old new s t went c.in-AtEnd.is ends) c.at_end.ensures.ends;
+      tasks = c.at_end.ensures.tasks;
+      units =
+          IfOk-weaker c.at_end.result _ (λ t. units_after t ≡ units_of old)
+          (λ t units. units ∙ went_units old.body.value new s went old.share.weight) c.at_end.ensures.units;
+    }
