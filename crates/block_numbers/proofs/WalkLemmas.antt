@@ -99,14 +99,6 @@ so_far-kept i new old s same h =
 
 -- ---- a map inside a range that grows
 
-pub inside-empty : {A : Type 0} (from to : ℕ) (m : Offsets A) (k : ℕ) → to ≤ from → inside from to m k ≡ None
-inside-empty from to m k le = by_range (in_range-cases from to k)
-  where
-    by_range : ((in_range from to k ≡ true) × (from ≤ k) × (k < to)) ⊎ ((in_range from to k ≡ false) × ((k < from) ⊎ (to ≤ k)))
-        → inside from to m k ≡ None
-    by_range (inl w) = absurd (omega (arith, w.1, w.2))
-    by_range (inr w) = ap (λ b. if b then m k else None) w.0
-
 pub inside-there : {A : Type 0} (from to : ℕ) (m : Offsets A) (k : ℕ) → from ≤ k → k < to → inside from to m k ≡ m k
 inside-there from to m k low high = ap (λ b. if b then m k else None) (in_range-true from to k low high)
 
@@ -130,17 +122,6 @@ inside-more from i m s t x le is h step = λ k. step k ∙ by_eq k (nat_eq i k) 
         let same : i ≡ k = eqb-true _ _ e in
         sym is ∙ ap m same ∙ sym (inside-there from (i + 1) m k (omega arith) (omega arith))
     by_eq k false e = h k ∙ by_range k (eqb-false _ _ e) (in_range-cases from i k)
-
--- a map that has nothing but in a range
-pub inside-all : {A : Type 0} (from to : ℕ) (m : Offsets A) → ((k : ℕ) → k < from → m k ≡ None) → ((k : ℕ) → to ≤ k → m k ≡ None)
-    → Agree (inside from to m) m
-inside-all from to m below behind = λ k. by_range k (in_range-cases from to k)
-  where
-    by_range : (k : ℕ) → ((in_range from to k ≡ true) × (from ≤ k) × (k < to)) ⊎ ((in_range from to k ≡ false) × ((k < from) ⊎ (to ≤ k)))
-        → inside from to m k ≡ m k
-    by_range k (inl w) = inside-there from to m k w.1 w.2
-    by_range k (inr (w, inl lt)) = inside-out from to m k (inl lt) ∙ sym (below k lt)
-    by_range k (inr (w, inr ge)) = inside-out from to m k (inr ge) ∙ sym (behind k ge)
 
 -- ---- counts
 

@@ -20,10 +20,6 @@ pub record CarveSoFar (first into : Map Held) (all : List Carving) (own others :
   pub taken : taking (moved_places cs) first (held_in_list others) ≡ taking (moved_places all) first into
   pub same : (q : Place) → cut_places cs q ≡ true → held_in_list own q ≡ first q
 
-pub carve-begun : (own others : List Row) (cs : List Carving) → IsCut own others cs
-    → CarveSoFar (held_in_list own) (held_in_list others) cs own others cs
-carve-begun own others cs cut = record { cut = cut; left = refl; taken = refl; same = λ q e. refl }
-
 -- a window that is clear of each of them
 first_clear : (d : Carving) (cs : List Carving) (w : Window) (q : Place) → cut_places (d ∷ cs) q ≡ true
     → (is_in (piece_of d) q ≡ true → is_in w q ≡ false) → (cut_places cs q ≡ true → is_in w q ≡ false) → is_in w q ≡ false

@@ -114,10 +114,6 @@ held-taken w r s own old new fits is rep taken alone = λ t q. at_place q (in_bl
 
 -- ---- pieces of one block that stand clear of each other
 
--- the place with an offset in a block
-abbrev pub place_at : (a b k : ℕ) → Place
-place_at a b k = record { array = a; index = 256 * b + k }
-
 -- an offset of one piece is none of the other
 pub clear-offsets : (v w : Window) → v.at % 256 + v.length ≤ 256 → v.array ≡ w.array → v.at / 256 ≡ w.at / 256 → StandClear v w → (k : ℕ)
     → in_range (v.at % 256) (v.at % 256 + v.length) k ≡ true → in_range (w.at % 256) (w.at % 256 + w.length) k ≡ false

@@ -112,9 +112,6 @@ cut-more own others own' others' cs c cut keeps last apart = record { each = eac
 pub last_item : (cs : List Carving) (c : Carving) → (length cs < length (cs ++ c ∷ [])) × (c ≡ get_or (cs ++ c ∷ []) (length cs) c)
 last_item cs c = (omega (arith, length-append cs (c ∷ [])), sym (get_or-append_seam cs c [] c))
 
-pub cut-last : (own others : List Row) (cs : List Carving) (c : Carving) → IsCut own others (cs ++ c ∷ []) → IsMovable own others c
-cut-last own others cs c cut = let l = last_item cs c in cut.each (length cs) c l.0 l.1
-
 pub cut-less : (own others own' others' : List Row) (cs : List Carving) (c : Carving) → IsCut own others (cs ++ c ∷ [])
     → ((d : Carving) → StandClear (piece_of d) (piece_of c) → IsMovable own others d → IsMovable own' others' d) → IsCut own' others' cs
 cut-less own others own' others' cs c cut keeps = record {

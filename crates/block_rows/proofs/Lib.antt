@@ -6,12 +6,14 @@ pub mod CountLemmas
 pub mod CoverLemmas
 pub mod CutListLemmas
 pub mod CutWindowLemmas
+pub mod JustLemmas
 pub mod MakingLemmas
 pub mod MapLemmas
 pub mod PasteLemmas
 pub mod PastedLemmas
 pub mod PieceLemmas
 pub mod PresenceLemmas
+pub mod PuttingLemmas
 pub mod RoomLemmas
 pub mod RowLemmas
 pub mod SharingLemmas

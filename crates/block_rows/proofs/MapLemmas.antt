@@ -1,10 +1,9 @@
 -- Maps of held places.
 use Rattle.std.proofs.Common.{◌≡◌, Option, None, Bool, true, false, refl, sym, ap}
 use Rattle.std.specs.Prelude.{ℤ, ◌||◌, option_map, if◌then◌else◌}
-use Rattle.blocks.proofs.AddingLemmas.{number-none}
 use Rattle.sections.specs.Place.{Place}
 use Rattle.blocks.specs.Held.{Held, Map, Shared, only, IsThere}
-use Rattle.blocks.specs.Held.{number_of, numbers, owned_number, owned, as_shared}
+use Rattle.blocks.specs.Held.{number_of, numbers, as_shared}
 use Rattle.block_rows.specs.Pieces.{taking}
 
 -- ---- numbers that are there
@@ -14,15 +13,6 @@ number_none o e = ap (option_map number_of) e
 
 pub there-numbers : (set : Place → Bool) (m : Map Held) → IsThere set (numbers m) → IsThere set m
 there-numbers set m there q is none = there q is (number_none (m q) none)
-
-pub numbers-there : (set : Place → Bool) (m : Map Held) → IsThere set m → IsThere set (numbers m)
-numbers-there set m there q is none = there q is (number-none (m q) none)
-
-owned_there : (o : Option Held) → (owned_number o ≡ None → ⊥) → o ≡ None → ⊥
-owned_there o some none = some (ap owned_number none)
-
-pub owned-there : (set : Place → Bool) (m : Map Held) → IsThere set (owned m) → IsThere set m
-owned-there set m there q is none = owned_there (m q) (there q is) none
 
 -- ---- what is shared and what is carved out
 

@@ -1,11 +1,11 @@
 -- Windows cut at the ends of blocks, and maps that take places from others.
 use Rattle.std.proofs.Common.{◌≡◌, ℕ, ◌+◌, ◌-◌, ◌%◌, ◌<◌, ◌≤◌}
-use Rattle.std.proofs.Common.{Option, None, Bool, true, false, refl, sym, ap, ◌∙◌, arith}
+use Rattle.std.proofs.Common.{Option, Bool, true, false, refl, sym, ap, ◌∙◌, arith}
 use Rattle.std.proofs.lemmas.Bool.Decides.{nat_tests}
 use Rattle.std.specs.Prelude.{◌&&◌, ◌||◌, nat_eq, nat_le, nat_lt, if◌then◌else◌}
 use Rattle.sections.specs.Covers.{is_in}
 use Rattle.sections.specs.Place.{Place, Window, first_places, places_behind}
-use Rattle.blocks.specs.Held.{Map, only, without}
+use Rattle.blocks.specs.Held.{Map}
 use Rattle.block_rows.specs.Pieces.{piece_length, piece, behind_piece, taking}
 
 -- ---- a window and its two parts
@@ -65,9 +65,3 @@ none_at c x y e = ap (λ k. if k then x else y) e
 pub taking-none : {A : Type 0} (c : Place → Bool) (from into : Map A)
     → ((q : Place) → c q ≡ false) → taking c from into ≡ into
 taking-none c from into e = λ t q. none_at (c q) (from q) (into q) (e q) t
-
-pub taking-nothing : {A : Type 0} (set : Place → Bool) (from : Map A) → taking set from (λ q. None) ≡ only set from
-taking-nothing set from = refl
-
-pub taking-without : {A : Type 0} (set : Place → Bool) (into : Map A) → taking set (λ q. None) into ≡ without set into
-taking-without set into = refl

@@ -87,41 +87,53 @@ row_room-done own a r n all before j theirs there = by_test (nat_lt j (r.first +
         let ge : r.first + n ≤ j = search rules in
         absurd (let f = sym (row_from-behind r.first r.blocks.items j (omega (arith, ge, all))) ∙ there in cc)
 
+-- ---- what holds of each number so far, and of the next
+pub so_far-more : (P : ℕ → Type 0) (n : ℕ) → ((i : ℕ) → i < n → P i) → P n → (i : ℕ) → i < n + 1 → P i
+so_far-more P n before here i lt = by_eq (cases_eq i n)
+  where
+    by_eq : (i ≡ n) ⊎ (i ≡ n → ⊥) → P i
+    by_eq (inl e) = subst P (sym e) here
+    by_eq (inr ne) = before i (omega (arith, lt, ne))
+
+-- ---- what holds of each block of a row
+module _ (P : ℕ → Option Block → Type 0) (none : (j : ℕ) → P j None) (r : Row) where
+  pub each_block-begun : (j : ℕ) → j < r.first + 0 → P j (block_in r j)
+  each_block-begun j lt = subst (P j) (sym (row_from-before r.first r.blocks.items j (omega (arith, lt)))) (none j)
+
+  pub each_block-more : (n : ℕ) (b : Block) → n < length r.blocks.items → b ≡ get_or r.blocks.items n b
+      → ((j : ℕ) → j < r.first + n → P j (block_in r j)) → P (r.first + n) (Some b)
+      → (j : ℕ) → j < r.first + (n + 1) → P j (block_in r j)
+  each_block-more n b lt is before here j low = by_eq (cases_eq j (r.first + n))
+    where
+      by_eq : (j ≡ r.first + n) ⊎ (j ≡ r.first + n → ⊥) → P j (block_in r j)
+      by_eq (inr ne) = before j (omega (arith, low, ne))
+      by_eq (inl e) = subst (λ m. P m (block_in r m)) (sym e) (subst (P (r.first + n)) (sym (row-nth r n b lt is)) here)
+
+  pub each_block-item : (n : ℕ) (b : Block) → n < length r.blocks.items → b ≡ get_or r.blocks.items n b
+      → ((j : ℕ) → P j (block_in r j)) → P (r.first + n) (Some b)
+  each_block-item n b lt is all = subst (P (r.first + n)) (row-nth r n b lt is) (all (r.first + n))
+
+  pub each_block-done : (n : ℕ) → length r.blocks.items ≤ n → ((j : ℕ) → j < r.first + n → P j (block_in r j))
+      → (j : ℕ) → P j (block_in r j)
+  each_block-done n all before j = by_test (nat_lt j (r.first + n)) refl
+    where
+      by_test : (t : Bool) → nat_lt j (r.first + n) ≡ t → P j (block_in r j)
+      by_test true e = before j (ltb-true _ _ e)
+      by_test false e =
+          let ge : r.first + n ≤ j = search rules in
+          subst (P j) (sym (row_from-behind r.first r.blocks.items j (omega (arith, ge, all)))) (none j)
+
 -- ---- what stands apart
 
+-- what a block that there may be owns stands apart from what another of its number owns
+abbrev pub IsApartAt : (own : List Row) (a j : ℕ) → Option Block → Type 0
+IsApartAt own a j o = StandApart (λ k. owned_number (held_of o k)) (λ k. owned_number (held_of (block_of own a j) k))
+
 abbrev pub ApartAt : (own : List Row) (a : ℕ) (r : Row) (j : ℕ) → Type 0
-ApartAt own a r j = StandApart (λ k. owned_number (held_of (block_in r j) k)) (λ k. owned_number (held_of (block_of own a j) k))
+ApartAt own a r j = IsApartAt own a j (block_in r j)
 
-apart-none : (own : List Row) (a : ℕ) (r : Row) (j : ℕ) → block_in r j ≡ None → ApartAt own a r j
-apart-none own a r j none k some = absurd (some (ap (λ o. owned_number (held_of o k)) none))
-
-pub apart-more : (own : List Row) (a : ℕ) (r : Row) (n : ℕ) (b : Block) → n < length r.blocks.items → b ≡ get_or r.blocks.items n b
-    → ((j : ℕ) → j < r.first + n → ApartAt own a r j)
-    → StandApart (owned_at b) (λ k. owned_number (held_of (block_of own a (r.first + n)) k))
-    → (j : ℕ) → j < r.first + (n + 1) → ApartAt own a r j
-apart-more own a r n b lt is before here j low = by_eq (cases_eq j (r.first + n))
-  where
-    by_eq : (j ≡ r.first + n) ⊎ (j ≡ r.first + n → ⊥) → ApartAt own a r j
-    by_eq (inr ne) = before j (omega (arith, low, ne))
-    by_eq (inl e) = subst (ApartAt own a r) (sym e)
-        (subst (λ o. StandApart (λ k. owned_number (held_of o k)) (λ k. owned_number (held_of (block_of own a (r.first + n)) k)))
-        (sym (row-nth r n b lt is)) here)
-
-pub apart-item : (own : List Row) (a : ℕ) (r : Row) (n : ℕ) (b : Block) → n < length r.blocks.items → b ≡ get_or r.blocks.items n b
-    → ((j : ℕ) → ApartAt own a r j) → StandApart (owned_at b) (λ k. owned_number (held_of (block_of own a (r.first + n)) k))
-apart-item own a r n b lt is all =
-    subst (λ o. StandApart (λ k. owned_number (held_of o k)) (λ k. owned_number (held_of (block_of own a (r.first + n)) k)))
-    (row-nth r n b lt is) (all (r.first + n))
-
-pub apart-done : (own : List Row) (a : ℕ) (r : Row) (n : ℕ) → length r.blocks.items ≤ n → ((j : ℕ) → j < r.first + n → ApartAt own a r j)
-    → (j : ℕ) → ApartAt own a r j
-apart-done own a r n all before j = by_test (nat_lt j (r.first + n)) refl
-  where
-    by_test : (t : Bool) → nat_lt j (r.first + n) ≡ t → ApartAt own a r j
-    by_test true e = before j (ltb-true _ _ e)
-    by_test false e =
-        let ge : r.first + n ≤ j = search rules in
-        apart-none own a r j (row_from-behind r.first r.blocks.items j (omega (arith, ge, all)))
+pub apart-none : (own : List Row) (a j : ℕ) → IsApartAt own a j None
+apart-none own a j k some = absurd (some refl)
 
 abbrev pub RowsApart : (own others : List Row) (i : ℕ) → Type 0
 RowsApart own others i = (j : ℕ) → StandApart (λ k. owned_number (held_of (block_of others i j) k)) (λ k. owned_number (held_of (block_of own i j) k))
@@ -148,7 +160,7 @@ rows_apart-done own others n all before q some = by_test (nat_lt q.array n) refl
         let ge : n ≤ q.array = search rules in
         absurd (some (ap (λ o. owned_number (held_of o (q.index % 256))) (block_of-past others q.array (q.index / 256) (omega (arith, ge, all)))))
 
-held_behind : (o : Option Block) (k : ℕ) → 256 ≤ k → held_of o k ≡ None
+pub held_behind : (o : Option Block) (k : ℕ) → 256 ≤ k → held_of o k ≡ None
 held_behind None k le = refl
 held_behind (Some b) k le = held_at-behind b k le
 
@@ -170,17 +182,6 @@ places-rows_apart own others i apart j k some = by_place (nat_lt k 256) refl
     by_place false e =
         let le : 256 ≤ k = search rules in
         absurd (some (ap owned_number (held_behind (block_of others i j) k le)))
-
-pub apart-begun : (own : List Row) (a : ℕ) (r : Row) (j : ℕ) → j < r.first + 0 → ApartAt own a r j
-apart-begun own a r j lt = apart-none own a r j (row_from-before r.first r.blocks.items j (omega (arith, lt)))
-
-pub rows_apart-more : (own others : List Row) (n : ℕ) → ((i : ℕ) → i < n → RowsApart own others i) → RowsApart own others n
-    → (i : ℕ) → i < n + 1 → RowsApart own others i
-rows_apart-more own others n before here i lt = by_eq (cases_eq i n)
-  where
-    by_eq : (i ≡ n) ⊎ (i ≡ n → ⊥) → RowsApart own others i
-    by_eq (inl e) = subst (RowsApart own others) (sym e) here
-    by_eq (inr ne) = before i (omega (arith, lt, ne))
 
 pub row_room-begun : (own : List Row) (a : ℕ) (r : Row) (j : ℕ) (theirs : Block) → j < r.first + 0 → block_in r j ≡ Some theirs
     → HasRoom own a j theirs

@@ -21,9 +21,6 @@ use Rattle.block_rows.specs.declared.row.Row.{Row}
 pub same_block : (at n i : ℕ) → at % 256 + n ≤ 256 → at ≤ i → i < at + n → i / 256 ≡ at / 256
 same_block at n i fits low high = omega arith
 
-pub offset_in : (at n i : ℕ) → at % 256 + n ≤ 256 → at ≤ i → i < at + n → i % 256 ≡ at % 256 + (i - at)
-offset_in at n i fits low high = let e = same_block at n i fits low high in omega (arith, e)
-
 -- in the block of a piece, its places are those with offsets in a range
 interval-offsets : (at n i : ℕ) → i / 256 ≡ at / 256
     → (nat_le at i && nat_lt i (at + n)) ≡ in_range (at % 256) (at % 256 + n) (i % 256)

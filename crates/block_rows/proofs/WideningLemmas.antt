@@ -1,20 +1,16 @@
 -- Rows with more blocks, which hold nothing.
-use Rattle.std.proofs.Common.{◌≡◌, ℕ, ◌+◌, ◌-◌, ◌<◌, ◌≤◌, List, [], ◌∷◌, ◌++◌, length, get_or}
+use Rattle.std.proofs.Common.{◌≡◌, ℕ, ◌+◌, ◌-◌, ◌<◌, ◌≤◌, List, [], ◌++◌, length, get_or}
 use Rattle.std.proofs.Common.{Option, Some, None, Bool, true, false, inl, inr, refl, sym, ap, ◌∙◌, arith, rules, ◌⊎◌, IsSome, is_some}
-use Rattle.std.proofs.lemmas.Bool.{eqb-true, leb-true, ltb-true, false≢true}
+use Rattle.std.proofs.lemmas.Bool.{leb-true, ltb-true, false≢true}
 use Rattle.std.proofs.lemmas.List.{length-append}
 use Rattle.std.proofs.lemmas.List.{get_or-append-add, get_or_append_left}
-use Rattle.std.proofs.lemmas.Option.{slice_get_past}
-use Rattle.std.specs.Prelude.{nat_eq, nat_le, nat_lt, slice_get, if◌then◌else◌}
+use Rattle.std.specs.Prelude.{nat_le, nat_lt, slice_get, if◌then◌else◌}
 use Rattle.block_numbers.specs.Numbers.{row_from}
 use Rattle.blocks.specs.declared.block.Block.{Block}
 use Rattle.blocks.specs.declared.block.Block.TheVariants.{Empty}
-use Rattle.block_numbers.proofs.RowLemmas.{row_from-in, row_from-before, row_from-behind, row_from-push}
+use Rattle.block_numbers.proofs.RowLemmas.{row_from-in, row_from-before, row_from-behind}
 use Rattle.block_rows.specs.Rows.{held_of, block_of, IsAsBefore, Widens}
 use Rattle.block_rows.specs.declared.row.Row.{Row}
-
-pub before-refl : (o : Option Block) → IsAsBefore o o
-before-refl o = inl refl
 
 pub some_not_none : (o : Option Block) → IsSome o → o ≡ None → ⊥
 some_not_none o some none = false≢true (sym (ap is_some none) ∙ some)
@@ -32,19 +28,6 @@ before-trans o m n (inl e) (inl f) = inl (f ∙ e)
 before-trans o m n (inl e) (inr w) = inr (sym e ∙ w.0, w.1)
 before-trans o m n (inr w) (inl f) = inr (w.0, λ k. ap (λ b. held_of b k) f ∙ w.1 k)
 before-trans o m n (inr w) (inr v) = inr (w.0, v.1)
-
--- one more behind the last
-pub before-push : (first : ℕ) (xs : List Block) (b : ℕ)
-    → IsAsBefore (row_from first xs b) (row_from first (xs ++ Empty ∷ []) b)
-before-push first xs b = by_eq (nat_eq (first + length xs) b) refl
-  where
-    by_eq : (t : Bool) → nat_eq (first + length xs) b ≡ t → IsAsBefore (row_from first xs b) (row_from first (xs ++ Empty ∷ []) b)
-    by_eq true e =
-        let at : first + length xs ≡ b = eqb-true _ _ e in
-        let is = row_from-push first xs Empty (first + length xs) refl b ∙ ap (λ c. if c then Some Empty else row_from first xs b) e in
-        inr (row_from-behind first xs b (omega (arith, at)), λ k. ap (λ o. held_of o k) is)
-    by_eq false e =
-        inl (row_from-push first xs Empty (first + length xs) refl b ∙ ap (λ c. if c then Some Empty else row_from first xs b) e)
 
 -- some more before the first
 pub before-append : (first number : ℕ) (es xs : List Block) (b : ℕ) → number + length es ≡ first
@@ -100,12 +83,4 @@ empty-row first es none j k = by_low (nat_le first j)
   where
     by_low : (t : Bool) → held_of (if t then slice_get es (j - first) else None) k ≡ None
     by_low true = none (j - first) k
-    by_low false = refl
-
--- a row without blocks
-pub row-empty : (first : ℕ) (xs : List Block) (b : ℕ) → length xs ≡ 0 → row_from first xs b ≡ None
-row-empty first xs b none = by_low (nat_le first b)
-  where
-    by_low : (t : Bool) → (if t then slice_get xs (b - first) else None) ≡ None
-    by_low true = slice_get_past xs (b - first) (omega (arith, none))
     by_low false = refl

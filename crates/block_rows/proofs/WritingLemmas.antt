@@ -160,9 +160,6 @@ rows-replaced rs a b r s x lt is new = λ i j. block_of-set rs a s lt i j ∙ by
 
 -- ---- rows with more blocks
 
-pub widens-refl : (rs : List Row) → Widens rs rs
-widens-refl rs = λ i j. inl refl
-
 pub widens-push : (rs : List Row) (r : Row) → ((b : ℕ) → block_in r b ≡ None) → Widens rs (rs ++ r ∷ [])
 widens-push rs r none = λ i j. inl (ap (option_and_then (λ r. block_in r j)) (slice_get-push rs r i) ∙ by_eq i j (nat_eq i (length rs)) refl)
   where

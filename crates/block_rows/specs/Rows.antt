@@ -1,7 +1,8 @@
 -- What rows of blocks hold.
-use Rattle.std.specs.Prelude.{ℕ, ◌-◌, ◌/◌, ◌%◌, ◌≡◌, ◌&&◌, nat_eq, nat_le, Bool, List, slice_get}
-use Rattle.std.specs.Prelude.{Option, Some, None, ◌⊎◌, option_and_then, if◌then◌else◌}
+use Rattle.std.specs.Prelude.{ℕ, ◌+◌, ◌-◌, ◌*◌, ◌/◌, ◌%◌, ◌≡◌, ◌&&◌, nat_eq, nat_le, Bool, true, List}
+use Rattle.std.specs.Prelude.{slice_get, Option, Some, None, ◌⊎◌, option_and_then, if◌then◌else◌}
 use Rattle.sections.specs.Place.{Place}
+use Rattle.block_numbers.specs.Offsets.{Offsets}
 use Rattle.blocks.specs.Blocks.{held_at}
 use Rattle.blocks.specs.Held.{Held, Map}
 use Rattle.blocks.specs.declared.block.Block.{Block}
@@ -39,6 +40,14 @@ held_in r = held_in_list r.list.items
 -- whether a place lies in a block of an array
 abbrev pub in_block : (array block : ℕ) → Place → Bool
 in_block a b q = nat_eq q.array a && nat_eq (q.index / 256) b
+
+-- the place at an offset of a block
+abbrev pub place_at : (array block offset : ℕ) → Place
+place_at a b k = record { array = a; index = 256 * b + k }
+
+-- what the offsets of a block have stands at places of a set
+abbrev pub StandsIn : {A : Type 0} → (Place → Bool) → (array block : ℕ) → Offsets A → Type 0
+StandsIn set a b m = (k : ℕ) → (m k ≡ None → ⊥) → set (place_at a b k) ≡ true
 
 -- one block stands in the place of another
 abbrev pub Replaces : (array block : ℕ) → Block → (old new : List Row) → Type 0

@@ -8,6 +8,7 @@ mod making;
 mod pasting;
 mod pieces;
 pub mod presence;
+mod putting;
 mod row;
 pub mod rows;
 mod sharing;

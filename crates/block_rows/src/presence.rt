@@ -1,15 +1,20 @@
 //! Whether places are held.
 
-ghost use Rattle.std.specs.Prelude.{◌≡◌, ◌↔◌, ◌≤◌, ◌+◌, ◌%◌, IsTrue, map};
+ghost use Rattle.std.specs.Prelude.{◌≡◌, ◌↔◌, ◌≤◌, ◌<◌, ◌+◌, ◌%◌, ◌&&◌, ℕ, IsTrue, is_some, map};
+ghost use Rattle.std.specs.Prelude.{nat_eq, nat_le};
+ghost use Rattle.std.specs.List.{list_any};
 ghost use Rattle.sections.specs.Covers.{has, is_in};
-ghost use Rattle.sections.specs.Translation.{window as window_of};
-ghost use Rattle.blocks.specs.Held.{IsThere};
-ghost use Rattle.block_rows.specs.Rows.{held_in};
+ghost use Rattle.sections.specs.Translation.{place as place_of, window as window_of};
+ghost use Rattle.blocks.specs.Blocks.{owned_at};
+ghost use Rattle.blocks.specs.Held.{IsJustAt, IsThere, IsOnlyAt, owned, owned_number};
+ghost use Rattle.block_rows.specs.Rows.{StandsIn, block_in, held_in, held_of};
 ghost use Rattle.block_rows.specs.Wanted.{wanted};
 
-use crate::pieces::{block_number, cut, offsets};
+use crate::pieces::{PLACES, block_number, cut, offsets};
+use crate::row::Row;
 use crate::rows::Rows;
-use sections::window::Window;
+use blocks::block::Block;
+use sections::window::{Place, Window};
 
 /// What is wanted of places.
 #[derive(Clone, Copy, PartialEq, Eq, Debug)]
@@ -65,4 +70,89 @@ impl Rows {
             },
         }
     }
+    /// Whether a place is owned.
+    pub fn owns(&self, place: Place) -> bool
+        ensures { result ≡ is_some (owned (held_in self.now) (place_of place)) }
+    {
+        match self.block(place.array.number, place.index / PLACES) {
+            None => false,
+            Some(block) => block.owns(place.index % PLACES),
+        }
+    }
+
+    /// Whether the places of windows are owned, and no others.
+    pub fn owns_just(&self, windows: &[Window]) -> bool
+        ensures { IsTrue result
+            ↔ IsJustAt (has (map window_of windows.now)) (owned (held_in self.now)) }
+    {
+        self.has_all(windows, Wanted::Owned) && self.owns_only(windows)
+    }
+
+    /// Whether no places are owned but those of windows.
+    fn owns_only(&self, windows: &[Window]) -> bool
+        ensures { IsTrue result
+            ↔ IsOnlyAt (has (map window_of windows.now)) (owned (held_in self.now)) }
+    {
+        for (array, row) in self.list.iter().enumerate() {
+            if !row.owns_only(array, windows) {
+                return false;
+            }
+        }
+        true
+    }
+}
+
+impl Row {
+    /// The same of the blocks of an array.
+    fn owns_only(&self, array: usize, windows: &[Window]) -> bool
+        ensures { IsTrue result ↔ ((j : ℕ) → StandsIn (has (map window_of windows.now)) array j
+            (λ k. owned_number (held_of (block_in self.now j) k))) }
+    {
+        for (at, block) in self.blocks.iter().enumerate() {
+            if !owns_only(array, self.first + at, block, windows) {
+                return false;
+            }
+        }
+        true
+    }
+}
+
+/// The same of a block of an array.
+fn owns_only(array: usize, number: usize, block: &Block, windows: &[Window]) -> bool
+    requires { number < 16384 }
+    ensures { IsTrue result
+        ↔ StandsIn (has (map window_of windows.now)) array number (owned_at block.now) }
+{
+    match block {
+        Block::Empty | Block::Shared(_) => true,
+        Block::Owned(_) | Block::Mixed(_) => owns_only_in(array, number, block, windows),
+    }
+}
+
+/// The same of a block that may own something: as a rule one window has all of it.
+fn owns_only_in(array: usize, number: usize, block: &Block, windows: &[Window]) -> bool
+    requires { number < 16384 }
+    ensures { IsTrue result
+        ↔ StandsIn (has (map window_of windows.now)) array number (owned_at block.now) }
+{
+    let before = number * PLACES;
+    let (low, high) = (block.start(), block.end());
+    if have(windows, array, before + low, before + high) {
+        return true;
+    }
+    for offset in low..high {
+        let index = before + offset;
+        if block.owns(offset) && !have(windows, array, index, index + 1) {
+            return false;
+        }
+    }
+    true
+}
+
+/// Whether one of some windows has all places of an array from one on, and to before another.
+fn have(windows: &[Window], array: usize, from: usize, to: usize) -> bool
+    ensures { result ≡ list_any (λ w. nat_eq w.array.number array
+        && (nat_le w.at from && nat_le to (w.at + w.len))) windows.now }
+{
+    windows.iter().any(|w| w.array.number == array && w.at <= from && to <= w.at + w.len)
 }

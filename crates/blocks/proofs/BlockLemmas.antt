@@ -11,7 +11,7 @@ use Rattle.std.specs.Prelude.{ℤ, pos, is_some, nat_le, nat_lt, option_map, unw
 use Rattle.block_numbers.specs.Numbers.{number_in, row_from}
 use Rattle.blocks.specs.Blocks.{held_as, held_at, kind_of, owned_at}
 use Rattle.blocks.specs.Held.{Held, Owned, Shared, first_of, number_of, owned_number}
-use Rattle.block_numbers.specs.Offsets.{Offsets, Agree, HasAll, HasOnly, IsWithin, in_range, inside, outside}
+use Rattle.block_numbers.specs.Offsets.{Offsets, Agree, HasAll, IsWithin, in_range}
 use Rattle.block_numbers.specs.Numbers.{IsAsWide, ReachOver}
 use Rattle.blocks.specs.Ready.{IsCutOut, IsReady, room_at}
 use Rattle.blocks.specs.declared.block.Block.{Block}
@@ -33,21 +33,9 @@ pub some_from_there : {A : Type 0} (o : Option A) → (o ≡ None → ⊥) → i
 some_from_there None h = absurd (h refl)
 some_from_there (Some x) h = refl
 
-pub none_from_test : {A : Type 0} (o : Option A) → is_some o ≡ false → o ≡ None
-none_from_test None e = refl
-none_from_test (Some x) e = cc
-
-pub owned_is_held : (h : Option Held) → (owned_number h ≡ None → ⊥) → h ≡ None → ⊥
-owned_is_held None some e = some refl
-owned_is_held (Some v) some e = cc
-
 pub option_map-there : {A B : Type 0} (f : A → B) (o : Option A) → (o ≡ None → ⊥) → option_map f o ≡ None → ⊥
 option_map-there f None some e = some refl
 option_map-there f (Some x) some e = cc
-
-pub option_map-from_there : {A B : Type 0} (f : A → B) (o : Option A) → (option_map f o ≡ None → ⊥) → o ≡ None → ⊥
-option_map-from_there f None some e = some refl
-option_map-from_there f (Some x) some e = cc
 
 pub owned_number-owned : (o : Option ℤ) → owned_number (option_map Owned o) ≡ o
 owned_number-owned None = refl
@@ -56,20 +44,6 @@ owned_number-owned (Some v) = refl
 pub owned_number-shared : (o : Option ℤ) → owned_number (option_map Shared o) ≡ None
 owned_number-shared None = refl
 owned_number-shared (Some v) = refl
-
-pub number_of-owned : (o : Option ℤ) → option_map number_of (option_map Owned o) ≡ o
-number_of-owned None = refl
-number_of-owned (Some v) = refl
-
-pub number_of-shared : (o : Option ℤ) → option_map number_of (option_map Shared o) ≡ o
-number_of-shared None = refl
-number_of-shared (Some v) = refl
-
--- what is owned, by its number
-pub owned_by_number : (h : Option Held) → (owned_number h ≡ None → ⊥) → option_map Owned (option_map number_of h) ≡ h
-owned_by_number None some = absurd (some refl)
-owned_by_number (Some (Owned v)) some = refl
-owned_by_number (Some (Shared v)) some = absurd (some refl)
 
 -- what is held, by its kind and its number
 pub held_by_kind : (h : Option Held) → held_as (kind_of h) (Some (unwrap_or (option_map number_of h) (pos 0))) ≡ h
@@ -88,55 +62,6 @@ pub first_of-none : (o : Option ℤ) (old : Option Held) → o ≡ None → firs
 first_of-none o old e = ap (λ (x : Option ℤ). first_of (option_map Owned x) old) e
 
 -- ---- ranges of maps
-
-pub outside-in : {A : Type 0} (from to : ℕ) (m : Offsets A) (k : ℕ) → in_range from to k ≡ true → outside from to m k ≡ None
-outside-in from to m k e = ap (λ b. if b then None else m k) e
-
-pub outside-out : {A : Type 0} (from to : ℕ) (m : Offsets A) (k : ℕ) → in_range from to k ≡ false → outside from to m k ≡ m k
-outside-out from to m k e = ap (λ b. if b then None else m k) e
-
-pub inside-in : {A : Type 0} (from to : ℕ) (m : Offsets A) (k : ℕ) → in_range from to k ≡ true → inside from to m k ≡ m k
-inside-in from to m k e = ap (λ b. if b then m k else None) e
-
-pub inside-not : {A : Type 0} (from to : ℕ) (m : Offsets A) (k : ℕ) → in_range from to k ≡ false → inside from to m k ≡ None
-inside-not from to m k e = ap (λ b. if b then m k else None) e
-
--- nothing is there to be cleared
-pub outside-none : {A : Type 0} (from to : ℕ) (m : Offsets A) (k : ℕ) → (in_range from to k ≡ true → m k ≡ None) → outside from to m k ≡ m k
-outside-none from to m k none = by_range (in_range from to k) refl
-  where
-    by_range : (b : Bool) → in_range from to k ≡ b → outside from to m k ≡ m k
-    by_range true e = outside-in from to m k e ∙ sym (none e)
-    by_range false e = outside-out from to m k e
-
--- a map that has nothing but in a range
-pub inside-only : {A : Type 0} (from to : ℕ) (m : Offsets A) → HasOnly from to m → Agree m (inside from to m)
-inside-only from to m only = λ k. by_range k (in_range from to k) refl
-  where
-    by_range : (k : ℕ) (b : Bool) → in_range from to k ≡ b → m k ≡ inside from to m k
-    by_range k true e = sym (inside-in from to m k e)
-    by_range k false e = only k e ∙ sym (inside-not from to m k e)
-
-pub outside-only : {A : Type 0} (from to : ℕ) (m : Offsets A) → HasOnly from to m → (k : ℕ) → None ≡ outside from to m k
-outside-only from to m only k = by_range (in_range from to k) refl
-  where
-    by_range : (b : Bool) → in_range from to k ≡ b → None ≡ outside from to m k
-    by_range true e = sym (outside-in from to m k e)
-    by_range false e = sym (only k e) ∙ sym (outside-out from to m k e)
-
--- the numbers of a range all of which is owned
-pub owned_inside : (h : Offsets Held) (n : Offsets ℤ) (from to : ℕ) → HasAll from to (λ k. owned_number (h k))
-    → Agree n (inside from to (λ k. option_map number_of (h k)))
-    → Agree (λ k. option_map Owned (n k)) (inside from to h)
-owned_inside h n from to all same = λ k. by_range k (in_range from to k) refl
-  where
-    by_range : (k : ℕ) (b : Bool) → in_range from to k ≡ b → option_map Owned (n k) ≡ inside from to h k
-    by_range k true e =
-        ap (option_map Owned) (same k ∙ inside-in from to (λ j. option_map number_of (h j)) k e)
-        ∙ owned_by_number (h k) (all k e) ∙ sym (inside-in from to h k e)
-    by_range k false e =
-        ap (option_map Owned) (same k ∙ inside-not from to (λ j. option_map number_of (h j)) k e)
-        ∙ sym (inside-not from to h k e)
 
 -- ---- numbers that reach over a range
 
@@ -164,10 +89,6 @@ IsAsWide-there n m k wide some none =
 
 pub IsAsWide-again : (n m o : Numbers) → IsAsWide n m → IsAsWide m o → IsAsWide n o
 IsAsWide-again n m o a b = record { first = a.first ∙ b.first; length = a.length ∙ b.length }
-
-pub empty_range-all : {A : Type 0} (from to : ℕ) (m : Offsets A) → to ≤ from → HasAll from to m
-empty_range-all from to m le = λ k e none.
-    absurd (omega (arith, le, in_range-low from to k e, in_range-high from to k e))
 
 option_map-none : {A B : Type 0} (f : A → B) (o : Option A) → o ≡ None → option_map f o ≡ None
 option_map-none f o e = ap (option_map f) e
@@ -263,36 +184,6 @@ IsReady-along b c f t cut same room ready = record {
     by_cut : (o : Option _) → IsCutOut b f t o → IsCutOut c f t o
     by_cut None only = λ k e. same k ∙ only k e
     by_cut (Some n) w = (λ k e. room k (w.0 k e), λ k. w.1 k ∙ ap (λ (h : Option Held). if in_range f t k then h else None) (sym (same k)))
-
--- another range is carved out
-pub IsReady-carved : (b c : Block) (from to f t : ℕ) (cut : Cut) → Agree (held_at c) (outside from to (held_at b))
-    → Agree (room_at c) (room_at b) → ((k : ℕ) → in_range f t k ≡ true → in_range from to k ≡ false)
-    → IsReady b f t cut → IsReady c f t cut
-IsReady-carved b c from to f t cut held room apart ready = record {
-  owned = HasAll-along (owned_at b) (owned_at c) f t (λ k e. owned_along b c k (kept k e)) ready.owned;
-  cut = by_cut cut.numbers ready.cut;
-}
-  where
-    kept : (k : ℕ) → in_range f t k ≡ true → held_at c k ≡ held_at b k
-    kept k e = held k ∙ outside-out from to (held_at b) k (apart k e)
-
-    gone : (k : ℕ) → held_at b k ≡ None → held_at c k ≡ None
-    gone k none = held k ∙ outside-none from to (held_at b) k (λ e. none) ∙ none
-
-    same : (k : ℕ) (x : Bool) → in_range f t k ≡ x → inside f t (held_at b) k ≡ inside f t (held_at c) k
-    same k true e = inside-in f t (held_at b) k e ∙ sym (kept k e) ∙ sym (inside-in f t (held_at c) k e)
-    same k false e = inside-not f t (held_at b) k e ∙ sym (inside-not f t (held_at c) k e)
-
-    by_cut : (o : Option _) → IsCutOut b f t o → IsCutOut c f t o
-    by_cut None only = λ k e. gone k (only k e)
-    by_cut (Some n) w = (λ k e none. w.0 k e (sym (room k) ∙ none), λ k. w.1 k ∙ same k (in_range f t k) refl)
-
--- a block that held nothing but one range has no other that is ready
-pub IsReady-moved : (b c : Block) (from to f t : ℕ) (cut : Cut) → HasOnly from to (held_at b) → f < t
-    → ((k : ℕ) → in_range f t k ≡ true → in_range from to k ≡ false) → IsReady b f t cut → IsReady c f t cut
-IsReady-moved b c from to f t cut only lt apart ready =
-    let here : in_range f t f ≡ true = in_range-true f t f (omega arith) lt in
-    absurd (ready.owned f here (ap owned_number (only f (apart f here))))
 
 -- ---- nothing is held behind the last offset
 

@@ -1,6 +1,6 @@
 -- What is held of the arrays: at some places a number, owned or as a copy.
 use Rattle.std.specs.Prelude.{◌≡◌, Bool, true, ℤ}
-use Rattle.std.specs.Prelude.{Option, Some, None, option_map, if◌then◌else◌}
+use Rattle.std.specs.Prelude.{Option, Some, None, is_some, option_map, if◌then◌else◌}
 use Rattle.sections.specs.Place.{Place, same_place}
 
 -- a number that is held
@@ -39,6 +39,14 @@ put p x m q = if same_place p q then Some x else m q
 abbrev pub IsThere : {A : Type 0} → (Place → Bool) → Map A → Type 0
 IsThere set m = (q : Place) → set q ≡ true → m q ≡ None → ⊥
 
+-- what a map has stands at places of a set
+abbrev pub IsOnlyAt : {A : Type 0} → (Place → Bool) → Map A → Type 0
+IsOnlyAt set m = (q : Place) → (m q ≡ None → ⊥) → set q ≡ true
+
+-- it has something at each of them, and nothing elsewhere
+abbrev pub IsJustAt : {A : Type 0} → (Place → Bool) → Map A → Type 0
+IsJustAt set m = (q : Place) → is_some (m q) ≡ set q
+
 -- two maps have no place together
 abbrev pub AreApart : {A : Type 0} → Map A → Map A → Type 0
 AreApart m n = (q : Place) → (m q ≡ None → ⊥) → n q ≡ None
@@ -63,6 +71,15 @@ abbrev pub in_place_of : Option Held → ℤ → Held
 in_place_of None v = Shared v
 in_place_of (Some (Owned w)) v = Owned v
 in_place_of (Some (Shared w)) v = Shared v
+
+-- the number of a map, where it has one, written over what is held
+abbrev pub written_over : Option ℤ → Option Held → Option Held
+written_over None h = h
+written_over (Some v) h = Some (in_place_of h v)
+
+-- the numbers of a map written over what is held
+abbrev pub put_all : Map ℤ → Map Held → Map Held
+put_all n m q = written_over (n q) (m q)
 
 -- the owned places alone
 abbrev pub owned : Map Held → Map ℤ

@@ -194,7 +194,7 @@ impl Block {
     }
 
     /// Whether an offset is owned.
-    pub(crate) fn owns(&self, offset: usize) -> bool
+    pub fn owns(&self, offset: usize) -> bool
         ensures { result ≡ is_some (owned_at self.now offset) }
     {
         match self.kind(offset) {
@@ -214,7 +214,7 @@ impl Block {
     }
 
     /// The first offset that may be held; 256 in a block without numbers.
-    pub(crate) fn start(&self) -> usize
+    pub fn start(&self) -> usize
         ensures before { (k : ℕ) → k < result → held_at self.now k ≡ None }
         ensures room { (k : ℕ) → k < result → room_at self.now k ≡ None }
         ensures places { result ≤ 256 }
@@ -227,7 +227,7 @@ impl Block {
     }
 
     /// The offset behind the last one that may be held; 0 in a block without numbers.
-    pub(crate) fn end(&self) -> usize
+    pub fn end(&self) -> usize
         ensures behind { (k : ℕ) → result ≤ k → held_at self.now k ≡ None }
         ensures room { (k : ℕ) → result ≤ k → room_at self.now k ≡ None }
         ensures places { result ≤ 256 }

@@ -5,7 +5,8 @@ use Rattle.std.proofs.Common.{◌∙◌, arith, add-one}
 use Rattle.std.proofs.Math.Bool.{or_assoc, or-false}
 use Rattle.std.specs.Prelude.{ℤ, Bool, true, false, ◌||◌, nat_eq, if◌then◌else◌}
 use Rattle.std.specs.Cmp.Lexicographic.{pointwise}
-use Rattle.own_run.specs.Places.{Places, within, meets, or_else, only, over}
+use Rattle.sections.specs.Covers.{has}
+use Rattle.own_run.specs.Places.{Places, meets, only, over, first_of}
 use Rattle.own_run.specs.Results.{Listed, TaskResult, Settled, none_yet, fill, complete, and_then}
 use Rattle.own_run.specs.Settling.{behind, take, fill_all, settle_within}
 use Rattle.own_run.proofs.SettledResults.{gives, unless_none}
@@ -67,7 +68,7 @@ fill_shrinks d h owned (c ∷ cs) s rs x e =
     let f = gives (d g.one.0 g.one.1) _ x g.next in
     let a = fewer_taken c.path rs g.one g.first in
     let b = h g.one.0 g.one.1 f.one f.first in
-    let k = fill_shrinks d h (λ q. owned q || within c.windows q) cs (fill c f.one.0 s) f.one.1 x f.next in
+    let k = fill_shrinks d h (λ q. owned q || has c.windows q) cs (fill c f.one.0 s) f.one.1 x f.next in
     omega (arith, a, b, k)
 
 settle_shrinks : (k : ℕ) → Shrinks (settle_within k)
@@ -91,8 +92,8 @@ fill_same d e n h same owned (c ∷ cs) s rs le =
     let a = fewer_taken c.path rs found t in
     and_then-same (d found.0 found.1) _ _ (λ child u.
     let b = h found.0 found.1 child u in
-    fill_same d e n h same (λ q. owned q || within c.windows q) cs (fill c child.0 s) child.1 (omega (arith, a, b, le)))
-    ∙ ap (λ (o : Comes). and_then o (λ child. fill_all e (λ q. owned q || within c.windows q) cs (fill c child.0 s) child.1))
+    fill_same d e n h same (λ q. owned q || has c.windows q) cs (fill c child.0 s) child.1 (omega (arith, a, b, le)))
+    ∙ ap (λ (o : Comes). and_then o (λ child. fill_all e (λ q. owned q || has c.windows q) cs (fill c child.0 s) child.1))
     (same found.0 found.1 (omega (arith, a, le)))))
 
 pub settle_same : (k j : ℕ) (r : TaskResult) (rs : List TaskResult) → length rs < k → length rs < j → settle_within k r rs ≡ settle_within j r rs
@@ -106,21 +107,21 @@ settle_same (suc k) (suc j) r rs lt gt =
 
 -- ---- what a task has by itself may come first
 abbrev more : Places → Listed → Places
-more owned c q = owned q || within c.windows q
+more owned c q = owned q || has c.windows q
 
 shifted : TaskResult → Settled → Settled
 shifted r s = record { stopped = r.stopped || s.stopped; contents = over s.contents r.contents; lines = s.lines; faults = s.faults }
 
-or_else-assoc : (x y z : Option ℤ) → or_else x (or_else y z) ≡ or_else (or_else x y) z
-or_else-assoc None y z = refl
-or_else-assoc (Some v) y z = refl
+first_of-assoc : (x y z : Option ℤ) → first_of x (first_of y z) ≡ first_of (first_of x y) z
+first_of-assoc None y z = refl
+first_of-assoc (Some v) y z = refl
 
 fill-shifted : (r : TaskResult) (c : Listed) (child s : Settled) → fill c child (shifted r s) ≡ shifted r (fill c child s)
 unfolding shifted
 fill-shifted r c child s =
     ap (λ b. record (fill c child (shifted r s)) { stopped = b }) (or_assoc r.stopped s.stopped child.stopped)
     ∙ ap (λ f. record (shifted r (fill c child s)) { contents = f })
-    (λ t q. or_else-assoc (only (within c.windows) child.contents q) (s.contents q) (r.contents q) t)
+    (λ t q. first_of-assoc (only (has c.windows) child.contents q) (s.contents q) (r.contents q) t)
 
 fill_all-shifted : (d : TaskResult → List TaskResult → Comes) (r : TaskResult) (owned : Places) (cs : List Listed) (s : Settled)
     (rs : List TaskResult)

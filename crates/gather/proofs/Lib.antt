@@ -4,6 +4,7 @@ pub mod Openings
 pub mod Pasting
 pub mod ReachedTurns
 pub mod Stages
+pub mod StrayPlaces
 pub mod Taking
 pub mod TasksGiveBack
 pub mod Turns

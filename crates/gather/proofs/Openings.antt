@@ -7,18 +7,18 @@ use Rattle.std.proofs.Math.Bool.{or_assoc, or-false}
 use Rattle.std.specs.Prelude.{Bool, true, false, ◌||◌, nat_eq, if◌then◌else◌}
 use Rattle.std.specs.Cmp.Lexicographic.{pointwise}
 use Rattle.std.specs.List.{list_any}
+use Rattle.sections.specs.Covers.{has}
 use Rattle.sections.specs.Place.{Place}
 use Rattle.types.specs.declared.path.Path.{Path}
 use Rattle.effects.proofs.Members.{false_true}
-use Rattle.own_run.specs.Places.{Places, within, meets}
-use Rattle.own_run.specs.Results.{Listed, TaskResult, Settled}
+use Rattle.own_run.specs.Places.{Places, meets}
+use Rattle.own_run.specs.Results.{Listed, TaskResult, Settled, returned}
 use Rattle.own_run.specs.Settling.{behind, take}
 use Rattle.own_run.specs.Lists.{Each, Inserted, here, later}
 use Rattle.own_run.proofs.Lists.{each_more, each_last}
 use Rattle.own_run.proofs.SettledResults.{taken}
 use Rattle.own_run.proofs.CompleteResults.{path_same}
 use Rattle.gather.proofs.Wholes.{each_end}
-use Rattle.gather.specs.GivesBack.{returned}
 use Rattle.gather.specs.PartRefusal.{is_path}
 use Rattle.gather.specs.Parts.{Part, Waiting, opened as opened_of, filled, unopened, comes_back_twice}
 use Rattle.gather.specs.Reached.{IsPartOf, IsReached, outstanding}
@@ -129,11 +129,11 @@ opened_part r x rs = record {
   owned = λ q. sym (or-false (x.owned q));
 }
 
-returned-last : (cs : List Listed) (c : Listed) (q : Place) → returned (cs ++ c ∷ []) q ≡ (returned cs q || within c.windows q)
-returned-last [] c q = or-false (within c.windows q)
+returned-last : (cs : List Listed) (c : Listed) (q : Place) → returned (cs ++ c ∷ []) q ≡ (returned cs q || has c.windows q)
+returned-last [] c q = or-false (has c.windows q)
 returned-last (d ∷ cs) c q =
-    ap (λ b. within d.windows q || b) (returned-last cs c q)
-    ∙ sym (or_assoc (within d.windows q) (returned cs q) (within c.windows q))
+    ap (λ b. has d.windows q || b) (returned-last cs c q)
+    ∙ sym (or_assoc (has d.windows q) (returned cs q) (has c.windows q))
 
 filled_part : (rs : List TaskResult) (w : Waiting) (child : Settled) → IsPartOf rs (unopened w) → IsPartOf rs (filled w child)
 filled_part rs w child h = record {
@@ -143,8 +143,8 @@ filled_part rs w child h = record {
   before = h.before ++ w.hole ∷ [];
   lists = h.lists ∙ sym (append_assoc h.before (w.hole ∷ []) w.part.holes);
   owned = λ q.
-      ap (λ b. b || within w.hole.windows q) (h.owned q)
-      ∙ or_assoc (h.whole.owned q) (returned h.before q) (within w.hole.windows q)
+      ap (λ b. b || has w.hole.windows q) (h.owned q)
+      ∙ or_assoc (h.whole.owned q) (returned h.before q) (has w.hole.windows q)
       ∙ ap (λ b. h.whole.owned q || b) (sym (returned-last h.before w.hole q));
 }
 
@@ -278,17 +278,11 @@ module _ (start : TaskResult) (rs : List TaskResult) where
       pub stranger : (x : TaskResult) (rest : List TaskResult) → left ≡ x ∷ rest → times x.path used ≡ 0 → IsStranger start rs x.path
       stranger x rest e k = record {
         is = is_left x rest e;
-        unlisted =
-            let a = all_opened x.path in
-            let b = h.counted x.path in
-            omega (arith, a, b, k);
+        unlisted = omega (arith, all_opened x.path, h.counted x.path, k);
       }
 
       pub one_more : (x : TaskResult) (rest : List TaskResult) → left ≡ x ∷ rest → 0 < times x.path used → HasOneMore start rs x.path
       one_more x rest e k = record {
         is = is_left x rest e;
-        listed =
-            let a = all_opened x.path in
-            let b = h.counted x.path in
-            omega (arith, a, b, k);
+        listed = omega (arith, all_opened x.path, h.counted x.path, k);
       }

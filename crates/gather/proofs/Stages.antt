@@ -1,26 +1,31 @@
 -- Turns of a stage.
-use Rattle.std.proofs.Common.{◌≡◌, ℕ, List, [], ◌∷◌, ◌++◌, Some, refl, sym, ap, ◌∙◌, subst}
+use Rattle.std.proofs.Common.{◌≡◌, ℕ, List, [], ◌∷◌, ◌++◌, Some, map, refl, sym, ap, ◌∙◌, subst}
 use Rattle.std.specs.Prelude.{false}
+use Rattle.sections.specs.Covers.{has}
 use Rattle.sections.specs.Place.{Place}
-use Rattle.own_run.specs.Places.{Places, within}
+use Rattle.holdings.specs.declared.holdings.Holdings.{Holdings}
+use Rattle.own_run.specs.Places.{Places}
 use Rattle.own_run.specs.Results.{TaskResult}
 use Rattle.own_run.specs.Settling.{take, settle}
+use Rattle.own_run.specs.Translation.{listed, owned_by}
 use Rattle.gather.specs.GivesBack.{GiveBack, all_owned}
-use Rattle.gather.specs.Parts.{Part, Waiting, Gathering, opened, closed, filled, unopened, comes_back_twice, comes_to, IsWhole}
+use Rattle.gather.specs.Parts.{Part, Waiting, Gathering, opened, closed, filled, unopened, comes_back_twice, comes_to, total, IsWhole}
 use Rattle.gather.specs.PartRefusal.{RefusesHole}
 use Rattle.gather.specs.Refusal.{Refuses}
-use Rattle.gather.specs.Stages.{waiting, Leads, owned_in_end}
+use Rattle.gather.specs.Stages.{waiting, part, gathering, IsClear, IsFull, Leads, owned_in_end}
+use Rattle.gather.specs.declared.filling.Waiting.{Waiting as rWaiting}
+use Rattle.gather.specs.declared.settle.Stage.{Stage}
 use Rattle.gather.specs.declared.error.GatherError.{GatherError}
 use Rattle.gather.specs.declared.error.GatherError.TheVariants.{Lost, Double, Stranger, OutOfMemory}
+use Rattle.gather.proofs.Pasting.{owned-clear}
 use Rattle.gather.proofs.Turns.{settle-opened, comes_to-opened, comes_to-filled, comes_to-twice}
 use Rattle.gather.proofs.Wholes.{total-push, total-filled, owned-full, Fit-last, whole-opened, whole-filled}
 
 -- a hole was opened
 pub leads-opened : (rs left : List TaskResult) (ws vs : List Waiting) (w : Waiting) (x : TaskResult) (f : Part) (path : List ℕ)
     → w.hole.path ≡ path → take path rs ≡ Some (x, left) → vs ≡ ws ++ w ∷ [] → f ≡ opened x
-    → IsWhole (record { left = rs; waiting = ws; part = unopened w })
     → Leads (record { left = rs; waiting = ws; part = unopened w }) (record { left = left; waiting = vs; part = f })
-leads-opened rs left ws vs w x f path same e pushed is h =
+leads-opened rs left ws vs w x f path same e pushed is =
     let there : take w.hole.path rs ≡ Some (x, left) = ap (λ p. take p rs) same ∙ e in
     let from : Gathering = record { left = rs; waiting = ws; part = unopened w } in
     subst (λ (vs : List Waiting). Leads from (record { left = left; waiting = vs; part = f })) (sym pushed)
@@ -28,24 +33,22 @@ leads-opened rs left ws vs w x f path same e pushed is h =
     (record {
       comes = comes_to-opened w rs ws x left there;
       owned = λ q. ap (λ (set : Places). set q) (total-push ws w (opened x));
-      whole = whole-opened path rs left x e ws w same h;
+      whole = whole-opened path rs left x e ws w same;
     }))
 
 -- a hole was filled
 pub leads-filled : (rs : List TaskResult) (ws vs : List Waiting) (w : Waiting) (f g : Part) → f.holes ≡ []
     → vs ≡ ws ++ w ∷ [] → comes_back_twice w ≡ false → g ≡ filled w (closed f f.so_far)
-    → IsWhole (record { left = rs; waiting = vs; part = f })
     → Leads (record { left = rs; waiting = vs; part = f }) (record { left = rs; waiting = ws; part = g })
-leads-filled rs ws vs w f g full popped once is h =
+leads-filled rs ws vs w f g full popped once is =
     subst (λ (g : Part). Leads (record { left = rs; waiting = vs; part = f }) (record { left = rs; waiting = ws; part = g })) (sym is)
-    (subst (λ (vs : List Waiting). IsWhole (record { left = rs; waiting = vs; part = f })
-    → Leads (record { left = rs; waiting = vs; part = f })
+    (subst (λ (vs : List Waiting). Leads (record { left = rs; waiting = vs; part = f })
     (record { left = rs; waiting = ws; part = filled w (closed f f.so_far) })) (sym popped)
-    (λ h. record {
+    (record {
       comes = comes_to-filled f rs full ws w once;
       owned = total-filled ws w f (closed f f.so_far);
-      whole = whole-filled rs ws w f (closed f f.so_far) h;
-    }) h)
+      whole = whole-filled rs ws w f (closed f f.so_far);
+    }))
 
 pub twice-none : (rs : List TaskResult) (ws vs : List Waiting) (w : Waiting) (f : Part) (e : GatherError) → f.holes ≡ []
     → vs ≡ ws ++ w ∷ [] → RefusesHole w e → Refuses (comes_to (record { left = rs; waiting = vs; part = f })) e
@@ -58,26 +61,35 @@ twice-none rs ws vs w f (Stranger path) full popped h = absurd h
 -- what goes into a hole is what is listed there
 pub back-fits : (rs : List TaskResult) (ws vs : List Waiting) (w : Waiting) (f : Part) (o : Places) → f.holes ≡ []
     → vs ≡ ws ++ w ∷ [] → o ≡ f.owned → IsWhole (record { left = rs; waiting = vs; part = f })
-    → (q : Place) → o q ≡ within w.hole.windows q
+    → (q : Place) → o q ≡ has w.hole.windows q
 back-fits rs ws vs w f o full popped same h q =
     ap (λ (set : Places). set q) same
     ∙ sym (owned-full f full q)
     ∙ Fit-last ws w f (subst (λ (vs : List Waiting). IsWhole (record { left = rs; waiting = vs; part = f })) popped h).fit q
 
+-- what is owned in the end, where nothing strayed
+pub owned-ends : (g : Stage) (h : Holdings) → IsFull g → h ≡ g.filling.so_far.holdings → IsClear g.filling
+    → (q : Place) → owned_by h q ≡ owned_in_end (gathering g) q
+owned-ends g h full is clear q =
+    ap (λ (h : Holdings). owned_by h q) is
+    ∙ ap (λ (o : Places). o q) (sym (owned-clear g.filling clear))
+    ∙ sym (owned-full (part g.filling) (ap (map listed) full.1) q)
+    ∙ ap (λ (vs : List rWaiting). total (map waiting vs) (part g.filling) q) (sym full.0)
+
 -- the first stage
 pub record Starts (r : TaskResult) (rs : List TaskResult) (g : Gathering) : Type 0 where
   pub comes : comes_to g ≡ settle r rs
   pub owned : (q : Place) → owned_in_end g q ≡ all_owned r q
-  pub whole : IsWhole g
+  pub whole : GiveBack r rs → IsWhole g
 
 pub starts : (r : TaskResult) (rs left : List TaskResult) (ws : List Waiting) (f : Part) → left ≡ rs → ws ≡ [] → f ≡ opened r
-    → GiveBack r rs → Starts r rs (record { left = left; waiting = ws; part = f })
-starts r rs left ws f all none is h =
+    → Starts r rs (record { left = left; waiting = ws; part = f })
+starts r rs left ws f all none is =
     subst (λ (left : List TaskResult). Starts r rs (record { left = left; waiting = ws; part = f })) (sym all)
     (subst (λ (ws : List Waiting). Starts r rs (record { left = rs; waiting = ws; part = f })) (sym none)
     (subst (λ (f : Part). Starts r rs (record { left = rs; waiting = []; part = f })) (sym is)
     (record {
       comes = settle-opened r rs;
       owned = λ q. refl;
-      whole = record { fit = tt; holes = h.0; waiting = tt; results = h.1 };
+      whole = λ h. record { fit = tt; holes = h.0; waiting = tt; results = h.1 };
     })))

@@ -1,6 +1,6 @@
 -- What tasks give back at their ends is what is listed of them.
-use Rattle.std.proofs.Common.{◌≡◌, List, [], ◌∷◌, map, refl, sym, ap, ◌∙◌, subst}
-use Rattle.std.specs.Prelude.{ℤ, Bool, ◌||◌, nat_eq}
+use Rattle.std.proofs.Common.{◌≡◌, List, [], refl, sym, ap, ◌∙◌, subst}
+use Rattle.std.specs.Prelude.{ℤ, ◌||◌, nat_eq}
 use Rattle.std.specs.Cmp.Lexicographic.{pointwise}
 use Rattle.sections.specs.Place.{Place}
 use Rattle.types.specs.Code.{Program}
@@ -12,7 +12,6 @@ use Rattle.race_checker.specs.Clash.{IsAccepted}
 use Rattle.own_run.specs.Frames.{Standing}
 use Rattle.own_run.specs.Lists.{Each}
 use Rattle.own_run.specs.OwnRun.{Start, Child, Own, back_from, result_of}
-use Rattle.own_run.specs.Places.{within}
 use Rattle.own_run.specs.Results.{TaskResult}
 use Rattle.own_run.specs.Runs.{IsTaskResult, MayStand}
 use Rattle.own_run.specs.RunTurns.{ComesBack}
@@ -20,15 +19,11 @@ use Rattle.own_run.specs.Translation.{owned_by}
 use Rattle.own_run.specs.declared.result.Settled.{Settled}
 use Rattle.own_run.proofs.BelongingTasks.{IsGivenBack, children_give_back}
 use Rattle.own_run.proofs.Lists.{each_map, each_more}
-use Rattle.gather.specs.GivesBack.{returned, all_owned, GivesBack, AreGivenBack, GiveBack}
+use Rattle.gather.specs.GivesBack.{all_owned, GivesBack, AreGivenBack, GiveBack}
 
 -- ---- what comes back from those that a task lists
-returned_back : (cs : List Child) (q : Place) → returned (map (λ c. c.listed) cs) q ≡ back_from cs q
-returned_back [] q = refl
-returned_back (c ∷ cs) q = ap (λ (b : Bool). within c.listed.windows q || b) (returned_back cs q)
-
 all_back : (st : State Own) (q : Place) → all_owned (result_of st) q ≡ (st.extra.owned q || back_from st.extra.pending q)
-all_back st q = ap (λ (b : Bool). st.extra.owned q || b) (returned_back st.extra.pending q)
+all_back st q = refl
 
 pub comes_back : (st : State Own) (s : Settled) → ((q : Place) → owned_by s.holdings q ≡ all_owned (result_of st) q) → ComesBack s st
 comes_back st s h = λ t q. (h q ∙ all_back st q) t

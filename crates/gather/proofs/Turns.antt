@@ -1,7 +1,8 @@
 -- What comes of a gathering stays the same when a hole is opened, and when one is filled.
 use Rattle.std.proofs.Common.{◌≡◌, List, [], ◌∷◌, ◌++◌, Option, Some, None, refl, sym, ap, ◌∙◌}
 use Rattle.std.specs.Prelude.{Bool, true, false, ◌||◌, if◌then◌else◌}
-use Rattle.own_run.specs.Places.{Places, within}
+use Rattle.sections.specs.Covers.{has}
+use Rattle.own_run.specs.Places.{Places}
 use Rattle.own_run.specs.Results.{TaskResult, Settled, fill, and_then}
 use Rattle.own_run.specs.Settling.{take, fill_all, none_left, settle}
 use Rattle.gather.specs.Parts.{Part, Waiting, Comes, opened, closed, filled, comes_back_twice, settle_one, finished}
@@ -30,7 +31,7 @@ settle-opened r rs =
 -- ---- a hole is opened
 module _ (w : Waiting) (rs : List TaskResult) where
   abbrev more : Places
-  more q = w.part.owned q || within w.hole.windows q
+  more q = w.part.owned q || has w.hole.windows q
 
   abbrev others : Settled × List TaskResult → Comes
   others y = fill_all settle_one more w.part.holes (fill w.hole y.0 w.part.so_far) y.1

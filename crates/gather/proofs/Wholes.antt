@@ -3,15 +3,16 @@ use Rattle.std.proofs.Common.{◌≡◌, ℕ, List, [], ◌∷◌, ◌++◌, Som
 use Rattle.std.proofs.Math.Bool.{or_assoc, or-false}
 use Rattle.std.specs.Prelude.{◌||◌, nat_eq}
 use Rattle.std.specs.Cmp.Lexicographic.{pointwise}
+use Rattle.sections.specs.Covers.{has}
 use Rattle.sections.specs.Place.{Place}
-use Rattle.own_run.specs.Places.{Places, within}
-use Rattle.own_run.specs.Results.{Listed, TaskResult, Settled}
+use Rattle.own_run.specs.Places.{Places}
+use Rattle.own_run.specs.Results.{Listed, TaskResult, Settled, returned}
 use Rattle.own_run.specs.Settling.{take}
 use Rattle.own_run.specs.Lists.{Each}
 use Rattle.own_run.proofs.Lists.{each_more, each_last}
 use Rattle.own_run.proofs.SettledResults.{taken}
 use Rattle.own_run.proofs.CompleteResults.{path_same}
-use Rattle.gather.specs.GivesBack.{returned, all_owned, GivesBack, AreGivenBack}
+use Rattle.gather.specs.GivesBack.{all_owned, GivesBack, AreGivenBack}
 use Rattle.gather.specs.Parts.{Part, Waiting, opened, filled, unopened, owned_in_all, total, Fit, IsWhole}
 
 pub each_end : {A : Type 0} (P : A → Type 0) (xs : List A) (x : A) → Each P (xs ++ x ∷ []) → Each P xs × P x
@@ -28,7 +29,7 @@ total-same [] f g h q = h q
 total-same (v ∷ ws) f g h q = refl
 
 owned-filled : (w : Waiting) (child : Settled) (q : Place) → owned_in_all (filled w child) q ≡ owned_in_all (unopened w) q
-owned-filled w child q = or_assoc (w.part.owned q) (within w.hole.windows q) (returned w.part.holes q)
+owned-filled w child q = or_assoc (w.part.owned q) (has w.hole.windows q) (returned w.part.holes q)
 
 pub total-filled : (ws : List Waiting) (w : Waiting) (f : Part) (child : Settled) (q : Place)
     → total ws (filled w child) q ≡ total (ws ++ w ∷ []) f q
@@ -39,12 +40,12 @@ pub owned-full : (f : Part) → f.holes ≡ [] → (q : Place) → owned_in_all 
 owned-full f e q = ap (λ hs. f.owned q || returned hs q) e ∙ or-false (f.owned q)
 
 -- ---- what goes into a hole is what is listed there
-Fit-push : (ws : List Waiting) (w : Waiting) (f : Part) → Fit ws (unopened w) → ((q : Place) → owned_in_all f q ≡ within w.hole.windows q)
+Fit-push : (ws : List Waiting) (w : Waiting) (f : Part) → Fit ws (unopened w) → ((q : Place) → owned_in_all f q ≡ has w.hole.windows q)
     → Fit (ws ++ w ∷ []) f
 Fit-push [] w f h k = (k, tt)
 Fit-push (v ∷ ws) w f h k = (λ q. ap (λ (set : Places). set q) (total-push ws w f) ∙ h.0 q, Fit-push ws w f h.1 k)
 
-pub Fit-last : (ws : List Waiting) (w : Waiting) (f : Part) → Fit (ws ++ w ∷ []) f → (q : Place) → owned_in_all f q ≡ within w.hole.windows q
+pub Fit-last : (ws : List Waiting) (w : Waiting) (f : Part) → Fit (ws ++ w ∷ []) f → (q : Place) → owned_in_all f q ≡ has w.hole.windows q
 Fit-last [] w f h = h.0
 Fit-last (v ∷ ws) w f h = Fit-last ws w f h.1
 
@@ -57,7 +58,7 @@ module _ (path : List ℕ) (rs left : List TaskResult) (x : TaskResult) (e : tak
   fewer_given : (cs : List Listed) → AreGivenBack rs cs → AreGivenBack left cs
   fewer_given cs h = each_more _ _ cs (λ c k. (taken (GivesBack c) path rs (x, left) k e).others) h
 
-  given_by : (c : Listed) → c.path ≡ path → Each (GivesBack c) rs → (q : Place) → all_owned x q ≡ within c.windows q
+  given_by : (c : Listed) → c.path ≡ path → Each (GivesBack c) rs → (q : Place) → all_owned x q ≡ has c.windows q
   given_by c same h =
       let t = taken (GivesBack c) path rs (x, left) h e in
       t.this (ap (λ p. pointwise nat_eq p c.path) (t.at ∙ sym same) ∙ path_same c.path)

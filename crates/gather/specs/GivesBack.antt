@@ -1,15 +1,11 @@
 -- What a task owns at its end, with what comes back to it, is what its parent lists for it.
-use Rattle.std.specs.Prelude.{◌≡◌, List, [], ◌∷◌, true, false, ◌||◌, nat_eq}
+use Rattle.std.specs.Prelude.{◌≡◌, List, [], true, ◌||◌, nat_eq}
 use Rattle.std.specs.Cmp.Lexicographic.{pointwise}
+use Rattle.sections.specs.Covers.{has}
 use Rattle.sections.specs.Place.{Place}
-use Rattle.own_run.specs.Places.{Places, within}
-use Rattle.own_run.specs.Results.{Listed, TaskResult}
+use Rattle.own_run.specs.Places.{Places}
+use Rattle.own_run.specs.Results.{Listed, TaskResult, returned}
 use Rattle.own_run.specs.Lists.{Each}
-
--- the places that come back from those that are listed
-abbrev pub returned : List Listed → Places
-returned [] q = false
-returned (c ∷ cs) q = within c.windows q || returned cs q
 
 -- all places that a task owns once what it lists has come back
 abbrev pub all_owned : TaskResult → Places
@@ -18,7 +14,7 @@ all_owned r q = r.owned q || returned r.children q
 -- a result of the path that is listed so owns, in the end, what is listed
 abbrev pub GivesBack : Listed → TaskResult → Type 0
 GivesBack c r =
-    pointwise nat_eq r.path c.path ≡ true → (q : Place) → all_owned r q ≡ within c.windows q
+    pointwise nat_eq r.path c.path ≡ true → (q : Place) → all_owned r q ≡ has c.windows q
 
 -- so do all results of what a task lists
 abbrev pub AreGivenBack : List TaskResult → List Listed → Type 0

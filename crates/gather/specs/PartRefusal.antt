@@ -24,6 +24,13 @@ RefusesHole w (Lost path) = ⊥
 RefusesHole w (Double path) = (path.turns.items ≡ w.hole.path) × (comes_back_twice w ≡ true)
 RefusesHole w (Stranger path) = ⊥
 
+-- the same, by the path and by whether one is owned
+abbrev pub RefusesBack : Path → (met : Bool) → GatherError → Type 0
+RefusesBack path met OutOfMemory = Unit {0}
+RefusesBack path met (Lost other) = ⊥
+RefusesBack path met (Double other) = (other ≡ path) × (met ≡ true)
+RefusesBack path met (Stranger other) = ⊥
+
 -- the same, of what holds the places
 abbrev pub RefusesPaste : Path → (apart : Type 0) → GatherError → Type 0
 RefusesPaste path apart OutOfMemory = Unit {0}

@@ -1,13 +1,15 @@
 -- Results with holes, some of which are filled, and what comes of them.
 use Rattle.std.specs.Prelude.{◌+◌, ◌≡◌, List, [], ◌∷◌, ◌++◌, length, ℤ, Bool, ◌||◌}
 use Rattle.std.specs.Prelude.{Option, Some, None, if◌then◌else◌}
-use Rattle.sections.specs.Place.{Place}
+use Rattle.sections.specs.Covers.{has}
+use Rattle.sections.specs.Place.{Place, Window}
+use Rattle.types.specs.Contents.{Contents}
 use Rattle.types.specs.Run.{Fault}
-use Rattle.own_run.specs.Places.{Places, within, meets}
-use Rattle.own_run.specs.Results.{Listed, TaskResult, Settled, fill, and_then}
+use Rattle.own_run.specs.Places.{Places, meets, only, over}
+use Rattle.own_run.specs.Results.{Listed, TaskResult, Settled, fill, and_then, returned}
 use Rattle.own_run.specs.Settling.{fill_all, settle_within, none_left}
 use Rattle.own_run.specs.Lists.{Each}
-use Rattle.gather.specs.GivesBack.{returned, AreGivenBack}
+use Rattle.gather.specs.GivesBack.{AreGivenBack}
 
 -- a result, some of whose holes are filled
 pub record Part : Type 0 where
@@ -38,10 +40,17 @@ opened r = record {
 abbrev pub closed : Part → (so_far : Settled) → Settled
 closed f s = record s { lines = s.lines ++ f.lines; faults = s.faults ++ f.faults }
 
+-- places of windows come back, with the numbers that a child has there
+abbrev pub given_back : Part → List Window → (child : Contents) → Part
+given_back f ws child = record f {
+  owned = λ q. f.owned q || has ws q;
+  so_far = record f.so_far { contents = over (only (has ws) child) f.so_far.contents };
+}
+
 -- the next hole is filled
 abbrev pub filled : Waiting → (child : Settled) → Part
 filled w child = record w.part {
-  owned = λ q. w.part.owned q || within w.hole.windows q;
+  owned = λ q. w.part.owned q || has w.hole.windows q;
   so_far = fill w.hole child w.part.so_far;
 }
 
@@ -84,7 +93,7 @@ total (w ∷ ws) f = owned_in_all (record w.part { holes = w.hole ∷ w.part.hol
 -- what goes into a hole owns, in the end, what is listed there
 abbrev pub Fit : List Waiting → Part → Type 0
 Fit [] f = Unit {0}
-Fit (w ∷ ws) f = ((q : Place) → total ws f q ≡ within w.hole.windows q) × Fit ws f
+Fit (w ∷ ws) f = ((q : Place) → total ws f q ≡ has w.hole.windows q) × Fit ws f
 
 -- how far the gathering of results has come: what is left, what waits, and what is filled now
 pub record Gathering : Type 0 where

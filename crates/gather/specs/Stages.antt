@@ -1,8 +1,11 @@
 -- Stages of the gathering as they stand in Rust, without what says where they lie in memory.
-use Rattle.std.specs.Prelude.{ℕ, ◌+◌, ◌*◌, ◌≡◌, List, [], map, length, Some}
+use Rattle.std.specs.Prelude.{ℕ, ◌+◌, ◌*◌, ◌≡◌, ◌||◌, List, [], map, length, Some}
 use Rattle.std.specs.Vec.{vec_len}
+use Rattle.sections.specs.Covers.{has}
 use Rattle.sections.specs.Place.{Place}
+use Rattle.sections.specs.Translation.{window}
 use Rattle.types.specs.Translation.{fault}
+use Rattle.own_run.specs.Lists.{Each}
 use Rattle.own_run.specs.Places.{Places}
 use Rattle.own_run.specs.declared.result.Listed.{Listed as rListed}
 use Rattle.own_run.specs.declared.result.Settled.{Settled as rSettled}
@@ -14,10 +17,10 @@ use Rattle.gather.specs.declared.filling.Filling.{Filling}
 use Rattle.gather.specs.declared.filling.Waiting.{Waiting as rWaiting}
 use Rattle.gather.specs.declared.settle.Stage.{Stage}
 
--- a result that is being filled
+-- a result that is being filled: what strayed counts as owned, too
 abbrev pub part : Filling → Part
 part f = record {
-  owned = owned_by f.so_far.holdings;
+  owned = λ q. has (map window f.strays.items) q || owned_by f.so_far.holdings q;
   so_far = settled f.so_far;
   holes = map listed f.holes.items;
   lines = map (λ v. v.items) f.lines.items;
@@ -31,6 +34,10 @@ waiting_for f hole = record { part = part f; hole = listed hole }
 abbrev pub waiting : rWaiting → Waiting
 waiting w = waiting_for w.filling w.hole
 
+-- nothing strayed
+abbrev pub IsClear : Filling → Type 0
+IsClear f = f.strays.items ≡ []
+
 -- results that are left, those that wait, and a part
 abbrev pub gathered : List rTaskResult → List rWaiting → Part → Gathering
 gathered left ws f = record { left = map task_result left; waiting = map waiting ws; part = f }
@@ -38,6 +45,10 @@ gathered left ws f = record { left = map task_result left; waiting = map waiting
 -- a stage
 abbrev pub gathering : Stage → Gathering
 gathering g = gathered (left g.results.unused) g.waiting.items (part g.filling)
+
+-- nothing strayed, in what is filled and in those that wait
+abbrev pub AreClear : Stage → Type 0
+AreClear g = IsClear g.filling × Each (λ w. IsClear w.filling) g.waiting.items
 
 -- the places that are owned in the end
 abbrev pub owned_in_end : Gathering → Places
@@ -47,12 +58,12 @@ owned_in_end g = total g.waiting g.part
 pub record Leads (g h : Gathering) : Type 0 where
   pub comes : comes_to h ≡ comes_to g
   pub owned : (q : Place) → owned_in_end h q ≡ owned_in_end g q
-  pub whole : IsWhole h
+  pub whole : IsWhole g → IsWhole h
 
--- this is what comes of it
-pub record Ends (g : Gathering) (s : rSettled) : Type 0 where
-  pub comes : Some (settled s) ≡ comes_to g
-  pub owned : (q : Place) → owned_by s.holdings q ≡ owned_in_end g q
+-- this is what comes of a stage
+pub record Ends (g : Stage) (s : rSettled) : Type 0 where
+  pub comes : Some (settled s) ≡ comes_to (gathering g)
+  pub owned : IsClear g.filling → (q : Place) → owned_by s.holdings q ≡ owned_in_end (gathering g) q
 
 -- a stage, with a hole that was taken out of its part put back
 abbrev pub gathering_before : Stage → rListed → Gathering

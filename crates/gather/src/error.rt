@@ -5,13 +5,13 @@ ghost use Rattle.gather.specs.Errors.{error_code, error_text};
 ghost use Rattle.gather.specs.declared.error.GatherError.TheVariants.{OutOfMemory};
 
 use std::alloc::{AllocError, AllocFailed};
-use std::error::Error;
 use std::fmt;
+use thiserror::Error;
 use types::path::Path;
 
 /// Why results don't make a whole, with a call of `settle` that says so: `root` is the result of the root of
 /// `main { async { } }`, which lists 0.1, and `child` that of 0.1.
-#[derive(PartialEq, Eq, Debug, Drop)]
+#[derive(PartialEq, Eq, Debug, Drop, Error)]
 pub enum GatherError {
     /// `G1 0.1`, a task that is listed has no result: `root` and no results.
     Lost(Path),
@@ -50,8 +50,6 @@ impl fmt::Display for GatherError {
         }
     }
 }
-
-impl Error for GatherError {}
 
 impl From<AllocError> for GatherError {
     ghost from_gives = { λ _ e. e ≡ OutOfMemory };

@@ -1,21 +1,24 @@
 //! Results with holes, which are filled in turn.
 
 ghost use Rattle.std.specs.Prelude.{◌≡◌, ◌++◌, IfErr, IfOk, OnOk, false, map};
+ghost use Rattle.sections.specs.Covers.{has};
 ghost use Rattle.sections.specs.Place.{Place};
+ghost use Rattle.sections.specs.Translation.{window as window_of};
 ghost use Rattle.types.specs.Translation.{fault as fault_of};
 ghost use Rattle.holdings.specs.Held.{AreApart, as_owned, over, owned};
 ghost use Rattle.holdings.specs.Holdings.{held};
-ghost use Rattle.own_run.specs.Places.{within};
-ghost use Rattle.own_run.specs.Translation.{owned_by, settled as settled_of};
+ghost use Rattle.own_run.specs.Places.{meets};
+ghost use Rattle.own_run.specs.Translation.{contents_of, owned_by, settled as settled_of};
 ghost use Rattle.own_run.specs.Translation.{task_result as result_of};
-ghost use Rattle.gather.specs.Parts.{closed, comes_back_twice, filled, opened};
-ghost use Rattle.gather.specs.Stages.{part as part_of, waiting_for};
-ghost use Rattle.gather.specs.PartRefusal.{RefusesHole, RefusesPaste};
+ghost use Rattle.gather.specs.Parts.{closed, comes_back_twice, filled, given_back, opened};
+ghost use Rattle.gather.specs.Stages.{IsClear, part as part_of, waiting_for};
+ghost use Rattle.gather.specs.PartRefusal.{RefusesBack, RefusesHole, RefusesPaste};
 
 use crate::error::GatherError;
 use holdings::error::HoldError;
 use holdings::holdings::Holdings;
 use own_run::result::{Listed, Settled, TaskResult};
+use sections::window::Window;
 use std::alloc::{AllocError, Global};
 use std::collections::VecDeque;
 use types::fault::Fault;
@@ -26,6 +29,9 @@ use types::path::Path;
 pub struct Filling {
     /// What has come so far, with all that the task has by itself.
     pub so_far: Settled,
+    /// Windows that were given back by tasks that didn't own just these, so that their places count as
+    /// owned, whatever the holdings have there. Tasks of a program leave none.
+    pub strays: Vec<Window>,
     /// The holes that aren't filled yet.
     pub holes: VecDeque<Listed>,
 
@@ -45,6 +51,7 @@ impl Filling {
     /// A result, none of whose holes is filled, and its path.
     pub fn of(alloc: Global, task: TaskResult) -> (Filling, Path)
         ensures opened { part_of result.0 ≡ opened (result_of task) }
+        ensures clear { IsClear result.0 }
         ensures path { result.1 ≡ task.path }
     {
         let so_far = Settled {
@@ -53,8 +60,10 @@ impl Filling {
             lines: Vec::new(alloc),
             faults: Vec::new(alloc),
         };
+        let strays = Vec::new(alloc);
         let filling = Filling {
             so_far,
+            strays,
             holes: VecDeque::from(task.children),
             lines: task.lines,
             faults: task.faults,
@@ -75,18 +84,43 @@ impl Filling {
 
     /// Fills a hole with what came of its task.
     pub fn fill(&mut self, alloc: Global, hole: Listed, child: Settled) -> Result<(), GatherError>
-        requires { (q : Place)
-            → owned_by child.holdings q ≡ within (waiting_for self.old hole).hole.windows q }
         ensures filled { OnOk result
             (part_of self.new ≡ filled (waiting_for self.old hole) (settled_of child)) }
         ensures apart { OnOk result (comes_back_twice (waiting_for self.old hole) ≡ false) }
+        ensures clear { OnOk result (IsClear self.old → ((q : Place)
+            → owned_by child.holdings q ≡ has (waiting_for self.old hole).hole.windows q)
+            → IsClear self.new) }
         ensures refused { IfErr result (RefusesHole (waiting_for self.old hole)) }
     {
-        paste(alloc, &mut self.so_far.holdings, child.holdings, hole.path)?;
+        self.take_back(alloc, hole.path, hole.windows, child.holdings)?;
         self.so_far.stopped |= child.stopped;
         tell(&mut self.so_far, hole.lines, hole.faults)?;
         tell(&mut self.so_far, child.lines, child.faults)?;
         Ok(())
+    }
+
+    /// Takes the places of windows back from a task, with the numbers that it has there. Where it owns
+    /// just these, blocks move without a look at their numbers.
+    fn take_back(
+        &mut self,
+        alloc: Global,
+        path: Path,
+        windows: Vec<Window>,
+        child: Holdings,
+    ) -> Result<(), GatherError>
+        ensures taken { OnOk result (part_of self.new
+            ≡ given_back (part_of self.old) (map window_of windows.items) (contents_of child)) }
+        ensures apart { OnOk result
+            (meets (part_of self.old).owned (map window_of windows.items) ≡ false) }
+        ensures clear { OnOk result (IsClear self.old → ((q : Place)
+            → owned_by child q ≡ has (map window_of windows.items) q) → IsClear self.new) }
+        ensures refused { IfErr result (RefusesBack path
+            (meets (part_of self.old).owned (map window_of windows.items))) }
+    {
+        if self.strays.is_empty() && child.owns_just(&windows) {
+            return paste(alloc, &mut self.so_far.holdings, child, path);
+        }
+        self.take_strays(path, windows, &child)
     }
 }
 

@@ -8,6 +8,7 @@ pub mod job;
 pub mod laws;
 pub mod run_error;
 pub mod settle;
+mod strays;
 mod table;
 pub mod told;
 mod unused;

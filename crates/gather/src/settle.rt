@@ -11,7 +11,7 @@ ghost use Rattle.gather.specs.PartRefusal.{TellsLeftOver, is_path};
 ghost use Rattle.gather.specs.Parts.{IsWhole, comes_to};
 ghost use Rattle.gather.specs.Reached.{GoesOn, IsOwnCase, used_by};
 ghost use Rattle.gather.specs.Refusal.{IsCaseOf, Refuses};
-ghost use Rattle.gather.specs.Stages.{Ends, IsFull, Leads, gathering as stage_of};
+ghost use Rattle.gather.specs.Stages.{AreClear, Ends, IsFull, Leads, gathering as stage_of};
 ghost use Rattle.gather.specs.Stages.{gathering_before as stage_before, turns_of};
 
 use crate::error::GatherError;
@@ -46,11 +46,10 @@ pub fn settle(
     start: TaskResult,
     results: Vec<TaskResult>,
 ) -> Result<Settled, GatherError>
-    requires { GiveBack (result_of start) (map result_of results.items) }
     ensures settled { IfOk result (λ s. Some (settled_of s)
         ≡ settle_of (result_of start) (map result_of results.items)) }
-    ensures owned { IfOk result (λ s. (q : Place)
-        → owned_by s.holdings q ≡ all_owned (result_of start) q) }
+    ensures owned { IfOk result (λ s. GiveBack (result_of start) (map result_of results.items)
+        → (q : Place) → owned_by s.holdings q ≡ all_owned (result_of start) q) }
     ensures refused { IfErr result
         (Refuses (settle_of (result_of start) (map result_of results.items))) }
     ensures own_case { IfErr result
@@ -75,8 +74,9 @@ impl Stage {
     /// Opens the result of the next hole or, where no hole is left, fills the hole of the one that
     /// waits. False where none waits either, and nothing has changed.
     fn turn(&mut self, alloc: Global) -> Result<bool, GatherError>
-        requires { IsWhole (stage_of self.old) }
         ensures leads { OnOk result (Leads (stage_of self.old) (stage_of self.new)) }
+        ensures clear { OnOk result
+            (IsWhole (stage_of self.old) → AreClear self.old → AreClear self.new) }
         ensures reached { OnOk result (GoesOn (used_by self.old.results) (stage_of self.old)
             (used_by self.new.results) (stage_of self.new)) }
         ensures fewer { IfOk result (λ more. IsTrue more → turns_of self.new < turns_of self.old) }
@@ -95,8 +95,8 @@ impl Stage {
 
     /// Opens the result of a hole, for which the part waits.
     fn open(&mut self, alloc: Global, hole: Listed) -> Result<(), GatherError>
-        requires { IsWhole (stage_before self.old hole) }
         ensures leads { OnOk result (Leads (stage_before self.old hole) (stage_of self.new)) }
+        ensures clear { OnOk result (AreClear self.old → AreClear self.new) }
         ensures reached { OnOk result (GoesOn (used_by self.old.results) (stage_before self.old hole)
             (used_by self.new.results) (stage_of self.new)) }
         ensures fewer { OnOk result (turns_of self.new < turns_of self.old) }
@@ -118,9 +118,10 @@ impl Stage {
 
     /// A part whose holes are filled goes into the hole of the one that waits for it, if one does.
     fn go_on(&mut self, alloc: Global) -> Result<bool, GatherError>
-        requires whole { IsWhole (stage_of self.old) }
-        requires full { self.old.filling.holes.items ≡ [] }
+        requires { self.old.filling.holes.items ≡ [] }
         ensures leads { OnOk result (Leads (stage_of self.old) (stage_of self.new)) }
+        ensures clear { OnOk result
+            (IsWhole (stage_of self.old) → AreClear self.old → AreClear self.new) }
         ensures reached { OnOk result (GoesOn (used_by self.old.results) (stage_of self.old)
             (used_by self.new.results) (stage_of self.new)) }
         ensures fewer { IfOk result (λ more. IsTrue more → turns_of self.new < turns_of self.old) }
@@ -143,7 +144,7 @@ impl Stage {
     /// Nothing waits any more: no result is left.
     fn end(self) -> Result<Settled, GatherError>
         requires { IsFull self }
-        ensures ends { IfOk result (Ends (stage_of self)) }
+        ensures ends { IfOk result (Ends self) }
         ensures refused { IfErr result (Refuses (comes_to (stage_of self))) }
         ensures own_case { IfErr result (IsOwnCase (used_by self.results) (stage_of self)) }
     {

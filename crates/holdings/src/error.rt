@@ -5,12 +5,12 @@ ghost use Rattle.holdings.specs.Errors.{error_code};
 ghost use Rattle.holdings.specs.declared.error.HoldError.TheVariants.{OutOfMemory};
 
 use std::alloc::{AllocError, AllocFailed};
-use std::error::Error;
 use std::fmt;
+use thiserror::Error;
 
 /// Why a call was refused, with one that is: `own` and `others` are made by `Holdings::of_input` of
 /// `main { array a: int[1]; }`, and `a` is `ArrayId { number: 0 }`. Nothing has changed then.
-#[derive(Clone, Copy, PartialEq, Eq, Debug)]
+#[derive(Clone, Copy, PartialEq, Eq, Debug, Error)]
 pub enum HoldError {
     /// H1: a place that isn't held, as in `own.read(a, 1)`, or, to write it or to carve it out, not owned.
     NotHeld,
@@ -41,8 +41,6 @@ impl fmt::Display for HoldError {
         write!(f, "{code}")
     }
 }
-
-impl Error for HoldError {}
 
 impl From<AllocError> for HoldError {
     ghost from_gives = { λ _ e. e ≡ OutOfMemory };

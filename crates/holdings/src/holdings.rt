@@ -19,14 +19,15 @@ pub struct Holdings {
 }
 
 impl Holdings {
-    ghost use Rattle.std.specs.Prelude.{◌≡◌, ◌<◌, IfErr, IfOk, IsSome, None, OnErr, OnOk, is_some, map};
+    ghost use Rattle.std.specs.Prelude.{◌≡◌, ◌<◌, ◌↔◌, IfErr, IfOk, IsSome, IsTrue, None, OnErr, OnOk};
+    ghost use Rattle.std.specs.Prelude.{is_some, map};
     ghost use Rattle.std.specs.Prelude.{ok_or};
     ghost use Rattle.std.specs.Bool.{OnFalse, OnTrue};
     ghost use Rattle.sections.specs.Place.{Place as PlainPlace};
     ghost use Rattle.sections.specs.Covers.{has};
     ghost use Rattle.sections.specs.Translation.{place as place_of, window as window_of};
-    ghost use Rattle.blocks.specs.Held.{AreApart, IsThere, Owned, as_owned, as_shared, numbers};
-    ghost use Rattle.blocks.specs.Held.{in_place_of, only, over, owned, put, without};
+    ghost use Rattle.blocks.specs.Held.{AreApart, IsJustAt, IsThere, Owned, as_owned, as_shared};
+    ghost use Rattle.blocks.specs.Held.{in_place_of, numbers, only, over, owned, put, put_all, without};
     ghost use Rattle.block_rows.specs.Copied.{CopiesSplit};
     ghost use Rattle.holdings.specs.Holdings.{held, listed};
     ghost use Rattle.holdings.specs.Errors.{RefusesPlaces, RefusesOwned};
@@ -90,6 +91,21 @@ impl Holdings {
         Ok(row)
     }
 
+    /// Whether a place is owned.
+    pub fn owns(&self, place: Place) -> bool
+        ensures { result ≡ is_some (owned (held self.now) (place_of place)) }
+    {
+        self.rows.owns(place)
+    }
+
+    /// Whether the places of windows are owned, and no others. It takes no memory.
+    pub fn owns_just(&self, windows: &[Window]) -> bool
+        ensures { IsTrue result
+            ↔ IsJustAt (has (map window_of windows.now)) (owned (held self.now)) }
+    {
+        self.rows.owns_just(windows)
+    }
+
     /// Writes the number at an owned place.
     #[inline(never)]
     pub fn write(&mut self, array: ArrayId, index: usize, value: i64) -> Result<(), HoldError>
@@ -133,6 +149,16 @@ impl Holdings {
         ensures copied { self.new.copied ≡ self.old.copied }
     {
         self.rows.put(place, value)
+    }
+
+    /// Writes the numbers that others hold at places of windows, as `put` does. Only want of memory is
+    /// refused.
+    pub fn put_all(&mut self, windows: &[Window], others: &Holdings) -> Result<(), AllocError>
+        ensures written { OnOk result (held self.new ≡ put_all (only (has (map window_of windows.now))
+            (numbers (held others.now))) (held self.old)) }
+        ensures copied { self.new.copied ≡ self.old.copied }
+    {
+        self.rows.put_all(windows, &others.rows)
     }
 
     /// Moves the places of windows out, all of which are owned.

@@ -17,10 +17,8 @@ use Rattle.own_run.specs.Runs.{root}
 use Rattle.own_run.specs.Settling.{settle}
 use Rattle.own_run.specs.Translation.{task_result}
 use Rattle.own_run.specs.declared.result.TaskResult.{TaskResult as Made}
-use Rattle.gather.specs.GivesBack.{GiveBack}
 use Rattle.gather.specs.Jobs.{program_of, lists_of, budget_of}
 use Rattle.gather.specs.declared.job.Job.{Job}
-use Rattle.gather.proofs.TasksGiveBack.{give_back}
 use Rattle.interleave.specs.Courses.{Course, course_of, IsEndOf}
 use Rattle.interleave.specs.Events.{Event, Pass, only_if}
 use Rattle.interleave.specs.Jobs.{IsWeightedJob}
@@ -33,7 +31,7 @@ use Rattle.interleave.specs.declared.scope.Scope.{Scope as rScope}
 use Rattle.interleave.specs.declared.task.Task.{Task as rTask}
 use Rattle.interleave.specs.declared.world.World.{World as rWorld}
 use Rattle.interleave.proofs.Behind.{results_of}
-use Rattle.interleave.proofs.Came.{ends_with, results_came}
+use Rattle.interleave.proofs.Came.{ends_with}
 use Rattle.interleave.proofs.Moves.{passed_book, passed_there, passed_world, passing_book, pass_led}
 use Rattle.interleave.proofs.NeverStuck.{outcome_told}
 use Rattle.interleave.proofs.Tables.{there}
@@ -125,16 +123,6 @@ module _ (r : rWorld) (ok : IsWeightedJob r.job) (w : World) (h : Shows r w) (id
         let b = passing_book r w h id s at complete in
         results_of s.results results b.0 kept b.2.results
 
-    gives_back : GiveBack (task_result made) (map task_result results.items)
-    gives_back =
-        let b = passing_book r w h id s at complete in
-        subst (λ rs. GiveBack (task_result made) rs) (sym are)
-        (subst (λ y. GiveBack y book.results) (sym last.ended.is)
-        (give_back (program_of r.job.job) ok.job.sound ok.job.accepted (lists_of r.job.job) (budget_of r.job.job) ok.job.fits last.before.start
-        (record { frames = []; state = last.ended.state }) last.ended.come.stands book.results
-        (results_came (program_of r.job.job) ok.job.sound ok.job.accepted r.job.w0 ok.least (lists_of r.job.job) (budget_of r.job.job) ok.job.fits
-        h.events w h.led (scope_id id) b.0 b.1)))
-
     handed : hands_on_so live.0.start live.0.receipts ≡ task_result made
     handed =
         ap (λ x. hands_on_so x live.0.receipts) (sym last.start) ∙ ap (λ rs. hands_on_so last.before.start rs) (sym last.receipts)
@@ -163,11 +151,6 @@ module _ (r : rWorld) (ok : IsWeightedJob r.job) (w : World) (h : Shows r w) (id
     -- ---- copies of both
     module _ (m : Made) (same : task_result m ≡ task_result made) (rs : List Made)
         (same_results : map task_result rs ≡ map task_result results.items) where
-      pub copies_give_back : GiveBack (task_result m) (map task_result rs)
-      copies_give_back =
-          subst (λ y. GiveBack y (map task_result rs)) (sym same)
-          (subst (λ ys. GiveBack (task_result made) ys) (sym same_results) gives_back)
-
       -- settle to the one-thread outcome
       pub copies_tell : (x : Settled) → Some x ≡ settle (task_result m) (map task_result rs)
           → told_of (program_of r.job.job) x ≡ outcome (program_of r.job.job) (lists_of r.job.job) (budget_of r.job.job)

@@ -1,6 +1,6 @@
 -- Walks: an event more, a candidate that isn't legal, and what it means that none is.
-use Rattle.std.proofs.Common.{◌≡◌, ℕ, ◌+◌, ◌≤◌, ◌<◌, List, [], ◌∷◌, ◌++◌, length, Some, None, Result, Ok, Err, sym, ap, ◌∙◌, subst}
-use Rattle.std.proofs.Common.{map, refl, arith, inl, inr, take}
+use Rattle.std.proofs.Common.{◌≡◌, ℕ, ◌+◌, ◌<◌, List, [], ◌∷◌, ◌++◌, length, Some, None, Result, Ok, Err, sym, ap, ◌∙◌, subst}
+use Rattle.std.proofs.Common.{map, refl, inl, inr, take}
 use Rattle.std.proofs.lemmas.List.{map-append, length-append, take_more}
 use Rattle.std.proofs.lemmas.List.Elements.{Contains-append_left, Contains-append_right}
 use Rattle.std.specs.Prelude.{Bool, Contains, true, false, ◌||◌, IfOk, ◌⊎◌, slice_index_or}
@@ -17,7 +17,7 @@ use Rattle.interleave.specs.Jobs.{IsWeightedJob}
 use Rattle.interleave.specs.Replay.{Legal}
 use Rattle.interleave.specs.Replaying.{IsReplayed, comes, event}
 use Rattle.interleave.specs.Shown.{Becomes, IsTaskOf, Refuses, Shows, is_path, next_world, turns_of}
-use Rattle.interleave.specs.Walks.{AreCandidates, AreTasks, HasGoneOn, HasOneMore, HasStopped, Happened, IsAsBefore, IsIdle}
+use Rattle.interleave.specs.Walks.{AreCandidates, AreTasks, HasOneMore, HasStopped, IsAsBefore, IsIdle}
 use Rattle.interleave.specs.Walks.{IsIllegal, IsWalk, WentRound}
 use Rattle.interleave.specs.World.{Live, World, has_passed, root_scope, task}
 use Rattle.interleave.specs.Worlds.{IsSpent, LeadsTo}
@@ -135,23 +135,6 @@ stopped old new i h paths all none to e =
 pub passed_over : (walk : Walk) → IsWalk walk → ((w : World) → Shows walk.world w → has_passed root_scope w ≡ true) → HasStopped walk
 passed_over walk i passed to e =
     inl (passed to (subst (Shows walk.world) (legal_same i.replayed.world to (sym i.replayed.legal ∙ e)) i.replayed.shows))
-
--- ---- rounds
-module _ (most : ℕ) (a b c : Walk) (h : HasGoneOn most a b) where
-  -- a pick more, where there are fewer events than wanted
-  pub picked : length b.events.items < most → (x : Bool) → Happened x b c → HasGoneOn most a c
-  picked lt true k = record {
-    walk = k.walk;
-    job = k.job ∙ h.job;
-    grown = let g = h.grown in let m = k.more in omega (arith, g, m);
-    few = let m = k.more in omega (arith, lt, m);
-  }
-  picked lt false k = record {
-    walk = k.walk;
-    job = k.job ∙ h.job;
-    grown = subst (λ (es : List rEvent). length a.events.items ≤ length es) (sym k.same) h.grown;
-    few = subst (λ (es : List rEvent). length es ≤ most) (sym k.same) h.few;
-  }
 
 -- what follows of an Ok's value
 pub if_ok : {A E : Type 0} {P Q : A → Type 0} (o : Result A E) → IfOk o P → ((x : A) → P x → Q x) → IfOk o Q

@@ -6,12 +6,12 @@ ghost use Rattle.types.specs.Translation.{input as lists_in};
 ghost use Rattle.types.specs.Typed.{code_of};
 ghost use Rattle.interleave.specs.Jobs.{IsWeightedJob};
 
-use effects::laws::typed_programs_are_sound;
 use gather::job::Job;
 use race_checker::accepted::Accepted;
 use std::alloc::Global;
 use types::budget::Budget;
 use types::input::Input;
+use types::laws::typed_programs_are_sound;
 
 /// The most weight that a scope issues at a time: 2^32.
 pub const MOST_WEIGHT: u64 = 4_294_967_296;

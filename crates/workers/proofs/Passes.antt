@@ -59,14 +59,15 @@ module _ (j : Job) (rs : List Made) (all : Each (IsResultOf j) rs) where
       ends.may.start (record { frames = AtEnd ends.may.before ∷ ends.may.frames; state = ends.may.state }) ends.may.stands results
       are_results)
 
-  pub gives : (w : Owner) (made : Made) (outer : List Stake) (n : _) → IsAtEnd j w made outer n → GiveBack (task_result made) results
+  gives : (w : Owner) (made : Made) (outer : List Stake) (n : _) → IsAtEnd j w made outer n → GiveBack (task_result made) results
   gives w made outer n at = gives_so at.0 w made outer n at.1
 
 -- what has come of the owner
 pub comes : (p : Parked) (rs : List Made) → IsParked p → Each (IsResultOf p.job) rs
     → (w : Waiting) (y : Settled) → w.job ≡ p.job → w.owner ≡ p.owner → w.outer ≡ p.outer → w.opened ≡ p.opened
     → Some (settled y) ≡ settle (task_result p.made) (map task_result rs)
-    → ((c : Place) → owned_by y.holdings c ≡ all_owned (task_result p.made) c) → Comes w y
+    → (GiveBack (task_result p.made) (map task_result rs) → (c : Place) → owned_by y.holdings c ≡ all_owned (task_result p.made) c)
+    → Comes w y
 comes p rs ends all w y job owner outer opened settles owned = record {
   made = p.made;
   waits =
@@ -77,7 +78,7 @@ comes p rs ends all w y job owner outer opened settles owned = record {
   results = map task_result rs;
   tasks = subst (λ (j : Job). Each (IsTaskResult (program_of j) (lists_of j) (budget_of j)) (map task_result rs)) (sym job) (are_results p.job rs all);
   settles = settles;
-  owned = owned;
+  owned = owned (gives p.job rs all p.owner p.made p.outer.items p.opened ends);
 }
 
 -- what a worker goes on with is of the run

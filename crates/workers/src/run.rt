@@ -18,7 +18,6 @@ use crate::kit::Report;
 use crate::opening::open;
 use crate::settings::Settings;
 use crews::work_together;
-use effects::laws::typed_programs_are_sound;
 use events::event::Event;
 use finish_scope::running::Running;
 use gather::job::Job;
@@ -29,6 +28,7 @@ use std::marker::Brand;
 use std::sync::Wait;
 use std::thread::Threads;
 use types::input::Input;
+use types::laws::typed_programs_are_sound;
 use types::outcome::Outcome;
 
 /// Runs a program on an input, on as many workers as the settings say. Each async is a task of its

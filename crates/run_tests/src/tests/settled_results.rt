@@ -1,16 +1,12 @@
-//! Results put together by path, also where one is missing or too many come.
-
-ghost use Rattle.std.specs.Prelude.{◌≡◌, false, IfOk};
-ghost use Rattle.std.specs.List.{All};
-ghost use Rattle.sections.specs.Place.{Place};
-ghost use Rattle.own_run.specs.Translation.{owned_by};
-ghost use Rattle.run_tests.specs.Results.{GivesNoPlace, HasNoPlace};
+//! Results put together by path, also where one is missing or too many come, or owns other places than are listed for it.
 
 use crate::tests::{accepted, compare};
 use gather::settle::settle;
 use holdings::error::HoldError;
 use holdings::holdings::Holdings;
 use own_run::result::{Listed, TaskResult};
+use sections::id::ArrayId;
+use sections::window::Window;
 use std::alloc::{AllocError, Global};
 use std::process::Abort;
 use std::test::Fail;
@@ -24,47 +20,28 @@ use types::path::Path;
 /// number is that of its label.
 type Task = (&'static [u32], Label, &'static [&'static [u32]]);
 
-/// Holdings of no place.
-fn nothing(rt: &(impl Abort + Threads + Sync), alloc: Global) -> Result<Holdings, HoldError>
-    ensures { IfOk result (λ h. (q : Place) → owned_by h q ≡ false) }
-{
-    let program = accepted(rt, alloc, "main { }");
-    let input = Input::zeros(alloc, program.typed()).expect(rt, "memory");
-    let all = Holdings::of_input(alloc, program.typed(), &input).expect(rt, "memory");
-    let shared = all.share(alloc, &[])?;
-    Ok(shared)
-}
-
 /// A path.
 fn path(alloc: Global, turns: &[u32]) -> Result<Path, AllocError> {
     let turns = Vec::from_slice(alloc, turns)?;
     Ok(Path { turns })
 }
 
-/// What its parent knows of a task that writes nothing.
-fn listed(alloc: Global, turns: &[u32]) -> Result<Listed, AllocError>
-    ensures { IfOk result GivesNoPlace }
-{
+/// What its parent knows of a task that told nothing before it.
+fn listed(alloc: Global, turns: &[u32], windows: Vec<Window>) -> Result<Listed, AllocError> {
     Ok(Listed {
         path: path(alloc, turns)?,
-        windows: Vec::new(alloc),
+        windows,
         lines: Vec::new(alloc),
         faults: Vec::new(alloc),
     })
 }
 
 /// What such a task hands on.
-fn result_of(
-    rt: &(impl Abort + Threads + Sync),
-    alloc: Global,
-    task: Task,
-) -> Result<TaskResult, HoldError>
-    ensures { IfOk result HasNoPlace }
-{
+fn result_of(alloc: Global, task: Task) -> Result<TaskResult, AllocError> {
     let (turns, label, begun) = task;
     let mut children = Vec::new(alloc);
     for child in begun {
-        children.push(listed(alloc, child)?)?;
+        children.push(listed(alloc, child, Vec::new(alloc))?)?;
     }
     let mut faults = Vec::new(alloc);
     faults.push(Fault {
@@ -75,7 +52,7 @@ fn result_of(
     Ok(TaskResult {
         path: path(alloc, turns)?,
         stopped: false,
-        holdings: nothing(rt, alloc)?,
+        holdings: Holdings::none(alloc),
         lines: Vec::new(alloc),
         faults,
         children,
@@ -83,16 +60,10 @@ fn result_of(
 }
 
 /// What such tasks hand on.
-fn results_of(
-    rt: &(impl Abort + Threads + Sync),
-    alloc: Global,
-    tasks: &[Task],
-) -> Result<Vec<TaskResult>, HoldError>
-    ensures { IfOk result (λ rs. All HasNoPlace rs.items) }
-{
+fn results_of(alloc: Global, tasks: &[Task]) -> Result<Vec<TaskResult>, AllocError> {
     let mut results = Vec::new(alloc);
     for task in tasks {
-        results.push(result_of(rt, alloc, *task)?)?;
+        results.push(result_of(alloc, *task)?)?;
     }
     Ok(results)
 }
@@ -150,12 +121,252 @@ const ROWS: &[(&str, &[Task], &str)] = &[
 fn results_settle_by_path(rt: HostRuntime) -> Result<(), Fail> {
     let alloc = rt.alloc();
     for (name, tasks, want) in ROWS {
-        let root = result_of(&rt, alloc, ROOT)?;
-        let results = results_of(&rt, alloc, tasks)?;
+        let root = result_of(alloc, ROOT)?;
+        let results = results_of(alloc, tasks)?;
         match settle(alloc, root, results) {
             Ok(settled) => {
                 let labels = labels_of(&rt, alloc, &settled.faults);
                 compare(&rt, alloc, *name, format_args!("{labels:?}"), want);
+            }
+            Err(error) => compare(&rt, alloc, *name, error, want),
+        }
+    }
+    Ok(())
+}
+
+/// Elements of an array of four: from which on, and how many.
+type Places = &'static [(usize, usize)];
+
+/// A task of a program with such an array: its path, the number that it has at all its elements, those that it owns,
+/// those of which it has copies, and the tasks that it began, each with what is listed for it. It tells nothing.
+type Holder = (
+    &'static [u32],
+    i64,
+    Places,
+    Places,
+    &'static [(&'static [u32], Places)],
+);
+
+const ARRAY: ArrayId = ArrayId { number: 0 };
+
+/// The windows of elements.
+fn windows(rt: &impl Abort, alloc: Global, places: &[(usize, usize)]) -> Vec<Window> {
+    let mut windows = Vec::new(alloc);
+    for (at, len) in places {
+        let (at, len) = (*at, *len);
+        assert!(rt; at <= 4 && len <= 4);
+        let window = Window {
+            array: ARRAY,
+            at,
+            len,
+        };
+        windows.push(window).expect(rt, "memory");
+    }
+    windows
+}
+
+/// All elements, with a number at each.
+fn all_elements(
+    rt: &(impl Abort + Threads + Sync),
+    alloc: Global,
+    number: i64,
+) -> Result<Holdings, HoldError> {
+    let program = accepted(rt, alloc, "main { array a: int[4]; }");
+    let input = Input::zeros(alloc, program.typed()).expect(rt, "memory");
+    let mut all = Holdings::of_input(alloc, program.typed(), &input).expect(rt, "memory");
+    for index in 0..4 {
+        all.write(ARRAY, index, number)?;
+    }
+    Ok(all)
+}
+
+/// A number at elements that are owned, and at others of which there are copies.
+fn holdings_of(
+    rt: &(impl Abort + Threads + Sync),
+    alloc: Global,
+    number: i64,
+    owned: Places,
+    copied: Places,
+) -> Result<Holdings, HoldError> {
+    let mut all = all_elements(rt, alloc, number)?;
+    let mut holdings = all.share(alloc, &windows(rt, alloc, copied))?;
+    let own = all.carve(alloc, &windows(rt, alloc, owned))?;
+    match holdings.paste(alloc, own) {
+        Ok(()) => Ok(holdings),
+        Err((error, _)) => Err(error),
+    }
+}
+
+/// What such a task hands on.
+fn held_result(
+    rt: &(impl Abort + Threads + Sync),
+    alloc: Global,
+    holder: Holder,
+) -> Result<TaskResult, HoldError> {
+    let (turns, number, owned, copied, begun) = holder;
+    let mut children = Vec::new(alloc);
+    for (child, places) in begun {
+        children.push(listed(alloc, child, windows(rt, alloc, places))?)?;
+    }
+    Ok(TaskResult {
+        path: path(alloc, turns)?,
+        stopped: false,
+        holdings: holdings_of(rt, alloc, number, owned, copied)?,
+        lines: Vec::new(alloc),
+        faults: Vec::new(alloc),
+        children,
+    })
+}
+
+/// What such tasks hand on.
+fn held_results(
+    rt: &(impl Abort + Threads + Sync),
+    alloc: Global,
+    holders: &[Holder],
+) -> Result<Vec<TaskResult>, HoldError> {
+    let mut results = Vec::new(alloc);
+    for holder in holders {
+        results.push(held_result(rt, alloc, *holder)?)?;
+    }
+    Ok(results)
+}
+
+/// The root owns the last element, and has copies of the others. It began 0.1 with the first two.
+const OWNER: Holder = (&[], 9, &[(3, 1)], &[(0, 3)], &[(&[1], &[(0, 2)])]);
+
+/// It began 0.2 with the second one, too.
+const GIVER: Holder = (
+    &[],
+    9,
+    &[(3, 1)],
+    &[(0, 3)],
+    &[(&[1], &[(0, 2)]), (&[2], &[(1, 1)])],
+);
+
+/// A root, the results that come for it, and the elements then, or why they don't make a whole.
+type HeldRow = (&'static str, Holder, &'static [Holder], &'static str);
+
+const HELD_ROWS: &[HeldRow] = &[
+    (
+        "just what is listed",
+        OWNER,
+        &[(&[1], 1, &[(0, 2)], &[], &[])],
+        "[1, 1, 9, 9]",
+    ),
+    (
+        "just what is listed, with a copy beside it",
+        OWNER,
+        &[(&[1], 1, &[(0, 2)], &[(2, 1)], &[])],
+        "[1, 1, 9, 9]",
+    ),
+    (
+        "one more stays out",
+        OWNER,
+        &[(&[1], 1, &[(0, 3)], &[], &[])],
+        "[1, 1, 9, 9]",
+    ),
+    (
+        "one more that the root owns stays out",
+        OWNER,
+        &[(&[1], 1, &[(0, 4)], &[], &[])],
+        "[1, 1, 9, 9]",
+    ),
+    (
+        "one fewer keeps its number",
+        OWNER,
+        &[(&[1], 1, &[(0, 1)], &[], &[])],
+        "[1, 9, 9, 9]",
+    ),
+    (
+        "a copy comes as if it were owned",
+        OWNER,
+        &[(&[1], 1, &[(0, 1)], &[(1, 1)], &[])],
+        "[1, 1, 9, 9]",
+    ),
+    (
+        "nothing of what is listed",
+        OWNER,
+        &[(&[1], 1, &[], &[], &[])],
+        "[9, 9, 9, 9]",
+    ),
+    (
+        "one in two windows",
+        (&[], 9, &[(3, 1)], &[], &[(&[1], &[(0, 2), (1, 2)])]),
+        &[(&[1], 1, &[(0, 3)], &[], &[])],
+        "[1, 1, 1, 9]",
+    ),
+    (
+        "what is listed, by a copy of another task",
+        OWNER,
+        &[
+            (&[1], 1, &[(1, 1)], &[], &[(&[1, 1], &[(0, 1)])]),
+            (&[1, 1], 2, &[], &[(0, 1)], &[]),
+        ],
+        "[2, 1, 9, 9]",
+    ),
+    (
+        "two that share none",
+        (
+            &[],
+            9,
+            &[(3, 1)],
+            &[(0, 3)],
+            &[(&[1], &[(0, 1)]), (&[2], &[(1, 1)])],
+        ),
+        &[
+            (&[2], 2, &[(1, 1)], &[], &[]),
+            (&[1], 1, &[(0, 2)], &[], &[]),
+        ],
+        "[1, 2, 9, 9]",
+    ),
+    (
+        "one from two",
+        GIVER,
+        &[
+            (&[1], 1, &[(0, 2)], &[], &[]),
+            (&[2], 2, &[(1, 1)], &[], &[]),
+        ],
+        "G2 0.2",
+    ),
+    (
+        "one from two, of which the first didn't have it",
+        GIVER,
+        &[
+            (&[1], 1, &[(0, 1)], &[], &[]),
+            (&[2], 2, &[(1, 1)], &[], &[]),
+        ],
+        "G2 0.2",
+    ),
+    (
+        "one from two, of which neither has it",
+        GIVER,
+        &[(&[1], 1, &[], &[], &[]), (&[2], 2, &[], &[], &[])],
+        "G2 0.2",
+    ),
+    (
+        "one that the root owns",
+        (&[], 9, &[(0, 4)], &[], &[(&[1], &[(1, 1)])]),
+        &[(&[1], 1, &[(1, 1)], &[], &[])],
+        "G2 0.1",
+    ),
+    (
+        "one that the root owns and the task hasn't",
+        (&[], 9, &[(0, 4)], &[], &[(&[1], &[(1, 1)])]),
+        &[(&[1], 1, &[], &[], &[])],
+        "G2 0.1",
+    ),
+];
+
+#[test]
+fn listed_places_come_back(rt: HostRuntime) -> Result<(), Fail> {
+    let alloc = rt.alloc();
+    for (name, root, holders, want) in HELD_ROWS {
+        let root = held_result(&rt, alloc, *root)?;
+        let results = held_results(&rt, alloc, holders)?;
+        match settle(alloc, root, results) {
+            Ok(settled) => {
+                let elements = settled.holdings.row(alloc, ARRAY, 4)?;
+                compare(&rt, alloc, *name, format_args!("{elements:?}"), want);
             }
             Err(error) => compare(&rt, alloc, *name, error, want),
         }

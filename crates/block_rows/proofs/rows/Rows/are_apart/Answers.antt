@@ -1,5 +1,5 @@
 use Rattle.std.proofs.Common.{arith, refl}
-use Rattle.block_rows.proofs.RoomLemmas.{item-rows_apart, places-rows_apart, rows_apart-done, rows_apart-item, rows_apart-more}
+use Rattle.block_rows.proofs.RoomLemmas.{RowsApart, item-rows_apart, places-rows_apart, rows_apart-done, rows_apart-item, so_far-more}
 use Rattle.block_rows.proofs.WritingLemmas.{item_at, no_item_at}
 use Rattle.block_rows.proofs.rows.Rows.are_apart.Goals as goal
 
@@ -23,7 +23,7 @@ loop-array-preserved c =
     let others = c.args.others.now.list.items in
     let n = c.loop-array.array in
     let at = item_at c.deref-row-items.ensures.value c.loop-array-test.true c.row-item.is in
-    rows_apart-more own others n c.loop-array.invariant (rows_apart-item own others n _ at.0 at.1
+    so_far-more (RowsApart own others) n c.loop-array.invariant (rows_apart-item own others n _ at.0 at.1
     (c.is_apart.ensures.0 c.if-not-is_apart.false))
 
 pub returns : goal.returns

@@ -1,11 +1,14 @@
-use Rattle.std.proofs.Common.{◌∙◌, ◌++◌, ◌∷◌, [], ap, refl, map}
+use Rattle.std.proofs.Common.{◌∙◌, ◌++◌, ◌∷◌, [], ap, refl, map, subst, sym}
+use Rattle.own_run.specs.Lists.{Each}
+use Rattle.own_run.proofs.Lists.{each_last}
 use Rattle.serial_run.proofs.Steps.{map-pushed}
 use Rattle.types.specs.declared.path.Path.{Path}
 use Rattle.own_run.specs.Translation.{task_result}
 use Rattle.gather.specs.Left.{left}
 use Rattle.gather.specs.Reached.{used_by}
-use Rattle.gather.specs.Stages.{part, waiting, waiting_for}
+use Rattle.gather.specs.Stages.{IsClear, part, waiting, waiting_for}
 use Rattle.gather.specs.declared.filling.Filling.{Filling}
+use Rattle.gather.specs.declared.filling.Waiting.{Waiting as rWaiting}
 use Rattle.gather.proofs.Openings.{lost}
 use Rattle.gather.proofs.ReachedTurns.{opened_reached}
 use Rattle.gather.proofs.Stages.{leads-opened}
@@ -26,7 +29,7 @@ returns-in_ok-push-in-Some-2-clause-leads c =
     (map-pushed waiting s.waiting.items c.push.new.self.items (record { filling = c.replace-filling.result; hole = hole })
     c.in_ok-push-in-Some.ensures.items
     ∙ ap (λ (f : Filling). map waiting s.waiting.items ++ waiting_for f hole ∷ []) c.replace-filling.ensures.value)
-    (ap part c.replace-filling.ensures.after ∙ c.of-opened.ensures.opened) c.requires
+    (ap part c.replace-filling.ensures.after ∙ c.of-opened.ensures.opened)
 
 pub returns-in_ok-push-in-Some-2-clause-reached : goal.returns-in_ok-push-in-Some-2-clause-reached
 returns-in_ok-push-in-Some-2-clause-reached c = λ start rs k.
@@ -42,3 +45,12 @@ returns-in_ok-push-in-Some-2-clause-reached c = λ start rs k.
     (map-pushed (λ (p : Path). p.turns.items) s.results.used.items c.push-in-Some.new.self.items c.of-opened.result.1
     c.in_ok-push-in-Some-2.ensures.items
     ∙ ap (λ (p : Path). used_by s.results ++ p.turns.items ∷ []) c.of-opened.ensures.path) k
+
+pub returns-in_ok-push-in-Some-2-clause-clear : goal.returns-in_ok-push-in-Some-2-clause-clear
+returns-in_ok-push-in-Some-2-clause-clear c = λ clear.
+    let s = c.args.self.now in
+    let next : rWaiting = record { filling = c.replace-filling.result; hole = c.args.hole } in (
+      subst IsClear (sym c.replace-filling.ensures.after) c.of-opened.ensures.clear,
+      subst (Each (λ w. IsClear w.filling)) (sym c.in_ok-push-in-Some.ensures.items)
+          (each_last (λ w. IsClear w.filling) s.waiting.items next clear.1 (subst IsClear (sym c.replace-filling.ensures.value) clear.0)),
+    )

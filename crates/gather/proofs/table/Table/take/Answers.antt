@@ -42,18 +42,17 @@ invariant_of-self c =
           taken.ensures.found taken.ensures.taken other.turns.items);
     }
 
-pub returns-clause-found : goal.returns-clause-found
-returns-clause-found c =
+pub returns : goal.returns
+returns c =
     let u = c.args.self.now in
     let path = c.args.path.now in
     let at = says u path (Some c.in_ok-place.place) c.in_ok-place.ensures in
-    taken_out path.turns.items u.places.items c.in_ok-place.place u.chained at c.take_from-entry.new.places.items
-    c.take_from-entry.result c.take_from-entry.ensures.found c.take_from-entry.ensures.taken
-
-pub returns-clause-fewer : goal.returns-clause-fewer
-returns-clause-fewer c =
-    let u = c.args.self.now in
-    let path = c.args.path.now in
-    let at = says u path (Some c.in_ok-place.place) c.in_ok-place.ensures in
-    one_fewer path.turns.items u.places.items c.in_ok-place.place u.chained at c.take_from-entry.new.places.items
-    c.take_from-entry.result c.take_from-entry.ensures.found c.take_from-entry.ensures.taken
+    record {
+      found =
+          taken_out path.turns.items u.places.items c.in_ok-place.place u.chained at c.take_from-entry.new.places.items
+          c.take_from-entry.result c.take_from-entry.ensures.found c.take_from-entry.ensures.taken;
+      none = tt;
+      fewer =
+          one_fewer path.turns.items u.places.items c.in_ok-place.place u.chained at c.take_from-entry.new.places.items
+          c.take_from-entry.result c.take_from-entry.ensures.found c.take_from-entry.ensures.taken;
+    }

@@ -4,20 +4,8 @@ use Rattle.types.specs.Code.{Program}
 use Rattle.own_run.specs.Given.{told_of}
 use Rattle.own_run.specs.Translation.{settled, task_result}
 use Rattle.interleave.specs.declared.scope.Scope.{Scope as rScope}
-use Rattle.interleave.proofs.Told.{copies_give_back, copies_tell}
+use Rattle.interleave.proofs.Told.{copies_tell}
 use Rattle.interleave.proofs.world.World.settled.Goals as goal
-
-pub settle-requires : goal.settle-requires
-settle-requires c =
-    let r = c.requires.world in
-    let there = c.requires.complete in
-    let same = same_Some _ _ (sym there.1 ∙ sym c.in-Some.ensures.value) in
-    copies_give_back c.args.self.now r.job r.world r.shows c.args.scope.now c.requires.root there.0 there.1 there.2
-    c.root_path.result c.root_path.ensures c.in-Some-get.task.now (sym c.in-Some-get.ensures.value)
-    c.in-AtEnd-Some.made c.in-AtEnd-Some.is-0 c.in-AtEnd-Some.results
-    (ap (λ (s : rScope). s.results) same ∙ c.in-AtEnd-Some.is-1)
-    c.in_ok-made.made c.in_ok-made.ensures c.in_ok-results.results.items
-    (c.in_ok-results.ensures ∙ ap (map task_result) c.deref.ensures.value)
 
 pub returns-clause-told : goal.returns-clause-told
 returns-clause-told c =
