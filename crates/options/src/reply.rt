@@ -1,5 +1,11 @@
 //! The replies to words that ask nothing of a program.
 
+ghost use Rattle.std.specs.Prelude.{◌≡◌, IfErr, IfOk};
+ghost use Rattle.clap.specs.Values.{kind_of};
+ghost use Rattle.clap.specs.declared.error.kind.ErrorKind.TheVariants.{OutOfMemory};
+ghost use Rattle.options.specs.Replies.{IsConflict};
+ghost use Rattle.options.specs.declared.reply.Reply.TheVariants.{Said};
+
 use crate::table::commands;
 use clap::error::ErrorKind;
 use clap::{ArgMatches, Command, Error};
@@ -20,12 +26,16 @@ pub enum Reply {
 }
 
 impl From<Error> for Reply {
+    ghost from_gives = { λ error reply. reply ≡ Said error };
+
     fn from(error: Error) -> Reply {
         Reply::Said(error)
     }
 }
 
 impl From<AllocError> for Reply {
+    ghost from_gives = { λ _ reply. IsConflict reply };
+
     fn from(error: AllocError) -> Reply {
         Reply::Said(Error::from(error))
     }
@@ -51,8 +61,11 @@ fn mistaken(alloc: Global, words: &[String], error: Error) -> Result<Reply, Allo
     }
 }
 
-/// That the words name a file twice.
-pub fn named_twice(alloc: Global) -> Result<Reply, Error> {
+/// That the words give two files the same name.
+pub fn named_twice(alloc: Global) -> Result<Reply, Error>
+    ensures conflict { IfOk result IsConflict }
+    ensures memory { IfErr result (λ error. kind_of error ≡ OutOfMemory) }
+{
     let mistake =
         "a file is named twice: what is written must not be read, and the standard input is read once";
     Ok(Reply::Said(commands(alloc)?.error(ErrorKind::ArgumentConflict, mistake)?))

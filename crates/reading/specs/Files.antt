@@ -3,7 +3,7 @@ use Rattle.std.specs.Prelude.{ℕ, List, [], ◌∷◌, Bool, true, false, not, 
 use Rattle.std.specs.Str.{bytes_eq}
 use Rattle.command_line.specs.Requests.{Asked, file_of}
 
--- this file stands among others
+-- this name stands among others
 abbrev pub is_among : (name : List ℕ) → (others : List (Option (List ℕ))) → Bool
 is_among name [] = false
 is_among name (None ∷ others) = is_among name others
@@ -20,6 +20,6 @@ abbrev pub files_of : Asked → List (Option (List ℕ))
 files_of a =
     let s = a.settings in Some a.file ∷ s.input ∷ file_of s.choices ∷ s.trace ∷ s.picture ∷ []
 
--- no file is named twice: what is written isn't what is read, and the standard input is read once
+-- no name is given twice, as it stands: nothing is read and written by the same name, and the standard input is read once
 abbrev pub names_once : Asked → Bool
 names_once a = all_differ (files_of a)

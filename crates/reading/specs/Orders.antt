@@ -73,7 +73,7 @@ Orders words (AsObject x a) = AsksForObject words x a
 Orders words (Times a) = AsksToTime words a
 Orders words (Tests folder) = AsksToTest words folder
 
--- it names no file twice
+-- it gives no name to two files
 abbrev pub names_once : Order → Bool
 names_once (AsText a) = asks_once a
 names_once (AsObject x a) = asks_once a

@@ -1,4 +1,4 @@
-//! The files that a request names.
+//! The names of files that a request gives.
 
 ghost use Rattle.std.specs.Prelude.{◌≡◌, map, option_map};
 ghost use Rattle.command_line.specs.Requests.{asked_of, choosing, file_of};
@@ -7,8 +7,9 @@ ghost use Rattle.reading.specs.Files.{names_once as is_named_once};
 
 use command_line::request::{Choosing, Request};
 
-/// Whether a request names no file twice, `-` neither: what is written isn't what is read, and the standard input is
-/// read once. `run a.afx --trace a.afx` would lose the program.
+/// Whether a request gives no name twice, `-` neither: nothing is read and written by the same name, and the standard
+/// input is read once. `run a.afx --trace a.afx` would lose the program. Names are compared as they stand, so
+/// `run a.afx --trace ./a.afx` passes, and loses it.
 pub fn names_once(request: &Request<'_>) -> bool
     ensures { result ≡ is_named_once (asked_of request.now) }
 {
@@ -32,7 +33,7 @@ fn file_of_choices<'w>(choices: Option<Choosing<'w>>) -> Option<&'w str>
     }
 }
 
-/// Whether no file stands twice among these.
+/// Whether no name stands twice among these.
 fn all_differ(names: &[Option<&str>]) -> bool
     ensures { result ≡ all_differ_in (map (option_map (λ name. name.now)) names.now) }
 {
@@ -43,7 +44,7 @@ fn all_differ(names: &[Option<&str>]) -> bool
     }
 }
 
-/// Whether a file stands among others.
+/// Whether a name stands among others.
 fn is_among(name: &str, others: &[Option<&str>]) -> bool
     ensures { result ≡ is_among_in name.now (map (option_map (λ name. name.now)) others.now) }
 {

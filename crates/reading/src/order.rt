@@ -21,7 +21,7 @@ pub enum Order<'w> {
 }
 
 impl Order<'_> {
-    /// Whether it names no file twice.
+    /// Whether it gives no name to two files.
     pub fn names_once(&self) -> bool
         ensures { result ≡ names_once_in (order_said self.now) }
     {

@@ -1,6 +1,6 @@
 //! The words of a command line.
 
-ghost use Rattle.std.specs.Prelude.{ℕ, ◌≡◌, ◌∷◌, [], codes, IfOk, IsErr, IsOkAnd, IsSomeAnd, IsTrue, List, map, Some, true, false};
+ghost use Rattle.std.specs.Prelude.{ℕ, ◌≡◌, ◌∷◌, [], codes, IfOk, IsErrAnd, IsOkAnd, IsSomeAnd, IsTrue, List, map, Some, true, false};
 ghost use Rattle.std.specs.String.{string_bytes};
 ghost use Rattle.reading.specs.Orders.{AsText, AsObject, Times, Tests, Order as OrderIn, Orders};
 ghost use Rattle.reading.specs.Orders.{AsksForObject, names_once, order as order_said, subject_of};
@@ -10,6 +10,7 @@ ghost use Rattle.command_line.specs.Requests.{AreRight, Asked, Asks, Options, as
 ghost use Rattle.command_line.specs.Requests.{acting, is_file_name as names_file, texts_by};
 ghost use Rattle.command_line.specs.declared.request.Action.TheVariants.{Answer};
 ghost use Rattle.command_line.specs.declared.request.Command.TheVariants.{Cost};
+ghost use Rattle.options.specs.Replies.{IsConflict};
 
 use crate::by_clap::order_by_clap;
 use crate::order::{Order, Subject};
@@ -21,14 +22,14 @@ use options::reply::{self, Reply};
 use std::alloc::Global;
 
 /// Reads the words behind the program's name. What names a command, how it is told, a file and options behind it, in
-/// their order, is read here; all else, as other orders, help, pages and mistakes, by `clap`. Words that name a file
-/// twice are a mistake: `run a.afx --trace a.afx`.
+/// their order, is read here; all else, as other orders, help, pages and mistakes, by `clap`. Words that give the same
+/// name to two files are a mistake: `run a.afx --trace a.afx`.
 pub fn order_of<'w>(alloc: Global, words: &'w [String]) -> Result<Order<'w>, Reply>
     ensures read { (o : OrderIn) → Orders (map string_bytes words.now) o → names_once o ≡ true
         → IsOkAnd result (λ r. order_said r ≡ o) }
     ensures once { IfOk result (λ r. names_once (order_said r) ≡ true) }
     ensures twice { (o : OrderIn) → Orders (map string_bytes words.now) o → names_once o ≡ false
-        → IsErr result }
+        → IsErrAnd result IsConflict }
 {
     let order = match order_in(words) {
         Some(order) => order,
