@@ -28,12 +28,11 @@ use Rattle.parallel_relation.specs.Pairs.{ArePairs, AreListed, HasPair}
 use Rattle.parallel_relation.specs.Together.{LabelsMeet}
 use Rattle.parallel_relation.specs.declared.pairs.Pairs.{Pairs as KeptPairs}
 use Rattle.race_checker.specs.Clash.{IsAccepted}
-use Rattle.race_checker.specs.Races.{IsLeastRace, Race as ProgramRace}
 use Rattle.answers.specs.Answers.{Answers, AnswersExplore, AnswersPairs, TellsAccepted, accepted_told, command_about}
 use Rattle.answers.specs.Answers.{Explores, HasInput, IsExplored, LacksInput}
 use Rattle.answers.specs.Answers.{Answer, Does, Done, Explains, Failed, IsCodeOf, IsRunBy, LooksForRaces, Shows}
 use Rattle.answers.specs.Answers.{TellsNoCode, TellsNotAccepted, TellsNotBegun, TellsNotGiven, TellsUnspelled, TestsRules}
-use Rattle.answers.specs.Answers.{AnswersLabels, AnswersPlaces, AnswersFormat, AnswersCheckFormat, IsLayoutOf, NeedsLayout}
+use Rattle.answers.specs.Answers.{AnswersLabels, AnswersPlaces, AnswersFormat, IsLayoutOf, NeedsLayout}
 use Rattle.answers.specs.Answers.{AnswersCost, command_of}
 use Rattle.answers.specs.declared.costing.Shares.{Shares}
 use Rattle.answers.specs.declared.costing.Shares.TheVariants.{Untold, ByLabel, ByProcedure}
@@ -49,7 +48,6 @@ use Rattle.texts.specs.Appending.{Writes}
 use Rattle.answers.specs.Chosen.{ComesTo}
 use Rattle.intake.specs.Choosing.{TellsNoChoices}
 use Rattle.texts.specs.ExploredText.{open_text}
-use Rattle.intake.specs.Failures.{TellsRaceIn}
 use Rattle.intake.specs.Held.{Held, TellsNoInput}
 use Rattle.texts.specs.Labels.{pair_text}
 use Rattle.texts.specs.OutcomeText.{outcome_text, status_of}
@@ -71,12 +69,6 @@ IsOther _ = Unit {0}
 
 pub other_failure : (f : Failure) → IsOther f → f ≢ CannotWriteOutput
 other_failure f other is = subst IsOther is other
-
--- a fact of a failure is one of what passes it on
-pub err_passed : {T : Type 0} (r : Result T Failure) (f : Failure) (Q : Failure → Type 0) → IsErrAnd r (λ y. y ≡ f)
-    → Q f → IsErrAnd r Q
-err_passed (Ok x) f Q is fact = absurd is
-err_passed (Err y) f Q is fact = subst Q (sym is) fact
 
 pub if_err_passed : {T : Type 0} (r : Result T Failure) (f : Failure) (Q : Failure → Type 0) → IsErrAnd r (λ y. y ≡ f)
     → Q f → IfErr r Q
@@ -185,28 +177,6 @@ module _ (c : Command) (s : Settings) (held : Held) (text : List ℕ) (b : Optio
 
 -- ---- a text without an accepted program
 
-pub unspelled_has_no_code : (text : List ℕ) (f : Failure) → TellsUnspelled text f → TellsNoCode text f
-unspelled_has_no_code text (Syntax e) told = told
-unspelled_has_no_code text _ told = absurd told
-
-pub no_code_not_accepted : (text : List ℕ) (f : Failure) → TellsNoCode text f → TellsNotAccepted text f
-no_code_not_accepted text (Syntax e) told = told
-no_code_not_accepted text (Types e) told = told
-no_code_not_accepted text _ told = absurd told
-
--- a race that is told
-pub told_race : (text : List ℕ) (typed back : Typed) (race : ProgramRace) → IsCodeOf text (code_of typed) → back ≡ typed
-    → IsLeastRace (code_of typed) race → (f : Failure) → TellsRaceIn (code_of back) race f → TellsNotAccepted text f
-told_race text typed back race is_code same least (Race procedure first second) told = record {
-  code = code_of back;
-  is_code = subst (λ (t : Typed). IsCodeOf text (code_of t)) (sym same) is_code;
-  race = race;
-  least = subst (λ (t : Typed). IsLeastRace (code_of t) race) (sym same) least;
-  told = told;
-}
-told_race text typed back race is_code same least NoMemoryInCheck told = tt
-told_race text typed back race is_code same least _ told = absurd told
-
 rules_tested : (c : Command) → LooksForRaces c → TestsRules c
 rules_tested Labels looks = absurd looks
 rules_tested Places looks = absurd looks
@@ -245,13 +215,6 @@ module _ (c : Command) (looks : LooksForRaces c) (s : Settings) (held : Held) (t
         → TellsNotBegun s held text f → Does c s held text b b r
     passes_not_begun r f is told =
         passes_on c s held text b r f is (not_begun_explained f told) (other_failure f (not_begun_other f told))
-
--- want of memory before anything is written
-pub passes_memory : (c : Command) (s : Settings) (held : Held) (text : List ℕ) (b : Option (List ℕ)) (r : Result ℕ Failure)
-    (f : Failure) → IsErrAnd r (λ y. y ≡ f) → f ≡ NoMemory → Does c s held text b b r
-passes_memory c s held text b r f is memory =
-    passes_on c s held text b r f is (subst (Explains c s held text) (sym memory) tt)
-    (λ write. other_failure NoMemory tt (sym memory ∙ write))
 
 -- ---- answers
 
@@ -341,17 +304,6 @@ format_answer text laid told program spelled is layout = record {
   program = program;
   spelled = spelled;
   layout = subst (IsLayoutOf text program) (sym is) layout;
-  status_is = refl;
-}
-
--- a text that is laid out already
-pub check_format_answer : (text laid : List ℕ) (program : tree.Program) → AreTokensOf (chars text) (spelling program)
-    → laid ≡ text → IsLaidOut (chars text) (chars laid) → AnswersCheckFormat text [] 0
-check_format_answer text laid program spelled same laid_out = record {
-  program = program;
-  spelled = spelled;
-  laid = subst (λ (l : List ℕ). IsLaidOut (chars text) (chars l)) same laid_out;
-  told_is = refl;
   status_is = refl;
 }
 

@@ -78,7 +78,7 @@ pub record IsExplored (s : Settings) (held : Held) (text : List ℕ) : Type 0 wh
   pub input : List (List ℤ)
   pub given : HasInput s held text code input
 
--- the command runs the program
+-- the command runs the program; here and below each command has a row, so that a new one wants one
 abbrev pub IsRunBy : Command → Program → Type 0
 IsRunBy Run code = IsAccepted code
 IsRunBy Explore code = IsAccepted code
@@ -90,7 +90,13 @@ IsRunBy Serial code = Unit {0}
 IsRunBy Cost code = Unit {0}
 IsRunBy CostByLabel code = Unit {0}
 IsRunBy CostByProcedure code = Unit {0}
-IsRunBy _ code = ⊥
+IsRunBy Check code = ⊥
+IsRunBy Listing code = ⊥
+IsRunBy Pairs code = ⊥
+IsRunBy Labels code = ⊥
+IsRunBy Places code = ⊥
+IsRunBy Format code = ⊥
+IsRunBy CheckFormat code = ⊥
 
 -- ---- answers
 
@@ -258,7 +264,10 @@ Answers CheckFormat s held text told status = AnswersCheckFormat text told statu
 Answers Cost s held text told status = AnswersCost Untold s held text told status
 Answers CostByLabel s held text told status = AnswersCost ByLabel s held text told status
 Answers CostByProcedure s held text told status = AnswersCost ByProcedure s held text told status
-Answers _ s held text told status = ⊥
+Answers View s held text told status = ⊥
+Answers Summary s held text told status = ⊥
+Answers Draw s held text told status = ⊥
+Answers Chrome s held text told status = ⊥
 
 -- ---- failures
 
@@ -274,7 +283,19 @@ TestsRules Labels = ⊥
 TestsRules Places = ⊥
 TestsRules Format = ⊥
 TestsRules CheckFormat = ⊥
-TestsRules _ = Unit {0}
+TestsRules Run = Unit {0}
+TestsRules Serial = Unit {0}
+TestsRules Check = Unit {0}
+TestsRules Listing = Unit {0}
+TestsRules Pairs = Unit {0}
+TestsRules Explore = Unit {0}
+TestsRules Cost = Unit {0}
+TestsRules CostByLabel = Unit {0}
+TestsRules CostByProcedure = Unit {0}
+TestsRules View = Unit {0}
+TestsRules Summary = Unit {0}
+TestsRules Draw = Unit {0}
+TestsRules Chrome = Unit {0}
 
 -- why a text has no code, memory aside: it spells no program, or one that breaks a rule
 abbrev pub TellsNoCode : (text : List ℕ) → Failure → Type 0
@@ -305,7 +326,15 @@ LooksForRaces View = Unit {0}
 LooksForRaces Summary = Unit {0}
 LooksForRaces Draw = Unit {0}
 LooksForRaces Chrome = Unit {0}
-LooksForRaces _ = ⊥
+LooksForRaces Serial = ⊥
+LooksForRaces Pairs = ⊥
+LooksForRaces Labels = ⊥
+LooksForRaces Places = ⊥
+LooksForRaces Format = ⊥
+LooksForRaces CheckFormat = ⊥
+LooksForRaces Cost = ⊥
+LooksForRaces CostByLabel = ⊥
+LooksForRaces CostByProcedure = ⊥
 
 -- why a text has no accepted program, memory aside
 abbrev pub TellsNotAccepted : (text : List ℕ) → Failure → Type 0

@@ -8,7 +8,6 @@ ghost use Rattle.syntax_tree.specs.Tree.{program as tree_of};
 ghost use Rattle.types.specs.Typed.{code_of, program_of as program_in};
 ghost use Rattle.answers.specs.Answers.{IsCodeOf, TellsNoCode, TellsNotAccepted, TellsUnspelled};
 
-use effects::laws::typed_programs_are_sound;
 use intake::failure::Failure;
 use race_checker::accepted::Accepted;
 use race_checker::check::Refused;
@@ -16,6 +15,7 @@ use std::alloc::Global;
 use std::thread::Threads;
 use syntax_tree::tree::Program;
 use types::check::type_check;
+use types::laws::typed_programs_are_sound;
 use types::typed::Typed;
 
 /// The program of a text, where it breaks no rule and has no race.

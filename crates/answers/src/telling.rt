@@ -10,7 +10,6 @@ use crate::memory::or_no_memory;
 use crate::programs::{accepted_of, typed_of};
 use crate::showing::{answer, answer_pairs};
 use command_line::request::Command;
-use effects::laws::typed_programs_are_sound;
 use effects::summaries::summarize;
 use intake::failure::Failure;
 use parallel_relation::pairs::{Pairs, may_run_together};
@@ -19,6 +18,7 @@ use std::io::Write;
 use std::thread::Threads;
 use syntax::listing;
 use texts::labels::accepted_line;
+use types::laws::typed_programs_are_sound;
 use types::typed::Typed;
 
 /// What is told of a program that has no race.

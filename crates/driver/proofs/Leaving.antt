@@ -1,9 +1,8 @@
 -- What files hold behind a run as tasks.
-use Rattle.std.proofs.Common.{◌≡◌, inl, inr, ℕ, List, Option, Some, None, Result, Ok, Err, ap, ◌∙◌, refl, subst, sym}
+use Rattle.std.proofs.Common.{◌≡◌, inl, inr, ℕ, List, Option, Some, None, Result, Ok, Err, refl, subst, sym}
 use Rattle.std.specs.Prelude.{IfErr, IsErrAnd}
 use Rattle.types.specs.Code.{Array}
 use Rattle.command_line.specs.Requests.{Settings}
-use Rattle.intake.specs.Failures.{TellsUnwritten}
 use Rattle.intake.specs.Held.{Held, TellsNoInput}
 use Rattle.intake.specs.declared.failure.Failure.{Failure}
 use Rattle.intake.specs.declared.failure.Failure.TheVariants.{NoMemory}
@@ -16,18 +15,6 @@ use Rattle.viewing.proofs.Written.{others_kept, wrote_anyway}
 use Rattle.driver.specs.Traced.{TellsNoOutcome, TellsNoRun, WritesTrace}
 
 -- ---- a run without an outcome
-
-pub no_outcome_no_run : (s : Settings) (f : Failure) → TellsNoOutcome s f → TellsNoRun s f
-no_outcome_no_run s (RunFailed e) told = told
-no_outcome_no_run s StrangeEvents told = told
-no_outcome_no_run s NoMemory told = tt
-no_outcome_no_run s _ told = absurd told
-
-pub not_written_no_run : (s : Settings) (name : List ℕ) (f : Failure) → s.trace ≡ Some name → TellsUnwritten name f
-    → TellsNoRun s f
-not_written_no_run s name (CannotWrite told) named is = named ∙ ap Some (sym is)
-not_written_no_run s name NoMemory named is = tt
-not_written_no_run s name _ named is = absurd is
 
 -- of a text's program without a race, on its input
 pub no_run_explained : (s : Settings) (held : Held) (text : List ℕ) → IsExplored s held text → (f : Failure) → TellsNoRun s f

@@ -1,6 +1,6 @@
 -- The trace of a run, and the file in which it is written.
-use Rattle.std.proofs.Common.{◌≡◌, ℕ, ℤ, List, Option, Some, None, Result, Ok, Err, ap, ◌∙◌, refl, subst, sym, map}
-use Rattle.std.specs.Prelude.{IfErr, IsErrAnd}
+use Rattle.std.proofs.Common.{◌≡◌, ℕ, ℤ, List, Option, Some, Result, Ok, Err, ap, ◌∙◌, subst, sym, map}
+use Rattle.std.specs.Prelude.{IsErrAnd}
 use Rattle.types.specs.Code.{Program}
 use Rattle.types.specs.Outcome.{Budget, Outcome, outcome}
 use Rattle.types.specs.Translation.{budget}
@@ -16,39 +16,16 @@ use Rattle.trace_text.specs.Lines.{trace_text}
 use Rattle.trace_text.specs.declared.header.Header.{Header}
 use Rattle.trace.specs.Logs.{Recorded}
 use Rattle.logged_run.specs.Ending.{LeadsToOutcome}
-use Rattle.command_line.specs.Requests.{Settings, settings}
+use Rattle.command_line.specs.Requests.{settings}
 use Rattle.command_line.specs.declared.request.Settings.{Settings as rSettings}
 use Rattle.intake.specs.Failures.{TellsUnwritten}
 use Rattle.intake.specs.Held.{Held, IsGiven, KeepsOthers}
 use Rattle.intake.specs.declared.failure.Failure.{Failure}
 use Rattle.intake.specs.declared.failure.Failure.TheVariants.{CannotWrite, NoMemory}
 use Rattle.viewing.specs.Files.{WritesTo}
-use Rattle.driver.specs.Traced.{IsTraceOf, TellsNoOutcome, TellsNoRun, WritesTrace, header_of}
-use Rattle.driver.proofs.Leaving.{no_outcome_no_run, not_written_no_run}
-
--- ---- why there is none
-
-module _ {T : Type 0} (s : Settings) where
-  pub if_no_outcome : (r : Result T Failure) → IfErr r (TellsNoOutcome s) → IfErr r (TellsNoRun s)
-  if_no_outcome (Ok x) told = tt
-  if_no_outcome (Err f) told = no_outcome_no_run s f told
-
-  pub passes_untold : (r : Result T Failure) (f : Failure) → IsErrAnd r (λ y. y ≡ f) → TellsNoOutcome s f
-      → IfErr r (TellsNoRun s)
-  passes_untold (Ok x) f is told = absurd is
-  passes_untold (Err y) f is told = subst (TellsNoRun s) (sym is) (no_outcome_no_run s f told)
-
-  pub passes_unwritten : (name : List ℕ) (r : Result T Failure) (f : Failure) → s.trace ≡ Some name
-      → IsErrAnd r (λ y. y ≡ f) → TellsUnwritten name f → IfErr r (TellsNoRun s)
-  passes_unwritten name (Ok x) f named is told = absurd is
-  passes_unwritten name (Err y) f named is told = subst (TellsNoRun s) (sym is) (not_written_no_run s name f named told)
+use Rattle.driver.specs.Traced.{IsTraceOf, WritesTrace, header_of}
 
 -- ---- the file
-
--- none is named
-pub untraced : (T : Type 0) (AreRight : (bytes : List ℕ) → Type 0) (held : Held) (file : Option (List ℕ))
-    (r : Result T Failure) → file ≡ None → WritesTrace file AreRight held held r
-untraced T AreRight held file r is = subst (λ (f : Option (List ℕ)). WritesTrace {T = T} f AreRight held held r) (sym is) refl
 
 module _ (T : Type 0) (AreRight : (bytes : List ℕ) → Type 0) (held later : Held) where
   not_to : (name : List ℕ) (f : Failure) → TellsUnwritten name f → KeepsOthers name held later

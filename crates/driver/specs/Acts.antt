@@ -15,10 +15,13 @@ use Rattle.command_line.specs.Requests.{Settings}
 use Rattle.command_line.specs.declared.request.Action.{Action}
 use Rattle.command_line.specs.declared.request.Action.TheVariants.{Answer as AnswerBy, Rewrite}
 use Rattle.command_line.specs.declared.request.Command.{Command}
-use Rattle.command_line.specs.declared.request.Command.TheVariants.{Run, View, Summary, Draw, Chrome}
+use Rattle.command_line.specs.declared.request.Command.TheVariants.{Run, Serial, Check, Listing, Pairs, Explore}
+use Rattle.command_line.specs.declared.request.Command.TheVariants.{Labels, Places, Format, CheckFormat}
+use Rattle.command_line.specs.declared.request.Command.TheVariants.{View, Summary, Draw, Chrome, Cost}
+use Rattle.command_line.specs.declared.request.Command.TheVariants.{CostByLabel, CostByProcedure}
 use Rattle.intake.specs.declared.failure.Failure.{Failure}
 use Rattle.intake.specs.declared.failure.Failure.TheVariants.{CannotWriteOutput}
-use Rattle.driver.specs.Traced.{IsTraceOfText, WritesTrace}
+use Rattle.driver.specs.Traced.{TracesRun}
 use Rattle.driver.specs.declared.answered.Answered.{Answered}
 use Rattle.driver.specs.declared.refusal.Refusal.{Refusal}
 
@@ -41,10 +44,23 @@ ExplainsAny c s held text = Explains c s held text
 -- what files hold behind a command: the trace of a run in the file that was named for it, a picture in its file; and
 -- whatever else they held
 abbrev pub Leaves : Command → Settings → (text : List ℕ) → (held later : Held) → Result ℕ Failure → Type 0
-Leaves Run s text held later r = WritesTrace s.trace (IsTraceOfText s held text) held later r
+Leaves Run s text held later r = TracesRun s text held later r
 Leaves Draw s text held later r = WritesTo (picture_name s) (IsDrawn s held text) held later r
 Leaves Chrome s text held later r = WritesTo (picture_name s) (IsDrawn s held text) held later r
-Leaves _ s text held later r = later ≡ held
+Leaves Serial s text held later r = later ≡ held
+Leaves Check s text held later r = later ≡ held
+Leaves Listing s text held later r = later ≡ held
+Leaves Pairs s text held later r = later ≡ held
+Leaves Explore s text held later r = later ≡ held
+Leaves Labels s text held later r = later ≡ held
+Leaves Places s text held later r = later ≡ held
+Leaves Format s text held later r = later ≡ held
+Leaves CheckFormat s text held later r = later ≡ held
+Leaves Cost s text held later r = later ≡ held
+Leaves CostByLabel s text held later r = later ≡ held
+Leaves CostByProcedure s text held later r = later ≡ held
+Leaves View s text held later r = later ≡ held
+Leaves Summary s text held later r = later ≡ held
 
 -- ---- what is done with a file
 
@@ -90,6 +106,14 @@ abbrev pub Reports : (explain : Bool) → (old new : Option (List ℕ)) → Resu
     → Type 0
 Reports explain old new (Ok answered) status = (status ≡ answered) × IsFollowed explain answered old new
 Reports explain old new (Err f) status = (status ≡ failure_status f) × IsTold explain old new f
+
+-- a mistake in the words was told with status 1: a text of it was appended to the error output as far as it was taken,
+-- and the other output is as it was
+pub record TellsMistake (old new err_old err_new : Option (List ℕ)) (status : ℕ) : Type 0 where
+  pub text : List ℕ
+  pub told : AppendsBeginning err_old err_new text
+  pub silent : new ≡ old
+  pub refused : status ≡ 1
 
 -- a status, or a refusal's failure, without what explains it
 abbrev pub in_short : Result Answered Refusal → Result ℕ Failure

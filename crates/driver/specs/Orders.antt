@@ -1,7 +1,7 @@
 -- What words order was done, and reported.
 use Rattle.std.specs.Prelude.{ℕ, ◌≤◌, Bool, false, List, [], length, Option, Result, IsErrAnd, ◌≡◌}
 use Rattle.std.specs.Io.KnownBytes.{Keeps}
-use Rattle.command_line.specs.Requests.{Asked}
+use Rattle.command_line.specs.Requests.{Asked, asked_of}
 use Rattle.intake.specs.Held.{Held, HasText, TellsNoProgram}
 use Rattle.intake.specs.declared.failure.Failure.{Failure}
 use Rattle.objects.specs.Failing.{IsToldAsObject, TellsFailure}
@@ -12,6 +12,7 @@ use Rattle.driver.specs.Objects.{TellsObject}
 use Rattle.driver.specs.Trying.{TestsFolder, TimesRuns}
 use Rattle.driver.specs.declared.doing.Doing.{Doing}
 use Rattle.driver.specs.declared.doing.Doing.TheVariants.{Answering, Describing, Timing}
+use Rattle.driver.specs.declared.loaded.Loaded.{Loaded}
 use Rattle.trials.specs.Folders.{Folders}
 
 -- this was done with the text of a program: what is asked of it, or it was told as one object, or its runs were timed
@@ -21,10 +22,16 @@ DoesWith Answering a text held later old new r = Performs a.action a.file a.sett
 DoesWith (Describing x) a text held later old new r = TellsObject x a.file a.settings text held later old new r
 DoesWith Timing a text held later old new r = TimesRuns a.settings text held later old new r
 
+-- the same of a request and the text of its file
+abbrev pub DoesWithLoaded : Doing → Loaded → (held later : Held) → (old new : Option (List ℕ)) → Result ℕ Failure
+    → Type 0
+DoesWithLoaded d l held later old new r = DoesWith d (asked_of l.request) l.text.now held later old new r
+
 -- why a file has no text of a program was told as one object where that is done; else nothing was written
 abbrev pub TellsUnread : Doing → (file : List ℕ) → (old new : Option (List ℕ)) → Failure → Type 0
 TellsUnread (Describing x) file old new f = IsToldAsObject (TellsFailure file [] f) old new
-TellsUnread _ file old new f = Keeps old new
+TellsUnread Answering file old new f = Keeps old new
+TellsUnread Timing file old new f = Keeps old new
 
 -- the failure says why a file has no text of a program, and so it was told
 pub record HasNone (d : Doing) (held : Held) (file : List ℕ) (old new : Option (List ℕ)) (f : Failure) : Type 0 where

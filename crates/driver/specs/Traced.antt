@@ -3,6 +3,8 @@ use Rattle.std.specs.Prelude.{ℕ, ℤ, ◌≡◌, List, Option, Some, None, Res
 use Rattle.std.specs.String.{string_bytes}
 use Rattle.types.specs.Code.{Program}
 use Rattle.types.specs.Outcome.{Outcome, outcome}
+use Rattle.types.specs.Translation.{input as lists_in, outcome as outcome_in}
+use Rattle.types.specs.Typed.{code_of}
 use Rattle.events.specs.Events.{Event}
 use Rattle.race_checker.specs.Clash.{IsAccepted}
 use Rattle.gather.specs.RunErrors.{IsCause}
@@ -15,7 +17,9 @@ use Rattle.intake.specs.Held.{Held}
 use Rattle.intake.specs.declared.failure.Failure.{Failure}
 use Rattle.intake.specs.declared.failure.Failure.TheVariants.{Run as RunFailed, StrangeEvents, CannotWrite, NoMemory}
 use Rattle.answers.specs.Answers.{HasInput, IsExplored, IsTraced}
+use Rattle.answers.specs.declared.question.Begun.{Begun}
 use Rattle.viewing.specs.Files.{WritesTo}
+use Rattle.driver.specs.declared.tracing.Ran.{Ran}
 
 -- what a run is asked for
 abbrev pub header_of : Settings → TraceHeader
@@ -47,11 +51,24 @@ pub record HasRun (s : Settings) (held : Held) (text : List ℕ) (code : Program
   pub given : HasInput s held text code input
   pub is_outcome : o ≡ outcome code input s.budget
 
+-- this is such a run
+abbrev pub IsRunOf : Settings → Held → (text : List ℕ) → Ran → Type 0
+IsRunOf s held text r = HasRun s held text (code_of r.given.accepted.typed) (outcome_in r.outcome)
+
 -- where a file is named the right bytes are written to it, and to no other; else to none
 abbrev pub WritesTrace : {T : Type 0} → (file : Option (List ℕ)) → (AreRight : (bytes : List ℕ) → Type 0)
     → (held later : Held) → Result T Failure → Type 0
 WritesTrace None AreRight held later r = later ≡ held
 WritesTrace (Some name) AreRight held later r = WritesTo name AreRight held later r
+
+-- so the trace of a run of a text's program is written
+abbrev pub TracesRun : {T : Type 0} → Settings → (text : List ℕ) → (held later : Held) → Result T Failure → Type 0
+TracesRun s text held later r = WritesTrace s.trace (IsTraceOfText s held text) held later r
+
+-- so is that of a program that was had, on its input
+abbrev pub TracesBegun : {T : Type 0} → Settings → Begun → (held later : Held) → Result T Failure → Type 0
+TracesBegun s given held later r =
+    WritesTrace s.trace (IsTraceOf (code_of given.accepted.typed) (lists_in given.input) s) held later r
 
 -- why a run has no outcome; only want of memory is free
 abbrev pub TellsNoOutcome : Settings → Failure → Type 0

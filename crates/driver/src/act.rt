@@ -2,7 +2,7 @@
 
 ghost use Rattle.std.specs.Prelude.{ℕ, ◌≡◌, ◌≤◌, ◌⊎◌, List, codes, true, false, map, Err};
 ghost use Rattle.std.specs.String.{string_bytes};
-ghost use Rattle.driver.specs.Acts.{IsSaid, Reports, in_short};
+ghost use Rattle.driver.specs.Acts.{IsSaid, Reports, TellsMistake, in_short};
 ghost use Rattle.intake.specs.Failures.{TellsNotUtf8};
 ghost use Rattle.intake.specs.declared.failure.Failure.{Failure as FailureOf};
 ghost use Rattle.command_line.specs.Requests.{Asked, Asks};
@@ -11,9 +11,11 @@ ghost use Rattle.reading.specs.Orders.{AsksForObject, AsksToTest, AsksToTime};
 ghost use Rattle.reading.specs.Orders.{Order as OrderIn, Orders, names_once as order_names_once, order as order_said};
 ghost use Rattle.reading.specs.declared.order.Subject.{Subject};
 ghost use Rattle.driver.specs.Orders.{Acts, ActsOn, TellsAs, TestsAs, TimesAs};
+ghost use Rattle.options.specs.Replies.{IsMistake};
+ghost use Rattle.texts.specs.Appending.{AppendsBeginning};
 
 use crate::answered::Answered;
-use crate::doing::{Doing, read_and_do};
+use crate::doing::{Doing, Ordered, read_and_do};
 use crate::refusal::Refusal;
 use crate::terminal::Terminal;
 use crate::trying::test;
@@ -29,9 +31,9 @@ use std::thread::Threads;
 use texts::emit::append;
 use trials::folders::FolderSource;
 
-/// Does what the words behind the program's name order, and answers the exit status. Words that name a file twice are a
-/// mistake, so that none is lost that is read. `--progress` has `terminal` told how far a run has come, and `bench` has
-/// the time from it.
+/// Does what the words behind the program's name order, and answers the exit status. Words that give the same name to
+/// two files are a mistake: nothing is read and written by one name. `--progress` has `terminal` told how far a run
+/// has come, and `bench` has the time from it.
 pub fn act<R: Threads + Wait + Sync, F: FolderSource, O: Write, E: Write, T: Terminal>(
     rt: &R,
     alloc: Global,
@@ -55,7 +57,8 @@ pub fn act<R: Threads + Wait + Sync, F: FolderSource, O: Write, E: Write, T: Ter
         → TestsAs folder (F.named files.old) (F.held files.old) (F.held files.new)
         (O.contents out.old) (O.contents out.new) (E.contents err.old) (E.contents err.new) result }
     ensures twice { (o : OrderIn) → Orders (map string_bytes words.now) o → order_names_once o ≡ false
-        → (result ≤ 1) × (F.held files.new ≡ F.held files.old) }
+        → (F.held files.new ≡ F.held files.old) × TellsMistake (O.contents out.old) (O.contents out.new)
+        (E.contents err.old) (E.contents err.new) result }
     ensures always { ((result ≤ 1) × (F.held files.new ≡ F.held files.old)) ⊎ ((o : OrderIn)
         × ActsOn o (F.named files.old) (F.held files.old) (F.held files.new)
         (O.contents out.old) (O.contents out.new) (E.contents err.old) (E.contents err.new) result) }
@@ -82,16 +85,18 @@ fn carry_out<R: Threads + Wait + Sync, F: FolderSource, O: Write, E: Write, T: T
 {
     match order {
         Order::AsText(request) => {
-            let done = read_and_do(rt, alloc, Doing::Answering, request, files, out, terminal);
+            let doing = Doing::Answering;
+            let done = read_and_do(rt, alloc, Ordered { doing, request }, files, out, terminal);
             report(done, request.telling.explain, err)
         }
         Order::AsObject(subject, request) => {
             let doing = Doing::Describing(subject);
-            let done = read_and_do(rt, alloc, doing, request, files, out, terminal);
+            let done = read_and_do(rt, alloc, Ordered { doing, request }, files, out, terminal);
             report(done, request.telling.explain, err)
         }
         Order::Times(request) => {
-            let done = read_and_do(rt, alloc, Doing::Timing, request, files, out, terminal);
+            let doing = Doing::Timing;
+            let done = read_and_do(rt, alloc, Ordered { doing, request }, files, out, terminal);
             report(done, request.telling.explain, err)
         }
         Order::Tests(folder) => {
@@ -132,7 +137,9 @@ fn tell_command_line<O: Write, E: Write>(
     out: &mut O,
     err: &mut E,
 ) -> u8
-    ensures { result ≤ 1 }
+    ensures always { result ≤ 1 }
+    ensures mistake { IsMistake reply.now → TellsMistake (O.contents out.old) (O.contents out.new)
+        (E.contents err.old) (E.contents err.new) result }
 {
     match reply {
         Reply::Said(error) => match format!(in alloc; "{error}") {
@@ -156,9 +163,10 @@ fn hand_out<O: Write, E: Write>(out: &mut O, err: &mut E, text: &str) -> u8
     }
 }
 
-/// Writes a mistake in the words to the other output.
+/// Writes a mistake in the words to the other output, as far as it is taken.
 fn refuse<E: Write>(err: &mut E, line: &str) -> u8
-    ensures { result ≤ 1 }
+    ensures status { result ≡ 1 }
+    ensures told { AppendsBeginning (E.contents err.old) (E.contents err.new) line.now }
 {
     let _ = append(err, line.as_bytes());
     1

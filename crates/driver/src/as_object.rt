@@ -6,12 +6,15 @@ ghost use Rattle.command_line.specs.Requests.{settings as settings_of};
 ghost use Rattle.reading.specs.Orders.{command_of};
 ghost use Rattle.objects.specs.Objects.{FailsEarly, ObjectOf};
 ghost use Rattle.driver.specs.Acts.{Leaves};
-ghost use Rattle.driver.specs.Objects.{TellsObject, status_in};
-ghost use Rattle.driver.specs.Traced.{IsTraceOfText, WritesTrace};
+ghost use Rattle.driver.specs.Objects.{status_in};
+ghost use Rattle.driver.specs.Orders.{DoesWithLoaded};
+ghost use Rattle.driver.specs.Traced.{TracesRun};
+ghost use Rattle.driver.specs.declared.doing.Doing.TheVariants.{Describing};
 
+use crate::loaded::Loaded;
 use crate::tracing::run_of;
 use answers::question::Question;
-use command_line::request::{Command, Request};
+use command_line::request::Command;
 use intake::failure::Failure;
 use intake::files::FileSource;
 use objects::outcomes::outcome_told;
@@ -29,17 +32,20 @@ use std::thread::Threads;
 /// Tells what is asked of a text as one object, or why there is no answer.
 pub(crate) fn told<R: Threads + Wait + Sync, F: FileSource, O: Write, W: Watch>(
     rt: &R,
-    alloc: Global,
     subject: Subject,
-    request: Request<'_>,
-    text: &str,
+    loaded: Loaded<'_>,
     files: &mut F,
     out: &mut O,
     watch: &mut W,
 ) -> Result<u8, Failure>
-    ensures { TellsObject subject request.entry.file.now (settings_of request.entry.settings) text.now
-        (F.held files.old) (F.held files.new) (O.contents out.old) (O.contents out.new) result }
+    ensures { DoesWithLoaded (Describing subject) loaded.entry (F.held files.old) (F.held files.new)
+        (O.contents out.old) (O.contents out.new) result }
 {
+    let Loaded {
+        alloc,
+        request,
+        text,
+    } = loaded;
     let question = Question {
         text,
         settings: request.settings,
@@ -89,9 +95,8 @@ fn run_told<R: Threads + Wait + Sync, F: FileSource>(
         (F.held files.old) question.entry.text.now (string_bytes t.line) t.status) }
     ensures why { IfErr result (FailsEarly Command.Run (settings_of question.entry.settings)
         (F.held files.old) question.entry.text.now) }
-    ensures trace { let s = settings_of question.entry.settings in WritesTrace s.trace
-        (IsTraceOfText s (F.held files.old) question.entry.text.now) (F.held files.old) (F.held files.new)
-        (status_in result) }
+    ensures trace { TracesRun (settings_of question.entry.settings) question.entry.text.now
+        (F.held files.old) (F.held files.new) (status_in result) }
 {
     let ran = run_of(rt, alloc, question, files)?;
     outcome_told(

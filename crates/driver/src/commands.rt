@@ -2,9 +2,11 @@
 
 ghost use Rattle.answers.specs.Answers.{Does};
 ghost use Rattle.command_line.specs.Requests.{settings as settings_of};
-ghost use Rattle.driver.specs.Acts.{Performs};
-ghost use Rattle.driver.specs.Traced.{IsTraceOfText, WritesTrace};
+ghost use Rattle.driver.specs.Orders.{DoesWithLoaded};
+ghost use Rattle.driver.specs.Traced.{TracesRun};
+ghost use Rattle.driver.specs.declared.doing.Doing.TheVariants.{Answering};
 
+use crate::loaded::Loaded;
 use crate::tracing::run_of;
 use answers::costing::{Shares, tell_cost};
 use answers::formatting::{check_format, format};
@@ -13,7 +15,7 @@ use answers::question::Question;
 use answers::running::{run_by_choices, run_serially};
 use answers::showing::show;
 use answers::telling::{About, check, pairs};
-use command_line::request::{Action, Command, Request};
+use command_line::request::{Action, Command};
 use intake::failure::Failure;
 use intake::files::FileSource;
 use rewriting::rewrite::rewrite;
@@ -28,17 +30,19 @@ use viewing::tables::{Look, view};
 /// What is asked of the text of a program.
 pub fn perform<R: Threads + Wait + Sync, F: FileSource, O: Write, W: Watch>(
     rt: &R,
-    alloc: Global,
-    request: Request<'_>,
-    text: &str,
+    loaded: Loaded<'_>,
     files: &mut F,
     out: &mut O,
     watch: &mut W,
 ) -> Result<u8, Failure>
-    ensures { Performs request.entry.action request.entry.file.now
-        (settings_of request.entry.settings) text.now
-        (F.held files.old) (F.held files.new) (O.contents out.old) (O.contents out.new) result }
+    ensures { DoesWithLoaded Answering loaded.entry (F.held files.old) (F.held files.new)
+        (O.contents out.old) (O.contents out.new) result }
 {
+    let Loaded {
+        alloc,
+        request,
+        text,
+    } = loaded;
     let question = Question {
         text,
         settings: request.settings,
@@ -78,8 +82,8 @@ fn run_as_tasks<R: Threads + Wait + Sync, F: FileSource, O: Write>(
 ) -> Result<u8, Failure>
     ensures done { Does Command.Run (settings_of question.entry.settings) (F.held files.old)
         question.entry.text.now (O.contents out.old) (O.contents out.new) result }
-    ensures trace { let s = settings_of question.entry.settings in WritesTrace s.trace
-        (IsTraceOfText s (F.held files.old) question.entry.text.now) (F.held files.old) (F.held files.new) result }
+    ensures trace { TracesRun (settings_of question.entry.settings) question.entry.text.now
+        (F.held files.old) (F.held files.new) result }
 {
     let ran = run_of(rt, alloc, question, files)?;
     show(

@@ -2,14 +2,17 @@
 
 ghost use Rattle.std.specs.Prelude.{◌≡◌};
 ghost use Rattle.command_line.specs.Requests.{asked_of};
-ghost use Rattle.driver.specs.Acts.{IsHandedOn, IsSaid, in_short};
-ghost use Rattle.driver.specs.Orders.{DoesWith, ReadsAnd, TellsUnread};
+ghost use Rattle.driver.specs.Acts.{IsSaid, in_short};
+ghost use Rattle.driver.specs.Orders.{DoesWithLoaded, ReadsAnd, TellsUnread};
 
 use crate::answered::Answered;
 use crate::as_object::told;
 use crate::commands;
+use crate::handing::handed_on;
+use crate::loaded::Loaded;
+use crate::opening::source_of;
 use crate::refusal::Refusal;
-use crate::source::{Source, source_of};
+use crate::source::Source;
 use crate::terminal::Terminal;
 use crate::trying::time;
 use answers::question::Question;
@@ -34,20 +37,28 @@ pub enum Doing {
     Timing,
 }
 
+/// What is done with the text of a program, and what is asked of it.
+#[derive(Clone, Copy)]
+pub struct Ordered<'o> {
+    pub doing: Doing,
+    pub request: Request<'o>,
+}
+
 /// Reads a program, and does this with its text.
 pub fn read_and_do<R: Threads + Wait + Sync, F: FileSource, O: Write, T: Terminal>(
     rt: &R,
     alloc: Global,
-    doing: Doing,
-    request: Request<'_>,
+    ordered: Ordered<'_>,
     files: &mut F,
     out: &mut O,
     terminal: &mut T,
 ) -> Result<Answered, Refusal>
-    ensures done { ReadsAnd doing (asked_of request.entry) (F.held files.old) (F.held files.new)
+    ensures done { ReadsAnd ordered.entry.doing (asked_of ordered.entry.request)
+        (F.held files.old) (F.held files.new)
         (O.contents out.old) (O.contents out.new) (in_short result) }
-    ensures said { IsSaid request.entry.telling.explain result }
+    ensures said { IsSaid ordered.entry.request.telling.explain result }
 {
+    let Ordered { doing, request } = ordered;
     let source = match source_of(alloc, files, request, terminal) {
         Ok(source) => source,
         Err(refusal) => {
@@ -56,7 +67,12 @@ pub fn read_and_do<R: Threads + Wait + Sync, F: FileSource, O: Write, T: Termina
         }
     };
     let text = source.text.as_str();
-    let done = do_with(rt, alloc, doing, request, text, files, out, terminal);
+    let loaded = Loaded {
+        alloc,
+        request,
+        text,
+    };
+    let done = do_with(rt, doing, loaded, files, out, terminal);
     explained(rt, alloc, files, request, &source, done)
 }
 
@@ -81,46 +97,29 @@ fn tell_unread<R: Threads + Sync, O: Write>(
 /// Does this with a text.
 fn do_with<R: Threads + Wait + Sync, F: FileSource, O: Write, T: Terminal>(
     rt: &R,
-    alloc: Global,
     doing: Doing,
-    request: Request<'_>,
-    text: &str,
+    loaded: Loaded<'_>,
     files: &mut F,
     out: &mut O,
     terminal: &mut T,
 ) -> Result<u8, Failure>
-    ensures { DoesWith doing (asked_of request.entry) text.now (F.held files.old) (F.held files.new)
+    ensures { DoesWithLoaded doing loaded.entry (F.held files.old) (F.held files.new)
         (O.contents out.old) (O.contents out.new) result }
 {
     match doing {
         Doing::Answering => {
-            let done = commands::perform(rt, alloc, request, text, files, out, terminal);
+            let done = commands::perform(rt, loaded, files, out, terminal);
             handed_on(out, done)
         }
-        Doing::Describing(subject) => {
-            told(rt, alloc, subject, request, text, files, out, terminal)
-        }
+        Doing::Describing(subject) => told(rt, subject, loaded, files, out, terminal),
         Doing::Timing => {
             let question = Question {
-                text,
-                settings: request.settings,
+                text: loaded.text,
+                settings: loaded.request.settings,
             };
-            let done = time(rt, alloc, question, files, out, terminal);
+            let done = time(rt, loaded.alloc, question, files, out, terminal);
             handed_on(out, done)
         }
-    }
-}
-
-/// Hands on what a writer keeps back of an answer, where there is one.
-pub(crate) fn handed_on<O: Write>(out: &mut O, done: Result<u8, Failure>) -> Result<u8, Failure>
-    ensures { IsHandedOn done (O.contents out.old) (O.contents out.new) result }
-{
-    match done {
-        Ok(status) => match out.flush() {
-            Ok(()) => Ok(status),
-            Err(_) => Err(Failure::CannotWriteOutput),
-        },
-        Err(failure) => Err(failure),
     }
 }
 

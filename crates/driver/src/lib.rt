@@ -5,8 +5,11 @@
 pub mod act;
 mod answered;
 mod as_object;
-pub mod commands;
+mod commands;
 mod doing;
+mod handing;
+mod loaded;
+mod opening;
 mod refusal;
 mod said;
 mod source;

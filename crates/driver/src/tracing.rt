@@ -2,14 +2,13 @@
 
 ghost use Rattle.std.specs.Prelude.{◌≡◌, ◌<◌, IfErr, IfOk};
 ghost use Rattle.std.specs.String.{string_bytes};
-ghost use Rattle.types.specs.Translation.{input as lists_in, outcome as outcome_in};
+ghost use Rattle.types.specs.Translation.{input as lists_in};
 ghost use Rattle.types.specs.Typed.{code_of};
 ghost use Rattle.command_line.specs.Requests.{settings as settings_of};
 ghost use Rattle.answers.specs.Answers.{IsTraced};
 ghost use Rattle.answers.specs.Outcomes.{Fits, IsOutcomeOf};
 ghost use Rattle.objects.specs.Objects.{FailsEarly};
-ghost use Rattle.driver.specs.Traced.{HasRun, IsTraceOf, IsTraceOfText, TellsNoOutcome, TellsNoRun};
-ghost use Rattle.driver.specs.Traced.{WritesTrace};
+ghost use Rattle.driver.specs.Traced.{IsRunOf, IsTraceOf, TellsNoOutcome, TellsNoRun, TracesBegun, TracesRun};
 
 use answers::question::{Begun, Question};
 use command_line::request::{Command, Settings, Spread};
@@ -40,12 +39,12 @@ pub fn run_of<R: Threads + Wait + Sync, F: FileSource>(
     question: Question<'_>,
     files: &mut F,
 ) -> Result<Ran, Failure>
-    ensures ran { IfOk result (λ r. HasRun (settings_of question.entry.settings) (F.held files.old)
-        question.entry.text.now (code_of r.given.accepted.typed) (outcome_in r.outcome)) }
+    ensures ran { IfOk result (IsRunOf (settings_of question.entry.settings) (F.held files.old)
+        question.entry.text.now) }
     ensures why { IfErr result (FailsEarly Command.Run (settings_of question.entry.settings)
         (F.held files.old) question.entry.text.now) }
-    ensures trace { let s = settings_of question.entry.settings in WritesTrace s.trace
-        (IsTraceOfText s (F.held files.old) question.entry.text.now) (F.held files.old) (F.held files.new) result }
+    ensures trace { TracesRun (settings_of question.entry.settings) question.entry.text.now
+        (F.held files.old) (F.held files.new) result }
 {
     let given = question.begun(rt, alloc, files)?;
     let outcome = outcome_of(rt, alloc, question.settings, &given, files)?;
@@ -64,8 +63,7 @@ fn outcome_of<R: Threads + Wait + Sync, F: FileSource>(
     ensures outcome { IfOk result
         (IsOutcomeOf given.now.accepted.typed given.now.input settings.entry.budget) }
     ensures why { IfErr result (TellsNoRun (settings_of settings.entry)) }
-    ensures trace { let s = settings_of settings.entry in WritesTrace s.trace
-        (IsTraceOf (code_of given.now.accepted.typed) (lists_in given.now.input) s)
+    ensures trace { TracesBegun (settings_of settings.entry) given.now
         (F.held files.old) (F.held files.new) result }
 {
     match settings.trace {

@@ -6,7 +6,7 @@ ghost use Rattle.driver.specs.Acts.{IsSaid, in_short};
 ghost use Rattle.driver.specs.Trying.{TestsFolder, TimesRuns};
 
 use crate::answered::Answered;
-use crate::doing::handed_on;
+use crate::handing::handed_on;
 use crate::refusal::Refusal;
 use crate::tracing::run_settings;
 use answers::question::Question;

@@ -1,12 +1,12 @@
 -- What is read of choices, byte by byte, and of a file of them.
-use Rattle.std.proofs.Common.{◌≡◌, ℕ, List, [], ◌∷◌, Option, Some, None, Ok, Err, sym, ap, ◌∙◌, subst, arith}
+use Rattle.std.proofs.Common.{◌≡◌, ℕ, List, [], ◌∷◌, Option, Some, None, Ok, Err, ap, ◌∙◌, arith}
 use Rattle.std.specs.Prelude.{option_map}
-use Rattle.intake.specs.Choices.{Reading, filed_by, goes_on, read_from, read_of_file, said_by, with_byte}
+use Rattle.intake.specs.Choices.{Reading, filed_by, goes_on, read_from, read_of_file, with_byte}
 use Rattle.intake.specs.Choices.{with_byte_of_file}
 use Rattle.intake.specs.Choosing.{SaysChoices, TellsNoChoices, TellsNone}
 use Rattle.intake.specs.Failures.{TellsUnread}
 use Rattle.intake.specs.Held.{Held, IsGiven, first}
-use Rattle.command_line.specs.Requests.{Choosing, InFile, Listed}
+use Rattle.command_line.specs.Requests.{InFile}
 use Rattle.intake.specs.declared.failure.Failure.{Failure}
 use Rattle.intake.specs.declared.failure.Failure.TheVariants.{CannotRead, ChoicesNotUnderstood, NoMemory}
 use Rattle.intake.specs.declared.files.FileError.TheVariants.{Failed as Unread}
@@ -16,10 +16,6 @@ use Rattle.intake.proofs.Programs.{filed_whole, not_read}
 pub read_on : (r s : Reading) (byte : ℕ) (behind : List ℕ) → with_byte r byte ≡ Some s
     → read_from r (byte ∷ behind) ≡ read_from s behind
 read_on r s byte behind is = ap (goes_on (λ t. read_from t behind)) is
-
--- one that doesn't
-pub stuck : (r : Reading) (byte : ℕ) (behind : List ℕ) → with_byte r byte ≡ None → read_from r (byte ∷ behind) ≡ None
-stuck r byte behind is = ap (goes_on (λ t. read_from t behind)) is
 
 -- ---- of a file
 
@@ -45,14 +41,3 @@ pub file_unread : (held : Held) (name : List ℕ) (f : Failure) → TellsUnread 
 file_unread held name (CannotRead told) is given = (is, not_read (held name) 16777217 given)
 file_unread held name NoMemory is given = tt
 file_unread held name _ is given = absurd is
-
--- and of a list
-pub list_says_none : (held : Held) (text : List ℕ) (f : Failure) → TellsNone (said_by text) f
-    → TellsNoChoices (Some (Listed text)) held f
-list_says_none held text ChoicesNotUnderstood told = told
-list_says_none held text NoMemory told = tt
-list_says_none held text _ told = absurd told
-
--- want of memory tells of no choices
-pub no_memory_tells : (c : Option Choosing) (held : Held) (f : Failure) → f ≡ NoMemory → TellsNoChoices c held f
-no_memory_tells c held f is = subst (TellsNoChoices c held) (sym is) tt

@@ -2,7 +2,7 @@
 use Rattle.std.proofs.Common.{◌≡◌, ◌≢◌, ℕ, List, [], Option, Some, Result, Ok, Err, ap, sym, subst, ◌∙◌}
 use Rattle.std.proofs.Common.{Global, String, string_bytes}
 use Rattle.std.specs.declared.alloc.AllocError.{AllocError}
-use Rattle.std.proofs.KnownBytes.{Keeps-refl, Appends-kept}
+use Rattle.std.proofs.KnownBytes.{Appends-kept}
 use Rattle.std.proofs.lemmas.List.{append-nil}
 use Rattle.std.specs.Io.KnownBytes.{Keeps}
 use Rattle.std.specs.Prelude.{IfErr, IfOk, IfSome, MatchResult}
@@ -33,7 +33,7 @@ use Rattle.race_objects.specs.Races.{race_json}
 use Rattle.answers.proofs.Answering.{listed_as}
 use Rattle.objects.specs.Objects.{ArePlaces, ObjectOfPairs}
 use Rattle.objects.specs.declared.told.Told.{Told}
-use Rattle.objects.specs.Failing.{FailedAsObject, IsToldAsObject, ShowsRace, TellsPlaced, TellsRace, told, untold}
+use Rattle.objects.specs.Failing.{FailedAsObject, IsToldAsObject, ShowsRace, TellsPlaced, TellsRace, told}
 
 ok_is_no_error : {A E : Type 0} (x : A) (e : E) → (let r : Result A E = Ok x in r) ≡ Err e → ⊥
 ok_is_no_error x e is = cc
@@ -58,10 +58,6 @@ kept_begun a b c t p keeps = record {
 pub flushed : {T E : Type 0} (Tells : List ℕ → Type 0) (a b c : Option (List ℕ)) (r : Result T E) (t : List ℕ) → Tells t
     → Writes a b r t → Keeps b c → IsToldAsObject Tells a c
 flushed Tells a b c r t tells written keeps = told t tells (kept_begun a b c t (begun_by a b r t written) keeps)
-
--- none was
-pub silent : (Tells : List ℕ → Type 0) (a : Option (List ℕ)) → IsToldAsObject Tells a a
-silent Tells a = untold (Keeps-refl a)
 
 -- a failure that is told with the places of the text's program
 pub placed_told : (file text object : List ℕ) (f : Failure) (places shown : List Place) → shown ≡ places

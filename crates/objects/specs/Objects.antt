@@ -14,7 +14,10 @@ use Rattle.cost.specs.declared.cost.Cost.{Cost as Numbers}
 use Rattle.texts.specs.OutcomeText.{status_of}
 use Rattle.command_line.specs.Requests.{Settings}
 use Rattle.command_line.specs.declared.request.Command.{Command}
-use Rattle.command_line.specs.declared.request.Command.TheVariants.{Run, Serial, Check, Pairs, Cost}
+use Rattle.command_line.specs.declared.request.Command.TheVariants.{Run, Serial, Check, Listing, Pairs, Explore}
+use Rattle.command_line.specs.declared.request.Command.TheVariants.{Labels, Places, Format, CheckFormat}
+use Rattle.command_line.specs.declared.request.Command.TheVariants.{View, Summary, Draw, Chrome, Cost}
+use Rattle.command_line.specs.declared.request.Command.TheVariants.{CostByLabel, CostByProcedure}
 use Rattle.intake.specs.Held.{Held}
 use Rattle.intake.specs.declared.failure.Failure.{Failure}
 use Rattle.intake.specs.declared.failure.Failure.TheVariants.{CannotWriteOutput}
@@ -73,7 +76,18 @@ ObjectOf Serial s held text told status = ObjectOfSerial s held text told status
 ObjectOf Check s held text told status = ObjectOfCheck text told status
 ObjectOf Cost s held text told status = ObjectOfCost s held text told status
 ObjectOf Pairs s held text told status = ObjectOfPairs text told status
-ObjectOf _ s held text told status = ⊥
+ObjectOf Listing s held text told status = ⊥
+ObjectOf Explore s held text told status = ⊥
+ObjectOf Labels s held text told status = ⊥
+ObjectOf Places s held text told status = ⊥
+ObjectOf Format s held text told status = ⊥
+ObjectOf CheckFormat s held text told status = ⊥
+ObjectOf CostByLabel s held text told status = ⊥
+ObjectOf CostByProcedure s held text told status = ⊥
+ObjectOf View s held text told status = ⊥
+ObjectOf Summary s held text told status = ⊥
+ObjectOf Draw s held text told status = ⊥
+ObjectOf Chrome s held text told status = ⊥
 
 -- there is a reason why there is no object, and it isn't that none could be written
 pub record FailsEarly (c : Command) (s : Settings) (held : Held) (text : List ℕ) (f : Failure) : Type 0 where

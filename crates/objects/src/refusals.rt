@@ -9,7 +9,6 @@ ghost use Rattle.objects.specs.Failing.{ShowsRace, TellsFailure, TellsPlaced, Te
 
 use crate::outcomes::places_in;
 use answers::programs::typed_of;
-use effects::laws::typed_programs_are_sound;
 use intake::failure::Failure;
 use json_answers::refusals::refusal_object;
 use race_checker::check::{Refused, check};
@@ -18,6 +17,7 @@ use race_objects::races::{Found, race_object};
 use std::alloc::{AllocError, Global};
 use std::thread::Threads;
 use syntax::Place;
+use types::laws::typed_programs_are_sound;
 use types::typed::Typed;
 use witness::witness::witness_of;
 

@@ -1,11 +1,10 @@
 -- What `fmt --write` leaves, and why it fails.
-use Rattle.std.proofs.Common.{◌≡◌, ◌≢◌, ℕ, List, [], Option, Result, Ok, Err, ap, ◌∙◌, refl, subst, sym}
+use Rattle.std.proofs.Common.{◌≡◌, ◌≢◌, ℕ, List, [], Option, Result, Ok, Err, ap, refl, subst, sym}
 use Rattle.std.specs.Prelude.{IfErr, IfOk, IsErrAnd}
 use Rattle.std.specs.Str.{chars}
 use Rattle.syntax.specs.Lexical.{AreTokensOf}
 use Rattle.syntax.specs.Spelling.{spelling}
 use Rattle.syntax_tree.specs.Tree as tree
-use Rattle.layout.specs.Kept.{IsLaidOut}
 use Rattle.texts.specs.Appending.{Writes}
 use Rattle.intake.specs.Failures.{TellsUnwritten}
 use Rattle.intake.specs.Held.{Held, IsGiven, KeepsOthers}
@@ -109,12 +108,6 @@ module _ (file text : List ℕ) where
     leaves_anyway (Ok n) leaves only = leaves
     leaves_anyway (Err f) leaves only =
         subst (λ (g : Failure). LeavesRewritten file text held later (Err g)) (sym only) leaves
-
--- two texts that were found to be the same
-pub same_laid : (told laid text : List ℕ) → told ≡ laid → told ≡ text → IsLaidOut (chars text) (chars laid)
-    → IsLaidOut (chars text) (chars text)
-same_laid told laid text of same laid_out =
-    subst (λ (l : List ℕ). IsLaidOut (chars text) (chars l)) (sym of ∙ same) laid_out
 
 -- what was written
 pub rewrote : (file text laid bytes : List ℕ) (held later : Held) (program : tree.Program) → bytes ≡ laid

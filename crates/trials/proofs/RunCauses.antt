@@ -1,5 +1,5 @@
 -- Why a run as tasks has no outcome.
-use Rattle.std.proofs.Common.{◌≡◌, subst, refl, sym}
+use Rattle.std.proofs.Common.{◌≡◌, subst, refl}
 use Rattle.gather.specs.RunErrors.{IsCause}
 use Rattle.command_line.specs.Requests.{Settings}
 use Rattle.command_line.specs.declared.request.Command.TheVariants.{Run}
@@ -16,9 +16,6 @@ pub same_tasks : (s t : Settings) → s.spread.tasks ≡ t.spread.tasks → (f :
 same_tasks s t same (RunFailed e) told = subst (λ (n : ℕ). IsCause n e) same told
 same_tasks s t same NoMemory told = tt
 same_tasks s t same _ told = absurd told
-
-pub memory_tells_no_run : (s : Settings) (f : Failure) → f ≡ NoMemory → TellsNoRun s f
-memory_tells_no_run s f is = subst (TellsNoRun s) (sym is) tt
 
 -- of a text's program without a race, on its input
 pub no_run_explained : (s : Settings) (held : Held) (text : List ℕ) → IsExplored s held text → (f : Failure) → TellsNoRun s f

@@ -1,6 +1,6 @@
 -- A program of a folder, and what is found of it.
-use Rattle.std.proofs.Common.{◌≡◌, ℕ, List, ◌++◌, Option, Some, None, Result, Ok, refl, sym, ap, ◌∙◌, subst, codes}
-use Rattle.std.specs.Prelude.{ℤ, Bool, true, false, if◌then◌else◌, IfOk}
+use Rattle.std.proofs.Common.{◌≡◌, ℕ, List, Result, Ok, refl, sym, subst, codes}
+use Rattle.std.specs.Prelude.{ℤ, Bool, false, IfOk}
 use Rattle.std.specs.Str.{bytes_eq}
 use Rattle.types.specs.Code.{Program}
 use Rattle.types.specs.Outcome.{Budget, Outcome, outcome}
@@ -13,21 +13,9 @@ use Rattle.intake.specs.Held.{Held, BeginsWith, HasText, IsGiven, TellsNoProgram
 use Rattle.intake.specs.declared.failure.Failure.{Failure}
 use Rattle.intake.specs.declared.failure.Failure.TheVariants.{NoMemory}
 use Rattle.answers.specs.Answers.{IsCodeOf}
-use Rattle.trials.specs.Trials.{Trial, IsCompared, IsUncompared, file, has_name, input_file, told_by, without_output}
+use Rattle.trials.specs.Trials.{Trial, IsCompared, IsUncompared, file, input_file, told_by, without_output}
 
 -- ---- files
-
-abbrev named_if : Trial → Bool → Option (List ℕ)
-named_if t has = if has then Some (file t (codes ".json")) else None
-
--- the file of its input is named where the folder has one
-pub input_named : (t : Trial) (has : Bool) (name : List ℕ) → has ≡ has_name t.folder.names (t.stem ++ codes ".json")
-    → has ≡ true → name ≡ file t (codes ".json") → Some name ≡ input_file t
-input_named t has name of is same = ap Some same ∙ ap (named_if t) (sym is ∙ of)
-
-pub no_input_named : (t : Trial) (has : Bool) → has ≡ has_name t.folder.names (t.stem ++ codes ".json") → has ≡ false
-    → (let none : Option (List ℕ) = None in none) ≡ input_file t
-no_input_named t has of is = ap (named_if t) (sym is ∙ of)
 
 -- want of memory is told of any
 pub memory_uncompared : (held : Held) (t : Trial) (f : Failure) → f ≡ NoMemory → IsUncompared held t f

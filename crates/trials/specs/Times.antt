@@ -1,5 +1,5 @@
 -- How long runs of a program take, and what is told of that.
-use Rattle.std.specs.Prelude.{ℕ, ◌≡◌, ◌≢◌, List, ◌++◌, length, false, codes}
+use Rattle.std.specs.Prelude.{ℕ, ◌≡◌, ◌≢◌, List, ◌++◌, length, false, Option, Result, codes}
 use Rattle.std.specs.Fmt.{decimal}
 use Rattle.types.specs.Code.{Program}
 use Rattle.types.specs.Outcome.{Outcome, outcome}
@@ -7,8 +7,10 @@ use Rattle.cost.specs.Costs.{cost_of, tally_of}
 use Rattle.cost.specs.declared.cost.Cost.{Cost as Numbers}
 use Rattle.texts.specs.OutcomeText.{status_of}
 use Rattle.intake.specs.Held.{Held}
+use Rattle.intake.specs.declared.failure.Failure.{Failure}
 use Rattle.command_line.specs.Requests.{Settings}
-use Rattle.answers.specs.Answers.{IsExplored, Shows}
+use Rattle.command_line.specs.declared.request.Command.TheVariants.{Run}
+use Rattle.answers.specs.Answers.{Done, Explains, IsExplored, Shows}
 use Rattle.trials.specs.Five.{AreOf}
 use Rattle.trials.specs.declared.times.Times.{Times}
 use Rattle.trials.specs.declared.times.Timed.{Timed}
@@ -56,3 +58,7 @@ pub record AnswersTimes (s : Settings) (held : Held) (text told : List ℕ) (sta
   pub run : IsExplored s held text
   pub tells : TellsTimes run.code (outcome run.code run.input s.budget)
       (cost_of (tally_of run.code run.input s.budget)) told status
+
+-- `bench` was done: its answer was written, or why not is why the program isn't run
+abbrev pub DoesBench : Settings → Held → (text : List ℕ) → (old new : Option (List ℕ)) → Result ℕ Failure → Type 0
+DoesBench s held text old new r = Done (AnswersTimes s held text) (Explains Run s held text) old new r

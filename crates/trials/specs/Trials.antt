@@ -1,6 +1,6 @@
 -- What the programs of a folder should tell, and what is told of them.
 use Rattle.std.specs.Prelude.{ℕ, zero, suc, ℤ, ◌≡◌, ◌≢◌, ◌-◌, ◌+◌, Bool, true, false, if◌then◌else◌, List, [], ◌∷◌, ◌++◌, codes}
-use Rattle.std.specs.Prelude.{Option, None, Some, Ok, length, map, take, drop, IsPermutation}
+use Rattle.std.specs.Prelude.{Option, None, Some, Result, Ok, MatchOption, length, map, take, drop, IsPermutation}
 use Rattle.std.specs.Fmt.{decimal}
 use Rattle.std.specs.List.{flat_map}
 use Rattle.std.specs.List.Sorted.{IsSorted}
@@ -19,9 +19,10 @@ use Rattle.intake.specs.Held.{Held, HasText, IsGiven, TellsNoProgram, TellsNoTex
 use Rattle.intake.specs.Messages.{failure_text}
 use Rattle.intake.specs.declared.failure.Failure.{Failure}
 use Rattle.intake.specs.declared.failure.Failure.TheVariants.{CannotWriteOutput}
-use Rattle.answers.specs.Answers.{AnswersRun, Explains}
+use Rattle.answers.specs.Answers.{AnswersRun, Done, Explains}
 use Rattle.trials.specs.Folders.{AreGiven, Folders, TellsNoFolder}
 use Rattle.trials.specs.declared.outcomes.Case.{Case}
+use Rattle.trials.specs.declared.testing.Found.{Found}
 use Rattle.trials.specs.declared.trial.Folder.{Folder as rFolder}
 use Rattle.trials.specs.declared.trial.Trial.{Trial as rTrial}
 
@@ -104,6 +105,10 @@ pub data IsLine (held : Held) (t : Trial) (line : List ℕ) : Type 0 where
   uncompared : (f : Failure) → IsUncompared held t f
       → line ≡ t.stem ++ (codes ".afx: " ++ (failure_text f ++ codes "\n")) → IsLine held t line
 
+-- one without a line passes, and any other has the line of one that fails
+abbrev pub HasLine : Held → Trial → Option (String Global) → Type 0
+HasLine held t line = MatchOption line (IsCompared held t true) (λ l. IsLine held t (string_bytes l))
+
 -- ---- all of them
 
 -- of these programs of a folder so many passed, and so many failed, of which these lines tell
@@ -113,6 +118,17 @@ pub data AreTested (held : Held) (f : Folder) : (stems : List (List ℕ)) → (l
       → IsCompared held (record { folder = f; stem = s }) true → AreTested held f (ss ++ s ∷ []) lines (n + 1) m
   fail : (ss : List (List ℕ)) (s lines line : List ℕ) (n m : ℕ) → AreTested held f ss lines n m
       → IsLine held (record { folder = f; stem = s }) line → AreTested held f (ss ++ s ∷ []) (lines ++ line) n (m + 1)
+
+-- one more is counted, which passed
+abbrev pub AddsPassed : (old new : Found) → Type 0
+AddsPassed old new =
+    (string_bytes new.lines ≡ string_bytes old.lines) × (new.passed ≡ old.passed + 1) × (new.failed ≡ old.failed)
+
+-- one more is counted, which failed, and its line stands behind the others
+abbrev pub AddsFailed : (line : String Global) → (old new : Found) → Type 0
+AddsFailed line old new =
+    (string_bytes new.lines ≡ string_bytes old.lines ++ string_bytes line) × (new.passed ≡ old.passed)
+    × (new.failed ≡ old.failed + 1)
 
 -- the last line: `2 passed, 1 failed`
 abbrev pub closing : (passed failed : ℕ) → List ℕ
@@ -141,3 +157,7 @@ pub record AnswersTest (named : Folders) (held : Held) (name told : List ℕ) (s
 abbrev pub ExplainsTest : Folders → (name : List ℕ) → Failure → Type 0
 ExplainsTest named name CannotWriteOutput = Unit {0}
 ExplainsTest named name f = TellsNoFolder named name f
+
+-- `test` was done: its answer was written, or there is a reason why not
+abbrev pub DoesTest : Folders → Held → (name : List ℕ) → (old new : Option (List ℕ)) → Result ℕ Failure → Type 0
+DoesTest named held name old new r = Done (AnswersTest named held name) (ExplainsTest named name) old new r

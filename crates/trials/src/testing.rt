@@ -2,9 +2,8 @@
 
 ghost use Rattle.std.specs.Prelude.{◌≡◌, ◌+◌, ◌++◌, map, IfErr, IfOk, MatchOption, OnOk};
 ghost use Rattle.std.specs.String.{string_bytes};
-ghost use Rattle.answers.specs.Answers.{Done};
 ghost use Rattle.texts.specs.Appending.{Writes};
-ghost use Rattle.trials.specs.Trials.{AnswersTest, AreTested, ExplainsTest, closing};
+ghost use Rattle.trials.specs.Trials.{AddsFailed, AddsPassed, AreTested, DoesTest, closing};
 ghost use Rattle.trials.specs.Trials.{folder as folder_of, tested_status};
 
 use crate::folders::{FolderSource, read_folder};
@@ -29,8 +28,7 @@ pub fn test_folder<R: Threads + Wait + Sync, F: FolderSource, O: Write, W: Runs>
     files: &mut F,
     out: &mut O,
 ) -> Result<u8, Failure>
-    ensures done { Done (AnswersTest (F.named files.old) (F.held files.old) folder.now)
-        (ExplainsTest (F.named files.old) folder.now)
+    ensures done { DoesTest (F.named files.old) (F.held files.old) folder.now
         (O.contents out.old) (O.contents out.new) result }
     ensures keeps { F.held files.new ≡ F.held files.old }
 {
@@ -57,11 +55,8 @@ struct Found {
 impl Found {
     /// One more: one that passed, or one that failed with this line.
     fn add(&mut self, line: &Option<String>) -> Result<(), Failure>
-        ensures added { OnOk result (MatchOption line.now
-            ((string_bytes self.new.lines ≡ string_bytes self.old.lines)
-            × (self.new.passed ≡ self.old.passed + 1) × (self.new.failed ≡ self.old.failed))
-            (λ l. (string_bytes self.new.lines ≡ string_bytes self.old.lines ++ string_bytes l)
-            × (self.new.passed ≡ self.old.passed) × (self.new.failed ≡ self.old.failed + 1))) }
+        ensures added { OnOk result (MatchOption line.now (AddsPassed self.old self.new)
+            (λ l. AddsFailed l self.old self.new)) }
         ensures why { IfErr result (λ f. f ≡ Failure.NoMemory) }
     {
         match line {

@@ -6,11 +6,9 @@ ghost use Rattle.types.specs.Translation.{budget as budget_of, input as lists_in
 ghost use Rattle.types.specs.Typed.{code_of};
 ghost use Rattle.cost.specs.Costs.{cost_of, tally_of};
 ghost use Rattle.command_line.specs.Requests.{settings as settings_of};
-ghost use Rattle.command_line.specs.declared.request.Command.TheVariants.{Run};
-ghost use Rattle.answers.specs.Answers.{Done, Explains};
 ghost use Rattle.answers.specs.Outcomes.{Fits, IsOutcomeOf};
 ghost use Rattle.trials.specs.Runs.{TellsNoRun};
-ghost use Rattle.trials.specs.Times.{AnswersTimes, AreAllOfFive, AreOfFive, counts};
+ghost use Rattle.trials.specs.Times.{AreAllOfFive, AreOfFive, DoesBench, counts};
 ghost use Rattle.trials.specs.Times.{times_line as line_of_times, times_text};
 ghost use Rattle.trials.specs.declared.times.Timed.{Timed as TimedOf};
 
@@ -50,9 +48,8 @@ pub fn bench<R: Threads + Wait + Sync, F: FileSource, O: Write, W: Runs, C: Stop
     files: &mut F,
     out: &mut O,
 ) -> Result<u8, Failure>
-    ensures done { let s = settings_of question.entry.settings in let text = question.entry.text.now in
-        Done (AnswersTimes s (F.held files.old) text) (Explains Run s (F.held files.old) text)
-        (O.contents out.old) (O.contents out.new) result }
+    ensures done { DoesBench (settings_of question.entry.settings) (F.held files.old)
+        question.entry.text.now (O.contents out.old) (O.contents out.new) result }
     ensures keeps { F.held files.new ≡ F.held files.old }
 {
     let Timing { alloc, runs, clock } = timing;

@@ -1,13 +1,13 @@
 //! Whether a program of a folder tells what it should.
 
-ghost use Rattle.std.specs.Prelude.{◌≡◌, ◌++◌, codes, true, IfErr, IfOk, MatchOption, Ok};
+ghost use Rattle.std.specs.Prelude.{◌≡◌, ◌++◌, codes, IfErr, IfOk, Ok};
 ghost use Rattle.std.specs.String.{string_bytes};
 ghost use Rattle.types.specs.Inputs.{IsInput};
 ghost use Rattle.types.specs.Translation.{input as lists_of};
 ghost use Rattle.types.specs.Typed.{code_of};
 ghost use Rattle.intake.specs.Held.{BeginsWith, HasText, IsGiven, TellsNoInput, TellsNoText};
 ghost use Rattle.intake.specs.Messages.{failure_text};
-ghost use Rattle.trials.specs.Trials.{IsCompared, IsLine, IsUncompared};
+ghost use Rattle.trials.specs.Trials.{HasLine, IsCompared, IsUncompared};
 ghost use Rattle.trials.specs.Trials.{file as file_of, has_name as has_name_of, input_file, trial as trial_of};
 
 use crate::outcomes::Case;
@@ -47,9 +47,7 @@ impl Trial<'_> {
         runs: &W,
         files: &mut F,
     ) -> Result<Option<String>, Failure>
-        ensures line { IfOk result (λ line. MatchOption line
-            (IsCompared (F.held files.old) (trial_of self.now) true)
-            (λ l. IsLine (F.held files.old) (trial_of self.now) (string_bytes l))) }
+        ensures line { IfOk result (HasLine (F.held files.old) (trial_of self.now)) }
         ensures why { IfErr result (λ f. f ≡ Failure.NoMemory) }
         ensures keeps { F.held files.new ≡ F.held files.old }
     {

@@ -2,12 +2,11 @@
 use Rattle.std.proofs.Common.{◌≡◌, ℕ, List, Result, Ok, Err, ap, ◌∙◌, subst, sym}
 use Rattle.std.specs.Prelude.{IfErr, IsErrAnd}
 use Rattle.command_line.specs.Requests.{Settings}
-use Rattle.intake.specs.Failures.{TellsUnwritten}
 use Rattle.intake.specs.Held.{Held, IsGiven, KeepsOthers}
 use Rattle.intake.specs.declared.failure.Failure.{Failure}
 use Rattle.intake.specs.declared.failure.Failure.TheVariants.{CannotRead, NotUtf8, Syntax, Types}
 use Rattle.intake.specs.declared.failure.Failure.TheVariants.{Race, NoMemoryInCheck, Input, NoMemory}
-use Rattle.intake.specs.declared.failure.Failure.TheVariants.{Trace, Illegal, CannotWrite, CannotWriteOutput}
+use Rattle.intake.specs.declared.failure.Failure.TheVariants.{Trace, Illegal, CannotWriteOutput}
 use Rattle.viewing.specs.Files.{Wrote, WritesTo}
 use Rattle.viewing.specs.Views.{TellsNoTrace}
 
@@ -22,13 +21,6 @@ pub wrote_anyway : {T : Type 0} (name : List ℕ) (AreRight : (bytes : List ℕ)
 wrote_anyway name AreRight held later (Ok x) wrote only = wrote
 wrote_anyway {T = T} name AreRight held later (Err f) wrote only =
     subst (λ (g : Failure). WritesTo {T = T} name AreRight held later (Err g)) (sym only) wrote
-
--- a file that isn't written
-pub not_written : (T : Type 0) (name : List ℕ) (AreRight : (bytes : List ℕ) → Type 0) (held later : Held) (f : Failure)
-    → TellsUnwritten name f → KeepsOthers name held later → WritesTo {T = T} name AreRight held later (Err f)
-not_written T name AreRight held later (CannotWrite told) why others = others
-not_written T name AreRight held later NoMemory why others = others
-not_written T name AreRight held later _ why others = absurd why
 
 -- a file was written, with these bytes
 pub wrote : (name known : List ℕ) → name ≡ known → (AreRight : (bytes : List ℕ) → Type 0) (held mid later : Held)

@@ -17,7 +17,10 @@ use Rattle.trace_text.specs.declared.error.TraceError.{TraceError}
 use Rattle.trace_text.specs.declared.header.Header.{Header}
 use Rattle.command_line.specs.Requests.{Settings}
 use Rattle.command_line.specs.declared.request.Command.{Command}
-use Rattle.command_line.specs.declared.request.Command.TheVariants.{View, Summary, Draw, Chrome}
+use Rattle.command_line.specs.declared.request.Command.TheVariants.{Run, Serial, Check, Listing, Pairs, Explore}
+use Rattle.command_line.specs.declared.request.Command.TheVariants.{Labels, Places, Format, CheckFormat}
+use Rattle.command_line.specs.declared.request.Command.TheVariants.{View, Summary, Draw, Chrome, Cost}
+use Rattle.command_line.specs.declared.request.Command.TheVariants.{CostByLabel, CostByProcedure}
 use Rattle.intake.specs.Held.{Held, HasText, TellsNoText}
 use Rattle.intake.specs.declared.failure.Failure.{Failure}
 use Rattle.intake.specs.declared.failure.Failure.TheVariants.{CannotRead, NotUtf8, Input}
@@ -78,7 +81,19 @@ TellsTrace View h es told = told ≡ table_text (map event_of es)
 TellsTrace Summary h es told = IsSummaryText h.workers es told
 TellsTrace Draw h es told = told ≡ []
 TellsTrace Chrome h es told = told ≡ []
-TellsTrace _ h es told = ⊥
+TellsTrace Run h es told = ⊥
+TellsTrace Serial h es told = ⊥
+TellsTrace Check h es told = ⊥
+TellsTrace Listing h es told = ⊥
+TellsTrace Pairs h es told = ⊥
+TellsTrace Explore h es told = ⊥
+TellsTrace Labels h es told = ⊥
+TellsTrace Places h es told = ⊥
+TellsTrace Format h es told = ⊥
+TellsTrace CheckFormat h es told = ⊥
+TellsTrace Cost h es told = ⊥
+TellsTrace CostByLabel h es told = ⊥
+TellsTrace CostByProcedure h es told = ⊥
 
 -- the text told, with its status, answers what is asked of a trace
 pub record AnswersTrace (c : Command) (s : Settings) (held : Held) (text told : List ℕ) (status : ℕ) : Type 0 where
@@ -139,7 +154,21 @@ TellsNoTrace s held text f = TellsNotAccepted text f
 abbrev pub Draws : Command → Type 0
 Draws Draw = Unit {0}
 Draws Chrome = Unit {0}
-Draws _ = ⊥
+Draws View = ⊥
+Draws Summary = ⊥
+Draws Run = ⊥
+Draws Serial = ⊥
+Draws Check = ⊥
+Draws Listing = ⊥
+Draws Pairs = ⊥
+Draws Explore = ⊥
+Draws Labels = ⊥
+Draws Places = ⊥
+Draws Format = ⊥
+Draws CheckFormat = ⊥
+Draws Cost = ⊥
+Draws CostByLabel = ⊥
+Draws CostByProcedure = ⊥
 
 -- the command that has it drawn so
 abbrev pub command_of : Form → Command

@@ -1,5 +1,5 @@
 use Rattle.std.proofs.Common.{inl, inr, refl}
-use Rattle.std.proofs.lemmas.Bool.{false≢true}
+use Rattle.options.proofs.Replied.{conflict_is_mistake}
 use Rattle.reading.specs.Orders.{AsText, AsObject, Times, Tests, order}
 use Rattle.driver.proofs.Ordered.{ordered}
 use Rattle.driver.proofs.act.act.Goals as goal
@@ -33,13 +33,14 @@ returns-in-Ok-clause-tested g c folder asks =
     ordered _ _ _ _ _ _ _ _ (order c.in-Ok.order) (Tests folder) (c.in-Ok.ensures.read (Tests folder) asks refl) c.carry_out.ensures
 
 pub returns-in-Err-clause-twice : goal.returns-in-Err-clause-twice
-returns-in-Err-clause-twice g c o orders twice = (c.tell_command_line.ensures, refl)
+returns-in-Err-clause-twice g c o orders twice =
+    (refl, c.tell_command_line.ensures.mistake (conflict_is_mistake c.in-Err.reply (c.in-Err.ensures.twice o orders twice)))
 
 pub returns-in-Ok-clause-twice : goal.returns-in-Ok-clause-twice
-returns-in-Ok-clause-twice g c o orders twice = absurd (false≢true (c.in-Ok.ensures.twice o orders twice))
+returns-in-Ok-clause-twice g c o orders twice = absurd (c.in-Ok.ensures.twice o orders twice)
 
 pub returns-in-Err-clause-always : goal.returns-in-Err-clause-always
-returns-in-Err-clause-always g c = inl (c.tell_command_line.ensures, refl)
+returns-in-Err-clause-always g c = inl (c.tell_command_line.ensures.always, refl)
 
 pub returns-in-Ok-clause-always : goal.returns-in-Ok-clause-always
 returns-in-Ok-clause-always g c = inr (order c.in-Ok.order, c.carry_out.ensures)

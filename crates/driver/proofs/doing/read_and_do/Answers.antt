@@ -7,15 +7,16 @@ use Rattle.driver.proofs.doing.read_and_do.Goals as goal
 
 pub returns-in-Err-clause-done : goal.returns-in-Err-clause-done
 returns-in-Err-clause-done g c =
-    read_without_text c.args.doing (asked_of c.args.request) _ _ _ _ c.in-Err.refusal.failure c.in-Err.ensures.keeps
-    c.in-Err.ensures.why c.tell_unread.ensures
+    read_without_text c.args.ordered.doing (asked_of c.args.ordered.request) _ _ _ _ c.in-Err.refusal.failure
+    c.in-Err.ensures.keeps c.in-Err.ensures.why c.tell_unread.ensures
 
 pub returns-clause-done : goal.returns-clause-done
 returns-clause-done g c =
     let held = g.F.FileSource.held c.args.files.now in
     let text = c.as_str-text.result.now in
     let same = sym c.as_str-text.ensures.value in
-    read_on_text c.args.doing (asked_of c.args.request) held _ _ _ _ _ c.in-Ok.ensures.keeps c.explained.ensures.keeps
+    let request = c.args.ordered.request in
+    read_on_text c.args.ordered.doing (asked_of request) held _ _ _ _ _ c.in-Ok.ensures.keeps c.explained.ensures.keeps
     (in_short c.explained.result) c.do_with-done.result c.explained.ensures.same text
-    (subst (HasText held c.args.request.file.now) same c.in-Ok.ensures.text)
+    (subst (HasText held request.file.now) same c.in-Ok.ensures.text)
     (subst (λ (t : List ℕ). length t ≤ 1048576) same c.in-Ok.ensures.short) c.do_with-done.ensures

@@ -1,6 +1,6 @@
 use Rattle.std.proofs.Common.{subst, sym}
 use Rattle.intake.specs.Held.{TellsNoProgram}
-use Rattle.driver.proofs.source.source_of.Goals as goal
+use Rattle.driver.proofs.opening.source_of.Goals as goal
 
 pub returns-in-Err-clause-why : goal.returns-in-Err-clause-why
 returns-in-Err-clause-why g c =

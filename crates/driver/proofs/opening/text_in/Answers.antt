@@ -4,7 +4,7 @@ use Rattle.std.proofs.lemmas.Str.{IsUtf8-string_bytes}
 use Rattle.std.specs.Prelude.{IsOk}
 use Rattle.intake.proofs.Programs.{no_program_text}
 use Rattle.intake.specs.Held.{IsGiven}
-use Rattle.driver.proofs.source.text_in.Goals as goal
+use Rattle.driver.proofs.opening.text_in.Goals as goal
 
 pub returns-in-Ok-clause-text : goal.returns-in-Ok-clause-text
 returns-in-Ok-clause-text g c =
