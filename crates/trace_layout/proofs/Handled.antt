@@ -276,14 +276,6 @@ past_last es n y h at was =
     let within : n < length es = slice_get_within es n number.event number.at in
     omega (arith, was.last)
 
-pub hand_is_empty : (es : List Event) (n : ℕ) (y : Hold) (h : Hands) → get_or h.workers y.worker None ≡ None
-    → AreHands es n h → IsEmptyHand es n y.worker h
-hand_is_empty es n y h none was = record {
-  hands = was;
-  past = past_without es n h.last h.workers h.spells.items y.worker was.spells
-      (λ k d there same going held. absurd (none-some k (sym none ∙ held)));
-}
-
 pub hand_left : (es : List Event) (n : ℕ) (y : Hold) (h g : Hands) (k : ℕ) (s t : Spell) → taken_at es n ≡ Some y
     → get_or h.workers y.worker None ≡ Some k → ((d : Spell) → get_or h.spells.items k d ≡ s) → IsLeft n s t
     → g.spells.items ≡ set h.spells.items k t → g.tasks ≡ h.tasks → g.workers ≡ h.workers → g.last ≡ h.last

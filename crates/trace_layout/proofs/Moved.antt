@@ -1,7 +1,6 @@
 -- Steals behind one event more.
 use Rattle.std.proofs.Common.{◌≡◌, ℕ, ◌+◌, ◌<◌, List, ◌++◌, length, drop, get_or, ap, sym, ◌∙◌, append_assoc}
-use Rattle.std.proofs.lemmas.List.{append-nil, drop_all, drop_more}
-use Rattle.std.specs.Prelude.{◌≤◌}
+use Rattle.std.proofs.lemmas.List.{drop_more}
 use Rattle.events.specs.declared.event.Event.{Event}
 use Rattle.trace_layout.specs.Moves.{steal_of, steals_from}
 use Rattle.trace_layout.specs.declared.moves.Steal.{Steal}
@@ -19,7 +18,3 @@ stolen_more es i e d old new there is was more =
     ∙ ap (λ (l : List Steal). old ++ l)
     (sym (ap (steals_from i) (drop_more es i d there) ∙ ap (λ (x : Event). steal_of i x ++ rest) (sym is)))
     ∙ was
-
-pub stolen_all : (es : List Event) (i : ℕ) (steals : List Steal) → length es ≤ i → AreStolen es i steals → steals ≡ steals_from 0 es
-stolen_all es i steals past was =
-    sym (append-nil steals) ∙ ap (λ (l : List Event). steals ++ steals_from i l) (sym (drop_all i es past)) ∙ was

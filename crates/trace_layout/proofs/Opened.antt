@@ -231,27 +231,6 @@ scopes_opened es n path key name old mid new opens_it same key_is number put ite
     }
 
 -- ---- the root's scope, and the end
-first_alone : (k : ℕ) → k < 1 → 0 ≡ k
-first_alone k lt = omega arith
-
-pub scopes_at_first : (es : List Event) (name : ScopeId) (old new : Scopes) → old.all.items ≡ [] → old.last ≡ length es - 1
-    → name.owner.turns.items ≡ [] → name.number ≡ 0 → old.opened.entries ≡ [] → IsAdded 0 name old new → AreScopes es 0 new
-scopes_at_first es name old new none last owner number empty begun =
-    let f : Finish = record { name = name; first = 0; last = old.last; is_passed = false; parked = None } in
-    let items : new.all.items ≡ f ∷ [] = begun.all ∙ ap (λ (fs : List Finish). fs ++ f ∷ []) none in
-    record {
-      last = begun.last ∙ last;
-      each = subst (AreSoFar es 0) (sym items) (λ k d there.
-          subst (λ (i : ℕ). IsFinishSoFar es 0 i (get_or (f ∷ []) i d)) (first_alone k there)
-          (record {
-            is = record { begins = record { owner = owner; number = number; first = refl }; forward = omega arith };
-            before = omega arith;
-            opened = λ behind. absurd (omega arith);
-          }));
-      order = subst AreOpenedInOrder (sym items) (λ i j d behind lt p. absurd (omega arith));
-      count = ap length items;
-      opened = λ path. ap (λ m. unwrap_or (get is_path m path) 0) begun.opened ∙ ap (λ es_of. unwrap_or (lookup (is_path path) es_of) 0) empty;
-    }
 
 pub all_finishes : (es : List Event) (n : ℕ) (s : Scopes) (r : Finishes) → n ≡ length es → r.all.items ≡ s.all.items → AreScopes es n s → AreFinishes es r
 all_finishes es n s r n_is items now =

@@ -5,7 +5,7 @@ use Rattle.events.specs.declared.event.Event.{Event}
 use Rattle.trace_numbers.specs.Chains.{Chains, chained, chains_after, no_chains, span_of}
 use Rattle.trace_numbers.specs.Tables.{AreAfter, AreWithin, Shows, scope_at}
 use Rattle.trace_numbers.specs.declared.chains.Chains.{Chains as rChains}
-use Rattle.trace_numbers.proofs.Within.{within_more, within_start}
+use Rattle.trace_numbers.proofs.Within.{within_more}
 
 -- the first events led to it, and those behind them lead on to the span of all
 pub record IsAt (es : List Event) (i : ℕ) (r : rChains) : Type 0 where

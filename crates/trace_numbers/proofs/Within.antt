@@ -6,7 +6,7 @@ use Rattle.events.specs.declared.event.Event.{Event}
 use Rattle.events.specs.declared.event.Event.TheVariants.{Take, Steal, Step, Replenish, Spawn}
 use Rattle.events.specs.declared.event.Event.TheVariants.{Open, Park, End, Pass, Resume}
 use Rattle.trace_numbers.specs.Chains.{Chains, at_number, at_path, begin, begin_child, begin_finish, chained, come_back}
-use Rattle.trace_numbers.specs.Chains.{leave, no_chains, one_more}
+use Rattle.trace_numbers.specs.Chains.{leave, one_more}
 use Rattle.trace_numbers.specs.Tables.{AreWithin}
 
 -- what holds of both holds of whichever is picked
@@ -20,15 +20,6 @@ at_path-all P path n f new was other = picked P (pointwise nat_eq path other) n 
 
 at_number-all : (P : ℕ → Type 0) (k n : ℕ) (f : ℕ → ℕ) → P n → ((other : ℕ) → P (f other)) → (other : ℕ) → P (at_number k n f other)
 at_number-all P k n f new was other = picked P (nat_eq k other) n (f other) new (was other)
-
-pub within_start : AreWithin 0 no_chains
-within_start = record {
-  cost = λ path. omega arith;
-  spawned = λ path. omega arith;
-  came_back = λ n. omega arith;
-  stands = λ path. omega arith;
-  around = λ n. omega arith;
-}
 
 module _ (count : ℕ) (c : Chains) (h : AreWithin count c) where
   -- one event more

@@ -1,7 +1,6 @@
 //! What commands answer as JSON.
 
 use crate::tests::typed;
-use effects::laws::typed_programs_are_sound;
 use effects::summaries::summarize;
 use intake::failure::Failure;
 use json_answers::outcomes::outcome_object;
@@ -20,6 +19,7 @@ use syntax::Place;
 use types::check::type_check;
 use types::fault::{Fault, FaultKind};
 use types::input::Input;
+use types::laws::typed_programs_are_sound;
 use types::outcome::Outcome;
 use types::path::Path;
 use types::typed::Typed;
