@@ -2,8 +2,9 @@
 # Runs the built program `afx` once for each exit status from 0 to 4, and compares its status, its standard output and its
 # standard error with what docs/FORMATS.md says of them: no clause says with which status `main` ends, and the gate runs
 # no program but those that end with 0. (No words are known that come to 5.) And once for what is explained of an input on
-# the standard input, which rows have not. `./afx` proves and builds first where a source is newer. A line tells of each
-# run that went wrong; the last line is `N passed, M failed`, and the status is 1 where one did. No part of the gate.
+# the standard input, which rows have not, and twice for step trees that are deep or wide, with little of a stack. `./afx`
+# proves and builds first where a source is newer. A line tells of each run that went wrong; the last line is `N passed, M
+# failed`, and the status is 1 where one did. No part of the gate.
 #     sh tests/program.sh      AFX='./afx' names another program
 set -eu
 cd "$(dirname "$0")/.."
@@ -52,6 +53,15 @@ To mend it: give one number for each element; an array that is left out begins w
     run "$room/q.afx" --input - --explain <<'END'
 {"q": [1, 2]}
 END
+
+# A tree of 50,000 levels, and 20,000 tasks in one finish, with little of a stack.
+echo 'main { while true { async { skip; } } }' >"$room/deep.afx"
+yes 0 | head -100000 >"$room/zeros"
+echo 'main { var k = 0; finish { while k < 20000 { async { skip; } k = k + 1; } } print k; }' >"$room/wide.afx"
+printf 'ulimit -s 512\nexec "$@"\n' >"$room/small"
+afx="sh $room/small $afx"
+expect 3 'open 1' '' explore "$room/deep.afx" --choices-from "$room/zeros"
+expect 0 '20000' '' explore "$room/wide.afx" --random 1
 
 echo "$passed passed, $failed failed"
 [ "$failed" -eq 0 ]
