@@ -7,13 +7,13 @@ use Rattle.types.specs.Contents.{held_by}
 use Rattle.types.specs.Outcome.{start, outcome, outcome_by}
 use Rattle.types.specs.Run.{State, Block, keeping}
 use Rattle.types.specs.Translation.{codes, program, budget}
-use Rattle.serial_run.specs.declared.store.Store.{Store}
-use Rattle.serial_run.specs.declared.thread.Plan.{Plan}
-use Rattle.serial_run.specs.declared.thread.Thread.{Thread}
-use Rattle.serial_run.specs.Bounds.{IsInBounds}
-use Rattle.serial_run.specs.Lists.{lists_of}
-use Rattle.serial_run.specs.Standing.{state_of}
-use Rattle.serial_run.proofs.Ends.{outcome_at}
+use Rattle.statement_steps.specs.declared.store.Store.{Store}
+use Rattle.statement_steps.specs.declared.thread.Plan.{Plan}
+use Rattle.statement_steps.specs.declared.thread.Thread.{Thread}
+use Rattle.statement_steps.specs.Bounds.{IsInBounds}
+use Rattle.statement_steps.specs.Lists.{lists_of}
+use Rattle.statement_steps.specs.Standing.{state_of}
+use Rattle.statement_steps.proofs.Ends.{outcome_at}
 use Rattle.cost.specs.declared.frame.Frame.{Frame}
 use Rattle.cost.specs.declared.frame.Frame.TheVariants.{Rest}
 use Rattle.cost.specs.declared.account.Account.{Account as rAccount}

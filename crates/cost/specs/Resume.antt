@@ -4,9 +4,9 @@ use Rattle.types.specs.Code.{Code, Program}
 use Rattle.types.specs.Meaning.{after_async, after_finish}
 use Rattle.types.specs.Run.{Fault, State, Work, Block, Turn, go_on, act, keeping}
 use Rattle.types.specs.Translation.{codes, truth, environment, fault}
-use Rattle.serial_run.specs.declared.store.Store.{Store}
-use Rattle.serial_run.specs.declared.thread.Thread.{Thread}
-use Rattle.serial_run.specs.Standing.{state_of}
+use Rattle.statement_steps.specs.declared.store.Store.{Store}
+use Rattle.statement_steps.specs.declared.thread.Thread.{Thread}
+use Rattle.statement_steps.specs.Standing.{state_of}
 use Rattle.cost.specs.declared.frame.Frame.{Frame}
 use Rattle.cost.specs.declared.frame.Frame.TheVariants.{Rest, Again, EndFinish, EndAsync, EndCall}
 use Rattle.cost.specs.declared.frame.Outer.{Outer}

@@ -7,14 +7,14 @@ ghost use Rattle.types.specs.Translation.{outcome as outcome_of, input as lists_
 ghost use Rattle.types.specs.Translation.{budget as budget_of, program as program_of};
 ghost use Rattle.types.specs.Typed.{code_of};
 ghost use Rattle.effects.specs.Summarized.{AreSummaries};
-ghost use Rattle.serial_run.specs.Bounds.{IsInBounds};
+ghost use Rattle.statement_steps.specs.Bounds.{IsInBounds};
 ghost use Rattle.cost.specs.Accounts.{account_of, span_by_label};
 ghost use Rattle.cost.specs.Costs.{cost_of, tally_of};
 ghost use Rattle.cost.specs.Machines.{end_of, stands};
 
 use crate::machine::Machine;
 use effects::summaries::{Summaries, summarize};
-use serial_run::thread::Plan;
+use statement_steps::thread::Plan;
 use std::alloc::{AllocError, Global};
 use types::budget::Budget;
 use types::input::Input;

@@ -23,7 +23,7 @@ use objects::telling::{check_told, pairs_told};
 use objects::told::Told;
 use objects::writing::{answer_object, tell_refusal};
 use reading::order::Subject;
-use serial_run::watch::Watch;
+use statement_steps::watch::Watch;
 use std::alloc::Global;
 use std::io::Write;
 use std::sync::Wait;

@@ -19,7 +19,7 @@ use command_line::request::{Action, Command};
 use intake::failure::Failure;
 use intake::files::FileSource;
 use rewriting::rewrite::rewrite;
-use serial_run::watch::Watch;
+use statement_steps::watch::Watch;
 use std::alloc::Global;
 use std::io::Write;
 use std::sync::Wait;

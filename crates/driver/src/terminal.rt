@@ -2,7 +2,7 @@
 
 ghost use Rattle.std.specs.Prelude.{◌≡◌};
 
-use serial_run::watch::{Unwatched, Watch};
+use statement_steps::watch::{Unwatched, Watch};
 use std::time::Clock;
 use trials::clock::Stopwatch;
 

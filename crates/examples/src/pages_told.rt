@@ -7,7 +7,7 @@ use pages::page::{Example, Page, Told};
 use row_parts::output::{Limit, Output};
 use row_parts::shelf::Shelf;
 use row_parts::words::words_of;
-use serial_run::watch::Unwatched;
+use statement_steps::watch::Unwatched;
 use std::io;
 
 /// Does what the pages show, and tells how many of them say what is so, or which of them don't.

@@ -9,7 +9,7 @@ use row_parts::output::{End, Limit, Output};
 use row_parts::shelf::Shelf;
 use row_parts::wanted::Wanted;
 use row_parts::words::words_of;
-use serial_run::watch::Watch;
+use statement_steps::watch::Watch;
 use std::io;
 
 /// A command of a group, and what it must tell.

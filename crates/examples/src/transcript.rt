@@ -4,7 +4,7 @@ use crate::machine::Machine;
 use driver::act::act;
 use driver::folders::MachineFolders;
 use row_parts::words::words_of;
-use serial_run::watch::Unwatched;
+use statement_steps::watch::Unwatched;
 use std::io;
 
 /// Does a command line over the machine's files, and shows it, what it writes to both outputs, and its status where

@@ -10,7 +10,7 @@ ghost use Rattle.own_run.specs.Translation.{start as start_of};
 
 use own_run::start::Start;
 use race_checker::accepted::Accepted;
-use serial_run::thread::Plan;
+use statement_steps::thread::Plan;
 use std::alloc::{AllocError, Global};
 use types::budget::Budget;
 use types::input::Input;

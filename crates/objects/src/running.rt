@@ -15,7 +15,7 @@ use cost::cost::measure;
 use intake::failure::Failure;
 use intake::files::FileSource;
 use json_answers::costs::cost_object;
-use serial_run::watch::Watch;
+use statement_steps::watch::Watch;
 use std::alloc::Global;
 
 /// `serial`: the outcome on one thread.

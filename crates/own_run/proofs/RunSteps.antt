@@ -8,10 +8,10 @@ use Rattle.types.specs.Run.{State, Rules, Flow, On, fault, primitive, number_at,
 use Rattle.types.specs.Translation.{program}
 use Rattle.types.specs.Value.{Valued, element_of, holds_number, then_try}
 use Rattle.effects.specs.Needs.{Needs}
-use Rattle.serial_run.specs.declared.thread.Flow.TheVariants.{On as rOn}
-use Rattle.serial_run.specs.declared.thread.Thread.{Thread}
-use Rattle.serial_run.specs.Standing.{KeepsTask, flow as flow_of}
-use Rattle.serial_run.proofs.Steps.{on_ok_both}
+use Rattle.statement_steps.specs.declared.thread.Flow.TheVariants.{On as rOn}
+use Rattle.statement_steps.specs.declared.thread.Thread.{Thread}
+use Rattle.statement_steps.specs.Standing.{KeepsTask, flow as flow_of}
+use Rattle.statement_steps.proofs.Steps.{on_ok_both}
 use Rattle.own_run.specs.Frames.{Frame, Standing, by_flow, by_value, acted, done_at, done_by, paid}
 use Rattle.own_run.specs.OwnRun.{Own, Action, EnterFinish, Spawn, Step, begin_own, child_of, list_child, notes, own_rules}
 use Rattle.own_run.specs.Results.{Settled}

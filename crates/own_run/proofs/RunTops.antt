@@ -12,8 +12,8 @@ use Rattle.types.specs.Code.{Code, Codes, Then, Number, Program, Primitive, Skip
 use Rattle.types.specs.Run.{State}
 use Rattle.types.specs.Translation.{program}
 use Rattle.effects.specs.Needs.{Needs}
-use Rattle.serial_run.specs.Primitive.{target}
-use Rattle.serial_run.proofs.BoundsLemmas.{target_of}
+use Rattle.statement_steps.specs.Primitive.{target}
+use Rattle.statement_steps.proofs.BoundsLemmas.{target_of}
 use Rattle.own_run.specs.Frames.{Frame, Rest}
 use Rattle.own_run.specs.Holds.{HasOwn}
 use Rattle.own_run.specs.OwnRun.{Own}

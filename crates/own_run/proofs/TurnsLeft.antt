@@ -11,10 +11,10 @@ use Rattle.types.specs.Value.{Valued}
 use Rattle.types.specs.Run.{Flow, On, Faulted, Stopped, State, Rules, number_at, numbers_at, truth_at, window_at, counted}
 use Rattle.types.specs.Run.{procedure_of}
 use Rattle.effects.specs.Needs.{Needs}
-use Rattle.serial_run.specs.Standing.{flow}
-use Rattle.serial_run.specs.declared.thread.Flow.{Flow as rFlow}
-use Rattle.serial_run.specs.declared.thread.Plan.{Plan}
-use Rattle.serial_run.specs.declared.thread.Flow.TheVariants.{On as rOn, Faulted as rFaulted, Stopped as rStopped}
+use Rattle.statement_steps.specs.Standing.{flow}
+use Rattle.statement_steps.specs.declared.thread.Flow.{Flow as rFlow}
+use Rattle.statement_steps.specs.declared.thread.Plan.{Plan}
+use Rattle.statement_steps.specs.declared.thread.Flow.TheVariants.{On as rOn, Faulted as rFaulted, Stopped as rStopped}
 use Rattle.own_run.specs.Results.{Settled}
 use Rattle.own_run.specs.OwnRun.{Action, Step, Spawn, EnterFinish, EndFinish, EndTask, Own, Start, own_rules}
 use Rattle.own_run.specs.Frames.{Frame, Rest, Again, AtEnd, Back, Standing, by_value, chosen, acted, paid, by_flow, turn}

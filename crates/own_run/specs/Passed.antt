@@ -6,9 +6,9 @@ use Rattle.types.specs.Code.{Codes}
 use Rattle.types.specs.Meaning.{one}
 use Rattle.types.specs.Run.{Block}
 use Rattle.types.specs.Translation.{program}
-use Rattle.serial_run.specs.declared.thread.Flow.TheVariants.{On as rOn}
-use Rattle.flat_run.specs.Machines.{IsCodeOf}
-use Rattle.flat_run.specs.declared.code.Flat.{Flat}
+use Rattle.statement_steps.specs.declared.thread.Flow.TheVariants.{On as rOn}
+use Rattle.serial_run.specs.Machines.{IsCodeOf}
+use Rattle.serial_run.specs.declared.code.Flat.{Flat}
 use Rattle.program_code.specs.Pieces.{piece_of}
 use Rattle.program_code.specs.declared.pieces.ProgramCode.{ProgramCode}
 use Rattle.own_run.specs.Standings.{state_of}

@@ -3,8 +3,8 @@ use Rattle.std.specs.Prelude.{◌+◌, ◌≡◌, ◌≤◌, List, [], ◌∷◌
 use Rattle.types.specs.Run.{State}
 use Rattle.types.specs.Translation.{codes, truth, environment, fault}
 use Rattle.plain_code.specs.Means.{beside}
-use Rattle.serial_run.specs.Standing.{state_by}
-use Rattle.serial_run.specs.declared.thread.Thread.{Thread}
+use Rattle.statement_steps.specs.Standing.{state_by}
+use Rattle.statement_steps.specs.declared.thread.Thread.{Thread}
 use Rattle.own_run.specs.OwnRun.{Own}
 use Rattle.own_run.specs.Frames.{Frame, Rest, Again, AtEnd, Back, Standing}
 use Rattle.own_run.specs.Translation.{contents_of, owned_by, listed}

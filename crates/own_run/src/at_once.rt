@@ -2,16 +2,16 @@
 
 ghost use Rattle.std.specs.Prelude.{◌≡◌, ◌+◌, ◌≤◌, IfSome, OnOk};
 ghost use Rattle.types.specs.Translation.{program as program_of};
-ghost use Rattle.flat_run.specs.Machines.{AreCodes};
+ghost use Rattle.serial_run.specs.Machines.{AreCodes};
 ghost use Rattle.own_run.specs.Passed.{HasPiece, IsPassed};
 
 use crate::frame::Frame;
 use crate::memory::TaskMemory;
 use crate::run::Run;
-use flat_run::passing::{has_room_for, pass};
+use serial_run::passing::{has_room_for, pass};
 use holdings::holdings::Holdings;
 use program_code::pieces::ProgramCode;
-use serial_run::thread::{Flow, Thread};
+use statement_steps::thread::{Flow, Thread};
 use std::alloc::{AllocError, Global};
 use types::code::Stmt;
 use types::path::Path;

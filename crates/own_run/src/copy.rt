@@ -15,7 +15,7 @@ use crate::result::{Listed, TaskResult};
 use crate::run::Run;
 use crate::start::Start;
 use crate::turn::Paused;
-use serial_run::thread::Thread;
+use statement_steps::thread::Thread;
 use std::alloc::{AllocError, Global};
 use types::fault::Fault;
 use types::path::Path;

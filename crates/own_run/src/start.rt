@@ -9,7 +9,7 @@ ghost use Rattle.own_run.specs.Runs.{root as root_of};
 ghost use Rattle.own_run.specs.Translation.{start as start_of};
 
 use holdings::holdings::Holdings;
-use serial_run::thread::{Plan, main_environment};
+use statement_steps::thread::{Plan, main_environment};
 use std::alloc::AllocError;
 use types::code::Stmt;
 use types::input::Input;

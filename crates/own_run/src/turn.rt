@@ -4,7 +4,7 @@ use crate::frame::{Frame, Outer};
 use crate::result::TaskResult;
 use crate::run::Run;
 use crate::start::Start;
-use serial_run::thread::Plan;
+use statement_steps::thread::Plan;
 use types::path::Path;
 use types::value::Environment;
 

@@ -77,6 +77,6 @@ fn one_thread_outcome(
     budget: Budget,
 ) -> String {
     let input = Input::zeros(alloc, program.typed()).expect(rt, "memory");
-    let outcome = flat_run::serial(alloc, program.typed(), &input, budget).expect(rt, "memory");
+    let outcome = serial_run::serial(alloc, program.typed(), &input, budget).expect(rt, "memory");
     format!(in alloc; "{outcome:?}").expect(rt, "memory")
 }

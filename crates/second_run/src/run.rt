@@ -2,7 +2,7 @@
 
 use crate::machine::Machine;
 use crate::seen::Seen;
-use serial_run::thread::Plan;
+use statement_steps::thread::Plan;
 use std::alloc::{AllocError, Global};
 use types::budget::Budget;
 use types::input::Input;

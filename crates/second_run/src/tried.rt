@@ -2,7 +2,7 @@
 
 use crate::cause::Cause;
 use sections::id::SectionId;
-use serial_run::store::Store;
+use statement_steps::store::Store;
 use types::code::{Link, Number, Operator, Truth};
 use types::fault::FaultKind;
 use types::value::{Environment, Places, holds, operate};

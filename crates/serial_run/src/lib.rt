@@ -1,9 +1,23 @@
-//! The statements of one step, on a memory.
-
+//! Runs a program on one thread by flat code.
 #![tactic(auto)]
 
-pub mod memory;
-pub mod quick;
-pub mod store;
-pub mod thread;
-pub mod watch;
+pub mod arrays;
+pub mod blocks;
+pub mod code;
+pub mod environment;
+pub mod frame;
+pub mod fused;
+pub mod guards;
+pub mod machine;
+pub mod numbers;
+pub mod parts;
+pub mod passing;
+pub mod procedures;
+pub mod programs;
+pub mod run;
+pub mod safe;
+pub mod spot;
+pub mod telling;
+pub mod writer;
+
+pub use programs::{serial, serial_watched};

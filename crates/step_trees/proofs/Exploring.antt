@@ -8,8 +8,8 @@ use Rattle.types.specs.Translation.{program}
 use Rattle.types.specs.Trees.{Tree, all_done, ready}
 use Rattle.types.specs.TreeRuns.{Explored, Ends, Open, NoSuchChoice, tree_ending, told, goes_on, explored_from}
 use Rattle.types.specs.TreeSteps.{step, first_tree}
-use Rattle.serial_run.specs.declared.thread.Plan.{Plan}
-use Rattle.serial_run.specs.Lists.{lists_of, contents_of}
+use Rattle.statement_steps.specs.declared.thread.Plan.{Plan}
+use Rattle.statement_steps.specs.Lists.{lists_of, contents_of}
 use Rattle.step_trees.specs.declared.explore.Course.{Course}
 use Rattle.step_trees.specs.Exploring.{IsHeld, Begins}
 use Rattle.step_trees.specs.Places.{whole, IsPlace}

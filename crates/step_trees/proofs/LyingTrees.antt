@@ -8,8 +8,8 @@ use Rattle.types.specs.Value.{Environment, Valued, number, numbers, truth}
 use Rattle.types.specs.Run.{Flow, On, Faulted, Stopped, Fault, State, primitive, with_sides, entry, procedure_of}
 use Rattle.types.specs.Trees.{Caller, Leaf, Tree, Single, AndThen, Beside, single, returned_by, return_to, done, outermost, rightmost, owner_environment, all_done, faults_of, lines_of, unless_faulted, closed, and_then, before_rest, called, child, parent, inside, held_back}
 use Rattle.types.specs.TreeSteps.{on_value, as_state, by_flow, with_state, sides_at, tree_after, step, first_leaf, first_tree, leaf_at}
-use Rattle.serial_run.specs.Bounds.{LiesInArray, LiesInArrays}
-use Rattle.serial_run.proofs.BoundsLemmas.{halves_lie, with_sides_lies, entry_lies, main_lies}
+use Rattle.statement_steps.specs.Bounds.{LiesInArray, LiesInArrays}
+use Rattle.statement_steps.proofs.BoundsLemmas.{halves_lie, with_sides_lies, entry_lies, main_lies}
 use Rattle.step_trees.specs.Windows.{CallersLie, LeafLies, TreeLies}
 use Rattle.step_trees.proofs.Deeds.{primitive_windows}
 use Rattle.step_trees.proofs.Steps.{Step, step_from, step_at}

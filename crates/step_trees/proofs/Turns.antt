@@ -8,10 +8,10 @@ use Rattle.types.specs.Run.{Flow, On, Faulted, Stopped, Fault, State, primitive}
 use Rattle.types.specs.Trees.{Caller, Leaf, Tree, Single, Beside, and_then, single, done, called, child, parent, inside, held_back, returned}
 use Rattle.types.specs.TreeSteps.{as_state, by_flow, with_state, tree_after, store_after}
 use Rattle.types.specs.Value.{Environment}
-use Rattle.serial_run.specs.declared.store.Store.{Store}
-use Rattle.serial_run.specs.declared.thread.Thread.{Thread}
-use Rattle.serial_run.specs.Lists.{lengths_of}
-use Rattle.serial_run.specs.Standing.{flow, state_of}
+use Rattle.statement_steps.specs.declared.store.Store.{Store}
+use Rattle.statement_steps.specs.declared.thread.Thread.{Thread}
+use Rattle.statement_steps.specs.Lists.{lengths_of}
+use Rattle.statement_steps.specs.Standing.{flow, state_of}
 use Rattle.step_trees.specs.declared.turn.Becomes.{Becomes}
 use Rattle.step_trees.specs.declared.turn.Turn.{Turn}
 use Rattle.step_trees.specs.Turns.{leaf_at, leaf_in, store_in, Comes, After, IsReady}

@@ -5,8 +5,8 @@ use Rattle.types.specs.Contents.{FitsArrays, held_by}
 use Rattle.types.specs.Translation.{program, outcome}
 use Rattle.types.specs.TreeRuns.{Explored, Ends, Open, NoSuchChoice}
 use Rattle.types.specs.TreeSteps.{step, first_tree}
-use Rattle.serial_run.specs.declared.thread.Plan.{Plan}
-use Rattle.serial_run.specs.Lists.{lists_of, contents_of}
+use Rattle.statement_steps.specs.declared.thread.Plan.{Plan}
+use Rattle.statement_steps.specs.Lists.{lists_of, contents_of}
 use Rattle.step_trees.specs.declared.explore.Explored.{Explored as rExplored}
 use Rattle.step_trees.specs.declared.explore.Explored.TheVariants.{Ended as rEnded, Open as rOpen}
 use Rattle.step_trees.specs.declared.explore.Explored.TheVariants.{NoSuchChoice as rNoSuchChoice}

@@ -6,12 +6,12 @@ use Rattle.types.specs.Run.{State}
 use Rattle.types.specs.Translation.{program, environment}
 use Rattle.types.specs.Trees.{Caller, Leaf, Tree, Single, Beside, and_then}
 use Rattle.types.specs.TreeSteps.{tree_after, store_after, leaf_step}
-use Rattle.serial_run.specs.declared.store.Store.{Store}
-use Rattle.serial_run.specs.declared.thread.Flow.TheVariants.{On}
-use Rattle.serial_run.specs.declared.thread.Plan.{Plan}
-use Rattle.serial_run.specs.Bounds.{LiesInArrays, IsInBounds}
-use Rattle.serial_run.specs.Lists.{lists_of, contents_of, lengths_of}
-use Rattle.serial_run.specs.Standing.{state_of}
+use Rattle.statement_steps.specs.declared.store.Store.{Store}
+use Rattle.statement_steps.specs.declared.thread.Flow.TheVariants.{On}
+use Rattle.statement_steps.specs.declared.thread.Plan.{Plan}
+use Rattle.statement_steps.specs.Bounds.{LiesInArrays, IsInBounds}
+use Rattle.statement_steps.specs.Lists.{lists_of, contents_of, lengths_of}
+use Rattle.statement_steps.specs.Standing.{state_of}
 use Rattle.step_trees.specs.declared.leaf.Leaf.{Leaf as rLeaf}
 use Rattle.step_trees.specs.declared.turn.Becomes.{Becomes}
 use Rattle.step_trees.specs.declared.turn.Becomes.TheVariants.{Single as rSingle, Spawned, Entered}

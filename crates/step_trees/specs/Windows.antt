@@ -2,7 +2,7 @@
 use Rattle.std.specs.Prelude.{List, [], ◌∷◌}
 use Rattle.types.specs.Code.{Program}
 use Rattle.types.specs.Trees.{Caller, Leaf, Tree, Single, AndThen, Beside}
-use Rattle.serial_run.specs.Bounds.{LiesInArrays}
+use Rattle.statement_steps.specs.Bounds.{LiesInArrays}
 
 module _ (p : Program) where
   -- those of what waits for calls to end

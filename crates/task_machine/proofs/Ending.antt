@@ -4,7 +4,7 @@ use Rattle.std.proofs.lemmas.List.{length_push}
 use Rattle.std.proofs.lemmas.Option.{same_Some}
 use Rattle.types.specs.Run.{State}
 use Rattle.effects.specs.Rounds.{needs_of}
-use Rattle.serial_run.specs.declared.thread.Plan.{Plan}
+use Rattle.statement_steps.specs.declared.thread.Plan.{Plan}
 use Rattle.own_run.specs.Frames.{Frame, IsTask, handed}
 use Rattle.own_run.specs.Given.{given, told_of}
 use Rattle.own_run.specs.MayRun.{IsEndOf}

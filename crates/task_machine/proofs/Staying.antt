@@ -4,7 +4,7 @@ use Rattle.types.specs.Contents.{FitsArrays}
 use Rattle.types.specs.Run.{State}
 use Rattle.types.specs.Translation.{program}
 use Rattle.effects.specs.Rounds.{needs_of}
-use Rattle.serial_run.specs.declared.thread.Plan.{Plan}
+use Rattle.statement_steps.specs.declared.thread.Plan.{Plan}
 use Rattle.own_run.specs.MayRun.{MayRun, MayStart}
 use Rattle.own_run.specs.OwnRun.{Own}
 use Rattle.own_run.specs.OwnRun.{Start as Given}

@@ -1,7 +1,7 @@
 //! Lines that tell how far a run has come.
 
 use crate::emit::append;
-use serial_run::watch::Watch;
+use statement_steps::watch::Watch;
 use std::alloc::Global;
 use std::io::Write;
 use std::time::{Clock, Duration, Instant};

@@ -1,6 +1,6 @@
 //! Time that goes by.
 
-use serial_run::watch::Unwatched;
+use statement_steps::watch::Unwatched;
 
 /// Tells the time.
 pub trait Stopwatch {

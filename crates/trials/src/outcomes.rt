@@ -9,7 +9,7 @@ ghost use Rattle.trials.specs.Trials.{is_wanted, tells_wanted};
 
 use crate::runs::{Runs, on_workers};
 use command_line::request::Settings;
-use flat_run::serial;
+use serial_run::serial;
 use intake::failure::Failure;
 use race_checker::accepted::Accepted;
 use std::alloc::Global;

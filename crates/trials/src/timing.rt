@@ -19,7 +19,7 @@ use answers::question::Question;
 use answers::showing::{answer, show, status};
 use command_line::request::Settings;
 use cost::cost::{Cost, Costed, measure};
-use flat_run::serial;
+use serial_run::serial;
 use intake::failure::Failure;
 use intake::files::FileSource;
 use race_checker::accepted::Accepted;

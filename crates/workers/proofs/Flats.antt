@@ -3,13 +3,13 @@ use Rattle.std.proofs.Crossing.{crosses}
 use denote.Param.Send.{IsSync, sendable}
 use denote.Param.SendFields.{declared_sync}
 use denote.Ref.{NamedLft}
-use Rattle.flat_run.specs.contracts.code.Flat as Flat
-use Rattle.flat_run.specs.contracts.code.Line as Line
-use Rattle.flat_run.specs.contracts.code.Instruction as Instruction
-use Rattle.flat_run.specs.contracts.safe.Limits as Limits
+use Rattle.serial_run.specs.contracts.code.Flat as Flat
+use Rattle.serial_run.specs.contracts.code.Line as Line
+use Rattle.serial_run.specs.contracts.code.Instruction as Instruction
+use Rattle.serial_run.specs.contracts.safe.Limits as Limits
 use Rattle.program_code.specs.contracts.pieces.ProgramCode as ProgramCode
-use Rattle.flat_run.proofs.code.Told.TheSendSync as OfTold
-use Rattle.flat_run.proofs.fused.Fused.TheSendSync as OfFused
+use Rattle.serial_run.proofs.code.Told.TheSendSync as OfTold
+use Rattle.serial_run.proofs.fused.Fused.TheSendSync as OfFused
 use Rattle.finish_scope.proofs.Crossing.{code_sync, stmt_sync, truth_sync}
 
 instruction_sync : (κ : NamedLft) → IsSync (Instruction.the_row κ)

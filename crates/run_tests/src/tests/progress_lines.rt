@@ -1,6 +1,6 @@
 //! Lines that tell how far a run has come.
 
-use serial_run::watch::Watch;
+use statement_steps::watch::Watch;
 use std::cell::Cell;
 use std::io;
 use std::time::{Clock, Duration};

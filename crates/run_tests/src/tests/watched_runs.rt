@@ -1,8 +1,8 @@
 //! Runs that somebody looks at.
 
 use crate::tests::{accepted, compare};
-use flat_run::serial_watched;
-use serial_run::watch::Watch;
+use serial_run::serial_watched;
+use statement_steps::watch::Watch;
 use types::budget::Budget;
 use types::input::Input;
 

@@ -2,7 +2,7 @@ use Rattle.std.proofs.Common.{ap, ◌∙◌}
 use Rattle.types.specs.Code.{Program}
 use Rattle.types.specs.Outcome.{outcome}
 use Rattle.types.specs.Translation.{input, budget, program}
-use Rattle.serial_run.specs.declared.thread.Plan.{Plan}
+use Rattle.statement_steps.specs.declared.thread.Plan.{Plan}
 use Rattle.cost.specs.Accounts.{account_of, span_by_label}
 use Rattle.cost.specs.Costs.{cost_of, tally_of}
 use Rattle.cost.specs.Resume.{Standing}

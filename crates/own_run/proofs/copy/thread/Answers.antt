@@ -3,7 +3,7 @@ use Rattle.std.specs.Prelude.{ℤ, is_some}
 use Rattle.types.specs.Translation.{fault}
 use Rattle.types.specs.declared.fault.Fault.{Fault as rFault}
 use Rattle.holdings.specs.Held.{Held, Map, numbers, owned}
-use Rattle.serial_run.specs.Standing.{flow}
+use Rattle.statement_steps.specs.Standing.{flow}
 use Rattle.own_run.specs.Places.{Places}
 use Rattle.own_run.specs.Translation.{contents_of}
 use Rattle.own_run.proofs.copy.thread.Goals as goal

@@ -4,7 +4,7 @@ use Rattle.std.proofs.lemmas.List.{nil_from_length}
 use Rattle.types.specs.Translation.{program}
 use Rattle.types.specs.TreeRuns.{explored_from}
 use Rattle.types.specs.Trees.{ready}
-use Rattle.serial_run.specs.Lists.{contents_of}
+use Rattle.statement_steps.specs.Lists.{contents_of}
 use Rattle.step_trees.specs.Places.{whole}
 use Rattle.step_trees.proofs.Exploring.{misses, goes-on}
 use Rattle.step_trees.proofs.explore.by_choices.Goals as goal

@@ -1,7 +1,7 @@
 use Rattle.std.proofs.Common.{◌≡◌, ◌-◌, ◌≤◌, length}
 use Rattle.types.specs.Translation.{program}
 use Rattle.types.specs.TreeRuns.{explored_from}
-use Rattle.serial_run.specs.Lists.{contents_of}
+use Rattle.statement_steps.specs.Lists.{contents_of}
 use Rattle.step_trees.specs.Exploring.{IsHeld}
 use Rattle.step_trees.specs.Places.{whole}
 use Rattle.step_trees.proofs.explore.by_choices.Given as goal

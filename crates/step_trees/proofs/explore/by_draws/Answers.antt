@@ -3,7 +3,7 @@ use Rattle.std.proofs.lemmas.Result.{IfOk-weaker}
 use Rattle.types.specs.Translation.{program}
 use Rattle.types.specs.TreeRuns.{explored_from}
 use Rattle.types.specs.Trees.{ready}
-use Rattle.serial_run.specs.Lists.{contents_of}
+use Rattle.statement_steps.specs.Lists.{contents_of}
 use Rattle.step_trees.specs.Drawing.{drawn, next_number, picked}
 use Rattle.step_trees.specs.Places.{whole}
 use Rattle.step_trees.proofs.Drawing.{drawn-goes, told-none, told-over}

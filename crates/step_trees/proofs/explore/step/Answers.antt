@@ -2,8 +2,8 @@ use Rattle.std.proofs.Common.{◌≡◌, sym, ap, ◌∙◌, Some}
 use Rattle.types.specs.Translation.{program}
 use Rattle.types.specs.Trees.{Tree}
 use Rattle.types.specs.TreeSteps.{step, in_tree}
-use Rattle.serial_run.specs.Lists.{lists_of, contents_of}
-use Rattle.serial_run.proofs.Ends.{fits_too}
+use Rattle.statement_steps.specs.Lists.{lists_of, contents_of}
+use Rattle.statement_steps.proofs.Ends.{fits_too}
 use Rattle.step_trees.specs.Held.{inside}
 use Rattle.step_trees.specs.Places.{whole}
 use Rattle.step_trees.specs.Translation.{leaf_of}

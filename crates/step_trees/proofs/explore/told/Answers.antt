@@ -7,7 +7,7 @@ use Rattle.types.specs.Translation.{program, fault}
 use Rattle.types.specs.Contents.{shown}
 use Rattle.types.specs.TreeRuns.{told as told_of}
 use Rattle.types.specs.Trees.{all_done, lines_of}
-use Rattle.serial_run.specs.Lists.{lists_of, contents_of}
+use Rattle.statement_steps.specs.Lists.{lists_of, contents_of}
 use Rattle.step_trees.specs.Held.{tree_of, inside}
 use Rattle.step_trees.specs.Places.{whole}
 use Rattle.step_trees.proofs.Exploring.{told-open, told-ends}

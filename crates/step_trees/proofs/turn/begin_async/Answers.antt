@@ -1,6 +1,6 @@
 use Rattle.std.proofs.Common.{◌≡◌, ◌+◌, ap, rules}
 use Rattle.types.specs.Translation.{codes}
-use Rattle.serial_run.specs.Lists.{contents_of, lengths_of}
+use Rattle.statement_steps.specs.Lists.{contents_of, lengths_of}
 use Rattle.step_trees.specs.Translation.{leaf_of}
 use Rattle.step_trees.specs.Turns.{leaf_in}
 use Rattle.step_trees.proofs.Turns.{spawned_tree}

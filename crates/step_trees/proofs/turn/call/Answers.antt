@@ -9,8 +9,8 @@ use Rattle.types.specs.Translation.{program, codes, environment, procedure}
 use Rattle.types.specs.Trees.{Caller, Tree, called, single}
 use Rattle.types.specs.TreeSteps.{on_value}
 use Rattle.types.specs.Value.{Valued}
-use Rattle.serial_run.specs.Primitive.{listed}
-use Rattle.serial_run.proofs.Steps.{body_at, no_body_at}
+use Rattle.statement_steps.specs.Primitive.{listed}
+use Rattle.statement_steps.proofs.Steps.{body_at, no_body_at}
 use Rattle.step_trees.specs.declared.leaf.Caller.{Caller as rCaller}
 use Rattle.step_trees.specs.declared.rest.Block.{Block}
 use Rattle.step_trees.specs.declared.turn.Turn.{Turn}

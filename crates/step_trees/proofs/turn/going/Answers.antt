@@ -1,6 +1,6 @@
 use Rattle.std.proofs.Common.{ap, ◌∙◌}
 use Rattle.types.specs.Trees.{Single, returned}
-use Rattle.serial_run.specs.Lists.{contents_of, lengths_of}
+use Rattle.statement_steps.specs.Lists.{contents_of, lengths_of}
 use Rattle.step_trees.proofs.turn.going.Goals as goal
 
 pub returns : goal.returns

@@ -1,7 +1,7 @@
 use Rattle.std.proofs.Common.{inl, inr, ap, ◌∙◌}
 use Rattle.types.specs.Translation.{program, primitive}
-use Rattle.serial_run.specs.Standing.{flow}
-use Rattle.serial_run.proofs.BoundsLemmas.{can_store}
+use Rattle.statement_steps.specs.Standing.{flow}
+use Rattle.statement_steps.proofs.BoundsLemmas.{can_store}
 use Rattle.step_trees.proofs.Turns.{on-tree, faulted-tree, stopped-tree, store-after}
 use Rattle.step_trees.proofs.turn.primitive.Goals as goal
 

@@ -6,9 +6,9 @@ use Rattle.types.specs.Translation.{codes}
 use Rattle.types.specs.Trees.{Leaf, Tree, before_rest, single}
 use Rattle.types.specs.TreeSteps.{on_value}
 use Rattle.types.specs.Value.{Environment, Valued}
-use Rattle.serial_run.specs.Primitive.{cut}
-use Rattle.serial_run.specs.declared.store.Store.{Store}
-use Rattle.serial_run.specs.declared.thread.Thread.{Thread}
+use Rattle.statement_steps.specs.Primitive.{cut}
+use Rattle.statement_steps.specs.declared.store.Store.{Store}
+use Rattle.statement_steps.specs.declared.thread.Thread.{Thread}
 use Rattle.step_trees.specs.declared.turn.Turn.{Turn}
 use Rattle.step_trees.specs.Turns.{leaf_in}
 use Rattle.step_trees.proofs.Turns.{comes_as}

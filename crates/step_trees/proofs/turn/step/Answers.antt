@@ -4,7 +4,7 @@ use Rattle.std.specs.Prelude.{true, false}
 use Rattle.types.specs.Code.{Then}
 use Rattle.types.specs.Translation.{program, code}
 use Rattle.types.specs.Trees.{is_done}
-use Rattle.serial_run.specs.Lists.{contents_of}
+use Rattle.statement_steps.specs.Lists.{contents_of}
 use Rattle.step_trees.specs.Translation.{blocks, leaf_of, Takes}
 use Rattle.step_trees.proofs.Steps.{step_here, same_pair}
 use Rattle.step_trees.proofs.turn.step.Goals as goal

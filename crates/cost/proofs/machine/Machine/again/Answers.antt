@@ -3,12 +3,12 @@ use Rattle.std.proofs.lemmas.Result.{on_ok_weaker}
 use Rattle.types.specs.Code.{While}
 use Rattle.types.specs.Run.{Turn}
 use Rattle.types.specs.Translation.{program, truth, codes}
-use Rattle.serial_run.specs.declared.store.Store.{Store}
-use Rattle.serial_run.specs.declared.thread.Thread.{Thread}
+use Rattle.statement_steps.specs.declared.store.Store.{Store}
+use Rattle.statement_steps.specs.declared.thread.Thread.{Thread}
 use Rattle.cost.specs.Machines.{stack, statement, work}
 use Rattle.cost.specs.Resume.{Standing, acted, placed, resume, standing}
 use Rattle.cost.specs.Accounts.{Account}
-use Rattle.serial_run.specs.Standing.{flow, state_of}
+use Rattle.statement_steps.specs.Standing.{flow, state_of}
 use Rattle.cost.specs.Translation.{account}
 use Rattle.cost.proofs.Beside.{beside, beside-stopped}
 use Rattle.cost.proofs.Frames.{again_on_top, turn_not_done}

@@ -6,9 +6,9 @@ use Rattle.types.specs.Run.{State}
 use Rattle.types.specs.Translation.{codes, program}
 use Rattle.types.specs.Value.{Environment}
 use Rattle.cost.specs.declared.frame.Frame.{Frame}
-use Rattle.serial_run.specs.Bounds.{LiesInArrays}
+use Rattle.statement_steps.specs.Bounds.{LiesInArrays}
 use Rattle.cost.specs.Machines.{IsSoundFrame}
-use Rattle.serial_run.proofs.BoundsLemmas.{main_lies}
+use Rattle.statement_steps.proofs.BoundsLemmas.{main_lies}
 use Rattle.cost.proofs.machine.Machine.at_start.Goals as goal
 
 pub returns : goal.returns

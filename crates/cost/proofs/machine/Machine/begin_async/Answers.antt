@@ -7,11 +7,11 @@ use Rattle.types.specs.Contents.{FitsArrays}
 use Rattle.types.specs.Meaning.{child, hushed}
 use Rattle.types.specs.Run.{Flow, State, keeping}
 use Rattle.types.specs.Translation.{program, codes, environment, fault}
-use Rattle.serial_run.specs.declared.store.Store.{Store}
-use Rattle.serial_run.specs.declared.thread.Thread.{Thread}
-use Rattle.serial_run.specs.Bounds.{LiesInArrays}
-use Rattle.serial_run.specs.Lists.{lists_of}
-use Rattle.serial_run.specs.Standing.{state_of, flow}
+use Rattle.statement_steps.specs.declared.store.Store.{Store}
+use Rattle.statement_steps.specs.declared.thread.Thread.{Thread}
+use Rattle.statement_steps.specs.Bounds.{LiesInArrays}
+use Rattle.statement_steps.specs.Lists.{lists_of}
+use Rattle.statement_steps.specs.Standing.{state_of, flow}
 use Rattle.cost.specs.declared.frame.Frame.TheVariants.{Rest, EndAsync}
 use Rattle.cost.specs.declared.frame.Owner.{Owner}
 use Rattle.spawn_copies.specs.Copied.{copied_at}

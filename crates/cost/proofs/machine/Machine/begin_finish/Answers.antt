@@ -4,9 +4,9 @@ use Rattle.types.specs.declared.fault.Fault.{Fault}
 use Rattle.types.specs.Meaning.{hushed}
 use Rattle.types.specs.Run.{keeping}
 use Rattle.types.specs.Translation.{program, codes, fault}
-use Rattle.serial_run.specs.declared.store.Store.{Store}
-use Rattle.serial_run.specs.declared.thread.Thread.{Thread}
-use Rattle.serial_run.specs.Standing.{flow, state_of}
+use Rattle.statement_steps.specs.declared.store.Store.{Store}
+use Rattle.statement_steps.specs.declared.thread.Thread.{Thread}
+use Rattle.statement_steps.specs.Standing.{flow, state_of}
 use Rattle.cost.specs.declared.frame.Frame.TheVariants.{Rest, EndFinish}
 use Rattle.cost.specs.declared.frame.Outer.{Outer}
 use Rattle.cost.specs.Frames.{rate}

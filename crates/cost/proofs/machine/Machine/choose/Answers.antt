@@ -8,12 +8,12 @@ use Rattle.types.specs.Translation.{program, truth, codes}
 use Rattle.cost.specs.declared.frame.Frame.TheVariants.{Rest}
 use Rattle.cost.specs.declared.machine.Machine.{Machine}
 use Rattle.cost.specs.Machines.{Does, Enters, HasStep, stack, stands, statement}
-use Rattle.serial_run.specs.Standing.{flow}
+use Rattle.statement_steps.specs.Standing.{flow}
 use Rattle.cost.specs.Translation.{account}
 use Rattle.cost.proofs.Beside.{beside}
 use Rattle.cost.proofs.Frames.{chosen, choice_faults}
 use Rattle.cost.proofs.MachineLemmas.{does_enter, does_fault, less_entered}
-use Rattle.serial_run.proofs.Steps.{on_ok_both}
+use Rattle.statement_steps.proofs.Steps.{on_ok_both}
 use Rattle.cost.specs.Resume.{standing}
 use Rattle.cost.proofs.machine.Machine.choose.Goals as goal
 

@@ -10,14 +10,14 @@ use Rattle.cost.specs.declared.frame.Frame.TheVariants.{Rest}
 use Rattle.cost.specs.Frames.{cost, rate}
 use Rattle.cost.specs.Machines.{Does, IsSoundFrame, stack, turn_of}
 use Rattle.types.specs.Contents.{FitsArrays}
-use Rattle.serial_run.specs.Bounds.{LiesInArrays}
-use Rattle.serial_run.specs.Lists.{lists_of}
+use Rattle.statement_steps.specs.Bounds.{LiesInArrays}
+use Rattle.statement_steps.specs.Lists.{lists_of}
 use Rattle.types.specs.Run.{Flow, State, keeping}
 use Rattle.cost.specs.Resume.{Standing, end_finish, faults_in, frame, lines_in, resume, standing}
 use Rattle.cost.specs.Accounts.{Account, ends_behind, leaves_behind}
-use Rattle.serial_run.specs.Standing.{flow, state_of}
-use Rattle.serial_run.specs.declared.store.Store.{Store}
-use Rattle.serial_run.specs.declared.thread.Thread.{Thread}
+use Rattle.statement_steps.specs.Standing.{flow, state_of}
+use Rattle.statement_steps.specs.declared.store.Store.{Store}
+use Rattle.statement_steps.specs.declared.thread.Thread.{Thread}
 use Rattle.cost.specs.Translation.{account}
 use Rattle.cost.proofs.Frames.{resume-push, standing_by_state}
 use Rattle.cost.proofs.MachineLemmas.{machine_of, sound_counted, sound_with, told_before}

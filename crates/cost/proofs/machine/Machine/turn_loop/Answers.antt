@@ -3,12 +3,12 @@ use Rattle.types.specs.Code.{While}
 use Rattle.types.specs.Translation.{program, truth, codes}
 use Rattle.cost.specs.declared.frame.Frame.TheVariants.{Rest, Again}
 use Rattle.cost.specs.Machines.{stack, statement}
-use Rattle.serial_run.specs.Standing.{flow}
+use Rattle.statement_steps.specs.Standing.{flow}
 use Rattle.cost.specs.Translation.{account}
 use Rattle.cost.proofs.Beside.{beside}
 use Rattle.cost.proofs.Frames.{turn_on_top, loop_faults}
 use Rattle.cost.proofs.MachineLemmas.{sound_pushed, sound_waits, does_fault}
-use Rattle.serial_run.proofs.Steps.{on_ok_both}
+use Rattle.statement_steps.proofs.Steps.{on_ok_both}
 use Rattle.cost.proofs.Waiting.{resume-frame_block, costs-frame_block}
 use Rattle.cost.specs.Resume.{standing}
 use Rattle.cost.proofs.machine.Machine.turn_loop.Goals as goal

@@ -1,5 +1,5 @@
 use Rattle.std.proofs.Common.{◌≡◌, ◌∙◌, ap, false, map, subst, sym}
-use Rattle.serial_run.proofs.Steps.{map-pushed}
+use Rattle.statement_steps.proofs.Steps.{map-pushed}
 use Rattle.sections.specs.Covers.{has}
 use Rattle.sections.specs.Place.{Place}
 use Rattle.own_run.specs.Lists.{Each}

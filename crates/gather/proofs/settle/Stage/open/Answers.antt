@@ -1,7 +1,7 @@
 use Rattle.std.proofs.Common.{◌∙◌, ◌++◌, ◌∷◌, [], ap, refl, map, subst, sym}
 use Rattle.own_run.specs.Lists.{Each}
 use Rattle.own_run.proofs.Lists.{each_last}
-use Rattle.serial_run.proofs.Steps.{map-pushed}
+use Rattle.statement_steps.proofs.Steps.{map-pushed}
 use Rattle.types.specs.declared.path.Path.{Path}
 use Rattle.own_run.specs.Translation.{task_result}
 use Rattle.gather.specs.Left.{left}

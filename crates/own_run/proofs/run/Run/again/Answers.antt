@@ -2,8 +2,8 @@ use Rattle.std.proofs.Common.{subst}
 use Rattle.std.specs.Bool.{OnTrue}
 use Rattle.types.specs.Code.{While}
 use Rattle.types.specs.Translation.{truth, codes}
-use Rattle.serial_run.specs.Standing.{TakesStep}
-use Rattle.serial_run.specs.declared.thread.Thread.{Thread}
+use Rattle.statement_steps.specs.Standing.{TakesStep}
+use Rattle.statement_steps.specs.declared.thread.Thread.{Thread}
 use Rattle.own_run.specs.RunTurns.{Acts}
 use Rattle.own_run.specs.declared.memory.TaskMemory.{TaskMemory}
 use Rattle.own_run.specs.declared.turn.Done.TheVariants.{Gone}

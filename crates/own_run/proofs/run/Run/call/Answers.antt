@@ -5,8 +5,8 @@ use Rattle.types.specs.Run.{entry, procedure_of, window_at}
 use Rattle.types.specs.Translation.{program, number, environment}
 use Rattle.types.specs.Value.{Environment}
 use Rattle.types.specs.declared.value.Environment.{Environment as rEnvironment}
-use Rattle.serial_run.proofs.Steps.{on_ok_both}
-use Rattle.serial_run.specs.Primitive.{listed}
+use Rattle.statement_steps.proofs.Steps.{on_ok_both}
+use Rattle.statement_steps.specs.Primitive.{listed}
 use Rattle.own_run.specs.Frames.{Rest, Back, Standing, acted}
 use Rattle.own_run.specs.OwnRun.{Own, own_rules}
 use Rattle.own_run.specs.Standings.{IsAt, state_of, with_own}

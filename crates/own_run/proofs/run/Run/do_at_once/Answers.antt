@@ -1,10 +1,10 @@
 use Rattle.std.proofs.Common.{◌≡◌, ◌-◌, List, [], ◌∷◌, ◌++◌, refl, sym, ap, ◌∙◌, subst}
 use Rattle.std.specs.Prelude.{slice_index_or}
-use Rattle.flat_run.specs.declared.code.Flat.{Flat}
+use Rattle.serial_run.specs.declared.code.Flat.{Flat}
 use Rattle.types.specs.Run.{Block}
 use Rattle.types.specs.Meaning.{one}
 use Rattle.types.specs.Translation.{program}
-use Rattle.serial_run.specs.declared.thread.Thread.{Thread}
+use Rattle.statement_steps.specs.declared.thread.Thread.{Thread}
 use Rattle.own_run.specs.Standings.{state_of}
 use Rattle.own_run.specs.Translation.{owned_by}
 use Rattle.own_run.specs.declared.frame.Frame.{Frame as rFrame}

@@ -2,8 +2,8 @@ use Rattle.std.proofs.Common.{sym, subst}
 use Rattle.std.proofs.lemmas.Result.{IfOk-weaker}
 use Rattle.std.specs.Bool.{OnTrue}
 use Rattle.types.specs.Translation.{code}
-use Rattle.serial_run.specs.Standing.{TakesStep}
-use Rattle.serial_run.specs.declared.thread.Thread.{Thread}
+use Rattle.statement_steps.specs.Standing.{TakesStep}
+use Rattle.statement_steps.specs.declared.thread.Thread.{Thread}
 use Rattle.own_run.specs.RunTurns.{CanAct, DidAct, DidNext, below_top}
 use Rattle.own_run.specs.declared.memory.TaskMemory.{TaskMemory}
 use Rattle.own_run.proofs.RunSteps.{can_on, stepped}

@@ -1,7 +1,7 @@
 use Rattle.std.proofs.Common.{◌≡◌, refl, sym, subst}
 use Rattle.types.specs.Translation.{program}
-use Rattle.serial_run.specs.declared.thread.Plan.{Plan}
-use Rattle.flat_run.specs.Machines.{AreCodes}
+use Rattle.statement_steps.specs.declared.thread.Plan.{Plan}
+use Rattle.serial_run.specs.Machines.{AreCodes}
 use Rattle.own_run.specs.RunTurns.{IsMore, IsStep, turn_of}
 use Rattle.own_run.specs.declared.run.Run.{Run}
 use Rattle.own_run.specs.declared.turn.Done.{Done}

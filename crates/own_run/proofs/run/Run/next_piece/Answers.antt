@@ -1,7 +1,7 @@
 use Rattle.std.proofs.Common.{◌≡◌, ℕ, ◌+◌, ◌-◌, ◌<◌, ◌≤◌, List, [], ◌∷◌, ◌++◌, length, take, sym, ap, ◌∙◌, subst, arith}
 use Rattle.std.proofs.lemmas.Option.{same_Some, slice_get-get_or}
 use Rattle.std.specs.Prelude.{slice_index_or}
-use Rattle.flat_run.specs.declared.code.Flat.{Flat}
+use Rattle.serial_run.specs.declared.code.Flat.{Flat}
 use Rattle.own_run.specs.declared.frame.Frame.{Frame as rFrame}
 use Rattle.own_run.proofs.RunTops.{ends_in_last}
 use Rattle.own_run.proofs.run.Run.next_piece.Goals as goal

@@ -8,8 +8,8 @@ use Rattle.sections.specs.Translation.{section, window}
 use Rattle.types.specs.Run.{State}
 use Rattle.types.specs.Translation.{codes, environment, fault}
 use Rattle.types.specs.declared.fault.Fault.{Fault as rFault}
-use Rattle.serial_run.proofs.Steps.{map-pushed}
-use Rattle.serial_run.specs.Standing.{flow}
+use Rattle.statement_steps.proofs.Steps.{map-pushed}
+use Rattle.statement_steps.specs.Standing.{flow}
 use Rattle.own_run.specs.OwnRun.{Child, Own, Spawn, Start, child_of, list_child}
 use Rattle.own_run.specs.Places.{only, without}
 use Rattle.own_run.specs.Results.{Listed}

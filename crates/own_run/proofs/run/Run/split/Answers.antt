@@ -5,7 +5,7 @@ use Rattle.types.specs.declared.fault.FaultKind.TheVariants.{SplitPoint}
 use Rattle.types.specs.Run.{number_at, window_at, with_sides}
 use Rattle.types.specs.Code.{Split}
 use Rattle.types.specs.Translation.{number, codes}
-use Rattle.serial_run.specs.Primitive.{cut}
+use Rattle.statement_steps.specs.Primitive.{cut}
 use Rattle.own_run.specs.Frames.{Frame, Rest, Standing}
 use Rattle.own_run.specs.OwnRun.{Own}
 use Rattle.own_run.specs.Standings.{state_of, with_own}

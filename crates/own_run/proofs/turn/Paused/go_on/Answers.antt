@@ -5,7 +5,7 @@ use Rattle.types.specs.Meaning.{after_finish}
 use Rattle.types.specs.Run.{Fault, On, Stopped}
 use Rattle.types.specs.Translation.{fault}
 use Rattle.types.specs.declared.fault.Fault.{Fault as rFault}
-use Rattle.serial_run.specs.Standing.{flow}
+use Rattle.statement_steps.specs.Standing.{flow}
 use Rattle.own_run.specs.Frames.{handed}
 use Rattle.own_run.specs.OwnRun.{flow_after}
 use Rattle.own_run.specs.Translation.{contents_of, settled}

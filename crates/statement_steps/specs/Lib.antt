@@ -1,0 +1,5 @@
+pub mod Lists
+pub mod Standing
+pub mod Primitive
+pub mod Resume
+pub mod Bounds

@@ -1,0 +1,9 @@
+//! The statements of one step, on a memory.
+
+#![tactic(auto)]
+
+pub mod memory;
+pub mod quick;
+pub mod store;
+pub mod thread;
+pub mod watch;
