@@ -1,9 +1,10 @@
 -- From what a command wrote, or why it wrote nothing, to what was done.
-use Rattle.std.proofs.Common.{◌≡◌, ◌≢◌, ◌<◌, ◌≤◌, inl, inr, ℕ, List, [], Option, Some, Result, Ok, Err, ap, ◌∙◌, map, sym, subst, refl}
+use Rattle.std.proofs.Common.{◌≡◌, ◌≢◌, ◌<◌, ◌≤◌, inl, inr, ℕ, List, Option, Some, Result, Ok, Err, ap, ◌∙◌, map, sym, subst, refl}
 use Rattle.std.proofs.KnownBytes.{Keeps-refl}
 use Rattle.std.proofs.Math.Dec.{ltb}
 use Rattle.std.proofs.lemmas.Bool.{ltb-false, ltb-true}
 use Rattle.std.specs.List.{flat_map}
+use Rattle.facts.proofs.Results.{ok_is_no_error}
 use Rattle.std.specs.Prelude.{◌↔◌, ℤ, IfErr, IfOk, IsErrAnd, Bool, true, false}
 use Rattle.std.specs.Str.{chars}
 use Rattle.std.specs.Str.Lines.{lines}
@@ -23,7 +24,6 @@ use Rattle.types.specs.Typed.{code_of, program_of}
 use Rattle.types.specs.declared.code.Array.{Array as rArray}
 use Rattle.types.specs.declared.code.Program.{Program as rProgram}
 use Rattle.types.specs.declared.typed.Typed.{Typed}
-use Rattle.effects.proofs.Members.{false_true}
 use Rattle.parallel_relation.specs.Pairs.{ArePairs, AreListed, HasPair}
 use Rattle.parallel_relation.specs.Together.{LabelsMeet}
 use Rattle.parallel_relation.specs.declared.pairs.Pairs.{Pairs as KeptPairs}
@@ -31,7 +31,7 @@ use Rattle.race_checker.specs.Clash.{IsAccepted}
 use Rattle.answers.specs.Answers.{Answers, AnswersExplore, AnswersPairs, TellsAccepted, accepted_told, command_about}
 use Rattle.answers.specs.Answers.{Explores, HasInput, IsExplored, LacksInput}
 use Rattle.answers.specs.Answers.{Answer, Does, Done, Explains, Failed, IsCodeOf, IsRunBy, LooksForRaces, Shows}
-use Rattle.answers.specs.Answers.{TellsNoCode, TellsNotAccepted, TellsNotBegun, TellsNotGiven, TellsUnspelled, TestsRules}
+use Rattle.answers.specs.Answers.{TellsNoCode, TellsNotAccepted, TellsNotBegun, TellsNotGiven, TestsRules}
 use Rattle.answers.specs.Answers.{AnswersLabels, AnswersPlaces, AnswersFormat, IsLayoutOf, NeedsLayout}
 use Rattle.answers.specs.Answers.{AnswersCost, command_of}
 use Rattle.answers.specs.declared.costing.Shares.{Shares}
@@ -44,6 +44,7 @@ use Rattle.std.specs.Str.{IsUtf8, bytes_eq}
 use Rattle.std.proofs.lemmas.Slice.Eq.{bytes_eq-Decides}
 use Rattle.std.proofs.Math.Utf8.{encodes}
 use Rattle.std.proofs.lemmas.Str.{encodes-chars}
+use Rattle.facts.proofs.Truths.{false_true}
 use Rattle.texts.specs.Appending.{Writes}
 use Rattle.answers.specs.Chosen.{ComesTo}
 use Rattle.intake.specs.Choosing.{TellsNoChoices}
@@ -122,20 +123,6 @@ module _ (c : Command) (s : Settings) (held : Held) (text : List ℕ) (b : Optio
   pub no_code_other : (f : Failure) → TellsNoCode text f → IsOther f
   no_code_other CannotWriteOutput told = told
   no_code_other _ told = tt
-
-  -- ---- a text that spells no program
-
-  no_program_explained : (f : Failure) → TellsUnspelled text f → Explains c s held text f
-  no_program_explained (Syntax e) told = told
-  no_program_explained _ told = absurd told
-
-  no_program_other : (f : Failure) → TellsUnspelled text f → IsOther f
-  no_program_other (Syntax e) told = tt
-  no_program_other _ told = absurd told
-
-  pub passes_no_program : (r : Result ℕ Failure) (f : Failure) → IsErrAnd r (λ y. y ≡ f) → TellsUnspelled text f
-      → Does c s held text b b r
-  passes_no_program r f is told = passes_on r f is (no_program_explained f told) (other_failure f (no_program_other f told))
 
   -- ---- a run without an input
 
@@ -258,9 +245,6 @@ check_answers Counts s held text told status answers = answers
 check_answers Lines s held text told status answers = answers
 
 -- ---- listings of any program
-
-ok_is_no_error : {A E : Type 0} (x : A) (e : E) → (let r : Result A E = Ok x in r) ≡ Err e → ⊥
-ok_is_no_error x e is = cc
 
 short_by : {A E : Type 0} (r : Result A E) (x : A) (e : E) (n : ℕ) (b : Bool) → ltb 1048576 n ≡ b → r ≡ Ok x
     → ((r ≡ Err e) ↔ (1048576 < n)) → n ≤ 1048576

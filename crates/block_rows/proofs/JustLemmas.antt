@@ -1,16 +1,16 @@
 -- What is owned at the places of windows, and nowhere else.
 use Rattle.std.proofs.Common.{◌≡◌, ℕ, ◌+◌, ◌*◌, ◌/◌, ◌%◌, ◌<◌, ◌≤◌, List, [], ◌∷◌, length, get_or, map}
-use Rattle.std.proofs.Common.{Option, Some, None, Bool, true, false, is_some, inl, inr, refl, sym, ap, ◌∙◌, arith, rules, subst, ◌⊎◌}
+use Rattle.std.proofs.Common.{Option, Some, None, Bool, true, false, is_some, inl, inr, refl, sym, ap, ◌∙◌, arith, rules, subst}
 use Rattle.std.proofs.lemmas.Bool.{and_from, and_parts, eq-eqb, eqb-true, false≢true, le-leb, leb-true, ltb-true, or_cases, or_left, or_right}
 use Rattle.std.specs.List.{list_any}
-use Rattle.std.specs.Prelude.{ℤ, ◌&&◌, ◌||◌, nat_eq, nat_le, nat_lt}
+use Rattle.std.specs.Prelude.{ℤ, ◌&&◌, nat_eq, nat_le, nat_lt}
 use Rattle.sections.specs.Covers.{has, is_in}
 use Rattle.sections.specs.Place.{Place}
 use Rattle.sections.specs.Translation.{window as window_of}
 use Rattle.sections.specs.declared.window.Window.{Window as rWindow}
 use Rattle.sections.proofs.Covering.{in_window, is_in-from}
 use Rattle.blocks.specs.Blocks.{held_at, owned_at}
-use Rattle.blocks.specs.Held.{IsJustAt, IsThere, IsOnlyAt, Map, owned, owned_number}
+use Rattle.blocks.specs.Held.{IsOnlyAt, owned, owned_number}
 use Rattle.blocks.specs.declared.block.Block.{Block}
 use Rattle.block_rows.specs.Rows.{StandsIn, block_in, block_of, held_in_list, held_of, place_at}
 use Rattle.block_rows.specs.declared.row.Row.{Row}
@@ -155,23 +155,3 @@ module _ (rs : List Row) (set : Place → Bool) where
       by_place false e =
           let le : 256 ≤ k = search rules in
           absurd (some (ap owned_number (held_behind (block_of rs i j) k le)))
-
--- ---- both ways
-module _ {A : Type 0} (set : Place → Bool) (m : Map A) where
-  pub just_at : IsThere set m → IsOnlyAt set m → IsJustAt set m
-  just_at there lies q = by_case (m q) (set q) (there q) (lies q)
-    where
-      by_case : (o : Option A) (b : Bool) → (b ≡ true → o ≡ None → ⊥) → ((o ≡ None → ⊥) → b ≡ true) → is_some o ≡ b
-      by_case None true t l = absurd (t refl refl)
-      by_case None false t l = refl
-      by_case (Some x) b t l = sym (l (λ none. cc))
-
-  pub just-there : IsJustAt set m → IsThere set m
-  just-there just q is none = false≢true (sym (ap is_some none) ∙ just q ∙ is)
-
-  pub just-lies : IsJustAt set m → IsOnlyAt set m
-  just-lies just q some = sym (just q) ∙ by_case (m q) some
-    where
-      by_case : (o : Option A) → (o ≡ None → ⊥) → is_some o ≡ true
-      by_case None h = absurd (h refl)
-      by_case (Some x) h = refl

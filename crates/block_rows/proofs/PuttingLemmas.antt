@@ -54,9 +54,6 @@ pub up_to-more : (a at to : ℕ) → at ≤ to → (q : Place)
     → up_to a at (to + 1) q ≡ (up_to a at to q || same_place (record { array = a; index = to }) q)
 up_to-more a at to le q = grind (arith, nat_tests)
 
-pub up_to-none : (a at : ℕ) (q : Place) → up_to a at at q ≡ false
-up_to-none a at q = grind (arith, nat_tests)
-
 -- ---- the next place
 module _ (n : Map ℤ) (m now : Map Held) (a at i : ℕ) (le : at ≤ i) (so_far : now ≡ put_all (only (up_to a at i) n) m) where
   abbrev next : Place

@@ -5,7 +5,6 @@ use Rattle.std.proofs.lemmas.Bool.{cases_eq, ltb-true}
 use Rattle.std.proofs.lemmas.Option.{same_Some}
 use Rattle.std.specs.Prelude.{◌&&◌, nat_eq, nat_lt}
 use Rattle.sections.specs.Place.{Place}
-use Rattle.blocks.specs.Blocks.{owned_at}
 use Rattle.blocks.specs.Held.{AreApart, owned, owned_number}
 use Rattle.block_numbers.specs.Offsets.{StandApart}
 use Rattle.blocks.specs.Ready.{CanTake}

@@ -2,11 +2,12 @@
 use Rattle.std.proofs.Common.{◌≡◌, ℕ, ◌+◌, ◌-◌, ◌/◌, ◌%◌, ◌<◌, ◌≤◌, List, [], ◌∷◌, ◌++◌, length, get_or, set, IsSome}
 use Rattle.std.proofs.Common.{Option, Some, None, Bool, true, false, inl, inr, refl, sym, ap, ◌∙◌, arith, rules, ◌⊎◌}
 use Rattle.std.proofs.Common.{subst, w64, of_z, to_z, FitsSigned}
-use Rattle.std.proofs.lemmas.Bool.{cases_eq, eqb-true, eqb-false, eq-eqb, ne_eqb, ltb-true, and_from}
+use Rattle.std.proofs.lemmas.Bool.{cases_eq, eqb-true, eq-eqb, ne_eqb, ltb-true, and_from}
 use Rattle.std.proofs.lemmas.Int.{to_z-of_z}
 use Rattle.std.proofs.lemmas.Option.{slice_get_past, slice_get_read}
 use Rattle.std.specs.Prelude.{ℤ, ◌&&◌, nat_eq, nat_le, nat_lt, slice_get, option_and_then, if◌then◌else◌}
 use Rattle.std.proofs.Math.Bool.{and-false}
+use Rattle.facts.proofs.Numbers.{nat_eq-sym}
 use Rattle.sections.specs.Place.{Place}
 use Rattle.block_numbers.specs.Numbers.{row_from}
 use Rattle.blocks.specs.Blocks.{held_at}
@@ -18,13 +19,6 @@ use Rattle.block_rows.specs.Rows.{IsAsBefore, Replaces, Widens, block_in, block_
 use Rattle.block_rows.specs.declared.row.Row.{Row}
 use Rattle.block_rows.proofs.WideningLemmas.{before-same, some_not_none}
 
-pub eqb-sym : (n b : ℕ) → nat_eq n b ≡ nat_eq b n
-eqb-sym n b = by_eq (nat_eq n b) refl
-  where
-    by_eq : (t : Bool) → nat_eq n b ≡ t → nat_eq n b ≡ nat_eq b n
-    by_eq true e = e ∙ sym (eq-eqb b n (sym (eqb-true n b e)))
-    by_eq false e = e ∙ sym (ne_eqb b n (λ f. eqb-false n b e (sym f)))
-
 -- ---- blocks of one row
 
 pub row-item : (first : ℕ) (xs : List Block) (n : ℕ) (x : Block) → first ≤ n → n < first + length xs → x ≡ get_or xs (n - first) x
@@ -34,7 +28,7 @@ row-item first xs n x low high is = row_from-in first xs n x low high ∙ ap Som
 pub row-set : (first : ℕ) (xs : List Block) (n : ℕ) (x : Block) → first ≤ n → n < first + length xs → (b : ℕ)
     → row_from first (set xs (n - first) x) b ≡ (if nat_eq b n then Some x else row_from first xs b)
 row-set first xs n x low high b =
-    row_from-set first xs n x low high b ∙ ap (λ t. if t then Some x else row_from first xs b) (eqb-sym n b)
+    row_from-set first xs n x low high b ∙ ap (λ t. if t then Some x else row_from first xs b) (nat_eq-sym n b)
 
 pub held_of-if : (c : Bool) (x : Block) (o : Option Block) (k : ℕ) → held_of (if c then Some x else o) k ≡ (if c then held_at x k else held_of o k)
 held_of-if true x o k = refl
@@ -115,7 +109,7 @@ slice_get-set xs a x lt i =
     let e : a ≡ a - 0 = omega arith in
     ap (λ n. slice_get (set xs n x) i) e ∙ sym (from_zero (set xs (a - 0) x) i) ∙ row_from-set 0 xs a x (omega arith) (omega arith) i
     ∙ ap (λ o. if nat_eq a i then Some x else o) (from_zero xs i)
-    ∙ ap (λ b. if b then Some x else slice_get xs i) (eqb-sym a i)
+    ∙ ap (λ b. if b then Some x else slice_get xs i) (nat_eq-sym a i)
 
 pub slice_get-push : {A : Type 0} (xs : List A) (x : A) (i : ℕ)
     → slice_get (xs ++ x ∷ []) i ≡ (if nat_eq i (length xs) then Some x else slice_get xs i)
@@ -123,7 +117,7 @@ slice_get-push xs x i =
     let e : 0 + length xs ≡ length xs = omega arith in
     sym (from_zero (xs ++ x ∷ []) i) ∙ row_from-push 0 xs x (length xs) e i
     ∙ ap (λ o. if nat_eq (length xs) i then Some x else o) (from_zero xs i)
-    ∙ ap (λ b. if b then Some x else slice_get xs i) (eqb-sym (length xs) i)
+    ∙ ap (λ b. if b then Some x else slice_get xs i) (nat_eq-sym (length xs) i)
 
 pub block_of-item : (rs : List Row) (a : ℕ) (r : Row) → a < length rs → r ≡ get_or rs a r → (b : ℕ) → block_of rs a b ≡ block_in r b
 block_of-item rs a r lt is b = ap (option_and_then (λ r. block_in r b)) (slice_get_read rs (length rs) a r refl lt is)
@@ -223,9 +217,9 @@ rows-written rs p r s h lt is w = λ t q.
         w (q.index / 256) (q.index % 256)
         ∙ ap (λ v. if nat_eq (q.index / 256) (p.index / 256) && nat_eq (p.index % 256) (q.index % 256) then Some h else v) old
         ∙ ap (λ b. if b then Some h else held_in_list rs q)
-        (sym (place_parts p.index q.index) ∙ ap (λ b. b && nat_eq p.index q.index) (sym (eqb-sym p.array q.array ∙ e)))
+        (sym (place_parts p.index q.index) ∙ ap (λ b. b && nat_eq p.index q.index) (sym (nat_eq-sym p.array q.array ∙ e)))
     by_eq q false e =
-        ap (λ b. if b && nat_eq p.index q.index then Some h else held_in_list rs q) (sym (eqb-sym p.array q.array ∙ e))
+        ap (λ b. if b && nat_eq p.index q.index then Some h else held_in_list rs q) (sym (nat_eq-sym p.array q.array ∙ e))
 
 -- a machine integer written
 pub rows-put : (rs : List Row) (p : Place) (r s : Row) (v : ℤ) → p.array < length rs → r ≡ get_or rs p.array r

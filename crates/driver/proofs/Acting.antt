@@ -19,18 +19,13 @@ use Rattle.answers.specs.Answers.{Answer, Done, Wrote}
 use Rattle.rewriting.specs.Rewriting.{LeavesLaidOut, LeavesRewritten}
 use Rattle.viewing.specs.Views.{IsDrawn, picture_name}
 use Rattle.viewing.proofs.Written.{wrote_anyway}
-use Rattle.texts.specs.Appending.{AppendsBeginning, Writes}
+use Rattle.texts.specs.Appending.{AppendsBeginning}
 use Rattle.intake.specs.Held.{Held}
 use Rattle.command_line.specs.Requests.{Settings}
 use Rattle.command_line.specs.declared.request.Command.{Command}
 use Rattle.command_line.specs.declared.request.Command.TheVariants.{Run, View, Summary, Draw, Chrome}
 use Rattle.intake.specs.declared.failure.Failure.{Failure}
 use Rattle.intake.specs.declared.failure.Failure.TheVariants.{CannotWriteOutput}
-
--- whether or not all was taken, a beginning was appended
-pub begins : {T E : Type 0} (a b : Option (List ℕ)) (r : Result T E) (t : List ℕ) → Writes a b r t → AppendsBeginning a b t
-begins a b (Ok x) t written = record { begun = t; rest = []; parts = sym (append-nil t); appended = written }
-begins a b (Err e) t begun = begun
 
 -- what was answered is handed on: whole, or a writer that fails has a beginning of it
 answered_on : (Is : Answer) (Why : Failure → Type 0) → Why CannotWriteOutput → (old mid new : Option (List ℕ)) (status : ℕ)

@@ -12,7 +12,7 @@ use Rattle.answers.proofs.Answering.{IsOther}
 use Rattle.command_line.specs.declared.request.Command.TheVariants.{Run}
 use Rattle.viewing.specs.Files.{Wrote, WritesTo}
 use Rattle.viewing.proofs.Written.{others_kept, wrote_anyway}
-use Rattle.driver.specs.Traced.{TellsNoOutcome, TellsNoRun, WritesTrace}
+use Rattle.driver.specs.Traced.{TellsNoRun, WritesTrace}
 
 -- ---- a run without an outcome
 
@@ -52,11 +52,6 @@ pub early_not_begun : (s : Settings) (held : Held) (text : List ℕ) (f : Failur
 early_not_begun s held text f (inl refused) = early_not_accepted text f refused
 early_not_begun s held text f (inr lack) = early_no_input s.input held lack.code.arrays f lack.why
 
-early_no_outcome : (s : Settings) (f : Failure) → TellsNoOutcome s f → IsEarly f
-early_no_outcome s CannotWriteOutput told = told
-early_no_outcome s (CannotWrite name) told = told
-early_no_outcome s _ told = tt
-
 module _ (T : Type 0) (AreRight : (bytes : List ℕ) → Type 0) (held later : Held) (keeps : later ≡ held) where
   nothing_to : (name : List ℕ) (f : Failure) → IsEarly f → WritesTo {T = T} name AreRight held later (Err f)
   nothing_to name CannotWriteOutput early = absurd early
@@ -74,10 +69,6 @@ module _ (T : Type 0) (AreRight : (bytes : List ℕ) → Type 0) (held later : H
   passes_early file (Ok x) f is early = absurd is
   passes_early file (Err y) f is early =
       subst (λ (g : Failure). WritesTrace {T = T} file AreRight held later (Err g)) (sym is) (nothing_written file f early)
-
-  pub passes_no_outcome : (s : Settings) (file : Option (List ℕ)) (r : Result T Failure) (f : Failure)
-      → IsErrAnd r (λ y. y ≡ f) → TellsNoOutcome s f → WritesTrace file AreRight held later r
-  passes_no_outcome s file r f is told = passes_early file r f is (early_no_outcome s f told)
 
 -- what was written of a run is what was written of the program of a text
 module _ (T U : Type 0) (P Q : (bytes : List ℕ) → Type 0) (held later : Held) (so : (bytes : List ℕ) → P bytes → Q bytes) where

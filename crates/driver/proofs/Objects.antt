@@ -2,40 +2,28 @@
 use Rattle.std.proofs.Common.{◌≡◌, ℕ, List, Option, Some, None, Result, Ok, Err, IfOk, IfErr, sym, subst}
 use Rattle.std.specs.Prelude.{IsErrAnd}
 use Rattle.std.specs.String.{string_bytes}
-use Rattle.texts.specs.Appending.{Writes}
 use Rattle.types.specs.Code.{Array}
 use Rattle.types.specs.Outcome.{Outcome}
 use Rattle.command_line.specs.Requests.{Settings}
 use Rattle.command_line.specs.declared.request.Command.TheVariants.{Run}
 use Rattle.intake.specs.Held.{Held}
 use Rattle.intake.specs.declared.failure.Failure.{Failure}
-use Rattle.intake.specs.declared.failure.Failure.TheVariants.{CannotWriteOutput, NoMemory}
+use Rattle.intake.specs.declared.failure.Failure.TheVariants.{NoMemory}
 use Rattle.answers.specs.Answers.{Explains, IsExplored}
 use Rattle.answers.proofs.Answering.{other_failure}
 use Rattle.objects.specs.Objects.{FailsEarly, ObjectOf, TellsOutcome}
 use Rattle.objects.specs.Failing.{IsToldAsObject, TellsFailure}
 use Rattle.objects.specs.declared.told.Told.{Told}
-use Rattle.objects.proofs.Written.{object_answered, object_refused}
+use Rattle.objects.proofs.Written.{object_refused}
 use Rattle.reading.specs.Orders.{command_of}
 use Rattle.reading.specs.declared.order.Subject.{Subject}
 use Rattle.viewing.specs.Files.{Wrote, WritesTo}
 use Rattle.driver.specs.Acts.{Leaves}
 use Rattle.driver.specs.Objects.{TellsObject, status_in}
 use Rattle.driver.specs.Traced.{TellsNoRun, WritesTrace}
-use Rattle.driver.proofs.Acting.{leaves_on}
 use Rattle.driver.proofs.Leaving.{no_run_explained, no_run_other}
 
 module _ (x : Subject) (file : List ℕ) (s : Settings) (text : List ℕ) (held later : Held) (old new : Option (List ℕ)) where
-  -- an object that was written, or a beginning of it
-  pub object_told : (r : Result ℕ Failure) (object : List ℕ) (status : ℕ) → ObjectOf (command_of x) s held text object status
-      → Writes old new r object → IfOk r (λ n. n ≡ status) → IfErr r (λ f. f ≡ CannotWriteOutput)
-      → Leaves (command_of x) s text held later (Ok status) → TellsObject x file s text held later old new r
-  object_told r object status answers written is only leaves = record {
-    done = object_answered (ObjectOf (command_of x) s held text) (Explains (command_of x) s held text)
-        (TellsFailure file text) old new r object status tt answers written is only;
-    leaves = leaves_on (command_of x) s text held later status r only leaves;
-  }
-
   -- a failure whose object was told
   pub refusal_told : (f : Failure) → FailsEarly (command_of x) s held text f → IsToldAsObject (TellsFailure file text f) old new
       → Leaves (command_of x) s text held later (Err f) → TellsObject x file s text held later old new (Err f)

@@ -1,6 +1,5 @@
--- The trace of a run, and the file in which it is written.
-use Rattle.std.proofs.Common.{◌≡◌, ℕ, ℤ, List, Option, Some, Result, Ok, Err, ap, ◌∙◌, subst, sym, map}
-use Rattle.std.specs.Prelude.{IsErrAnd}
+-- The trace of a run, by the events of its log.
+use Rattle.std.proofs.Common.{◌≡◌, ℕ, ℤ, List, Some, ap, ◌∙◌, subst, map}
 use Rattle.types.specs.Code.{Program}
 use Rattle.types.specs.Outcome.{Budget, Outcome, outcome}
 use Rattle.types.specs.Translation.{budget}
@@ -18,39 +17,7 @@ use Rattle.trace.specs.Logs.{Recorded}
 use Rattle.logged_run.specs.Ending.{LeadsToOutcome}
 use Rattle.command_line.specs.Requests.{settings}
 use Rattle.command_line.specs.declared.request.Settings.{Settings as rSettings}
-use Rattle.intake.specs.Failures.{TellsUnwritten}
-use Rattle.intake.specs.Held.{Held, IsGiven, KeepsOthers}
-use Rattle.intake.specs.declared.failure.Failure.{Failure}
-use Rattle.intake.specs.declared.failure.Failure.TheVariants.{CannotWrite, NoMemory}
-use Rattle.viewing.specs.Files.{WritesTo}
-use Rattle.driver.specs.Traced.{IsTraceOf, WritesTrace, header_of}
-
--- ---- the file
-
-module _ (T : Type 0) (AreRight : (bytes : List ℕ) → Type 0) (held later : Held) where
-  not_to : (name : List ℕ) (f : Failure) → TellsUnwritten name f → KeepsOthers name held later
-      → WritesTo {T = T} name AreRight held later (Err f)
-  not_to name (CannotWrite told) why others = others
-  not_to name NoMemory why others = others
-  not_to name _ why others = absurd why
-
-  -- it can't be written
-  pub passes_failed_write : (file : Option (List ℕ)) (name : List ℕ) (r : Result T Failure) (f : Failure) → file ≡ Some name
-      → IsErrAnd r (λ y. y ≡ f) → TellsUnwritten name f → KeepsOthers name held later
-      → WritesTrace file AreRight held later r
-  passes_failed_write file name (Ok x) f named is why others = absurd is
-  passes_failed_write file name (Err y) f named is why others =
-      subst (λ (d : Option (List ℕ)). WritesTrace {T = T} d AreRight held later (Err y)) (sym named)
-      (subst (λ (g : Failure). WritesTo {T = T} name AreRight held later (Err g)) (sym is) (not_to name f why others))
-
-  -- it is written
-  pub traced_to : (file : Option (List ℕ)) (name : List ℕ) (x : T) (bytes : List ℕ) → file ≡ Some name → AreRight bytes
-      → IsGiven (later name) (Ok bytes) → KeepsOthers name held later → WritesTrace file AreRight held later (Ok x)
-  traced_to file name x bytes named right given others =
-      subst (λ (d : Option (List ℕ)). WritesTrace {T = T} d AreRight held later (Ok x)) (sym named)
-      (record { bytes = bytes; right = right; given = given; others = others })
-
--- ---- its lines
+use Rattle.driver.specs.Traced.{IsTraceOf, header_of}
 
 abbrev header_with : (b : rBudget) (w0 workers : ℕ) → TraceHeader
 header_with b w0 workers = record { steps = b.steps; nest = b.nest; w0 = w0; workers = workers }

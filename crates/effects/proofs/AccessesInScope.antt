@@ -3,6 +3,7 @@ use Rattle.std.proofs.Common.{◌≡◌, ◌≢◌, ℕ, zero, suc, ◌+◌, ◌
 use Rattle.std.proofs.Common.{arith}
 use Rattle.std.proofs.lemmas.Bool.{eq-eqb, ne_eqb}
 use Rattle.std.specs.Prelude.{Bool, true, false, ◌||◌, nat_eq, if◌then◌else◌, Some, slice_get, unwrap_or}
+use Rattle.facts.proofs.Truths.{false_true}
 use Rattle.sections.specs.Origins.{Origin, Root, origin_of, IsNumbered, IsSideOf, left, right}
 use Rattle.sections.specs.Member.{Member, first, next}
 use Rattle.sections.proofs.Lines.{root_of-root, root_of-side}
@@ -12,7 +13,7 @@ use Rattle.effects.specs.Accesses.{Access, own_accesses}
 use Rattle.effects.specs.Effects.{past_split, past_call, renamed, Inner, AllOf, All, PendingOf, Pending, accesses}
 use Rattle.effects.specs.Sound.{may_write, is_writable, Allowed, SplitsWell, PassesWell, Follows, FollowsOf}
 use Rattle.effects.specs.Sound.{IsSoundIn, IsSound, parameters_of}
-use Rattle.effects.proofs.Members.{false_true, numbers_from-below}
+use Rattle.effects.proofs.Members.{numbers_from-below}
 use Rattle.effects.proofs.OwnAllowed.{own_allowed}
 
 pub origin_from_get : (origins : List Origin) (k : ℕ) → slice_get origins k ≡ Some Root → origin_of origins k ≡ Root

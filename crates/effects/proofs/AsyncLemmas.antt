@@ -4,10 +4,11 @@ use Rattle.std.proofs.Math.Seq.{take-suc}
 use Rattle.std.proofs.lemmas.Bool.{cases_lt}
 use Rattle.std.proofs.lemmas.List.{map-append}
 use Rattle.std.proofs.lemmas.Map.Lookups.{exact_unsigned}
-use Rattle.std.specs.BTreeMap.{BTreeMap, get, Updates}
+use Rattle.std.specs.BTreeMap.{BTreeMap, Updates}
 use Rattle.std.specs.Cmp.{Equal-is}
 use Rattle.std.specs.Ordering.{nat_cmp, is_eq}
 use Rattle.std.specs.Prelude.{Bool, true, false, Option, None, Some, IsSome, option_map, slice_index_or}
+use Rattle.facts.proofs.Truths.{false_true}
 use Rattle.sections.specs.Member.{Member, first, next}
 use Rattle.types.specs.Code.{Code, Async, Codes, End, Procedure, Program}
 use Rattle.types.specs.Run.{procedure_of, no_procedure}
@@ -25,7 +26,7 @@ use Rattle.effects.specs.Translation.{needs}
 use Rattle.effects.specs.Visits.{Visit, visit}
 use Rattle.effects.specs.declared.needs.Needs.{Needs as rNeeds}
 use Rattle.effects.specs.declared.visits.Visit.{Visit as rVisit}
-use Rattle.effects.proofs.Members.{false_true, in_parts}
+use Rattle.effects.proofs.Members.{in_parts}
 use Rattle.effects.proofs.NeedsOfAsyncs.{needs_of_firsts}
 use Rattle.effects.proofs.StableRounds.{summaries_derived, summaries_stable}
 use Rattle.effects.proofs.StatementLemmas.{IsVisited, of_one, one_statement}

@@ -5,6 +5,7 @@ use Rattle.std.proofs.Math.ListN.{set}
 use Rattle.std.specs.Prelude.{◌↔◌, Bool, true, false, ◌||◌, slice_get}
 use Rattle.std.proofs.lemmas.Option.{slice_get_read}
 use Rattle.std.proofs.lemmas.Bool.{or_parts}
+use Rattle.facts.proofs.Truths.{false_true}
 use Rattle.sections.specs.Member.{Member, first, next}
 use Rattle.effects.specs.Closing.{HasSome, HasIn, Reached, start, flow, Brings, BringsNew, IsClosed}
 use Rattle.effects.specs.LabelSets.{HasLabel, HasNew}
@@ -13,7 +14,6 @@ use Rattle.effects.specs.declared.flows.Flow.{Flow}
 use Rattle.effects.specs.declared.label_set.LabelSet.{LabelSet}
 use Rattle.effects.specs.declared.summary.Row.{Row}
 use Rattle.effects.specs.declared.summary.Summary.{Summary}
-use Rattle.effects.proofs.Members.{false_true}
 
 -- one of the summaries has more labels
 rows_set : (xs : List Summary) (i : ℕ) (y : Summary) (more : Row → ℕ → Type 0) → i < length xs

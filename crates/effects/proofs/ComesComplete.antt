@@ -3,6 +3,7 @@ use Rattle.std.proofs.Common.{◌≡◌, ◌≢◌, ℕ, zero, suc, ◌+◌, ◌
 use Rattle.std.proofs.Common.{subst, ◌∙◌, arith, Some, Option}
 use Rattle.std.proofs.lemmas.Bool.{lt-ltb, eqb-true, eqb-false}
 use Rattle.std.specs.Prelude.{Bool, true, false, nat_eq, if◌then◌else◌, slice_get, slice_index_or, flat_map}
+use Rattle.facts.proofs.Truths.{false_true}
 use Rattle.sections.specs.Member.{Member, first, next}
 use Rattle.sections.specs.Overlap.{root_of}
 use Rattle.sections.proofs.Lines.{root_of-root}
@@ -11,7 +12,7 @@ use Rattle.types.specs.Run.{procedure_of}
 use Rattle.types.specs.declared.ids.ProcedureId.{ProcedureId}
 use Rattle.effects.specs.Accesses.{Access}
 use Rattle.effects.specs.Coming.{Comes}
-use Rattle.effects.specs.Derived.{Derived}
+use Rattle.effects.proofs.Derived.{Derived}
 use Rattle.effects.specs.Effects.{Inner, Subject, AllOf, All, PendingOf, Pending, past_split, past_call, accesses, labels as by_label, renamed}
 use Rattle.effects.specs.Flows.{flow, flows_of, flows_of_use, flows_of_labels, flows_of_sections}
 use Rattle.effects.specs.Outlines.{visits_of, flows_in, flows_in_all, numbered, StartsIn}
@@ -26,7 +27,7 @@ use Rattle.effects.specs.declared.visits.Standing.{Standing}
 use Rattle.effects.specs.declared.visits.Standing.TheVariants.{Open, Begun, Awaited}
 use Rattle.effects.proofs.AccessesInScope.{origin_from_get, allowed, pending_all}
 use Rattle.effects.proofs.ComesSound.{past_root}
-use Rattle.effects.proofs.Members.{in_left, in_right, numbers_from-below, false_true}
+use Rattle.effects.proofs.Members.{in_left, in_right, numbers_from-below}
 
 in_flat_map : {A B : Type 0} (f : A → List B) {x : A} {y : B} {xs : List A} → Member x xs → Member y (f x) → Member y (flat_map f xs)
 in_flat_map f (first {xs = xs}) h = in_left (flat_map f xs) h

@@ -13,7 +13,7 @@ use Rattle.types.specs.Run.{procedure_of, no_procedure}
 use Rattle.types.specs.declared.ids.ProcedureId.{ProcedureId}
 use Rattle.effects.specs.Accesses.{Access, own_accesses}
 use Rattle.effects.specs.Coming.{Comes}
-use Rattle.effects.specs.Derived.{Derived}
+use Rattle.effects.proofs.Derived.{Derived}
 use Rattle.effects.specs.Effects.{Inner, Subject, AllOf, All, PendingOf, Pending, past_split, past_call, renamed, accesses, labels}
 use Rattle.effects.specs.Flows.{flows_of, flows_of_code, flows_of_labels, flows_of_sections, flows_of_use}
 use Rattle.effects.specs.Outlines.{visits_of, starts_in, flows_in, flows_in_all, numbered, StartsIn}

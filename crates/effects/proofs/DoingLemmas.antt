@@ -1,8 +1,8 @@
 -- Firsts to which more accesses are added.
-use Rattle.std.proofs.Common.{◌≡◌, ◌⊎◌, inl, inr, ℕ, List, [], ◌∷◌, ◌++◌, length, map, drop, refl, sym, ap, ◌∙◌, subst, arith, Result, Ok, Err, OnOk}
-use Rattle.std.specs.Prelude.{nat_eq, Bool, true, false, if◌then◌else◌, ◌<◌, ◌≤◌}
+use Rattle.std.proofs.Common.{◌≡◌, ◌⊎◌, inl, inr, ℕ, List, [], ◌++◌, length, refl, sym, ap, subst, arith}
+use Rattle.std.specs.Prelude.{nat_eq, Bool, true, false, if◌then◌else◌, ◌<◌}
 use Rattle.std.proofs.lemmas.Bool.{eqb-true}
-use Rattle.sections.specs.Member.{Member, first, next}
+use Rattle.sections.specs.Member.{Member}
 use Rattle.types.specs.Code.{Code, Codes, End, Then, Program}
 use Rattle.types.specs.Run.{procedure_of}
 use Rattle.effects.specs.Accesses.{Access, own_accesses}
@@ -70,10 +70,6 @@ module _ (more : Access → Type 0) where
 
 pub listed_firsts : (xs : List Access) → AreFirsts (λ x. Member x xs) xs
 listed_firsts xs = record { among = λ x m. m; first = λ x m. as_early_itself x xs m }
-
-pub on_ok : {A E : Type 0} {P Q : Type 0} (r : Result A E) → (P → Q) → OnOk r P → OnOk r Q
-on_ok (Ok x) f h = f h
-on_ok (Err e) f h = tt
 
 module _ (p : Program) where
   -- one statement more in front

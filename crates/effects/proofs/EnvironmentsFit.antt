@@ -1,7 +1,7 @@
 -- Environments that fit stay so: at the start, in the block of a split and behind it, and in a call.
 use Rattle.std.proofs.Common.{◌≡◌, ◌≢◌, inl, ℕ, zero, suc, ◌+◌, ◌<◌, ◌≤◌, List, [], ◌∷◌, length, map, Option, Some, ℤ}
 use Rattle.std.proofs.Common.{refl, sym, ap, ◌∙◌, subst, arith}
-use Rattle.std.specs.Prelude.{true, slice_get, slice_index_or, if◌then◌else◌}
+use Rattle.std.specs.Prelude.{true, slice_get, slice_index_or}
 use Rattle.types.proofs.Bindings.{bind_here, bind_other}
 use Rattle.sections.specs.Origins.{Origin, Root, Left, Right, origin_of, IsNumbered}
 use Rattle.sections.specs.Place.{Window, sides_of, nowhere}

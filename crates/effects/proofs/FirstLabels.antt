@@ -13,7 +13,6 @@ use Rattle.effects.specs.Accesses.{Access}
 use Rattle.types.specs.Code.{Program}
 use Rattle.effects.specs.Effects.{accesses, renamed}
 use Rattle.effects.specs.Rows.{Renamed}
-use Rattle.effects.specs.AccessSets.{HasAccess}
 use Rattle.effects.specs.Least.{IsFirst}
 use Rattle.effects.specs.Firsts.{HasAsEarly, AreFirsts, AreFirstsIn, IsAlikeAt, IsPassed, IsPassedAs}
 use Rattle.effects.specs.Translation.{access}

@@ -1,5 +1,5 @@
 -- The test of a set's labels.
-use Rattle.std.proofs.Common.{◌≡◌, ◌/◌, ◌%◌, ◌^◌, ◌<◌, ℕ, true, nat_eq, arith}
+use Rattle.std.proofs.Common.{◌≡◌, ◌/◌, ◌%◌, ◌^◌, ◌<◌, ℕ, true, arith}
 use Rattle.std.proofs.lemmas.Bool.{eq-eqb, eqb-true}
 use Rattle.std.specs.Int.{bit_at}
 use Rattle.effects.specs.LabelSets.{HasLabel, has_label, words_of}

@@ -5,6 +5,7 @@ pub mod ClosingLemmas
 pub mod ComesSound
 pub mod ComesComplete
 pub mod ComingLemmas
+pub mod Derived
 pub mod DoingLemmas
 pub mod EnvironmentsFit
 pub mod FirstLabels

@@ -1,12 +1,7 @@
 -- Truth values, and elements of lists.
-use Rattle.std.proofs.Common.{◌≡◌, ◌≢◌, ◌⊎◌, inl, inr, List, [], ◌∷◌, ◌++◌, map, refl}
-use Rattle.std.proofs.Common.{sym, true≢false}
-use Rattle.std.specs.Prelude.{true, false}
+use Rattle.std.proofs.Common.{◌≡◌, ◌⊎◌, inl, inr, List, [], ◌∷◌, ◌++◌, map, refl}
 use Rattle.sections.specs.Member.{Member, first, next}
 pub use Rattle.types.proofs.NumbersFrom.{numbers_from-member, numbers_from-below}
-
-pub false_true : {A : Type 0} → false ≡ true → A
-false_true h = absurd (true≢false (sym h))
 
 pub in_left : {A : Type 0} {x : A} {xs : List A} (ys : List A) → Member x xs → Member x (xs ++ ys)
 in_left ys first = first

@@ -1,5 +1,5 @@
 -- Sections in ascending order, and what accesses need, as they are listed.
-use Rattle.std.proofs.Common.{◌≡◌, ◌⊎◌, inl, inr, ℕ, zero, suc, ◌+◌, ◌-◌, ◌<◌, ◌≤◌, List, [], ◌∷◌, ◌++◌, length, map, drop, get_or, refl, sym, ap, ◌∙◌, subst, arith}
+use Rattle.std.proofs.Common.{◌≡◌, ◌⊎◌, inl, inr, ℕ, zero, suc, ◌-◌, ◌<◌, ◌≤◌, List, [], ◌∷◌, ◌++◌, length, map, drop, get_or, refl, sym, ap, ◌∙◌, subst, arith}
 use Rattle.std.proofs.Math.Seq.{drop-cons}
 use Rattle.std.proofs.lemmas.Bool.{eqb-true, eqb-false, ltb-true, ltb-false, eq-eqb, ne_eqb, lt-ltb, le-ltb}
 use Rattle.std.proofs.lemmas.List.{drop_all}
@@ -8,7 +8,6 @@ use Rattle.std.specs.Prelude.{Bool, true, false, nat_eq, nat_lt, if◌then◌els
 use Rattle.sections.specs.Member.{Member, first, next}
 use Rattle.sections.specs.Translation.{section}
 use Rattle.sections.specs.declared.id.SectionId.{SectionId}
-use Rattle.effects.specs.Accesses.{Access}
 use Rattle.effects.specs.Needs.{among, also, written_by, others_by}
 use Rattle.effects.specs.Translation.{access}
 use Rattle.effects.specs.declared.access.Access.{Access as rAccess}

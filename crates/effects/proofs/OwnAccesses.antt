@@ -1,9 +1,10 @@
 -- A statement of one step reads and writes places of its own accesses alone.
 use Rattle.std.proofs.Common.{◌≡◌, ℕ, zero, suc, ◌+◌, ◌<◌, List, [], ◌∷◌, length, Some, None, Ok, Err, ℤ, pos, negsuc}
-use Rattle.std.proofs.Common.{refl, sym, ap, ◌∙◌, subst, arith}
-use Rattle.std.specs.Prelude.{Bool, true, false, Contains, slice_index_or, nat_lt, nat_eq, if◌then◌else◌, ok_or}
-use Rattle.std.proofs.lemmas.Bool.{ltb-true, eqb-true, and_parts}
+use Rattle.std.proofs.Common.{refl, sym, subst, arith}
+use Rattle.std.specs.Prelude.{Bool, true, false, Contains, slice_index_or, nat_lt, if◌then◌else◌, ok_or}
+use Rattle.std.proofs.lemmas.Bool.{ltb-true}
 use Rattle.sections.specs.Place.{Window, Place, In, same_place}
+use Rattle.sections.proofs.Windows.{places_same}
 use Rattle.sections.specs.Member.{Member, first, next}
 use Rattle.types.specs.declared.fault.FaultKind.TheVariants.{Index}
 use Rattle.types.specs.Code.{Number, Truth, Primitive, Skip, Assign, Store, Print, Raise, Do, Program}
@@ -65,14 +66,6 @@ write-other q r v c h = go (same_place q r) refl
     go true e = absurd (h e)
     go false e = refl
 
-same_place-equal : (q r : Place) → same_place q r ≡ true → q ≡ r
-same_place-equal q r h =
-    let e = and_parts (nat_eq q.array r.array) (nat_eq q.index r.index) h in
-    ap (λ a. make a q.index) (eqb-true q.array r.array e.0) ∙ ap (λ i. make r.array i) (eqb-true q.index r.index e.1)
-  where
-    make : ℕ → ℕ → Place
-    make a i = record { array = a; index = i }
-
 module _ (p : Program) {X : Type 0} (l : ℕ) (q : Place) where
   -- the number at the place stays
   abbrev Stays : State X → State X → Type 0
@@ -102,7 +95,7 @@ module _ (p : Program) {X : Type 0} (l : ℕ) (q : Place) where
       put_stays (holds_number (array_of p r.array).element v) r v st (λ n. h (record {
         access = record { label = l; section = s; write = true };
         among = first;
-        place = subst (λ q. In (window_at st s) q) (same_place-equal r q n)
+        place = subst (λ q. In (window_at st s) q) (places_same r q n)
             (subst (IsIn (window_at st s)) m (element_of-in (window_at st s) at));
         writes = refl;
       })))))

@@ -2,6 +2,7 @@
 use Rattle.std.proofs.Common.{ℕ, List, [], ◌∷◌, ◌++◌, inl, inr, sym, ap, ◌∙◌, subst}
 use Rattle.std.specs.Prelude.{false, flat_map}
 use Rattle.std.specs.List.{AllByRecursion}
+use Rattle.facts.proofs.Truths.{false_true}
 use Rattle.sections.specs.Member.{Member, first, next}
 use Rattle.types.specs.Code.{Number, Literal, Scalar, Element, Length, Negative, Chain, Links, Done, Link, Truth}
 use Rattle.types.specs.Code.{Constant, Compare, Not, Both, Either, Truths, NoMore, Also, Primitive, Skip, Assign, Store}
@@ -10,7 +11,7 @@ use Rattle.types.specs.Indexed.{indexed, indexed_links, indexed_truth, indexed_t
 use Rattle.types.specs.Sound.{NumberFollows, LinksFollow, TruthFollows, TruthsFollow, StoresWell, PrimitiveFollows, FollowsOf}
 use Rattle.effects.specs.Accesses.{Access, reads, own_primitive, own_accesses}
 use Rattle.effects.specs.Sound.{Allowed}
-use Rattle.effects.proofs.Members.{false_true, in_parts, from_map}
+use Rattle.effects.proofs.Members.{in_parts, from_map}
 
 module _ (g : Procedure) (scope : List ℕ) where
   mutual

@@ -3,6 +3,7 @@ use Rattle.std.proofs.Common.{◌≡◌, ℕ, zero, suc, ◌+◌, ◌-◌, ◌<�
 use Rattle.std.proofs.Common.{arith, true≢false}
 use Rattle.std.proofs.lemmas.Bool.{and_from, eqb-true, eq-eqb, ltb-true, ltb-false, and_parts}
 use Rattle.std.specs.Prelude.{Bool, true, false, ◌&&◌, nat_eq, nat_lt, if◌then◌else◌}
+use Rattle.facts.proofs.Truths.{false_true}
 use Rattle.sections.specs.Member.{Member, first, next}
 use Rattle.sections.proofs.Members.{any_member, member_any}
 use Rattle.effects.specs.Accesses.{Access}
@@ -11,7 +12,6 @@ use Rattle.effects.specs.Rounds.{same_kind, same_access, lists, has_all, none, a
 use Rattle.effects.specs.Rounds.{first_stable}
 use Rattle.effects.specs.Effects.{accesses}
 use Rattle.effects.proofs.Missing.{missing, missing-less, missing-falls}
-use Rattle.effects.proofs.Members.{false_true}
 
 -- ---- tests
 abbrev make : ℕ → ℕ → Bool → Access

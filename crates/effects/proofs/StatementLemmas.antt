@@ -4,8 +4,8 @@ use Rattle.std.proofs.lemmas.List.{map-append}
 use Rattle.std.specs.List.{range_with_len}
 use Rattle.std.specs.Prelude.{slice_index_or}
 use Rattle.sections.specs.Member.{Member, first, next}
-use Rattle.types.specs.Code.{Truth, Number, Code, Do, If, While, Split, Call, Async, Finish, Codes, End, Then, Procedure, Program}
-use Rattle.types.specs.Labels.{labels_of, labels_inside, labels_of_procedures, labels_of_program}
+use Rattle.types.specs.Code.{Number, Code, Do, If, While, Split, Call, Async, Finish, Codes, End, Then, Procedure, Program}
+use Rattle.types.specs.Labels.{labels_of, labels_inside, labels_of_procedures}
 use Rattle.types.specs.Run.{procedure_of, no_procedure}
 use Rattle.types.specs.Translation.{code, codes}
 use Rattle.types.specs.declared.code.Stmt.{Stmt}

@@ -6,7 +6,7 @@ use Rattle.std.proofs.lemmas.Option.{slice_get_within}
 use Rattle.types.specs.Code.{Program}
 use Rattle.effects.specs.Closing.{HasIn}
 use Rattle.effects.specs.Coming.{Comes}
-use Rattle.effects.specs.Derived.{Derived}
+use Rattle.effects.proofs.Derived.{Derived}
 use Rattle.effects.specs.SummaryRows.{HasRow}
 use Rattle.effects.specs.Outlines.{numbered}
 use Rattle.effects.specs.Sound.{IsSound}

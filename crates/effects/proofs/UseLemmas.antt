@@ -1,9 +1,10 @@
 -- Uses where a list of sets has grown, or one of them has changed.
 use Rattle.std.proofs.Common.{◌≡◌, ◌⊎◌, inl, inr, ℕ, zero, suc, ◌<◌, ◌≤◌, List, [], ◌∷◌, ◌++◌, length, get_or, refl, sym, ap, subst, ◌∙◌, arith}
-use Rattle.std.proofs.Common.{Option, Some, None, Result, Ok, Err}
+use Rattle.std.proofs.Common.{Option, Some, None}
 use Rattle.std.proofs.Math.ListN.{set}
 use Rattle.std.proofs.lemmas.Option.{slice_get_read, slice_get_past}
-use Rattle.std.specs.Prelude.{◌↔◌, Bool, true, false, slice_get, OnOk, IfOk}
+use Rattle.std.specs.Prelude.{◌↔◌, Bool, true, false, slice_get}
+use Rattle.facts.proofs.Truths.{false_true}
 use Rattle.effects.specs.Accesses.{Access}
 use Rattle.effects.specs.AccessSets.{HasAccess, IsUseOf, uses_of}
 use Rattle.effects.specs.LabelSets.{HasLabel}
@@ -11,7 +12,6 @@ use Rattle.effects.specs.UseSets.{HasIn, HasUse}
 use Rattle.effects.specs.declared.accesses.Accesses.{Accesses}
 use Rattle.effects.specs.declared.label_set.LabelSet.{LabelSet}
 use Rattle.effects.specs.declared.uses.Uses.{Uses}
-use Rattle.effects.proofs.Members.{false_true}
 
 -- one more set, without a label
 pub has_pushed : (xs : List LabelSet) (x : LabelSet) → ((l : ℕ) → HasLabel x l → ⊥) → (s l : ℕ)
@@ -63,14 +63,6 @@ has_set_at xs i x y more h at both =
 -- what is the same may stand in its place
 pub through : {A B C M : Type 0} → A ↔ (B ⊎ M) → B ↔ C → A ↔ (C ⊎ M)
 through f g = (λ a. elim (f.0 a) [ inl b ↦ inl (g.0 b) | inr m ↦ inr m ], λ h. f.1 (elim h [ inl c ↦ inl (g.1 c) | inr m ↦ inr m ]))
-
-pub on_ok : {T E P Q : Type 0} (r : Result T E) → (P → Q) → OnOk r P → OnOk r Q
-on_ok (Ok x) f h = f h
-on_ok (Err e) f h = h
-
-pub if_ok : {T E : Type 0} (P Q : T → Type 0) (r : Result T E) → ((x : T) → P x → Q x) → IfOk r P → IfOk r Q
-if_ok P Q (Ok x) f h = f x h
-if_ok P Q (Err e) f h = h
 
 -- uses of one kind have grown, and those of the other kind have not
 grown_uses : (old new : Uses) (s : ℕ) {b w : Bool} (more : ℕ → Type 0) → b ≡ w

@@ -1,5 +1,5 @@
 -- What a statement of a body may do, the body may do, up to the names of sides.
-use Rattle.std.proofs.Common.{◌≡◌, ◌⊎◌, inl, inr, ℕ, List, [], ◌∷◌, ◌++◌, refl, sym, ap, subst, ◌∙◌}
+use Rattle.std.proofs.Common.{◌≡◌, inl, inr, ℕ, List, ◌∷◌, ◌++◌, refl, sym, ap, subst, ◌∙◌}
 use Rattle.sections.specs.Member.{Member, first, next}
 use Rattle.types.specs.Code.{Number, Code, Do, If, While, Split, Call, Async, Finish, Codes, End, Then, Procedure, Program}
 use Rattle.types.specs.Translation.{codes}

@@ -1,5 +1,5 @@
 -- The labels of a set: label 64 k + i is bit i of word k.
-use Rattle.std.specs.Prelude.{ℕ, ◌≡◌, ◌<◌, ◌/◌, ◌%◌, List, Bool, nat_eq}
+use Rattle.std.specs.Prelude.{ℕ, ◌≡◌, ◌<◌, ◌/◌, ◌%◌, Bool, nat_eq}
 use Rattle.std.specs.Int.{bit_at}
 use Rattle.types.specs.Run.{by_number}
 use Rattle.effects.specs.declared.label_set.LabelSet.{LabelSet}

@@ -3,7 +3,6 @@ pub mod Accesses
 pub mod AsyncNeeds
 pub mod Closing
 pub mod Coming
-pub mod Derived
 pub mod Effects
 pub mod Firsts
 pub mod Fits

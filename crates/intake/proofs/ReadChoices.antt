@@ -1,5 +1,5 @@
 -- What is read of choices, byte by byte, and of a file of them.
-use Rattle.std.proofs.Common.{◌≡◌, ℕ, List, [], ◌∷◌, Option, Some, None, Ok, Err, ap, ◌∙◌, arith}
+use Rattle.std.proofs.Common.{◌≡◌, ℕ, List, ◌∷◌, Option, Some, None, Ok, Err, ap, ◌∙◌, arith}
 use Rattle.std.specs.Prelude.{option_map}
 use Rattle.intake.specs.Choices.{Reading, filed_by, goes_on, read_from, read_of_file, with_byte}
 use Rattle.intake.specs.Choices.{with_byte_of_file}

@@ -18,9 +18,6 @@ pub record SeenFirst {X : Type 0} (f : X → Data) (xs : List X) (n : ℕ) (vs :
   pub so_far : map view vs ≡ map f (take n xs)
 
 module _ {X : Type 0} (f : X → Data) (xs : List X) where
-  pub seen_none : SeenFirst f xs 0 []
-  seen_none = record { so_far = refl }
-
   -- one more
   pub seen_more : (n : ℕ) (x d : X) (vs : List Value) (v : Value) → n < length xs → x ≡ get_or xs n d
       → SeenFirst f xs n vs → view v ≡ f x → SeenFirst f xs (n + 1) (vs ++ v ∷ [])
@@ -49,9 +46,6 @@ pub record PutFirst {X : Type 0} (plain : X → PlainArray × List ℤ) (xs : Li
   pub left : put_arrays (map plain (drop n xs)) ms ≡ put_arrays (map plain xs) no_members
 
 module _ {X : Type 0} (plain : X → PlainArray × List ℤ) (xs : List X) where
-  pub put_none : PutFirst plain xs 0 no_members
-  put_none = record { left = refl }
-
   pub put_more : (n : ℕ) (x d : X) (ms : Members) → n < length xs → x ≡ get_or xs n d → PutFirst plain xs n ms
       → PutFirst plain xs (n + 1) (put (plain x).0.name (numbers_json (plain x).1) ms)
   put_more n x d ms inside is p =

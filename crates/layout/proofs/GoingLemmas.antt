@@ -60,10 +60,6 @@ passes q text rest old new begins none added ps cut =
           ∙ ap (with_rest old) (sym first.parts);
     }
 
--- nothing was passed
-pub passes_nothing : (w : Writer) (text : List ℕ) → Passes w text w text
-passes_nothing w text ps cut = record { pieces = ps; cut = cut; tokens = refl; laid = refl }
-
 -- a writer that goes on passes what has no tokens
 pub goes_on : (whole : List ℕ) (ts : List Token) (old new : Writer) (text rest : List ℕ) → GoesOn whole ts old text
     → Passes old text new rest → GoesOn whole ts new rest

@@ -4,8 +4,8 @@ use Rattle.std.proofs.lemmas.Bool.{OnTrue_from}
 use Rattle.std.specs.Bool.{OnTrue}
 use Rattle.std.specs.Borrow.{Bor}
 use Rattle.std.specs.Prelude.{IfSome, is_some, option_map}
+use Rattle.facts.proofs.Truths.{false_true}
 use Rattle.types.specs.Translation.{outcome as outcome_in}
-use Rattle.effects.proofs.Members.{false_true}
 use Rattle.types.specs.declared.outcome.Outcome.{Outcome}
 use Rattle.gather.specs.Jobs.{budget_of, outcome_of, program_of}
 use Rattle.interleave.specs.Shown.{Shows}

@@ -8,34 +8,17 @@ use Rattle.intake.specs.Held.{Held}
 use Rattle.intake.specs.declared.failure.Failure.{Failure}
 use Rattle.intake.specs.declared.failure.Failure.TheVariants.{NoMemory}
 use Rattle.race_checker.specs.Clash.{IsAccepted}
-use Rattle.answers.specs.Answers.{Explains, IsRunBy, LooksForRaces, TestsRules}
-use Rattle.answers.specs.Answers.{TellsNoCode, TellsNotAccepted, TellsNotBegun, TellsNotGiven}
+use Rattle.answers.specs.Answers.{Explains, IsRunBy, LooksForRaces}
+use Rattle.answers.specs.Answers.{TellsNotBegun}
 use Rattle.answers.proofs.Answering.{IsOther, other_failure}
-use Rattle.answers.proofs.Answering.{no_code_explained, no_code_other, not_given_explained, not_given_other}
-use Rattle.answers.proofs.Answering.{not_accepted_explained, not_accepted_other, not_begun_explained, not_begun_other}
+use Rattle.answers.proofs.Answering.{not_begun_explained, not_begun_other}
 use Rattle.objects.specs.Objects.{FailsEarly}
 
 module _ (c : Command) (s : Settings) (held : Held) (text : List ℕ) where
   early : (f : Failure) → Explains c s held text f → IsOther f → FailsEarly c s held text f
   early f why other = record { why = why; early = other_failure f other }
 
-  -- a text without a code
-  pub no_code_early : TestsRules c → (f : Failure) → TellsNoCode text f → FailsEarly c s held text f
-  no_code_early tests f told =
-      early f (no_code_explained c s held text None tests f told) (no_code_other c s held text None f told)
-
-  -- or a program without an input
-  pub not_given_early : TestsRules c → ((code : Program) → IsRunBy c code) → (f : Failure)
-      → TellsNotGiven s held text f → FailsEarly c s held text f
-  not_given_early tests runs f told =
-      early f (not_given_explained c s held text None tests runs f told) (not_given_other c s held text None tests runs f told)
-
-  -- a text without an accepted program
-  pub not_accepted_early : LooksForRaces c → (f : Failure) → TellsNotAccepted text f → FailsEarly c s held text f
-  not_accepted_early looks f told =
-      early f (not_accepted_explained c looks s held text None f told) (not_accepted_other c looks s held text None f told)
-
-  -- or one without an input
+  -- a text without an accepted program, or one without an input
   pub not_begun_early : (looks : LooksForRaces c) → ((code : Program) → IsAccepted code → IsRunBy c code) → (f : Failure)
       → TellsNotBegun s held text f → FailsEarly c s held text f
   not_begun_early looks runs f told =

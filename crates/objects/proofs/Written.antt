@@ -1,11 +1,11 @@
 -- From the line of an object to what it tells.
-use Rattle.std.proofs.Common.{◌≡◌, ◌≢◌, ℕ, List, [], Option, Some, Result, Ok, Err, ap, sym, subst, ◌∙◌}
+use Rattle.std.proofs.Common.{◌≡◌, ◌≢◌, ℕ, List, Option, Some, Result, Ok, Err, ap, sym, subst, ◌∙◌}
 use Rattle.std.proofs.Common.{Global, String, string_bytes}
 use Rattle.std.specs.declared.alloc.AllocError.{AllocError}
 use Rattle.std.proofs.KnownBytes.{Appends-kept}
-use Rattle.std.proofs.lemmas.List.{append-nil}
 use Rattle.std.specs.Io.KnownBytes.{Keeps}
-use Rattle.std.specs.Prelude.{IfErr, IfOk, IfSome, MatchResult}
+use Rattle.facts.proofs.Results.{ok_is_no_error}
+use Rattle.std.specs.Prelude.{IfErr, IfOk, IfSome}
 use Rattle.syntax.specs.declared.place.Place.{Place}
 use Rattle.types.specs.Code.{Program}
 use Rattle.types.specs.Typed.{code_of}
@@ -22,10 +22,11 @@ use Rattle.race_checker.specs.declared.check.Refused.TheVariants.{Race}
 use Rattle.race_checker.specs.declared.race.Race.{Race as FoundRace}
 use Rattle.witness.specs.Witness.{IsShortest, IsWitness}
 use Rattle.witness.specs.declared.witness.Witness.{Witness}
+use Rattle.texts.proofs.Appending.{beginning_written}
 use Rattle.texts.specs.Appending.{AppendsBeginning, Writes}
 use Rattle.intake.specs.declared.failure.Failure.{Failure}
 use Rattle.intake.specs.declared.failure.Failure.TheVariants.{CannotWriteOutput}
-use Rattle.answers.specs.Answers.{Answer, IsCodeOf, Wrote}
+use Rattle.answers.specs.Answers.{Answer, IsCodeOf}
 use Rattle.json_answers.specs.Pieces.{line}
 use Rattle.json_answers.specs.Refusals.{refusal_json}
 use Rattle.json_answers.specs.Programs.{pairs_json}
@@ -35,16 +36,8 @@ use Rattle.objects.specs.Objects.{ArePlaces, ObjectOfPairs}
 use Rattle.objects.specs.declared.told.Told.{Told}
 use Rattle.objects.specs.Failing.{FailedAsObject, IsToldAsObject, ShowsRace, TellsPlaced, TellsRace, told}
 
-ok_is_no_error : {A E : Type 0} (x : A) (e : E) → (let r : Result A E = Ok x in r) ≡ Err e → ⊥
-ok_is_no_error x e is = cc
-
 error_is : {A E : Type 0} (d e : E) → (let r : Result A E = Err d in r) ≡ Err e → d ≡ e
 error_is d e is = cc
-
--- whether or not all was taken, a beginning was appended, also where the rest was flushed
-begun_by : {T E : Type 0} (a b : Option (List ℕ)) (r : Result T E) (t : List ℕ) → Writes a b r t → AppendsBeginning a b t
-begun_by a b (Ok x) t written = record { begun = t; rest = []; parts = sym (append-nil t); appended = written }
-begun_by a b (Err e) t begun = begun
 
 kept_begun : (a b c : Option (List ℕ)) (t : List ℕ) → AppendsBeginning a b t → Keeps b c → AppendsBeginning a c t
 kept_begun a b c t p keeps = record {
@@ -57,7 +50,7 @@ kept_begun a b c t p keeps = record {
 -- an object that was written and flushed
 pub flushed : {T E : Type 0} (Tells : List ℕ → Type 0) (a b c : Option (List ℕ)) (r : Result T E) (t : List ℕ) → Tells t
     → Writes a b r t → Keeps b c → IsToldAsObject Tells a c
-flushed Tells a b c r t tells written keeps = told t tells (kept_begun a b c t (begun_by a b r t written) keeps)
+flushed Tells a b c r t tells written keeps = told t tells (kept_begun a b c t (beginning_written a b r t written) keeps)
 
 -- a failure that is told with the places of the text's program
 pub placed_told : (file text object : List ℕ) (f : Failure) (places shown : List Place) → shown ≡ places
@@ -127,18 +120,6 @@ told_pairs text code kept list (Ok t) l is_code are listed is status object =
     }
 
 module _ (Is : Answer) (Why : Failure → Type 0) (Tells : Failure → (told : List ℕ) → Type 0) where
-  -- an object that was written, or a beginning of it
-  pub object_answered : (old new : Option (List ℕ)) (r : Result ℕ Failure) (object : List ℕ) (status : ℕ)
-      → Why CannotWriteOutput → Is object status → Writes old new r object → IfOk r (λ n. n ≡ status)
-      → IfErr r (λ f. f ≡ CannotWriteOutput) → MatchResult r (Wrote Is old new) (FailedAsObject Is Why Tells old new)
-  object_answered old new (Ok n) object status why answers written is only =
-      record { told = object; answers = subst (Is object) (sym is) answers; written = written }
-  object_answered old new (Err f) object status why answers written is only = record {
-    why = subst Why (sym only) why;
-    told = λ other. absurd (other only);
-    begun = λ _. record { told = object; status = status; answers = answers; begun = written };
-  }
-
   -- a failure whose object was told
   pub object_refused : (old new : Option (List ℕ)) (f : Failure) → Why f → f ≢ CannotWriteOutput
       → IsToldAsObject (Tells f) old new → FailedAsObject Is Why Tells old new f

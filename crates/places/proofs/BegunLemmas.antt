@@ -47,10 +47,6 @@ unfolding token_starts
 starts_later ended t ts is =
     ap (λ (b : Bool). if b then (t ∷ ts) ∷ token_starts (ends_line t) ts else token_starts (ends_line t) ts) is
 
--- at first nothing is found
-pub nothing_found : (text : List ℕ) (all : List Token) → IsFound text all all false []
-nothing_found text all = record { done = []; parts = refl; begun = tt }
-
 -- at the end all is
 pub all_found : (text : List ℕ) (all : List Token) (ended : Bool) (places : List Place) → IsFound text all [] ended places
     → AreBegun text (token_starts false all) places

@@ -4,7 +4,8 @@ use Rattle.std.proofs.Common.{arith, ap, sym, ◌∙◌, append_assoc}
 use Rattle.std.specs.Fmt.{char_count, decimal, format_spec, styled_decimal, padded_integral}
 use Rattle.std.specs.List.{repeat}
 use Rattle.std.proofs.lemmas.List.{append_cancel_right, drop-map, drop_more}
-use Rattle.syntax.proofs.LineText.{label_padded, repeat_is}
+use Rattle.facts.proofs.Lists.{spaces}
+use Rattle.syntax.proofs.LineText.{label_padded}
 use Rattle.syntax.specs.declared.place.Place.{Place}
 use Rattle.places.specs.Lines.{has_label, left_behind, place_margin, placed_line, placed_lines}
 
@@ -16,7 +17,7 @@ right_padded n =
     append_cancel_right _ _ (32 ∷ []) (label_padded n ∙ sym (append_assoc padding (decimal n) (32 ∷ [])))
 
 left_shape : (p k : ℕ) (digits : List ℕ) → p ≡ k → digits ++ repeat {A = ℕ} p (32 ∷ []) ≡ digits ++ replicate k 32
-left_shape p k digits e = ap (λ l. digits ++ l) (repeat_is p ∙ ap (λ m. replicate m 32) e)
+left_shape p k digits e = ap (λ l. digits ++ l) (spaces p ∙ ap (λ m. replicate m 32) e)
 
 -- a number left in four places
 pub left_padded : (n : ℕ) → styled_decimal (format_spec 32 1 0 4 18446744073709551615) n

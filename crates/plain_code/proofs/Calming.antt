@@ -99,10 +99,6 @@ module _ (calm : List Bool) where
     )
 
 module _ (p : Program) (calm : List Bool) (of : AreCalm p calm) where
-  marks : (b : Bool) (f : ℕ) → calm_at calm f ≡ b → (ArePlain p (procedure_of p f).body → ⊥) → b ≡ false
-  marks true f e not = absurd (not ((of.each f).0 e))
-  marks false f e not = refl
-
   not_reached : {b : Codes} → Reaches p b → are_plain_by calm b ≡ true → ⊥
   not_reached (Reaches.async at) h = false≢true (stands_plain calm at h)
   not_reached (Reaches.finish at) h = false≢true (stands_plain calm at h)

@@ -12,6 +12,7 @@ use Rattle.types.specs.Code.{Element, Length, Chain, Link, Done, Compare, Store,
 use Rattle.types.specs.Code.{Codes, End, Then, Parameter, Procedure, Program}
 use Rattle.types.specs.Run.{procedure_of, no_procedure}
 use Rattle.types.proofs.Programs.{◌⨾◌, lit, ints, main_of as program_of, two_arrays, twice, doubling, two_readers}
+use Rattle.types.proofs.ProgramsSound.{numbered_roots}
 use Rattle.effects.specs.Accesses.{Access}
 use Rattle.effects.specs.Effects.{accesses}
 use Rattle.effects.specs.Rounds.{summaries, pending_summaries}
@@ -103,14 +104,6 @@ numbered_sides = record { left = left_later; right = right_later; right_behind =
     left_before (suc zero) s e = left_right refl e
     left_before (suc (suc zero)) s e = ap Left (one_right refl e)
     left_before (suc (suc (suc n))) s e = root_right refl e
-
-pub numbered_roots : (origins : List Origin) → ((a : ℕ) → origin_of origins a ≡ Root) → IsNumbered origins
-numbered_roots origins root = record {
-  left = λ a s e. root_left (root a) e;
-  right = λ a s e. root_right (root a) e;
-  right_behind = λ a s e. root_left (root a) e;
-  left_before = λ a s e. root_right (root a) e;
-}
 
 one_root : (a : ℕ) → origin_of (Root ∷ []) a ≡ Root
 one_root zero = refl

@@ -2,6 +2,7 @@
 use Rattle.std.proofs.Common.{◌≡◌, ◌⊎◌, ℕ, zero, suc, ◌<◌, ◌≤◌, refl, sym, ◌∙◌, inl, inr, subst, arith}
 use Rattle.std.proofs.Math.Logic.{∥∥₁_elim}
 use Rattle.std.specs.Prelude.{Bool, true, false}
+use Rattle.facts.proofs.Truths.{true_false}
 use denote.Struct.Props.{props}
 use mathlib.Core.HLevel.{Σ_prop_path}
 
@@ -14,9 +15,6 @@ IsFirst-prop test k = hlevel props
 
 abbrev First : (ℕ → Bool) → Type 0
 First test = (k : ℕ) × IsFirst test k
-
-true_false : {A : Type 0} → true ≡ false → A
-true_false e = cc
 
 -- there is at most one such number
 first_not_later : (test : ℕ → Bool) (a b : First test) → a.0 < b.0 → ⊥

@@ -14,9 +14,17 @@ use Rattle.effects.proofs.Members.{in_left, in_right, in_map, in_parts, from_map
 use Rattle.race_checker.specs.Acceptance.{is_clash}
 use Rattle.race_checker.specs.Clash.{Clash}
 use Rattle.race_checker.specs.Races.{is_less, access_key, Race, race_key, comes_before, Clashes, LeastOf}
-use Rattle.race_checker.specs.Search.{race_of, tell, each_with, IsRaceAmong, lesser_of}
+use Rattle.race_checker.specs.Search.{race_of, tell, each_with, lesser_of}
 use Rattle.race_checker.proofs.RaceOrder.{not_less_trans, not_both_less, not_less_itself, Earlier, told, earlier_in_order}
 use Rattle.race_checker.proofs.RaceOrder.{earlier_other_order}
+
+-- a race of one of these pairs
+pub record IsRaceAmong (origins : List Origin) (f : ℕ) (pairs : List (Access × Access)) (r : Race)
+    : Type 0 where
+  pub pair : Access × Access
+  pub stands : Member pair pairs
+  pub clash : is_clash origins pair ≡ true
+  pub told : race_of f pair ≡ r
 
 -- of one race, the other before it isn't told later
 pub before_known : (r s : Race) → comes_before r s ≡ true → comes_before s r ≡ false

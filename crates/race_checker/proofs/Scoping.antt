@@ -2,6 +2,7 @@
 use Rattle.std.proofs.Common.{◌≡◌, ℕ, zero, suc, ◌+◌, ◌<◌, List, [], ◌∷◌, length, refl, sym, ap, ◌∙◌, subst, inl, inr}
 use Rattle.std.proofs.Common.{arith}
 use Rattle.std.specs.Prelude.{Bool, true, false, map, slice_index_or, slice_get, Some}
+use Rattle.facts.proofs.Truths.{false_true}
 use Rattle.sections.specs.Origins.{Root, origin_of}
 use Rattle.sections.specs.Member.{Member, first, next}
 use Rattle.sections.specs.Placed.{Placed}
@@ -13,7 +14,7 @@ use Rattle.effects.specs.Effects.{past_call}
 use Rattle.effects.specs.Sound.{no_parameter, as_parameter, parameters_of, FollowsOf, Follows}
 use Rattle.effects.specs.Sound.{HasArrays, IsSound}
 use Rattle.effects.specs.Fits.{names_in}
-use Rattle.effects.proofs.Members.{numbers_from-member, numbers_from-below, false_true}
+use Rattle.effects.proofs.Members.{numbers_from-member, numbers_from-below}
 use Rattle.effects.proofs.AccessesInScope.{origin_from_get}
 use Rattle.effects.proofs.EnvironmentsFit.{root_left, root_right, placed_inside}
 use Rattle.effects.proofs.OwnAllowed.{own_allowed}

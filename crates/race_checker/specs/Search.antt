@@ -1,7 +1,6 @@
 -- The search for the least race among pairs of accesses.
-use Rattle.std.specs.Prelude.{ℕ, ◌≡◌, List, map, flat_map, Bool, true, ◌&&◌, if◌then◌else◌, Option}
+use Rattle.std.specs.Prelude.{ℕ, List, map, flat_map, Bool, true, ◌&&◌, if◌then◌else◌, Option}
 use Rattle.std.specs.Prelude.{None, Some}
-use Rattle.sections.specs.Member.{Member}
 use Rattle.sections.specs.Origins.{Origin}
 use Rattle.effects.specs.Accesses.{Access}
 use Rattle.race_checker.specs.Acceptance.{is_clash}
@@ -27,14 +26,6 @@ tell origins f found p =
 -- each of the first with each of the second
 abbrev pub each_with : List Access → List Access → List (Access × Access)
 each_with xs ys = flat_map (λ x. map (λ y. (x, y)) ys) xs
-
--- a race of one of these pairs
-pub record IsRaceAmong (origins : List Origin) (f : ℕ) (pairs : List (Access × Access)) (r : Race)
-    : Type 0 where
-  pub pair : Access × Access
-  pub stands : Member pair pairs
-  pub clash : is_clash origins pair ≡ true
-  pub told : race_of f pair ≡ r
 
 -- the lesser of two races
 abbrev pub lesser_of : Option Race → Option Race → Option Race

@@ -15,7 +15,6 @@ use Rattle.command_line.specs.declared.request.Command.TheVariants.{Run, Serial,
 use Rattle.command_line.specs.declared.request.Command.TheVariants.{Labels, Places, Format, CheckFormat, Cost}
 use Rattle.command_line.specs.declared.request.Color.{Color}
 use Rattle.command_line.specs.declared.request.Color.TheVariants.{Auto, Always, Never}
-use Rattle.command_line.specs.declared.request.Telling.{Telling}
 use Rattle.command_line.specs.declared.manner.Manner.{Manner}
 use Rattle.command_line.specs.declared.request.Request.{Request}
 use Rattle.reading.specs.Reading.{Line, bare, flag_taken, line_of, no_texts, read, read_choosing, read_file}
@@ -24,10 +23,10 @@ use Rattle.std.proofs.lemmas.Slice.Eq.{bytes_eq-Decides}
 use Rattle.reading.specs.Reading.{told_line, manner_if, read_by, read_color, read_manner, read_rest}
 use Rattle.reading.specs.Reading.{either, measured_if, read_cost, read_flagged, read_parts}
 use Rattle.reading.specs.Reading.{read_optioned, read_serial_texts, read_showing, read_texts, read_view, shown_if, taken}
-use Rattle.command_line.specs.Requests.{AreForExplore, AreForRun, AreForSerial, AreRight, Asked, Asks, AsksPlainly, Options, Settings, Texts}
+use Rattle.command_line.specs.Requests.{AreForExplore, AreForRun, AreForSerial, AreRight, Asked, Asks, AsksPlainly, Options, Texts}
 use Rattle.command_line.specs.Requests.{AsPicture, AsTable, ByNumbers, ForViewer, Showing, Viewing, command_for, no_options}
 use Rattle.command_line.specs.Requests.{picture_of, showing_words, to_view, viewing_options, viewing_words}
-use Rattle.command_line.specs.Requests.{is_file_name, settings_by, flagged, valued, by_command}
+use Rattle.command_line.specs.Requests.{is_file_name, flagged, valued, by_command}
 use Rattle.command_line.specs.Requests.{color_word, manner_words, no_manner, told_so}
 use Rattle.command_line.specs.Requests.{acting, to_rewrite, to_rewrite_behind, to_cost, to_cost_by}
 use Rattle.command_line.specs.Requests.{AreForMeasuring, measured_words_behind, Parts, ByLabel, ByProcedure, command_by, parts_word}
@@ -328,9 +327,6 @@ read_places_behind file named =
     ∙ read_named (Answer Places) file named
 
 -- ---- names of files
-
-false_is_true : (let b : Bool = false in b) ≡ true → ⊥
-false_is_true is = true≢false (sym is)
 
 is_not : (b : Bool) → (b ≡ true → ⊥) → b ≡ false
 is_not true never = absurd (never refl)
@@ -644,14 +640,6 @@ asked_by words a l m asks is =
       asked = ap (λ (p : Line × Manner). told_so p.1 (acting p.0.action p.0.file told.options)) same
           ∙ sym told.asked;
     }
-
--- the settings that a line's texts say are those that are asked
-pub settled : (action : Action) (file : List ℕ) (telling : Telling) (o : Options) (s : Settings) → s ≡ settings_by o
-    → (let b : Asked = record { action = action; file = file; settings = s; telling = telling } in b)
-    ≡ record (acting action file o) { telling = telling }
-settled action file telling o s set =
-    ap (λ (t : Settings). let b : Asked = record { action = action; file = file; settings = t; telling = telling } in b)
-    set
 
 -- a request that asks one thing asks what is the same
 pub is_some_and : {a b : Asked} (r : Option Request) → a ≡ b → IsSomeAnd r (λ q. asked_of q ≡ a)

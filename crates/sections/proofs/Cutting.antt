@@ -7,13 +7,13 @@ use Rattle.std.proofs.lemmas.Bool.{and_parts, and_from, or_cases, or_left, or_ri
 use Rattle.std.proofs.lemmas.Bool.{false_from_ne_true, not_from_false, not-true, false≢true, true≢false}
 use Rattle.std.specs.Prelude.{Bool, true, false, not, ◌&&◌, ◌||◌, nat_eq, nat_lt, nat_le, if◌then◌else◌}
 use Rattle.std.specs.List.{list_all}
+use Rattle.facts.proofs.Truths.{same_truth}
 use Rattle.sections.specs.Place.{Place, Window, In}
 use Rattle.sections.specs.Covers.{is_in, has, has_places, ends_before, is_cover}
 use Rattle.sections.specs.Joining.{end_of, begins_no_later}
 use Rattle.sections.specs.Cutting.{unless_empty, ends_no_later, before, behind}
 use Rattle.sections.specs.Translation.{window}
 use Rattle.sections.specs.declared.window.Window.{Window as rWindow}
-use Rattle.sections.proofs.Members.{same_truth}
 use Rattle.sections.proofs.Covering.{in_window, is_in-from, begins-at, ends_cases, ends-array, ends-at, ends-begins, cover_from}
 
 -- ---- before and behind, by the arrays of the two windows

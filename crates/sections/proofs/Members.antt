@@ -5,12 +5,6 @@ use Rattle.std.specs.Prelude.{Bool, true, false}
 use Rattle.std.specs.List.{list_any}
 use Rattle.sections.specs.Member.{Member, first, next}
 
--- two truth values that follow from one another are the same
-pub same_truth : (a b : Bool) → (a ≡ true → b ≡ true) → (b ≡ true → a ≡ true) → a ≡ b
-same_truth true b f g = sym (f refl)
-same_truth false true f g = g refl
-same_truth false false f g = refl
-
 -- what passes where a test of a list does
 pub record Passes {A : Type 0} (test : A → Bool) (xs : List A) : Type 0 where
   pub item : A

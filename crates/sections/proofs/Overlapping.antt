@@ -2,24 +2,16 @@
 use Rattle.std.proofs.Common.{◌≡◌, ◌≢◌, ◌⊎◌, inl, inr, ℕ, ◌+◌, ◌-◌, ◌<◌, ◌≤◌, List, refl, sym, ap, ◌∙◌, subst, arith, true≢false}
 use Rattle.std.proofs.lemmas.Bool.{eqb-true, eqb-false, eq-eqb, ne_eqb, and_parts, and_from, or_cases, or_left, or_right}
 use Rattle.std.proofs.lemmas.Bool.{not-true, not-false, not_from_false, false_from_ne_true, false≢true, cases_order}
+use Rattle.std.proofs.Math.Bool.{or_comm}
 use Rattle.std.specs.Prelude.{Bool, true, false, ◌||◌, not, nat_eq}
 use Rattle.std.specs.List.{list_any}
+use Rattle.facts.proofs.Truths.{same_truth}
 use Rattle.sections.specs.Member.{Member}
 use Rattle.sections.specs.Origins.{Origin, Root, Left, Right, origin_of, IsNumbered, IsSideOf, left, right}
 use Rattle.sections.specs.Overlap.{one_parent, line, root_of, are_sides, are_opposite, under_opposite, are_disjoint, overlap}
-use Rattle.sections.proofs.Members.{same_truth, any_member, member_any}
+use Rattle.sections.proofs.Members.{any_member, member_any}
 use Rattle.sections.proofs.Lines.{in_own_line, line-below, root_of-root, root-below, parent_below, up_line, line-side}
 use Rattle.sections.proofs.Lines.{root_of-side, line_cases}
-
-nat_eq-sym : (a b : ℕ) → nat_eq a b ≡ nat_eq b a
-nat_eq-sym a b =
-    same_truth (nat_eq a b) (nat_eq b a) (λ h. eq-eqb b a (sym (eqb-true a b h))) (λ h. eq-eqb a b (sym (eqb-true b a h)))
-
-or-sym : (a b : Bool) → (a || b) ≡ (b || a)
-or-sym a b = same_truth (a || b) (b || a) (turned a b) (turned b a)
-  where
-    turned : (a b : Bool) → (a || b) ≡ true → (b || a) ≡ true
-    turned a b h = elim (or_cases a b h) [ inl k ↦ or_right b a k | inr k ↦ or_left b a k ]
 
 module _ (origins : List Origin) where
   -- two sections, and the sides of one split under which they lie
@@ -69,7 +61,7 @@ module _ (origins : List Origin) where
       by_falsehood false y f g = sym (f refl)
 
   opposite-sym : (a b : ℕ) → are_opposite origins a b ≡ are_opposite origins b a
-  opposite-sym a b = or-sym (are_sides origins a b) (are_sides origins b a)
+  opposite-sym a b = or_comm (are_sides origins a b) (are_sides origins b a)
 
   under-turned : (a b : ℕ) → Under a b → Under b a
   under-turned a b u = record {

@@ -2,6 +2,7 @@
 use Rattle.std.proofs.Common.{◌≡◌, inl, inr, List, [], ◌∷◌, refl, sym, ap, ◌∙◌, arith}
 use Rattle.std.proofs.lemmas.Bool.{and_from, and_parts, cases_lt, true≢false}
 use Rattle.std.specs.Prelude.{Bool, true, false, ◌&&◌, ◌||◌, if◌then◌else◌}
+use Rattle.facts.proofs.Truths.{or_swap}
 use Rattle.sections.proofs.Sorting.{is_in-empty}
 use Rattle.sections.specs.Covers.{has, has_places, is_cover, is_in}
 use Rattle.sections.specs.Joining.{begins_first, begins_no_later, is_ascending, joined, meets}
@@ -50,11 +51,6 @@ ascending-in_order w (v ∷ vs) h k = by_test (begins_no_later w v) refl (λ res
         and_from (has_places v) (begins_first v (in_order w vs) && is_ascending (in_order w vs)) a.0
         (and_from (begins_first v (in_order w vs)) (is_ascending (in_order w vs))
         (begins_first-in_order v w vs (one_begins v w e) b.0) (go b.1))
-
-or_swap : (a b c : Bool) → (a || (b || c)) ≡ (b || (a || c))
-or_swap true true c = refl
-or_swap true false c = refl
-or_swap false b c = refl
 
 has-in_order : (q : Place) (w : Window) (ws : List Window) → has (in_order w ws) q ≡ (is_in w q || has ws q)
 has-in_order q w [] = refl

@@ -3,6 +3,7 @@ use Rattle.std.proofs.Common.{◌≡◌, ℕ, Bool, true, false, if◌then◌els
 use Rattle.std.proofs.Common.{OnOk, is_ok, Some, None, Box, String, Global, refl, ap, sym, ◌∙◌, append_assoc}
 use Rattle.std.proofs.Common.{append-nil, ◌+◌, ◌<◌, ◌≤◌, length, drop, get_or}
 use Rattle.std.proofs.lemmas.List.{at_drop_more, at_drop_all}
+use Rattle.std.proofs.lemmas.Result.{on_ok_weaker}
 use Rattle.std.specs.Fmt.{decimal}
 use Rattle.std.specs.String.{string_bytes}
 use Rattle.syntax_tree.specs.declared.tree.Expr.{Expr as rExpr, out-Expr}
@@ -68,16 +69,9 @@ module _ {A : Type 0} (text : List A → List ℕ) where
       → text [] ≡ [] → before ≡ all
   adds_last xs i before at_end so_far none = adds_all before so_far (at_drop_all text xs i at_end ∙ none)
 
-pub ok_map : {X E P Q : Type 0} (r : Result X E) → (P → Q) → OnOk r P → OnOk r Q
-ok_map (Ok x) f p = f p
-ok_map (Err e) f p = tt
-
 pub ok_map3 : {X E P Q R S : Type 0} (r : Result X E) → OnOk r P → OnOk r Q → OnOk r R → (P → Q → R → S) → OnOk r S
 ok_map3 (Ok x) p q s f = f p q s
 ok_map3 (Err e) p q s f = tt
-
-pub ok_then : {X E P Q : Type 0} (r : Result X E) → OnOk r P → (P → Q) → OnOk r Q
-ok_then r p f = ok_map r f p
 
 -- what a push adds
 pub pushed : {X E : Type 0} (r : Result X E) (now added kept : List ℕ) → now ≡ (if is_ok r then added else kept) → OnOk r (now ≡ added)
@@ -87,12 +81,12 @@ pushed (Err e) now added kept f = tt
 -- one more text, by the last call
 pub then_ok : {X E : Type 0} (r : Result X E) (before first second behind : List ℕ) {between : List ℕ} → between ≡ before ++ first
     → OnOk r (behind ≡ between ++ second) → OnOk r (behind ≡ before ++ (first ++ second))
-then_ok r before first second behind e = ok_map r (then_adds before first second e)
+then_ok r before first second behind e = on_ok_weaker r (then_adds before first second e)
 
 -- the text under another name
 pub ok_adds_equal : {X E : Type 0} (r : Result X E) (before now : List ℕ) {text whole : List ℕ} → OnOk r (now ≡ before ++ text) → whole ≡ text
     → OnOk r (now ≡ before ++ whole)
-ok_adds_equal r before now h e = ok_map r (λ f. f ∙ ap (λ l. before ++ l) (sym e)) h
+ok_adds_equal r before now h e = on_ok_weaker r (λ f. f ∙ ap (λ l. before ++ l) (sym e)) h
 
 -- the texts of what stands behind first operands
 

@@ -6,6 +6,7 @@ use Rattle.std.specs.Fmt.{char_count, decimal, format_spec, styled_decimal, padd
 use Rattle.std.specs.List.{repeat}
 use Rattle.std.specs.Option.{option_map}
 use Rattle.std.specs.String.{string_bytes}
+use Rattle.facts.proofs.Lists.{spaces}
 use Rattle.syntax.specs.declared.canonical.Lines.{Lines}
 use Rattle.syntax_tree.specs.declared.tree.ElementType.{ElementType}
 use Rattle.syntax_tree.specs.declared.tree.ElementType.TheVariants.{Int as IntElement, Byte as ByteElement}
@@ -416,11 +417,6 @@ laid_main d n ts = append_under (plain_margin n ++ indent d) _ (codes "main") _ 
 
 -- a label right in five places
 
--- a text that is repeated is a row of it
-pub repeat_is : (n : ℕ) → repeat {A = ℕ} n (32 ∷ []) ≡ replicate n 32
-repeat_is zero = refl
-repeat_is (suc n) = ap (λ l. 32 ∷ l) (repeat_is n)
-
 padded_shape : (p k : ℕ) (digits : List ℕ) → p ≡ k
     → ((((repeat {A = ℕ} p (32 ∷ []) ++ []) ++ []) ++ []) ++ (digits ++ repeat {A = ℕ} (p - p) (32 ∷ []))) ++ (32 ∷ [])
     ≡ replicate k 32 ++ (digits ++ (32 ∷ []))
@@ -430,7 +426,7 @@ padded_shape p k digits e =
     let none : p - p ≡ 0 = omega arith in
     let trimmed = append-nil ((fill ++ []) ++ []) ∙ append-nil (fill ++ []) ∙ append-nil fill in
     ap (λ m. ((((fill ++ []) ++ []) ++ []) ++ (digits ++ repeat m space)) ++ space) none
-    ∙ ap (λ l. (l ++ (digits ++ [])) ++ space) (trimmed ∙ repeat_is p ∙ ap (λ m. replicate m 32) e)
+    ∙ ap (λ l. (l ++ (digits ++ [])) ++ space) (trimmed ∙ spaces p ∙ ap (λ m. replicate m 32) e)
     ∙ ap (λ l. (replicate k 32 ++ l) ++ space) (append-nil digits)
     ∙ append_assoc (replicate k 32) digits space
 

@@ -195,9 +195,6 @@ in_range low high c e =
     let parts = and_parts _ _ e in
     (leb-true low c parts.0, leb-true c high parts.1)
 
-past_range : (low high c : ℕ) → high < c → is_in_range low high c ≡ false
-past_range low high c more = and_right _ _ (lt-leb c high more)
-
 before_range : (low high c : ℕ) → c < low → is_in_range low high c ≡ false
 before_range low high c less = and_left _ _ (lt-leb low c less)
 

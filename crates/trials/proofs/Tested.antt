@@ -1,5 +1,5 @@
 -- Programs of a folder, tested one after the other.
-use Rattle.std.proofs.Common.{◌≡◌, ℕ, ◌+◌, ◌<◌, ◌≤◌, List, [], ◌∷◌, ◌++◌, length, map, take, get_or, take_all, Option, Some, None}
+use Rattle.std.proofs.Common.{◌≡◌, ℕ, ◌+◌, ◌<◌, List, [], ◌∷◌, ◌++◌, length, map, take, get_or, Option, Some, None}
 use Rattle.std.proofs.Common.{refl, sym, ap, ◌∙◌, subst, String, Global}
 use Rattle.std.proofs.lemmas.List.{map-append, take_more}
 use Rattle.std.specs.Prelude.{true, MatchOption}
@@ -87,8 +87,3 @@ module _ (held : Held) (f : Folder) (ss : List (String Global)) where
   one_more mid now n s d lines longer p m q k (Some l) inside is so_far found same added =
       subst (λ (x : ℕ). HaveTested now (n + 1) longer x k) (sym added.1)
       (one_failed mid now n s d lines (string_bytes l) longer p m k inside is so_far found same added.0 added.2)
-
-  pub all_tested : (now : Held) (n : ℕ) (lines : List ℕ) (p m : ℕ) → length ss ≤ n → HaveTested now n lines p m
-      → AreTested held f (map string_bytes ss) lines p m
-  all_tested now n lines p m all so_far =
-      subst (λ (xs : List (String Global)). AreTested held f (map string_bytes xs) lines p m) (take_all n ss all) so_far.tested

@@ -45,9 +45,3 @@ module _ (named : Folders) (held : Held) (name : List ℕ) where
   test_without_memory b r f is memory =
       passed_on (AnswersTest named held name) (ExplainsTest named name) b r f is (memory_explained named name f memory)
       (other_failure f (memory_other f memory))
-
-  pub test_told : (old new : Option (List ℕ)) (r : Result ℕ Failure) (told : List ℕ) (status : ℕ)
-      → AnswersTest named held name told status → Writes old new r told → IfOk r (λ x. x ≡ status)
-      → IfErr r (λ f. f ≡ CannotWriteOutput) → Done (AnswersTest named held name) (ExplainsTest named name) old new r
-  test_told old new r told status answers written is only =
-      answered (AnswersTest named held name) (ExplainsTest named name) old new r told status tt answers written is only

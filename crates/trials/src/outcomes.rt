@@ -9,9 +9,9 @@ ghost use Rattle.trials.specs.Trials.{is_wanted, tells_wanted};
 
 use crate::runs::{Runs, on_workers};
 use command_line::request::Settings;
-use serial_run::serial;
 use intake::failure::Failure;
 use race_checker::accepted::Accepted;
+use serial_run::serial;
 use std::alloc::Global;
 use std::sync::Wait;
 use std::thread::Threads;

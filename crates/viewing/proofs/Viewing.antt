@@ -74,13 +74,6 @@ module _ (s : Settings) (held : Held) (text : List ℕ) where
   not_begun f (inl refused) = not_accepted f refused
   not_begun f (inr lack) = no_input lack.code lack.is_code lack.is_run f lack.why
 
-  pub no_lines : IsExplored s held text → (f : Failure) → TellsNoLines held (trace_name s) f → TellsNoTrace s held text f
-  no_lines run (CannotRead name) told = inr (record { run = run; why = told })
-  no_lines run (NotUtf8 name) told = inr (record { run = run; why = told })
-  no_lines run (Trace e) told = record { run = run; why = told }
-  no_lines run NoMemory told = tt
-  no_lines run _ told = absurd told
-
   pub not_legal : (run : IsExplored s held text) (h : Header) (es : List Event) → HoldsTrace held (trace_name s) h es
       → (f : Failure) → TellsIllegal run.code run.input h es f → TellsNoTrace s held text f
   not_legal run h es holds (Illegal n) told =

@@ -4,7 +4,7 @@ use Rattle.std.proofs.lemmas.Bool.{cases_eq}
 use Rattle.std.specs.Prelude.{if◌then◌else◌, Bool, true, false}
 use Rattle.std.specs.Prelude.{Option, None, Some, IfSome, MatchOption, option_map, slice_get}
 use Rattle.sections.specs.declared.id.SectionId.{SectionId}
-use Rattle.types.specs.Code.{Number, Truth, Primitive, Code, Do, If, While, Split, Call, Async, Finish, Codes, End, Then, Program}
+use Rattle.types.specs.Code.{Number, Truth, Code, If, While, Split, Call, Async, Finish, Codes, End, Then, Program}
 use Rattle.types.specs.Run.{procedure_of}
 use Rattle.types.specs.Translation.{codes}
 use Rattle.types.specs.declared.code.Stmt.{Stmt}
@@ -102,9 +102,6 @@ module _ (p : Program) where
       → Led k l rule b x s way → Led k l rule b x x.section way
   same_name {k} {l} {rule} {b} {x} {way} s e h = subst (λ (z : ℕ). Led k l rule b x z way) e h
 
-  do_cases : {m k : Bool} {a : Primitive} {rule : Rule} {d : Codes} {outer inner : ℕ} → Goes p m (Do a) rule k d outer inner → ⊥
-  do_cases g = elim g [ ]
-
   if_cases : {m k : Bool} {t : Truth} {b c d : Codes} {rule : Rule} {outer inner : ℕ} → Goes p m (If t b c) rule k d outer inner
       → (l : ℕ) (x : Access) (way : List Step) → outer ≡ x.section → Led k l rule d x inner way
       → Led m l Body b x x.section way ⊎ Led m l Other c x x.section way
@@ -158,9 +155,6 @@ module _ (p : Program) where
       record { parameter = k; passed = there ∙ ap Some e; there = below; led = h }
 
   module _ (covered : ℕ → Type 0) (m : Bool) (l : ℕ) (x : Access) where
-    pub least_do : (a : Primitive) → IsLeast length covered (GoesOn p m l (Do a) x) None
-    least_do a = least_none length covered (GoesOn p m l (Do a) x) (λ way g. do_cases g.by.goes)
-
     pub least_if : (t : Truth) (b c : Codes) (one other found : Option (List Step)) → IsLesserOf length one other found
         → IsLeast length covered (Led m l Body b x x.section) one → IsLeast length covered (Led m l Other c x x.section) other
         → IsLeast length covered (GoesOn p m l (If t b c) x) found

@@ -21,9 +21,6 @@ module _ {A : Type 0} (size : A → ℕ) (covered : ℕ → Type 0) where
   pub least_none : (those : A → Type 0) → ((a : A) → those a → ⊥) → IsLeast size covered those None
   least_none those none = record { among = tt; least = λ a h c. absurd (none a h) }
 
-  pub least_none_at : (those : A → Type 0) (found : Option A) → found ≡ None → ((a : A) → those a → ⊥) → IsLeast size covered those found
-  least_none_at those found e none = subst (IsLeast size covered those) (sym e) (least_none those none)
-
   -- of the same things
   pub least_same : (P Q : A → Type 0) (found : Option A) → ((a : A) → P a → Q a) → ((a : A) → Q a → P a)
       → IsLeast size covered P found → IsLeast size covered Q found

@@ -2,7 +2,7 @@
 use Rattle.std.proofs.Common.{◌≡◌, ◌<◌, ◌≤◌, ◌+◌, ℕ, List, [], ◌∷◌, length, map, drop, get_or, refl, sym, ap, ◌∙◌, add-one}
 use Rattle.std.proofs.Math.Seq.{drop-cons}
 use Rattle.std.proofs.lemmas.List.{drop_all}
-use Rattle.std.specs.Prelude.{Bool, true, false, flat_map, ◌++◌, ◌&&◌, ◌||◌}
+use Rattle.std.specs.Prelude.{Bool, true, false, flat_map, ◌++◌, ◌||◌}
 use Rattle.effects.proofs.Stability.{is_listed}
 use Rattle.sections.specs.Member.{Member, first, next}
 use Rattle.types.specs.Code.{Primitive, Skip, Assign, Store, Print, Raise}

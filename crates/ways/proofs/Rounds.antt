@@ -72,30 +72,6 @@ module _ (p : Program) (x : Access) where
   pub fewer_steps : (known : Known) (m n : ℕ) → m ≤ n → AreShortest p x known n → AreShortest p x known m
   fewer_steps known m n le close a f k way from less = close a f k way from (omega (arith, less, le))
 
-  -- nothing changes where no way is shorter
-  pub improves_nothing : (e : Entry) (known : Known) → AreWays p x known
-      → ((n : ℕ) → AreShortest p x known n → IsShortestAt p x known e (n + 1)) → Improves p x e false known known
-  improves_nothing e known ways shortest = record {
-    ways = ways;
-    no_longer = λ m f k n h. h;
-    shortest = shortest;
-    same = λ h. refl;
-    less = λ h. absurd (true≢false (sym h));
-  }
-
-  -- there is no such parameter
-  pub improves_no_parameter : (e : Entry) (known : Known) → AreWays p x known
-      → length (procedure_of p e.procedure.number).parameters ≤ e.parameter.number → Improves p x e false known known
-  improves_no_parameter e known ways past = improves_nothing e known ways (λ n close way from less.
-      let there : e.parameter.number < length (procedure_of p e.procedure.number).parameters = from.parameter in absurd (omega (arith, there, past)))
-
-  -- there is no way
-  pub improves_no_way : (e : Entry) (known : Known) → AreWays p x known
-      → IsLeast length (AreShortest p x known) (λ way. Way p e.pending (procedure_of p e.procedure.number).body way (record x { section = e.parameter.number })) None
-      → Improves p x e false known known
-  improves_no_way e known ways found = improves_nothing e known ways (λ n close way from less.
-      absurd (found.least way from.leads (fewer_steps known (length way) n (omega (arith, less)) close)))
-
   module _ (e : Entry) (way : List Step) (better : Bool) (old new : Known) (put : HasPut e way better old new) where
     -- what a table has behind a change
     abbrev Changed : (m : Bool) (f k : ℕ) → Type 0

@@ -1,8 +1,7 @@
 -- The least two ways that meet, from the least of their parts.
-use Rattle.std.proofs.Common.{◌≡◌, ◌⊎◌, inl, inr, ℕ, ◌≤◌, List, length, refl, sym, ap, ◌∙◌, subst, arith}
-use Rattle.std.proofs.lemmas.Option.{same_Some}
+use Rattle.std.proofs.Common.{◌≡◌, ◌⊎◌, inl, inr, ℕ, List, length, refl, sym, subst, arith}
 use Rattle.std.specs.Prelude.{true, false, Option, None, Some, IfSome}
-use Rattle.types.specs.Code.{Number, Truth, Primitive, Code, Do, If, While, Split, Call, Async, Finish, Codes, End, Then, Program}
+use Rattle.types.specs.Code.{Number, Truth, Code, Do, If, While, Split, Call, Async, Finish, Codes, End, Then, Program}
 use Rattle.effects.specs.Accesses.{Access}
 use Rattle.effects.specs.Statements.{Block}
 use Rattle.witness.specs.Crossed.{Crossed, IsAcross, IsInTurn, MeetAt, MeetIn, both}
@@ -10,54 +9,12 @@ use Rattle.ways.specs.Least.{AtMost, IsLesserOf, IsLeast, all_covered}
 use Rattle.ways.specs.Ways.{Way, WayOf}
 use Rattle.witness.specs.Meets.{Meets, MeetsAt}
 use Rattle.witness.specs.declared.crossing.Meeting.{Meeting}
-use Rattle.witness.specs.declared.crossing.Meeting.TheVariants.{Follows, Turns}
+use Rattle.witness.specs.declared.crossing.Meeting.TheVariants.{Follows}
 use Rattle.ways.specs.declared.step.Step.{Step}
 use Rattle.ways.proofs.Leasts.{least_none, least_same, least_either, at_most_more}
 
-no_some : {A B : Type 0} (a : A) → ◌≡◌ {A = Option A} None (Some a) → B
-no_some a q = absurd cc
-
 abbrev crossing : Meeting → List Step → List Step → Crossed
 crossing kind one other = record { meeting = kind; pending = one; later = other }
-
-module _ (p : Program) (l : ℕ) (s : Code) (x : Access) where
-  -- ---- across a statement
-  pub across_none : (behind : Option (List Step)) → behind ≡ None → IsLeast both all_covered (IsAcross p l s x behind) None
-  across_none behind e = least_none both all_covered (IsAcross p l s x behind) (λ c h. no_some c.later (sym e ∙ h.later))
-
-  pub across_no_way : (behind : Option (List Step)) → IsLeast length all_covered (λ way. WayOf p true l s way x) None
-      → IsLeast both all_covered (IsAcross p l s x behind) None
-  across_no_way behind found = least_none both all_covered (IsAcross p l s x behind) (λ c h. found.least c.pending h.pending tt)
-
-  pub across_both : (behind : Option (List Step)) (way later : List Step) → behind ≡ Some later
-      → IsLeast length all_covered (λ way. WayOf p true l s way x) (Some way)
-      → IsLeast both all_covered (IsAcross p l s x behind) (Some (crossing Follows way later))
-  across_both behind way later e found = record {
-    among = record { meeting = refl; pending = found.among; later = e };
-    least = λ c h t.
-        let fewer : length way ≤ length c.pending = found.least c.pending h.pending tt in
-        let same : length later ≡ length c.later = ap length (same_Some later c.later (sym e ∙ h.later)) in
-        omega (arith, fewer, same);
-  }
-
-  -- ---- at a loop
-  module _ (y : Access) where
-    pub turn_no_way : IsLeast length all_covered (λ way. WayOf p true l s way x) None → IsLeast both all_covered (IsInTurn p l s x y) None
-    turn_no_way found = least_none both all_covered (IsInTurn p l s x y) (λ c h. found.least c.pending h.pending tt)
-
-    pub turn_no_later : IsLeast length all_covered (λ way. WayOf p false l s way y) None → IsLeast both all_covered (IsInTurn p l s x y) None
-    turn_no_later found = least_none both all_covered (IsInTurn p l s x y) (λ c h. found.least c.later h.later tt)
-
-    pub turn_both : (way later : List Step) → IsLeast length all_covered (λ way. WayOf p true l s way x) (Some way)
-        → IsLeast length all_covered (λ way. WayOf p false l s way y) (Some later)
-        → IsLeast both all_covered (IsInTurn p l s x y) (Some (crossing Turns way later))
-    turn_both way later found behind = record {
-      among = record { meeting = refl; pending = found.among; later = behind.among };
-      least = λ c h t.
-          let one : length way ≤ length c.pending = found.least c.pending h.pending tt in
-          let other : length later ≤ length c.later = behind.least c.later h.later tt in
-          omega (arith, one, other);
-    }
 
 module _ (p : Program) (x y : Access) where
   -- ---- lists
@@ -132,24 +89,6 @@ module _ (p : Program) (x y : Access) where
 
   -- ---- statements
   module _ (l : ℕ) where
-    pub at_do : (a : Primitive) → IsLeast both all_covered (MeetAt p l (Do a) x y) None
-    at_do a = least_none both all_covered (MeetAt p l (Do a) x y) (λ c m. none m)
-      where
-        no_block : {b : Codes} → Block (Do a) b → ⊥
-        no_block k = elim k [ ]
-
-        none : {kind : Meeting} {one other : List Step} → MeetsAt p l (Do a) kind one other x y → ⊥
-        none (MeetsAt.inside k m) = no_block k
-
-    pub at_call : (f : ℕ) (es : List Number) (ss : List ℕ) → IsLeast both all_covered (MeetAt p l (Call f es ss) x y) None
-    at_call f es ss = least_none both all_covered (MeetAt p l (Call f es ss) x y) (λ c m. none m)
-      where
-        no_block : {b : Codes} → Block (Call f es ss) b → ⊥
-        no_block k = elim k [ ]
-
-        none : {kind : Meeting} {one other : List Step} → MeetsAt p l (Call f es ss) kind one other x y → ⊥
-        none (MeetsAt.inside k m) = no_block k
-
     pub at_if : (t : Truth) (b d : Codes) (one other found : Option Crossed) → IsLesserOf both one other found
         → IsLeast both all_covered (MeetIn p b x y) one → IsLeast both all_covered (MeetIn p d x y) other
         → IsLeast both all_covered (MeetAt p l (If t b d) x y) found

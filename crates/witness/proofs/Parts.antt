@@ -20,10 +20,6 @@ module _ (origins : List Origin) where
   lies_cases LiesIn.itself = inl refl
   lies_cases (LiesIn.side {a} {s} {b} i h) = inr (record { parent = s; is_side = i; lies = h })
 
-  no_side : {a s : ℕ} → origin_of origins a ≡ Root → IsSideOf origins s a → ⊥
-  no_side {a} {s} root (IsSideOf.left e) = let k : Root ≡ Left s = sym root ∙ e in absurd cc
-  no_side {a} {s} root (IsSideOf.right e) = let k : Root ≡ Right s = sym root ∙ e in absurd cc
-
   same_left : {a s p : ℕ} → origin_of origins a ≡ Left p → IsSideOf origins s a → s ≡ p
   same_left {a} {s} {p} o (IsSideOf.left e) = let k : Left s ≡ Left p = sym e ∙ o in cc
   same_left {a} {s} {p} o (IsSideOf.right e) = let k : Right s ≡ Left p = sym e ∙ o in absurd cc
@@ -35,11 +31,7 @@ module _ (origins : List Origin) where
   pub itself_lies : (a b : ℕ) → a ≡ b → LiesIn origins a b
   itself_lies a b e = subst (LiesIn origins a) e LiesIn.itself
 
-  -- only a side is a part of another section
-  pub root_lies_not : (a b : ℕ) → origin_of origins a ≡ Root → (a ≡ b → ⊥) → LiesIn origins a b → ⊥
-  root_lies_not a b root apart h = elim (lies_cases h) [ inl e ↦ apart e | inr s ↦ no_side root s.is_side ]
-
-  -- and where what it is a side of is one
+  -- a side is a part of another section where what it is a side of is one
   pub by_left : (a b p : ℕ) (t : Bool) → origin_of origins a ≡ Left p → (a ≡ b → ⊥) → (IsTrue t ↔ LiesIn origins p b) → IsTrue t ↔ LiesIn origins a b
   by_left a b p t o apart h = (
     λ k. LiesIn.side (IsSideOf.left o) (h.0 k),

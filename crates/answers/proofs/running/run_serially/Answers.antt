@@ -1,4 +1,4 @@
-use Rattle.std.proofs.Common.{ap, ◌∙◌, map}
+use Rattle.std.proofs.Common.{map}
 use Rattle.std.proofs.lemmas.Result.{IfOk-at_ok}
 use Rattle.types.specs.Outcome.{outcome}
 use Rattle.types.specs.Translation.{array, input as lists_of, outcome as outcome_of}

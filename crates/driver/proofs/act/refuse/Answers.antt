@@ -1,5 +1,5 @@
-use Rattle.driver.proofs.Acting.{begins}
+use Rattle.texts.proofs.Appending.{beginning_written}
 use Rattle.driver.proofs.act.refuse.Goals as goal
 
 pub returns-clause-told : goal.returns-clause-told
-returns-clause-told g c = begins _ _ _ _ (rw c.as_bytes.ensures.value at c.append.ensures)
+returns-clause-told g c = beginning_written _ _ _ _ (rw c.as_bytes.ensures.value at c.append.ensures)

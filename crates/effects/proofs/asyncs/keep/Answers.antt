@@ -1,5 +1,4 @@
 use Rattle.std.proofs.Common.{◌≡◌, ◌∙◌, map, ap, subst}
-use Rattle.types.specs.Code.{Async, Code}
 use Rattle.types.specs.Translation.{code, codes, program}
 use Rattle.effects.specs.AsyncNeeds.{needs_at}
 use Rattle.effects.specs.Effects.{accesses, All}

@@ -1,11 +1,11 @@
-use Rattle.std.proofs.Common.{◌≡◌, ◌++◌, ◌+◌, ◌∙◌, inl, inr, List, [], length, map, take, ap, sym, subst}
+use Rattle.std.proofs.Common.{◌≡◌, ◌++◌, ◌+◌, ◌∙◌, inl, inr, List, [], map, take, ap, sym, subst}
 use Rattle.std.proofs.lemmas.List.{take_all}
 use Rattle.sections.specs.Member.{Member}
 use Rattle.types.specs.Code.{Async}
 use Rattle.types.specs.Translation.{code, codes, program}
 use Rattle.effects.specs.AsyncNeeds.{needs_at}
 use Rattle.effects.specs.Statements.{Stands}
-use Rattle.effects.specs.Visits.{Visit, visit, visits_in}
+use Rattle.effects.specs.Visits.{visit, visits_in}
 use Rattle.effects.specs.declared.visits.Standing.TheVariants.{Open}
 use Rattle.effects.specs.declared.visits.Visit.{Visit as rVisit}
 use Rattle.effects.proofs.AsyncLemmas.{IsSeen, is_seen, keeps_none, keeps_same, keeps_then, none_seen, seen_more, visit_at}

@@ -1,9 +1,8 @@
-use Rattle.std.proofs.Common.{◌≡◌, ◌+◌, ◌∙◌, ◌≤◌, ℕ, length, map, ap, subst, arith}
+use Rattle.std.proofs.Common.{◌≡◌, ◌+◌, ◌∙◌, length, ap, subst, arith}
 use Rattle.std.proofs.lemmas.List.{length-map}
-use Rattle.std.specs.BTreeMap.{get}
 use Rattle.std.specs.Map.{lookup}
 use Rattle.std.specs.Ordering.{nat_cmp, is_eq}
-use Rattle.std.specs.Prelude.{None, option_map}
+use Rattle.std.specs.Prelude.{option_map}
 use Rattle.types.specs.Code.{Async, Codes}
 use Rattle.types.specs.Run.{procedure_of}
 use Rattle.types.specs.Translation.{codes, procedure, program}
@@ -11,7 +10,7 @@ use Rattle.effects.specs.AsyncNeeds.{Keeps, needs_at}
 use Rattle.effects.specs.Statements.{HasStatement, Stands}
 use Rattle.effects.specs.Translation.{needs}
 use Rattle.effects.proofs.AsyncLemmas.{InProcedureBelow, body_at, in_more_procedures, in_no_procedure, in_some_procedure}
-use Rattle.effects.proofs.AsyncLemmas.{keeps_none, keeps_same, keeps_then, needs_kept}
+use Rattle.effects.proofs.AsyncLemmas.{keeps_none, keeps_then, needs_kept}
 use Rattle.effects.proofs.StatementLemmas.{part_of_main, part_of_procedure}
 use Rattle.effects.proofs.asyncs.needs_of_asyncs.Goals as goal
 

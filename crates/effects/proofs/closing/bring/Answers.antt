@@ -1,10 +1,10 @@
 use Rattle.std.proofs.Common.{◌≡◌, ℕ, refl, rules}
 use Rattle.std.specs.Prelude.{Bool, false, true}
+use Rattle.std.proofs.lemmas.Result.{IfOk-weaker, on_ok_weaker}
 use Rattle.effects.specs.Closing.{HasIn, Brings}
 use Rattle.effects.specs.LabelSets.{HasLabel, HasNew}
 use Rattle.effects.specs.SummaryRows.{HasRow}
 use Rattle.effects.proofs.ClosingLemmas.{brought, got, has_some}
-use Rattle.effects.proofs.UseLemmas.{on_ok, if_ok}
 use Rattle.effects.proofs.closing.bring.Goals as goal
 
 pub returns-in-Some-get_mut : goal.returns-in-Some-get_mut
@@ -19,20 +19,19 @@ returns-in-Some-get_mut c =
     record {
       number = search rules;
       both =
-          on_ok c.unite.result
+          on_ok_weaker c.unite.result
           (brought table x c.in-Some.callee.now c.in-Some-get_mut.caller.now c.unite.new.self labels callee caller to.3.0
           c.in_ok-labels-in-Some.ensures)
           c.unite.ensures.both;
       grown =
-          if_ok (λ (g : Bool). g ≡ false → (l : ℕ) → HasLabel labels l → HasRow c.in-Some-get_mut.caller.now x.to l)
+          IfOk-weaker c.unite.result (λ (g : Bool). g ≡ false → (l : ℕ) → HasLabel labels l → HasRow c.in-Some-get_mut.caller.now x.to l)
           (λ (g : Bool). g ≡ false → (l : ℕ) → Brings x table x.caller.number x.to l → HasIn table x.caller.number x.to l)
-          c.unite.result
           (λ g h none l b. (has_some _ c.in-Some-get_mut.caller.now x.to l caller).0
           (h none l ((c.in_ok-labels-in-Some.ensures l).1 ((has_some _ c.in-Some.callee.now x.from l callee).1 b.label))))
           c.unite.ensures.grown;
       new =
-          if_ok (λ (g : Bool). g ≡ true → HasNew (HasRow c.in-Some-get_mut.caller.now x.to) (HasLabel labels))
-          (λ (g : Bool). g ≡ true → HasNew (HasIn table x.caller.number x.to) (Brings x table x.caller.number x.to)) c.unite.result
+          IfOk-weaker c.unite.result (λ (g : Bool). g ≡ true → HasNew (HasRow c.in-Some-get_mut.caller.now x.to) (HasLabel labels))
+          (λ (g : Bool). g ≡ true → HasNew (HasIn table x.caller.number x.to) (Brings x table x.caller.number x.to))
           (λ g h new. let r = h new in record {
             label = r.label;
             among = record {

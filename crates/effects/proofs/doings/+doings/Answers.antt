@@ -1,20 +1,20 @@
-use Rattle.std.proofs.Common.{◌≡◌, ◌⊎◌, ◌<◌, ◌+◌, ◌-◌, ◌∙◌, ◌++◌, inl, inr, length, map, drop, refl, sym, ap, subst, arith}
+use Rattle.std.proofs.Common.{◌≡◌, ◌-◌, ◌∙◌, ◌++◌, length, map, drop, refl, sym, ap, subst, arith}
 use Rattle.std.proofs.lemmas.List.{drop_all, length-map}
+use Rattle.std.proofs.lemmas.Result.{on_ok_weaker}
 use Rattle.sections.specs.Translation.{section}
-use Rattle.types.specs.Code.{Code, Codes, Call, If}
+use Rattle.types.specs.Code.{Code, Codes}
 use Rattle.types.specs.Run.{procedure_of}
-use Rattle.types.specs.Translation.{program, code, codes, truth, number}
-use Rattle.types.specs.declared.code.Stmt.{Stmt}
+use Rattle.types.specs.Translation.{program, code, codes}
 use Rattle.effects.specs.Effects.{accesses, past_call, past_split, renamed, All}
 use Rattle.effects.specs.Firsts.{AddsFirsts, AreFirsts, AreFirstsIn, kept_in}
 use Rattle.effects.specs.Rows.{AllInside, Renamed}
 use Rattle.effects.specs.Statements.{Block}
 use Rattle.effects.specs.Translation.{access}
-use Rattle.effects.proofs.DoingLemmas.{adds_end, adds_firsts, adds_front, adds_then, adds_whole, firsts_added, on_ok}
+use Rattle.effects.proofs.DoingLemmas.{adds_end, adds_firsts, adds_front, adds_then, adds_whole, firsts_added}
 use Rattle.effects.proofs.FirstLabels.{firsts_of_firsts, firsts_renamed}
 use Rattle.effects.proofs.OneList.{of_same}
 use Rattle.effects.proofs.StatementLemmas.{is_call, is_inside, part_at}
-use Rattle.effects.proofs.Statements.{size, size_in, codes_before, smaller, size-drop, is_If, is_Split}
+use Rattle.effects.proofs.Statements.{codes_before, smaller, size-drop, is_If, is_Split}
 use Rattle.effects.proofs.doings.+doings.Goals as goal
 
 pub add_block-loop-place-init : goal.add_block-loop-place-init
@@ -90,7 +90,7 @@ pub add_inside-returns-in-While : goal.add_inside-returns-in-While
 add_inside-returns-in-While t c =
     let old = kept_in c.args.into.now in
     let new = kept_in c.add_block-in-While.new.into in
-    on_ok c.add_block-in-While.result
+    on_ok_weaker c.add_block-in-While.result
     (λ h. of_same c.args.statement.now.kind c.in-While.body (λ s. AddsFirsts (AllInside (program c.args.code.now) accesses s) old new)
     c.deref-in-While.result.now c.deref-in-While.ensures.value c.in-While.is (λ t. h) h h)
     c.add_block-in-While.ensures
@@ -99,7 +99,7 @@ pub add_inside-returns-in_ok-add_block-in-If : goal.add_inside-returns-in_ok-add
 add_inside-returns-in_ok-add_block-in-If t c =
     let p = program c.args.code.now in
     let is = is_If _ c.in-If.guard c.in-If.body c.in-If.other c.deref.result.now c.deref-in-If.result.now c.in-If.is c.deref.ensures.value c.deref-in-If.ensures.value in
-    on_ok c.add_block-in-If.result
+    on_ok_weaker c.add_block-in-If.result
     (λ h. subst (λ (k : Code). AddsFirsts (AllInside p accesses k) (kept_in c.args.into.now) (kept_in c.add_block-in-If.new.into)) (sym is)
     (adds_then (All p accesses (codes c.deref.result.now)) (All p accesses (codes c.deref-in-If.result.now)) (kept_in c.args.into.now)
     (kept_in c.add_block.new.into) (kept_in c.add_block-in-If.new.into) c.in_ok-add_block-in-If.ensures h))
@@ -118,7 +118,7 @@ add_inside-returns-in_ok-outside-in-Split t c =
     (firsts_renamed p out (All p accesses b) inside
     (firsts_added (All p accesses b) (kept_in c.new-inside.result) inside c.new-inside.ensures c.in_ok-add_block-in-Split.ensures))
     c.in_ok-outside-in-Split.ensures in
-    on_ok c.add_all.result
+    on_ok_weaker c.add_all.result
     (λ h. subst (λ (k : Code). AddsFirsts (AllInside p accesses k) (kept_in c.args.into.now) (kept_in c.add_all.new.self)) (sym is)
     (adds_firsts (Renamed p accesses out (All p accesses b)) outside (kept_in c.args.into.now) (kept_in c.add_all.new.self) renamed_firsts
     (subst (λ xs. AreFirstsIn (map access xs ++ kept_in c.args.into.now) (kept_in c.add_all.new.self)) c.items.ensures h)))
@@ -141,7 +141,7 @@ add_inside-returns-in-Call t c =
     let those = All p accesses (procedure_of p c.in-Call.procedure.number).body in
     let old = kept_in c.args.into.now in
     let new = kept_in c.add_call.new.into in
-    on_ok c.add_call.result
+    on_ok_weaker c.add_call.result
     (λ h. subst (λ (k : Code). AddsFirsts (AllInside p accesses k) old new) (sym (ap code c.in-Call.is))
     (subst (λ xs. AddsFirsts (Renamed p accesses (past_call (map section xs)) those) old new) c.deref-in-Call.ensures.value h))
     c.add_call.ensures

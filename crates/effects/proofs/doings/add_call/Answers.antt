@@ -1,6 +1,7 @@
-use Rattle.std.proofs.Common.{◌≡◌, ◌<◌, ◌∙◌, ◌++◌, length, get_or, map, subst, arith}
+use Rattle.std.proofs.Common.{◌<◌, ◌∙◌, ◌++◌, length, get_or, map, subst, arith}
 use Rattle.std.proofs.lemmas.List.{length-map}
 use Rattle.std.proofs.lemmas.Option.{slice_get-get_or}
+use Rattle.std.proofs.lemmas.Result.{on_ok_weaker}
 use Rattle.sections.specs.Translation.{section}
 use Rattle.types.specs.Code.{Codes}
 use Rattle.types.specs.Run.{procedure_of}
@@ -11,7 +12,7 @@ use Rattle.effects.specs.Firsts.{AreFirstsIn, kept_in}
 use Rattle.effects.specs.Rows.{Renamed}
 use Rattle.effects.specs.Summarized.{IsSummary}
 use Rattle.effects.specs.Translation.{access}
-use Rattle.effects.proofs.DoingLemmas.{adds_firsts, all_in_callee, body_of_callee, on_ok, passed_renamed}
+use Rattle.effects.proofs.DoingLemmas.{adds_firsts, all_in_callee, body_of_callee, passed_renamed}
 use Rattle.effects.proofs.doings.add_call.Goals as goal
 
 pub returns : goal.returns
@@ -27,7 +28,7 @@ returns c =
     (c.requires.summaries.each f s (slice_get-get_or c.args.table.now f c.index-table-callee.result
     (omega (arith, c.requires.summaries.number, c.requires.there)))) in
     let outside = c.in_ok-outside.outside in
-    on_ok c.add_all.result
+    on_ok_weaker c.add_all.result
     (λ h. adds_firsts (Renamed p accesses (past_call ss) (All p accesses callee)) (kept_in outside) (kept_in c.args.into.now)
     (kept_in c.add_all.new.self)
     (passed_renamed p ss (HasAccess s.all) (All p accesses callee) (λ x. (exact.all x).0) (λ x. (exact.all x).1)

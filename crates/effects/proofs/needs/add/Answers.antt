@@ -1,6 +1,5 @@
-use Rattle.std.proofs.Common.{◌≡◌, ◌∙◌, map, ap}
+use Rattle.std.proofs.Common.{◌∙◌, map, ap}
 use Rattle.sections.specs.Translation.{section}
-use Rattle.effects.specs.Needs.{also}
 use Rattle.effects.proofs.NeedsListed.{stays_there, put_between, put_behind_all}
 use Rattle.effects.proofs.needs.add.Goals as goal
 

@@ -1,16 +1,9 @@
-use Rattle.std.proofs.Common.{◌≡◌, ◌++◌, ◌+◌, ◌∷◌, [], ℕ, List, length, ap, sym, subst, ◌∙◌}
-use Rattle.std.specs.Prelude.{◌↔◌}
-use Rattle.std.proofs.lemmas.List.{length-append}
+use Rattle.std.proofs.Common.{ℕ, sym, subst}
 use Rattle.types.specs.Code.{Program}
 use Rattle.types.specs.Typed.{code_of}
 use Rattle.effects.specs.AsyncNeeds.{IsNeedAt, needs_at}
-use Rattle.effects.specs.Closing.{HasIn}
-use Rattle.effects.specs.Coming.{Comes}
-use Rattle.effects.specs.Outlines.{numbered}
 use Rattle.effects.specs.Sound.{IsSound}
 use Rattle.effects.specs.Summarized.{AreOfProcedures}
-use Rattle.effects.specs.declared.summary.Row.{Row}
-use Rattle.effects.specs.declared.summary.Summary.{Summary}
 use Rattle.effects.proofs.Summarizing.{are_of_procedures}
 use Rattle.effects.proofs.summaries.summarize.Goals as goal
 

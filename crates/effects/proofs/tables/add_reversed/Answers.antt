@@ -1,5 +1,4 @@
 use Rattle.std.proofs.Common.{List, ◌≡◌, ◌<◌, ◌-◌, [], ◌∷◌, ◌++◌, length, sym, subst, arith}
-use Rattle.std.specs.Prelude.{◌↔◌}
 use Rattle.sections.specs.Member.{Member}
 use Rattle.effects.specs.declared.flows.Flow.{Flow}
 use Rattle.effects.proofs.ComingLemmas.{pushed_again}

@@ -1,7 +1,7 @@
 use Rattle.std.proofs.Common.{◌++◌, ap, ◌∙◌}
 use Rattle.std.specs.Fmt.{styled_decimal}
 use Rattle.std.specs.String.{string_bytes}
-use Rattle.syntax.proofs.ExpressionText.{ok_then}
+use Rattle.facts.proofs.Results.{ok_then}
 use Rattle.places.proofs.Margins.{left_padded, margin_padded, right_padded}
 use Rattle.places.proofs.listing.push_place.Goals as goal
 

@@ -1,7 +1,7 @@
 use Rattle.std.proofs.Common.{◌≡◌, ◌+◌, ap, ◌∙◌, arith, map}
+use Rattle.std.proofs.lemmas.Result.{IfOk-weaker}
 use Rattle.sections.specs.Translation.{window}
 use Rattle.types.specs.Translation.{environment, program}
-use Rattle.effects.proofs.UseLemmas.{if_ok}
 use Rattle.block_rows.specs.Copied.{split_in}
 use Rattle.spawn_copies.specs.Copied.{copied_at, length_of, taken_at, written_at}
 use Rattle.spawn_copies.specs.Cover.{cover_of}
@@ -18,5 +18,5 @@ returns c =
     c.in_ok-places.ensures.places c.in_ok-places.ensures.form in
     let split : c.in_ok-split.split ≡ split_in (length_of p) (taken_at p c.args.label env)
     = c.in_ok-split.ensures ∙ ap (split_in (length_of p)) (ap (map window) c.deref-2.ensures.value ∙ cover ∙ ap cover_of taken) in
-    if_ok (λ n. n ≡ c.in_ok-split.split + c.in_ok-split.split) (λ n. n ≡ copied_at p c.args.label env) c.plus.result
+    IfOk-weaker c.plus.result (λ n. n ≡ c.in_ok-split.split + c.in_ok-split.split) (λ n. n ≡ copied_at p c.args.label env)
     (λ n e. omega (arith, e, split)) c.plus.ensures

@@ -3,6 +3,7 @@ use Rattle.std.proofs.Common.{Result, OnOk, String, Global}
 use Rattle.std.proofs.lemmas.List.{at_drop_more, at_drop_all}
 use Rattle.std.specs.Option.{option_map}
 use Rattle.std.specs.String.{string_bytes}
+use Rattle.facts.proofs.Results.{ok_then}
 use Rattle.syntax_tree.specs.declared.tree.Stmt.TheVariants.{If as rIf}
 use Rattle.syntax.specs.declared.token.Word.TheVariants.{Else as WordElse}
 use Rattle.syntax.specs.declared.token.Mark.TheVariants.{LeftBrace}
@@ -13,7 +14,7 @@ use Rattle.syntax.specs.declared.canonical.Lines.{Lines}
 use Rattle.syntax.specs.Canonical.{laid}
 use Rattle.syntax_tree.specs.Tree.{Stmt, If, IfElse, While, Split, Async, Finish, Block, Then, expr, stmt, block}
 use Rattle.syntax.specs.Writing.{place, with_rest}
-use Rattle.syntax.proofs.ExpressionText.{ok_then, ok_map3, pushed}
+use Rattle.syntax.proofs.ExpressionText.{ok_map3, pushed}
 use Rattle.syntax.proofs.LineText.{wrote, wrote_adds, wrote_text, counted_by, stmt_begins, block_is_line, laid-opening_brace}
 use Rattle.syntax.proofs.LineText.{laid-closing_brace, laid_If, laid_IfElse, laid_Else, laid_While, laid_Split, laid_Async}
 use Rattle.syntax.proofs.LineText.{laid_Finish, laid_end}

@@ -1,11 +1,12 @@
 use Rattle.std.proofs.Common.{◌++◌, refl, ap, sym, ◌∙◌}
 use Rattle.std.proofs.lemmas.Bool.{both_ways}
 use Rattle.std.specs.String.{string_bytes}
+use Rattle.facts.proofs.Results.{ok_then}
 use Rattle.syntax.specs.declared.token.Left.TheVariants.{Opening}
 use Rattle.syntax.specs.Spelling.{stmt_then}
 use Rattle.syntax_tree.specs.Tree.{Print, Call, expr, exprs, stmt}
 use Rattle.syntax.specs.Writing.{with_rest}
-use Rattle.syntax.proofs.ExpressionText.{ok_then, pushed, then_ok}
+use Rattle.syntax.proofs.ExpressionText.{pushed, then_ok}
 use Rattle.syntax.proofs.LineText.{wrote_simple, laid_Skip, laid_Var, laid_Assign, laid_Store, laid_Print}
 use Rattle.syntax.proofs.LineText.{laid_Fault, laid_Call}
 use Rattle.syntax.proofs.StatementKinds.{stmt_Skip, stmt_Var, stmt_Assign, stmt_Store, stmt_Print, stmt_Fault, stmt_Call, is_simple-false}

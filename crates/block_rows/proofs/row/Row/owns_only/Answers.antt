@@ -1,7 +1,6 @@
-use Rattle.std.proofs.Common.{refl, ℕ, Option, arith, map}
+use Rattle.std.proofs.Common.{refl, arith, map}
 use Rattle.sections.specs.Covers.{has}
 use Rattle.sections.specs.Translation.{window as window_of}
-use Rattle.blocks.specs.declared.block.Block.{Block}
 use Rattle.block_rows.specs.Rows.{StandsIn}
 use Rattle.block_rows.proofs.JustLemmas.{owned_of, stands-none}
 use Rattle.block_rows.proofs.RoomLemmas.{each_block-begun, each_block-done, each_block-item, each_block-more}

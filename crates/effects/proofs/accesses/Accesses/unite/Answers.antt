@@ -1,14 +1,15 @@
 use Rattle.std.proofs.Common.{◌≡◌, ℕ, IfOk, sym, subst}
 use Rattle.std.specs.Prelude.{Bool, false, true}
+use Rattle.std.proofs.lemmas.Result.{on_ok_weaker}
 use Rattle.effects.specs.AccessSets.{HasAccess, uses_of}
 use Rattle.effects.specs.LabelSets.{HasLabel, HasNew}
 use Rattle.effects.specs.UseSets.{HasUse}
-use Rattle.effects.proofs.UseLemmas.{on_ok, written, are_read}
+use Rattle.effects.proofs.UseLemmas.{written, are_read}
 use Rattle.effects.proofs.accesses.Accesses.unite.Goals as goal
 
 pub returns-then-write-clause-both : goal.returns-then-write-clause-both
 returns-then-write-clause-both c =
-    on_ok c.unite.result (written c.args.self.now c.unite.new.self c.args.section.number c.args.write (HasLabel c.args.labels.now) c.if-write.true)
+    on_ok_weaker c.unite.result (written c.args.self.now c.unite.new.self c.args.section.number c.args.write (HasLabel c.args.labels.now) c.if-write.true)
     c.unite.ensures.both
 
 pub returns-then-write-clause-grown : goal.returns-then-write-clause-grown
@@ -19,7 +20,7 @@ returns-then-write-clause-grown c =
 
 pub returns-else-write-clause-both : goal.returns-else-write-clause-both
 returns-else-write-clause-both c =
-    on_ok c.unite-else-write.result
+    on_ok_weaker c.unite-else-write.result
     (are_read c.args.self.now c.unite-else-write.new.self c.args.section.number c.args.write (HasLabel c.args.labels.now) c.if-write.false)
     c.unite-else-write.ensures.both
 

@@ -1,7 +1,7 @@
 use Rattle.std.proofs.Common.{◌≡◌, ℕ, List, ◌/◌, ◌%◌, get_or, sym, ◌∙◌, ap, subst, arith}
 use Rattle.std.specs.Int.{bit_at}
+use Rattle.facts.proofs.Truths.{false_true}
 use Rattle.effects.specs.LabelSets.{HasLabel}
-use Rattle.effects.proofs.Members.{false_true}
 use Rattle.effects.proofs.LabelSetLemmas.{bit_test, no_bit}
 use Rattle.effects.proofs.label_set.LabelSet.has.Goals as goal
 

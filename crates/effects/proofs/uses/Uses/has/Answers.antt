@@ -1,5 +1,5 @@
+use Rattle.facts.proofs.Truths.{false_true}
 use Rattle.effects.specs.UseSets.{HasUse}
-use Rattle.effects.proofs.Members.{false_true}
 use Rattle.effects.proofs.UseLemmas.{found, missing, has_found, has_none}
 use Rattle.effects.proofs.uses.Uses.has.Goals as goal
 

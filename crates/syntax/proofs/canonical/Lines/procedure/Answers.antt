@@ -1,5 +1,6 @@
 use Rattle.std.proofs.Common.{◌++◌, ◌∷◌, [], codes, map, ap, sym, ◌∙◌}
 use Rattle.std.specs.String.{string_bytes}
+use Rattle.facts.proofs.Results.{ok_then}
 use Rattle.syntax.specs.Canonical.{in_line}
 use Rattle.syntax.specs.declared.token.Left.TheVariants.{Margin, Ended, Other}
 use Rattle.syntax.specs.declared.token.Mark.TheVariants.{LeftBrace}
@@ -7,7 +8,7 @@ use Rattle.syntax.specs.Token.{MarkToken}
 use Rattle.syntax.specs.Spelling.{block_then, parameters_then, procedures_then, main_tokens}
 use Rattle.syntax_tree.specs.Tree.{block, parameter}
 use Rattle.syntax.specs.Writing.{with_rest}
-use Rattle.syntax.proofs.ExpressionText.{ok_then, then_adds}
+use Rattle.syntax.proofs.ExpressionText.{then_adds}
 use Rattle.syntax.proofs.LineText.{wrote, wrote_adds, laid_procedure, procedures_are_lines}
 use Rattle.syntax.proofs.canonical.Lines.procedure.Goals as goal
 

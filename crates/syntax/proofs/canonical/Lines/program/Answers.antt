@@ -2,6 +2,7 @@ use Rattle.std.proofs.Common.{◌+◌, ◌-◌, ◌≤◌, ◌∷◌, [], codes,
 use Rattle.std.proofs.lemmas.List.{at_drop_all}
 use Rattle.std.specs.Option.{option_map}
 use Rattle.std.specs.String.{string_bytes}
+use Rattle.facts.proofs.Results.{ok_then}
 use Rattle.syntax.specs.Canonical.{laid}
 use Rattle.syntax.specs.declared.token.Left.TheVariants.{Margin, Ended, Other}
 use Rattle.syntax.specs.Spelling.{spelling, procedures_then, main_tokens, arrays_then, block_then}
@@ -9,7 +10,7 @@ use Rattle.syntax.specs.declared.token.Mark.TheVariants.{RightBrace}
 use Rattle.syntax.specs.Token.{MarkToken}
 use Rattle.syntax_tree.specs.Tree.{procedure, main, array, block}
 use Rattle.syntax.specs.Writing.{with_rest}
-use Rattle.syntax.proofs.ExpressionText.{ok_then, then_adds}
+use Rattle.syntax.proofs.ExpressionText.{then_adds}
 use Rattle.syntax.proofs.LineText.{wrote, laid_main, laid-opening_brace, laid-closing_brace, arrays_are_lines}
 use Rattle.syntax.proofs.canonical.Lines.program.Goals as goal
 

@@ -1,0 +1,15 @@
+-- Lists.
+use Rattle.std.proofs.Common.{◌≡◌, ℕ, zero, suc, List, [], ◌∷◌, ap, refl, ◌∙◌}
+use Rattle.std.specs.Prelude.{replicate}
+use Rattle.std.specs.List.{AllZip, repeat}
+use Rattle.std.proofs.lemmas.List.{map-id}
+use Rattle.std.proofs.lemmas.Slice.Zip.{AllZip-map}
+
+-- a list whose elements are those of another one is that one
+pub same_elements : {A : Type 0} (xs ys : List A) → AllZip (λ x y. y ≡ x) xs ys → ys ≡ xs
+same_elements xs ys h = AllZip-map (λ x. x) xs ys h ∙ map-id xs
+
+-- a space that is repeated is a row of spaces
+pub spaces : (n : ℕ) → repeat {A = ℕ} n (32 ∷ []) ≡ replicate n 32
+spaces zero = refl
+spaces (suc n) = ap (λ (l : List ℕ). 32 ∷ l) (spaces n)

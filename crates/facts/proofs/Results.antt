@@ -1,0 +1,17 @@
+-- Results.
+use Rattle.std.proofs.Common.{◌≡◌}
+use Rattle.std.specs.Prelude.{Result, Ok, Err, IfOk, OnOk}
+
+-- an answer is no error
+pub ok_is_no_error : {A E : Type 0} (x : A) (e : E) → (let r : Result A E = Ok x in r) ≡ Err e → ⊥
+ok_is_no_error x e is = cc
+
+-- what follows where a call answers
+pub ok_then : {T E P Q : Type 0} (r : Result T E) → OnOk r P → (P → Q) → OnOk r Q
+ok_then (Ok x) p f = f p
+ok_then (Err e) p f = p
+
+-- what follows from what holds of an answer
+pub if_ok_then : {T E : Type 0} {P Q : T → Type 0} (r : Result T E) → IfOk r P → ((x : T) → P x → Q x) → IfOk r Q
+if_ok_then (Ok x) p f = f x p
+if_ok_then (Err e) p f = p
