@@ -19,10 +19,6 @@ module _ (p : Program) where
       (λ x k. elim k [ inl own ↦ All.here (of_label p l t x own) | inr d ↦ All.here (of_done p l t x d) ])
       (all_one p l t))
 
-  -- with those of the statements that are left, all are there: at first
-  pub all_are_left : (a b : ℕ → Type 0) → Gains a b (both a b)
-  all_are_left a b = record { keeps = λ x k. inl k; has = λ x k. inr k; only = λ x k. k }
-
   nothing : {A : Type 0} {x : ℕ} → All p labels End x → A
   nothing h = elim h [ ]
 
@@ -34,7 +30,7 @@ module _ (p : Program) where
   either l s rest x (All.here k) = inl (All.here k)
   either l s rest x (All.later k) = inr k
 
-  -- after one more
+  -- with those of the statements that are left, all are there: after one more
   pub one_less_left : {a c w : ℕ → Type 0} (l : ℕ) (s : Code) (rest : Codes) → Gains a (All p labels (Then l s rest)) w
       → Gains a (All p labels (one l s)) c → Gains c (All p labels rest) w
   one_less_left l s rest g h = record {

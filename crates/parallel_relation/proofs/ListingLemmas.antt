@@ -14,7 +14,6 @@ use Rattle.effects.specs.Summarized.{IsSummary, body_of}
 use Rattle.effects.specs.Tables.{IsDerived, IsDerivedPending, IsStable, IsStablePending}
 use Rattle.effects.specs.Translation.{access}
 use Rattle.effects.specs.declared.access.Access.{Access as rAccess}
-use Rattle.effects.specs.declared.accesses.Accesses.{Accesses}
 use Rattle.effects.specs.declared.label_set.LabelSet.{LabelSet}
 use Rattle.effects.specs.declared.summary.Summary.{Summary}
 use Rattle.effects.proofs.StableTables.{listed, left}
@@ -23,26 +22,6 @@ use Rattle.parallel_relation.specs.Listing.{InList, IsUse, all_listed, pending_l
 use Rattle.parallel_relation.specs.declared.listing.Listed.{Listed}
 use Rattle.parallel_relation.proofs.LabelsLemmas.{callee_body}
 use Rattle.parallel_relation.proofs.SpreadLemmas.{below_next, no_body}
-use Rattle.parallel_relation.proofs.Sums.{gains_joined, gains_nothing}
-
--- the same in other words
-gains_same : {A : Type 0} {f m g : A → Type 0} (n : A → Type 0) → Gains f m g → ((x : A) → m x → n x) → ((x : A) → n x → m x)
-    → Gains f n g
-gains_same n h to from = record {
-  keeps = h.keeps;
-  has = λ x k. h.has x (from x k);
-  only = λ x k. elim (h.only x k) [ inl o ↦ inl o | inr m ↦ inr (to x m) ];
-}
-
--- those of smaller numbers, and then those of the next
-gains_next : {A : Type 0} {f g h : A → Type 0} (number : A → ℕ) (n : ℕ) (m : A → Type 0)
-    → Gains f (λ x. (number x < n) × m x) g → Gains g (λ x. (number x ≡ n) × m x) h → Gains f (λ x. (number x < n + 1) × m x) h
-gains_next number n m g h = gains_joined (λ x. (number x < n + 1) × m x) g h
-    (λ x k. elim k [
-      | inl a ↦ (let l : number x < n = a.0 in omega arith, a.1)
-      | inr b ↦ (let e : number x ≡ n = b.0 in omega arith, b.1)
-    ])
-    (λ x k. elim (below_next (number x) n k.0) [ inl a ↦ inl (a, k.1) | inr b ↦ inr (b, k.1) ])
 
 -- an access more at the end of a list
 pushed_only : (xs : List rAccess) (y : rAccess) (x : Access) → InList (xs ++ y ∷ []) x → InList xs x ⊎ (x ≡ access y)
@@ -90,27 +69,6 @@ module _ (labels : LabelSet) (s : ℕ) (w : Bool) where
 
       is_use : (x : Access) → x ≡ with_label l → (x.label ≡ l) × IsUse labels s w x
       is_use x e = subst (λ (z : Access). (z.label ≡ l) × IsUse labels s w z) (sym e) (refl, ((refl, refl), h))
-
-  -- none, where the label is not there
-  pub no_use : (xs : List rAccess) (l : ℕ) → (HasLabel labels l → ⊥)
-      → Gains (InList xs) (λ x. (x.label ≡ l) × IsUse labels s w x) (InList xs)
-  no_use xs l none = gains_nothing (InList xs) (λ x. (x.label ≡ l) × IsUse labels s w x)
-      (λ x k. none (subst (HasLabel labels) k.0 k.1.1))
-
-  pub uses_next : {f g h : Access → Type 0} (n : ℕ) → Gains f (λ x. (x.label < n) × IsUse labels s w x) g
-      → Gains g (λ x. (x.label ≡ n) × IsUse labels s w x) h → Gains f (λ x. (x.label < n + 1) × IsUse labels s w x) h
-  uses_next n g h = gains_next (λ x. x.label) n (IsUse labels s w) g h
-
-  pub uses_none : (f : Access → Type 0) → Gains f (λ x. (x.label < 0) × IsUse labels s w x) f
-  uses_none f = gains_nothing f (λ x. (x.label < 0) × IsUse labels s w x) (λ x k. let h : x.label < 0 = k.0 in omega arith)
-
-  -- in the end all
-  pub uses_all : {f g : Access → Type 0} (xs : Accesses) (n : ℕ) → ((l : ℕ) → HasLabel labels l → l < n)
-      → ((l : ℕ) → HasLabel labels l ↔ HasAccess xs (record { label = l; section = s; write = w }))
-      → Gains f (λ x. (x.label < n) × IsUse labels s w x) g → Gains f (λ x. IsUseOf s w x × HasAccess xs x) g
-  uses_all xs n within same g = gains_same (λ x. IsUseOf s w x × HasAccess xs x) g
-      (λ x k. (k.1.0, subst (HasAccess xs) (same_use s w x k.1.0) ((same x.label).0 k.1.1)))
-      (λ x k. let h = (same x.label).1 (subst (HasAccess xs) (sym (same_use s w x k.0)) k.1) in (within x.label h, (k.0, h)))
 
 -- one more element of a list
 get_pushed : {A : Type 0} (xs : List A) (y : A) (f : ℕ) → f < length xs → slice_get (xs ++ y ∷ []) f ≡ slice_get xs f

@@ -10,20 +10,12 @@ use Rattle.effects.specs.Summarized.{body_of}
 use Rattle.parallel_relation.specs.Around.{Adds, each}
 use Rattle.parallel_relation.specs.Found.{FoundMeets}
 use Rattle.parallel_relation.specs.Rows.{HasAt}
-use Rattle.parallel_relation.specs.Spread.{Turns}
 use Rattle.parallel_relation.specs.declared.found.Found.{Found}
 use Rattle.parallel_relation.proofs.LabelsLemmas.{callee_body}
-use Rattle.parallel_relation.proofs.Sums.{adds_same, adds_joined, adds_nothing}
+use Rattle.parallel_relation.proofs.Sums.{adds_joined}
 
 pub below_next : (x n : ℕ) → x < n + 1 → (x < n) ⊎ (x ≡ n)
 below_next x n h = elim (cases_lt x n) [ inl a ↦ inl a | inr b ↦ inr (omega arith) ]
-
--- those of smaller numbers, and then those of the next
-pub adds_next : {f g h : ℕ → ℕ → Type 0} (n : ℕ) (m : ℕ → ℕ → Type 0) → Adds f (λ x y. (x < n) × m x y) g
-    → Adds g (λ x y. (x ≡ n) × m x y) h → Adds f (λ x y. (x < n + 1) × m x y) h
-adds_next n m g h = adds_joined (λ x y. (x < n + 1) × m x y) g h
-    (λ x y k. elim k [ inl a ↦ (let l : x < n = a.0 in omega arith, a.1) | inr b ↦ (let e : x ≡ n = b.0 in omega arith, b.1) ])
-    (λ x y k. elim (below_next x n k.0) [ inl a ↦ inl (a, k.1) | inr b ↦ inr (b, k.1) ])
 
 -- what procedures of smaller numbers meet
 pub data CalledBelow (p : Program) (calls ends : ℕ → ℕ → Type 0) (n : ℕ) (x y : ℕ) : Type 0 where
@@ -31,13 +23,6 @@ pub data CalledBelow (p : Program) (calls ends : ℕ → ℕ → Type 0) (n : �
   end : (f : ℕ) → f < n → Pending p labels (procedure_of p f).body x → ends f y → CalledBelow p calls ends n x y
 
 module _ (p : Program) (calls ends : ℕ → ℕ → Type 0) where
-  no_call : (x y : ℕ) → CalledBelow p calls ends 0 x y → ⊥
-  no_call x y (CalledBelow.call f h a k) = omega arith
-  no_call x y (CalledBelow.end f h a k) = omega arith
-
-  pub adds_no_call : (f : ℕ → ℕ → Type 0) → Adds f (CalledBelow p calls ends 0) f
-  adds_no_call f = adds_nothing f (CalledBelow p calls ends 0) no_call
-
   abbrev AllOf : ℕ → ℕ → Type 0
   AllOf f x = All p labels (procedure_of p f).body x
 
@@ -117,18 +102,3 @@ module _ (row : ℕ) where
   -- pairs of this row, the other way round
   abbrev pub Turned : (ℕ → ℕ → Type 0) → ℕ → ℕ → Type 0
   Turned has x y = (y ≡ row) × has y x
-
-  pub turned_next : {f g h : ℕ → ℕ → Type 0} (n : ℕ) → n < row → Adds f (λ x y. (x < n) × Turned f x y) g
-      → Adds g (λ x y. (x ≡ n) × Turned g x y) h → Adds f (λ x y. (x < n + 1) × Turned f x y) h
-  turned_next {f} {g} {h} n less a b = adds_next n (Turned f) a (adds_same (λ x y. (x ≡ n) × Turned f x y) b
-      (λ x y k. (k.0, (k.1.0, before x y k.0 k.1.0 k.1.1)))
-      (λ x y k. (k.0, (k.1.0, a.keeps y x k.1.1))))
-    where
-      before : (x y : ℕ) → x ≡ n → y ≡ row → g y x → f y x
-      before x y e i k = elim (a.only y x k) [ inl o ↦ o | inr m ↦ absurd (let l : y < n = m.0 in omega arith) ]
-
-  pub turned_all : {f g : ℕ → ℕ → Type 0} → Adds f (λ x y. (x < row) × Turned f x y) g
-      → Adds f (λ x y. (y ≡ row) × Turns f x y) g
-  turned_all {f} h = adds_same (λ x y. (y ≡ row) × Turns f x y) h
-      (λ x y k. (k.1.0, (let l : x < row = k.0 in let e : y ≡ row = k.1.0 in omega arith, k.1.1)))
-      (λ x y k. (let l : x < y = k.1.0 in let e : y ≡ row = k.0 in omega arith, (k.0, k.1.1)))

@@ -1,12 +1,7 @@
 -- Sets and pairs that are added up.
-use Rattle.std.proofs.Common.{◌⊎◌, inl, inr, ℕ, Result, Ok, Err, OnOk}
+use Rattle.std.proofs.Common.{◌⊎◌, inl, inr, ℕ}
 use Rattle.std.specs.Prelude.{◌↔◌}
 use Rattle.parallel_relation.specs.Around.{Adds, Gains}
-
--- what follows from what holds of an Ok
-pub on_ok : {T E : Type 0} {P Q : Type 0} (r : Result T E) → (P → Q) → OnOk r P → OnOk r Q
-on_ok (Ok x) f h = f h
-on_ok (Err e) f h = h
 
 pub gains_union : {A : Type 0} (before more after : A → Type 0) → ((x : A) → after x ↔ (before x ⊎ more x)) → Gains before more after
 gains_union before more after h = record { keeps = λ x k. (h x).1 (inl k); has = λ x k. (h x).1 (inr k); only = λ x k. (h x).0 k }

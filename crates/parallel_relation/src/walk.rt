@@ -14,20 +14,34 @@ use effects::summaries::Summaries;
 use std::alloc::{AllocError, Global};
 use types::code::{Program, Stmt, StmtKind};
 
+/// What the walk goes by.
+#[derive(Clone, Copy)]
+pub struct Guide<'p> {
+    pub alloc: Global,
+    pub code: &'p Program,
+    /// What the procedures of the program do.
+    pub summaries: &'p Summaries,
+}
+
 /// Finds the pairs of all procedures and of `main`.
 pub fn walk_all(alloc: Global, code: &Program, summaries: &Summaries) -> Result<Found, AllocError>
     requires { AreSummaries (program code.now) summaries.now }
     ensures { let p = program code.now in
         IfOk result (λ found. (x y : ℕ) → FoundMeets p found x y ↔ Arises p x y) }
 {
+    let guide = Guide {
+        alloc,
+        code,
+        summaries,
+    };
     let none = LabelSet::new(alloc);
     let mut found = Found::new(alloc);
     for procedure in &code.procedures {
         let body = &procedure.body;
-        walk(alloc, code, summaries, &none, &none, body, &mut found)?;
+        walk(guide, &none, &none, body, &mut found)?;
     }
     let body = &code.main.body;
-    walk(alloc, code, summaries, &none, &none, body, &mut found)?;
+    walk(guide, &none, &none, body, &mut found)?;
     Ok(found)
 }
 
@@ -36,27 +50,23 @@ pub fn walk_all(alloc: Global, code: &Program, summaries: &Summaries) -> Result<
 /// behind each is known.
 #[cycle(walk)]
 pub fn walk(
-    alloc: Global,
-    code: &Program,
-    summaries: &Summaries,
+    guide: Guide<'_>,
     everything: &LabelSet,
     later: &LabelSet,
     block: &[Stmt],
     found: &mut Found,
 ) -> Result<(), AllocError>
-    requires { AreSummaries (program code.now) summaries.now }
-    ensures { let p = program code.now in OnOk result (Adds (FoundMeets p found.old)
+    requires { AreSummaries (program guide.code.now) guide.summaries.now }
+    ensures { let p = program guide.entry.code.now in OnOk result (Adds (FoundMeets p found.old)
         (BlockMeets p (HasLabel everything.now) (HasLabel later.now) (codes block.now))
         (FoundMeets p found.new)) }
 {
-    let mut behind = copy_of(alloc, later)?;
+    let mut behind = copy_of(guide.alloc, later)?;
     for k in (0..block.len()).rev() {
         let statement = &block[k];
-        found.add_label(alloc, statement.label, everything)?;
-        walk_inside(
-            alloc, code, summaries, everything, &behind, statement, found,
-        )?;
-        add_labels_of(code, summaries, statement, &mut behind)?;
+        found.add_label(guide.alloc, statement.label, everything)?;
+        walk_inside(guide, everything, &behind, statement, found)?;
+        add_labels_of(guide.code, guide.summaries, statement, &mut behind)?;
     }
     Ok(())
 }
@@ -64,42 +74,40 @@ pub fn walk(
 /// Finds the pairs of a statement's blocks and of its call.
 #[cycle(walk)]
 fn walk_inside(
-    alloc: Global,
-    code: &Program,
-    summaries: &Summaries,
+    guide: Guide<'_>,
     everything: &LabelSet,
     later: &LabelSet,
     statement: &Stmt,
     found: &mut Found,
 ) -> Result<(), AllocError>
-    requires { AreSummaries (program code.now) summaries.now }
-    ensures { let p = program code.now in OnOk result (Adds (FoundMeets p found.old)
+    requires { AreSummaries (program guide.code.now) guide.summaries.now }
+    ensures { let p = program guide.entry.code.now in OnOk result (Adds (FoundMeets p found.old)
         (InsideMeets p (HasLabel everything.now) (HasLabel later.now) statement.now.label
         (plain_code statement.now.kind)) (FoundMeets p found.new)) }
 {
     match &statement.kind {
         StmtKind::Do(_) => Ok(()),
         StmtKind::If { body, other, .. } => {
-            walk(alloc, code, summaries, everything, later, body, found)?;
-            walk(alloc, code, summaries, everything, later, other, found)
+            walk(guide, everything, later, body, found)?;
+            walk(guide, everything, later, other, found)
         }
         StmtKind::While { body, .. } => {
-            let mut again = copy_of(alloc, later)?;
-            add_labels_of(code, summaries, statement, &mut again)?;
-            walk(alloc, code, summaries, everything, &again, body, found)
+            let mut again = copy_of(guide.alloc, later)?;
+            add_labels_of(guide.code, guide.summaries, statement, &mut again)?;
+            walk(guide, everything, &again, body, found)
         }
-        StmtKind::Split { body, .. } => {
-            walk(alloc, code, summaries, everything, later, body, found)
+        StmtKind::Split { body, .. } => walk(guide, everything, later, body, found),
+        StmtKind::Call { procedure, .. } => {
+            found.add_call(guide.alloc, *procedure, everything, later)
         }
-        StmtKind::Call { procedure, .. } => found.add_call(alloc, *procedure, everything, later),
         StmtKind::Async { body } => {
-            let beside = union_of(alloc, everything, later)?;
-            let none = LabelSet::new(alloc);
-            walk(alloc, code, summaries, &beside, &none, body, found)
+            let beside = union_of(guide.alloc, everything, later)?;
+            let none = LabelSet::new(guide.alloc);
+            walk(guide, &beside, &none, body, found)
         }
         StmtKind::Finish { body } => {
-            let none = LabelSet::new(alloc);
-            walk(alloc, code, summaries, everything, &none, body, found)
+            let none = LabelSet::new(guide.alloc);
+            walk(guide, everything, &none, body, found)
         }
     }
 }

@@ -2,6 +2,7 @@
 
 #![tactic(auto)]
 
+pub mod found;
 pub mod names;
 pub mod races;
 pub mod steps;

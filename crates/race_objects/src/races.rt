@@ -10,6 +10,7 @@ ghost use Rattle.json_answers.specs.Pieces.{IsReadBack, line, object_of};
 ghost use Rattle.race_objects.specs.Races.{access_json, accesses_json, race_json, race_message};
 ghost use Rattle.race_objects.specs.Races.{told_members};
 
+use crate::found::Found;
 use crate::names::{kind_of, procedure_in, section_name};
 use crate::witnesses::witness_value;
 use effects::access::Access;
@@ -22,16 +23,6 @@ use serde_json::{Value, json};
 use std::alloc::{AllocError, Global};
 use syntax::Place;
 use types::code::{Label, Procedure, Program};
-use witness::witness::Witness;
-
-/// A race of a program, where the statements of its text begin, and why it is one.
-#[derive(Clone, Copy)]
-pub struct Found<'f> {
-    pub places: &'f [Place],
-    pub code: &'f Program,
-    pub race: Race,
-    pub witness: &'f Witness,
-}
 
 /// A race of a program, as the refusal that it is: with both accesses, in the names of the procedure that has it, its
 /// witness, and the place of the first access. An access is

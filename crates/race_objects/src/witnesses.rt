@@ -7,8 +7,8 @@ ghost use Rattle.race_checker.specs.Translation.{race as race_of};
 ghost use Rattle.race_objects.specs.Witnesses.{common_section, first_way, meeting_word, pending_word};
 ghost use Rattle.race_objects.specs.Witnesses.{second_way, sharing_json, sharing_word, witness_json};
 
+use crate::found::Found;
 use crate::names::{procedure_in, section_name};
-use crate::races::Found;
 use crate::steps::way_value;
 use json_answers::refusals::text_or_null;
 use serde_json::{Value, json};

@@ -7,7 +7,7 @@ use excerpts::nouns::noun;
 use excerpts::source::{Source, push_excerpt};
 use excerpts::statements::Statements;
 use scopes::arguments::{Argument, Parameter, Procedure, arguments, procedure_of};
-use scopes::declared::{Declared, Kind, Scope, find};
+use scopes::declared::{Declared, Scope, find};
 use scopes::expressions::{Part, Value, parts_of, wrong_part};
 use std::alloc::{AllocError, Global};
 use syntax::Place;

@@ -1,7 +1,7 @@
 //! Parameters of procedures, and arguments of calls.
 
-use crate::declared::Kind;
 use crate::expressions::{Between, inside, only_name};
+use crate::kind::Kind;
 use std::alloc::{AllocError, Global};
 use syntax::token::{Mark, Spanned, Token, Word};
 

@@ -1,6 +1,7 @@
 //! What is declared where a statement stands.
 
 use crate::arguments::{is_of_bytes, parameters};
+use crate::kind::Kind;
 use std::alloc::{AllocError, Global};
 use syntax::token::{Mark, Spanned, Token, Word};
 
@@ -24,56 +25,6 @@ pub struct Part<'t> {
     pub whole: &'t str,
     /// The number of the first character of its name in the split.
     pub at: usize,
-}
-
-/// What a name stands for.
-#[derive(Clone, Copy, PartialEq, Eq)]
-pub enum Kind {
-    Scalar,
-    /// A section that may be written; the first of it is whether its elements are bytes.
-    Written { bytes: bool },
-    /// A section that is only read.
-    Read { bytes: bool },
-}
-
-impl Kind {
-    /// Whether it is a section.
-    pub fn is_section(self) -> bool {
-        match self {
-            Kind::Scalar => false,
-            _ => true,
-        }
-    }
-
-    /// Whether it is a section that may be written.
-    pub fn is_written(self) -> bool {
-        match self {
-            Kind::Written { .. } => true,
-            _ => false,
-        }
-    }
-
-    /// Whether its elements are bytes.
-    pub fn bytes(self) -> bool {
-        match self {
-            Kind::Scalar => false,
-            Kind::Written { bytes } => bytes,
-            Kind::Read { bytes } => bytes,
-        }
-    }
-
-    /// The name of its element type.
-    pub fn element(self) -> &'static str {
-        if self.bytes() { "byte" } else { "int" }
-    }
-
-    /// Whether it is a section that is only read.
-    pub fn is_read(self) -> bool {
-        match self {
-            Kind::Read { .. } => true,
-            _ => false,
-        }
-    }
 }
 
 /// A block that is open, with the character at which its `async` begins where it is one's.

@@ -6,3 +6,4 @@
 pub mod arguments;
 pub mod declared;
 pub mod expressions;
+pub mod kind;

@@ -5,6 +5,7 @@
 
 #![tactic(auto)]
 
+mod advance;
 pub mod finish;
 pub mod laws;
 mod outcome;

@@ -2,14 +2,15 @@
 
 use std::alloc::AllocError;
 use trace_numbers::chains::Chains;
+use types::child_number::ChildNumber;
 use types::path::Path;
 
 /// The child that a task spawns next, where chains have come so far.
 pub fn next_child(chains: &Chains, path: &Path) -> Result<Path, AllocError> {
     let number = chains.chain(path).spawned.saturating_add(1);
     // A path names no more children.
-    let Ok(number) = u32::try_from(number) else {
-        return Err(AllocError);
-    };
-    path.child(number)
+    match u32::try_from(number).ok().and_then(ChildNumber::new) {
+        Some(number) => path.child(number),
+        None => Err(AllocError),
+    }
 }

@@ -82,13 +82,10 @@ impl Scopes {
             opened: HashMap::new(alloc),
             last: events.saturating_sub(1),
         };
-        let root = Path {
-            turns: Vec::new(alloc),
-        };
         scopes.begin(
             0,
             ScopeId {
-                owner: root,
+                owner: Path::root(alloc),
                 number: 0,
             },
         )?;

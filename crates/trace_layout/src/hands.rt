@@ -1,20 +1,36 @@
 //! What is in the workers' hands, event by event.
 
 ghost use Rattle.std.specs.Prelude.{ℕ, ◌≡◌, ◌+◌, ◌-◌, ◌<◌, ◌↔◌, List, All, IfNone, IfSome, IsTrue, None, OnOk, Some};
-ghost use Rattle.std.specs.Prelude.{length, slice_get, slice_index_or};
+ghost use Rattle.std.specs.Prelude.{IfOk, length, slice_get, slice_index_or};
 ghost use Rattle.std.specs.HashMap.{get};
 ghost use Rattle.events.specs.declared.event.Event.{Event as AnyEvent};
 ghost use Rattle.trace_layout.specs.Hands.{AreHands, IsEmptyHand};
-ghost use Rattle.trace_layout.specs.Spells.{IsLeaving, taken_at};
+ghost use Rattle.trace_layout.specs.Spells.{AreSpells, IsLeaving, taken_at};
 ghost use Rattle.trace_layout.specs.declared.spells.Spell.{Spell as AnySpell};
 ghost use Rattle.trace_numbers.specs.Tables.{is_path};
 
-use crate::spells::{Beginning, Ending, Spell};
+use crate::spells::{Beginning, Ending, Spell, Spells};
 use events::event::Event;
 use events::worker_id::WorkerId;
 use std::alloc::{AllocError, Global};
 use std::collections::HashMap;
 use types::path::Path;
+
+/// The spells of a list of events, in whatever order they stand.
+pub fn spells_of(alloc: Global, events: &[Event]) -> Result<Spells, AllocError>
+    ensures { IfOk result (AreSpells events.now) }
+{
+    let mut hands = Hands::start(alloc, events.len());
+    let mut places = Vec::new(alloc);
+    for (number, event) in events.iter().enumerate() {
+        let place = hands.happens(number, event)?;
+        places.push(place)?;
+    }
+    Ok(Spells {
+        all: hands.spells,
+        places,
+    })
+}
 
 /// The spells so far, and what is in each hand.
 #[derive(Drop)]

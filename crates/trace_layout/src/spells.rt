@@ -1,12 +1,6 @@
 //! Spells: a task in a worker's hand.
 
-ghost use Rattle.std.specs.Prelude.{IfOk};
-ghost use Rattle.trace_layout.specs.Spells.{AreSpells};
-
-use crate::hands::Hands;
-use events::event::Event;
 use events::worker_id::WorkerId;
-use std::alloc::{AllocError, Global};
 use types::path::Path;
 
 /// How a spell begins.
@@ -53,22 +47,6 @@ pub struct Spells {
     pub all: Vec<Spell>,
     /// Of each event the number of the spell to which it belongs.
     pub places: Vec<Option<usize>>,
-}
-
-/// The spells of a list of events, in whatever order they stand.
-pub fn spells_of(alloc: Global, events: &[Event]) -> Result<Spells, AllocError>
-    ensures { IfOk result (AreSpells events.now) }
-{
-    let mut hands = Hands::start(alloc, events.len());
-    let mut places = Vec::new(alloc);
-    for (number, event) in events.iter().enumerate() {
-        let place = hands.happens(number, event)?;
-        places.push(place)?;
-    }
-    Ok(Spells {
-        all: hands.spells,
-        places,
-    })
 }
 
 impl Spells {

@@ -1,5 +1,6 @@
 use Rattle.std.proofs.Common.{◌≤◌, ◌<◌, ◌+◌, List, length, drop, ap, subst, refl, arith, rules}
 use Rattle.std.proofs.lemmas.List.{drop_all}
+use Rattle.std.proofs.lemmas.Result.{on_ok_weaker}
 use Rattle.types.specs.Code.{Do, If}
 use Rattle.types.specs.Translation.{program, code, codes, truth, primitive}
 use Rattle.types.specs.declared.code.Stmt.{Stmt}
@@ -10,7 +11,7 @@ use Rattle.parallel_relation.proofs.LabelsLemmas.{gains_statement, one_less_left
 use Rattle.parallel_relation.proofs.StatementParts.{Done}
 use Rattle.effects.proofs.Statements.{size, size_in, codes_at, is_If}
 use Rattle.effects.proofs.OneList.{of_list, size_of_list}
-use Rattle.parallel_relation.proofs.Sums.{gains_joined, gains_nothing, on_ok}
+use Rattle.parallel_relation.proofs.Sums.{gains_joined, gains_nothing}
 use Rattle.parallel_relation.proofs.labels.+labels.Goals as goal
 
 pub add_labels-loop-statement-preserved : goal.add_labels-loop-statement-preserved
@@ -45,7 +46,7 @@ add_labels_of-returns-in-Do t c =
 
 pub add_labels_of-returns-in-Call : goal.add_labels_of-returns-in-Call
 add_labels_of-returns-in-Call t c =
-    on_ok c.add_labels_of_call.result (λ g. gains_statement (program c.args.code.now) c.args.statement.now.label (ap code c.in-Call.is)
+    on_ok_weaker c.add_labels_of_call.result (λ g. gains_statement (program c.args.code.now) c.args.statement.now.label (ap code c.in-Call.is)
     c.in_ok-insert.ensures g) c.add_labels_of_call.ensures
 
 pub add_labels_of-add_labels-requires : goal.add_labels_of-add_labels-requires
@@ -64,7 +65,7 @@ add_labels_of-returns-in_ok-add_labels-in-If t c =
     let is = is_If _ c.in-If.guard c.in-If.body c.in-If.other c.deref.result.now c.deref-in-If.result.now c.in-If.is c.deref.ensures.value c.deref-in-If.ensures.value in
     let b = codes c.deref.result.now in
     let d = codes c.deref-in-If.result.now in
-    on_ok c.add_labels-in-If.result (λ g. gains_statement p c.args.statement.now.label is c.in_ok-insert.ensures
+    on_ok_weaker c.add_labels-in-If.result (λ g. gains_statement p c.args.statement.now.label is c.in_ok-insert.ensures
     (gains_joined (Done p (If (truth c.in-If.guard) b d)) c.in_ok-add_labels-in-If.ensures g (λ x k. k) (λ x k. k)))
     c.add_labels-in-If.ensures
 
@@ -77,7 +78,7 @@ pub add_labels_of-returns-in-While : goal.add_labels_of-returns-in-While
 add_labels_of-returns-in-While t c =
     let p = program c.args.code.now in
     let k = c.args.statement.now.kind in
-    on_ok c.add_labels-in-While.result (λ g. gains_statement p c.args.statement.now.label {t = code k} refl c.in_ok-insert.ensures
+    on_ok_weaker c.add_labels-in-While.result (λ g. gains_statement p c.args.statement.now.label {t = code k} refl c.in_ok-insert.ensures
     (of_list k c.in-While.body (λ j. Gains (HasLabel c.insert.new.self) (Done p j) (HasLabel c.add_labels-in-While.new.set))
     c.deref-in-While.result.now c.deref-in-While.ensures.value c.in-While.is (λ t. g) (λ s n i r. g) g g))
     c.add_labels-in-While.ensures

@@ -1,5 +1,6 @@
 use Rattle.std.proofs.Common.{◌≡◌, ◌++◌, ◌<◌, OnOk, length, map, refl, ap, arith, rules}
 use Rattle.std.proofs.lemmas.List.{map-append}
+use Rattle.std.proofs.lemmas.Result.{on_ok_weaker}
 use Rattle.types.specs.Translation.{codes}
 use Rattle.effects.specs.Effects.{accesses}
 use Rattle.effects.proofs.Appending.{in_two_steps}
@@ -9,7 +10,6 @@ use Rattle.parallel_relation.specs.Meetings.{added_in, added_inside}
 use Rattle.parallel_relation.specs.Order.{meeting_of}
 use Rattle.parallel_relation.specs.Translation.{meeting}
 use Rattle.effects.proofs.OneList.{of_list, size_of_list}
-use Rattle.parallel_relation.proofs.Sums.{on_ok}
 use Rattle.parallel_relation.proofs.meetings.+meetings.Goals as goal
 
 pub add_meetings-add_meetings_inside-requires : goal.add_meetings-add_meetings_inside-requires
@@ -50,5 +50,5 @@ add_meetings_inside-returns-in_ok-add_meetings-in-If t c =
     let lists = c.args.lists.now in
     let added = added_in accesses (alls_of lists) (pendings_of lists) (is_asked c.args.label) in
     let is = is_If _ c.in-If.guard c.in-If.body c.in-If.other c.deref.result.now c.deref-in-If.result.now c.in-If.is c.deref.ensures.value c.deref-in-If.ensures.value in
-    rw is (on_ok c.add_meetings-in-If.result (λ second. in_two_steps _ _ _ _ _ _ c.in_ok-add_meetings-in-If.ensures second
+    rw is (on_ok_weaker c.add_meetings-in-If.result (λ second. in_two_steps _ _ _ _ _ _ c.in_ok-add_meetings-in-If.ensures second
     (map-append meeting_of (added (codes c.deref.result.now)) (added (codes c.deref-in-If.result.now)))) c.add_meetings-in-If.ensures)

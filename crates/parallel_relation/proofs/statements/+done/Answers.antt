@@ -1,6 +1,7 @@
 use Rattle.std.proofs.Common.{◌≡◌, ◌++◌, OnOk, map, refl, sym, ap}
 use Rattle.std.proofs.lemmas.List.{append-nil}
 use Rattle.std.proofs.lemmas.Option.{slice_get_past}
+use Rattle.std.proofs.lemmas.Result.{on_ok_weaker}
 use Rattle.types.specs.Translation.{code, codes}
 use Rattle.effects.specs.Effects.{accesses}
 use Rattle.effects.specs.Tables.{all_in, all_inside}
@@ -10,13 +11,12 @@ use Rattle.effects.proofs.ClosingLemmas.{got}
 use Rattle.effects.proofs.OneList.{of_same}
 use Rattle.effects.proofs.Statements.{is_If, is_Split}
 use Rattle.parallel_relation.specs.Listing.{alls_of}
-use Rattle.parallel_relation.proofs.Sums.{on_ok}
 use Rattle.parallel_relation.proofs.statements.+done.Goals as goal
 
 pub add_inside-returns-in_ok-add_block-in-If : goal.add_inside-returns-in_ok-add_block-in-If
 add_inside-returns-in_ok-add_block-in-If t c =
     rw (is_If _ c.in-If.guard c.in-If.body c.in-If.other c.deref.result.now c.deref-in-If.result.now c.in-If.is c.deref.ensures.value c.deref-in-If.ensures.value)
-    (on_ok c.add_block-in-If.result (λ second. in_two_steps _ _ _ _ _ _ c.in_ok-add_block-in-If.ensures second refl) c.add_block-in-If.ensures)
+    (on_ok_weaker c.add_block-in-If.result (λ second. in_two_steps _ _ _ _ _ _ c.in_ok-add_block-in-If.ensures second refl) c.add_block-in-If.ensures)
 
 pub add_inside-returns-in-While : goal.add_inside-returns-in-While
 add_inside-returns-in-While t c =

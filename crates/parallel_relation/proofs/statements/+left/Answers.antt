@@ -1,6 +1,7 @@
 use Rattle.std.proofs.Common.{◌≡◌, map, refl, sym, ap}
 use Rattle.std.proofs.lemmas.List.{append-nil}
 use Rattle.std.proofs.lemmas.Option.{slice_get_past}
+use Rattle.std.proofs.lemmas.Result.{on_ok_weaker}
 use Rattle.types.specs.Translation.{code, codes}
 use Rattle.effects.specs.Effects.{accesses}
 use Rattle.effects.specs.Tables.{left_in}
@@ -9,13 +10,12 @@ use Rattle.effects.proofs.Appending.{in_two_steps}
 use Rattle.effects.proofs.ClosingLemmas.{got}
 use Rattle.effects.proofs.Statements.{is_If, is_While, is_Split, is_Async}
 use Rattle.parallel_relation.specs.Listing.{alls_of, pendings_of}
-use Rattle.parallel_relation.proofs.Sums.{on_ok}
 use Rattle.parallel_relation.proofs.statements.+left.Goals as goal
 
 pub add_left_by-returns-in_ok-add_left-in-If : goal.add_left_by-returns-in_ok-add_left-in-If
 add_left_by-returns-in_ok-add_left-in-If t c =
     rw (is_If _ c.in-If.guard c.in-If.body c.in-If.other c.deref.result.now c.deref-in-If.result.now c.in-If.is c.deref.ensures.value c.deref-in-If.ensures.value)
-    (on_ok c.add_left-in-If.result (λ second. in_two_steps _ _ _ _ _ _ c.in_ok-add_left-in-If.ensures second refl) c.add_left-in-If.ensures)
+    (on_ok_weaker c.add_left-in-If.result (λ second. in_two_steps _ _ _ _ _ _ c.in_ok-add_left-in-If.ensures second refl) c.add_left-in-If.ensures)
 
 pub add_left_by-returns-in-While : goal.add_left_by-returns-in-While
 add_left_by-returns-in-While t c =

@@ -1,5 +1,6 @@
 use Rattle.std.proofs.Common.{◌≡◌, ◌-◌, List, [], length, drop, ap, sym, subst, refl, arith}
 use Rattle.std.proofs.lemmas.List.{drop_all}
+use Rattle.std.proofs.lemmas.Result.{on_ok_weaker}
 use Rattle.types.specs.Code.{End}
 use Rattle.types.specs.Translation.{program, code, codes}
 use Rattle.types.specs.declared.code.Stmt.{Stmt}
@@ -9,13 +10,13 @@ use Rattle.parallel_relation.specs.Around.{Adds, Gains, BlockMeets}
 use Rattle.parallel_relation.specs.Found.{FoundMeets}
 use Rattle.parallel_relation.proofs.LabelsLemmas.{nothing_behind, one_more}
 use Rattle.effects.proofs.Statements.{size_in, codes_before, smaller, size-drop, is_If, is_While, is_Split, is_Async, is_Finish}
-use Rattle.parallel_relation.proofs.Sums.{adds_nothing, adds_joined, on_ok}
+use Rattle.parallel_relation.proofs.Sums.{adds_nothing, adds_joined}
 use Rattle.parallel_relation.proofs.WalkLemmas.{gains_copied, no_block, adds_later, adds_async, adds_finish, adds_statement, adds_before}
 use Rattle.parallel_relation.proofs.walk.+walk.Goals as goal
 
 pub walk-loop-k-init : goal.walk-loop-k-init
 walk-loop-k-init t c =
-    let p = program c.args.code.now in
+    let p = program c.args.guide.code.now in
     let xs = c.args.block.now in
     let e = HasLabel c.args.everything.now in
     let k = HasLabel c.args.later.now in
@@ -36,7 +37,7 @@ walk-walk_inside-requires t c =
 
 pub walk-loop-k-preserved : goal.walk-loop-k-preserved
 walk-loop-k-preserved t c =
-    let p = program c.args.code.now in
+    let p = program c.args.guide.code.now in
     let xs = c.args.block.now in
     let e = HasLabel c.args.everything.now in
     let later = HasLabel c.args.later.now in
@@ -55,18 +56,18 @@ walk-loop-k-preserved t c =
 
 pub walk-returns : goal.walk-returns
 walk-returns t c =
-    let p = program c.args.code.now in
+    let p = program c.args.guide.code.now in
     let first : c.loop-k.k ≡ 0 = omega arith in
     subst (λ k. Adds (FoundMeets p c.args.found.now) (BlockMeets p (HasLabel c.args.everything.now) (HasLabel c.args.later.now)
     (codes (drop k c.args.block.now))) (FoundMeets p c.loop-k.found)) first c.loop-k.invariant.found
 
 pub walk_inside-returns-in-Do : goal.walk_inside-returns-in-Do
 walk_inside-returns-in-Do t c =
-    rw (ap code c.in-Do.is) (adds_nothing (FoundMeets (program c.args.code.now) c.args.found.now) _ (λ x y m. m))
+    rw (ap code c.in-Do.is) (adds_nothing (FoundMeets (program c.args.guide.code.now) c.args.found.now) _ (λ x y m. m))
 
 pub walk_inside-returns-in-Call : goal.walk_inside-returns-in-Call
 walk_inside-returns-in-Call t c =
-    rw (ap code c.in-Call.is) (on_ok c.add_call.result (λ h. h (program c.args.code.now)) c.add_call.ensures)
+    rw (ap code c.in-Call.is) (on_ok_weaker c.add_call.result (λ h. h (program c.args.guide.code.now)) c.add_call.ensures)
 
 pub walk_inside-walk-requires : goal.walk_inside-walk-requires
 walk_inside-walk-requires t c =
@@ -81,7 +82,7 @@ walk_inside-walk-requires-in-If t c =
 pub walk_inside-returns-in_ok-walk-in-If : goal.walk_inside-returns-in_ok-walk-in-If
 walk_inside-returns-in_ok-walk-in-If t c =
     rw (is_If _ c.in-If.guard c.in-If.body c.in-If.other c.deref.result.now c.deref-in-If.result.now c.in-If.is c.deref.ensures.value c.deref-in-If.ensures.value)
-    (on_ok c.walk-in-If.result (λ h. adds_joined _ c.in_ok-walk-in-If.ensures h (λ x y m. m) (λ x y m. m)) c.walk-in-If.ensures)
+    (on_ok_weaker c.walk-in-If.result (λ h. adds_joined _ c.in_ok-walk-in-If.ensures h (λ x y m. m) (λ x y m. m)) c.walk-in-If.ensures)
 
 pub walk_inside-walk-requires-in-While : goal.walk_inside-walk-requires-in-While
 walk_inside-walk-requires-in-While t c =
@@ -90,11 +91,11 @@ walk_inside-walk-requires-in-While t c =
 
 pub walk_inside-returns-in_ok-add_labels_of-in-While : goal.walk_inside-returns-in_ok-add_labels_of-in-While
 walk_inside-returns-in_ok-add_labels_of-in-While t c =
-    let p = program c.args.code.now in
+    let p = program c.args.guide.code.now in
     let is = is_While _ c.in-While.guard c.in-While.body c.deref-in-While.result.now c.in-While.is c.deref-in-While.ensures.value in
     let copied = gains_copied c.in_ok-again-in-While.ensures c.in_ok-add_labels_of-in-While.ensures in
     let again = rw is at copied in
-    rw is (on_ok c.walk-in-While.result (adds_later p (HasLabel c.args.everything.now) (codes c.deref-in-While.result.now) again) c.walk-in-While.ensures)
+    rw is (on_ok_weaker c.walk-in-While.result (adds_later p (HasLabel c.args.everything.now) (codes c.deref-in-While.result.now) again) c.walk-in-While.ensures)
 
 pub walk_inside-walk-requires-in-Split : goal.walk_inside-walk-requires-in-Split
 walk_inside-walk-requires-in-Split t c =
@@ -115,7 +116,7 @@ walk_inside-walk-requires-in-Async t c =
 pub walk_inside-returns-in_ok-beside-in-Async : goal.walk_inside-returns-in_ok-beside-in-Async
 walk_inside-returns-in_ok-beside-in-Async t c =
     rw (is_Async _ c.in-Async.body c.deref-in-Async.result.now c.in-Async.is c.deref-in-Async.ensures.value)
-    (on_ok c.walk-in-Async.result (adds_async (program c.args.code.now) (codes c.deref-in-Async.result.now) c.in_ok-beside-in-Async.ensures
+    (on_ok_weaker c.walk-in-Async.result (adds_async (program c.args.guide.code.now) (codes c.deref-in-Async.result.now) c.in_ok-beside-in-Async.ensures
     c.new-none.ensures) c.walk-in-Async.ensures)
 
 pub walk_inside-walk-requires-in-Finish : goal.walk_inside-walk-requires-in-Finish
@@ -126,5 +127,5 @@ walk_inside-walk-requires-in-Finish t c =
 pub walk_inside-returns-in-Finish : goal.walk_inside-returns-in-Finish
 walk_inside-returns-in-Finish t c =
     rw (is_Finish _ c.in-Finish.body c.deref-in-Finish.result.now c.in-Finish.is c.deref-in-Finish.ensures.value)
-    (on_ok c.walk-in-Finish.result (adds_finish (program c.args.code.now) (HasLabel c.args.everything.now) (HasLabel c.new-none-in-Finish.result)
+    (on_ok_weaker c.walk-in-Finish.result (adds_finish (program c.args.guide.code.now) (HasLabel c.args.everything.now) (HasLabel c.new-none-in-Finish.result)
     (codes c.deref-in-Finish.result.now) c.new-none-in-Finish.ensures) c.walk-in-Finish.ensures)

@@ -10,7 +10,7 @@ use Rattle.parallel_relation.proofs.walk.+walk.Given as goal
 -- the pairs of the statements behind are found
 abbrev pub invariant-walk-loop-k : goal.invariant-walk-loop-k
 invariant-walk-loop-k l =
-    let p = program l.code in
+    let p = program l.guide.code.now in
     let done = codes (drop l.k l.block) in
     record {
       behind : Gains (HasLabel l.later) (All p labels done) (HasLabel l.behind);

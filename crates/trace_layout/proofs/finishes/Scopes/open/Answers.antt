@@ -1,9 +1,9 @@
 use Rattle.std.proofs.Common.{◌≡◌, ℕ, ◌+◌, Option, ap, ◌∙◌, refl, arith}
 use Rattle.std.specs.Prelude.{unwrap_or}
 use Rattle.std.specs.HashMap.{get}
+use Rattle.facts.proofs.Lists.{same_elements}
+use Rattle.facts.proofs.Results.{ok_then}
 use Rattle.trace_numbers.specs.Tables.{is_path}
-use Rattle.trace_numbers.proofs.Known.{cloned_is}
-use Rattle.trace_numbers.proofs.Pieces.{ok_then}
 use Rattle.trace_layout.proofs.Opened.{scopes_opened}
 use Rattle.trace_layout.proofs.finishes.Scopes.open.Goals as goal
 
@@ -18,7 +18,7 @@ returns c =
     let number : c.in-Some.count ≡ c.unwrap_or-before.result + 1 = omega (arith, c.in-Some.ensures) in
     ok_then c.begin.result c.begin.ensures (λ begun es opens was.
     scopes_opened es c.args.number path key (record { owner = owner; number = c.in-Some.count }) h _ c.begin.new.self opens
-    (cloned_is path.turns.items owner.turns.items c.in_ok-clone-2.ensures.cases.0)
-    (cloned_is path.turns.items key.turns.items c.in_ok-clone.ensures.cases.0)
+    (same_elements path.turns.items owner.turns.items c.in_ok-clone-2.ensures.cases.0)
+    (same_elements path.turns.items key.turns.items c.in_ok-clone.ensures.cases.0)
     (number ∙ ap (λ (n : ℕ). n + 1) before)
     c.in_ok-insert.ensures.updates.0 refl refl begun was)

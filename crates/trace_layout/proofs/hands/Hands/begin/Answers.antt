@@ -2,8 +2,8 @@ use Rattle.std.proofs.Common.{◌≡◌, ◌<◌, ◌≤◌, ◌+◌, length, se
 use Rattle.std.specs.Prelude.{Some, cond}
 use Rattle.std.specs.HashMap.{get}
 use Rattle.std.proofs.lemmas.Option.{slice_get_within}
+use Rattle.facts.proofs.Lists.{same_elements}
 use Rattle.trace_numbers.specs.Tables.{is_path}
-use Rattle.trace_numbers.proofs.Known.{cloned_is}
 use Rattle.trace_layout.specs.Hands.{IsSpellSoFar}
 use Rattle.trace_layout.specs.Spells.{Hold}
 use Rattle.trace_layout.specs.declared.spells.Ending.TheVariants.{Going}
@@ -26,8 +26,8 @@ returns c =
       last = h.last;
       own = 1;
     } in
-    let path_is : s.path.turns.items ≡ path = cloned_is path s.path.turns.items c.in_ok-clone.ensures.cases.0 in
-    let key_is : key.turns.items ≡ path = cloned_is path key.turns.items c.in_ok-clone-2.ensures.cases.0 in
+    let path_is : s.path.turns.items ≡ path = same_elements path s.path.turns.items c.in_ok-clone.ensures.cases.0 in
+    let key_is : key.turns.items ≡ path = same_elements path key.turns.items c.in_ok-clone-2.ensures.cases.0 in
     let place_is : c.len-place.result ≡ length h.spells.items = c.len-place.ensures ∙ h.spells.ok.0 in
     λ es taking was.
     let y : Hold = record { worker = c.args.worker; path = path } in

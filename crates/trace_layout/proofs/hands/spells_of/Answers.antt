@@ -2,7 +2,7 @@ use Rattle.std.proofs.Common.{◌+◌, length, ap, refl, ◌∙◌, arith}
 use Rattle.std.proofs.lemmas.List.{length_push}
 use Rattle.std.proofs.lemmas.Option.{slice_get_read}
 use Rattle.trace_layout.proofs.Handled.{all_spells}
-use Rattle.trace_layout.proofs.spells.spells_of.Goals as goal
+use Rattle.trace_layout.proofs.hands.spells_of.Goals as goal
 
 pub loop-number-preserved : goal.loop-number-preserved
 loop-number-preserved c =

@@ -4,7 +4,7 @@ use Rattle.task_machine.specs.Turns.{turning}
 use Rattle.task_machine.proofs.InPlace.{by_done, done_turn, gone_body, keeps, over_body, parts_become, spawned_body, spawned_may}
 use Rattle.task_machine.proofs.Staying.{few_opened}
 use Rattle.task_machine.proofs.Turning.{opens_task, opens_units, parts_tasks}
-use Rattle.task_machine.proofs.task.did.Goals as goal
+use Rattle.task_machine.proofs.advance.did.Goals as goal
 
 pub returns-in-Gone-clause-becomes : goal.returns-in-Gone-clause-becomes
 returns-in-Gone-clause-becomes c = λ r has.

@@ -12,7 +12,7 @@ use Rattle.task_machine.specs.declared.task.Body.{Body}
 use Rattle.task_machine.proofs.InPlace.{ends_by, its_turn}
 use Rattle.task_machine.proofs.Staying.{waiting}
 use Rattle.task_machine.proofs.Turning.{ended_tasks, ended_units, ends_task, ends_units}
-use Rattle.task_machine.proofs.task.at_end.Goals as goal
+use Rattle.task_machine.proofs.advance.at_end.Goals as goal
 
 -- the run that was taken out is that which is at an end
 its_run : (b x : Body) (o : Option Run) (run : Run) (h : RunsToEnd b) → x ≡ b → o ≡ x.run → o ≡ Some run → run ≡ h.run

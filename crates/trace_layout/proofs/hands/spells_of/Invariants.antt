@@ -1,6 +1,6 @@
 use Rattle.std.proofs.Common.{◌≡◌, length}
 use Rattle.trace_layout.specs.Hands.{AreHands}
-use Rattle.trace_layout.proofs.spells.spells_of.Given as goal
+use Rattle.trace_layout.proofs.hands.spells_of.Given as goal
 
 abbrev pub invariant-loop-number : goal.invariant-loop-number
 invariant-loop-number l = record {

@@ -1,0 +1,15 @@
+//! A race that was found.
+
+use race_checker::race::Race;
+use syntax::Place;
+use types::code::Program;
+use witness::witness::Witness;
+
+/// A race of a program, where the statements of its text begin, and why it is one.
+#[derive(Clone, Copy)]
+pub struct Found<'f> {
+    pub places: &'f [Place],
+    pub code: &'f Program,
+    pub race: Race,
+    pub witness: &'f Witness,
+}

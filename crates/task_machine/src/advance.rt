@@ -1,0 +1,214 @@
+//! The turns of a task.
+
+ghost use Rattle.std.specs.Prelude.{◌≡◌, ◌+◌, ◌<◌, IfOk, Some};
+ghost use Rattle.program_code.specs.Pieces.{IsCodeOfProgram};
+ghost use Rattle.own_run.specs.RunTurns.{turn_of};
+ghost use Rattle.own_run.specs.declared.run.Run.{Run as AnyRun};
+ghost use Rattle.own_run.specs.declared.turn.Turn.TheVariants.{Ended};
+ghost use Rattle.gather.specs.Jobs.{program_of};
+ghost use Rattle.task_machine.specs.Tasks.{IsBody, IsTask};
+ghost use Rattle.task_machine.specs.Turns.{AreTasks, Becomes, EndsBy, GoesInPlace, HasDone};
+ghost use Rattle.task_machine.specs.Turns.{IsEndOf, Opens, Parts, RunsToEnd, TakesOneTurn, TakesTurn};
+ghost use Rattle.task_machine.specs.Turns.{TurnsInPlace, turning};
+ghost use Rattle.task_machine.specs.Units.{held, units_after, units_of};
+
+use crate::finish::{Ending, Entering, Owner, Parked};
+use crate::stake::{ScopeMark, Share, Stake};
+use crate::task::{Body, Child, Task};
+use crate::turn::{TaskResult, Turn, Wanting};
+use own_run::result::TaskResult as RunResult;
+use own_run::start::Start;
+use own_run::turn::{Done, Step, Turn as RunTurn};
+use program_code::pieces::ProgramCode;
+use std::alloc::AllocError;
+
+impl<'p> Task<'p> {
+    /// Turns on, as long as nobody else sees it; gives the first turn that is more. It goes by the program's flat code
+    /// where it may.
+    pub fn go(self, code: &ProgramCode<'p>) -> Result<Turn<'p>, AllocError>
+        requires task { IsTask self }
+        requires code { IsCodeOfProgram (program_of self.body.value.job) code.now }
+        ensures turn { IfOk result (TakesTurn self.entry) }
+        ensures tasks { IfOk result AreTasks }
+        ensures units { IfOk result (λ t. units_after t ≡ units_of self.entry) }
+    {
+        let Task { mut body, share } = self;
+        match body.go(code)? {
+            Step::Did(done) => did(body, share, done),
+            Step::AtEnd => at_end(body, share),
+        }
+    }
+
+    /// One turn.
+    pub fn advance(self) -> Result<Turn<'p>, AllocError>
+        requires task { IsTask self }
+        ensures turn { IfOk result (TakesOneTurn self.entry) }
+        ensures tasks { IfOk result AreTasks }
+        ensures units { IfOk result (λ t. units_after t ≡ units_of self.entry) }
+    {
+        let Task { mut body, share } = self;
+        match body.advance()? {
+            Step::Did(done) => did(body, share, done),
+            Step::AtEnd => at_end(body, share),
+        }
+    }
+}
+
+impl<'p> Body<'p> {
+    /// Its run turns on where it lies.
+    fn go(&mut self, code: &ProgramCode<'p>) -> Result<Step<'p>, AllocError>
+        requires body { IsBody self.old }
+        requires code { IsCodeOfProgram (program_of self.old.job) code.now }
+        ensures { IfOk result (λ s. GoesInPlace self.old s self.new) }
+    {
+        let accepted = self.job.accepted;
+        let Some(run) = &mut self.run else {
+            unreachable!()
+        };
+        match run.go(accepted, code) {
+            Ok(step) => Ok(step),
+            Err(_) => Err(AllocError),
+        }
+    }
+
+    /// Its run takes one turn where it lies.
+    fn advance(&mut self) -> Result<Step<'p>, AllocError>
+        requires { IsBody self.old }
+        ensures { IfOk result (λ s. TurnsInPlace self.old s self.new) }
+    {
+        let accepted = self.job.accepted;
+        let Some(run) = &mut self.run else {
+            unreachable!()
+        };
+        match run.step(accepted) {
+            Ok(step) => Ok(step),
+            Err(_) => Err(AllocError),
+        }
+    }
+}
+
+/// What a turn of its run makes of a task that goes on.
+fn did<'p>(body: Box<Body<'p>>, share: Share, done: Done<'p>) -> Result<Turn<'p>, AllocError>
+    requires done { HasDone body.value done }
+    ensures becomes { IfOk result (λ t. (r : AnyRun) → body.entry.value.run ≡ Some r
+        → Becomes (turning body.entry.value) share.weight (turn_of r done.entry) t) }
+    ensures tasks { IfOk result AreTasks }
+    ensures units { IfOk result (λ t. units_after t
+        ≡ share.weight + held body.entry.value.outer.items) }
+{
+    match done {
+        Done::Gone => Ok(Turn::Going(Task { body, share })),
+        Done::Exceeded => Ok(Turn::Over(Task { body, share })),
+        Done::Spawned(start) => Ok(spawned(body, share, start)),
+        Done::Entered => Ok(Turn::EntersFinish(entered(body, share)?)),
+    }
+}
+
+/// A task that began another gives it half of what it holds; at 1 it wants more first.
+fn spawned<'p>(body: Box<Body<'p>>, share: Share, start: Box<Start<'p>>) -> Turn<'p>
+    ensures { Parts body.entry.value share.weight start.entry.value result }
+{
+    match share.divide() {
+        Ok((half, share)) => {
+            let child = Child {
+                job: body.job,
+                start,
+                scope: body.scope,
+                share: half,
+            };
+            Turn::Spawns(Task { body, share }, child)
+        }
+        Err(share) => Turn::WantsWeight(Wanting { body, start, share }),
+    }
+}
+
+/// A task that began a finish: it stands in one more scope.
+fn entered<'p>(body: Box<Body<'p>>, share: Share) -> Result<Entering<'p>, AllocError>
+    requires run { (r : AnyRun) × (body.value.run ≡ Some r) }
+    requires few { body.value.opened < 4294967295 }
+    ensures { IfOk result (λ e. (r : AnyRun) → body.entry.value.run ≡ Some r
+        → Opens (turning body.entry.value) share.weight r e.body.value) }
+{
+    let mut body = body;
+    let Some(run) = &body.run else { unreachable!() };
+    let depth = run.thread.path.turns.len();
+    let scope = body.scope;
+    body.outer.push(Stake { scope, share })?;
+    body.opened += 1;
+    body.scope = ScopeMark {
+        depth,
+        number: body.opened,
+    };
+    Ok(Entering { body })
+}
+
+/// What becomes of a task whose run is at the end of a finish, or at its own.
+fn at_end<'p>(body: Box<Body<'p>>, share: Share) -> Result<Turn<'p>, AllocError>
+    requires end { RunsToEnd body.value }
+    ensures ends { IfOk result (EndsBy body.entry.value share.weight) }
+    ensures tasks { IfOk result AreTasks }
+    ensures units { IfOk result (λ t. units_after t
+        ≡ share.weight + held body.entry.value.outer.items) }
+{
+    let mut body = body;
+    let Some(run) = body.run.take() else {
+        unreachable!()
+    };
+    match run.end()? {
+        RunTurn::EndsFinish(paused, made) => {
+            let owner = Owner::Finish(paused);
+            Ok(Turn::EndsFinish(ending(body, share, owner, made)?))
+        }
+        RunTurn::Ended(made) => ended(body, share, made),
+        RunTurn::Going(_) | RunTurn::Spawns(_, _) | RunTurn::EntersFinish(_) | RunTurn::Over(_) => {
+            unreachable!()
+        }
+    }
+}
+
+/// A task at the end of a finish, or of `main`.
+#[inline(never)]
+fn ending<'p>(
+    body: Box<Body<'p>>,
+    share: Share,
+    owner: Owner<'p>,
+    made: RunResult,
+) -> Result<Ending<'p>, AllocError>
+    ensures { IfOk result (IsEndOf body.entry.value share.weight owner.entry made) }
+{
+    let Body {
+        job,
+        scope,
+        outer,
+        opened,
+        ..
+    } = Box::into_inner(body);
+    let parked = Parked {
+        job,
+        owner,
+        made,
+        outer,
+        opened,
+    };
+    Ok(Ending {
+        parked: Box::new(job.alloc, parked)?,
+        scope,
+        share,
+    })
+}
+
+/// A task at its end: the root is at that of `main`.
+fn ended<'p>(body: Box<Body<'p>>, share: Share, made: RunResult) -> Result<Turn<'p>, AllocError>
+    ensures { IfOk result (Becomes body.entry.value share.weight (Ended made)) }
+{
+    if made.path.turns.is_empty() {
+        return Ok(Turn::EndsFinish(ending(body, share, Owner::Main, made)?));
+    }
+    let Body { job, scope, .. } = Box::into_inner(body);
+    Ok(Turn::Ended(TaskResult {
+        job,
+        made,
+        scope,
+        share,
+    }))
+}
