@@ -11,8 +11,9 @@ use Rattle.types.specs.Laws.{IsKept}
 use Rattle.types.proofs.Keeps.{run_keeps}
 use Rattle.cost.specs.declared.tally.Tally.{Tally}
 use Rattle.cost.specs.Books.{begin_booked, beginning_booked}
-use Rattle.cost.specs.Costs.{nothing_done, tally_of, tallied_rules, tallying}
+use Rattle.cost.specs.Costs.{nothing_done, tally_of, tallying}
 use Rattle.cost.specs.Laws.{IsFair}
+use Rattle.cost.proofs.Untallied.{tallied_rules}
 
 -- one tally follows another fairly: it is fair where that was, and no less was done
 record Grows (t u : Tally) : Type 0 where

@@ -10,9 +10,10 @@ use Rattle.cost.specs.declared.tally.Tally.{Tally}
 use Rattle.cost.specs.Books.{after_booked, beginning_booked}
 use Rattle.cost.specs.Accounts.{Account, account_of, accounted, accounted_rules, accounting}
 use Rattle.cost.specs.Accounts.{nothing_noted}
-use Rattle.cost.specs.Costs.{tallied, tallied_rules, tally_of, tallying}
+use Rattle.cost.specs.Costs.{tallied, tally_of, tallying}
 use Rattle.cost.specs.Laws.{totals}
 use Rattle.cost.proofs.Seen.{nested-seen}
+use Rattle.cost.proofs.Untallied.{tallied_rules}
 
 abbrev tally : Account → Tally
 tally a = a.tally

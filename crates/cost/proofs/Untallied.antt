@@ -2,15 +2,19 @@
 use Rattle.std.proofs.Common.{◌≡◌, ℕ, refl, sym, ap}
 use Rattle.types.specs.Code.{Program}
 use Rattle.types.specs.Meaning.{after_body, child, one, one_rules}
-use Rattle.types.specs.Run.{State, Work, Block}
+use Rattle.types.specs.Run.{State, Rules, Work, Block}
 use Rattle.cost.specs.declared.tally.Tally.{Tally}
-use Rattle.cost.specs.Books.{beginning_booked}
-use Rattle.cost.specs.Costs.{tallied, tallied_rules, tallying}
+use Rattle.cost.specs.Books.{beginning_booked, booked_rules}
+use Rattle.cost.specs.Costs.{tallied, tallying}
 use Rattle.cost.specs.Laws.{untallied}
 use Rattle.cost.proofs.Seen.{nested-seen}
 
 abbrev none : Tally → Unit {0}
 none t = tt
+
+-- the rules of one thread, which keep a tally
+abbrev pub tallied_rules : Program → (fresh nest : ℕ) → Rules Tally
+tallied_rules p = booked_rules tallying p
 
 module _ (p : Program) (fresh : ℕ) where
   -- a tally changes nothing

@@ -3,7 +3,7 @@
 -- tasks that ended in a finish, that of the one that ended first.
 use Rattle.std.specs.Prelude.{ℕ, ◌+◌, List, [], length, replicate, ℤ, if◌then◌else◌}
 use Rattle.std.specs.Prelude.{nat_lt, slice_index, slice_set}
-use Rattle.types.specs.Code.{Code, Do, If, While, Split, Call, Async, Finish, Codes, Program}
+use Rattle.types.specs.Code.{Code, Do, If, While, Split, Call, Async, Finish, Program}
 use Rattle.types.specs.Contents.{held_by}
 use Rattle.types.specs.Outcome.{Budget, start}
 use Rattle.types.specs.Run.{State, Rules, Work, Block}

@@ -4,8 +4,8 @@ use Rattle.std.specs.Prelude.{ℕ, ◌+◌, max, List, ℤ}
 use Rattle.types.specs.Code.{Program}
 use Rattle.types.specs.Contents.{held_by}
 use Rattle.types.specs.Outcome.{Budget, start}
-use Rattle.types.specs.Run.{State, Rules, Work, Block}
-use Rattle.cost.specs.Books.{Book, booked, booked_rules}
+use Rattle.types.specs.Run.{State, Work, Block}
+use Rattle.cost.specs.Books.{Book, booked}
 use Rattle.cost.specs.declared.cost.Cost.{Cost}
 use Rattle.cost.specs.declared.tally.Tally.{Tally}
 
@@ -57,14 +57,9 @@ tallying = record {
   leaves = λ before. leaves_finish before.ended;
 }
 
-module _ (p : Program) where
-  -- the rules of one thread, which keep a tally
-  abbrev pub tallied_rules : (fresh nest : ℕ) → Rules Tally
-  tallied_rules = booked_rules tallying p
-
-  -- the one-thread meaning, which keeps a tally
-  abbrev pub tallied : (fresh nest : ℕ) → Work → State Tally → State Tally
-  tallied = booked tallying p
+-- the one-thread meaning, which keeps a tally
+abbrev pub tallied : Program → (fresh nest : ℕ) → Work → State Tally → State Tally
+tallied p = booked tallying p
 
 -- the tally of a whole run, up to where it ended or was stopped
 abbrev pub tally_of : Program → (input : List (List ℤ)) → Budget → Tally

@@ -13,6 +13,7 @@ ghost use Rattle.cost.specs.Costs.{cost_of, tally_of};
 ghost use Rattle.cost.specs.Machines.{end_of, stands};
 
 use crate::machine::Machine;
+use crate::tally::Tally;
 use effects::summaries::{Summaries, summarize};
 use statement_steps::thread::Plan;
 use std::alloc::{AllocError, Global};
@@ -37,6 +38,22 @@ pub struct Cost {
     /// How many places lie, at each async that begins a task, in blocks of 256 that aren't wholly inside of what its body
     /// may write, counted twice: once for the way to the task, once for the way back.
     pub copied: usize,
+}
+
+impl Cost {
+    /// Of a run that came to a tally.
+    pub fn of(tally: Tally) -> Cost
+        ensures { result ≡ cost_of tally }
+    {
+        Cost {
+            work: tally.work,
+            span: tally.here.max(tally.ended),
+            tasks: tally.tasks,
+            deepest_nest: tally.deepest,
+            finishes: tally.finishes,
+            copied: tally.copied,
+        }
+    }
 }
 
 /// What a run came to, and what it cost.
@@ -107,7 +124,7 @@ pub fn measure_by_label(
     let summaries = summarize(alloc, typed)?;
     let machine = ran(plan, &summaries, input, rows)?;
     let costed = Costed {
-        cost: machine.account.tally.cost(),
+        cost: Cost::of(machine.account.tally),
         outcome: machine.thread.outcome(),
     };
     let (work, span) = machine.account.tables();

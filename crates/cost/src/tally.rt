@@ -1,10 +1,9 @@
 //! What was done so far in a run, and what of it comes one behind the other.
 
 ghost use Rattle.std.specs.Prelude.{◌≡◌, ◌+◌, IfOk, OnOk};
-ghost use Rattle.cost.specs.Costs.{begins_task, cost_of, ends_task, enters_finish};
+ghost use Rattle.cost.specs.Costs.{begins_task, ends_task, enters_finish};
 ghost use Rattle.cost.specs.Costs.{leaves_finish, nothing_done, one_more};
 
-use crate::cost::Cost;
 use std::alloc::AllocError;
 
 /// What was done so far. Chains are those of the task that is at work.
@@ -82,20 +81,6 @@ impl Tally {
     {
         self.here = self.here.max(self.ended);
         self.ended = ended;
-    }
-
-    /// What the run cost that came to here.
-    pub fn cost(self) -> Cost
-        ensures { result ≡ cost_of self }
-    {
-        Cost {
-            work: self.work,
-            span: self.here.max(self.ended),
-            tasks: self.tasks,
-            deepest_nest: self.deepest,
-            finishes: self.finishes,
-            copied: self.copied,
-        }
     }
 }
 

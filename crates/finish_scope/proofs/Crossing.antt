@@ -49,7 +49,7 @@ use Rattle.sections.proofs.window.Window.TheSendSync as OfWindow
 use Rattle.sections.proofs.window.Place.TheSendSync as OfPlace
 use Rattle.holdings.proofs.holdings.Holdings.TheSendSync as OfHoldings
 use Rattle.statement_steps.proofs.thread.Thread.TheSendSync as OfThread
-use Rattle.statement_steps.proofs.thread.Flow.TheSendSync as OfFlow
+use Rattle.statement_steps.proofs.flow.Flow.TheSendSync as OfFlow
 use Rattle.own_run.proofs.frame.Outer.TheSendSync as OfOuter
 use Rattle.own_run.proofs.memory.TaskMemory.TheSendSync as OfTaskMemory
 use Rattle.own_run.proofs.result.Listed.TheSendSync as OfListed

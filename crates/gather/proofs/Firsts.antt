@@ -4,12 +4,10 @@ use Rattle.std.proofs.Common.{refl, sym, ap, ◌∙◌, subst, reverse, arith}
 use Rattle.std.specs.Prelude.{Bool, true, false, nat_eq, cond, IfNone, if◌then◌else◌}
 use Rattle.std.specs.Cmp.Lexicographic.{pointwise}
 use Rattle.std.proofs.lemmas.Grind.{reverse_onto}
-use Rattle.std.proofs.lemmas.List.{map-id, length-reverse, reverse-append, reverse-reverse, get_or_append_left, get_or_at, set_at, set-append_left}
+use Rattle.std.proofs.lemmas.List.{length-reverse, reverse-append, reverse-reverse, get_or_append_left, get_or_at, set_at, set-append_left}
 use Rattle.std.proofs.lemmas.Option.{none-some, same_Some}
-use Rattle.std.proofs.lemmas.Slice.Zip.{AllZip-map}
-use Rattle.std.specs.List.{AllZip}
 use Rattle.std.specs.Option.{option_flatten}
-use Rattle.effects.proofs.Members.{false_true}
+use Rattle.facts.proofs.Truths.{false_true}
 use Rattle.own_run.specs.Settling.{behind, take}
 use Rattle.own_run.specs.Translation.{task_result}
 use Rattle.own_run.proofs.SettledResults.{paths_same}
@@ -257,8 +255,6 @@ module _ (xs ys : List (Option Entry)) (x : Entry) (pushed : ys ≡ xs ++ Some x
       ∙ ap next_in (sym in_front)
 
 -- ---- what a table says
-pub cloned_is : (xs ys : List ℕ) → AllZip (λ x y. y ≡ x) xs ys → ys ≡ xs
-cloned_is xs ys h = AllZip-map (λ x. x) xs ys h ∙ map-id xs
 
 pub said_by : (b : Bool) (n : Option ℕ) (o : Option (Option ℕ)) → option_flatten (cond b (Some n) o) ≡ (if b then n else option_flatten o)
 said_by true n o = refl

@@ -7,10 +7,10 @@ use Rattle.std.proofs.Math.Bool.{or_assoc, or-false}
 use Rattle.std.specs.Prelude.{Bool, true, false, ◌||◌, nat_eq, if◌then◌else◌}
 use Rattle.std.specs.Cmp.Lexicographic.{pointwise}
 use Rattle.std.specs.List.{list_any}
+use Rattle.facts.proofs.Truths.{false_true}
 use Rattle.sections.specs.Covers.{has}
 use Rattle.sections.specs.Place.{Place}
 use Rattle.types.specs.declared.path.Path.{Path}
-use Rattle.effects.proofs.Members.{false_true}
 use Rattle.own_run.specs.Places.{Places, meets}
 use Rattle.own_run.specs.Results.{Listed, TaskResult, Settled, returned}
 use Rattle.own_run.specs.Settling.{behind, take}

@@ -6,6 +6,8 @@ use Rattle.std.proofs.lemmas.List.{map-append}
 use Rattle.std.specs.Prelude.{ℤ, Bool, true, false, ◌||◌, is_some, length, nat_eq, map, option_map, if◌then◌else◌, Result, Ok, Err, IfErr, Vec}
 use Rattle.std.specs.Global.{Global}
 use Rattle.std.specs.Result.{IsErr, IsErrAnd}
+use Rattle.sections.proofs.Covering.{in_window}
+use Rattle.facts.proofs.Truths.{false_true}
 use Rattle.sections.specs.Covers.{has, is_in}
 use Rattle.sections.specs.Place.{Place, Window}
 use Rattle.sections.specs.Translation.{window}
@@ -13,7 +15,6 @@ use Rattle.sections.specs.declared.window.Window.{Window as rWindow}
 use Rattle.types.specs.Contents.{Contents}
 use Rattle.types.specs.Run.{Fault}
 use Rattle.types.specs.declared.path.Path.{Path}
-use Rattle.effects.proofs.Members.{false_true}
 use Rattle.holdings.specs.Held.{Map, Held, Owned, Shared, first_of, over, as_owned, owned, owned_number, number_of, numbers, AreApart}
 use Rattle.holdings.specs.Held.{IsJustAt, put_all, written_over}
 use Rattle.holdings.specs.Holdings.{held}
@@ -26,7 +27,6 @@ use Rattle.own_run.specs.declared.result.Settled.{Settled as rSettled}
 use Rattle.own_run.specs.declared.result.TaskResult.{TaskResult as rTaskResult}
 use Rattle.own_run.proofs.CompleteResults.{not_met}
 use Rattle.own_run.proofs.HeldPlaces.{has-append}
-use Rattle.own_run.proofs.Windows.{covered_in}
 use Rattle.gather.specs.Parts.{Part, Waiting, opened, filled, given_back, comes_back_twice}
 use Rattle.gather.specs.PartRefusal.{RefusesBack, RefusesHole, RefusesPaste}
 use Rattle.gather.specs.Stages.{IsClear, part, waiting_for}
@@ -106,7 +106,7 @@ module _ (before child after : Holdings) (ws : List Window)
   free_unless_met set (v ∷ vs) h q e =
       let parts = or_parts (has_one set v.array v.at v.length) (meets set vs) h in
       elim (or_cases (is_in v q) (has vs q) e) [
-        | inl c ↦ (let i = covered_in v q c in
+        | inl c ↦ (let i = in_window v q c in
             ap (λ a. set (record { array = a; index = q.index })) i.array
             ∙ one_free set v.array v.at v.length parts.0 q.index i.low i.high)
         | inr w ↦ free_unless_met set vs parts.1 q w

@@ -1,23 +1,18 @@
 -- Turns of a stage.
-use Rattle.std.proofs.Common.{◌≡◌, ℕ, List, [], ◌∷◌, ◌++◌, Some, map, refl, sym, ap, ◌∙◌, subst}
+use Rattle.std.proofs.Common.{◌≡◌, ℕ, List, [], ◌∷◌, ◌++◌, Some, refl, sym, ap, ◌∙◌, subst}
 use Rattle.std.specs.Prelude.{false}
 use Rattle.sections.specs.Covers.{has}
 use Rattle.sections.specs.Place.{Place}
-use Rattle.holdings.specs.declared.holdings.Holdings.{Holdings}
 use Rattle.own_run.specs.Places.{Places}
 use Rattle.own_run.specs.Results.{TaskResult}
 use Rattle.own_run.specs.Settling.{take, settle}
-use Rattle.own_run.specs.Translation.{listed, owned_by}
 use Rattle.gather.specs.GivesBack.{GiveBack, all_owned}
-use Rattle.gather.specs.Parts.{Part, Waiting, Gathering, opened, closed, filled, unopened, comes_back_twice, comes_to, total, IsWhole}
+use Rattle.gather.specs.Parts.{Part, Waiting, Gathering, opened, closed, filled, unopened, comes_back_twice, comes_to, IsWhole}
 use Rattle.gather.specs.PartRefusal.{RefusesHole}
 use Rattle.gather.specs.Refusal.{Refuses}
-use Rattle.gather.specs.Stages.{waiting, part, gathering, IsClear, IsFull, Leads, owned_in_end}
-use Rattle.gather.specs.declared.filling.Waiting.{Waiting as rWaiting}
-use Rattle.gather.specs.declared.settle.Stage.{Stage}
+use Rattle.gather.specs.Stages.{Leads, owned_in_end}
 use Rattle.gather.specs.declared.error.GatherError.{GatherError}
 use Rattle.gather.specs.declared.error.GatherError.TheVariants.{Lost, Double, Stranger, OutOfMemory}
-use Rattle.gather.proofs.Pasting.{owned-clear}
 use Rattle.gather.proofs.Turns.{settle-opened, comes_to-opened, comes_to-filled, comes_to-twice}
 use Rattle.gather.proofs.Wholes.{total-push, total-filled, owned-full, Fit-last, whole-opened, whole-filled}
 
@@ -66,15 +61,6 @@ back-fits rs ws vs w f o full popped same h q =
     ap (λ (set : Places). set q) same
     ∙ sym (owned-full f full q)
     ∙ Fit-last ws w f (subst (λ (vs : List Waiting). IsWhole (record { left = rs; waiting = vs; part = f })) popped h).fit q
-
--- what is owned in the end, where nothing strayed
-pub owned-ends : (g : Stage) (h : Holdings) → IsFull g → h ≡ g.filling.so_far.holdings → IsClear g.filling
-    → (q : Place) → owned_by h q ≡ owned_in_end (gathering g) q
-owned-ends g h full is clear q =
-    ap (λ (h : Holdings). owned_by h q) is
-    ∙ ap (λ (o : Places). o q) (sym (owned-clear g.filling clear))
-    ∙ sym (owned-full (part g.filling) (ap (map listed) full.1) q)
-    ∙ ap (λ (vs : List rWaiting). total (map waiting vs) (part g.filling) q) (sym full.0)
 
 -- the first stage
 pub record Starts (r : TaskResult) (rs : List TaskResult) (g : Gathering) : Type 0 where

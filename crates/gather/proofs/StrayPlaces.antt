@@ -19,19 +19,12 @@ has_place q (w ∷ ws) = ap (λ (b : Bool). is_in (window w) q || b) (has_place 
 
 module _ (set : Places) where
   -- ---- places of a window, one after the other
-  pub one-first : (a at n : ℕ) → 0 < n → set (record { array = a; index = at }) ≡ true → has_one set a at n ≡ true
-  one-first a at zero lt e = absurd (omega (arith, lt))
-  one-first a at (suc n) lt e = ap (λ (b : Bool). b || has_one set a (at + 1) n) e
-
   pub one-behind : (a at n : ℕ) → 0 < n → set (record { array = a; index = at }) ≡ false
       → has_one set a (at + 1) (n - 1) ≡ has_one set a at n
   one-behind a at zero lt e = absurd (omega (arith, lt))
   one-behind a at (suc n) lt e =
       let back : suc n - 1 ≡ n = omega arith in
       ap (has_one set a (at + 1)) back ∙ sym (ap (λ (b : Bool). b || has_one set a (at + 1) n) e)
-
-  pub one-none : (a at n : ℕ) → n ≡ 0 → has_one set a at n ≡ false
-  one-none a at n e = ap (has_one set a at) e
 
   -- ---- windows, one after the other
   abbrev one_of : rWindow → Bool

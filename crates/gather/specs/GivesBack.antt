@@ -1,5 +1,5 @@
 -- What a task owns at its end, with what comes back to it, is what its parent lists for it.
-use Rattle.std.specs.Prelude.{◌≡◌, List, [], true, ◌||◌, nat_eq}
+use Rattle.std.specs.Prelude.{◌≡◌, List, true, ◌||◌, nat_eq}
 use Rattle.std.specs.Cmp.Lexicographic.{pointwise}
 use Rattle.sections.specs.Covers.{has}
 use Rattle.sections.specs.Place.{Place}

@@ -2,39 +2,38 @@
 use Rattle.std.proofs.Common.{◌≡◌, ℕ, ◌+◌, ◌≤◌, List, [], ◌∷◌, ◌++◌, Option, Some, None, refl, sym, ap, ◌∙◌, subst, arith}
 use Rattle.std.proofs.lemmas.Option.{none-some, same_Some}
 use Rattle.std.specs.Prelude.{Bool, true, false, ◌||◌, not, nat_eq, map, if◌then◌else◌, Contains, slice_index_or}
-use Rattle.std.specs.Prelude.{Result, Ok, Err, IfErr}
+use Rattle.std.specs.Prelude.{Result, IfErr}
 use Rattle.std.specs.Result.{IsErrAnd}
 use Rattle.std.specs.HashMap.{get}
 use Rattle.std.specs.HashSet.{contains}
+use Rattle.facts.proofs.Truths.{false_true}
 use Rattle.types.specs.Code.{Program}
 use Rattle.types.specs.declared.path.Path.{Path}
-use Rattle.effects.proofs.Members.{false_true}
 use Rattle.effects.specs.Rounds.{needs_of}
 use Rattle.own_run.specs.Given.{root_of}
 use Rattle.own_run.specs.Lists.{Each}
-use Rattle.own_run.specs.OwnRun.{Action, Start, Step, Spawn, EnterFinish, EndFinish, EndTask, last_action}
+use Rattle.own_run.specs.OwnRun.{Action, Start, EndFinish, EndTask, last_action}
 use Rattle.own_run.specs.Results.{TaskResult, and_then}
 use Rattle.own_run.specs.Runs.{root}
-use Rattle.own_run.specs.Translation.{start, task_result}
+use Rattle.own_run.specs.Translation.{task_result}
 use Rattle.own_run.specs.declared.result.TaskResult.{TaskResult as Made}
 use Rattle.gather.specs.Jobs.{program_of, lists_of, budget_of}
-use Rattle.gather.specs.declared.job.Job.{Job}
-use Rattle.interleave.specs.Acting.{IsReady}
-use Rattle.interleave.specs.Courses.{Course, IsKnown, course_of, IsDoing, IsNext}
-use Rattle.interleave.specs.Ending.{GivesBack, IsSeen, IsSetDown}
+use Rattle.interleave.specs.Acting.{IsReady, IsWanting}
+use Rattle.interleave.specs.Courses.{IsKnown, course_of, IsDoing, IsNext}
+use Rattle.interleave.specs.Ending.{GivesBack, IsSetDown}
 use Rattle.interleave.specs.Ending.{NoneIsLate, ScopeBecomes, StandsAt, TaskBecomes, has_ended, is_root, is_waiting}
-use Rattle.interleave.specs.Events.{Event, Ends, Parks, only_if, did, give_back, owns, with_next, in_innermost, next_action, by_end, by_park}
+use Rattle.interleave.specs.Events.{Event, Ends, Parks, only_if, did, give_back, owns, with_next, in_innermost, by_end, by_park}
 use Rattle.interleave.specs.Jobs.{IsWeightedJob}
 use Rattle.interleave.specs.Replay.{does, hands_on}
-use Rattle.interleave.specs.Shown.{AreBoth, ArePaths, IsTaskOf, IsWorld, IsBookOf, IsDoingThere, IsTold, Becomes, Refuses, ScopeStays, Shows, WorldStays, is_path, is_scope, next_world}
+use Rattle.interleave.specs.Shown.{AreBoth, ArePaths, IsTaskOf, IsWorld, IsBookOf, IsTold, Becomes, Refuses, ScopeStays, Shows, WorldStays, is_path, is_scope, next_world}
 use Rattle.interleave.specs.Shown.{scope_id, stake, whereabouts}
-use Rattle.interleave.specs.World.{Stake, Live, Scope, World, Whereabouts, Hand, Parked, task, put_task}
+use Rattle.interleave.specs.World.{Stake, Live, Scope, World, Whereabouts, Parked, task, put_task}
 use Rattle.interleave.specs.World.{without_task, scope, put_scope, hand_of, hand_is_free, is_passed, root_scope}
 use Rattle.interleave.specs.Worlds.{next_of}
 use Rattle.interleave.specs.declared.doing.Doing.{Doing}
-use Rattle.interleave.specs.declared.doing.Doing.TheVariants.{Starts, Runs, Steps, Spawns, Opens, AtFinish, AtEnd}
+use Rattle.interleave.specs.declared.doing.Doing.TheVariants.{Starts, Runs, AtEnd}
 use Rattle.interleave.specs.declared.error.EventError.{EventError}
-use Rattle.interleave.specs.declared.error.EventError.TheVariants.{Illegal, NoMemory}
+use Rattle.interleave.specs.declared.error.EventError.TheVariants.{Illegal}
 use Rattle.types.specs.declared.scope_id.ScopeId.{ScopeId as rScopeId}
 use Rattle.interleave.specs.declared.scope.Scope.{Scope as rScope}
 use Rattle.interleave.specs.declared.task.Stake.{Stake as rStake}
@@ -48,7 +47,7 @@ use Rattle.interleave.proofs.GoingOn.{ends_are_own}
 use Rattle.interleave.proofs.Hands.{hands_are_apart, free_without, free_parked}
 use Rattle.interleave.proofs.LateWeights.{none_is_late}
 use Rattle.interleave.proofs.Histories.{contains_here}
-use Rattle.interleave.proofs.Lookups.{by_test, other_path, task_path, task-without_task, gone-without_task, Unique}
+use Rattle.interleave.proofs.Lookups.{by_test, other_path, task-without_task, gone-without_task, Unique}
 use Rattle.interleave.proofs.Lookups.{passed-put_scope, scope_id as named_so}
 use Rattle.interleave.proofs.Outcomes.{IsSound, replays_are_worlds, sound}
 use Rattle.interleave.proofs.OwnTasks.{IsAtLevel, start_path}
@@ -91,6 +90,13 @@ ends_as path d a e = let is = sym (same_Some _ _ e) in (ap is_end is, ap is_fini
 pub has_made : (path : List ℕ) (d : Doing) → has_ended path d ≡ true → (made : Made) × (d ≡ AtEnd made)
 has_made path (AtEnd made) e = (made, refl)
 has_made path d e = false_true e
+
+-- a live task in a worker's hand, whose next action is known
+pub record IsSeen (r : rWorld) (path : Path) (worker : ℕ) : Type 0 where
+  pub its : rTask
+  pub at : get is_path r.tasks path ≡ Some its
+  pub place : its.place ≡ rHand worker
+  pub known : IsKnown its.doing
 
 -- ---- a world that is shown
 module _ (r : rWorld) (ok : IsWeightedJob r.job) (w : World) (h : Shows r w) where
@@ -417,6 +423,21 @@ found_here {s = s} r path a at front there =
       stake = stake_is;
       book = same_Some _ _ (sym there ∙ ap (λ (x : rStake). get is_scope r.scopes x.scope) stake_is ∙ a.there);
     }
+
+-- nor is that scope missing
+pub none_here : {k : rTask} {s : rStake} (r : rWorld) (path : Path) (a : StandsAt r path)
+    → get is_path r.tasks path ≡ Some k → s ≡ slice_index_or k.stakes.items 0 s → get is_scope r.scopes s.scope ≡ None → ⊥
+none_here {s = s} r path a at front none =
+    let task_is = same_Some _ _ (sym at ∙ a.at) in
+    let stake_is = front ∙ ap (λ xs. slice_index_or xs 0 s) (ap (λ (k : rTask). k.stakes.items) task_is ∙ a.stakes) in
+    none-some _ (sym none ∙ ap (λ (x : rStake). get is_scope r.scopes x.scope) stake_is ∙ a.there)
+
+-- a task wants weight from one scope alone
+pub one_wanted : {k l : rTask} {id other : rScopeId} → k ≡ l → IsWanting k id → IsWanting l other → id ≡ other
+one_wanted same w v =
+    let stakes = sym w.stakes ∙ ap (λ (k : rTask). k.stakes.items) same ∙ v.stakes in
+    let inner : w.inner ≡ v.inner = cc stakes in
+    sym w.named ∙ ap (λ (s : rStake). s.scope) inner ∙ v.named
 
 -- and its weight there isn't more than what is out
 pub late_here : {k : rTask} {s : rStake} {b : rScope} (r : rWorld) (path : Path) → NoneIsLate r → (a : StandsAt r path)

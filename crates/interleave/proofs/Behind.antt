@@ -1,21 +1,19 @@
 -- A task goes on behind a finish, as the tables in Rust show it.
-use Rattle.std.proofs.Common.{◌≡◌, ℕ, ◌≤◌, List, [], ◌∷◌, ◌++◌, length, Option, Some, None, refl, sym, ap, ◌∙◌, subst, arith}
+use Rattle.std.proofs.Common.{◌≡◌, ℕ, List, [], ◌∷◌, ◌++◌, length, Option, Some, None, refl, sym, ap, ◌∙◌, subst, arith}
 use Rattle.std.proofs.lemmas.List.{length_push}
 use Rattle.std.proofs.lemmas.Option.{none-some, same_Some}
-use Rattle.std.proofs.lemmas.Bool.{not-false, not-true}
+use Rattle.std.proofs.lemmas.Bool.{not-false}
 use Rattle.std.specs.Prelude.{Bool, true, false, ◌&&◌, ◌<◌, not, nat_eq, map, drop, slice_index_or, if◌then◌else◌}
 use Rattle.std.specs.HashMap.{get}
 use Rattle.std.specs.HashSet.{contains}
-use Rattle.types.specs.Code.{Program}
 use Rattle.types.specs.Run.{State}
 use Rattle.types.specs.Translation.{program}
 use Rattle.types.specs.declared.path.Path.{Path}
-use Rattle.effects.proofs.Members.{false_true}
 use Rattle.effects.specs.Rounds.{needs_of}
 use Rattle.own_run.specs.Frames.{AtEnd, handed}
 use Rattle.own_run.specs.Given.{IsOfOwnRun}
 use Rattle.own_run.specs.Lists.{Each}
-use Rattle.own_run.specs.OwnRun.{Action, Own, Start, EndFinish, result_of}
+use Rattle.own_run.specs.OwnRun.{Own, EndFinish, result_of}
 use Rattle.own_run.specs.Reached.{leaves}
 use Rattle.own_run.specs.Results.{TaskResult, Settled, and_then}
 use Rattle.own_run.specs.Runs.{root}
@@ -25,7 +23,7 @@ use Rattle.own_run.specs.Translation.{settled as settled_of, task_result}
 use Rattle.own_run.specs.declared.result.TaskResult.{TaskResult as Made}
 use Rattle.own_run.specs.declared.run.Run.{Run}
 use Rattle.own_run.specs.declared.turn.Paused.{Paused}
-use Rattle.own_run.proofs.TaskRuns.{leaves_follow}
+use Rattle.own_run.proofs.TaskRuns.{each_if_given, leaves_follow}
 use Rattle.gather.specs.GivesBack.{GiveBack, all_owned}
 use Rattle.gather.specs.Jobs.{IsJob, program_of, lists_of, budget_of}
 use Rattle.gather.specs.declared.job.Job.{Job}
@@ -34,18 +32,15 @@ use Rattle.interleave.specs.Courses.{Course, course_of, further, HasCome, IsDoin
 use Rattle.interleave.specs.Ending.{GoesBehind, IsBehind, IsGoneOn, IsOutside, MayGoOn, MayLeave, ScopeBecomes, StandsAt, TaskBecomes}
 use Rattle.interleave.specs.Events.{Resume, only_if, by_resume}
 use Rattle.interleave.specs.Jobs.{IsWeightedJob}
-use Rattle.interleave.specs.Replay.{does, hands_on}
 use Rattle.interleave.specs.Shown.{AreBoth, AreResultsOf, Becomes, IsTaskOf, IsBookOf, IsDoingThere, IsParked, Shows, WorldStays, is_path, is_scope, next_world}
 use Rattle.interleave.specs.Shown.{scope_id, stake, whereabouts}
-use Rattle.interleave.specs.World.{Stake, Live, Scope, World, Whereabouts, Queue, Hand, Parked, task, put_task, scope, is_parked}
+use Rattle.interleave.specs.World.{Stake, Live, Scope, World, Hand, Parked, task, put_task, scope, is_parked}
 use Rattle.interleave.specs.World.{in_hand, hand_is_free}
-use Rattle.interleave.specs.declared.doing.Doing.{Doing}
 use Rattle.types.specs.declared.scope_id.ScopeId.{ScopeId as rScopeId}
 use Rattle.interleave.specs.declared.scope.Scope.{Scope as rScope}
 use Rattle.interleave.specs.declared.task.Stake.{Stake as rStake}
 use Rattle.interleave.specs.declared.task.Task.{Task as rTask}
-use Rattle.interleave.specs.declared.task.Whereabouts.{Whereabouts as rWhereabouts}
-use Rattle.interleave.specs.declared.task.Whereabouts.TheVariants.{Queue as rQueue, Hand as rHand, Parked as rParked}
+use Rattle.interleave.specs.declared.task.Whereabouts.TheVariants.{Parked as rParked}
 use Rattle.interleave.specs.declared.world.World.{World as rWorld}
 use Rattle.interleave.proofs.Came.{results_came}
 use Rattle.interleave.proofs.Histories.{cons_head, nil_cons}
@@ -54,7 +49,6 @@ use Rattle.interleave.proofs.Lookups.{scopes_same, task_path}
 use Rattle.interleave.proofs.Outcomes.{results_are_own}
 use Rattle.interleave.proofs.Staying.{stays_hands, stays_shown}
 use Rattle.interleave.proofs.Tables.{there, not_there, tasks_put, paths_put, free_put, led_on}
-use Rattle.interleave.proofs.Truth.{each_if_given}
 use Rattle.interleave.proofs.Turning.{its_task}
 
 -- ---- a run behind a finish

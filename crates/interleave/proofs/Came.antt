@@ -26,6 +26,7 @@ use Rattle.own_run.specs.Results.{TaskResult, and_then}
 use Rattle.own_run.specs.Runs.{IsTaskResult}
 use Rattle.own_run.proofs.AcceptedPrograms.{provides_needs}
 use Rattle.own_run.proofs.HoldingTurns.{root_begins}
+use Rattle.own_run.proofs.Lists.{each_last, each_append}
 use Rattle.own_run.proofs.SettledResults.{gives}
 use Rattle.interleave.specs.World.{ScopeId, Live, Scope, World, root_scope, same_scope, scope, put_scope}
 use Rattle.interleave.specs.Events.{Event, Take, Steal, Steps, Replenish, Spawns, Opens, Parks, Ends, Pass, Resume}
@@ -62,11 +63,6 @@ module _ (p : Program) (needs : Codes → Needs) (scoped : IsScoped p) (calm : I
       by_place (inl (i, j)) = subst (λ (r : Scope). Each (IsResult p needs fresh root) r.results) j k
       by_place (inr (i, j)) = h id s j
 
-  each_join : (xs ys : List TaskResult) → Each (IsResult p needs fresh root) xs → Each (IsResult p needs fresh root) ys
-      → Each (IsResult p needs fresh root) (xs ++ ys)
-  each_join [] ys h k = k
-  each_join (x ∷ xs) ys h k = (h.0, each_join xs ys h.1 k)
-
   module _ (a b : World) (placed : AllPlaced p needs scoped calm provided fresh w0 root nameless may_begin a.live) (h : Came a.scopes) where
     ended_came : (path : List ℕ)
         → IsEnd (λ t. nexts p needs fresh w0 root nameless t) (λ t. hands p needs fresh w0 root nameless t) path a b → Came b.scopes
@@ -74,7 +70,8 @@ module _ (p : Program) (needs : Codes → Needs) (scoped : IsScoped p) (calm : I
         subst (λ (w : World). Came w.scopes) c.now
         (came_put c.at.inner.scope c.of.book (give_back c.at.inner.weight (hands p needs fresh w0 root nameless c.at.was ∷ []) c.of.book)
         a.scopes c.of.found c.of.id h
-        (each_join c.of.book.results (hands p needs fresh w0 root nameless c.at.was ∷ []) (h c.at.inner.scope c.of.book c.of.found) (came, tt)))
+        (each_last (IsResult p needs fresh root) c.of.book.results (hands p needs fresh w0 root nameless c.at.was)
+        (h c.at.inner.scope c.of.book c.of.found) came))
       where
         came : IsResult p needs fresh root (hands p needs fresh w0 root nameless c.at.was)
         came =
@@ -113,7 +110,7 @@ module _ (p : Program) (needs : Codes → Needs) (scoped : IsScoped p) (calm : I
     event_came (Parks q) c =
         subst (λ (x : World). Came x.scopes) c.now
         (came_put c.at.inner.scope c.of.book (give_back c.at.inner.weight [] c.of.book) a.scopes c.of.found c.of.id h
-        (each_join c.of.book.results [] (h c.at.inner.scope c.of.book c.of.found) tt))
+        (each_append (IsResult p needs fresh root) c.of.book.results [] (h c.at.inner.scope c.of.book c.of.found) tt))
     event_came (Ends q) c = ended_came q c
     event_came (Pass id) c =
         subst (λ (x : World). Came x.scopes) c.now

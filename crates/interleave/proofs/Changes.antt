@@ -3,7 +3,7 @@ use Rattle.std.proofs.Common.{◌≡◌, ℕ, ◌+◌, ◌-◌, ◌/◌, ◌≤�
 use Rattle.std.proofs.lemmas.Bool.{eqb-true, leb-true, eq-eqb, and_parts, not-true}
 use Rattle.std.specs.Prelude.{Bool, true, false, ◌⊎◌, ◌&&◌, not, nat_eq}
 use Rattle.std.proofs.lemmas.Option.{none-some, same_Some}
-use Rattle.effects.proofs.Members.{false_true}
+use Rattle.facts.proofs.Truths.{false_true}
 use Rattle.own_run.specs.Results.{TaskResult, and_then}
 use Rattle.own_run.specs.OwnRun.{Start, Action, Step, Spawn, EnterFinish, EndFinish, EndTask}
 use Rattle.own_run.proofs.SettledResults.{Gives, gives}

@@ -6,17 +6,17 @@ use Rattle.std.proofs.lemmas.List.Elements.{Contains-append_cases}
 use Rattle.std.specs.Prelude.{Bool, true, false, ◌⊎◌, ◌&&◌, not, nat_eq, nat_le, map, take, slice_get, Contains}
 use Rattle.std.specs.Prelude.{if◌then◌else◌, is_some}
 use Rattle.std.proofs.lemmas.Option.{none-some, same_Some}
+use Rattle.facts.proofs.Truths.{false_true}
 use Rattle.types.specs.Code.{Codes, Program}
-use Rattle.types.specs.Run.{Block}
 use Rattle.effects.specs.Needs.{Needs}
-use Rattle.effects.proofs.Members.{false_true}
 use Rattle.own_run.specs.Results.{and_then}
 use Rattle.own_run.specs.Lists.{Each}
 use Rattle.own_run.specs.OwnRun.{is_waiting, run_by, actions_of, Start, Action, Step, Spawn, EnterFinish, EndFinish}
-use Rattle.own_run.specs.OwnRun.{EndTask, last_action, at_first, beginning}
+use Rattle.own_run.specs.OwnRun.{EndTask, last_action}
 use Rattle.own_run.specs.Given.{in_truth, own, root_of}
+use Rattle.own_run.proofs.CompleteResults.{path_same}
+use Rattle.own_run.proofs.OnePath.{own_path}
 use Rattle.own_run.proofs.SettledResults.{paths_same}
-use Rattle.own_run.proofs.Begun.{run_tells}
 use Rattle.interleave.specs.Candidates.{candidates, in_hand as hand_events, when_parked}
 use Rattle.interleave.specs.World.{same_path, ScopeId, Stake, Live, Scope, World, Whereabouts, Queue, Hand, Parked}
 use Rattle.interleave.specs.World.{same_scope, root_scope, task, scope, in_queue, in_hand, is_parked, hand_of}
@@ -27,7 +27,7 @@ use Rattle.interleave.specs.Events.{by_open, by_park, by_end, by_resume}
 use Rattle.interleave.specs.History.{told}
 use Rattle.interleave.specs.Replay.{does, hands_on, event}
 use Rattle.interleave.proofs.ReplayLaws.{IsFree, IsSpent, IsUnsettled, GoesOn, EndsAreOwn}
-use Rattle.interleave.proofs.Lookups.{by_test, path_refl, path_is, path_not, other_path, scopes_same, task_path}
+use Rattle.interleave.proofs.Lookups.{by_test, path_is, path_not, other_path, scopes_same, task_path}
 use Rattle.interleave.proofs.Lookups.{Unique, each_task}
 use Rattle.interleave.proofs.Histories.{contains_nil, contains_here, contains_later, contains_cons, contains_map}
 use Rattle.interleave.proofs.Histories.{cons_head, cons_tail, nil_cons, nil_snoc}
@@ -51,7 +51,7 @@ later_found u t q ts h e =
     (λ f. e)
 
 here_found : (u : Live) (ts : List Live) → task u.path (u ∷ ts) ≡ Some u
-here_found u ts = ap (λ (b : Bool). if b then Some u else task u.path ts) (path_refl u.path)
+here_found u ts = ap (λ (b : Bool). if b then Some u else task u.path ts) (path_same u.path)
 
 record Found (P : Live → Bool) (ts : List Live) : Type 0 where
   path : List ℕ
@@ -266,11 +266,8 @@ module _ (p : Program) (needs : Codes → Needs) (fresh w0 : ℕ) (least : 1 ≤
               let bb = bracketed p needs fresh (in_truth p needs fresh) t.start in
               let g = depth_next 0 (own p needs fresh t.start).extra.actions t.done a bb.rise (length outer) bb.level f (ap (depth 0) (sym first) ∙ level) in
               absurd (none-some _ (sym none ∙ g.1))
-          by_place (inr f) = (f.0, ap last_action (sym own_path) ∙ f.1)
-            where
-              own_path : (own p needs fresh t.start).path ≡ t.path
-              own_path = (run_tells t.start.nest needs (in_truth p needs fresh) p (Block t.start.body) (beginning (at_first t.start.owned) fresh t.start)).path
-                  ∙ start_path p needs fresh w0 root nameless t its
+          by_place (inr f) =
+              (f.0, ap last_action (sym (own_path p needs fresh t.start ∙ start_path p needs fresh w0 root nameless t its)) ∙ f.1)
 
       -- where it ends a finish, that is its own
       pub park_owned : does_next t ≡ Some EndFinish → same_path t.path s.scope.owner ≡ true

@@ -9,7 +9,7 @@ use Rattle.own_run.specs.Results.{TaskResult}
 use Rattle.own_run.specs.Lists.{Each}
 use Rattle.own_run.specs.OwnRun.{Action}
 use Rattle.own_run.proofs.SettledResults.{paths_same}
-use Rattle.own_run.proofs.Lists.{each_more, each_last}
+use Rattle.own_run.proofs.Lists.{each_more, each_last, SameEnd, same_end}
 use Rattle.interleave.specs.World.{same_path, ScopeId, Stake, Live, Scope, World, Hand, Parked, same_scope}
 use Rattle.interleave.specs.World.{child_path, task, put_task, without_task, scope, put_scope}
 use Rattle.interleave.specs.Events.{Event, Take, Steal, Steps, Replenish, Spawns, Opens, Parks, Ends, Pass, Resume}
@@ -17,7 +17,7 @@ use Rattle.interleave.specs.Events.{issue, give_back, did, new_task, new_scope}
 use Rattle.interleave.specs.History.{told, SpawnsAt, BegunIn, in_own, handed_on}
 use Rattle.interleave.proofs.Lookups.{by_test, other_path, task-without_task, gone-without_task}
 use Rattle.interleave.proofs.Lookups.{scope-put_scope, scope_is, path_is, scopes_same, true_not_false}
-use Rattle.interleave.proofs.Histories.{cons_head, cons_tail, nil_cons, last_same, still_spawns, spawned_since}
+use Rattle.interleave.proofs.Histories.{cons_head, cons_tail, nil_cons, still_spawns, spawned_since}
 use Rattle.interleave.proofs.Stakes.{scope_of, own}
 use Rattle.interleave.proofs.Changes.{IsQuiet, IsSpawn, IsOpen, IsEnd, IsResume, Becomes}
 use Rattle.interleave.proofs.Kept.{base, Kept, Hangs}
@@ -48,20 +48,20 @@ record SameSpawn (b c : List Event) (o p : List ℕ) : Type 0 where
 spawn_once : (es b c : List Event) (o p q : List ℕ) → SpawnsAt es b o q → SpawnsAt es c p q → SameSpawn b c o p
 spawn_once es b c o p q h k = by_split (splits b c h.later k.later (Spawns o) (Spawns p) (sym h.here ∙ k.here)).how
   where
-    same : (o ≡ p) × ((told b o).spawned + 1 ≡ (told c p).spawned + 1)
-    same = last_same o p ((told b o).spawned + 1) ((told c p).spawned + 1) (sym h.numbered ∙ k.numbered)
+    same : SameEnd o p ((told b o).spawned + 1) ((told c p).spawned + 1)
+    same = same_end o p ((told b o).spawned + 1) ((told c p).spawned + 1) (sym h.numbered ∙ k.numbered)
 
     by_split : (b ≡ c) ⊎ (((m : List Event) × (c ≡ b ++ Spawns o ∷ m)) ⊎ ((m : List Event) × (b ≡ c ++ Spawns p ∷ m))) → SameSpawn b c o p
-    by_split (inl e) = record { before = e; parent = same.0 }
+    by_split (inl e) = record { before = e; parent = same.front }
     by_split (inr (inl (m, e))) =
         let a = spawned_since c b o (child_path o ((told b o).spawned + 1)) (record { later = m; here = e; numbered = refl }) in
-        let n : (told c o).spawned ≡ (told c p).spawned = ap (λ r. (told c r).spawned) same.0 in
-        let f = same.1 in
+        let n : (told c o).spawned ≡ (told c p).spawned = ap (λ r. (told c r).spawned) same.front in
+        let f = same.last in
         absurd (omega (arith, a, n, f))
     by_split (inr (inr (m, e))) =
         let a = spawned_since b c p (child_path p ((told c p).spawned + 1)) (record { later = m; here = e; numbered = refl }) in
-        let n : (told b o).spawned ≡ (told b p).spawned = ap (λ r. (told b r).spawned) same.0 in
-        let f = same.1 in
+        let n : (told b o).spawned ≡ (told b p).spawned = ap (λ r. (told b r).spawned) same.front in
+        let f = same.last in
         absurd (omega (arith, a, n, f))
 
 -- a task is begun in one scope

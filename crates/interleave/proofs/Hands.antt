@@ -2,17 +2,18 @@
 use Rattle.std.proofs.Common.{◌≡◌, ℕ, ◌+◌, ◌-◌, ◌/◌, ◌≤◌, List, [], ◌∷◌, ◌++◌, Option, Some, refl, sym, ap, ◌∙◌, subst, arith}
 use Rattle.std.proofs.lemmas.Bool.{ne_eqb, eqb-true, and_parts}
 use Rattle.std.proofs.lemmas.Option.{none-some, same_Some}
-use Rattle.std.specs.Prelude.{ℤ, Bool, true, false, ◌&&◌, ◌||◌, not, nat_eq, if◌then◌else◌}
+use Rattle.std.proofs.lemmas.List.Sums.{sum_by-cons}
+use Rattle.std.specs.Prelude.{ℤ, Bool, true, false, ◌&&◌, ◌||◌, not, nat_eq, sum_by, if◌then◌else◌}
+use Rattle.facts.proofs.Truths.{false_true}
 use Rattle.types.specs.Code.{Program}
 use Rattle.types.specs.Outcome.{Budget}
-use Rattle.effects.proofs.Members.{false_true}
 use Rattle.effects.specs.Rounds.{needs_of}
 use Rattle.own_run.specs.Results.{TaskResult}
 use Rattle.own_run.specs.OwnRun.{Start, Action, Step, Spawn, EnterFinish, EndFinish, EndTask}
 use Rattle.own_run.specs.Given.{root_of}
 use Rattle.own_run.proofs.SettledResults.{Gives, gives}
 use Rattle.interleave.specs.World.{Stake, Live, World, Whereabouts, Queue, Hand, Parked, task, put_task}
-use Rattle.interleave.specs.World.{without_task, root_scope, child_path, scope, is_parked, in_queue, in_hand, hand_of, hand_is_free}
+use Rattle.interleave.specs.World.{without_task, child_path, scope, is_parked, in_queue, in_hand, hand_of, hand_is_free}
 use Rattle.interleave.specs.Events.{Event, Take, Steal, Steps, Replenish, Spawns, Opens, Parks, Ends, Pass, Resume}
 use Rattle.interleave.specs.Events.{did, new_task, first_world, by_step, by_resume, next, after}
 use Rattle.interleave.specs.Replay.{does, hands_on, start_of}
@@ -21,29 +22,29 @@ use Rattle.interleave.proofs.Lookups.{holds, task_path}
 use Rattle.interleave.proofs.Changes.{InHand, in_hand as hand_event, IsAt, IsReplenish, IsSpawn, IsOpen, IsPark, IsEnd}
 use Rattle.interleave.proofs.Changes.{IsPass, becomes}
 use Rattle.interleave.proofs.Outcomes.{replays_are_worlds}
-use Rattle.interleave.proofs.Worth.{sum_of, sum_of-nil, sum_of-cons, sum_of-put_task, sum_of-without_task}
+use Rattle.interleave.proofs.Worth.{sum_by-put_task, sum_by-without_task}
 
 -- 1 where a task is in this worker's hand
 abbrev in_one : ℕ → Live → ℕ
 in_one v t = if in_hand t.place v then 1 else 0
 
 abbrev pub AreApart : List Live → Type 0
-AreApart ts = (v : ℕ) → sum_of (in_one v) ts ≤ 1
+AreApart ts = (v : ℕ) → sum_by (in_one v) ts ≤ 1
 
-free_is : (v : ℕ) (ts : List Live) → hand_is_free v ts ≡ nat_eq (sum_of (in_one v) ts) 0
-free_is v [] = ap (λ n. nat_eq n 0) (sym (sum_of-nil (in_one v)))
+free_is : (v : ℕ) (ts : List Live) → hand_is_free v ts ≡ nat_eq (sum_by (in_one v) ts) 0
+free_is v [] = refl
 free_is v (t ∷ ts) =
-    by_hand (in_hand t.place v) (free_is v ts) ∙ ap (λ n. nat_eq n 0) (sym (sum_of-cons (in_one v) t ts))
+    by_hand (in_hand t.place v) (free_is v ts) ∙ ap (λ n. nat_eq n 0) (sym (sum_by-cons (in_one v) t ts))
   where
-    by_hand : (b : Bool) → hand_is_free v ts ≡ nat_eq (sum_of (in_one v) ts) 0
-        → (not b && hand_is_free v ts) ≡ nat_eq ((if b then 1 else 0) + sum_of (in_one v) ts) 0
-    by_hand true rec = sym (ne_eqb (1 + sum_of (in_one v) ts) 0 (λ e. omega (arith, e)))
+    by_hand : (b : Bool) → hand_is_free v ts ≡ nat_eq (sum_by (in_one v) ts) 0
+        → (not b && hand_is_free v ts) ≡ nat_eq ((if b then 1 else 0) + sum_by (in_one v) ts) 0
+    by_hand true rec = sym (ne_eqb (1 + sum_by (in_one v) ts) 0 (λ e. omega (arith, e)))
     by_hand false rec =
-        let same : sum_of (in_one v) ts ≡ 0 + sum_of (in_one v) ts = omega arith in
+        let same : sum_by (in_one v) ts ≡ 0 + sum_by (in_one v) ts = omega arith in
         rec ∙ ap (λ n. nat_eq n 0) same
 
-free_none : (v : ℕ) (ts : List Live) → hand_is_free v ts ≡ true → sum_of (in_one v) ts ≡ 0
-free_none v ts e = eqb-true (sum_of (in_one v) ts) 0 (sym (free_is v ts) ∙ e)
+free_none : (v : ℕ) (ts : List Live) → hand_is_free v ts ≡ true → sum_by (in_one v) ts ≡ 0
+free_none v ts e = eqb-true (sum_by (in_one v) ts) 0 (sym (free_is v ts) ∙ e)
 
 queue_out : (q : Whereabouts) (w v : ℕ) → in_queue q w ≡ true → in_hand q v ≡ false
 queue_out (Queue u) w v e = refl
@@ -60,7 +61,7 @@ parked_out Parked v e = refl
 put_apart : (to was : Live) (ts : List Live) → task to.path ts ≡ Some was → ((v : ℕ) → in_one v to ≤ in_one v was) → AreApart ts
     → AreApart (put_task to ts)
 put_apart to was ts found less apart v =
-    let sums = sum_of-put_task (in_one v) to was ts found in
+    let sums = sum_by-put_task (in_one v) to was ts found in
     let le = less v in
     let few = apart v in
     omega (arith, sums, le, few)
@@ -69,14 +70,14 @@ put_apart to was ts found less apart v =
 taken_apart : (to was : Live) (ts : List Live) (w : ℕ) → task to.path ts ≡ Some was → ((v : ℕ) → in_hand was.place v ≡ false)
     → to.place ≡ Hand w → hand_is_free w ts ≡ true → AreApart ts → AreApart (put_task to ts)
 taken_apart to was ts w found out put free apart v =
-    let sums = sum_of-put_task (in_one v) to was ts found in
+    let sums = sum_by-put_task (in_one v) to was ts found in
     let none = ap {B = ℕ} (λ (b : Bool). if b then 1 else 0) (out v) in
     let here = ap {B = ℕ} (λ q. if in_hand q v then 1 else 0) put in
     by_hand (nat_eq w v) refl sums none here
   where
     by_hand : (b : Bool) → nat_eq w v ≡ b
-        → sum_of (in_one v) (put_task to ts) + in_one v was ≡ sum_of (in_one v) ts + in_one v to
-        → in_one v was ≡ 0 → in_one v to ≡ (if nat_eq w v then 1 else 0) → sum_of (in_one v) (put_task to ts) ≤ 1
+        → sum_by (in_one v) (put_task to ts) + in_one v was ≡ sum_by (in_one v) ts + in_one v to
+        → in_one v was ≡ 0 → in_one v to ≡ (if nat_eq w v then 1 else 0) → sum_by (in_one v) (put_task to ts) ≤ 1
     by_hand true e sums none here =
         let one = here ∙ ap {B = ℕ} (λ (b : Bool). if b then 1 else 0) e in
         let empty = free_none v ts (ap (λ u. hand_is_free u ts) (sym (eqb-true w v e)) ∙ free) in
@@ -91,7 +92,7 @@ none_less v t = omega arith
 
 gone_apart : (q : List ℕ) (t : Live) (ts : List Live) → task q ts ≡ Some t → AreApart ts → AreApart (without_task q ts)
 gone_apart q t ts found apart v =
-    let sums = sum_of-without_task (in_one v) q t ts found in
+    let sums = sum_by-without_task (in_one v) q t ts found in
     let few = apart v in
     omega (arith, sums, few)
 
@@ -167,9 +168,9 @@ module _ (w0 : ℕ) (actions : Start → List (List TaskResult) → List Action)
             new_task (child_path c.at.was.path (c.at.was.spawned + 1)) c.child
             (record c.at.inner { weight = c.at.inner.weight / 2 }) c.at.worker
 
-        more : (v : ℕ) → sum_of (in_one v) (kid ∷ put_task to a.live) ≤ 1
+        more : (v : ℕ) → sum_by (in_one v) (kid ∷ put_task to a.live) ≤ 1
         more v =
-            let sums = sum_of-cons (in_one v) kid (put_task to a.live) in
+            let sums = sum_by-cons (in_one v) kid (put_task to a.live) in
             let few = put_apart to c.at.was a.live (at_found path c.at) (λ v. omega arith) apart v in
             omega (arith, sums, few)
 
@@ -225,11 +226,7 @@ module _ (w0 : ℕ) (actions : Start → List (List TaskResult) → List Action)
       list_apart es g.one b (event_apart x a g.one apart g.first) g.next
 
   first_apart : (root : Start) → AreApart (first_world w0 root).live
-  first_apart root v =
-      let t : Live = new_task [] root (record { scope = root_scope; weight = w0 }) 0 in
-      let sums = sum_of-cons (in_one v) t [] in
-      let none = sum_of-nil (in_one v) in
-      omega (arith, sums, none)
+  first_apart root v = omega arith
 
 -- so it is in every world that events lead to
 pub hands_are_apart : (p : Program) (w0 : ℕ) (input : List (List ℤ)) (b : Budget) (es : List Event) (w : World)
@@ -260,19 +257,19 @@ module _ (t : Live) (ts : List Live) (apart : AreApart ts) (w v : ℕ) (hand : h
   -- once the task that was in it is gone
   pub free_without : (path : List ℕ) → task path ts ≡ Some t → hand_is_free v (without_task path ts) ≡ (nat_eq w v || hand_is_free v ts)
   free_without path found =
-      let sums = sum_of-without_task (in_one v) path t ts found in
+      let sums = sum_by-without_task (in_one v) path t ts found in
       let one = one_is in
       free_is v (without_task path ts)
-      ∙ freed (nat_eq w v) (sum_of (in_one v) (without_task path ts)) (sum_of (in_one v) ts) (omega (arith, sums, one)) (apart v)
+      ∙ freed (nat_eq w v) (sum_by (in_one v) (without_task path ts)) (sum_by (in_one v) ts) (omega (arith, sums, one)) (apart v)
       ∙ ap (λ b. nat_eq w v || b) (sym (free_is v ts))
 
   -- or is parked
   pub free_parked : (to : Live) → to.place ≡ Parked → task to.path ts ≡ Some t
       → hand_is_free v (put_task to ts) ≡ (nat_eq w v || hand_is_free v ts)
   free_parked to place found =
-      let sums = sum_of-put_task (in_one v) to t ts found in
+      let sums = sum_by-put_task (in_one v) to t ts found in
       let one = one_is in
       let none = ap {B = ℕ} (λ q. if in_hand q v then 1 else 0) place in
       free_is v (put_task to ts)
-      ∙ freed (nat_eq w v) (sum_of (in_one v) (put_task to ts)) (sum_of (in_one v) ts) (omega (arith, sums, one, none)) (apart v)
+      ∙ freed (nat_eq w v) (sum_by (in_one v) (put_task to ts)) (sum_by (in_one v) ts) (omega (arith, sums, one, none)) (apart v)
       ∙ ap (λ b. nat_eq w v || b) (sym (free_is v ts))

@@ -3,11 +3,13 @@ use Rattle.std.proofs.Common.{◌≡◌, ℕ, zero, suc, ◌+◌, ◌<◌, ◌�
 use Rattle.std.proofs.Common.{subst, inl, inr, arith, append_assoc, le_refl}
 use Rattle.std.specs.Prelude.{Bool, ◌⊎◌, map, Contains, if◌then◌else◌}
 use Rattle.std.proofs.lemmas.List.{length_push}
+use Rattle.own_run.proofs.CompleteResults.{path_same}
+use Rattle.own_run.proofs.Lists.{same_end}
 use Rattle.interleave.specs.World.{same_path, ScopeId, child_path}
 use Rattle.interleave.specs.Events.{Event, Take, Steal, Steps, Replenish, Spawns, Opens, Parks, Ends, Pass, Resume}
 use Rattle.interleave.specs.History.{Told, untold, spawned_more, opened_more, left_one, tell, tell_all, told}
 use Rattle.interleave.specs.History.{SpawnsAt, Begun, by_owner, by_member}
-use Rattle.interleave.proofs.Lookups.{by_test, path_refl}
+use Rattle.interleave.proofs.Lookups.{by_test}
 
 -- ---- lists
 pub contains_nil : {X : Type 0} (x : X) → Contains [] x → ⊥
@@ -63,15 +65,6 @@ nil_cons {X} e = subst IsNil e tt
 pub nil_snoc : {X : Type 0} (xs : List X) (x : X) (ys : List X) → [] ≡ xs ++ x ∷ ys → ⊥
 nil_snoc [] x ys e = nil_cons e
 nil_snoc (y ∷ xs) x ys e = nil_cons e
-
--- two lists with a last element
-pub last_same : {X : Type 0} (xs ys : List X) (x y : X) → xs ++ x ∷ [] ≡ ys ++ y ∷ [] → (xs ≡ ys) × (x ≡ y)
-last_same [] [] x y e = (refl, cons_head e)
-last_same [] (z ∷ ys) x y e = absurd (nil_snoc ys y [] (cons_tail e))
-last_same (z ∷ xs) [] x y e = absurd (nil_snoc xs x [] (sym (cons_tail e)))
-last_same (w ∷ xs) (z ∷ ys) x y e =
-    let h = last_same xs ys x y (cons_tail e) in
-    (ap (λ a. a ∷ xs) (cons_head e) ∙ ap (λ l. z ∷ l) h.0, h.1)
 
 -- a list with one element more, at a place in it
 pub at_last : {X : Type 0} (es before later : List X) (e x : X) → es ++ e ∷ [] ≡ before ++ x ∷ later → ((l : List X) × (es ≡ before ++ x ∷ l)) ⊎ ((before ≡ es) × (e ≡ x))
@@ -143,7 +136,7 @@ pub spawned_since : (es before : List Event) (o q : List ℕ) → SpawnsAt es be
 spawned_since es before o q h =
     let rest = tell_all_more o (Spawns o ∷ h.later) (told before o) in
     let whole : told es o ≡ tell_all o (Spawns o ∷ h.later) (told before o) = ap (λ l. told l o) h.here ∙ tell_all-append o before (Spawns o ∷ h.later) (untold o) in
-    let here : tell o (Spawns o) (told before o) ≡ spawned_more (told before o) = ap (λ (b : Bool). if b then spawned_more (told before o) else told before o) (path_refl o) in
+    let here : tell o (Spawns o) (told before o) ≡ spawned_more (told before o) = ap (λ (b : Bool). if b then spawned_more (told before o) else told before o) (path_same o) in
     let since = tell_all_more o h.later (tell o (Spawns o) (told before o)) in
     let a : (told before o).spawned + 1 ≤ (tell_all o h.later (tell o (Spawns o) (told before o))).spawned =
     subst (λ (t : Told). t.spawned ≤ (tell_all o h.later (tell o (Spawns o) (told before o))).spawned) here since.spawned in
@@ -153,10 +146,10 @@ spawned_since es before o q h =
 -- the next child wasn't there before
 pub next_is_new : (es before : List Event) (o p q : List ℕ) → SpawnsAt es before o q → q ≡ child_path p ((told es p).spawned + 1) → ⊥
 next_is_new es before o p q h e =
-    let s = last_same o p ((told before o).spawned + 1) ((told es p).spawned + 1) (sym h.numbered ∙ e) in
+    let s = same_end o p ((told before o).spawned + 1) ((told es p).spawned + 1) (sym h.numbered ∙ e) in
     let a = spawned_since es before o q h in
-    let b : (told es o).spawned ≡ (told es p).spawned = ap (λ r. (told es r).spawned) s.0 in
-    omega (arith, a, b, s.1)
+    let b : (told es o).spawned ≡ (told es p).spawned = ap (λ r. (told es r).spawned) s.front in
+    omega (arith, a, b, s.last)
 
 pub child_is_longer : (p : List ℕ) (k : ℕ) → length p < length (child_path p k)
 child_is_longer p k = omega (arith, length_push p k)

@@ -2,10 +2,8 @@
 use Rattle.std.proofs.Common.{◌≡◌, ℕ, ◌+◌, ◌-◌, ◌*◌, ◌/◌, ◌≤◌, ◌<◌, List, [], ◌∷◌, ◌++◌, Option, Some, None, refl, sym, ap, ◌∙◌, subst, arith}
 use Rattle.std.proofs.lemmas.Bool.{and_parts, le-leb, lt-ltb, leb-true, ltb-true, eqb-true}
 use Rattle.std.proofs.lemmas.Option.{none-some, same_Some}
-use Rattle.std.specs.Prelude.{Bool, true, false, ◌&&◌, length, slice_index_or, not, nat_eq, nat_le, map, if◌then◌else◌}
+use Rattle.std.specs.Prelude.{true, ◌&&◌, length, slice_index_or, not, nat_eq, nat_le, map, if◌then◌else◌}
 use Rattle.std.specs.HashMap.{get}
-use Rattle.std.specs.List.{AllZip}
-use Rattle.std.proofs.lemmas.Slice.Zip.{AllZip-map}
 use Rattle.std.specs.Prelude.{Result, Ok, Err}
 use Rattle.std.specs.Result.{IfOk, OnOk, IfErr, OnErr, IsErrAnd}
 use Rattle.types.specs.declared.path.Path.{Path}
@@ -186,14 +184,6 @@ free_same v to was (t ∷ ts) lives same =
 pub err_is : {A E : Type 0} (r : Result A E) (e : E) (P : E → Type 0) → IsErrAnd r (λ x. x ≡ e) → P e → IfErr r P
 err_is (Ok a) e P h p = absurd h
 err_is (Err x) e P h p = subst P (sym h) p
-
--- a path that was copied
-pub copied : (xs ys : List ℕ) → AllZip (λ x y. y ≡ x) xs ys → ys ≡ xs
-copied xs ys h = AllZip-map (λ x. x) xs ys h ∙ map_same xs
-  where
-    map_same : (xs : List ℕ) → map (λ x. x) xs ≡ xs
-    map_same [] = refl
-    map_same (x ∷ xs) = ap (λ l. x ∷ l) (map_same xs)
 
 -- the first of a list is one thing
 pub one_first : {A : Type 0} (xs ys zs : List A) (x y : A) → xs ≡ x ∷ ys → xs ≡ y ∷ zs → (x ≡ y) × (ys ≡ zs)

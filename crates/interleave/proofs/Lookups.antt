@@ -1,10 +1,11 @@
 -- Tasks and scopes by their names, and what changes when one is changed.
 use Rattle.std.proofs.Common.{◌≡◌, ℕ, ◌+◌, ◌≤◌, List, [], ◌∷◌, Option, Some, None, refl, sym, ap, ◌∙◌, subst, arith}
-use Rattle.std.proofs.lemmas.Bool.{eqb-true, eqb-false, and_parts}
+use Rattle.std.proofs.lemmas.Bool.{eqb-true, eq-eqb, and_parts}
 use Rattle.std.specs.Prelude.{Bool, true, false, ◌&&◌, nat_eq, if◌then◌else◌}
 use Rattle.std.proofs.lemmas.Option.{none-some, same_Some}
-use Rattle.effects.proofs.Members.{false_true}
+use Rattle.facts.proofs.Truths.{false_true}
 use Rattle.own_run.specs.Lists.{Each}
+use Rattle.own_run.proofs.CompleteResults.{path_same}
 use Rattle.own_run.proofs.SettledResults.{paths_same}
 use Rattle.interleave.specs.World.{same_path, ScopeId, Live, Scope, same_scope, task, put_task, without_task, scope}
 use Rattle.interleave.specs.World.{put_scope, weight_in, held, is_passed, root_scope}
@@ -14,19 +15,8 @@ use Rattle.interleave.specs.Events.{new_scope, only_if}
 pub true_not_false : {b : Bool} → b ≡ true → b ≡ false → ⊥
 true_not_false e f = false_true (sym f ∙ e)
 
-pub eq_refl : (k : ℕ) → nat_eq k k ≡ true
-eq_refl k = by_test (nat_eq k k) refl
-  where
-    by_test : (b : Bool) → nat_eq k k ≡ b → b ≡ true
-    by_test true e = refl
-    by_test false e = absurd (eqb-false k k e refl)
-
-pub path_refl : (p : List ℕ) → same_path p p ≡ true
-path_refl [] = refl
-path_refl (k ∷ p) = ap (λ b. b && same_path p p) (eq_refl k) ∙ path_refl p
-
 pub path_is : {p q : List ℕ} → p ≡ q → same_path p q ≡ true
-path_is {p} e = subst (λ r. same_path p r ≡ true) e (path_refl p)
+path_is {p} e = subst (λ r. same_path p r ≡ true) e (path_same p)
 
 pub other_path : {p q : List ℕ} → same_path p q ≡ false → p ≡ q → ⊥
 other_path f e = true_not_false (path_is e) f
@@ -39,7 +29,8 @@ path_not p q ne = by_test (same_path p q) refl
     by_test false e = refl
 
 pub scope_is : {a b : ScopeId} → a ≡ b → same_scope a b ≡ true
-scope_is {a} e = subst (λ c. same_scope a c ≡ true) e (ap (λ x. x && nat_eq a.number a.number) (path_refl a.owner) ∙ eq_refl a.number)
+scope_is {a} e =
+    subst (λ c. same_scope a c ≡ true) e (ap (λ x. x && nat_eq a.number a.number) (path_same a.owner) ∙ eq-eqb a.number a.number refl)
 
 pub scopes_same : (a b : ScopeId) → same_scope a b ≡ true → a ≡ b
 scopes_same a b e =

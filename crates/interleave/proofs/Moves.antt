@@ -1,11 +1,11 @@
 -- Events by which a task changes its place, and a scope passes: as the tables in Rust show them.
 use Rattle.std.proofs.Common.{◌≡◌, ℕ, [], ◌∷◌, ◌++◌, Option, Some, None, refl, sym, ap, ◌∙◌, subst}
-use Rattle.std.proofs.lemmas.Bool.{ne_eqb, not-false, not-true}
+use Rattle.std.proofs.lemmas.Bool.{ne_eqb, not-false}
 use Rattle.std.specs.Prelude.{Bool, true, false, ◌&&◌, not, nat_eq, if◌then◌else◌}
 use Rattle.std.specs.HashMap.{get}
 use Rattle.std.specs.HashSet.{contains}
+use Rattle.facts.proofs.Truths.{false_true}
 use Rattle.types.specs.declared.path.Path.{Path}
-use Rattle.effects.proofs.Members.{false_true}
 use Rattle.effects.specs.Rounds.{needs_of}
 use Rattle.own_run.specs.Results.{and_then}
 use Rattle.gather.specs.Jobs.{program_of, lists_of, budget_of}
@@ -13,7 +13,7 @@ use Rattle.gather.specs.declared.job.Job.{Job}
 use Rattle.interleave.specs.Courses.{Course, course_of, IsDoing}
 use Rattle.interleave.specs.Events.{Event, Take, Steal, Pass, only_if, moved, by_pass}
 use Rattle.interleave.specs.Replay.{does, hands_on}
-use Rattle.interleave.specs.Shown.{AreBoth, IsTaskOf, IsBookOf, IsDoingThere, is_path, is_scope, scope_id, whereabouts}
+use Rattle.interleave.specs.Shown.{IsTaskOf, IsBookOf, IsDoingThere, is_path, is_scope, scope_id, whereabouts}
 use Rattle.interleave.specs.Shown.{AreResultsOf, IsTold, Shows, next_world}
 use Rattle.interleave.specs.World.{Live, Scope, World, Whereabouts, Queue, Hand, Parked, task, scope, put_scope}
 use Rattle.interleave.specs.World.{in_queue, in_hand, hand_is_free, has_passed, root_scope}
@@ -26,7 +26,7 @@ use Rattle.interleave.specs.declared.task.Whereabouts.{Whereabouts as rWhereabou
 use Rattle.interleave.specs.declared.task.Whereabouts.TheVariants.{Queue as rQueue, Hand as rHand}
 use Rattle.interleave.specs.declared.world.World.{World as rWorld}
 use Rattle.interleave.proofs.Lookups.{task_path, scope_id as named_so, scope_is, passed_beside, scope-put_scope}
-use Rattle.interleave.proofs.Tables.{there, not_there, tasks_put, paths_put, scopes_put, free_put, led_on}
+use Rattle.interleave.proofs.Tables.{there, tasks_put, paths_put, scopes_put, free_put, led_on}
 
 queued_doing : (j : Job) (q : Whereabouts) (w : ℕ) (c : Course) (d : Doing) → in_queue q w ≡ true → IsDoingThere j q c d → IsDoing j c d
 queued_doing j (Queue v) w c d e h = h

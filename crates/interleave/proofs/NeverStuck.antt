@@ -57,7 +57,7 @@ module _ (p : Program) (needs : Codes → Needs) (scoped : IsScoped p) (calm : I
   pub first_goes : Goes (first_world w0 root)
   first_goes = record {
     placed = placed;
-    even = λ f. first_even p needs fresh w0 root nameless (worth p needs fresh w0 root nameless f) f (worth_lists p needs fresh w0 root nameless f);
+    even = λ f. first_even p needs fresh w0 root nameless (worth p needs fresh f) f (worth_lists p needs fresh f);
   }
     where
       placed : AllPlaced p needs scoped calm provided fresh w0 root nameless may_begin (first_world w0 root).live
@@ -75,8 +75,8 @@ module _ (p : Program) (needs : Codes → Needs) (scoped : IsScoped p) (calm : I
       let s = list_sound p needs fresh w0 least root nameless before (x ∷ []) a g.one h (ap (λ o. and_then o (λ w. Some w)) g.first) in
       list_goes (before ++ x ∷ []) es g.one b s
       (record {
-        placed = event_placed p needs scoped calm provided fresh w0 root nameless may_begin before a h.kept h.own k.placed h.once k.even x g.one c;
-        even = event_even p needs scoped calm provided fresh w0 root nameless may_begin before a h.kept h.own k.placed h.once k.even x g.one c;
+        placed = event_placed p needs scoped calm provided fresh w0 root nameless may_begin before a h.kept h.own k.placed k.even x g.one c;
+        even = event_even p needs scoped calm provided fresh w0 root nameless may_begin before a h.kept h.own k.placed k.even x g.one c;
       }) g.next
 
   -- so each live task that isn't parked has a next action
@@ -149,8 +149,8 @@ module _ (p : Program) (sound : IsSoundProgram p) (accepted : IsAccepted p) (w0 
         passed = passed;
         now = refl;
       } in
-      let at = waited p (needs_of p) scoped calm provided b.steps w0 first refl may es w h.kept h.own g.placed h.once g.even path to c in
-      let x = comes p (needs_of p) scoped calm provided b.steps w0 first refl may es w h.kept h.own g.placed h.once g.even path to c in
+      let at = waited p (needs_of p) scoped calm provided b.steps w0 first refl may es w h.kept h.own g.placed g.even path to c in
+      let x = comes p (needs_of p) scoped calm provided b.steps w0 first refl may es w h.kept h.own g.placed g.even path to c in
       let after = at.stands.after in
       let count = at.count in
       record {

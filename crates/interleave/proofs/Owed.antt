@@ -3,14 +3,16 @@ use Rattle.std.proofs.Common.{◌≡◌, ℕ, zero, suc, ◌+◌, ◌-◌, ◌/�
 use Rattle.std.proofs.Common.{None, refl, sym, ap, ◌∙◌, subst, inl, inr, arith}
 use Rattle.std.proofs.lemmas.Option.{none-some, same_Some}
 use Rattle.std.proofs.lemmas.List.{append-nil}
-use Rattle.std.specs.Prelude.{Bool, true, false, ◌⊎◌, map, take, Contains, if◌then◌else◌}
+use Rattle.std.proofs.lemmas.List.Sums.{sum_by-cons, sum_by_push}
+use Rattle.std.specs.Prelude.{Bool, true, false, ◌⊎◌, map, take, sum_by, Contains, if◌then◌else◌}
+use Rattle.facts.proofs.Truths.{false_true}
 use Rattle.types.specs.Code.{Codes, Program}
 use Rattle.effects.specs.Needs.{Needs}
-use Rattle.effects.proofs.Members.{false_true}
 use Rattle.own_run.specs.Results.{TaskResult}
 use Rattle.own_run.specs.Lists.{Each}
 use Rattle.own_run.specs.OwnRun.{Start, Action, Step, Spawn, EnterFinish, EndFinish, EndTask, result_of}
 use Rattle.own_run.specs.Given.{own}
+use Rattle.own_run.proofs.Lists.{same_end}
 use Rattle.own_run.proofs.SettledResults.{paths_same}
 use Rattle.interleave.specs.World.{ScopeId, Stake, Live, Scope, World, Whereabouts, Queue, Hand, Parked, same_path}
 use Rattle.interleave.specs.World.{same_scope, root_scope, child_path, task, put_task, without_task, scope, put_scope}
@@ -20,8 +22,7 @@ use Rattle.interleave.specs.History.{told}
 use Rattle.interleave.proofs.Lookups.{by_test, path_not, other_path, scope_is, scopes_same, other_scope}
 use Rattle.interleave.proofs.Lookups.{task-without_task, gone-without_task, unique-without_task, held_least}
 use Rattle.interleave.proofs.Lookups.{task_path, each_task, Unique}
-use Rattle.interleave.proofs.Histories.{contains_nil, contains_here, contains_later, contains_cons}
-use Rattle.interleave.proofs.Histories.{nil_snoc, last_same}
+use Rattle.interleave.proofs.Histories.{contains_nil, contains_here, contains_later, contains_cons, nil_snoc}
 use Rattle.interleave.proofs.Stakes.{scope_of, own as own_scope, Weighty, positive_in}
 use Rattle.interleave.proofs.Changes.{IsQuiet, IsReplenish, IsSpawn, IsOpen, IsPark, IsEnd, IsPass, IsResume}
 use Rattle.interleave.proofs.Kept.{base, Hangs, IsKnown, Kept, base_weighs}
@@ -35,20 +36,15 @@ use Rattle.interleave.proofs.OwnTasks.{IsOwnTask, AllOwn, IsAtLevel, truly, next
 use Rattle.interleave.proofs.OwnTasks.{at_level}
 use Rattle.interleave.proofs.GoingOn.{each_of}
 use Rattle.interleave.proofs.Pending.{spawned, spawned-append}
-use Rattle.interleave.proofs.Worth.{sum_of, sum_of-nil, sum_of-cons, sum_of-last, sum_of-put_task}
-use Rattle.interleave.proofs.Worth.{sum_of-without_task}
+use Rattle.interleave.proofs.Worth.{sum_by-each_zero, sum_by-put_task, sum_by-without_task}
 
 -- ---- lists
-pub sum_of-zero : {A : Type 0} (g : A → ℕ) (xs : List A) → Each (λ x. g x ≡ 0) xs → sum_of g xs ≡ 0
-sum_of-zero g [] h = sum_of-nil g
-sum_of-zero g (x ∷ xs) h = let a = sum_of-cons g x xs in let b = h.0 in let c = sum_of-zero g xs h.1 in omega (arith, a, b, c)
-
 -- where only one task counts
-pub sum_of-one : (g : Live → ℕ) (path : List ℕ) (t : Live) (ts : List Live) → Unique ts → task path ts ≡ Some t
-    → ((q : List ℕ) (u : Live) → task q ts ≡ Some u → (path ≡ q → ⊥) → g u ≡ 0) → sum_of g ts ≡ g t
-sum_of-one g path t ts unique e h =
-    let a = sum_of-without_task g path t ts e in
-    let b = sum_of-zero g (without_task path ts) (each_of (λ u. g u ≡ 0) (without_task path ts) (unique-without_task path ts unique) others) in
+pub sum_by-one : (g : Live → ℕ) (path : List ℕ) (t : Live) (ts : List Live) → Unique ts → task path ts ≡ Some t
+    → ((q : List ℕ) (u : Live) → task q ts ≡ Some u → (path ≡ q → ⊥) → g u ≡ 0) → sum_by g ts ≡ g t
+sum_by-one g path t ts unique e h =
+    let a = sum_by-without_task g path t ts e in
+    let b = sum_by-each_zero g (without_task path ts) (each_of (λ u. g u ≡ 0) (without_task path ts) (unique-without_task path ts unique) others) in
     omega (arith, a, b)
   where
     others : (q : List ℕ) (u : Live) → task q (without_task path ts) ≡ Some u → g u ≡ 0
@@ -124,7 +120,7 @@ pub record Somebody (ts : List Live) (id : ScopeId) : Type 0 where
 
 module _ (p : Program) (needs : Codes → Needs) (fresh w0 : ℕ) (root : Start) (nameless : root.path ≡ []) (worth : Start → ℕ)
     (f : TaskResult → ℕ)
-    (all_of : (c : Start) → worth c ≡ f (result_of (own p needs fresh c)) + sum_of worth (map start_of (own p needs fresh c).extra.pending)) where
+    (all_of : (c : Start) → worth c ≡ f (result_of (own p needs fresh c)) + sum_by worth (map start_of (own p needs fresh c).extra.pending)) where
   abbrev truth : Start → List Action
   truth s = truly p needs fresh w0 root nameless s
 
@@ -171,14 +167,14 @@ module _ (p : Program) (needs : Codes → Needs) (fresh w0 : ℕ) (root : Start)
   abbrev pub hung : ScopeId → List ScopeId → List (List Start) → ℕ
   hung id [] css = 0
   hung id (x ∷ xs) [] = 0
-  hung id (x ∷ xs) (cs ∷ css) = (if same_scope x id then sum_of worth cs else 0) + hung id xs css
+  hung id (x ∷ xs) (cs ∷ css) = (if same_scope x id then sum_by worth cs else 0) + hung id xs css
 
   pub not_hung : (id : ScopeId) (xs : List ScopeId) (css : List (List Start)) → (Contains xs id → ⊥) → hung id xs css ≡ 0
   not_hung id [] css n = refl
   not_hung id (x ∷ xs) [] n = refl
   not_hung id (x ∷ xs) (cs ∷ css) n =
       let rest = not_hung id xs css (λ c. n (contains_later x xs id c)) in
-      by_test (λ b. same_scope x id ≡ b → (if b then sum_of worth cs else 0) + hung id xs css ≡ 0) (same_scope x id)
+      by_test (λ b. same_scope x id ≡ b → (if b then sum_by worth cs else 0) + hung id xs css ≡ 0) (same_scope x id)
       (λ t e. absurd (n (subst (Contains (x ∷ xs)) (scopes_same x id e) (contains_here x xs))))
       (λ t e. omega (arith, rest)) refl
 
@@ -219,7 +215,7 @@ module _ (p : Program) (needs : Codes → Needs) (fresh w0 : ℕ) (root : Start)
       owed_is id t ∙ ap (λ (x : Bool). if x then 0 else (if based id (map scope_of t.stakes) then worth t.start else 0)) (path_not t.path [] n)
 
   abbrev pub Even : ScopeId → Scope → List Live → Type 0
-  Even id s ts = sum_of f s.results + sum_of (owed id) ts ≡ sum_of (hangs id) ts
+  Even id s ts = sum_by f s.results + sum_by (owed id) ts ≡ sum_by (hangs id) ts
 
   -- so it is for each scope that some task stands in
   abbrev pub AllEven : List Live → List Scope → Type 0
@@ -232,15 +228,15 @@ module _ (p : Program) (needs : Codes → Needs) (fresh w0 : ℕ) (root : Start)
     where
       by_place : ((x ≡ id) × (to ≡ s)) ⊎ ((same_scope x id ≡ false) × (scope id ss ≡ Some s)) → Even id s ts
       by_place (inl (u, v)) =
-          ap (λ (r : Scope). sum_of f r.results + sum_of (owed id) ts) (sym v) ∙ ap (λ rs. sum_of f rs + sum_of (owed id) ts) same
+          ap (λ (r : Scope). sum_by f r.results + sum_by (owed id) ts) (sym v) ∙ ap (λ rs. sum_by f rs + sum_by (owed id) ts) same
           ∙ h id book (ap (λ y. scope y ss) (sym u) ∙ e) who
       by_place (inr (u, v)) = h id s v who
 
   put_one : (id : ScopeId) (s : Scope) (to was : Live) (ts : List Live) → task to.path ts ≡ Some was → owed id to ≡ owed id was
       → hangs id to ≡ hangs id was → Even id s ts → Even id s (put_task to ts)
   put_one id s to was ts e d c h =
-      let a = sum_of-put_task (owed id) to was ts e in
-      let b = sum_of-put_task (hangs id) to was ts e in
+      let a = sum_by-put_task (owed id) to was ts e in
+      let b = sum_by-put_task (hangs id) to was ts e in
       omega (arith, a, b, c, d, h)
 
   -- who stood there before
@@ -333,24 +329,24 @@ module _ (p : Program) (needs : Codes → Needs) (fresh w0 : ℕ) (root : Start)
       hangs_still id =
           hangs_is id opener ∙ ap (hung id (new ∷ map scope_of c.was.stakes)) opens ∙ none (same_scope new id) ∙ sym (hangs_is id c.was)
         where
-          none : (x : Bool) → (if x then sum_of worth [] else 0) + hung id (map scope_of c.was.stakes) (open_in c.was)
+          none : (x : Bool) → (if x then sum_by worth [] else 0) + hung id (map scope_of c.was.stakes) (open_in c.was)
               ≡ hung id (map scope_of c.was.stakes) (open_in c.was)
-          none true = let z = sum_of-nil worth in omega (arith, z)
+          none true = omega arith
           none false = omega arith
 
-      at_new : sum_of (owed new) (put_task opener a.live) ≡ 0
+      at_new : sum_by (owed new) (put_task opener a.live) ≡ 0
       at_new =
-          let x = sum_of-put_task (owed new) opener c.was a.live found in
+          let x = sum_by-put_task (owed new) opener c.was a.live found in
           let y = owed_still new in
-          let z = sum_of-zero (owed new) a.live (each_of (λ t. owed new t ≡ 0) a.live k.unique
+          let z = sum_by-each_zero (owed new) a.live (each_of (λ t. owed new t ≡ 0) a.live k.unique
           (λ q u e. not_owed new u (not_based new (map scope_of u.stakes) (nobody q u e)))) in
           omega (arith, x, y, z)
 
-      on_new : sum_of (hangs new) (put_task opener a.live) ≡ 0
+      on_new : sum_by (hangs new) (put_task opener a.live) ≡ 0
       on_new =
-          let x = sum_of-put_task (hangs new) opener c.was a.live found in
+          let x = sum_by-put_task (hangs new) opener c.was a.live found in
           let y = hangs_still new in
-          let z = sum_of-zero (hangs new) a.live (each_of (λ t. hangs new t ≡ 0) a.live k.unique
+          let z = sum_by-each_zero (hangs new) a.live (each_of (λ t. hangs new t ≡ 0) a.live k.unique
           (λ q u e. hangs_is new u ∙ not_hung new (map scope_of u.stakes) (open_in u) (nobody q u e))) in
           omega (arith, x, y, z)
 
@@ -360,7 +356,7 @@ module _ (p : Program) (needs : Codes → Needs) (fresh w0 : ℕ) (root : Start)
           (same_scope new id)
           (λ t g e. subst (λ i. Even i s (put_task opener a.live)) (scopes_same new id g)
           (subst (λ (r : Scope). Even new r (put_task opener a.live)) (same_Some _ _ e)
-          (let x = sum_of-nil f in let y = at_new in let z = on_new in omega (arith, x, y, z))))
+          (let x = at_new in let y = on_new in omega (arith, x, y))))
           (λ t g e. put_one id s opener c.was a.live found (owed_still id) (hangs_still id)
           (h id s e (stood opener c.was path a.live id c.found c.named (older id g) who)))
           refl e)
@@ -412,9 +408,9 @@ module _ (p : Program) (needs : Codes → Needs) (fresh w0 : ℕ) (root : Start)
           ∙ ap (λ xs. hung id xs (open_in c.at.was) + (if same_scope c.at.inner.scope id then worth c.child else 0)) scopes_are
           ∙ ap (λ n. n + (if same_scope c.at.inner.scope id then worth c.child else 0)) (sym (hangs_is id c.at.was))
         where
-          by_scope : (x : Bool) → (if x then sum_of worth (innermost.here ++ c.child ∷ []) else 0) + hung id (map scope_of c.at.outer) innermost.around
-              ≡ ((if x then sum_of worth innermost.here else 0) + hung id (map scope_of c.at.outer) innermost.around) + (if x then worth c.child else 0)
-          by_scope true = let l = sum_of-last worth innermost.here c.child in omega (arith, l)
+          by_scope : (x : Bool) → (if x then sum_by worth (innermost.here ++ c.child ∷ []) else 0) + hung id (map scope_of c.at.outer) innermost.around
+              ≡ ((if x then sum_by worth innermost.here else 0) + hung id (map scope_of c.at.outer) innermost.around) + (if x then worth c.child else 0)
+          by_scope true = let l = sum_by_push worth innermost.here c.child in omega (arith, l)
           by_scope false = omega arith
 
       kid_owed : (id : ScopeId) → owed id kid ≡ (if same_scope c.at.inner.scope id then worth c.child else 0)
@@ -423,8 +419,8 @@ module _ (p : Program) (needs : Codes → Needs) (fresh w0 : ℕ) (root : Start)
       kid_hangs : (id : ScopeId) → hangs id kid ≡ 0
       kid_hangs id = hangs_is id kid ∙ ap (hung id (c.at.inner.scope ∷ [])) (open_is kid) ∙ none (same_scope c.at.inner.scope id)
         where
-          none : (x : Bool) → (if x then sum_of worth [] else 0) + 0 ≡ 0
-          none true = let z = sum_of-nil worth in omega (arith, z)
+          none : (x : Bool) → (if x then sum_by worth [] else 0) + 0 ≡ 0
+          none true = refl
           none false = refl
 
       pub spawn_even : Goes b
@@ -433,14 +429,14 @@ module _ (p : Program) (needs : Codes → Needs) (fresh w0 : ℕ) (root : Start)
           balance : (id : ScopeId) (s : Scope) → Even id s a.live → Even id s (kid ∷ put_task parent a.live)
           balance id s h =
               let e : task parent.path a.live ≡ Some c.at.was = ap (λ r. task r a.live) c.at.named ∙ c.at.found in
-              let x = sum_of-put_task (owed id) parent c.at.was a.live e in
-              let y = sum_of-put_task (hangs id) parent c.at.was a.live e in
+              let x = sum_by-put_task (owed id) parent c.at.was a.live e in
+              let y = sum_by-put_task (hangs id) parent c.at.was a.live e in
               let z = owed_same id c.at.was parent refl refl (ap (based id) scopes_are) in
               let u = one_more id in
               let v = kid_owed id in
               let w = kid_hangs id in
-              let m = sum_of-cons (owed id) kid (put_task parent a.live) in
-              let n = sum_of-cons (hangs id) kid (put_task parent a.live) in
+              let m = sum_by-cons (owed id) kid (put_task parent a.live) in
+              let n = sum_by-cons (hangs id) kid (put_task parent a.live) in
               omega (arith, x, y, z, u, v, w, m, n, h)
 
           before : (id : ScopeId) → Somebody (kid ∷ put_task parent a.live) id → Somebody a.live id
@@ -482,7 +478,7 @@ module _ (p : Program) (needs : Codes → Needs) (fresh w0 : ℕ) (root : Start)
           ∙ ap (λ xs. if based id xs then worth c.at.was.start else 0) stakes_are
 
       its_hangs : (id : ScopeId) → hangs id c.at.was
-          ≡ (if same_scope c.at.inner.scope id then sum_of worth (map start_of (own p needs fresh c.at.was.start).extra.pending) else 0) + 0
+          ≡ (if same_scope c.at.inner.scope id then sum_by worth (map start_of (own p needs fresh c.at.was.start).extra.pending) else 0) + 0
       its_hangs id = hangs_is id c.at.was ∙ ap (λ xs. hung id xs (open_in c.at.was)) stakes_are ∙ ap (hung id (c.at.inner.scope ∷ [])) all_spawned
 
       hands_own : result_of (own p needs fresh c.at.was.start) ≡ hands p needs fresh w0 root nameless c.at.was
@@ -515,19 +511,19 @@ module _ (p : Program) (needs : Codes → Needs) (fresh w0 : ℕ) (root : Start)
               → ((c.at.inner.scope ≡ id) × (give_back c.at.inner.weight (hands p needs fresh w0 root nameless c.at.was ∷ []) c.of.book ≡ s))
               ⊎ ((same_scope c.at.inner.scope id ≡ false) × (scope id a.scopes ≡ Some s)) → Even id s (without_task c.at.was.path a.live)
           by_place id s who (inl (u, v)) =
-              let x = ap (λ (r : Scope). sum_of f r.results) (sym v) ∙ sum_of-last f c.of.book.results (hands p needs fresh w0 root nameless c.at.was) in
-              let y = sum_of-without_task (owed id) c.at.was.path c.at.was a.live found_it in
-              let z = sum_of-without_task (hangs id) c.at.was.path c.at.was a.live found_it in
+              let x = ap (λ (r : Scope). sum_by f r.results) (sym v) ∙ sum_by_push f c.of.book.results (hands p needs fresh w0 root nameless c.at.was) in
+              let y = sum_by-without_task (owed id) c.at.was.path c.at.was a.live found_it in
+              let z = sum_by-without_task (hangs id) c.at.was.path c.at.was a.live found_it in
               let m = its_owed id ∙ ap (λ x. if x then worth c.at.was.start else 0) (scope_is u) in
-              let n = its_hangs id ∙ ap (λ x. (if x then sum_of worth (map start_of (own p needs fresh c.at.was.start).extra.pending) else 0) + 0) (scope_is u) in
+              let n = its_hangs id ∙ ap (λ x. (if x then sum_by worth (map start_of (own p needs fresh c.at.was.start).extra.pending) else 0) + 0) (scope_is u) in
               let g = h id c.of.book (ap (λ i. scope i a.scopes) (sym u) ∙ c.of.found) (still id who) in
-              let w = all_of c.at.was.start ∙ ap (λ r. f r + sum_of worth (map start_of (own p needs fresh c.at.was.start).extra.pending)) hands_own in
+              let w = all_of c.at.was.start ∙ ap (λ r. f r + sum_by worth (map start_of (own p needs fresh c.at.was.start).extra.pending)) hands_own in
               omega (arith, x, y, z, m, n, g, w)
           by_place id s who (inr (u, v)) =
-              let y = sum_of-without_task (owed id) c.at.was.path c.at.was a.live found_it in
-              let z = sum_of-without_task (hangs id) c.at.was.path c.at.was a.live found_it in
+              let y = sum_by-without_task (owed id) c.at.was.path c.at.was a.live found_it in
+              let z = sum_by-without_task (hangs id) c.at.was.path c.at.was a.live found_it in
               let m = its_owed id ∙ ap (λ x. if x then worth c.at.was.start else 0) u in
-              let n = its_hangs id ∙ ap (λ x. (if x then sum_of worth (map start_of (own p needs fresh c.at.was.start).extra.pending) else 0) + 0) u in
+              let n = its_hangs id ∙ ap (λ x. (if x then sum_by worth (map start_of (own p needs fresh c.at.was.start).extra.pending) else 0) + 0) u in
               let g = h id s v (still id who) in
               omega (arith, y, z, m, n, g)
 
@@ -572,8 +568,8 @@ module _ (p : Program) (needs : Codes → Needs) (fresh w0 : ℕ) (root : Start)
               omega (arith, y, z, n)
 
       -- nobody that it holds is still to end
-      pub nothing_owed : sum_of (owed c.inner.scope) a.live ≡ 0
-      nothing_owed = sum_of-zero (owed c.inner.scope) a.live (each_of (λ t. owed c.inner.scope t ≡ 0) a.live k.unique each)
+      pub nothing_owed : sum_by (owed c.inner.scope) a.live ≡ 0
+      nothing_owed = sum_by-each_zero (owed c.inner.scope) a.live (each_of (λ t. owed c.inner.scope t ≡ 0) a.live k.unique each)
         where
           each : (q : List ℕ) (u : Live) → task q a.live ≡ Some u → owed c.inner.scope u ≡ 0
           each q u e =
@@ -588,25 +584,25 @@ module _ (p : Program) (needs : Codes → Needs) (fresh w0 : ℕ) (root : Start)
               by_kind g (inr r) =
                   let l = based_last c.inner.scope (map scope_of u.stakes) g in
                   let stakes = (k.tasks q u e).stakes ∙ ap (λ l. map (own_scope q) (told es q).inside ++ base l) r.lined in
-                  let same = last_same l.0 (map (own_scope q) (told es q).inside) c.inner.scope (own_scope r.owner r.number) (sym l.1 ∙ stakes) in
+                  let same = same_end l.0 (map (own_scope q) (told es q).inside) c.inner.scope (own_scope r.owner r.number) (sym l.1 ∙ stakes) in
                   let weighs = base_weighs es a k q u e r in
-                  let z : held (own_scope r.owner r.number) a.live ≡ 0 = ap (λ i. held i a.live) (sym same.1) ∙ weightless in
+                  let z : held (own_scope r.owner r.number) a.live ≡ 0 = ap (λ i. held i a.live) (sym same.last) ∙ weightless in
                   absurd (omega (arith, weighs, z))
 
       -- what hangs on it is what its owner spawned there
-      pub all_hangs : sum_of (hangs c.inner.scope) a.live ≡ sum_of worth here
+      pub all_hangs : sum_by (hangs c.inner.scope) a.live ≡ sum_by worth here
       all_hangs =
-          let one = sum_of-one (hangs c.inner.scope) path c.was a.live k.unique c.found
+          let one = sum_by-one (hangs c.inner.scope) path c.was a.live k.unique c.found
           (λ q u e n. hangs_is c.inner.scope u ∙ not_hung c.inner.scope (map scope_of u.stakes) (open_in u) (others_not q u e n)) in
           let is = hangs_is c.inner.scope c.was ∙ ap (λ ss. hung c.inner.scope (map scope_of ss) (open_in c.was)) c.stakes
           ∙ ap (hung c.inner.scope (c.inner.scope ∷ c.next.scope ∷ map scope_of c.outer)) was_open in
           let rest = not_hung c.inner.scope (c.next.scope ∷ map scope_of c.outer) around outer_not in
-          let head : (if same_scope c.inner.scope c.inner.scope then sum_of worth here else 0) ≡ sum_of worth here =
-          ap (λ x. if x then sum_of worth here else 0) (scope_is {a = c.inner.scope} refl) in
+          let head : (if same_scope c.inner.scope c.inner.scope then sum_by worth here else 0) ≡ sum_by worth here =
+          ap (λ x. if x then sum_by worth here else 0) (scope_is {a = c.inner.scope} refl) in
           omega (arith, one, is, rest, head)
 
       -- so its results are worth that
-      pub results_are : sum_of f c.of.book.results ≡ sum_of worth here
+      pub results_are : sum_by f c.of.book.results ≡ sum_by worth here
       results_are =
           let e = h c.inner.scope c.of.book c.of.found (record {
             path = path;
@@ -640,8 +636,8 @@ module _ (p : Program) (needs : Codes → Needs) (fresh w0 : ℕ) (root : Start)
           passed_by : (id : ScopeId) → same_scope c.inner.scope id ≡ false → hung id (c.next.scope ∷ map scope_of c.outer) around
               ≡ hung id (c.inner.scope ∷ c.next.scope ∷ map scope_of c.outer) (here ∷ around)
           passed_by id g =
-              let zero_there : (if same_scope c.inner.scope id then sum_of worth here else 0) ≡ 0 =
-              ap (λ x. if x then sum_of worth here else 0) g in
+              let zero_there : (if same_scope c.inner.scope id then sum_by worth here else 0) ≡ 0 =
+              ap (λ x. if x then sum_by worth here else 0) g in
               omega (arith, zero_there)
 
           earlier : (id : ScopeId) → Contains (map scope_of (c.next ∷ c.outer)) id → Contains (map scope_of c.was.stakes) id
@@ -652,19 +648,15 @@ module _ (p : Program) (needs : Codes → Needs) (fresh w0 : ℕ) (root : Start)
   pub first_even : AllEven (new_task [] root (record { scope = root_scope; weight = w0 }) 0 ∷ []) (new_scope root_scope w0 ∷ [])
   first_even id s e who =
       let t : Live = new_task [] root (record { scope = root_scope; weight = w0 }) 0 in
-      let x = sum_of-cons (owed id) t [] in
-      let y = sum_of-cons (hangs id) t [] in
-      let u = sum_of-nil (owed id) in
-      let v = sum_of-nil (hangs id) in
       let m : owed id t ≡ 0 = owed_is id t in
       let n : hangs id t ≡ 0 = hangs_is id t ∙ ap (hung id (root_scope ∷ [])) (open_is t) ∙ none (same_scope root_scope id) in
       let z = no_results (same_scope root_scope id) e in
-      omega (arith, x, y, u, v, m, n, z)
+      omega (arith, m, n, z)
     where
-      none : (x : Bool) → (if x then sum_of worth [] else 0) + 0 ≡ 0
-      none true = let z = sum_of-nil worth in omega (arith, z)
+      none : (x : Bool) → (if x then sum_by worth [] else 0) + 0 ≡ 0
+      none true = refl
       none false = refl
 
-      no_results : (x : Bool) → (if x then Some (new_scope root_scope w0) else None) ≡ Some s → sum_of f s.results ≡ 0
-      no_results true e = ap (λ (r : Scope). sum_of f r.results) (sym (same_Some _ _ e)) ∙ sum_of-nil f
+      no_results : (x : Bool) → (if x then Some (new_scope root_scope w0) else None) ≡ Some s → sum_by f s.results ≡ 0
+      no_results true e = ap (λ (r : Scope). sum_by f r.results) (sym (same_Some _ _ e))
       no_results false e = absurd (none-some _ e)

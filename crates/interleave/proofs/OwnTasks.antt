@@ -2,13 +2,13 @@
 use Rattle.std.proofs.Common.{◌≡◌, ℕ, zero, suc, ◌+◌, ◌-◌, ◌/◌, List, [], ◌∷◌, ◌++◌, length, Option, Some, None, refl}
 use Rattle.std.proofs.Common.{sym, ap, ◌∙◌, subst, inl, inr, arith, append_assoc}
 use Rattle.std.proofs.lemmas.List.{append-nil, length_push}
-use Rattle.std.specs.Prelude.{Bool, true, false, ◌⊎◌, ◌&&◌, take, slice_get, if◌then◌else◌}
+use Rattle.std.specs.Prelude.{Bool, true, false, ◌⊎◌, take, slice_get, if◌then◌else◌}
 use Rattle.std.proofs.lemmas.Option.{none-some, same_Some}
 use Rattle.std.proofs.lemmas.Bool.{and_right}
+use Rattle.facts.proofs.Truths.{false_true}
 use Rattle.types.specs.Code.{Codes, Program}
 use Rattle.types.specs.Run.{State, Block}
 use Rattle.effects.specs.Needs.{Needs}
-use Rattle.effects.proofs.Members.{false_true}
 use Rattle.own_run.specs.Apart.{is_stopped}
 use Rattle.own_run.specs.Results.{TaskResult, none_yet, complete}
 use Rattle.own_run.specs.Lists.{Each}
@@ -17,7 +17,8 @@ use Rattle.own_run.specs.OwnRun.{result_of, last_action, actions_of, begun_by, b
 use Rattle.own_run.specs.Given.{filled, in_truth, own, given, IsOfOwnRun, IsOwn}
 use Rattle.own_run.proofs.SettledResults.{paths_same, IsGiven, given_last}
 use Rattle.own_run.proofs.Begun.{begun_by-append, get-append_left, never_waits, run_tells}
-use Rattle.own_run.proofs.Lists.{each_last}
+use Rattle.own_run.proofs.Lists.{each_last, each_append}
+use Rattle.own_run.proofs.TaskRuns.{each_if_given}
 use Rattle.interleave.specs.World.{same_path, ScopeId, Stake, Live, Scope, World, Whereabouts, Queue, Hand, Parked}
 use Rattle.interleave.specs.World.{same_scope, child_path, task, put_task, without_task, scope, put_scope, is_parked}
 use Rattle.interleave.specs.Events.{Event, Take, Steal, Steps, Replenish, Spawns, Opens, Parks, Ends, Pass, Resume}
@@ -28,7 +29,7 @@ use Rattle.interleave.proofs.Changes.{IsQuiet, IsAt, IsReplenish, IsSpawn, IsOpe
 use Rattle.interleave.proofs.Changes.{Becomes}
 use Rattle.interleave.proofs.Steps.{put_cases}
 use Rattle.interleave.proofs.Events.{rebooked}
-use Rattle.interleave.proofs.Truth.{Rel, Behind, run_in_truth, each_if_given}
+use Rattle.interleave.proofs.Truth.{Rel, Behind, run_in_truth}
 use Rattle.interleave.proofs.Levels.{depth, depth-append, take_next, depth_next}
 use Rattle.interleave.proofs.Direct.{bracketed}
 use Rattle.interleave.proofs.Numbered.{given_path, begun_at}
@@ -77,16 +78,6 @@ module _ (p : Program) (needs : Codes → Needs) (fresh w0 : ℕ) (root : Start)
 
   pub no_level : (w : Whereabouts) (t : Live) → IsAtLevel w [] t → ⊥
   no_level w t h = h
-
-  -- a task that stands somewhere
-  record Stood (ss : List Stake) : Type 0 where
-    inner : Stake
-    outer : List Stake
-    are : ss ≡ inner ∷ outer
-
-  stood : (w : Whereabouts) (ss : List Stake) (t : Live) → IsAtLevel w ss t → Stood ss
-  stood w [] t h = absurd h
-  stood w (s ∷ outer) t h = record { inner = s; outer = outer; are = refl }
 
   -- ---- the next action
   abbrev pub nexts : Live → Option Action
@@ -220,10 +211,6 @@ module _ (p : Program) (needs : Codes → Needs) (fresh w0 : ℕ) (root : Start)
   own_results : (w : World) → AllOwn w → Results w.scopes
   own_results w h = h.results
 
-  each_join : (xs ys : List TaskResult) → Each (IsOfOwnRun p needs fresh root) xs → Each (IsOfOwnRun p needs fresh root) ys → Each (IsOfOwnRun p needs fresh root) (xs ++ ys)
-  each_join [] ys h k = k
-  each_join (x ∷ xs) ys h k = (h.0, each_join xs ys h.1 k)
-
   module _ (a : World) (k : AllOwn a) where
     quiet_own : (path : List ℕ) (b : World) → IsQuiet nexts path a b → AllOwn b
     quiet_own path b h =
@@ -355,7 +342,7 @@ module _ (p : Program) (needs : Codes → Needs) (fresh w0 : ℕ) (root : Start)
     park_own : (path : List ℕ) (b : World) → IsPark nexts path a b → AllOwn b
     park_own path b h =
         subst AllOwn h.now (all_own _ (tasks_put to h.at.was a.live (at_found path h.at) (own_tasks a k) own_to)
-        (results_put h.at.inner.scope h.of.book (give_back h.at.inner.weight [] h.of.book) a.scopes h.of.found h.of.id (own_results a k) (each_join h.of.book.results [] (k.results h.at.inner.scope h.of.book h.of.found) tt)))
+        (results_put h.at.inner.scope h.of.book (give_back h.at.inner.weight [] h.of.book) a.scopes h.of.found h.of.id (own_results a k) (each_append (IsOfOwnRun p needs fresh root) h.of.book.results [] (k.results h.at.inner.scope h.of.book h.of.found) tt)))
       where
         to : Live
         to = record (did h.at.was (record h.at.inner { weight = 0 } ∷ h.at.outer)) { place = Parked }
@@ -374,8 +361,8 @@ module _ (p : Program) (needs : Codes → Needs) (fresh w0 : ℕ) (root : Start)
     end_own unique path b h =
         subst AllOwn h.now (all_own _ live
         (results_put h.at.inner.scope h.of.book (give_back h.at.inner.weight (hands h.at.was ∷ []) h.of.book) a.scopes h.of.found h.of.id (own_results a k)
-        (each_join h.of.book.results (hands h.at.was ∷ []) (k.results h.at.inner.scope h.of.book h.of.found)
-        (hands_own h.at.was (at_own path h.at) h.next (length h.at.outer) (at_level path h.at), tt))))
+        (each_last (IsOfOwnRun p needs fresh root) h.of.book.results (hands h.at.was) (k.results h.at.inner.scope h.of.book h.of.found)
+        (hands_own h.at.was (at_own path h.at) h.next (length h.at.outer) (at_level path h.at)))))
       where
         live : Tasks (without_task h.at.was.path a.live)
         live q t f =

@@ -2,32 +2,32 @@
 use Rattle.std.proofs.Common.{◌≡◌, ℕ, zero, suc, ◌+◌, ◌-◌, ◌/◌, List, [], ◌∷◌, ◌++◌, length, Option, Some, None}
 use Rattle.std.proofs.Common.{refl, sym, ap, ◌∙◌, subst, inl, inr, arith, append_assoc}
 use Rattle.std.proofs.lemmas.Option.{none-some, same_Some}
-use Rattle.std.specs.Prelude.{true, false, ◌⊎◌, map, take, slice_get, if◌then◌else◌}
+use Rattle.std.specs.Prelude.{true, false, ◌⊎◌, map, take, slice_get, sum_by, if◌then◌else◌}
+use Rattle.facts.proofs.Truths.{false_true}
 use Rattle.sections.specs.Member.{Member, first, next}
 use Rattle.types.specs.Code.{Codes, Program}
 use Rattle.types.specs.Run.{State}
 use Rattle.effects.specs.Needs.{Needs, Provides}
-use Rattle.effects.proofs.Members.{false_true}
 use Rattle.race_checker.specs.Scope.{IsScoped}
 use Rattle.race_checker.specs.Calm.{IsCalm}
 use Rattle.own_run.specs.Results.{TaskResult, Settled}
 use Rattle.own_run.specs.Settling.{settle}
-use Rattle.own_run.specs.Lists.{Each, Shuffled}
+use Rattle.own_run.specs.Lists.{Each}
 use Rattle.own_run.specs.OwnRun.{Start, Child, Action, Step, Spawn, EnterFinish, EndFinish, Own, result_of}
 use Rattle.own_run.specs.OwnRun.{own_rules, last_action, next_action}
-use Rattle.own_run.specs.Given.{own, in_truth}
-use Rattle.own_run.specs.Frames.{Frame, AtEnd, Standing, turn, handed, IsBegun}
+use Rattle.own_run.specs.Given.{own, in_truth, IsOwn}
+use Rattle.own_run.specs.Frames.{Frame, AtEnd, Standing, turn, handed}
 use Rattle.own_run.specs.Holds.{MayBegin}
 use Rattle.own_run.specs.Reached.{child_begins, begun}
-use Rattle.own_run.proofs.NeverStuck.{pending_results, settles_any}
-use Rattle.own_run.proofs.ReachedTasks.{goes, Goes}
-use Rattle.own_run.proofs.TaskRuns.{goes_on, lists_given, begins_follow}
+use Rattle.own_run.specs.Worth.{measured, worth_by}
+use Rattle.own_run.proofs.MeasuredResults.{measured_settles_by}
+use Rattle.own_run.proofs.ReachedTasks.{goes}
+use Rattle.own_run.proofs.TaskRuns.{each_if_given, goes_on, begins_follow}
 use Rattle.own_run.proofs.SettledResults.{paths_same}
 use Rattle.interleave.specs.World.{ScopeId, Stake, Live, Scope, World, Whereabouts, Queue, Hand, Parked, same_path}
 use Rattle.interleave.specs.World.{child_path, task, put_task, without_task, is_parked}
 use Rattle.interleave.specs.Events.{Event, Take, Steal, Steps, Replenish, Spawns, Opens, Parks, Ends, Pass, Resume}
 use Rattle.interleave.specs.Events.{did, new_task}
-use Rattle.interleave.proofs.ReplayLaws.{measured}
 use Rattle.interleave.proofs.Lookups.{by_test, other_path, task-without_task, gone-without_task}
 use Rattle.interleave.proofs.Histories.{cons_head, cons_tail, nil_snoc}
 use Rattle.interleave.proofs.Changes.{IsQuiet, IsReplenish, IsSpawn, IsOpen, IsPark, IsEnd, IsResume}
@@ -35,15 +35,11 @@ use Rattle.interleave.proofs.Changes.{Becomes}
 use Rattle.interleave.proofs.Kept.{Kept}
 use Rattle.interleave.proofs.Steps.{put_cases}
 use Rattle.interleave.proofs.Levels.{depth, depth-append, take_next}
-use Rattle.interleave.proofs.Once.{AllOnce}
 use Rattle.interleave.proofs.Direct.{start_of, bracketed}
 use Rattle.interleave.proofs.OwnTasks.{IsOwnTask, AllOwn, truly, truly_is, own_is_awake, nexts, hands, next_in_truth}
 use Rattle.interleave.proofs.OwnTasks.{depth_more, at_level}
 use Rattle.interleave.proofs.GoingOn.{take_all}
-use Rattle.interleave.proofs.Worth.{sum_of, sum_of-nil}
-use Rattle.interleave.proofs.Measured.{worth, worth_lists, measured_is, pending_worth}
-use Rattle.interleave.proofs.There.{shuffled, pending_real}
-use Rattle.interleave.proofs.Truth.{each_if_given}
+use Rattle.interleave.proofs.Measured.{worth, worth_lists, listed_is}
 use Rattle.interleave.proofs.Standing.{Stands, Closes, finishes, is_over, poise, moves, closes, closed}
 use Rattle.interleave.proofs.Standing.{moved_on, left, IsMove}
 use Rattle.interleave.proofs.Pending.{spawned, spawned-append, around, pendings, turn_pending, pending_spawned}
@@ -178,15 +174,15 @@ module _ (p : Program) (needs : Codes → Needs) (scoped : IsScoped p) (calm : I
   module _ (f : TaskResult → ℕ) where
     abbrev pub EvenBy : List Live → List Scope → Type 0
     EvenBy ts ss =
-        AllEven p needs fresh w0 root nameless (worth p needs fresh w0 root nameless f) f (worth_lists p needs fresh w0 root nameless f) ts ss
+        AllEven p needs fresh w0 root nameless (worth p needs fresh f) f (worth_lists p needs fresh f) ts ss
 
     abbrev opened : Live → List (List Start)
-    opened t = open_in p needs fresh w0 root nameless (worth p needs fresh w0 root nameless f) f (worth_lists p needs fresh w0 root nameless f) t
+    opened t = open_in p needs fresh w0 root nameless (worth p needs fresh f) f (worth_lists p needs fresh f) t
 
-    opened_is : (t : Live) (n : ℕ) → prior p needs fresh w0 root nameless (worth p needs fresh w0 root nameless f) f
-        (worth_lists p needs fresh w0 root nameless f) t.place t.done ≡ n → opened t ≡ spawned ([] ∷ []) (take n (truth t.start))
+    opened_is : (t : Live) (n : ℕ) → prior p needs fresh w0 root nameless (worth p needs fresh f) f
+        (worth_lists p needs fresh f) t.place t.done ≡ n → opened t ≡ spawned ([] ∷ []) (take n (truth t.start))
     opened_is t n e =
-        open_is p needs fresh w0 root nameless (worth p needs fresh w0 root nameless f) f (worth_lists p needs fresh w0 root nameless f) t
+        open_is p needs fresh w0 root nameless (worth p needs fresh f) f (worth_lists p needs fresh f) t
         ∙ ap (λ n. spawned ([] ∷ []) (take n (truth t.start))) e
 
   -- each scope holds what it should, by whatever it is measured
@@ -330,14 +326,14 @@ module _ (p : Program) (needs : Codes → Needs) (scoped : IsScoped p) (calm : I
         (poise p needs scoped calm provided fresh root nameless may_begin c.at.was.start c.at.was.receipts c.at.was.done stood.0 stood.1) c.next in
         let at : Standing Own = record { frames = []; state = over.0 } in
         opened_is f c.at.was c.at.was.done
-        (prior_awake p needs fresh w0 root nameless (worth p needs fresh w0 root nameless f) f
-        (worth_lists p needs fresh w0 root nameless f) c.at.was.place c.at.was.done c.at.awake)
+        (prior_awake p needs fresh w0 root nameless (worth p needs fresh f) f
+        (worth_lists p needs fresh f) c.at.was.place c.at.was.done c.at.awake)
         ∙ ap (spawned ([] ∷ [])) (so_far c.at.was.start c.at.was.receipts c.at.was.done at over.1)
         ∙ sym (pending_spawned p needs fresh root over.1.reached)
         ∙ ap (λ (x : State Own). map start_of x.extra.pending ∷ []) (over_own c.at.was.start c.at.was.receipts c.at.was.done over.0 over.1)
 
     -- ---- behind a finish
-    module _ (once : AllOnce es a.live a.scopes) (even : AllEvenBy a.live a.scopes) (path : List ℕ) (b : World) (c : IsResume path a b) where
+    module _ (even : AllEvenBy a.live a.scopes) (path : List ℕ) (b : World) (c : IsResume path a b) where
       pub waited : WaitsAt c.was
       waited = by_place c.was.place c.parked (subst (λ ss. HasPlace c.was.place ss c.was) c.stakes (h path c.was c.found))
         where
@@ -353,8 +349,8 @@ module _ (p : Program) (needs : Codes → Needs) (scoped : IsScoped p) (calm : I
       beyond = around (AtEnd waited.before ∷ waited.frames)
 
       prior_is : (f : TaskResult → ℕ) (w : Whereabouts) → is_parked w ≡ true
-          → prior p needs fresh w0 root nameless (worth p needs fresh w0 root nameless f) f
-          (worth_lists p needs fresh w0 root nameless f) w c.was.done ≡ waited.done
+          → prior p needs fresh w0 root nameless (worth p needs fresh f) f
+          (worth_lists p needs fresh f) w c.was.done ≡ waited.done
       prior_is f (Queue w) e = absurd (false_true e)
       prior_is f (Hand w) e = absurd (false_true e)
       prior_is f Parked e = let n = waited.count in omega (arith, n)
@@ -382,43 +378,26 @@ module _ (p : Program) (needs : Codes → Needs) (scoped : IsScoped p) (calm : I
 
       pub resumed_even : AllEvenBy b.live b.scopes
       resumed_even f =
-          resume_even p needs fresh w0 root nameless (worth p needs fresh w0 root nameless f) f (worth_lists p needs fresh w0 root nameless f)
+          resume_even p needs fresh w0 root nameless (worth p needs fresh f) f (worth_lists p needs fresh f)
           es a k o (even f) path b c here beyond (was_open f) (left_open f)
 
-      -- the results are those of all that is pending
-      by_measure : (f : TaskResult → ℕ) → measured f c.of.book.results ≡ sum_of (worth p needs fresh w0 root nameless f) here
-      by_measure f =
-          measured_is f c.of.book.results
-          ∙ results_are p needs fresh w0 root nameless (worth p needs fresh w0 root nameless f) f (worth_lists p needs fresh w0 root nameless f)
-          es a k o (even f) path b c here beyond (was_open f)
-
-      reached : Goes p needs scoped calm provided fresh root nameless may_begin c.was.start
-          (record { frames = AtEnd waited.before ∷ waited.frames; state = waited.state })
-      reached = goes p needs scoped calm provided fresh root nameless may_begin waited.stands.reached
-
-      none_pending : (cs : List Child) → Each (IsBegun c.was.start.nest waited.state) cs → c.was.start.nest ≡ 0 → cs ≡ []
-      none_pending [] x e = refl
-      none_pending (d ∷ cs) x e = absurd (let y = x.0.deeper in omega (arith, y, e))
-
-      ordered : (n : ℕ) → c.was.start.nest ≡ n → Shuffled (pending_results p needs fresh n waited.state.extra.pending) c.of.book.results
+      -- the results are worth what is pending
+      by_measure : (f : TaskResult → ℕ) → measured f c.of.book.results
+          ≡ sum_by (λ (d : Child). worth_by p needs fresh f d.start) waited.state.extra.pending
       unfolding here
-      ordered zero e =
-          let empty = none_pending waited.state.extra.pending reached.task.fine.begun e in
-          shuffled p needs fresh root [] c.of.book.results tt (o.results c.inner.scope c.of.book c.of.found)
-          (λ f. sym (by_measure f ∙ ap (λ cs. sum_of (worth p needs fresh w0 root nameless f) (map start_of cs)) empty ∙ sum_of-nil (worth p needs fresh w0 root nameless f)))
-      ordered (suc n) e =
-          shuffled p needs fresh root (pending_results p needs fresh (suc n) waited.state.extra.pending) c.of.book.results
-          (pending_real p needs fresh root n waited.state.extra.pending
-          (lists_given p needs fresh root c.was.start (AtEnd waited.before ∷ waited.frames) waited.state reached.task))
-          (o.results c.inner.scope c.of.book c.of.found)
-          (λ f. pending_worth p needs fresh w0 root nameless f n c.was.start.nest waited.state e waited.state.extra.pending reached.task.fine.begun
-          ∙ sym (by_measure f))
+      by_measure f =
+          results_are p needs fresh w0 root nameless (worth p needs fresh f) f (worth_lists p needs fresh f)
+          es a k o (even f) path b c here beyond (was_open f)
+          ∙ sym (listed_is p needs fresh f waited.state.extra.pending)
+
+      own_results : Each (IsOwn p needs fresh root) c.of.book.results
+      own_results = each_if_given p needs fresh root c.of.book.results (o.results c.inner.scope c.of.book c.of.found)
 
       pub comes : (x : Settled) × (settle (result_of waited.state) c.of.book.results ≡ Some x)
       comes =
-          settles_any p needs scoped calm provided fresh root nameless may_begin c.was.start.nest c.was.start
-          (AtEnd waited.before ∷ waited.frames) waited.state refl reached.task reached.holds c.of.book.results (ordered c.was.start.nest refl)
-          (once c.inner.scope c.of.book c.of.found).0
+          measured_settles_by p needs scoped calm provided fresh root nameless may_begin c.was.start
+          (record { frames = AtEnd waited.before ∷ waited.frames; state = waited.state }) waited.stands.reached c.of.book.results own_results
+          by_measure
 
       resume_placed : AllPlaced b.live
       resume_placed =
@@ -428,33 +407,32 @@ module _ (p : Program) (needs : Codes → Needs) (scoped : IsScoped p) (calm : I
           (subst (λ n. StandsBy c.was.start (c.was.receipts ++ c.of.book.results ∷ []) n) waited.count (
             record { frames = waited.frames; state = handed waited.before comes.0 waited.state },
             left p needs scoped calm provided fresh root nameless may_begin c.was.start c.was.receipts waited.done waited.before waited.frames
-                waited.state waited.stands c.of.book.results
-                (each_if_given p needs fresh root c.of.book.results (o.results c.inner.scope c.of.book c.of.found)) comes.0 comes.1,
+                waited.state waited.stands c.of.book.results own_results comes.0 comes.1,
           )))
 
     -- ---- events
-    pub event_placed : AllOnce es a.live a.scopes → AllEvenBy a.live a.scopes → (e : Event) (b : World)
+    pub event_placed : AllEvenBy a.live a.scopes → (e : Event) (b : World)
         → Becomes its_next (λ t. hands p needs fresh w0 root nameless t) w0 e a b → AllPlaced b.live
-    event_placed once even (Take w q) b c = quiet_placed q b c
-    event_placed once even (Steal w f q) b c = quiet_placed q b c
-    event_placed once even (Steps q) b c = quiet_placed q b c
-    event_placed once even (Replenish q) b c = replenish_placed q b c
-    event_placed once even (Spawns q) b c = spawn_placed q b c
-    event_placed once even (Opens q) b c = open_placed q b c
-    event_placed once even (Parks q) b c = park_placed q b c
-    event_placed once even (Ends q) b c = end_placed q b c
-    event_placed once even (Pass id) b c = subst (λ (w : World). AllPlaced w.live) c.now h
-    event_placed once even (Resume w q) b c = resume_placed once even q b c
+    event_placed even (Take w q) b c = quiet_placed q b c
+    event_placed even (Steal w f q) b c = quiet_placed q b c
+    event_placed even (Steps q) b c = quiet_placed q b c
+    event_placed even (Replenish q) b c = replenish_placed q b c
+    event_placed even (Spawns q) b c = spawn_placed q b c
+    event_placed even (Opens q) b c = open_placed q b c
+    event_placed even (Parks q) b c = park_placed q b c
+    event_placed even (Ends q) b c = end_placed q b c
+    event_placed even (Pass id) b c = subst (λ (w : World). AllPlaced w.live) c.now h
+    event_placed even (Resume w q) b c = resume_placed even q b c
 
-    pub event_even : AllOnce es a.live a.scopes → AllEvenBy a.live a.scopes → (e : Event) (b : World)
+    pub event_even : AllEvenBy a.live a.scopes → (e : Event) (b : World)
         → Becomes its_next (λ t. hands p needs fresh w0 root nameless t) w0 e a b → AllEvenBy b.live b.scopes
-    event_even once even (Take w q) b c f = quiet_even p needs fresh w0 root nameless (worth p needs fresh w0 root nameless f) f (worth_lists p needs fresh w0 root nameless f) es a k o (even f) q b c
-    event_even once even (Steal w v q) b c f = quiet_even p needs fresh w0 root nameless (worth p needs fresh w0 root nameless f) f (worth_lists p needs fresh w0 root nameless f) es a k o (even f) q b c
-    event_even once even (Steps q) b c f = quiet_even p needs fresh w0 root nameless (worth p needs fresh w0 root nameless f) f (worth_lists p needs fresh w0 root nameless f) es a k o (even f) q b c
-    event_even once even (Replenish q) b c f = replenish_even p needs fresh w0 root nameless (worth p needs fresh w0 root nameless f) f (worth_lists p needs fresh w0 root nameless f) es a k o (even f) q b c
-    event_even once even (Spawns q) b c f = spawn_even p needs fresh w0 root nameless (worth p needs fresh w0 root nameless f) f (worth_lists p needs fresh w0 root nameless f) es a k o (even f) q b c
-    event_even once even (Opens q) b c f = open_even p needs fresh w0 root nameless (worth p needs fresh w0 root nameless f) f (worth_lists p needs fresh w0 root nameless f) es a k o (even f) q b c
-    event_even once even (Parks q) b c f = park_even p needs fresh w0 root nameless (worth p needs fresh w0 root nameless f) f (worth_lists p needs fresh w0 root nameless f) es a k o (even f) q b c
-    event_even once even (Ends q) b c f = end_even p needs fresh w0 root nameless (worth p needs fresh w0 root nameless f) f (worth_lists p needs fresh w0 root nameless f) es a k o (even f) q b c (end_spawned q b c f)
-    event_even once even (Pass id) b c f = pass_even p needs fresh w0 root nameless (worth p needs fresh w0 root nameless f) f (worth_lists p needs fresh w0 root nameless f) es a k o (even f) id b c
-    event_even once even (Resume w q) b c f = resumed_even once even q b c f
+    event_even even (Take w q) b c f = quiet_even p needs fresh w0 root nameless (worth p needs fresh f) f (worth_lists p needs fresh f) es a k o (even f) q b c
+    event_even even (Steal w v q) b c f = quiet_even p needs fresh w0 root nameless (worth p needs fresh f) f (worth_lists p needs fresh f) es a k o (even f) q b c
+    event_even even (Steps q) b c f = quiet_even p needs fresh w0 root nameless (worth p needs fresh f) f (worth_lists p needs fresh f) es a k o (even f) q b c
+    event_even even (Replenish q) b c f = replenish_even p needs fresh w0 root nameless (worth p needs fresh f) f (worth_lists p needs fresh f) es a k o (even f) q b c
+    event_even even (Spawns q) b c f = spawn_even p needs fresh w0 root nameless (worth p needs fresh f) f (worth_lists p needs fresh f) es a k o (even f) q b c
+    event_even even (Opens q) b c f = open_even p needs fresh w0 root nameless (worth p needs fresh f) f (worth_lists p needs fresh f) es a k o (even f) q b c
+    event_even even (Parks q) b c f = park_even p needs fresh w0 root nameless (worth p needs fresh f) f (worth_lists p needs fresh f) es a k o (even f) q b c
+    event_even even (Ends q) b c f = end_even p needs fresh w0 root nameless (worth p needs fresh f) f (worth_lists p needs fresh f) es a k o (even f) q b c (end_spawned q b c f)
+    event_even even (Pass id) b c f = pass_even p needs fresh w0 root nameless (worth p needs fresh f) f (worth_lists p needs fresh f) es a k o (even f) id b c
+    event_even even (Resume w q) b c f = resumed_even even q b c f

@@ -2,13 +2,13 @@
 use Rattle.std.proofs.Common.{◌≡◌, ℕ, zero, suc, ◌+◌, ◌≤◌, List, [], ◌∷◌, ◌++◌, refl, sym, inl}
 use Rattle.std.proofs.Common.{inr, arith, le_refl}
 use Rattle.std.specs.Prelude.{◌⊎◌, true, false, Option}
-use Rattle.effects.proofs.Members.{false_true}
+use Rattle.facts.proofs.Truths.{false_true}
 use Rattle.types.specs.Code.{Code, Do, If, While, Split, Call, Async, Finish, Codes, End, Then, Program}
 use Rattle.types.specs.Run.{Flow, On, Faulted, Stopped, State, counted}
 use Rattle.effects.specs.Needs.{Needs}
 use Rattle.own_run.specs.Results.{Settled}
 use Rattle.own_run.specs.OwnRun.{Action, Step, Spawn, EnterFinish, EndFinish, EndTask, Own, own_rules}
-use Rattle.own_run.specs.Frames.{Frame, Rest, Again, AtEnd, Back, turn, acted, paid, by_flow}
+use Rattle.own_run.specs.Frames.{Frame, Rest, Again, AtEnd, Back, turn, paid, by_flow}
 use Rattle.own_run.specs.Frames.{done_by, done_at, done_in}
 use Rattle.own_run.specs.Stops.{is_over, is_next_over, stops}
 use Rattle.own_run.proofs.Counted.{counted_steps}

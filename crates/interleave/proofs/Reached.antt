@@ -4,7 +4,7 @@ use Rattle.std.proofs.Common.{append_assoc}
 use Rattle.std.proofs.lemmas.List.{append-nil}
 use Rattle.std.specs.Prelude.{Bool, true, false, map, drop, Contains, if◌then◌else◌}
 use Rattle.std.proofs.lemmas.Option.{none-some, same_Some}
-use Rattle.effects.proofs.Members.{false_true}
+use Rattle.facts.proofs.Truths.{false_true}
 use Rattle.own_run.specs.Results.{TaskResult}
 use Rattle.own_run.specs.Lists.{Each}
 use Rattle.own_run.specs.OwnRun.{Start, Action}

@@ -1,25 +1,20 @@
 -- What holds of every world that a replay leads to.
-use Rattle.std.specs.Prelude.{ℕ, ◌+◌, ◌≡◌, ◌≤◌, ◌*◌, ◌^◌, ◌⊎◌, ◌↔◌, List, [], ◌∷◌, ◌++◌, length, ℤ, true, false, Some}
-use Rattle.std.specs.Prelude.{None, Contains}
+use Rattle.std.specs.Prelude.{ℕ, ◌≡◌, ◌≤◌, ◌⊎◌, ◌↔◌, List, ◌∷◌, ℤ, true, false, Some, None, Contains}
 use Rattle.types.specs.Code.{Codes, Program}
 use Rattle.types.specs.Outcome.{Budget}
 use Rattle.effects.specs.Needs.{Needs}
 use Rattle.own_run.specs.Results.{TaskResult}
 use Rattle.own_run.specs.Lists.{Each}
 use Rattle.own_run.specs.Settling.{NoTwice}
-use Rattle.own_run.specs.OwnRun.{Start, Spawn, EndFinish, EndTask, is_waiting, run_by}
+use Rattle.own_run.specs.OwnRun.{EndFinish, EndTask, is_waiting, run_by}
 use Rattle.own_run.specs.Given.{below, given, IsOfOwnRun, root_of}
+use Rattle.own_run.specs.Worth.{measured}
 use Rattle.interleave.specs.Candidates.{candidates}
 use Rattle.interleave.specs.World.{ScopeId, Stake, Live, Scope, World, is_parked, hand_of, root_scope, task, scope}
 use Rattle.interleave.specs.Events.{Event, Ends, owns, next_action, after}
 use Rattle.interleave.specs.History.{Begun, BegunIn, Ended}
 use Rattle.interleave.specs.Replay.{does, hands_on, event, Legal, IllegalAt, start_of, replay}
 use Rattle.interleave.specs.Worlds.{IsFirstRefused, IsSpentBy}
-
--- what results come to by a measure
-abbrev pub measured : (TaskResult → ℕ) → List TaskResult → ℕ
-measured f [] = 0
-measured f (r ∷ rs) = f r + measured f rs
 
 module _ (p : Program) (needs : Codes → Needs) (fresh w0 : ℕ) (w : World) where
   -- some event of a live task's is legal

@@ -3,18 +3,19 @@ use Rattle.std.proofs.Common.{◌≡◌, ℕ, ◌+◌, ◌<◌, ◌≤◌, List,
 use Rattle.std.proofs.Common.{inl, inr, arith}
 use Rattle.std.specs.Prelude.{Bool, true, false, ◌⊎◌, map, drop, if◌then◌else◌}
 use Rattle.std.proofs.lemmas.Option.{none-some, same_Some}
-use Rattle.effects.proofs.Members.{false_true}
+use Rattle.facts.proofs.Truths.{false_true}
 use Rattle.own_run.specs.Results.{TaskResult}
 use Rattle.own_run.specs.Lists.{Each}
 use Rattle.own_run.specs.OwnRun.{Action}
+use Rattle.own_run.proofs.CompleteResults.{path_same}
 use Rattle.own_run.proofs.SettledResults.{paths_same}
 use Rattle.interleave.specs.World.{same_path, ScopeId, Stake, Live, Scope, World, Whereabouts, Queue, Hand, Parked}
 use Rattle.interleave.specs.World.{same_scope, task, put_task, without_task, scope, put_scope, weight_in, held}
 use Rattle.interleave.specs.World.{is_parked}
-use Rattle.interleave.specs.Events.{Event, Take, Steal, Steps, Replenish, Spawns, Opens, Parks, Ends, Pass, Resume}
+use Rattle.interleave.specs.Events.{Event, Spawns, Opens, Ends, Resume}
 use Rattle.interleave.specs.Events.{give_back, did, new_scope}
 use Rattle.interleave.specs.History.{Told, opened_more, left_one, told}
-use Rattle.interleave.proofs.Lookups.{true_not_false, by_test, path_refl, path_is, path_not, other_path, scopes_same}
+use Rattle.interleave.proofs.Lookups.{true_not_false, by_test, path_is, path_not, other_path, scopes_same}
 use Rattle.interleave.proofs.Lookups.{task-without_task, unique-without_task, gone-without_task, each-without_task}
 use Rattle.interleave.proofs.Lookups.{held-put_task, held-without_task}
 use Rattle.interleave.proofs.Histories.{cons_head, cons_tail, nil_cons, nil_snoc, told_last}
@@ -169,7 +170,7 @@ module _ (es : List Event) (a : World) (k : Kept es a) where
     open_found = ap (λ r. task r a.live) h.named ∙ h.found
 
     open_here : told after_open o ≡ opened_more (told es o)
-    open_here = told_last es (Opens o) o ∙ ap (λ (x : Bool). if x then opened_more (told es o) else told es o) (path_refl o)
+    open_here = told_last es (Opens o) o ∙ ap (λ (x : Bool). if x then opened_more (told es o) else told es o) (path_same o)
 
     open_others : (q : List ℕ) → (o ≡ q → ⊥) → told after_open q ≡ told es q
     open_others q n = told_last es (Opens o) q ∙ ap (λ (x : Bool). if x then opened_more (told es q) else told es q) (path_not o q n)
@@ -244,7 +245,7 @@ module _ (es : List Event) (a : World) (k : Kept es a) where
     resume_found = ap (λ q. task q a.live) h.named ∙ h.found
 
     resume_here : told after_resume r ≡ left_one (told es r)
-    resume_here = told_last es (Resume w r) r ∙ ap (λ (x : Bool). if x then left_one (told es r) else told es r) (path_refl r)
+    resume_here = told_last es (Resume w r) r ∙ ap (λ (x : Bool). if x then left_one (told es r) else told es r) (path_same r)
 
     resume_others : (q : List ℕ) → (r ≡ q → ⊥) → told after_resume q ≡ told es q
     resume_others q n = told_last es (Resume w r) q ∙ ap (λ (x : Bool). if x then left_one (told es q) else told es q) (path_not r q n)

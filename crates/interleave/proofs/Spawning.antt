@@ -6,11 +6,12 @@ use Rattle.std.specs.Prelude.{Bool, true, false, ◌⊎◌, map, Contains, if◌
 use Rattle.std.proofs.lemmas.Option.{same_Some}
 use Rattle.own_run.specs.Lists.{Each}
 use Rattle.own_run.specs.OwnRun.{Action}
+use Rattle.own_run.proofs.CompleteResults.{path_same}
 use Rattle.own_run.proofs.SettledResults.{paths_same}
 use Rattle.interleave.specs.World.{same_path, ScopeId, Live, World, same_scope, child_path, task, put_task, held}
 use Rattle.interleave.specs.Events.{Event, Spawns, Ends, did, new_task}
 use Rattle.interleave.specs.History.{Told, untold, spawned_more, told, SpawnsAt, Begun, by_owner, by_member}
-use Rattle.interleave.proofs.Lookups.{by_test, path_refl, path_not, other_path, task-put_task, unique-put_task}
+use Rattle.interleave.proofs.Lookups.{by_test, path_not, other_path, task-put_task, unique-put_task}
 use Rattle.interleave.proofs.Lookups.{each-put_task}
 use Rattle.interleave.proofs.Histories.{map_contains, nil_cons, nil_snoc, told_last, spawned_last, next_is_new}
 use Rattle.interleave.proofs.Histories.{child_is_longer, child_is_other, BegunLast, begun_last}
@@ -85,7 +86,7 @@ module _ (es : List Event) (a : World) (k : Kept es a) {does : Live → Option A
 
   -- ---- what is told
   here : told es' p ≡ spawned_more (told es p)
-  here = told_last es (Spawns p) p ∙ ap (λ (x : Bool). if x then spawned_more (told es p) else told es p) (path_refl p)
+  here = told_last es (Spawns p) p ∙ ap (λ (x : Bool). if x then spawned_more (told es p) else told es p) (path_same p)
 
   others : (q : List ℕ) → (p ≡ q → ⊥) → told es' q ≡ told es q
   others q n = told_last es (Spawns p) q ∙ ap (λ (x : Bool). if x then spawned_more (told es q) else told es q) (path_not p q n)
@@ -108,7 +109,7 @@ module _ (es : List Event) (a : World) (k : Kept es a) {does : Live → Option A
 
   line_child : line c ≡ its_line
   unfolding line
-  line_child = ap (λ (x : Bool). if x then its_line else k.line c) (path_refl c)
+  line_child = ap (λ (x : Bool). if x then its_line else k.line c) (path_same c)
 
   line_other : (q : List ℕ) → (c ≡ q → ⊥) → line q ≡ k.line q
   unfolding line
@@ -133,7 +134,7 @@ module _ (es : List Event) (a : World) (k : Kept es a) {does : Live → Option A
       (s.0, ap (λ (x : Bool). if x then Some kid else task q (put_task to a.live)) (path_not c q (other q (k.named q t f))) ∙ s.1)
 
   kid_lives : task c live ≡ Some kid
-  kid_lives = ap (λ (x : Bool). if x then Some kid else task c (put_task to a.live)) (path_refl c)
+  kid_lives = ap (λ (x : Bool). if x then Some kid else task c (put_task to a.live)) (path_same c)
 
   put_from : (q : List ℕ) (t : Live) → IsPut to a.live q t → (s : Live) × (task q a.live ≡ Some s)
   put_from q t i = by_place i.here

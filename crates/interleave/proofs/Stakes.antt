@@ -1,7 +1,7 @@
 -- What a task weighs in the scopes that it stands in.
 use Rattle.std.proofs.Common.{◌≡◌, ℕ, ◌+◌, ◌≤◌, List, [], ◌∷◌, ◌++◌, sym, ap, ◌∙◌, subst, inl, inr, arith}
 use Rattle.std.specs.Prelude.{Bool, false, ◌⊎◌, map, Contains, if◌then◌else◌}
-use Rattle.effects.proofs.Members.{false_true}
+use Rattle.facts.proofs.Truths.{false_true}
 use Rattle.own_run.specs.Lists.{Each}
 use Rattle.interleave.specs.World.{ScopeId, Stake, Whereabouts, Queue, Hand, Parked, same_scope, weight_in, is_parked}
 use Rattle.interleave.proofs.Lookups.{scope_is}

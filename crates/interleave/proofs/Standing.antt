@@ -1,5 +1,5 @@
 -- Each live task stands somewhere in its own run, so that it always has a next action.
-use Rattle.std.proofs.Common.{◌≡◌, ℕ, zero, suc, ◌+◌, ◌<◌, ◌≤◌, List, [], ◌∷◌, ◌++◌, length, Some, refl, sym, ap, ◌∙◌}
+use Rattle.std.proofs.Common.{◌≡◌, ℕ, zero, suc, ◌+◌, List, [], ◌∷◌, ◌++◌, length, Some, refl, sym, ap, ◌∙◌}
 use Rattle.std.proofs.Common.{subst, inl, inr, ⊎_elim}
 use Rattle.std.proofs.lemmas.Option.{same_Some}
 use Rattle.std.proofs.lemmas.List.{append-nil, length_push}
@@ -16,7 +16,7 @@ use Rattle.own_run.specs.OwnRun.{Start, Action, Step, Spawn, EnterFinish, EndFin
 use Rattle.own_run.specs.OwnRun.{own_rules, last_action, next_action}
 use Rattle.own_run.specs.Given.{in_truth, IsOwn}
 use Rattle.own_run.specs.Frames.{Frame, Rest, Again, AtEnd, Back, Standing, turn, handed, done_by, done_at, done_in}
-use Rattle.own_run.specs.Frames.{Follows, by_flow}
+use Rattle.own_run.specs.Frames.{Follows}
 use Rattle.own_run.specs.Holds.{MayBegin}
 use Rattle.own_run.specs.Reached.{Reached, turns, leaves}
 use Rattle.own_run.proofs.NextAction.{next_is_done, next_is_end, next_is_last}

@@ -3,12 +3,12 @@ use Rattle.std.proofs.Common.{◌≡◌, List, [], ◌∷◌, ◌++◌, Option, 
 use Rattle.std.proofs.lemmas.Option.{same_Some}
 use Rattle.std.specs.Prelude.{true, false, ◌&&◌, not, nat_eq, map}
 use Rattle.std.specs.HashMap.{get}
+use Rattle.facts.proofs.Truths.{false_true}
 use Rattle.types.specs.Outcome.{Outcome, outcome}
 use Rattle.types.specs.Translation.{outcome as plain_outcome}
 use Rattle.types.specs.declared.outcome.Outcome.{Outcome as rOutcome}
 use Rattle.types.specs.declared.path.Path.{Path}
 use Rattle.types.specs.declared.scope_id.ScopeId.{ScopeId as rScopeId}
-use Rattle.effects.proofs.Members.{false_true}
 use Rattle.effects.specs.Rounds.{needs_of}
 use Rattle.own_run.specs.Given.{told_of}
 use Rattle.own_run.specs.OwnRun.{Start}
@@ -23,7 +23,7 @@ use Rattle.interleave.specs.Courses.{Course, course_of, IsEndOf}
 use Rattle.interleave.specs.Events.{Event, Pass, only_if}
 use Rattle.interleave.specs.Jobs.{IsWeightedJob}
 use Rattle.interleave.specs.Replay.{hands_on}
-use Rattle.interleave.specs.Shown.{IsTaskOf, IsBookOf, IsDoingThere, IsTold, Shows, is_path, is_scope, scope_id}
+use Rattle.interleave.specs.Shown.{IsTaskOf, IsDoingThere, IsTold, Shows, is_path, is_scope, scope_id}
 use Rattle.interleave.specs.World.{Live, Scope, World, Whereabouts, Queue, Hand, Parked, task, scope, root_scope, has_passed, is_passed}
 use Rattle.interleave.specs.Worlds.{outcome_of}
 use Rattle.interleave.specs.declared.doing.Doing.TheVariants.{AtEnd}
@@ -89,9 +89,6 @@ module _ (r : rWorld) (ok : IsWeightedJob r.job) (w : World) (h : Shows r w) (id
 
   abbrev book : Scope
   book = passed_book r w h id s at complete
-
-  its_book : (b : Scope) × (scope (scope_id id) w.scopes ≡ Some b) × IsBookOf s b
-  its_book = passing_book r w h id s at complete
 
   there_so : scope root_scope next.scopes ≡ Some book
   there_so = ap (λ i. scope i next.scopes) (sym named) ∙ passed_there r w h id s at complete

@@ -5,6 +5,7 @@ use Rattle.std.proofs.lemmas.List.{append-nil}
 use Rattle.std.specs.Prelude.{◌⊎◌, Bool, true, false, map, ok_or, slice_get, if◌then◌else◌}
 use Rattle.std.proofs.lemmas.Option.{none-some, same_Some}
 use Rattle.std.proofs.lemmas.Bool.{and_parts}
+use Rattle.facts.proofs.Truths.{false_true}
 use Rattle.sections.specs.Place.{sides_of}
 use Rattle.types.specs.declared.fault.FaultKind.TheVariants.{SplitPoint}
 use Rattle.types.specs.Code.{Code, Do, If, While, Split, Call, Async, Finish, Codes, End, Then, Program}
@@ -14,20 +15,18 @@ use Rattle.types.specs.Run.{spend, with_step, fault, with_value, choose, number_
 use Rattle.types.specs.Run.{entry, with_sides, procedure_of, primitive, counted, act, block, work, within}
 use Rattle.types.proofs.Keeps.{primitive_keeps, counted_keeps}
 use Rattle.effects.specs.Needs.{Needs}
-use Rattle.effects.proofs.Members.{false_true}
 use Rattle.own_run.specs.Apart.{is_stopped}
 use Rattle.own_run.specs.Results.{TaskResult, Settled}
 use Rattle.own_run.specs.Settling.{settle}
 use Rattle.own_run.specs.Lists.{Each}
 use Rattle.own_run.specs.OwnRun.{Start, Action, EndFinish, Own, at_first, notes, is_waiting, result_of, leave_with}
 use Rattle.own_run.specs.OwnRun.{own_rules, begun_by, beginning, from_receipts, run_by}
-use Rattle.own_run.specs.Given.{in_truth, own, IsOfOwnRun, IsOwn}
+use Rattle.own_run.specs.Given.{in_truth, own, IsOwn}
 use Rattle.own_run.specs.Frames.{IsBegun, HasBegun, IsGivenChild}
 use Rattle.own_run.proofs.Begun.{begun_by-append, get-append_left, Tells, tells, begin_tells, enter_tells}
 use Rattle.own_run.proofs.Begun.{at_first_fine, idle_tells}
 use Rattle.own_run.proofs.Lists.{each_more}
 use Rattle.own_run.proofs.SettledResults.{gives, IsGiven, begun_is_true, part_sound}
-use Rattle.own_run.proofs.TaskRuns.{own_if_given}
 
 pub record Prefix {A : Type 0} (xs zs : List A) : Type 0 where
   pub rest : List A
@@ -37,11 +36,6 @@ pub each_get : {A : Type 0} (P : A → Type 0) (xs : List A) (k : ℕ) (x : A) �
 each_get P [] k x h e = absurd (none-some _ e)
 each_get P (y ∷ xs) zero x h e = subst P (same_Some _ _ e) h.0
 each_get P (y ∷ xs) (suc k) x h e = each_get P xs k x h.1 e
-
-module _ (p : Program) (needs : Codes → Needs) (fresh : ℕ) (root : Start) where
-  -- what are of tasks' own runs are so for whatever starts their paths are given
-  pub each_if_given : (rs : List TaskResult) → Each (IsOfOwnRun p needs fresh root) rs → Each (IsOwn p needs fresh root) rs
-  each_if_given rs = each_more (IsOfOwnRun p needs fresh root) (IsOwn p needs fresh root) rs (own_if_given p needs fresh root)
 
 -- one run waits, and the other has done at least as much
 pub record Behind (a b : State Own) : Type 0 where

@@ -42,10 +42,22 @@ use Rattle.race_checker.proofs.Scoping.{is_scoped}
 use Rattle.gather.specs.Jobs.{IsJob, program_of, lists_of, budget_of}
 use Rattle.gather.specs.declared.job.Job.{Job}
 use Rattle.interleave.specs.Courses.{Course, further, with_child, with_finish, IsNext, HasCome}
-use Rattle.interleave.specs.Courses.{IsFresh, IsRunOf, IsShown}
+use Rattle.interleave.specs.Courses.{IsDoing, IsFresh, IsRunOf}
 use Rattle.interleave.specs.World.{child_path}
+use Rattle.interleave.specs.declared.doing.Doing.TheVariants.{Steps, Spawns as rSpawns, Opens}
+use Rattle.interleave.specs.declared.doing.Doing.TheVariants.{AtFinish, AtEnd as rAtEnd}
 use Rattle.interleave.proofs.Histories.{nil_cons}
 use Rattle.interleave.proofs.Paying.{turn_pays, turn_idle, over_idle, turn_names, Named}
+
+-- what a turn shows of a task that was to run, which had so many steps left
+abbrev pub IsShown : Job → Course → (before : ℕ) → Turn → Type 0
+IsShown j c n (Going r) =
+    (r.thread.steps + 1 ≤ n → IsDoing j c (Steps r)) × (n ≤ r.thread.steps → IsRunOf j c r)
+IsShown j c n (Over r) = IsRunOf j c r
+IsShown j c n (Spawns r s) = IsDoing j c (rSpawns r s)
+IsShown j c n (EntersFinish r) = IsDoing j c (Opens r)
+IsShown j c n (EndsFinish q made) = IsDoing j c (AtFinish q made)
+IsShown j c n (Ended made) = IsDoing j c (rAtEnd made)
 
 module _ (j : Job) (ok : IsJob j) where
   abbrev p : Program

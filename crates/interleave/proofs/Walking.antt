@@ -1,9 +1,9 @@
 -- Walks: an event more, a candidate that isn't legal, and what it means that none is.
-use Rattle.std.proofs.Common.{◌≡◌, ℕ, ◌+◌, ◌<◌, List, [], ◌∷◌, ◌++◌, length, Some, None, Result, Ok, Err, sym, ap, ◌∙◌, subst}
+use Rattle.std.proofs.Common.{◌≡◌, ℕ, ◌+◌, ◌<◌, List, [], ◌∷◌, ◌++◌, length, Some, None, sym, ap, ◌∙◌, subst}
 use Rattle.std.proofs.Common.{map, refl, inl, inr, take}
 use Rattle.std.proofs.lemmas.List.{map-append, length-append, take_more}
 use Rattle.std.proofs.lemmas.List.Elements.{Contains-append_left, Contains-append_right}
-use Rattle.std.specs.Prelude.{Bool, Contains, true, false, ◌||◌, IfOk, ◌⊎◌, slice_index_or}
+use Rattle.std.specs.Prelude.{Bool, Contains, true, false, ◌||◌, ◌⊎◌, slice_index_or}
 use Rattle.std.specs.Set.{is_member}
 use Rattle.std.specs.HashMap.{get}
 use Rattle.types.specs.declared.path.Path.{Path}
@@ -18,7 +18,7 @@ use Rattle.interleave.specs.Replay.{Legal}
 use Rattle.interleave.specs.Replaying.{IsReplayed, comes, event}
 use Rattle.interleave.specs.Shown.{Becomes, IsTaskOf, Refuses, Shows, is_path, next_world, turns_of}
 use Rattle.interleave.specs.Walks.{AreCandidates, AreTasks, HasOneMore, HasStopped, IsAsBefore, IsIdle}
-use Rattle.interleave.specs.Walks.{IsIllegal, IsWalk, WentRound}
+use Rattle.interleave.specs.Walks.{IsIllegal, IsWalk}
 use Rattle.interleave.specs.World.{Live, World, has_passed, root_scope, task}
 use Rattle.interleave.specs.Worlds.{IsSpent, LeadsTo}
 use Rattle.interleave.specs.declared.error.EventError.{EventError}
@@ -135,11 +135,6 @@ stopped old new i h paths all none to e =
 pub passed_over : (walk : Walk) → IsWalk walk → ((w : World) → Shows walk.world w → has_passed root_scope w ≡ true) → HasStopped walk
 passed_over walk i passed to e =
     inl (passed to (subst (Shows walk.world) (legal_same i.replayed.world to (sym i.replayed.legal ∙ e)) i.replayed.shows))
-
--- what follows of an Ok's value
-pub if_ok : {A E : Type 0} {P Q : A → Type 0} (o : Result A E) → IfOk o P → ((x : A) → P x → Q x) → IfOk o Q
-if_ok (Ok x) h f = f x h
-if_ok (Err e) h f = tt
 
 -- ---- the tasks of a table
 -- with one that was still to come

@@ -1,12 +1,11 @@
 -- Once the root's scope has passed it holds all that is worth something, and nothing is still to come.
 use Rattle.std.proofs.Common.{◌≡◌, ℕ, ◌+◌, ◌≤◌, List, [], ◌∷◌, ◌++◌, Option, Some, refl, sym, ap, ◌∙◌, subst, arith}
-use Rattle.std.specs.Prelude.{true, map, if◌then◌else◌}
+use Rattle.std.specs.Prelude.{true, map, sum_by, if◌then◌else◌}
 use Rattle.std.proofs.lemmas.Option.{same_Some}
+use Rattle.facts.proofs.Truths.{false_true}
 use Rattle.types.specs.Code.{Codes, Program}
 use Rattle.effects.specs.Needs.{Needs}
-use Rattle.effects.proofs.Members.{false_true}
 use Rattle.own_run.specs.Results.{TaskResult, and_then}
-use Rattle.own_run.specs.Lists.{Each}
 use Rattle.own_run.specs.OwnRun.{Start, result_of}
 use Rattle.own_run.specs.Given.{own}
 use Rattle.own_run.proofs.SettledResults.{gives, paths_same}
@@ -19,12 +18,8 @@ use Rattle.interleave.proofs.Changes.{becomes}
 use Rattle.interleave.proofs.OwnTasks.{truly}
 use Rattle.interleave.proofs.Outcomes.{IsSound, first_sound, list_sound, none_held, root_is_done}
 use Rattle.interleave.proofs.GoingOn.{each_of}
-use Rattle.interleave.proofs.Worth.{sum_of, sum_of-nil, sum_of-cons, coming, left, based, reward, share, Balanced}
-use Rattle.interleave.proofs.Worth.{event_balanced, first_balanced, none_left}
-
-sum_of-zero : {A : Type 0} (g : A → ℕ) (xs : List A) → Each (λ x. g x ≡ 0) xs → sum_of g xs ≡ 0
-sum_of-zero g [] h = sum_of-nil g
-sum_of-zero g (x ∷ xs) h = let a = sum_of-cons g x xs in let b = h.0 in let c = sum_of-zero g xs h.1 in omega (arith, a, b, c)
+use Rattle.interleave.proofs.Worth.{sum_by-each_zero, coming, left, based, reward, share, Balanced, event_balanced}
+use Rattle.interleave.proofs.Worth.{first_balanced, none_left}
 
 module _ (p : Program) (needs : Codes → Needs) (fresh w0 : ℕ) (least : 1 ≤ w0) (root : Start) (nameless : root.path ≡ []) (worth : Start → ℕ) (f : TaskResult → ℕ)
     (all_of : (c : Start) → worth c ≡ f (result_of (own p needs fresh c)) + coming p needs fresh w0 root nameless worth (Some 0) (truly p needs fresh w0 root nameless c)) where
@@ -50,10 +45,10 @@ module _ (p : Program) (needs : Codes → Needs) (fresh w0 : ℕ) (least : 1 ≤
 
   -- what the root's scope holds is worth what the tasks are that the root spawns for it
   pub root_scope_is_whole : (es : List Event) (w : World) → go es (first_world w0 root) ≡ Some w → (s : Scope) → scope root_scope w.scopes ≡ Some s → s.passed ≡ true
-      → sum_of f s.results ≡ coming p needs fresh w0 root nameless worth (Some 0) (truly p needs fresh w0 root nameless root)
+      → sum_by f s.results ≡ coming p needs fresh w0 root nameless worth (Some 0) (truly p needs fresh w0 root nameless root)
   root_scope_is_whole es w e s there passed =
       let balance = list_balanced [] es (first_world w0 root) w (first_sound p needs fresh w0 least root nameless) (first_balanced p needs fresh w0 root nameless worth f all_of least) e s there in
-      let none = sum_of-zero its_share w.live (each_of (λ t. its_share t ≡ 0) w.live h.kept.unique nothing) in
+      let none = sum_by-each_zero its_share w.live (each_of (λ t. its_share t ≡ 0) w.live h.kept.unique nothing) in
       omega (arith, balance, none)
     where
       its_share : Live → ℕ

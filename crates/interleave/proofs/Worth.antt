@@ -2,11 +2,13 @@
 use Rattle.std.proofs.Common.{◌≡◌, ℕ, zero, suc, ◌+◌, ◌-◌, ◌/◌, ◌≤◌, List, [], ◌∷◌, ◌++◌, length, Option, Some, None}
 use Rattle.std.proofs.Common.{refl, sym, ap, ◌∙◌, subst, inl, inr, arith}
 use Rattle.std.proofs.lemmas.List.{append-nil}
-use Rattle.std.specs.Prelude.{Bool, true, false, ◌⊎◌, map, take, drop, slice_get, if◌then◌else◌}
+use Rattle.std.proofs.lemmas.List.Sums.{sum_by-cons, sum_by_push}
+use Rattle.std.specs.Prelude.{Bool, true, false, ◌⊎◌, map, take, drop, slice_get, sum_by, if◌then◌else◌}
 use Rattle.std.proofs.lemmas.Option.{none-some, same_Some}
 use Rattle.types.specs.Code.{Codes, Program}
 use Rattle.effects.specs.Needs.{Needs}
 use Rattle.own_run.specs.Results.{TaskResult}
+use Rattle.own_run.specs.Lists.{Each}
 use Rattle.own_run.specs.OwnRun.{Start, Action, Step, Spawn, EnterFinish, EndFinish, EndTask, result_of}
 use Rattle.own_run.specs.Given.{own}
 use Rattle.interleave.specs.World.{same_path, ScopeId, Stake, Live, Scope, World, Whereabouts, Hand, Parked}
@@ -37,69 +39,61 @@ is_spawn a = false
 begins_none : (a : Action) → is_spawn a ≡ false → (d : Start) → a ≡ Spawn d → ⊥
 begins_none a none d e = true_not_false (ap is_spawn e) none
 
-pub sum_of : {A : Type 0} → (A → ℕ) → List A → ℕ
-sum_of g [] = 0
-sum_of g (x ∷ xs) = g x + sum_of g xs
-
-pub sum_of-nil : {A : Type 0} (g : A → ℕ) → sum_of g [] ≡ 0
-unfolding sum_of
-sum_of-nil g = refl
-
-pub sum_of-cons : {A : Type 0} (g : A → ℕ) (x : A) (xs : List A) → sum_of g (x ∷ xs) ≡ g x + sum_of g xs
-unfolding sum_of
-sum_of-cons g x xs = refl
-
-pub sum_of-last : {A : Type 0} (g : A → ℕ) (xs : List A) (x : A) → sum_of g (xs ++ x ∷ []) ≡ sum_of g xs + g x
-unfolding sum_of
-sum_of-last g [] x = omega arith
-sum_of-last g (y ∷ xs) x = let h = sum_of-last g xs x in omega (arith, h)
+pub sum_by-each_zero : {A : Type 0} (g : A → ℕ) (xs : List A) → Each (λ x. g x ≡ 0) xs → sum_by g xs ≡ 0
+sum_by-each_zero g [] h = refl
+sum_by-each_zero g (x ∷ xs) h =
+    let a = sum_by-cons g x xs in let b = h.0 in let c = sum_by-each_zero g xs h.1 in omega (arith, a, b, c)
 
 drop_next : {A : Type 0} (xs : List A) (k : ℕ) (x : A) → slice_get xs k ≡ Some x → drop k xs ≡ x ∷ drop (suc k) xs
 drop_next [] k x e = absurd (none-some _ e)
 drop_next (y ∷ xs) zero x e = ap (λ z. z ∷ xs) (same_Some _ _ e)
 drop_next (y ∷ xs) (suc k) x e = drop_next xs k x e
 
-pub sum_of-put_task : (g : Live → ℕ) (to t : Live) (ts : List Live) → task to.path ts ≡ Some t → sum_of g (put_task to ts) + g t ≡ sum_of g ts + g to
-unfolding sum_of
-sum_of-put_task g to t [] e = absurd (none-some _ e)
-sum_of-put_task g to t (u ∷ ts) e =
-    by_test (λ b. (if b then Some u else task to.path ts) ≡ Some t → sum_of g (if b then to ∷ ts else u ∷ put_task to ts) + g t ≡ (g u + sum_of g ts) + g to) (same_path u.path to.path)
+pub sum_by-put_task : (g : Live → ℕ) (to t : Live) (ts : List Live) → task to.path ts ≡ Some t
+    → sum_by g (put_task to ts) + g t ≡ sum_by g ts + g to
+sum_by-put_task g to t [] e = absurd (none-some _ e)
+sum_by-put_task g to t (u ∷ ts) e =
+    by_test (λ b. (if b then Some u else task to.path ts) ≡ Some t
+    → sum_by g (if b then to ∷ ts else u ∷ put_task to ts) + g t ≡ sum_by g (u ∷ ts) + g to)
+    (same_path u.path to.path)
     (λ f e. let a : g u ≡ g t = ap g (same_Some _ _ e) in here a)
-    (λ f e. more (sum_of-put_task g to t ts e)) e
+    (λ f e. more (sum_by-put_task g to t ts e)) e
   where
-    here : g u ≡ g t → (g to + sum_of g ts) + g t ≡ (g u + sum_of g ts) + g to
-    here a = omega (arith, a)
+    here : g u ≡ g t → sum_by g (to ∷ ts) + g t ≡ sum_by g (u ∷ ts) + g to
+    here a = let b = sum_by-cons g to ts in let c = sum_by-cons g u ts in omega (arith, a, b, c)
 
-    more : sum_of g (put_task to ts) + g t ≡ sum_of g ts + g to → (g u + sum_of g (put_task to ts)) + g t ≡ (g u + sum_of g ts) + g to
-    more h = omega (arith, h)
+    more : sum_by g (put_task to ts) + g t ≡ sum_by g ts + g to → sum_by g (u ∷ put_task to ts) + g t ≡ sum_by g (u ∷ ts) + g to
+    more h = let b = sum_by-cons g u (put_task to ts) in let c = sum_by-cons g u ts in omega (arith, h, b, c)
 
-pub sum_of-without_task : (g : Live → ℕ) (q : List ℕ) (t : Live) (ts : List Live) → task q ts ≡ Some t → sum_of g (without_task q ts) + g t ≡ sum_of g ts
-unfolding sum_of
-sum_of-without_task g q t [] e = absurd (none-some _ e)
-sum_of-without_task g q t (u ∷ ts) e =
-    by_test (λ b. (if b then Some u else task q ts) ≡ Some t → sum_of g (if b then ts else u ∷ without_task q ts) + g t ≡ g u + sum_of g ts) (same_path u.path q)
+pub sum_by-without_task : (g : Live → ℕ) (q : List ℕ) (t : Live) (ts : List Live) → task q ts ≡ Some t
+    → sum_by g (without_task q ts) + g t ≡ sum_by g ts
+sum_by-without_task g q t [] e = absurd (none-some _ e)
+sum_by-without_task g q t (u ∷ ts) e =
+    by_test (λ b. (if b then Some u else task q ts) ≡ Some t
+    → sum_by g (if b then ts else u ∷ without_task q ts) + g t ≡ sum_by g (u ∷ ts))
+    (same_path u.path q)
     (λ f e. let a : g u ≡ g t = ap g (same_Some _ _ e) in here a)
-    (λ f e. more (sum_of-without_task g q t ts e)) e
+    (λ f e. more (sum_by-without_task g q t ts e)) e
   where
-    here : g u ≡ g t → sum_of g ts + g t ≡ g u + sum_of g ts
-    here a = omega (arith, a)
+    here : g u ≡ g t → sum_by g ts + g t ≡ sum_by g (u ∷ ts)
+    here a = let b = sum_by-cons g u ts in omega (arith, a, b)
 
-    more : sum_of g (without_task q ts) + g t ≡ sum_of g ts → (g u + sum_of g (without_task q ts)) + g t ≡ g u + sum_of g ts
-    more h = omega (arith, h)
+    more : sum_by g (without_task q ts) + g t ≡ sum_by g ts → sum_by g (u ∷ without_task q ts) + g t ≡ sum_by g (u ∷ ts)
+    more h = let b = sum_by-cons g u (without_task q ts) in let c = sum_by-cons g u ts in omega (arith, h, b, c)
 
 module _ (p : Program) (needs : Codes → Needs) (fresh w0 : ℕ) (root : Start) (nameless : root.path ≡ []) (worth : Start → ℕ) where
   -- what is to come at the level of these actions
   pub coming : Option ℕ → List Action → ℕ
   coming None xs = 0
-  coming (Some d) xs = sum_of worth (direct d xs)
+  coming (Some d) xs = sum_by worth (direct d xs)
 
-  pub coming_is : (d : ℕ) (xs : List Action) → coming (Some d) xs ≡ sum_of worth (direct d xs)
+  pub coming_is : (d : ℕ) (xs : List Action) → coming (Some d) xs ≡ sum_by worth (direct d xs)
   unfolding coming
   coming_is d xs = refl
 
   -- one action
   step_coming : (a : Action) (d : ℕ) (rest : List Action) → ((c : Start) → a ≡ Spawn c → ⊥) → coming (Some d) (a ∷ rest) ≡ coming (depth d (a ∷ [])) rest
-  unfolding coming sum_of
+  unfolding coming
   step_coming Step d rest h = refl
   step_coming (Spawn c) d rest h = absurd (h c refl)
   step_coming EnterFinish d rest h = refl
@@ -108,8 +102,8 @@ module _ (p : Program) (needs : Codes → Needs) (fresh w0 : ℕ) (root : Start)
   step_coming EndTask d rest h = refl
 
   spawn_coming : (c : Start) (rest : List Action) → coming (Some 0) (Spawn c ∷ rest) ≡ worth c + coming (Some 0) rest
-  unfolding coming sum_of
-  spawn_coming c rest = refl
+  unfolding coming
+  spawn_coming c rest = sum_by-cons worth c (direct 0 rest)
 
   deep_coming : (c : Start) (d : ℕ) (rest : List Action) → coming (Some (suc d)) (Spawn c ∷ rest) ≡ coming (Some (suc d)) rest
   unfolding coming
@@ -158,7 +152,7 @@ module _ (p : Program) (needs : Codes → Needs) (fresh w0 : ℕ) (root : Start)
       ∙ ap (λ n. coming (depth 0 (take n (truly p needs fresh w0 root nameless c))) (drop n (truly p needs fresh w0 root nameless c))) n
 
   end_coming : (rest : List Action) (d : ℕ) → coming (Some d) (EndTask ∷ rest) ≡ 0
-  unfolding coming sum_of
+  unfolding coming
   end_coming rest d = refl
 
   module _ (f : TaskResult → ℕ) (all_of : (c : Start) → worth c ≡ f (result_of (own p needs fresh c)) + coming (Some 0) (truly p needs fresh w0 root nameless c)) where
@@ -193,19 +187,19 @@ module _ (p : Program) (needs : Codes → Needs) (fresh w0 : ℕ) (root : Start)
 
     -- what the root's scope holds and what is to come is what the root's own run spawns
     abbrev pub Balanced : List Live → List Scope → Type 0
-    Balanced ts ss = (s : Scope) → scope root_scope ss ≡ Some s → sum_of f s.results + sum_of share ts ≡ coming (Some 0) (truly p needs fresh w0 root nameless root)
+    Balanced ts ss = (s : Scope) → scope root_scope ss ≡ Some s → sum_by f s.results + sum_by share ts ≡ coming (Some 0) (truly p needs fresh w0 root nameless root)
 
     same_results : (x : ScopeId) (book to : Scope) (ts : List Live) (ss : List Scope) → scope x ss ≡ Some book → to.id ≡ x → to.results ≡ book.results → Balanced ts ss → Balanced ts (put_scope to ss)
     same_results x book to ts ss e g same h s i = by_place (rebooked x book to ss root_scope s e g i)
       where
-        by_place : ((x ≡ root_scope) × (to ≡ s)) ⊎ ((same_scope x root_scope ≡ false) × (scope root_scope ss ≡ Some s)) → sum_of f s.results + sum_of share ts ≡ coming (Some 0) (truly p needs fresh w0 root nameless root)
+        by_place : ((x ≡ root_scope) × (to ≡ s)) ⊎ ((same_scope x root_scope ≡ false) × (scope root_scope ss ≡ Some s)) → sum_by f s.results + sum_by share ts ≡ coming (Some 0) (truly p needs fresh w0 root nameless root)
         by_place (inl (u, v)) =
-            ap (λ (r : Scope). sum_of f r.results + sum_of share ts) (sym v) ∙ ap (λ rs. sum_of f rs + sum_of share ts) same ∙ h book (ap (λ y. scope y ss) (sym u) ∙ e)
+            ap (λ (r : Scope). sum_by f r.results + sum_by share ts) (sym v) ∙ ap (λ rs. sum_by f rs + sum_by share ts) same ∙ h book (ap (λ y. scope y ss) (sym u) ∙ e)
         by_place (inr (u, v)) = h s v
 
     put_balanced : (to was : Live) (path : List ℕ) (ts : List Live) (ss : List Scope) → task path ts ≡ Some was → to.path ≡ path → share to ≡ share was → Balanced ts ss → Balanced (put_task to ts) ss
     put_balanced to was path ts ss e g same h s i =
-        let a = sum_of-put_task share to was ts (ap (λ r. task r ts) g ∙ e) in
+        let a = sum_by-put_task share to was ts (ap (λ r. task r ts) g ∙ e) in
         let b = h s i in
         omega (arith, a, b, same)
 
@@ -232,13 +226,13 @@ module _ (p : Program) (needs : Codes → Needs) (fresh w0 : ℕ) (root : Start)
       replenish_balanced : (path : List ℕ) (b : World) → IsReplenish w0 path a b → Goes b
       replenish_balanced path b c =
           let to : Live = record c.at.was { stakes = record c.at.inner { weight = 1 + w0 } ∷ c.at.outer } in
-          subst Goes c.now (same_results c.at.inner.scope c.of.book (issue w0 c.of.book) _ a.scopes c.of.found c.of.id refl
+          subst Goes c.now (same_results c.at.inner.scope c.of.book (issue w0 c.of.book) (put_task to a.live) a.scopes c.of.found c.of.id refl
           (put_balanced to c.at.was path a.live a.scopes c.at.found c.at.named (share_same c.at.was to refl refl (left_still c.at.was to refl refl) (based_same to.stakes c.at.was.stakes (ap (map scope_of) (sym c.at.stakes)))) h))
 
       park_balanced : (path : List ℕ) (b : World) → IsPark (λ t. nexts p needs fresh w0 root nameless t) path a b → Goes b
       park_balanced path b c =
           let to : Live = record (did c.at.was (record c.at.inner { weight = 0 } ∷ c.at.outer)) { place = Parked } in
-          subst Goes c.now (same_results c.at.inner.scope c.of.book (give_back c.at.inner.weight [] c.of.book) _ a.scopes c.of.found c.of.id (append-nil c.of.book.results)
+          subst Goes c.now (same_results c.at.inner.scope c.of.book (give_back c.at.inner.weight [] c.of.book) (put_task to a.live) a.scopes c.of.found c.of.id (append-nil c.of.book.results)
           (put_balanced to c.at.was path a.live a.scopes c.at.found c.at.named
           (share_same c.at.was to refl refl (left_same c.at.was to (o.tasks path c.at.was c.at.found) EndFinish (length c.at.outer) c.next (at_level p needs fresh w0 root nameless a o path c.at) refl refl (begins_none EndFinish refl))
           (based_same to.stakes c.at.was.stakes (ap (map scope_of) (sym c.at.stakes)))) h))
@@ -264,7 +258,7 @@ module _ (p : Program) (needs : Codes → Needs) (fresh w0 : ℕ) (root : Start)
           let put = put_balanced to c.was path a.live a.scopes c.found c.named
           (share_same c.was to refl refl (left_same c.was to its EnterFinish l.0 c.next l.1 refl refl (begins_none EnterFinish refl)) (based_more (record { scope = id; weight = w0 }) c.was.stakes c.was c.was.place its.level)) h in
           subst Goes c.now (λ s e.
-          by_test (λ x. (if x then Some (new_scope id w0) else scope root_scope a.scopes) ≡ Some s → sum_of f s.results + sum_of share (put_task to a.live) ≡ coming (Some 0) (truly p needs fresh w0 root nameless root))
+          by_test (λ x. (if x then Some (new_scope id w0) else scope root_scope a.scopes) ≡ Some s → sum_by f s.results + sum_by share (put_task to a.live) ≡ coming (Some 0) (truly p needs fresh w0 root nameless root))
           (same_scope id root_scope)
           (λ g e. let n : c.was.opened + 1 ≡ 0 = ap (λ (i : ScopeId). i.number) (scopes_same id root_scope g) in absurd (omega (arith, n)))
           (λ g e. put s e) e)
@@ -342,19 +336,19 @@ module _ (p : Program) (needs : Codes → Needs) (fresh w0 : ℕ) (root : Start)
 
         spawn_balanced : Goes b
         spawn_balanced = subst Goes c.now (λ s e.
-            let x = sum_of-put_task share to c.at.was a.live (ap (λ r. task r a.live) c.at.named ∙ c.at.found) in
+            let x = sum_by-put_task share to c.at.was a.live (ap (λ r. task r a.live) c.at.named ∙ c.at.found) in
             let y = spawn_shares c.at.outer refl in
             let z = h s e in
             with_kid s x y z)
           where
-            with_kid : (s : Scope) → sum_of share (put_task to a.live) + share c.at.was ≡ sum_of share a.live + share to → share kid + share to ≡ share c.at.was
-                → sum_of f s.results + sum_of share a.live ≡ coming (Some 0) (truly p needs fresh w0 root nameless root)
-                → sum_of f s.results + sum_of share (kid ∷ put_task to a.live) ≡ coming (Some 0) (truly p needs fresh w0 root nameless root)
+            with_kid : (s : Scope) → sum_by share (put_task to a.live) + share c.at.was ≡ sum_by share a.live + share to → share kid + share to ≡ share c.at.was
+                → sum_by f s.results + sum_by share a.live ≡ coming (Some 0) (truly p needs fresh w0 root nameless root)
+                → sum_by f s.results + sum_by share (kid ∷ put_task to a.live) ≡ coming (Some 0) (truly p needs fresh w0 root nameless root)
             with_kid s x y z =
                 let v = sum_cons kid (put_task to a.live) in omega (arith, x, y, z, v)
               where
-                sum_cons : (t : Live) (ts : List Live) → sum_of share (t ∷ ts) ≡ share t + sum_of share ts
-                sum_cons t ts = sum_of-cons share t ts
+                sum_cons : (t : Live) (ts : List Live) → sum_by share (t ∷ ts) ≡ share t + sum_by share ts
+                sum_cons t ts = sum_by-cons share t ts
 
       module _ (path : List ℕ) (b : World) (c : IsEnd (λ t. nexts p needs fresh w0 root nameless t) (λ t. hands p needs fresh w0 root nameless t) path a b) where
         ends_lone : Lone (told es path).inside c.at.outer
@@ -383,13 +377,13 @@ module _ (p : Program) (needs : Codes → Needs) (fresh w0 : ℕ) (root : Start)
         end_balanced : Goes b
         end_balanced = subst Goes c.now (λ s e. by_place s (rebooked c.at.inner.scope c.of.book (give_back c.at.inner.weight (hands p needs fresh w0 root nameless c.at.was ∷ []) c.of.book) a.scopes root_scope s c.of.found c.of.id e))
           where
-            without : sum_of share (without_task c.at.was.path a.live) + share c.at.was ≡ sum_of share a.live
-            without = sum_of-without_task share c.at.was.path c.at.was a.live (ap (λ r. task r a.live) c.at.named ∙ c.at.found)
+            without : sum_by share (without_task c.at.was.path a.live) + share c.at.was ≡ sum_by share a.live
+            without = sum_by-without_task share c.at.was.path c.at.was a.live (ap (λ r. task r a.live) c.at.named ∙ c.at.found)
 
             by_place : (s : Scope) → ((c.at.inner.scope ≡ root_scope) × (give_back c.at.inner.weight (hands p needs fresh w0 root nameless c.at.was ∷ []) c.of.book ≡ s)) ⊎ ((same_scope c.at.inner.scope root_scope ≡ false) × (scope root_scope a.scopes ≡ Some s))
-                → sum_of f s.results + sum_of share (without_task c.at.was.path a.live) ≡ coming (Some 0) (truly p needs fresh w0 root nameless root)
+                → sum_by f s.results + sum_by share (without_task c.at.was.path a.live) ≡ coming (Some 0) (truly p needs fresh w0 root nameless root)
             by_place s (inl (u, v)) =
-                let x = ap (λ (r : Scope). sum_of f r.results) (sym v) ∙ sum_of-last f c.of.book.results (hands p needs fresh w0 root nameless c.at.was) in
+                let x = ap (λ (r : Scope). sum_by f r.results) (sym v) ∙ sum_by_push f c.of.book.results (hands p needs fresh w0 root nameless c.at.was) in
                 let y = end_share ∙ ap (λ z. if z then f (hands p needs fresh w0 root nameless c.at.was) else 0) (scope_is u) in
                 let z = h c.of.book (ap (λ i. scope i a.scopes) (sym u) ∙ c.of.found) in
                 let v = without in
@@ -418,10 +412,8 @@ module _ (p : Program) (needs : Codes → Needs) (fresh w0 : ℕ) (root : Start)
       first_balanced s e =
           let t : Live = new_task [] root (record { scope = root_scope; weight = w0 }) 0 in
           let g = left_first root t refl refl in
-          let x = sum_of-cons share t [] in
-          let y = sum_of-nil share in
-          let z : sum_of f s.results ≡ 0 = ap (λ (r : Scope). sum_of f r.results) (sym (same_Some _ _ e)) ∙ sum_of-nil f in
-          omega (arith, x, y, z, g)
+          let z : sum_by f s.results ≡ 0 = ap (λ (r : Scope). sum_by f r.results) (sym (same_Some _ _ e)) in
+          omega (arith, z, g)
 
   -- nothing is left where no finish is open any more
   pub none_left : (t : Live) → depth 0 (take t.done (truly p needs fresh w0 root nameless t.start)) ≡ None → left t ≡ 0

@@ -16,9 +16,6 @@ use Rattle.own_run.specs.declared.result.TaskResult.{TaskResult as rTaskResult}
 use Rattle.own_run.specs.declared.run.Run.{Run}
 use Rattle.own_run.specs.declared.start.Start.{Start as rStart}
 use Rattle.own_run.specs.declared.turn.Paused.{Paused}
-use Rattle.own_run.specs.declared.turn.Turn.{Turn}
-use Rattle.own_run.specs.declared.turn.Turn.TheVariants.{Going, Spawns, EntersFinish, EndsFinish}
-use Rattle.own_run.specs.declared.turn.Turn.TheVariants.{Ended, Over}
 use Rattle.gather.specs.Jobs.{program_of, lists_of, budget_of}
 use Rattle.gather.specs.declared.job.Job.{Job}
 use Rattle.interleave.specs.World.{Live, child_path}
@@ -157,13 +154,3 @@ module _ (j : Job) where
   -- its next action isn't a step
   abbrev pub IsNotToStep : Doing → Type 0
   IsNotToStep d = (c : Course) → IsDoing c d → IsNext c Step → ⊥
-
-  -- what a turn shows of a task that was to run; `less` where steps are fewer after it
-  abbrev pub IsShown : Course → (before : ℕ) → Turn → Type 0
-  IsShown c n (Going r) =
-      (r.thread.steps + 1 ≤ n → IsDoing c (Steps r)) × (n ≤ r.thread.steps → IsRunOf c r)
-  IsShown c n (Over r) = IsRunOf c r
-  IsShown c n (Spawns r s) = IsDoing c (rSpawns r s)
-  IsShown c n (EntersFinish r) = IsDoing c (Opens r)
-  IsShown c n (EndsFinish q made) = IsDoing c (AtFinish q made)
-  IsShown c n (Ended made) = IsDoing c (rAtEnd made)

@@ -1,6 +1,6 @@
 -- What the events at the ends of finishes and of tasks find in the tables, and leave there.
 use Rattle.std.specs.Prelude.{ℕ, ◌≡◌, ◌+◌, ◌≤◌, List, [], ◌∷◌, Bool, true, false, not, map, drop}
-use Rattle.std.specs.Prelude.{Some, None}
+use Rattle.std.specs.Prelude.{Some}
 use Rattle.std.specs.Prelude.{Vec}
 use Rattle.std.specs.Global.{Global}
 use Rattle.std.specs.HashMap.{get}
@@ -20,7 +20,6 @@ use Rattle.own_run.specs.declared.run.Run.{Run}
 use Rattle.own_run.specs.declared.turn.Paused.{Paused}
 use Rattle.gather.specs.GivesBack.{GiveBack, all_owned}
 use Rattle.interleave.specs.Events.{give_back}
-use Rattle.interleave.specs.Courses.{IsKnown}
 use Rattle.interleave.specs.Shown.{IsBookOf, PutsScope, PutsTask, is_path, is_scope, stake}
 use Rattle.interleave.specs.World.{Scope}
 use Rattle.interleave.specs.declared.doing.Doing.{Doing}
@@ -50,13 +49,6 @@ has_ended path (AtEnd made) = not (is_root path)
 has_ended path _ = false
 
 -- ---- what is found
--- a live task in a worker's hand, whose next action is known
-pub record IsSeen (r : rWorld) (path : Path) (worker : ℕ) : Type 0 where
-  pub its : rTask
-  pub at : get is_path r.tasks path ≡ Some its
-  pub place : its.place ≡ rHand worker
-  pub known : IsKnown its.doing
-
 -- a live task, its innermost scope, and its weight there
 pub record StandsAt (r : rWorld) (path : Path) : Type 0 where
   pub its : rTask

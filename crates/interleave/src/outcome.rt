@@ -17,10 +17,11 @@ ghost use Rattle.types.specs.declared.outcome.Outcome.{Outcome as AnyOutcome};
 use crate::doing::Doing;
 use crate::ending::copies;
 use crate::error::EventError;
-use crate::world::{World, root_path};
+use crate::world::World;
 use gather::settle::settle;
 use gather::told::told;
 use types::outcome::Outcome;
+use types::path::Path;
 use types::scope_id::ScopeId;
 
 impl<'p> World<'p> {
@@ -69,7 +70,8 @@ impl<'p> World<'p> {
         let Some(book) = self.scopes.get(scope) else {
             return Err(EventError::NoMemory);
         };
-        let Some(task) = self.tasks.get(&root_path(alloc)) else {
+        let path = Path::root(alloc);
+        let Some(task) = self.tasks.get(&path) else {
             return Err(EventError::NoMemory);
         };
         let (Doing::AtEnd(made), Some(results)) = (&task.doing, &book.results) else {

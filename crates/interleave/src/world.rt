@@ -63,7 +63,8 @@ impl<'p> World<'p> {
             place: Whereabouts::Queue(WorkerId::first()),
         };
         let mut tasks = HashMap::new(alloc);
-        tasks.insert(root_path(alloc), task)?;
+        let path = Path::root(alloc);
+        tasks.insert(path, task)?;
         let mut scopes = HashMap::new(alloc);
         scopes.insert(root_scope(alloc), Scope::new(alloc, job.w0))?;
         Ok(World {
@@ -214,21 +215,12 @@ fn is_root_scope(scope: &ScopeId) -> bool
     scope.owner.turns.is_empty() && scope.number == 0
 }
 
-/// The path of the root.
-pub(crate) fn root_path(alloc: Global) -> Path
-    ensures { result.turns.items ≡ [] }
-{
-    Path {
-        turns: Vec::new(alloc),
-    }
-}
-
 /// The name of the scope that `main` stands in.
 pub(crate) fn root_scope(alloc: Global) -> ScopeId
     ensures { scope_id result ≡ the_root_scope }
 {
     ScopeId {
-        owner: root_path(alloc),
+        owner: Path::root(alloc),
         number: 0,
     }
 }

@@ -1,6 +1,7 @@
 -- The outcome of tasks apart is the one-thread outcome.
 use Rattle.std.proofs.Common.{◌≡◌, ℕ, zero, suc, ◌+◌, List, [], ◌∷◌, Option, refl, sym, ap, ◌∙◌, arith}
 use Rattle.std.specs.Prelude.{ℤ, Bool, true, false, ◌||◌, slice_index_or}
+use Rattle.facts.proofs.Truths.{false_true}
 use Rattle.sections.specs.Place.{Place, In, nowhere}
 use Rattle.types.specs.Code.{Array, Codes, Finish, Program}
 use Rattle.types.specs.Contents.{Contents, held_by, shown}
@@ -11,7 +12,6 @@ use Rattle.effects.specs.Accesses.{Access}
 use Rattle.effects.specs.Effects.{Pending, PendingOf, accesses}
 use Rattle.effects.specs.Footprint.{Overwrites}
 use Rattle.effects.specs.Needs.{Needs, Provides}
-use Rattle.effects.proofs.Members.{false_true}
 use Rattle.race_checker.specs.Scope.{Top, FitsTop, arrays_of, IsScoped}
 use Rattle.race_checker.specs.Calm.{IsCalm}
 use Rattle.own_run.specs.Apart.{Aside, nothing, is_stopped, merged, gather, apart, apart_outcome, begin_apart}

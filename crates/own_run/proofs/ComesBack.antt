@@ -2,6 +2,7 @@
 use Rattle.std.proofs.Common.{◌≡◌, ℕ, zero, suc, List, [], ◌∷◌, ◌++◌, Option, Some, None, refl, sym, subst, inl, inr}
 use Rattle.std.specs.Prelude.{ℤ, Bool, true, false, if◌then◌else◌}
 use Rattle.std.proofs.lemmas.Bool.{or_cases}
+use Rattle.facts.proofs.Truths.{false_true}
 use Rattle.sections.specs.Covers.{has}
 use Rattle.sections.specs.Place.{Place}
 use Rattle.types.specs.Code.{Codes, Program}
@@ -11,7 +12,7 @@ use Rattle.types.specs.Contents.{IsThere, Extends}
 use Rattle.types.specs.Laws.{IsKept}
 use Rattle.types.proofs.Keeps.{run_keeps}
 use Rattle.effects.specs.Needs.{Needs}
-use Rattle.effects.proofs.Members.{false_true, in_left}
+use Rattle.effects.proofs.Members.{in_left}
 use Rattle.own_run.specs.Places.{only, written, touched, first_of}
 use Rattle.own_run.specs.Apart.{Aside, nothing, merged, child_apart, apart_rules_by, begin_apart}
 use Rattle.own_run.specs.Results.{Settled, fill}

@@ -15,13 +15,14 @@ use Rattle.own_run.specs.OwnRun.{Start, Child, at_first, result_of, beginning}
 use Rattle.own_run.specs.Given.{filled, in_truth, comes_to, own, below}
 use Rattle.own_run.specs.Frames.{IsBegun, IsGivenChild}
 use Rattle.std.specs.Cmp.Lexicographic.{pointwise}
+use Rattle.sections.proofs.Covering.{is_in-from}
 use Rattle.own_run.specs.Settling.{behind, take, fill_all, settle_within, none_left, settle, Parted}
 use Rattle.own_run.specs.Settling.{IsParted}
 use Rattle.own_run.specs.Lists.{Each, Inserted, here, later, Shuffled, none, one}
 use Rattle.own_run.proofs.Lists.{each_more}
 use Rattle.own_run.specs.Settling.{NoTwice}
-use Rattle.own_run.proofs.Windows.{in_covered}
 use Rattle.own_run.proofs.Begun.{run_tells, at_first_fine}
+use Rattle.own_run.proofs.OnePath.{own_path}
 use Rattle.own_run.proofs.SettledResults.{paths_same, IsGiven, begun_is_true}
 use Rattle.own_run.proofs.OwnRunSettles.{own_settles}
 
@@ -38,7 +39,7 @@ length_inserted : {A : Type 0} {x : A} {ys zs : List A} → Inserted x ys zs →
 length_inserted here = refl
 length_inserted (later i) = ap suc (length_inserted i)
 
-inserted_each : {A : Type 0} (P : A → Type 0) {x : A} {ys zs : List A} → Inserted x ys zs → Each P zs → P x × Each P ys
+pub inserted_each : {A : Type 0} (P : A → Type 0) {x : A} {ys zs : List A} → Inserted x ys zs → Each P zs → P x × Each P ys
 inserted_each P here h = h
 inserted_each P (later i) h = let k = inserted_each P i h.1 in (k.0, (h.0, k.1))
 
@@ -75,7 +76,7 @@ not_one set w h at zero le e = refl
 not_one set w h at (suc n) le e =
     or_from (set (record { array = w.array; index = at })) (has_one set w.array (at + 1) n)
     (h (record { array = w.array; index = at })
-    (in_covered w (record { array = w.array; index = at }) (record { array = refl; low = le; high = omega (arith, e) })))
+    (is_in-from w (record { array = w.array; index = at }) (record { array = refl; low = le; high = omega (arith, e) })))
     (not_one set w h (at + 1) n (omega (arith, le)) (omega (arith, e)))
 
 pub not_met : (set : Places) (ws : List Window) → ((q : Place) → has ws q ≡ true → set q ≡ false) → meets set ws ≡ false
@@ -123,7 +124,7 @@ module _ (p : Program) (needs : Codes → Needs) (fresh : ℕ) (root : Start) wh
       let long = length_inserted i.put in
       let mine = inserted_each IsParted i.put ps in
       let more : Places = λ q. owned q || has c.listed.windows q in
-      let at : r.path ≡ c.listed.path = own_path c.start ∙ sym h.0.is.listed in
+      let at : r.path ≡ c.listed.path = own_path p needs fresh c.start ∙ sym h.0.is.listed in
       let take_it = ap (λ q. take q rs) (sym at) ∙ taken_one r i.others rs i.put o in
       let child =
       deep c.start h.0.nest h.0.is.is (flat_map (results n) cs ++ ts) i.others i.left (inserted_once i.put o) mine.0 mine.1
@@ -151,9 +152,6 @@ module _ (p : Program) (needs : Codes → Needs) (fresh : ℕ) (root : Start) wh
         parted = others.parted;
         fewer = omega (arith, less, fewer, long);
       }
-    where
-      own_path : (s : Start) → (own p needs fresh s).path ≡ s.path
-      own_path s = (run_tells s.nest needs (in_truth p needs fresh) p (Block s.body) (beginning (at_first s.owned) fresh s)).path
 
   pub stands : (n : ℕ) (s : Start) → s.nest ≡ suc n → IsGiven p needs fresh root s → Each (Stands n) (own p needs fresh s).extra.pending
   stands n s e is =

@@ -8,7 +8,7 @@ use Rattle.types.specs.Run.{State, Rules, Block, run}
 use Rattle.types.specs.Translation.{code, codes, program}
 use Rattle.effects.specs.Needs.{Needs}
 use Rattle.statement_steps.specs.Standing.{flow as flow_of}
-use Rattle.statement_steps.specs.declared.thread.Flow.TheVariants.{On as rOn}
+use Rattle.statement_steps.specs.declared.flow.Flow.TheVariants.{On as rOn}
 use Rattle.statement_steps.specs.declared.thread.Plan.{Plan}
 use Rattle.effects.specs.Statements.{HasStatement}
 use Rattle.program_code.specs.Pieces.{IsCodeOfProgram}

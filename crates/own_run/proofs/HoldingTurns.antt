@@ -3,6 +3,8 @@ use Rattle.std.proofs.Common.{◌≡◌, ℕ, zero, suc, ◌+◌, ◌<◌, List,
 use Rattle.std.proofs.Common.{◌∙◌, subst, inl, inr, arith}
 use Rattle.std.proofs.lemmas.Bool.{or_left, or_right, false_from_ne_true, or_cases}
 use Rattle.std.specs.Prelude.{ℤ, ◌⊎◌, true, ◌||◌, slice_get, slice_index_or}
+use Rattle.sections.proofs.Covering.{is_in-from}
+use Rattle.facts.proofs.Truths.{false_true}
 use Rattle.sections.specs.Covers.{has, is_in}
 use Rattle.sections.specs.Place.{Window, Place, In, nowhere}
 use Rattle.types.specs.Code.{Truth, Code, While, Async, Codes, End, Then, Array, Program}
@@ -13,7 +15,7 @@ use Rattle.types.specs.Outcome.{whole_arrays}
 use Rattle.effects.specs.Accesses.{Access}
 use Rattle.effects.specs.Effects.{AllOf, All, Pending, accesses}
 use Rattle.effects.specs.Needs.{Needs, Provides}
-use Rattle.effects.proofs.Members.{false_true, in_parts}
+use Rattle.effects.proofs.Members.{in_parts}
 use Rattle.race_checker.specs.Scope.{Scope, Top, InScope, arrays_of, IsScoped}
 use Rattle.race_checker.specs.Calm.{IsCalm}
 use Rattle.own_run.specs.Results.{TaskResult, Settled, none_yet, complete}
@@ -26,7 +28,7 @@ use Rattle.own_run.specs.Settling.{settle, Parted}
 use Rattle.own_run.specs.Lists.{Each}
 use Rattle.own_run.proofs.Counted.{counted_is}
 use Rattle.own_run.proofs.Lists.{each_more}
-use Rattle.own_run.proofs.Windows.{named_some, in_covered, not_nowhere}
+use Rattle.own_run.proofs.Windows.{named_some, not_nowhere}
 use Rattle.own_run.proofs.AccessNames.{named_all, overwrites_more}
 use Rattle.own_run.proofs.ApartOutcome.{arrays_fit, array_here}
 use Rattle.own_run.proofs.Simulation.{behind, first_ready, rest_ready}
@@ -293,7 +295,7 @@ module _ (p : Program) (needs : Codes → Needs) (is_scoped : IsScoped p) (is_ca
 
   window_within : (ws : List Window) (k : ℕ) (q : Place) → In (slice_index_or ws k nowhere) q → has ws q ≡ true
   window_within [] k q i = absurd (not_nowhere q i)
-  window_within (w ∷ ws) zero q i = or_left (is_in w q) (has ws q) (in_covered w q i)
+  window_within (w ∷ ws) zero q i = or_left (is_in w q) (has ws q) (is_in-from w q i)
   window_within (w ∷ ws) (suc k) q i = or_right (is_in w q) (has ws q) (window_within ws k q i)
 
   -- the root can begin on an input that fits

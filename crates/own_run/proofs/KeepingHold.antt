@@ -3,6 +3,7 @@ use Rattle.std.proofs.Common.{◌≡◌, ℕ, zero, suc, ◌<◌, List, [], ◌�
 use Rattle.std.proofs.Common.{◌∙◌, subst, inl, inr}
 use Rattle.std.proofs.lemmas.Bool.{or_left, or_right, or_from, or_parts, false_from_ne_true, and_parts, or_cases}
 use Rattle.std.specs.Prelude.{ℤ, ◌⊎◌, Bool, true, false, not, ◌&&◌, ◌||◌, map, ok_or, if◌then◌else◌}
+use Rattle.facts.proofs.Truths.{false_true}
 use Rattle.sections.specs.Covers.{has}
 use Rattle.sections.specs.Place.{Window, Place, In, sides_of, same_place}
 use Rattle.types.specs.declared.fault.FaultKind.{FaultKind}
@@ -18,7 +19,6 @@ use Rattle.effects.specs.Accesses.{Access}
 use Rattle.effects.specs.Effects.{past_call, if_body, if_other, while, AllOf, All, PendingOf, Pending, accesses}
 use Rattle.effects.specs.Footprint.{Touches, Overwrites}
 use Rattle.effects.specs.Needs.{Needs, AreNeeds, Provides, ProvidesIn}
-use Rattle.effects.proofs.Members.{false_true}
 use Rattle.race_checker.specs.Scope.{Scope, Top, Inside, InScope, FitsScope, may_writes, Scoped, IsScoped}
 use Rattle.race_checker.specs.Calm.{Calm, IsCalm}
 use Rattle.race_checker.proofs.Scoping.{length_may_writes}

@@ -1,6 +1,7 @@
 -- What a turn makes of the lists of a task's children: what it does says it.
 use Rattle.std.proofs.Common.{◌≡◌, ℕ, zero, suc, List, [], ◌∷◌, Option, Ok, Err, refl, ap, subst}
 use Rattle.std.specs.Prelude.{Bool, true, false, ok_or}
+use Rattle.facts.proofs.Truths.{false_true}
 use Rattle.sections.specs.Place.{sides_of}
 use Rattle.types.specs.declared.fault.FaultKind.TheVariants.{SplitPoint}
 use Rattle.types.specs.Code.{Code, Do, If, While, Split, Call, Async, Finish, Codes, End, Then, Program, Number}
@@ -9,13 +10,11 @@ use Rattle.types.specs.Value.{Valued}
 use Rattle.types.specs.Run.{Flow, On, Faulted, Stopped, State, number_at, numbers_at, truth_at, window_at, Rules}
 use Rattle.types.proofs.Keeps.{primitive_keeps}
 use Rattle.effects.specs.Needs.{Needs}
-use Rattle.effects.proofs.Members.{false_true}
 use Rattle.own_run.specs.Results.{Settled}
 use Rattle.own_run.specs.OwnRun.{Child, Step, Own, notes, own_rules, child_of}
 use Rattle.own_run.specs.Frames.{Frame, Rest, Again, AtEnd, Back, Standing, by_value, chosen, paid, by_flow, turn}
 use Rattle.own_run.specs.Frames.{done_by, done_at, done_in}
 use Rattle.own_run.specs.Stops.{is_over, is_next_over, stops}
-use Rattle.own_run.specs.Translation.{start}
 use Rattle.own_run.specs.Worth.{Lists, around, lists, ListsAs}
 use Rattle.own_run.proofs.TurnActions.{silent}
 

@@ -1,5 +1,6 @@
--- What holds of each element of a list.
-use Rattle.std.proofs.Common.{List, [], ◌∷◌, ◌++◌, map}
+-- What holds of each element of a list, and lists that end alike.
+use Rattle.std.proofs.Common.{◌≡◌, suc, List, [], ◌∷◌, ◌++◌, length, map, refl, ap, ◌∙◌, arith}
+use Rattle.std.proofs.lemmas.List.{length-append}
 use Rattle.own_run.specs.Lists.{Each}
 
 pub each_more : {A : Type 0} (P Q : A → Type 0) (xs : List A) → ((x : A) → P x → Q x) → Each P xs → Each Q xs
@@ -21,3 +22,22 @@ each_both P Q R (x ∷ xs) f h k = (f x h.0 k.0, each_both P Q R xs f h.1 k.1)
 pub each_map : {A B : Type 0} (f : A → B) (P : B → Type 0) (xs : List A) → Each (λ x. P (f x)) xs → Each P (map f xs)
 each_map f P [] h = tt
 each_map f P (x ∷ xs) h = (h.0, each_map f P xs h.1)
+
+-- two lists with a last element
+pub record SameEnd {A : Type 0} (xs ys : List A) (x y : A) : Type 0 where
+  pub front : xs ≡ ys
+  pub last : x ≡ y
+
+pub same_end : {A : Type 0} (xs ys : List A) (x y : A) → xs ++ x ∷ [] ≡ ys ++ y ∷ [] → SameEnd xs ys x y
+same_end [] [] x y e = let same : x ≡ y = cc in record { front = refl; last = same }
+same_end [] (z ∷ zs) x y e =
+    let long : 1 ≡ suc (length (zs ++ y ∷ [])) = ap length e in
+    absurd (omega (arith, long, length-append zs (y ∷ [])))
+same_end (z ∷ zs) [] x y e =
+    let long : suc (length (zs ++ x ∷ [])) ≡ 1 = ap length e in
+    absurd (omega (arith, long, length-append zs (x ∷ [])))
+same_end {A} (z ∷ zs) (w ∷ ws) x y e =
+    let head : z ≡ w = cc in
+    let tail : zs ++ x ∷ [] ≡ ws ++ y ∷ [] = cc in
+    let r = same_end zs ws x y tail in
+    record { front = ap (λ (l : List A). z ∷ l) r.front ∙ ap (λ (h : A). h ∷ ws) head; last = r.last }

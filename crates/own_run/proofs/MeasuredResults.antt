@@ -16,23 +16,23 @@ use Rattle.race_checker.specs.Calm.{IsCalm}
 use Rattle.race_checker.proofs.Scoping.{is_scoped}
 use Rattle.race_checker.proofs.Calming.{is_calm}
 use Rattle.own_run.specs.Results.{TaskResult, Settled}
-use Rattle.own_run.specs.OwnRun.{Start, Child, Own, result_of}
-use Rattle.own_run.specs.Given.{own, given, below, IsOwn}
-use Rattle.own_run.specs.Frames.{Standing, IsBegun, IsGivenChild}
+use Rattle.own_run.specs.OwnRun.{Start, Own, result_of}
+use Rattle.own_run.specs.Given.{given, IsOfOwnRun, IsOwn}
+use Rattle.own_run.specs.Frames.{Standing, IsBegun}
 use Rattle.own_run.specs.Holds.{MayBegin}
 use Rattle.own_run.specs.Lists.{Each, Inserted, here, later, Shuffled, none, one}
 use Rattle.own_run.specs.Reached.{Reached}
 use Rattle.own_run.specs.Runs.{root, MayStand, IsTaskResult}
 use Rattle.own_run.specs.Settling.{settle, NoTwice}
 use Rattle.own_run.specs.Worth.{measured, worth_by, worth, listed_worth}
-use Rattle.own_run.proofs.Lists.{each_more, each_append}
-use Rattle.own_run.proofs.SettledResults.{paths_same, lists_true}
-use Rattle.own_run.proofs.CompleteResults.{path_same}
-use Rattle.own_run.proofs.OnePath.{From, own_path, all_once, below_once, shuffled_once}
+use Rattle.own_run.proofs.Lists.{each_more}
+use Rattle.own_run.proofs.SettledResults.{paths_same}
+use Rattle.own_run.proofs.CompleteResults.{inserted_each, path_same}
+use Rattle.own_run.proofs.OnePath.{From, all_once, below_once, shuffled_once}
 use Rattle.own_run.proofs.TaskRuns.{lists_given}
 use Rattle.own_run.proofs.HoldingTurns.{root_begins}
 use Rattle.own_run.proofs.ReachedTasks.{goes, ends_own}
-use Rattle.own_run.proofs.NeverStuck.{pending_results, distinct, settles_any}
+use Rattle.own_run.proofs.NeverStuck.{pending_results, pending_own, distinct, settles_any}
 use Rattle.own_run.proofs.AcceptedPrograms.{provides_needs}
 use Rattle.own_run.proofs.StartsWorth.{pending_worth, worth_lists}
 
@@ -72,23 +72,13 @@ pick path (z ∷ zs) h = by_path (pick path zs) (pointwise nat_eq z.path path) r
         let p = further (omega (arith, a, b, h)) in
         record { it = p.it; others = z ∷ p.others; put = later p.put; named = p.named }
 
-pub each_inserted : (P : TaskResult → Type 0) (x : TaskResult) (ys zs : List TaskResult) → Inserted x ys zs → Each P zs → P x × Each P ys
-each_inserted P x ys zs here h = h
-each_inserted P x _ _ (later {y = y} {ys = ys} {zs = zs} i) h = let k = each_inserted P x ys zs i h.1 in (k.0, (h.0, k.1))
-
-pub no_more : (ys : List TaskResult) → 0 ≡ measured (λ r. 1) ys → ys ≡ []
+no_more : (ys : List TaskResult) → 0 ≡ measured (λ r. 1) ys → ys ≡ []
 no_more [] e = refl
 no_more (y ∷ ys) e = absurd (let a = sum_by-cons (λ (r : TaskResult). 1) y ys in omega (arith, a, e))
 
 module _ (p : Program) (needs : Codes → Needs) (fresh : ℕ) (top : Start) where
-  -- a result of an own run
-  pub record IsReal (r : TaskResult) : Type 0 where
-    start : Start
-    is : given p needs fresh top r.path ≡ Some start
-    same : r ≡ result_of (own p needs fresh start)
-
-  -- results that measure alike stand in some order
-  pub shuffled : (xs ys : List TaskResult) → Each IsReal xs → Each (IsOwn p needs fresh top) ys
+  -- results of own runs that measure alike are the same, in some order
+  pub shuffled : (xs ys : List TaskResult) → Each (IsOfOwnRun p needs fresh top) xs → Each (IsOwn p needs fresh top) ys
       → ((f : TaskResult → ℕ) → measured f xs ≡ measured f ys) → Shuffled xs ys
   shuffled [] ys h k e = subst (Shuffled []) (sym (no_more ys (e (λ r. 1)))) none
   shuffled (x ∷ xs) ys h k e =
@@ -96,8 +86,8 @@ module _ (p : Program) (needs : Codes → Needs) (fresh : ℕ) (top : Start) whe
       let some = e (at_path x.path) in
       let cons = sum_by-cons (at_path x.path) x xs in
       let q = pick x.path ys (omega (arith, first, some, cons)) in
-      let own_ones = each_inserted (IsOwn p needs fresh top) q.it q.others ys q.put k in
-      let same : q.it ≡ x = own_ones.0 h.0.start (ap (given p needs fresh top) q.named ∙ h.0.is) ∙ sym h.0.same in
+      let own_ones = inserted_each (IsOwn p needs fresh top) q.put k in
+      let same : q.it ≡ x = own_ones.0 h.0.start (ap (given p needs fresh top) q.named ∙ h.0.of_path) ∙ sym h.0.is in
       one (subst (λ y. Inserted y q.others ys) same q.put)
       (shuffled xs q.others h.1 own_ones.1 (λ f. less f q.it q.others q.put same))
     where
@@ -109,26 +99,6 @@ module _ (p : Program) (needs : Codes → Needs) (fresh : ℕ) (top : Start) whe
           let c : f it ≡ f x = ap f same in
           let d = sum_by-cons f x xs in
           omega (arith, a, b, c, d)
-
-  each_real : (n : ℕ) → ((s : Start) → given p needs fresh top s.path ≡ Some s → Each IsReal (below p needs fresh n s))
-      → (cs : List Child) → Each (IsGivenChild p needs fresh top) cs → Each IsReal (pending_results p needs fresh (suc n) cs)
-  each_real n rec [] h = tt
-  each_real n rec (c ∷ cs) h =
-      each_append IsReal (result_of (own p needs fresh c.start) ∷ below p needs fresh n c.start) (pending_results p needs fresh (suc n) cs) (
-        record { start = c.start; is = ap (given p needs fresh top) (own_path p needs fresh c.start) ∙ h.0.is; same = refl },
-        rec c.start h.0.is,
-      )
-      (each_real n rec cs h.1)
-
-  below_real : (n : ℕ) (s : Start) → given p needs fresh top s.path ≡ Some s → Each IsReal (below p needs fresh n s)
-  below_real zero s is = tt
-  below_real (suc n) s is = each_real n (λ c e. below_real n c e) (own p needs fresh s).extra.pending (lists_true p needs fresh top s is)
-
-  -- all that is pending is real, and all below it
-  pub pending_real : (n : ℕ) (cs : List Child) → Each (IsGivenChild p needs fresh top) cs
-      → Each IsReal (pending_results p needs fresh n cs)
-  pending_real zero cs h = tt
-  pending_real (suc n) cs h = each_real n (λ c e. below_real n c e) cs h
 
 module _ (p : Program) (needs : Codes → Needs) (scoped : IsScoped p) (calm : IsCalm p) (provided : Provides p needs) (fresh : ℕ)
     (top : Start) (named : top.path ≡ []) (may_begin : MayBegin p needs top) where
@@ -160,7 +130,7 @@ module _ (p : Program) (needs : Codes → Needs) (scoped : IsScoped p) (calm : I
       let k = goes p needs scoped calm provided fresh top named may_begin r in
       let order =
       shuffled p needs fresh top (pending_results p needs fresh s.nest t.state.extra.pending) rs
-      (pending_real p needs fresh top s.nest t.state.extra.pending (lists_given p needs fresh top s t.frames t.state k.task))
+      (pending_own p needs fresh top s.nest t.state.extra.pending (lists_given p needs fresh top s t.frames t.state k.task))
       all (λ f. pending_worth p needs fresh f s.nest t.state t.state.extra.pending k.task.fine.begun ∙ sym (e f)) in
       settles_any p needs scoped calm provided fresh top named may_begin s.nest s t.frames t.state refl k.task k.holds rs order
       (shuffled_once order (all_pending_once s.nest s t r))

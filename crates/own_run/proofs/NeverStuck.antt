@@ -15,7 +15,7 @@ use Rattle.race_checker.specs.Scope.{IsScoped}
 use Rattle.race_checker.specs.Calm.{IsCalm}
 use Rattle.own_run.specs.Results.{TaskResult, Settled, none_yet, complete, and_then}
 use Rattle.own_run.specs.OwnRun.{Start, Child, Own, result_of, own_rules}
-use Rattle.own_run.specs.Given.{filled, in_truth, own, given, below, IsOfOwnRun, IsOwn}
+use Rattle.own_run.specs.Given.{filled, in_truth, own, given, below, IsOfOwnRun}
 use Rattle.own_run.specs.Frames.{Frame, Rest, Again, AtEnd, Back, Standing, by_value, chosen, acted, paid, by_flow}
 use Rattle.own_run.specs.Frames.{turn, handed, IsBegun, HasBegun, IsTask, IsGivenChild}
 use Rattle.own_run.specs.Holds.{MayBegin, Holds}
@@ -25,7 +25,7 @@ use Rattle.own_run.specs.Lists.{Each, Shuffled, none, one, here}
 use Rattle.own_run.proofs.Lists.{each_more, each_append}
 use Rattle.own_run.specs.Settling.{NoTwice}
 use Rattle.own_run.proofs.CompleteResults.{Stands, fill_complete, settle_complete, none_in}
-use Rattle.own_run.proofs.TaskRuns.{lists_given, own_if_given}
+use Rattle.own_run.proofs.TaskRuns.{lists_given, each_if_given}
 use Rattle.own_run.proofs.OnePath.{Once, Names, names, From, own_path, all_once, below_once, shuffled_each}
 use Rattle.own_run.proofs.SettledResults.{lists_true}
 use Rattle.own_run.proofs.TasksEnd.{own_ends, each_below, below_parted, weight, Falls, spends, sheds, flow_falls}
@@ -124,11 +124,19 @@ module _ (p : Program) (needs : Codes → Needs) (fresh : ℕ) where
     each_own results (c ∷ cs) h f =
         each_append (IsOfOwnRun p needs fresh root) (results c) (flat_map results cs) (f c h.0) (each_own results cs h.1 f)
 
-    below_own : (n : ℕ) (s : Start) → given p needs fresh root s.path ≡ Some s → Each (IsOfOwnRun p needs fresh root) (below p needs fresh n s)
+    pub below_own : (n : ℕ) (s : Start) → given p needs fresh root s.path ≡ Some s
+        → Each (IsOfOwnRun p needs fresh root) (below p needs fresh n s)
     below_own zero s is = tt
     below_own (suc n) s is =
         each_own (λ c. result_of (own p needs fresh c.start) ∷ below p needs fresh n c.start) (own p needs fresh s).extra.pending
         (lists_true p needs fresh root s is)
+        (λ c t. (own_is_own c.start t.is, below_own n c.start t.is))
+
+    pub pending_own : (n : ℕ) (cs : List Child) → Each (IsGivenChild p needs fresh root) cs
+        → Each (IsOfOwnRun p needs fresh root) (pending_results n cs)
+    pending_own zero cs h = tt
+    pending_own (suc n) cs h =
+        each_own (λ c. result_of (own p needs fresh c.start) ∷ below p needs fresh n c.start) cs h
         (λ c t. (own_is_own c.start t.is, below_own n c.start t.is))
 
 module _ (p : Program) (needs : Codes → Needs) (scoped : IsScoped p) (calm : IsCalm p) (provided : Provides p needs) (fresh : ℕ) where
@@ -203,8 +211,7 @@ module _ (p : Program) (needs : Codes → Needs) (scoped : IsScoped p) (calm : I
         (λ c h. record { number = h.number; path = h.path }) task.fine.begun) o (below_once p needs fresh n)) in
         record {
           results = rs;
-          owns = each_own p needs fresh root results st.extra.pending (lists_given p needs fresh root s fs st task)
-              (λ c t. (own_is_own p needs fresh root c.start t.is, below_own p needs fresh root n c.start t.is));
+          owns = pending_own p needs fresh root (suc n) st.extra.pending (lists_given p needs fresh root s fs st task);
           comes = k.0;
           settles = k.1;
         }
@@ -276,6 +283,5 @@ module _ (p : Program) (needs : Codes → Needs) (scoped : IsScoped p) (calm : I
         (λ before fs st r lighter.
         let k = can_leave s (record { frames = AtEnd before ∷ fs; state = st }) r in
         lighter (handed before k.comes st) (le_refl st.steps)
-        (leaves k.results r
-        (each_more (IsOfOwnRun p needs fresh root) (IsOwn p needs fresh root) k.results (own_if_given p needs fresh root) k.owns) k.settles))
+        (leaves k.results r (each_if_given p needs fresh root k.results k.owns) k.settles))
         (λ f fs st r. inr (turns r)) t.frames t.state r

@@ -3,12 +3,12 @@ use Rattle.std.proofs.Common.{◌≡◌, ℕ, zero, suc, ◌+◌, List, [], ◌�
 use Rattle.std.proofs.lemmas.List.{append-nil}
 use Rattle.std.specs.Prelude.{◌⊎◌, Bool, true, false, ◌&&◌, ◌||◌, if◌then◌else◌}
 use Rattle.std.proofs.lemmas.Bool.{and_parts}
+use Rattle.facts.proofs.Truths.{false_true}
 use Rattle.types.specs.Code.{Codes, Program}
 use Rattle.types.specs.Run.{Flow, On, Faulted, Stopped, Fault, State, Rules, Work, Block, at_flow, go_on, run}
 use Rattle.types.specs.Meaning.{after_finish}
 use Rattle.types.proofs.Views.{View, viewed, same_told, Follows, IsView, within_follows}
 use Rattle.effects.specs.Needs.{Needs}
-use Rattle.effects.proofs.Members.{false_true}
 use Rattle.own_run.specs.Apart.{Aside, is_stopped, stops_anywhere, merged, gather, apart_rules, begin_apart, apart}
 use Rattle.own_run.specs.Results.{Settled, none_yet, fill, complete}
 use Rattle.own_run.specs.OwnRun.{Start, Child, Own, EndFinish, at_first, notes, is_waiting, result_of, child_of}

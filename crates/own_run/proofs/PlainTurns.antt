@@ -15,9 +15,14 @@ use Rattle.plain_code.proofs.Reaching.{Inside, inside, plain_behind}
 use Rattle.own_run.specs.Results.{Settled}
 use Rattle.own_run.specs.OwnRun.{Own, own_rules}
 use Rattle.own_run.specs.Frames.{Frame, Rest, Again, Back, Standing, acted, by_flow, by_value, chosen, done_at, done_by, paid, turn}
-use Rattle.own_run.specs.Quiet.{IsLittle, Quietly, frame_of, here, further}
+use Rattle.own_run.specs.Quiet.{IsLittle, Quietly, here, further}
 use Rattle.own_run.proofs.Counted.{counted_flow, counted_steps}
 use Rattle.own_run.proofs.TaskTurns.{own_thrifty}
+
+-- the frame of work
+abbrev pub frame_of : Work → Frame Own
+frame_of (Block b) = Rest b
+frame_of (Turn l t b) = Again l t b
 
 module _ (p : Program) (needs : Codes → Needs) (nest : ℕ) (close : State Own → Option Settled) where
   abbrev r : Rules Own

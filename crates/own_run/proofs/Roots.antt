@@ -2,11 +2,11 @@
 use Rattle.std.proofs.Common.{◌≡◌, ℕ, zero, suc, ◌+◌, ◌<◌, ◌≤◌, List, [], ◌∷◌, length, Option, Some, None, refl, ap, ◌∙◌, inl, inr}
 use Rattle.std.proofs.Common.{arith}
 use Rattle.std.proofs.lemmas.Option.{slice_get-get_or}
-use Rattle.std.specs.Prelude.{ℤ, pos, Bool, true, false, ◌⊎◌, ◌||◌, is_some, slice_get, slice_index_or}
+use Rattle.std.specs.Prelude.{ℤ, pos, Bool, true, false, ◌||◌, is_some, slice_get, slice_index_or}
 use Rattle.std.proofs.lemmas.Bool.{or_cases}
+use Rattle.sections.proofs.Covering.{in_window, is_in-from}
+use Rattle.facts.proofs.Truths.{same_truth, false_true}
 use Rattle.sections.specs.Covers.{has, is_in}
-use Rattle.sections.proofs.Members.{same_truth}
-use Rattle.effects.proofs.Members.{false_true}
 use Rattle.sections.specs.Place.{Place, Window}
 use Rattle.types.specs.Code.{Array}
 use Rattle.types.specs.Contents.{FitsArrays, also, held_by}
@@ -15,7 +15,6 @@ use Rattle.holdings.specs.Held.{as_owned, numbers, owned}
 use Rattle.holdings.specs.Holdings.{held, listed}
 use Rattle.holdings.specs.declared.holdings.Holdings.{Holdings}
 use Rattle.own_run.specs.Translation.{contents_of, owned_by}
-use Rattle.own_run.proofs.Windows.{covered_in, in_covered}
 
 or_second : (a b : Bool) → b ≡ true → (a || b) ≡ true
 or_second true b h = refl
@@ -42,7 +41,7 @@ behind : (n : ℕ) (xs : List Array) (q : Place) → has (whole_arrays n xs) q �
 behind n [] q h = false_true h
 behind n (x ∷ xs) q h =
     elim (or_cases (is_in (whole n x) q) (has (whole_arrays (n + 1) xs) q) h) as (λ _. n ≤ q.array) [
-      | inl c ↦ let i = (covered_in (whole n x) q c).array in omega (arith, i)
+      | inl c ↦ let i = (in_window (whole n x) q c).array in omega (arith, i)
       | inr c ↦ let i = behind (n + 1) xs q c in omega (arith, i)
     ]
 
@@ -52,13 +51,13 @@ inside n k [] rows fits q e h = false_true h
 inside n k (x ∷ xs) [] fits q e h = elim fits [ ]
 inside n zero (x ∷ xs) (r ∷ rs) (also l fits) q e h =
     elim (or_cases (is_in (whole n x) q) (has (whole_arrays (n + 1) xs) q) h) as (λ _. is_some (slice_get r q.index) ≡ true) [
-      | inl c ↦ let i = (covered_in (whole n x) q c).high in is_there r q.index (omega (arith, i, l))
+      | inl c ↦ let i = (in_window (whole n x) q c).high in is_there r q.index (omega (arith, i, l))
       | inr c ↦ let i = behind (n + 1) xs q c in absurd (omega (arith, i, e))
     ]
 inside n (suc k) (x ∷ xs) (r ∷ rs) (also l fits) q e h =
     elim (or_cases (is_in (whole n x) q) (has (whole_arrays (n + 1) xs) q) h)
     as (λ _. is_some (slice_get (slice_index_or rs k []) q.index) ≡ true) [
-      | inl c ↦ let i = (covered_in (whole n x) q c).array in absurd (omega (arith, i, e))
+      | inl c ↦ let i = (in_window (whole n x) q c).array in absurd (omega (arith, i, e))
       | inr c ↦ inside (n + 1) k xs rs fits q (omega (arith, e)) c
     ]
 
@@ -71,7 +70,7 @@ outside n k (x ∷ xs) [] fits q e h = elim fits [ ]
 outside n zero (x ∷ xs) (r ∷ rs) (also l fits) q e h =
     let i = there_is r q.index h in
     or_first (is_in (whole n x) q) (has (whole_arrays (n + 1) xs) q)
-    (in_covered (whole n x) q
+    (is_in-from (whole n x) q
     (record { array = omega (arith, e); low = omega arith; high = omega (arith, i, l) }))
 outside n (suc k) (x ∷ xs) (r ∷ rs) (also l fits) q e h =
     or_second (is_in (whole n x) q) (has (whole_arrays (n + 1) xs) q)

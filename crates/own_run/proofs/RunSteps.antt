@@ -8,7 +8,7 @@ use Rattle.types.specs.Run.{State, Rules, Flow, On, fault, primitive, number_at,
 use Rattle.types.specs.Translation.{program}
 use Rattle.types.specs.Value.{Valued, element_of, holds_number, then_try}
 use Rattle.effects.specs.Needs.{Needs}
-use Rattle.statement_steps.specs.declared.thread.Flow.TheVariants.{On as rOn}
+use Rattle.statement_steps.specs.declared.flow.Flow.TheVariants.{On as rOn}
 use Rattle.statement_steps.specs.declared.thread.Thread.{Thread}
 use Rattle.statement_steps.specs.Standing.{KeepsTask, flow as flow_of}
 use Rattle.statement_steps.proofs.Steps.{on_ok_both}

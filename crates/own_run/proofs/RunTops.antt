@@ -23,26 +23,9 @@ use Rattle.own_run.specs.Standings.{ShowsFrame, Stacked, state_of, with_own}
 use Rattle.own_run.specs.Translation.{owned_by}
 use Rattle.own_run.specs.declared.frame.Frame.{Frame as rFrame}
 use Rattle.own_run.specs.declared.run.Run.{Run}
+use Rattle.own_run.proofs.Lists.{same_end}
 
 -- ---- the top frame
-
-pub record SameEnd {A : Type 0} (xs ys : List A) (x y : A) : Type 0 where
-  pub front : xs ≡ ys
-  pub last : x ≡ y
-
-pub same_end : {A : Type 0} (xs ys : List A) (x y : A) → xs ++ x ∷ [] ≡ ys ++ y ∷ [] → SameEnd xs ys x y
-same_end [] [] x y e = let same : x ≡ y = cc in record { front = refl; last = same }
-same_end [] (z ∷ zs) x y e =
-    let long : 1 ≡ suc (length (zs ++ y ∷ [])) = ap length e in
-    absurd (omega (arith, long, length-append zs (y ∷ [])))
-same_end (z ∷ zs) [] x y e =
-    let long : suc (length (zs ++ x ∷ [])) ≡ 1 = ap length e in
-    absurd (omega (arith, long, length-append zs (x ∷ [])))
-same_end {A} (z ∷ zs) (w ∷ ws) x y e =
-    let head : z ≡ w = cc in
-    let tail : zs ++ x ∷ [] ≡ ws ++ y ∷ [] = cc in
-    let r = same_end zs ws x y tail in
-    record { front = ap (λ (l : List A). z ∷ l) r.front ∙ ap (λ (h : A). h ∷ ws) head; last = r.last }
 
 -- a fact of all frames that a run may stand on, where the top one was taken off
 pub on_top : (gs hs : List rFrame) (g : rFrame) (fs : List (Frame Own)) → gs ≡ hs ++ g ∷ [] → Stacked gs fs

@@ -10,7 +10,6 @@ use Rattle.types.specs.Contents.{held_by, shown}
 use Rattle.types.specs.Run.{State, Block}
 use Rattle.types.specs.Outcome.{Budget, start, outcome_by, outcome}
 use Rattle.effects.specs.Needs.{Needs, Provides}
-use Rattle.effects.proofs.Members.{false_true}
 use Rattle.race_checker.specs.Scope.{IsScoped}
 use Rattle.race_checker.specs.Calm.{IsCalm}
 use Rattle.own_run.specs.Places.{Places, meets}
@@ -20,6 +19,7 @@ use Rattle.own_run.specs.OwnRun.{Start, Child, Own, at_first, result_of, begun_b
 use Rattle.own_run.specs.Given.{filled, in_truth, comes_to, own, given, IsOwn, root_of, told_of}
 use Rattle.own_run.specs.Frames.{IsBegun, IsGivenChild}
 use Rattle.std.specs.Cmp.Lexicographic.{pointwise}
+use Rattle.facts.proofs.Truths.{false_true}
 use Rattle.own_run.specs.Settling.{behind, take, fill_all, settle_within, none_left, settle}
 use Rattle.own_run.specs.Lists.{Each}
 use Rattle.own_run.proofs.Lists.{each_more}

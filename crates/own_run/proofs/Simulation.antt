@@ -5,6 +5,7 @@ use Rattle.std.proofs.Common.{◌∙◌, subst, inl, inr}
 use Rattle.std.proofs.lemmas.Bool.{or_left, or_right, or_from}
 use Rattle.std.proofs.lemmas.List.Elements.{Contains-append_left, Contains-append_right}
 use Rattle.std.specs.Prelude.{ℤ, ◌⊎◌, Bool, true, false, Contains, flat_map, map, ok_or, if◌then◌else◌}
+use Rattle.facts.proofs.Truths.{false_true}
 use Rattle.types.proofs.Bindings.{element_in}
 use Rattle.sections.specs.Place.{Window, Place, In, sides_of}
 use Rattle.sections.specs.Member.{Member, first, next}
@@ -18,11 +19,10 @@ use Rattle.types.specs.Run.{Flow, On, Faulted, Stopped, Work, Block, Turn, Rules
 use Rattle.types.specs.Run.{array_of, procedure_of, counted, act, block, work, within}
 use Rattle.types.specs.Meaning.{hushed, joined, child, after_async, after_body, after_finish, one_rules_by, begin_one}
 use Rattle.effects.specs.Accesses.{Access, own_accesses}
-use Rattle.effects.specs.Effects.{past_split, past_call, renamed, if_body, if_other, while, split, call, AllOf, All}
+use Rattle.effects.specs.Effects.{past_split, past_call, if_body, if_other, while, split, call, AllOf, All}
 use Rattle.effects.specs.Effects.{PendingOf, Pending, accesses}
 use Rattle.effects.specs.Footprint.{Touches, Overwrites}
 use Rattle.effects.specs.Needs.{Needs, ProvidesIn, ProvidesOf, Provides}
-use Rattle.effects.proofs.Members.{false_true}
 use Rattle.race_checker.specs.Scope.{Top, Inside, InScope, FitsScope, may_writes, Scoped, ScopedOf, IsScoped}
 use Rattle.race_checker.specs.Calm.{Calm, CalmOf, IsCalm}
 use Rattle.race_checker.proofs.Scoping.{length_may_writes}

@@ -63,9 +63,12 @@ module _ (p : Program) (needs : Codes → Needs) (fresh : ℕ) (f : TaskResult �
   below_is zero s = refl
   below_is (suc n) s = refl
 
-  -- so a start is worth its own result, and what is listed at its task's end
+  -- so what is below a start is worth what is listed at its task's end
+  pub below_worth : (s : Start) → measured f (below p needs fresh s.nest s)
+      ≡ sum_by (λ c. worth_by p needs fresh f c.start) (own p needs fresh s).extra.pending
+  below_worth s = below_is s.nest s ∙ pending_worth s.nest (own p needs fresh s) (own p needs fresh s).extra.pending (begun s)
+
+  -- and the start its own result with that
   pub worth_lists : (s : Start) → worth_by p needs fresh f s
       ≡ f (result_of (own p needs fresh s)) + sum_by (λ c. worth_by p needs fresh f c.start) (own p needs fresh s).extra.pending
-  worth_lists s =
-      ap (λ n. f (result_of (own p needs fresh s)) + n)
-      (below_is s.nest s ∙ pending_worth s.nest (own p needs fresh s) (own p needs fresh s).extra.pending (begun s))
+  worth_lists s = ap (λ n. f (result_of (own p needs fresh s)) + n) (below_worth s)

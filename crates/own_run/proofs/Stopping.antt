@@ -4,6 +4,7 @@ use Rattle.std.proofs.Common.{◌≡◌, ℕ, zero, suc, ◌+◌, List, [], ◌�
 use Rattle.std.proofs.Common.{ap, ◌∙◌, subst}
 use Rattle.std.specs.Prelude.{Bool, true, false, nat_eq, ◌||◌, ok_or, if◌then◌else◌}
 use Rattle.std.proofs.Math.Bool.{or-false, or_assoc}
+use Rattle.facts.proofs.Truths.{or_swap}
 use Rattle.sections.specs.Covers.{has}
 use Rattle.sections.specs.Place.{Place, sides_of}
 use Rattle.types.specs.declared.fault.FaultKind.TheVariants.{SplitPoint}
@@ -24,11 +25,6 @@ use Rattle.own_run.specs.Stops.{is_none, is_over, is_next_over, stops, some_stop
 use Rattle.std.specs.Cmp.Lexicographic.{pointwise}
 use Rattle.own_run.specs.Settling.{behind, take, fill_all, settle_within, none_left, settle}
 use Rattle.own_run.proofs.SettledResults.{unless_none, gives}
-
-or_turned : (a b c : Bool) → (a || (b || c)) ≡ (b || (a || c))
-or_turned true true c = refl
-or_turned true false c = refl
-or_turned false b c = refl
 
 -- ---- a turn
 module _ (p : Program) (needs : Codes → Needs) (nest : ℕ) (close : State Own → Option Settled) where
@@ -113,7 +109,7 @@ take_stopped path (r ∷ rs) found e = by_path (take_stopped path rs) (pointwise
     later rec (Some f) w q =
         let i : (f.0, r ∷ f.1) ≡ found = same_Some _ _ q in
         subst (λ (f : TaskResult × List TaskResult). (r.stopped || some_stopped rs) ≡ (f.0.stopped || some_stopped f.1)) i
-        (ap (λ h. r.stopped || h) (rec f w) ∙ or_turned r.stopped f.0.stopped (some_stopped f.1))
+        (ap (λ h. r.stopped || h) (rec f w) ∙ or_swap r.stopped f.0.stopped (some_stopped f.1))
 
     by_path : ((f : TaskResult × List TaskResult) → take path rs ≡ Some f → some_stopped rs ≡ (f.0.stopped || some_stopped f.1))
         → (b : Bool) → (if b then Some (r, rs) else behind r (take path rs)) ≡ Some found

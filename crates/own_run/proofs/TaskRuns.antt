@@ -2,7 +2,7 @@
 use Rattle.std.proofs.lemmas.Option.{same_Some}
 use Rattle.std.proofs.Common.{◌≡◌, ℕ, zero, suc, ◌+◌, List, [], ◌∷◌, ◌++◌, length, Option, Some, refl, sym, ap, ◌∙◌}
 use Rattle.std.proofs.Common.{arith, append_assoc}
-use Rattle.std.specs.Prelude.{false, ◌&&◌, slice_get, if◌then◌else◌}
+use Rattle.std.specs.Prelude.{false, slice_get, if◌then◌else◌}
 use Rattle.std.proofs.lemmas.Bool.{and_right}
 use Rattle.types.specs.Code.{Code, Do, If, While, Split, Call, Async, Finish, Codes, End, Then, Program}
 use Rattle.types.specs.Run.{Flow, On, Faulted, Stopped, State, Rules}
@@ -26,6 +26,9 @@ module _ (p : Program) (needs : Codes → Needs) (fresh : ℕ) (root : Start) wh
   -- what is of a task's own run is so for whatever start its path is given
   pub own_if_given : (r : TaskResult) → IsOfOwnRun p needs fresh root r → IsOwn p needs fresh root r
   own_if_given r k s e = k.is ∙ ap (λ s. result_of (own p needs fresh s)) (same_Some _ _ (sym k.of_path ∙ e))
+
+  pub each_if_given : (rs : List TaskResult) → Each (IsOfOwnRun p needs fresh root) rs → Each (IsOwn p needs fresh root) rs
+  each_if_given rs = each_more (IsOfOwnRun p needs fresh root) (IsOwn p needs fresh root) rs own_if_given
 
   -- where it is awake, a finish ends with what is handed over
   leaves : (nest : ℕ) (close : State Own → Option Settled) (before st : State Own) (x : Settled) → st.extra.waits ≡ false

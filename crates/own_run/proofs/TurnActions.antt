@@ -4,6 +4,7 @@ use Rattle.std.proofs.Common.{◌∙◌, subst, arith}
 use Rattle.std.proofs.lemmas.List.{append-nil}
 use Rattle.std.specs.Prelude.{Bool, true, false, ◌&&◌, ok_or, slice_get, if◌then◌else◌}
 use Rattle.std.proofs.lemmas.Bool.{and_parts}
+use Rattle.facts.proofs.Truths.{false_true}
 use Rattle.sections.specs.Place.{sides_of}
 use Rattle.types.specs.declared.fault.FaultKind.TheVariants.{SplitPoint}
 use Rattle.types.specs.Code.{Code, Do, If, While, Split, Call, Async, Finish, Codes, End, Then, Program}
@@ -13,7 +14,6 @@ use Rattle.types.specs.Run.{window_at, at_flow, run}
 use Rattle.types.specs.Laws.{IsKept}
 use Rattle.types.proofs.Keeps.{primitive_keeps}
 use Rattle.effects.specs.Needs.{Needs}
-use Rattle.effects.proofs.Members.{false_true}
 use Rattle.own_run.specs.Apart.{is_stopped}
 use Rattle.own_run.specs.Results.{TaskResult, Settled, and_then}
 use Rattle.own_run.specs.OwnRun.{Start, Action, Step, EnterFinish, Own, EndFinish, notes, is_waiting, result_of}

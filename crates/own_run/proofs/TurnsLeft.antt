@@ -12,9 +12,9 @@ use Rattle.types.specs.Run.{Flow, On, Faulted, Stopped, State, Rules, number_at,
 use Rattle.types.specs.Run.{procedure_of}
 use Rattle.effects.specs.Needs.{Needs}
 use Rattle.statement_steps.specs.Standing.{flow}
-use Rattle.statement_steps.specs.declared.thread.Flow.{Flow as rFlow}
+use Rattle.statement_steps.specs.declared.flow.Flow.{Flow as rFlow}
 use Rattle.statement_steps.specs.declared.thread.Plan.{Plan}
-use Rattle.statement_steps.specs.declared.thread.Flow.TheVariants.{On as rOn, Faulted as rFaulted, Stopped as rStopped}
+use Rattle.statement_steps.specs.declared.flow.Flow.TheVariants.{On as rOn, Faulted as rFaulted, Stopped as rStopped}
 use Rattle.own_run.specs.Results.{Settled}
 use Rattle.own_run.specs.OwnRun.{Action, Step, Spawn, EnterFinish, EndFinish, EndTask, Own, Start, own_rules}
 use Rattle.own_run.specs.Frames.{Frame, Rest, Again, AtEnd, Back, Standing, by_value, chosen, acted, paid, by_flow, turn}

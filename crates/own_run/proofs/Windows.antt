@@ -2,11 +2,13 @@
 use Rattle.std.proofs.lemmas.Option.{none-some, same_Some}
 use Rattle.std.proofs.Common.{◌≡◌, ℕ, zero, suc, ◌+◌, ◌-◌, ◌<◌, List, [], ◌∷◌, length, Option, Some, None, Ok, Err}
 use Rattle.std.proofs.Common.{refl, sym, ap, ◌∙◌, subst, inl, inr, arith}
-use Rattle.std.proofs.lemmas.Bool.{ltb-true, leb-true, eqb-true, eqb-false, lt-ltb, le-leb, eq-eqb, and_from, or_left, and_parts, or_cases}
+use Rattle.std.proofs.lemmas.Bool.{leb-true, eqb-true, eqb-false, or_left, or_cases}
 use Rattle.std.proofs.lemmas.Bool.{or_right}
 use Rattle.std.specs.Prelude.{ℤ, pos, negsuc, ◌⊎◌, ◌≢◌, Bool, true, false, ◌||◌, nat_eq, nat_le, ok_or, map}
 use Rattle.std.specs.Prelude.{slice_index_or, if◌then◌else◌}
+use Rattle.facts.proofs.Truths.{false_true}
 use Rattle.sections.specs.Covers.{is_in}
+use Rattle.sections.proofs.Covering.{in_window, is_in-from}
 use Rattle.types.proofs.Bindings.{bind_here}
 use Rattle.sections.specs.Place.{Place, Window, In, nowhere, sides_of}
 use Rattle.sections.specs.Member.{Member, first, next}
@@ -15,26 +17,8 @@ use Rattle.types.specs.declared.fault.FaultKind.TheVariants.{SplitPoint}
 use Rattle.types.specs.Value.{Environment, Valued}
 use Rattle.types.specs.Run.{bind, with_sides}
 use Rattle.effects.specs.Effects.{past_split, past_call}
-use Rattle.effects.proofs.Members.{false_true}
 use Rattle.race_checker.specs.Scope.{Scope, Top, Inside, InScope, FitsScope, FitsTop}
 use Rattle.own_run.specs.Places.{named}
-
--- ---- tests
--- ---- the test of a window
-pub covered_in : (w : Window) (q : Place) → is_in w q ≡ true → In w q
-covered_in w q h =
-    let a = and_parts (nat_eq q.array w.array) _ h in
-    let b = and_parts (nat_le w.at q.index) _ a.1 in
-    record {
-      array = eqb-true q.array w.array a.0;
-      low = leb-true w.at q.index b.0;
-      high = ltb-true q.index (w.at + w.length) b.1;
-    }
-
-pub in_covered : (w : Window) (q : Place) → In w q → is_in w q ≡ true
-in_covered w q h =
-    and_from (nat_eq q.array w.array) _ (eq-eqb q.array w.array h.array)
-    (and_from (nat_le w.at q.index) _ (le-leb w.at q.index h.low) (lt-ltb q.index (w.at + w.length) h.high))
 
 -- a section of a list whose window has the place
 pub record Names (env : Environment) (ss : List ℕ) (q : Place) : Type 0 where
@@ -45,7 +29,7 @@ pub record Names (env : Environment) (ss : List ℕ) (q : Place) : Type 0 where
 pub named_some : (env : Environment) (ss : List ℕ) (q : Place) → named env ss q ≡ true → Names env ss q
 named_some env [] q h = absurd (false_true h)
 named_some env (s ∷ ss) q h = elim (or_cases (is_in (env.windows s) q) _ h) as (λ _. Names env (s ∷ ss) q) [
-  | inl y ↦ record { section = s; listed = first; place = covered_in (env.windows s) q y }
+  | inl y ↦ record { section = s; listed = first; place = in_window (env.windows s) q y }
   | inr n ↦
       let k = named_some env ss q n in
       record { section = k.section; listed = next k.listed; place = k.place }
@@ -54,7 +38,7 @@ named_some env (s ∷ ss) q h = elim (or_cases (is_in (env.windows s) q) _ h) as
 pub some_named : (env : Environment) (ss : List ℕ) (s : ℕ) (q : Place) → Member s ss → In (env.windows s) q
     → named env ss q ≡ true
 some_named env [] s q m i = elim m [ ]
-some_named env (t ∷ ss) s q first i = or_left (is_in (env.windows s) q) _ (in_covered (env.windows s) q i)
+some_named env (t ∷ ss) s q first i = or_left (is_in (env.windows s) q) _ (is_in-from (env.windows s) q i)
 some_named env (t ∷ ss) s q (next m) i = or_right (is_in (env.windows t) q) _ (some_named env ss s q m i)
 
 -- ---- elements and sides

@@ -1,8 +1,8 @@
 -- How many turns a run may still need, with those of all tasks that it may begin.
 use Rattle.std.specs.Prelude.{ℕ, zero, suc, ◌+◌, ◌*◌, List, [], ◌∷◌}
 use Rattle.types.specs.declared.code.Stmt.{Stmt}
-use Rattle.statement_steps.specs.declared.thread.Flow.{Flow}
-use Rattle.statement_steps.specs.declared.thread.Flow.TheVariants.{On, Faulted, Stopped}
+use Rattle.statement_steps.specs.declared.flow.Flow.{Flow}
+use Rattle.statement_steps.specs.declared.flow.Flow.TheVariants.{On, Faulted, Stopped}
 use Rattle.own_run.specs.declared.frame.Frame.{Frame}
 use Rattle.own_run.specs.declared.frame.Frame.TheVariants.{Rest, Again, EndFinish, EndCall}
 use Rattle.own_run.specs.declared.run.Run.{Run}

@@ -6,7 +6,7 @@ use Rattle.types.specs.Code.{Codes}
 use Rattle.types.specs.Meaning.{one}
 use Rattle.types.specs.Run.{Block}
 use Rattle.types.specs.Translation.{program}
-use Rattle.statement_steps.specs.declared.thread.Flow.TheVariants.{On as rOn}
+use Rattle.statement_steps.specs.declared.flow.Flow.TheVariants.{On as rOn}
 use Rattle.serial_run.specs.Machines.{IsCodeOf}
 use Rattle.serial_run.specs.declared.code.Flat.{Flat}
 use Rattle.program_code.specs.Pieces.{piece_of}

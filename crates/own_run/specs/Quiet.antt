@@ -1,11 +1,11 @@
 -- Turns that nobody else sees: each does no more than a step.
 use Rattle.std.specs.Prelude.{ℕ, ◌≡◌, ◌⊎◌, List, [], ◌∷◌, Option}
 use Rattle.types.specs.Code.{Codes, Program}
-use Rattle.types.specs.Run.{State, Work, Block, Turn}
+use Rattle.types.specs.Run.{State}
 use Rattle.effects.specs.Needs.{Needs}
 use Rattle.own_run.specs.Results.{Settled}
 use Rattle.own_run.specs.OwnRun.{Own, Action, Step, own_rules}
-use Rattle.own_run.specs.Frames.{Frame, Rest, Again, Standing, done_in, turn}
+use Rattle.own_run.specs.Frames.{Frame, Standing, done_in, turn}
 
 -- nothing was done, or a step
 abbrev pub IsLittle : List Action → Type 0
@@ -19,8 +19,3 @@ module _ (p : Program) (needs : Codes → Needs) (nest : ℕ) (close : State Own
         → IsLittle (done_in needs nest f st)
         → Quietly (turn p (own_rules needs nest close) f fs st) to
         → Quietly (record { frames = f ∷ fs; state = st }) to
-
--- the frame of work
-abbrev pub frame_of : Work → Frame Own
-frame_of (Block b) = Rest b
-frame_of (Turn l t b) = Again l t b

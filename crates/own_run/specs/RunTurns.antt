@@ -9,7 +9,7 @@ use Rattle.types.specs.Translation.{environment, program}
 use Rattle.effects.specs.Needs.{Needs}
 use Rattle.effects.specs.Statements.{HasStatement}
 use Rattle.statement_steps.specs.Primitive.{CanStore}
-use Rattle.statement_steps.specs.declared.thread.Flow.TheVariants.{On as rOn}
+use Rattle.statement_steps.specs.declared.flow.Flow.TheVariants.{On as rOn}
 use Rattle.own_run.specs.Places.{written, touched}
 use Rattle.own_run.specs.Results.{Settled}
 use Rattle.own_run.specs.OwnRun.{Own, Action, Spawn, EnterFinish, own_rules, result_of}

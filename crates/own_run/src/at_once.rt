@@ -8,10 +8,11 @@ ghost use Rattle.own_run.specs.Passed.{HasPiece, IsPassed};
 use crate::frame::Frame;
 use crate::memory::TaskMemory;
 use crate::run::Run;
-use serial_run::passing::{has_room_for, pass};
 use holdings::holdings::Holdings;
 use program_code::pieces::ProgramCode;
-use statement_steps::thread::{Flow, Thread};
+use serial_run::passing::{has_room_for, pass};
+use statement_steps::flow::Flow;
+use statement_steps::thread::Thread;
 use std::alloc::{AllocError, Global};
 use types::code::Stmt;
 use types::path::Path;
@@ -83,9 +84,7 @@ fn idle(alloc: Global) -> Thread<TaskMemory>
         },
         lines: Vec::new(alloc),
         faults: Vec::new(alloc),
-        path: Path {
-            turns: Vec::new(alloc),
-        },
+        path: Path::root(alloc),
         spawned: 0,
         environment: Environment {
             scalars: Vec::new(alloc),

@@ -18,7 +18,6 @@ use crate::turn::Paused;
 use statement_steps::thread::Thread;
 use std::alloc::{AllocError, Global};
 use types::fault::Fault;
-use types::path::Path;
 
 impl<'p> Run<'p> {
     /// An equal run: whatever this one stands for, that does.
@@ -43,7 +42,7 @@ impl<'p> Paused<'p> {
         let alloc = self.plan.alloc;
         Ok(Paused {
             plan: self.plan,
-            path: path(alloc, &self.path)?,
+            path: self.path.copied(alloc)?,
             spawned: self.spawned,
             environment: self.environment.copied(alloc)?,
             steps: self.steps,
@@ -65,7 +64,7 @@ impl<'p> Start<'p> {
             environment: self.environment.copied(alloc)?,
             holdings: self.holdings.clone(alloc)?,
             nest: self.nest,
-            path: path(alloc, &self.path)?,
+            path: self.path.copied(alloc)?,
         })
     }
 }
@@ -76,7 +75,7 @@ impl TaskResult {
         ensures { IfOk result (λ r. task_result r ≡ task_result self.now) }
     {
         Ok(TaskResult {
-            path: path(alloc, &self.path)?,
+            path: self.path.copied(alloc)?,
             stopped: self.stopped,
             holdings: self.holdings.clone(alloc)?,
             lines: lines(alloc, &self.lines)?,
@@ -92,7 +91,7 @@ impl Listed {
         ensures { IfOk result (λ c. listed c ≡ listed self.now) }
     {
         Ok(Listed {
-            path: path(alloc, &self.path)?,
+            path: self.path.copied(alloc)?,
             windows: Vec::from_slice(alloc, &self.windows)?,
             lines: lines(alloc, &self.lines)?,
             faults: faults(alloc, &self.faults)?,
@@ -147,7 +146,7 @@ fn thread(alloc: Global, thread: &Thread<TaskMemory>) -> Result<Thread<TaskMemor
         store: TaskMemory { holdings },
         lines: lines(alloc, &thread.lines)?,
         faults: faults(alloc, &thread.faults)?,
-        path: path(alloc, &thread.path)?,
+        path: thread.path.copied(alloc)?,
         spawned: thread.spawned,
         environment: thread.environment.copied(alloc)?,
         steps: thread.steps,
@@ -199,7 +198,7 @@ fn faults(alloc: Global, faults: &[Fault]) -> Result<Vec<Fault>, AllocError>
 {
     let mut copies = Vec::new(alloc);
     for fault in faults {
-        let path = path(alloc, &fault.path)?;
+        let path = fault.path.copied(alloc)?;
         copies.push(Fault {
             path,
             label: fault.label,
@@ -207,12 +206,4 @@ fn faults(alloc: Global, faults: &[Fault]) -> Result<Vec<Fault>, AllocError>
         })?;
     }
     Ok(copies)
-}
-
-/// A task's name.
-fn path(alloc: Global, path: &Path) -> Result<Path, AllocError>
-    ensures { IfOk result (λ p. p.turns.items ≡ path.now.turns.items) }
-{
-    let turns = Vec::from_slice(alloc, &path.turns)?;
-    Ok(Path { turns })
 }

@@ -2,6 +2,7 @@
 
 #![tactic(auto)]
 
+mod advance;
 mod at_once;
 mod copy;
 pub mod frame;

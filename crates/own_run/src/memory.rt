@@ -8,11 +8,11 @@ ghost use Rattle.types.specs.Translation.{environment as environment_of};
 ghost use Rattle.own_run.specs.Places.{Places as PlaceSet, only, without};
 ghost use Rattle.own_run.specs.Translation.{contents_of, owned_by};
 
-use serial_run::arrays::Arrays;
 use holdings::error::HoldError;
 use holdings::holdings::Holdings;
 use sections::id::SectionId;
 use sections::window::{Place, Window};
+use serial_run::arrays::Arrays;
 use statement_steps::memory::Memory;
 use std::alloc::{AllocError, Global};
 use types::value::{Environment, Places};

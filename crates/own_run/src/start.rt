@@ -44,9 +44,7 @@ impl<'p> Start<'p> {
             environment,
             holdings,
             nest: plan.budget.nest,
-            path: Path {
-                turns: Vec::new(plan.alloc),
-            },
+            path: Path::root(plan.alloc),
         })
     }
 }

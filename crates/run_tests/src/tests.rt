@@ -20,6 +20,7 @@ use std::thread::Threads;
 use syntax::parse;
 use types::budget::Budget;
 use types::check::type_check;
+use types::child_number::ChildNumber;
 use types::input::Input;
 use types::path::Path;
 
@@ -55,8 +56,12 @@ fn compare<N: Display + Drop, D: Display + Drop>(
 
 /// A path.
 fn path(rt: &impl Abort, alloc: Global, turns: &[u32]) -> Path {
-    let turns = Vec::from_slice(alloc, turns).expect(rt, "memory");
-    Path { turns }
+    let mut path = Path::root(alloc);
+    for turn in turns {
+        let number = ChildNumber::new(*turn).expect(rt, "a child's number");
+        path.turns.push(number).expect(rt, "memory");
+    }
+    path
 }
 
 /// A program without a race.

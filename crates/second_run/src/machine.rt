@@ -6,14 +6,15 @@ use crate::seen::{Overrun, Part, Seen, SeenFault};
 use crate::tried::Tried;
 use sections::id::{ArrayId, SectionId};
 use sections::window::{Place, Window};
+use statement_steps::flow::Flow;
 use statement_steps::store::Store;
-use statement_steps::thread::{Flow, Plan, Thread};
+use statement_steps::thread::{Plan, Thread};
 use std::alloc::AllocError;
+use types::child_number::ChildNumber;
 use types::code::{Label, Number, Primitive, Sides, Stmt, StmtKind, Truth};
 use types::element::holds;
 use types::ids::ProcedureId;
 use types::input::Input;
-use types::path::Path;
 
 /// How many faults are told with what they come from.
 const MOST_FAULTS: u64 = 4;
@@ -79,7 +80,7 @@ impl<'p> Machine<'p> {
             spawned,
             steps,
         } = parent;
-        self.thread.flow = Flow::On;
+        self.thread.flow = self.thread.flow.behind_async();
         self.thread.environment = environment;
         self.thread.path = path;
         self.thread.spawned = spawned;
@@ -232,7 +233,10 @@ impl<'p> Machine<'p> {
             return self.overrun(label, Part::Nest);
         }
         let spawned = self.thread.spawned.saturating_add(1);
-        let path = self.thread.path.child(spawned)?;
+        let Some(number) = ChildNumber::new(spawned) else {
+            return Err(AllocError);
+        };
+        let path = self.thread.path.child(number)?;
         let environment = self.thread.environment.copied(self.plan.alloc)?;
         let parent = Parent {
             environment: std::mem::replace(&mut self.thread.environment, environment),
@@ -351,7 +355,7 @@ impl<'p> Machine<'p> {
         self.thread.flow = Flow::Faulted;
         if self.seen.many < MOST_FAULTS {
             let fault = SeenFault {
-                path: self.path()?,
+                path: self.thread.path.copied(self.plan.alloc)?,
                 label,
                 call: self.innermost_call(),
                 cause,
@@ -365,18 +369,12 @@ impl<'p> Machine<'p> {
     /// The task is over its budget.
     fn overrun(&mut self, label: Label, part: Part) -> Result<(), AllocError> {
         self.seen.overrun = Some(Overrun {
-            path: self.path()?,
+            path: self.thread.path.copied(self.plan.alloc)?,
             label,
             call: self.innermost_call(),
             part,
         });
         Ok(())
-    }
-
-    /// The path of the task.
-    fn path(&self) -> Result<Path, AllocError> {
-        let turns = Vec::from_slice(self.plan.alloc, &self.thread.path.turns)?;
-        Ok(Path { turns })
     }
 
     /// The call in whose body the task stands.

@@ -1,6 +1,7 @@
 //! Runs a program on one thread by flat code.
 #![tactic(auto)]
 
+pub mod applied;
 pub mod arrays;
 pub mod blocks;
 pub mod code;

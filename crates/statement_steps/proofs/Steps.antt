@@ -1,17 +1,16 @@
 -- What loops over lists keep.
-use Rattle.std.proofs.Common.{◌≡◌, ℕ, zero, suc, ◌+◌, ◌<◌, List, [], ◌∷◌, ◌++◌, length, get_or, take, drop, Ok, Err}
-use Rattle.std.proofs.Common.{refl, sym, ap, ◌∙◌, append_assoc, append-nil, arith}
-use Rattle.std.proofs.Math.Seq.{drop-cons, take-suc}
+use Rattle.std.proofs.Common.{◌≡◌, ℕ, zero, suc, ◌+◌, ◌<◌, List, [], ◌∷◌, ◌++◌, length, get_or, take, Ok, Err}
+use Rattle.std.proofs.Common.{refl, sym, ap, ◌∙◌, arith}
+use Rattle.std.proofs.Math.Seq.{take-suc}
 use Rattle.std.proofs.lemmas.List.{map-append}
 use Rattle.std.specs.Prelude.{ℤ, map, slice_get, slice_index_or, Some, None, Result, OnOk}
 use Rattle.types.specs.Code.{End}
-use Rattle.types.specs.declared.fault.FaultKind.{FaultKind}
 use Rattle.types.specs.declared.code.Number.{Number as rNumber}
 use Rattle.types.specs.declared.code.Procedure.{Procedure as rProcedure}
 use Rattle.types.specs.Run.{no_procedure}
 use Rattle.sections.specs.Place.{Place}
 use Rattle.types.specs.Translation.{number as number_of, codes, procedure}
-use Rattle.types.specs.Value.{Environment, Valued, then_try, number, numbers}
+use Rattle.types.specs.Value.{Environment, Valued, then_try, numbers}
 
 -- of two facts for Ok follows a third
 pub on_ok_both : {T E P Q R : Type 0} (r : Result T E) → (P → Q → R) → OnOk r P → OnOk r Q → OnOk r R
@@ -35,38 +34,6 @@ module _ (env : Environment) (read : Place → ℤ) where
   -- the numbers so far, followed by those of the expressions that are left
   abbrev pub followed : List rNumber → List ℤ → Valued (List ℤ)
   followed es so_far = then_try (numbers env read (map number_of es)) (λ vs. Ok (so_far ++ vs))
-
-  grown : (r : Valued (List ℤ)) (so_far : List ℤ) (v : ℤ)
-      → then_try (then_try r (λ vs. Ok (v ∷ vs)))
-      (λ vs. Ok (so_far ++ vs)) ≡ then_try r (λ vs. Ok ((so_far ++ v ∷ []) ++ vs))
-  grown (Ok vs) so_far v = ap Ok (sym (append_assoc so_far (v ∷ []) vs))
-  grown (Err f) so_far v = refl
-
-  left_at : (es : List rNumber) (i : ℕ) (e : rNumber) (so_far : List ℤ) → i < length es → e ≡ get_or es i e
-      → followed (drop i es) so_far ≡ followed (e ∷ drop (i + 1) es) so_far
-  left_at es i e so_far lt at =
-      let more : suc i ≡ i + 1 = omega arith in
-      ap (λ l. followed l so_far) (drop-cons es i e lt ∙ ap (λ x. x ∷ drop (suc i) es) (sym at) ∙ ap (λ j. e ∷ drop j es) more)
-
-  pub followed-Ok : (es : List rNumber) (i : ℕ) (e : rNumber) (so_far : List ℤ) (v : ℤ) → i < length es
-      → e ≡ get_or es i e → Ok v ≡ number env read (number_of e)
-      → followed (drop (i + 1) es) (so_far ++ v ∷ []) ≡ followed (drop i es) so_far
-  followed-Ok es i e so_far v lt at is =
-      sym (left_at es i e so_far lt at
-      ∙ ap (λ r. then_try (then_try r (λ v. then_try (numbers env read (map number_of (drop (i + 1) es)))
-      (λ vs. Ok (v ∷ vs)))) (λ vs. Ok (so_far ++ vs))) (sym is)
-      ∙ grown (numbers env read (map number_of (drop (i + 1) es))) so_far v)
-
-  pub followed-Err : (es : List rNumber) (i : ℕ) (e : rNumber) (so_far : List ℤ) (f : FaultKind) → i < length es
-      → e ≡ get_or es i e → Err f ≡ number env read (number_of e)
-      → Err f ≡ followed (drop i es) so_far
-  followed-Err es i e so_far f lt at is =
-      sym (left_at es i e so_far lt at
-      ∙ ap (λ r. then_try (then_try r (λ v. then_try (numbers env read (map number_of (drop (i + 1) es)))
-      (λ vs. Ok (v ∷ vs)))) (λ vs. Ok (so_far ++ vs))) (sym is))
-
-  pub followed-none : (es : List rNumber) (so_far : List ℤ) → es ≡ [] → Ok so_far ≡ followed es so_far
-  followed-none es so_far none = ap Ok (sym (append-nil so_far)) ∙ ap (λ l. followed l so_far) (sym none)
 
 -- the body of the procedure at a number
 pub body_at : (ps : List rProcedure) (f : ℕ) (x : rProcedure) → slice_get ps f ≡ Some x

@@ -3,9 +3,9 @@ use Rattle.std.specs.Prelude.{ℕ, ◌+◌, ◌≡◌, map}
 use Rattle.types.specs.Contents.{Contents}
 use Rattle.types.specs.Run.{Flow, On, Faulted, Stopped, State, at_flow, stopped}
 use Rattle.types.specs.Translation.{environment, fault}
-use Rattle.statement_steps.specs.declared.thread.Flow.{Flow as rFlow}
-use Rattle.statement_steps.specs.declared.thread.Flow.TheVariants.{On as rOn, Faulted as rFaulted}
-use Rattle.statement_steps.specs.declared.thread.Flow.TheVariants.{Stopped as rStopped}
+use Rattle.statement_steps.specs.declared.flow.Flow.{Flow as rFlow}
+use Rattle.statement_steps.specs.declared.flow.Flow.TheVariants.{On as rOn, Faulted as rFaulted}
+use Rattle.statement_steps.specs.declared.flow.Flow.TheVariants.{Stopped as rStopped}
 use Rattle.statement_steps.specs.declared.store.Store.{Store}
 use Rattle.statement_steps.specs.declared.thread.Thread.{Thread}
 use Rattle.statement_steps.specs.Lists.{contents_of}

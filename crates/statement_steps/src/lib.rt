@@ -2,6 +2,7 @@
 
 #![tactic(auto)]
 
+pub mod flow;
 pub mod memory;
 pub mod quick;
 pub mod store;

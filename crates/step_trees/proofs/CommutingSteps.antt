@@ -1,6 +1,7 @@
 -- Steps of two leaves commute, so all runs that end come to one end.
 use Rattle.std.proofs.Common.{◌≡◌, ◌⊎◌, inl, inr, ℕ, suc, ◌+◌, ◌<◌, List, [], ◌∷◌, Some, None, refl, sym, ap, ◌∙◌, subst, arith}
 use Rattle.std.proofs.lemmas.Bool.{and_parts}
+use Rattle.facts.proofs.Truths.{true_false}
 use Rattle.std.specs.Prelude.{ℤ, Bool, true, false, if◌then◌else◌}
 use Rattle.sections.proofs.Windows.{places_same}
 use Rattle.sections.specs.Place.{Place, same_place}
@@ -172,9 +173,6 @@ module _ (p : Program) where
   other_way {m = m} {r = r} {k = k} {t = t} {u = u} {e = e} {a = a} {b = b} {c = c} {z = z} s s2 keep g rest deeper (inr (inr h)) =
       let i = one_leaf (subst (λ m. Step p m k t a u b) h s) s2 in
       (r, refl, subst (λ b. Runs p r u b e z) (sym i.1) (subst (λ u. Runs p r u c e z) (sym i.0) rest))
-
-true_false : true ≡ false → ⊥
-true_false e = cc
 
 module _ (p : Program) (sound : IsSound p) (accepted : IsAccepted p) where
   -- where one leaf can step otherwise, the run goes on to the same end

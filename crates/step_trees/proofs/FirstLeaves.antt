@@ -2,6 +2,7 @@
 use Rattle.std.proofs.Common.{◌≡◌, ℕ, zero, suc, ◌+◌, ◌<◌, List, refl, sym, ap, ◌∙◌, subst, arith}
 use Rattle.std.specs.Prelude.{Bool, true, false, if◌then◌else◌}
 use Rattle.std.proofs.lemmas.Bool.{and_parts}
+use Rattle.facts.proofs.Truths.{true_false}
 use Rattle.types.specs.Code.{Codes, End, Then, Program}
 use Rattle.types.specs.Contents.{Contents}
 use Rattle.types.specs.Trees.{Leaf, Tree, Single, AndThen, Beside, is_done, all_done, ready, and_then, closed}
@@ -13,9 +14,6 @@ use Rattle.race_checker.proofs.Calming.{is_calm}
 use Rattle.step_trees.proofs.Steps.{Step, step_from, step_below}
 use Rattle.step_trees.proofs.GoodTrees.{Good, step_kept}
 use Rattle.step_trees.proofs.CommutingSteps.{one_step}
-
-true_false : {A : Type 0} → true ≡ false → A
-true_false e = cc
 
 module _ (p : Program) where
   pub data LeftRun : ℕ → Tree → Contents → Tree → Contents → Type 0 where

@@ -1,13 +1,12 @@
 -- Trees as they are held: the numbers in them, and their ends.
 use Rattle.std.proofs.Common.{◌≡◌, ℕ, suc, ◌+◌, List, [], ◌∷◌, ◌++◌, length, refl, sym, ap, ◌∙◌, arith}
-use Rattle.std.proofs.lemmas.Bool.Decides.{nat_tests}
 use Rattle.std.proofs.lemmas.List.{append_assoc}
 use Rattle.std.specs.Prelude.{ℤ, Bool, true, false, ◌&&◌, nat_eq, map, if◌then◌else◌, Box}
 use Rattle.std.specs.Global.{Global}
 use Rattle.types.specs.declared.fault.Fault.{Fault as rFault}
 use Rattle.types.specs.Run.{Fault}
 use Rattle.types.specs.Translation.{environment, fault}
-use Rattle.types.specs.Trees.{Leaf, Tree, Single, AndThen, Beside, is_done, all_done, ready, lines_of, faults_of, rightmost, done, returned, unless_faulted, closed, task_environment}
+use Rattle.types.specs.Trees.{Leaf, Tree, Single, AndThen, Beside, is_done, all_done, ready, lines_of, faults_of, rightmost, done, unless_faulted, closed, task_environment}
 use Rattle.types.specs.Value.{Environment}
 use Rattle.step_trees.specs.declared.leaf.Leaf.{Leaf as rLeaf}
 use Rattle.step_trees.specs.declared.tree.Remains.{Remains}
@@ -119,14 +118,5 @@ module _ (t : Tree) (k : Leaf) (r : Remains) (left : IsLeftOf t r) where
   faulted_by [] j e = absurd (let bad : ⊥ = cc in bad)
   faulted_by (x ∷ fs) j e = refl
 
-  going_by : (fs : List rFault) (j : Leaf) → nat_eq (length fs) 0 ≡ true → returned j ≡ unless_faulted (map fault fs) j
-  going_by [] j e = refl
-  going_by (x ∷ fs) j e =
-      let more : nat_eq (length (x ∷ fs)) 0 ≡ false = grind (arith, nat_tests) in
-      absurd (let bad : ⊥ = cc in bad)
-
   pub closed-faulted : nat_eq (length r.faults.items) 0 ≡ false → done going_on ≡ closed t k
   closed-faulted e = faulted_by r.faults.items going_on e ∙ goes_on
-
-  pub closed-going : nat_eq (length r.faults.items) 0 ≡ true → returned going_on ≡ closed t k
-  closed-going e = going_by r.faults.items going_on e ∙ goes_on

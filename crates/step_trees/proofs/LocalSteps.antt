@@ -1,5 +1,5 @@
 -- A step depends only on what its leaf may touch, and changes at most one place that it may write.
-use Rattle.std.proofs.Common.{◌≡◌, inl, ℕ, zero, suc, ◌+◌, ◌<◌, List, [], ◌∷◌, ◌++◌, length, map, Option, Some, None, refl, sym, ap, ◌∙◌, subst, arith}
+use Rattle.std.proofs.Common.{◌≡◌, inl, ℕ, zero, suc, ◌<◌, List, [], ◌∷◌, ◌++◌, length, map, Option, Some, None, refl, sym, ap, ◌∙◌, subst, arith}
 use Rattle.std.proofs.lemmas.List.Elements.{Contains-append_left, Contains-append_right}
 use Rattle.std.specs.Prelude.{ℤ, pos, Bool, true, false, Ok, Err, ok_or, unwrap_or, flat_map, slice_index_or, if◌then◌else◌}
 use Rattle.types.proofs.Bindings.{element_in}

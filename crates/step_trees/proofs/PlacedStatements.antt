@@ -186,9 +186,6 @@ module _ (p : Program) where
       → Among keep scope
   keep_below {keep = keep} {env = env} k = λ x m. k.stands.outer x (keep_among k.procedure env keep k.standing x m)
 
-  end_pending : {A : Type 0} {x : Access} → Pending p accesses End x → A
-  end_pending h = elim h [ ]
-
   end_all : {A : Type 0} {x : Access} → All p accesses End x → A
   end_all h = elim h [ ]
 

@@ -1,10 +1,10 @@
 -- What a turn of a leaf comes to.
 use Rattle.std.proofs.Common.{◌≡◌, ℕ, ◌+◌, List, [], ◌∷◌, ◌++◌, refl, sym, ap, ◌∙◌, subst, Result, Ok, Err}
-use Rattle.std.specs.Prelude.{IfOk, ℤ}
+use Rattle.std.specs.Prelude.{IfOk}
 use Rattle.std.specs.declared.alloc.AllocError.{AllocError}
 use Rattle.types.specs.Code.{Code, Codes, Primitive, Procedure, Program, Do, End}
 use Rattle.types.specs.Contents.{Contents, read}
-use Rattle.types.specs.Run.{Flow, On, Faulted, Stopped, Fault, State, primitive}
+use Rattle.types.specs.Run.{Flow, On, Faulted, Stopped, State, primitive}
 use Rattle.types.specs.Trees.{Caller, Leaf, Tree, Single, Beside, and_then, single, done, called, child, parent, inside, held_back, returned}
 use Rattle.types.specs.TreeSteps.{as_state, by_flow, with_state, tree_after, store_after}
 use Rattle.types.specs.Value.{Environment}

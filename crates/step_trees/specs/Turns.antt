@@ -7,7 +7,7 @@ use Rattle.types.specs.Translation.{program, environment}
 use Rattle.types.specs.Trees.{Caller, Leaf, Tree, Single, Beside, and_then}
 use Rattle.types.specs.TreeSteps.{tree_after, store_after, leaf_step}
 use Rattle.statement_steps.specs.declared.store.Store.{Store}
-use Rattle.statement_steps.specs.declared.thread.Flow.TheVariants.{On}
+use Rattle.statement_steps.specs.declared.flow.Flow.TheVariants.{On}
 use Rattle.statement_steps.specs.declared.thread.Plan.{Plan}
 use Rattle.statement_steps.specs.Bounds.{LiesInArrays, IsInBounds}
 use Rattle.statement_steps.specs.Lists.{lists_of, contents_of, lengths_of}

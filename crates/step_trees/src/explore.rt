@@ -206,9 +206,7 @@ fn first<'p>(plan: Plan<'p>) -> Result<Tree<'p>, AllocError>
         environment,
         rest,
         callers: Vec::new(plan.alloc),
-        path: Path {
-            turns: Vec::new(plan.alloc),
-        },
+        path: Path::root(plan.alloc),
         spawned: 0,
         lines: Vec::new(plan.alloc),
         faults: Vec::new(plan.alloc),

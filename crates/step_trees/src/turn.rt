@@ -16,9 +16,11 @@ ghost use Rattle.step_trees.specs.Turns.{MayTurn};
 use crate::leaf::{Caller, Leaf, done, returned};
 use crate::rest::{Block, begin, block_alone, enter, next};
 use sections::id::SectionId;
+use statement_steps::flow::Flow;
 use statement_steps::store::Store;
-use statement_steps::thread::{Flow, Plan, Thread};
+use statement_steps::thread::{Plan, Thread};
 use std::alloc::{AllocError, Global};
+use types::child_number::ChildNumber;
 use types::code::{Label, Number, Primitive, Stmt, StmtKind, Truth};
 use types::fault::FaultKind;
 use types::ids::ProcedureId;
@@ -223,7 +225,8 @@ fn begin_async<'p>(turn: Turn<'p>, body: &'p [Stmt]) -> Result<(Becomes<'p>, Sto
     let Some(spawned) = turn.thread.spawned.checked_add(1) else {
         return Err(AllocError);
     };
-    let path = turn.thread.path.child(spawned)?;
+    let number = ChildNumber::after(turn.thread.spawned);
+    let path = turn.thread.path.child(number)?;
     let (mut parent, store) = apart(turn);
     let child = inside(alloc, &mut parent, body, path, 0)?;
     parent.spawned = spawned;
@@ -236,10 +239,10 @@ fn begin_finish<'p>(turn: Turn<'p>, body: &'p [Stmt]) -> Result<(Becomes<'p>, St
     ensures { IfOk result (After turn.entry 0 (Finish (codes_of body.entry.now))) }
 {
     let alloc = turn.plan.alloc;
-    let turns = Vec::from_slice(alloc, &turn.thread.path.turns)?;
+    let path = turn.thread.path.copied(alloc)?;
     let spawned = turn.thread.spawned;
     let (mut behind, store) = apart(turn);
-    let body = inside(alloc, &mut behind, body, Path { turns }, spawned)?;
+    let body = inside(alloc, &mut behind, body, path, spawned)?;
     Ok((Becomes::Entered { body, behind }, store))
 }
 

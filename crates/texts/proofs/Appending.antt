@@ -5,11 +5,16 @@ use Rattle.std.specs.Prelude.{Option, Result, Ok, Err}
 use Rattle.std.specs.Result.{IsErr}
 use Rattle.std.specs.List.{flat_map}
 use Rattle.std.specs.Io.KnownBytes.{Appends}
-use Rattle.std.proofs.KnownBytes.{Appends-nil, Appends-trans}
-use Rattle.std.proofs.lemmas.List.{take_more, flat_map_more}
+use Rattle.std.proofs.KnownBytes.{Appends-trans}
+use Rattle.std.proofs.lemmas.List.{append-nil, take_more, flat_map_more}
 use Rattle.std.proofs.lemmas.List.Concat.{flat_map-append}
 use Rattle.std.proofs.lemmas.Result.{MatchResult-from_err}
 use Rattle.texts.specs.Appending.{AppendsBeginning, Writes}
+
+-- whether or not all was taken, a beginning was appended
+pub beginning_written : {T E : Type 0} (a b : Option (List ℕ)) (r : Result T E) (t : List ℕ) → Writes a b r t → AppendsBeginning a b t
+beginning_written a b (Ok x) t written = record { begun = t; rest = []; parts = sym (append-nil t); appended = written }
+beginning_written a b (Err e) t begun = begun
 
 -- a beginning of a text is one of a longer text
 pub begins_longer : (a b : Option (List ℕ)) (s t : List ℕ) → AppendsBeginning a b s → AppendsBeginning a b (s ++ t)
@@ -46,9 +51,6 @@ pub record AppendsFirst {A : Type 0} (text : A → List ℕ) (xs : List A) (n : 
   pub so_far : Appends a b (flat_map text (take n xs))
 
 module _ {A : Type 0} (text : A → List ℕ) (xs : List A) where
-  pub first_none : (a : Option (List ℕ)) → AppendsFirst text xs 0 a a
-  first_none a = record { so_far = Appends-nil a }
-
   -- the text of one more element
   flat_map_one_more : (n : ℕ) (x d : A) → n < length xs → x ≡ get_or xs n d
       → flat_map text (take (n + 1) xs) ≡ flat_map text (take n xs) ++ text x

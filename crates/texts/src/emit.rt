@@ -15,6 +15,7 @@ ghost use Rattle.types.specs.Names.{path_text, kind_text};
 use itoa::Buffer;
 use parallel_relation::pairs::PairList;
 use std::io::Write;
+use types::child_number::ChildNumber;
 use types::code::{Array, Label};
 use types::fault::{Fault, FaultKind};
 use types::outcome::Outcome;
@@ -138,7 +139,7 @@ fn emit_path<W: Write>(out: &mut W, path: &Path) -> Result<(), EmitError>
 }
 
 /// `.1.2`
-fn emit_turns<W: Write>(out: &mut W, turns: &[u32]) -> Result<(), EmitError>
+fn emit_turns<W: Write>(out: &mut W, turns: &[ChildNumber]) -> Result<(), EmitError>
     ensures { Writes (W.contents out.old) (W.contents out.new) result
         (flat_map (λ turn. codes "." ++ decimal turn) turns.now) }
 {
@@ -149,11 +150,11 @@ fn emit_turns<W: Write>(out: &mut W, turns: &[u32]) -> Result<(), EmitError>
 }
 
 /// `.1`
-fn emit_turn<W: Write>(out: &mut W, turn: u32) -> Result<(), EmitError>
+fn emit_turn<W: Write>(out: &mut W, turn: ChildNumber) -> Result<(), EmitError>
     ensures { Writes (W.contents out.old) (W.contents out.new) result (codes "." ++ decimal turn) }
 {
     append(out, b".")?;
-    emit_label(out, turn)
+    emit_label(out, turn.get())
 }
 
 /// `F1` to `F5`, or `F6` with its number.

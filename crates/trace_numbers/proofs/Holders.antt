@@ -1,23 +1,23 @@
 -- Who took which task last, and what workers did, one event after another.
-use Rattle.std.proofs.Common.{◌≡◌, ℕ, zero, suc, ◌+◌, ◌<◌, ◌≤◌, List, [], ◌∷◌, length, drop, get_or, set, ap, sym, ◌∙◌, refl, subst, arith, ⊎_elim}
-use Rattle.std.specs.Prelude.{Option, Some, None, Bool, true, false, cond, nat_eq, replicate, slice_index, slice_set, if◌then◌else◌}
+use Rattle.std.proofs.Common.{◌≡◌, ℕ, zero, suc, ◌+◌, ◌<◌, ◌≤◌, List, ◌∷◌, length, drop, get_or, set, ap, sym, ◌∙◌, refl, subst, arith, ⊎_elim}
+use Rattle.std.specs.Prelude.{Option, Some, None, cond, nat_eq, replicate, slice_index, if◌then◌else◌}
 use Rattle.std.specs.Cmp.Lexicographic.{pointwise}
 use Rattle.std.specs.List.{AllZip}
 use Rattle.std.proofs.lemmas.Bool.{cases_eq, cases_lt}
-use Rattle.std.proofs.lemmas.List.{drop_all, drop_more, get_or-set_other, get_or-set_same, length-set, set_past}
+use Rattle.std.proofs.lemmas.List.{drop_more, get_or-set_other, get_or-set_same, length-set, set_past}
+use Rattle.facts.proofs.Lists.{same_elements}
 use Rattle.events.specs.declared.event.Event.{Event}
 use Rattle.events.specs.declared.event.Event.TheVariants.{Take, Steal, Step, Replenish, Spawn}
 use Rattle.events.specs.declared.event.Event.TheVariants.{Open, Park, End, Pass, Resume}
 use Rattle.trace_numbers.specs.Hands.{Hands, did_more, handled, hands_after, no_hands, steps_by_worker}
 use Rattle.trace_numbers.specs.Tables.{DidWithin, ShowsHands}
 use Rattle.trace_numbers.specs.declared.hands.Hands.{Hands as rHands}
-use Rattle.trace_numbers.proofs.Known.{cloned_is}
 
 -- who holds a task where one took the task of a path
 pub held_at : (key path other : List ℕ) (worker : ℕ) (old new : Option ℕ) → AllZip (λ x y. y ≡ x) path key
     → new ≡ cond (pointwise nat_eq key other) (Some worker) old → new ≡ (if pointwise nat_eq path other then Some worker else old)
 held_at key path other worker old new cloned is =
-    is ∙ ap (λ (p : List ℕ). cond (pointwise nat_eq p other) (Some worker) old) (cloned_is path key cloned)
+    is ∙ ap (λ (p : List ℕ). cond (pointwise nat_eq p other) (Some worker) old) (same_elements path key cloned)
 
 -- ---- what workers did
 few_still : (d : List ℕ) (w x n : ℕ) → x ≤ n → ((v : ℕ) → get_or d v 0 ≤ n) → (v : ℕ) → get_or (set d w x) v 0 ≤ n

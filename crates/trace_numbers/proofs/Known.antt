@@ -1,16 +1,11 @@
 -- What is known of a task, by its path.
-use Rattle.std.proofs.Common.{◌≡◌, ℕ, List, Option, Some, None, Bool, true, false, ap, sym, ◌∙◌, refl, nat_eq}
+use Rattle.std.proofs.Common.{◌≡◌, ℕ, List, Option, Some, Bool, true, false, ap, ◌∙◌, refl, nat_eq}
 use Rattle.std.specs.Prelude.{cond, if◌then◌else◌}
 use Rattle.std.specs.List.{AllZip}
 use Rattle.std.specs.Cmp.Lexicographic.{pointwise}
-use Rattle.std.proofs.lemmas.List.{map-id}
-use Rattle.std.proofs.lemmas.Slice.Zip.{AllZip-map}
+use Rattle.facts.proofs.Lists.{same_elements}
 use Rattle.trace_numbers.specs.Tables.{known}
 use Rattle.trace_numbers.specs.declared.chains.Chain.{Chain}
-
--- a clone of a path is that path
-pub cloned_is : (xs ys : List ℕ) → AllZip (λ x y. y ≡ x) xs ys → ys ≡ xs
-cloned_is xs ys h = AllZip-map (λ x. x) xs ys h ∙ map-id xs
 
 -- what is known where a table has a chain at a path, and all else as it was
 pub known_put : (b : Bool) (chain : Chain) (old : Option Chain) → known (cond b (Some chain) old) ≡ (if b then chain else known old)
@@ -21,5 +16,5 @@ pub put_at : (key path other : List ℕ) (chain : Chain) (old new : Option Chain
     → new ≡ cond (pointwise nat_eq key other) (Some chain) old
     → known new ≡ (if pointwise nat_eq path other then chain else known old)
 put_at key path other chain old new cloned is =
-    ap known (is ∙ ap (λ (p : List ℕ). cond (pointwise nat_eq p other) (Some chain) old) (cloned_is path key cloned))
+    ap known (is ∙ ap (λ (p : List ℕ). cond (pointwise nat_eq p other) (Some chain) old) (same_elements path key cloned))
     ∙ known_put (pointwise nat_eq path other) chain old

@@ -2,4 +2,3 @@ pub mod Known
 pub mod Within
 pub mod Spans
 pub mod Holders
-pub mod Pieces

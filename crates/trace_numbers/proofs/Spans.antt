@@ -1,9 +1,9 @@
 -- Chains of one event after another.
-use Rattle.std.proofs.Common.{◌≡◌, ℕ, ◌+◌, ◌<◌, ◌≤◌, List, [], ◌∷◌, length, drop, get_or, ap, sym, ◌∙◌, refl, arith}
+use Rattle.std.proofs.Common.{◌≡◌, ℕ, ◌+◌, ◌<◌, ◌≤◌, List, [], ◌∷◌, length, drop, get_or, ap, sym, ◌∙◌, arith}
 use Rattle.std.proofs.lemmas.List.{drop_all, drop_more}
 use Rattle.events.specs.declared.event.Event.{Event}
-use Rattle.trace_numbers.specs.Chains.{Chains, chained, chains_after, no_chains, span_of}
-use Rattle.trace_numbers.specs.Tables.{AreAfter, AreWithin, Shows, scope_at}
+use Rattle.trace_numbers.specs.Chains.{Chains, chained, chains_after, span_of}
+use Rattle.trace_numbers.specs.Tables.{AreWithin, Shows, scope_at}
 use Rattle.trace_numbers.specs.declared.chains.Chains.{Chains as rChains}
 use Rattle.trace_numbers.proofs.Within.{within_more}
 

@@ -1,11 +1,11 @@
 -- No number is larger than there were events, and whatever scope is named is there.
-use Rattle.std.proofs.Common.{◌≡◌, ℕ, ◌+◌, ◌<◌, ◌≤◌, List, [], ◌∷◌, ◌++◌, Bool, true, false, arith, nat_eq}
+use Rattle.std.proofs.Common.{ℕ, ◌+◌, ◌<◌, ◌≤◌, List, [], ◌∷◌, ◌++◌, Bool, true, false, arith, nat_eq}
 use Rattle.std.specs.Prelude.{max, if◌then◌else◌}
 use Rattle.std.specs.Cmp.Lexicographic.{pointwise}
 use Rattle.events.specs.declared.event.Event.{Event}
 use Rattle.events.specs.declared.event.Event.TheVariants.{Take, Steal, Step, Replenish, Spawn}
 use Rattle.events.specs.declared.event.Event.TheVariants.{Open, Park, End, Pass, Resume}
-use Rattle.trace_numbers.specs.Chains.{Chains, at_number, at_path, begin, begin_child, begin_finish, chained, come_back}
+use Rattle.trace_numbers.specs.Chains.{Chains, at_number, at_path, begin_child, begin_finish, chained, come_back}
 use Rattle.trace_numbers.specs.Chains.{leave, one_more}
 use Rattle.trace_numbers.specs.Tables.{AreWithin}
 

@@ -1,6 +1,6 @@
 -- What the tables stand for by which the numbers of a trace are found.
-use Rattle.std.specs.Prelude.{ℕ, ◌≡◌, ◌+◌, ◌<◌, ◌≤◌, List, length, Bool, nat_eq, Option, None, Some}
-use Rattle.std.specs.Prelude.{All, slice_index, slice_index_or}
+use Rattle.std.specs.Prelude.{ℕ, ◌≡◌, ◌<◌, ◌≤◌, List, length, Bool, nat_eq, Option, None, Some}
+use Rattle.std.specs.Prelude.{slice_index, slice_index_or}
 use Rattle.std.specs.Cmp.Lexicographic.{pointwise}
 use Rattle.std.specs.HashMap.{HashMap, get}
 use Rattle.types.specs.declared.path.Path.{Path}

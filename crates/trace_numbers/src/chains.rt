@@ -9,6 +9,7 @@ ghost use Rattle.types.specs.declared.path.Path.{Path as AnyPath};
 use events::event::Event;
 use std::alloc::{AllocError, Global};
 use std::collections::HashMap;
+use types::child_number::ChildNumber;
 use types::path::Path;
 
 /// How a task has come to where it is.
@@ -110,6 +111,9 @@ impl Chains {
         self.put(path, chain)?;
         // A path names no more children.
         let Ok(number) = u32::try_from(chain.spawned) else {
+            return Err(AllocError);
+        };
+        let Some(number) = ChildNumber::new(number) else {
             return Err(AllocError);
         };
         let child = path.child(number)?;

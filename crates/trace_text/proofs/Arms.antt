@@ -1,17 +1,15 @@
 -- The text of an event's line kind by kind, and what of it tells which event it is.
-use Rattle.std.proofs.Common.{◌≡◌, ℕ, true, arith, List, [], ◌∷◌, ◌++◌, Option, Some, None, refl, ap, sym, ◌∙◌, append-nil, codes}
-use Rattle.std.specs.Prelude.{option_map, IfSome, sum, nat_eq, if◌then◌else◌}
+use Rattle.std.proofs.Common.{◌≡◌, ℕ, true, arith, List, [], ◌∷◌, ◌++◌, Option, Some, refl, ap, sym, ◌∙◌, append-nil, codes}
+use Rattle.std.specs.Prelude.{sum, nat_eq, if◌then◌else◌}
 use Rattle.std.specs.Fmt.{decimal}
-use Rattle.types.specs.declared.path.Path.{Path}
-use Rattle.events.specs.Events.{Event, Take, Steal, Steps, Replenish, Spawns, Opens, Parks}
-use Rattle.events.specs.Events.{Ends, Pass, Resume, ScopeId, event, turns_of}
-use Rattle.events.specs.declared.event.Event.{Event as rEvent}
+use Rattle.events.specs.Events.{Event, Take, Steal}
+use Rattle.events.specs.Events.{Pass, Resume}
 use Rattle.serde_json.specs.Written.{compact_text}
-use Rattle.trace_text.specs.Fields.{fields, pass_fields, steal_fields, task_fields, worker_fields}
+use Rattle.trace_text.specs.Fields.{fields, steal_fields, worker_fields}
 use Rattle.trace_text.specs.Headers.{TraceHeader}
 use Rattle.trace_text.specs.Kinds.{kind_name, kind_of, task_of}
 use Rattle.trace_text.specs.Lines.{event_object, header_object}
-use Rattle.trace_text.specs.Spelled.{Lacks, IsPath, IsScope, IsSpelled, IsTheft, IsWorkers}
+use Rattle.trace_text.specs.Spelled.{Lacks, IsSpelled, IsTheft, IsWorkers}
 use Rattle.trace_text.specs.declared.kind.Kind.{Kind}
 use Rattle.trace_text.specs.declared.kind.Kind.TheVariants.{Take as IsTake, Steal as IsSteal}
 use Rattle.trace_text.specs.declared.kind.Kind.TheVariants.{Step as IsStep, Replenish as IsReplenish}

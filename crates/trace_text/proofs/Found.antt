@@ -1,5 +1,5 @@
 -- What a line is, and what stands first in a text.
-use Rattle.std.proofs.Common.{◌≡◌, ◌≢◌, ℕ, ◌+◌, ◌<◌, ◌≤◌, List, [], ◌∷◌, ◌++◌, length, Option, Some, None, map}
+use Rattle.std.proofs.Common.{◌≡◌, ◌≢◌, ℕ, ◌+◌, ◌<◌, List, [], ◌∷◌, ◌++◌, length, Option, Some, None, map}
 use Rattle.std.proofs.Common.{refl, ap, sym, subst, ◌∙◌, arith, append_assoc, append-nil, length-append, codes, inr}
 use Rattle.std.specs.List.{All, flat_map}
 use Rattle.std.proofs.lemmas.List.{append_cancel_right, length-map, map-append}
@@ -16,7 +16,7 @@ use Rattle.serde_json.specs.Data.{Data}
 use Rattle.serde_json.specs.Written.{compact_text}
 use Rattle.trace_text.specs.Headers.{TraceHeader, IsHeader}
 use Rattle.trace_text.specs.Lines.{line, event_line, event_object, header_line, header_object}
-use Rattle.trace_text.specs.Reading.{AreEvents, BeginsWithEvent, BeginsWithHeader, IsBadEvent}
+use Rattle.trace_text.specs.Reading.{BeginsWithEvent, BeginsWithHeader, IsBadEvent}
 use Rattle.trace_text.specs.Reading.{IsEventRefusal, IsRefusal}
 use Rattle.trace_text.specs.declared.error.TraceError.{TraceError}
 use Rattle.trace_text.specs.declared.error.TraceError.TheVariants.{NotALine, NoMemory}

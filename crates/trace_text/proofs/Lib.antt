@@ -3,7 +3,6 @@ pub mod Texts
 pub mod NoFeeds
 pub mod Cuts
 pub mod Found
-pub mod Written
 pub mod PathReading
 pub mod Arms
 pub mod TableText

@@ -1,16 +1,13 @@
 -- The columns of the table.
-use Rattle.std.proofs.Common.{◌≡◌, ℕ, zero, suc, replicate, ◌-◌, List, [], ◌∷◌, ◌++◌, length, Some, None, codes}
-use Rattle.std.proofs.Common.{arith, refl, ap, sym, ◌∙◌, append_assoc, append-nil}
+use Rattle.std.proofs.Common.{◌≡◌, ℕ, replicate, ◌-◌, List, [], ◌∷◌, ◌++◌, length, Some, None, codes}
+use Rattle.std.proofs.Common.{arith, ap, sym, ◌∙◌, append_assoc, append-nil}
 use Rattle.std.specs.Fmt.{char_count, decimal, format_spec, styled_decimal, padded_integral}
 use Rattle.std.specs.List.{repeat}
+use Rattle.facts.proofs.Lists.{spaces}
 use Rattle.events.specs.Events.{Event}
 use Rattle.trace_text.specs.Kinds.{kind_name, kind_of}
 use Rattle.trace_text.specs.Table.{column, deed, left_in, right_in, table_line}
 use Rattle.trace_text.specs.declared.kind.Kind.{Kind}
-
-repeat_is : (n : ℕ) → repeat {A = ℕ} n (32 ∷ []) ≡ replicate n 32
-repeat_is zero = refl
-repeat_is (suc n) = ap (λ (l : List ℕ). 32 ∷ l) (repeat_is n)
 
 -- spaces, the empty texts that a format puts around them, and a numeral with nothing behind it
 right_shape : (p : ℕ) (numeral : List ℕ)
@@ -21,7 +18,7 @@ right_shape p numeral =
     let none : p - p ≡ 0 = omega arith in
     ap (λ m. (((fill ++ []) ++ []) ++ []) ++ (numeral ++ repeat m (32 ∷ []))) none
     ∙ ap (λ l. (((fill ++ []) ++ []) ++ []) ++ l) (append-nil numeral)
-    ∙ ap (λ l. l ++ numeral) (append-nil ((fill ++ []) ++ []) ∙ append-nil (fill ++ []) ∙ append-nil fill ∙ repeat_is p)
+    ∙ ap (λ l. l ++ numeral) (append-nil ((fill ++ []) ++ []) ∙ append-nil (fill ++ []) ∙ append-nil fill ∙ spaces p)
 
 right_in_places : (most : ℕ) (numeral : List ℕ)
     → replicate (most - length numeral - 0 - 0) 32 ++ numeral ≡ right_in most numeral

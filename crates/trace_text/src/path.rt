@@ -7,6 +7,7 @@ ghost use Rattle.trace_text.specs.Spelled.{IsCut, IsPath};
 use crate::cut::cut_at;
 use std::alloc::{AllocError, Global};
 use types::budget::MOST_NEST;
+use types::child_number::ChildNumber;
 use types::path::Path;
 
 /// The path that a text spells, where its numbers are in their range. None of a text that spells none; but
@@ -23,10 +24,13 @@ pub fn read_path(alloc: Global, text: &str) -> Result<Option<Path>, AllocError>
     let mut turns = Vec::new(alloc);
     'turns: while let Some(more) = rest {
         let (piece, behind) = cut_at_dot(more);
-        let Ok(turn) = piece.parse::<u32>() else {
+        let Ok(number) = piece.parse::<u32>() else {
             return Ok(None);
         };
-        if turn == 0 || turns.len() >= MOST_NEST as usize {
+        let Some(turn) = ChildNumber::new(number) else {
+            return Ok(None);
+        };
+        if turns.len() >= MOST_NEST as usize {
             return Ok(None);
         }
         turns.push(turn)?;

@@ -196,17 +196,9 @@ pub object-from_as_object : (d : Data) (ms : Members) → as_object d ≡ Some m
 object-from_as_object (object ns) ms e = cc
 object-from_as_object d ms e = cc
 
-pub data_says-no_object : (arrays : List Array) (d : Data) → as_object d ≡ None → data_says arrays d ≡ Err NoObject
-data_says-no_object arrays (object ms) e = cc
-data_says-no_object arrays d e = refl
-
 pub array-from_as_array : (d : Data) (ds : Items) → as_array d ≡ Some ds → d ≡ array ds
 array-from_as_array (array es) ds e = cc
 array-from_as_array d ds e = cc
-
-pub value_says-no_array : (x : Array) (d : Data) → as_array d ≡ None → value_says x d ≡ Err (OtherLength x.name)
-value_says-no_array x (array ds) e = cc
-value_says-no_array x d e = refl
 
 -- what a JSON list of an array's length says of it
 pub value_says-list : (x : Array) (d : Data) (ds : Items) → as_array d ≡ Some ds → items_count ds ≡ x.length
@@ -238,20 +230,10 @@ value_says-items x d {es} {vs} is same long =
 abbrev pub behind : List ℤ → Option (List ℤ) → Option (List ℤ)
 behind so_far rest = option_map (λ vs. so_far ++ vs) rest
 
-pub behind-number : (so_far : List ℤ) (v : ℤ) (rest : Option (List ℤ))
-    → behind so_far (option_map (λ vs. v ∷ vs) rest) ≡ behind (so_far ++ v ∷ []) rest
-behind-number so_far v None = refl
-behind-number so_far v (Some vs) = ap Some (sym (append_assoc so_far (v ∷ []) vs))
-
 -- what is left of arrays, behind the lists so far
 abbrev pub after_lists : List (List ℤ) → Result (List (List ℤ)) Mistake → Result (List (List ℤ)) Mistake
 after_lists so_far (Err m) = Err m
 after_lists so_far (Ok rows) = Ok (so_far ++ rows)
-
-pub after_lists-both : (so_far : List (List ℤ)) (row : List ℤ) (rest : Result (List (List ℤ)) Mistake)
-    → after_lists so_far (both (Ok row) rest) ≡ after_lists (so_far ++ row ∷ []) rest
-after_lists-both so_far row (Err m) = refl
-after_lists-both so_far row (Ok rows) = ap Ok (sym (append_assoc so_far (row ∷ []) rows))
 
 -- a list that was read is what the value says
 pub value_says-read : (x : Array) (d : Data) (o : Option (List ℤ)) (r : Result (Vec ℤ Global) InputError)
@@ -331,7 +313,7 @@ numbers_held t no_items (v ∷ vs) e = cc
 numbers_held t (item d ds) vs e =
     one_read t d ds (option_and_then as_i64 (as_number d)) vs (numbers_held t ds) e
 
-zeros_held : (t : ElementType) (n : ℕ) → list_all (holds_number t) (replicate n (pos 0)) ≡ true
+pub zeros_held : (t : ElementType) (n : ℕ) → list_all (holds_number t) (replicate n (pos 0)) ≡ true
 zeros_held t zero = refl
 zeros_held Int (suc n) = zeros_held Int n
 zeros_held Byte (suc n) = zeros_held Byte n

@@ -56,17 +56,3 @@ module _ (fs : List Procedure) where
         (label_behind s here (within_limit 65535 here.label (none_left mine all first))
         (none_right (own_errors fs here s) (inner_errors fs here s) (none_right mine all first)))
         (none_right (mine ++ all) (errors fs (behind s here) rest) none)
-
-told_by : (b : Bool) → b ≡ true → Told (if b then OverLimit ∷ [] else []) OverLimit
-told_by true h = inl refl
-told_by false h = cc
-
-pub over_told : (most n : ℕ) → most < n → Told (limit most n) OverLimit
-over_told most n h = told_by (nat_lt most n) (grind (arith, nat_tests))
-
-none_by : (b : Bool) → b ≡ false → (if b then OverLimit ∷ [] else []) ≡ []
-none_by true h = cc
-none_by false h = refl
-
-pub under_none : (most n : ℕ) → n ≤ most → limit most n ≡ []
-under_none most n h = none_by (nat_lt most n) (grind (arith, nat_tests))

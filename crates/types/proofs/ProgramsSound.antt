@@ -95,7 +95,7 @@ begins_arrays : (arrays : List DeclaredArray) (here : Scope) → BeginsAt here �
 begins_arrays [] here begins = begins
 begins_arrays (a ∷ arrays) here begins = begins_arrays arrays (with_array a here) (begins_root a.name _ here begins)
 
-numbered_roots : (os : List Origin) → ((a : ℕ) → origin_of os a ≡ Root) → IsNumbered os
+pub numbered_roots : (os : List Origin) → ((a : ℕ) → origin_of os a ≡ Root) → IsNumbered os
 numbered_roots os h = record {
   left = λ a s e. absurd (no_left (origin_of os a) s (h a) e);
   right = λ a s e. absurd (no_right (origin_of os a) s (h a) e);

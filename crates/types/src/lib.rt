@@ -4,6 +4,7 @@
 
 pub mod budget;
 pub mod check;
+pub mod child_number;
 pub mod code;
 pub mod element;
 pub mod error;

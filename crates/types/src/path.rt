@@ -3,7 +3,8 @@
 ghost use Rattle.std.specs.Prelude.{◌≡◌, ◌++◌, ◌∷◌, [], IfOk, Some};
 ghost use Rattle.types.specs.Names.{path_text};
 
-use std::alloc::AllocError;
+use crate::child_number::ChildNumber;
+use std::alloc::{AllocError, Global};
 use std::fmt;
 
 /// The name of a task: the root is `0`, and the n-th child that a task spawns (from 1) has its path, a dot
@@ -11,7 +12,7 @@ use std::fmt;
 #[derive(Clone, PartialEq, Eq, Hash, Debug, Drop)]
 pub struct Path {
     /// The child numbers that lead from the root to the task; none for the root.
-    pub turns: Vec<u32>,
+    pub turns: Vec<ChildNumber>,
 }
 
 impl fmt::Display for Path {
@@ -20,15 +21,33 @@ impl fmt::Display for Path {
     fn fmt<W: fmt::Write>(&self, f: &mut fmt::Formatter<W>) -> fmt::Result {
         write!(f, "0")?;
         for turn in &self.turns {
-            write!(f, ".{turn}")?;
+            let number = turn.get();
+            write!(f, ".{number}")?;
         }
         Ok(())
     }
 }
 
 impl Path {
+    /// The path of the root.
+    pub fn root(alloc: Global) -> Path
+        ensures { result.turns.items ≡ [] }
+    {
+        Path {
+            turns: Vec::new(alloc),
+        }
+    }
+
+    /// The same path, in memory of its own.
+    pub fn copied(&self, alloc: Global) -> Result<Path, AllocError>
+        ensures { IfOk result (λ p. p.turns.items ≡ self.now.turns.items) }
+    {
+        let turns = Vec::from_slice(alloc, &self.turns)?;
+        Ok(Path { turns })
+    }
+
     /// The path of the n-th child.
-    pub fn child(&self, number: u32) -> Result<Path, AllocError>
+    pub fn child(&self, number: ChildNumber) -> Result<Path, AllocError>
         ensures { IfOk result (λ p. p.turns.items ≡ self.now.turns.items ++ number ∷ []) }
     {
         let room = self.turns.len().saturating_add(1);

@@ -8,6 +8,7 @@ ghost use Rattle.weights.specs.Entries.{entry_of};
 use crate::entry::Entry;
 use std::alloc::{AllocError, Global};
 use std::marker::Model;
+use types::child_number::ChildNumber;
 use types::path::Path;
 
 /// A weight that came back, and where the turns of its task's path stand among those of all.
@@ -22,7 +23,7 @@ pub struct Line {
 #[derive(Drop)]
 pub struct Entries {
     /// The turns of all paths, one path behind the other: none is memory of its own.
-    turns: Vec<u32>,
+    turns: Vec<ChildNumber>,
     lines: Vec<Line>,
 }
 
@@ -96,7 +97,7 @@ fn line_at(lines: &[Line], number: usize) -> Option<Line>
 }
 
 /// The path of a line.
-fn part_of(turns: &[u32], line: Line) -> &[u32]
+fn part_of(turns: &[ChildNumber], line: Line) -> &[ChildNumber]
     requires { line.at + line.length ≤ length turns.now }
     ensures { result.now ≡ slice_range turns.now line.at (line.at + line.length) }
 {

@@ -23,9 +23,7 @@ use Rattle.task_machine.specs.declared.finish.Owner.TheVariants.{Main, Finish}
 use Rattle.task_machine.specs.declared.finish.Parked.{Parked}
 use Rattle.task_machine.specs.declared.finish.Waiting.{Waiting}
 use Rattle.task_machine.specs.declared.stake.Stake.{Stake}
-use Rattle.finish_scope.specs.Own.{IsOwnResult}
-use Rattle.workers.specs.Own.{IsNext, IsOwnEnded, IsOwnNext}
-use Rattle.task_machine.specs.declared.turn.TaskResult.{TaskResult}
+use Rattle.workers.specs.Own.{IsNext, IsOwnNext}
 use Rattle.workers.specs.declared.post.Next.{Next}
 use Rattle.workers.specs.declared.post.Next.TheVariants.{Goes, Idle, Told}
 

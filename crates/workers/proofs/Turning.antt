@@ -1,23 +1,15 @@
 -- Whatever a turn gives is of the job of the run.
-use Rattle.std.proofs.Common.{◌≡◌, ℕ, Option, Some, None, sym, ap, ◌∙◌, subst}
-use Rattle.own_run.specs.declared.turn.Turn.{Turn as RunTurn}
-use Rattle.own_run.specs.declared.turn.Turn.TheVariants.{Going as RunGoing, Spawns as RunSpawns}
-use Rattle.own_run.specs.declared.turn.Turn.TheVariants.{EntersFinish as RunEntersFinish}
-use Rattle.own_run.specs.declared.turn.Turn.TheVariants.{EndsFinish as RunEndsFinish}
-use Rattle.own_run.specs.declared.turn.Turn.TheVariants.{Ended as RunEnded, Over as RunOver}
+use Rattle.std.proofs.Common.{◌≡◌, ℕ, Option, Some, sym, ap, ◌∙◌, subst}
 use Rattle.own_run.specs.declared.start.Start.{Start}
 use Rattle.gather.specs.declared.job.Job.{Job}
-use Rattle.task_machine.specs.Turns.{AreTasks, Becomes, Divides, Parts, TakesTurn}
+use Rattle.task_machine.specs.Turns.{Divides, Parts}
 use Rattle.task_machine.specs.declared.task.Child.{Child}
 use Rattle.task_machine.specs.declared.turn.Wanting.{Wanting}
 use Rattle.task_machine.proofs.Turning.{parts_tasks}
 use Rattle.task_machine.specs.declared.task.Body.{Body}
 use Rattle.task_machine.specs.declared.task.Task.{Task}
-use Rattle.task_machine.specs.declared.turn.Turn.{Turn}
-use Rattle.task_machine.specs.declared.turn.Turn.TheVariants.{Going, Spawns, WantsWeight}
-use Rattle.task_machine.specs.declared.turn.Turn.TheVariants.{EntersFinish, EndsFinish}
-use Rattle.task_machine.specs.declared.turn.Turn.TheVariants.{Ended, Over}
-use Rattle.workers.specs.Own.{IsOwnChild, IsOwnTask, IsOwnTurn, IsOwnWanting}
+use Rattle.task_machine.specs.declared.turn.Turn.TheVariants.{Spawns}
+use Rattle.workers.specs.Own.{IsOwnChild, IsOwnTask, IsOwnWanting}
 
 -- a task that wanted weight has more of it, and the one that it began has half
 pub more_own : (o : Option Job) (w : Wanting) (b : Body) (u : ℕ) (s : Start) (t : Task) (c : Child) → IsOwnWanting o w

@@ -11,6 +11,7 @@ use syntax::error::SyntaxError;
 use syntax::place::Place;
 use tickets::Tickets;
 use trace_text::error::TraceError;
+use types::child_number::ChildNumber;
 use types::error::TypeError;
 use types::input_error::InputError;
 use types::path::Path;
@@ -210,8 +211,8 @@ fn lines_of_inputs_and_races(rt: HostRuntime) {
 #[test]
 fn lines_of_runs(rt: HostRuntime) {
     let alloc = rt.alloc();
-    let turns = Vec::from_slice(alloc, &[1]).expect(&rt, "memory");
-    let lost = RunError::Gather(GatherError::Lost(Path { turns }));
+    let child = Path::root(alloc).child(ChildNumber::after(0));
+    let lost = RunError::Gather(GatherError::Lost(child.expect(&rt, "memory")));
     tells(&rt, alloc, &Failure::Run(RunError::OutOfMemory), "E1");
     tells(&rt, alloc, &Failure::Run(lost), "E3");
     tells(&rt, alloc, &Failure::Run(RunError::Late), "E4");

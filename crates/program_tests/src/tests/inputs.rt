@@ -4,6 +4,7 @@ use crate::tests::{compare, lists_of, typed};
 use std::alloc::Global;
 use std::process::Abort;
 use types::budget::Budget;
+use types::child_number::ChildNumber;
 use types::input::Input;
 use types::input_error::InputError;
 use types::path::Path;
@@ -174,9 +175,8 @@ fn budgets_are_within_their_limits(rt: HostRuntime) {
 #[test]
 fn a_scope_has_its_owners_path_and_a_number(rt: HostRuntime) {
     let alloc = rt.alloc();
-    let root = Path {
-        turns: Vec::new(alloc),
-    };
-    let owner = root.child(1).expect(&rt, "memory");
+    let owner = Path::root(alloc)
+        .child(ChildNumber::after(0))
+        .expect(&rt, "memory");
     compare(&rt, alloc, "a scope", ScopeId { owner, number: 2 }, "0.1#2");
 }

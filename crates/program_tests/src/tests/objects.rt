@@ -9,7 +9,8 @@ use json_answers::refusals::refusal_object;
 use parallel_relation::pairs::may_run_together;
 use places::statement_places;
 use race_checker::check::{Refused, check};
-use race_objects::races::{Found, race_object};
+use race_objects::found::Found;
+use race_objects::races::race_object;
 use serde_json::Value;
 use std::alloc::Global;
 use std::process::Abort;
@@ -17,6 +18,7 @@ use std::rt::HostRuntime;
 use std::test::Fail;
 use syntax::Place;
 use types::check::type_check;
+use types::child_number::ChildNumber;
 use types::fault::{Fault, FaultKind};
 use types::input::Input;
 use types::laws::typed_programs_are_sound;
@@ -57,16 +59,12 @@ fn places_of(rt: &impl Abort, alloc: Global, text: &str) -> Vec<Place> {
 /// The least and the largest number, a byte, two lines, and two faults.
 fn ended(alloc: Global) -> Result<Outcome, Fail> {
     let first = Fault {
-        path: Path {
-            turns: vec![in alloc; 1]?,
-        },
+        path: Path::root(alloc).child(ChildNumber::after(0))?,
         label: 3,
         kind: FaultKind::Raised(-7),
     };
     let second = Fault {
-        path: Path {
-            turns: Vec::new(alloc),
-        },
+        path: Path::root(alloc),
         label: 4,
         kind: FaultKind::OutOfElement,
     };

@@ -7,6 +7,7 @@ use std::io::ErrorKind;
 use std::process::Abort;
 use syntax_tree::tree::ElementType;
 use texts::emit::emit;
+use types::child_number::ChildNumber;
 use types::code::Array;
 use types::fault::{Fault, FaultKind};
 use types::outcome::Outcome;
@@ -61,9 +62,12 @@ const KINDS: &[FaultKind] = &[
 fn faults_of(rt: &impl Abort, alloc: Global, kinds: &[FaultKind]) -> Vec<Fault> {
     let mut faults = Vec::new(alloc);
     for kind in kinds {
-        let turns = Vec::from_slice(alloc, &[1, 12]).expect(rt, "memory");
+        let child = Path::root(alloc)
+            .child(ChildNumber::after(0))
+            .expect(rt, "memory");
+        let path = child.child(ChildNumber::after(11)).expect(rt, "memory");
         let fault = Fault {
-            path: Path { turns },
+            path,
             label: 65_535,
             kind: *kind,
         };

@@ -3,6 +3,7 @@
 use crate::tests::compare;
 use std::alloc::Global;
 use std::process::Abort;
+use types::child_number::ChildNumber;
 use types::path::Path;
 use weights::book::{Back, Book};
 use weights::weight::Weight;
@@ -67,11 +68,15 @@ fn share(rt: &impl Abort, book: &mut Book, weight: Weight) -> (Weight, Weight) {
     }
 }
 
-/// Gives a weight back, from the child of this number: whether all is back.
+/// Gives a weight back, from the child of this number, or from the owner for 0: whether all is back.
 fn completes(rt: &impl Abort, alloc: Global, book: &mut Book, weight: Weight, child: u32) -> bool {
-    let turns = vec![in alloc; child].expect(rt, "memory");
+    let owner = Path::root(alloc);
+    let path = match ChildNumber::new(child) {
+        Some(number) => owner.child(number).expect(rt, "memory"),
+        None => owner,
+    };
     assert!(rt; weight.units() <= book.issued() - book.returned());
-    book.back(weight, &Path { turns }) == Back::Complete
+    book.back(weight, &path) == Back::Complete
 }
 
 /// Shows a book: what came back from whom, how many times it has issued and how much, how much came back, and how much
@@ -91,9 +96,9 @@ fn shown(rt: &impl Abort, alloc: Global, book: &Book) -> String {
 
 /// What a scope issues at a time, how many children it has, and its book at the end. Child 0 is the owner.
 const SCOPES: &[(u64, u32, &str)] = &[
-    (1, 0, "0.0 1, 1 1 1 0"),
-    (1, 3, "0.1 1, 0.2 1, 0.3 1, 0.0 1, 4 4 4 0"),
-    (8, 4, "0.1 4, 0.2 2, 0.3 1, 0.4 4, 0.0 5, 2 16 16 0"),
+    (1, 0, "0 1, 1 1 1 0"),
+    (1, 3, "0.1 1, 0.2 1, 0.3 1, 0 1, 4 4 4 0"),
+    (8, 4, "0.1 4, 0.2 2, 0.3 1, 0.4 4, 0 5, 2 16 16 0"),
 ];
 
 #[test]
@@ -125,6 +130,6 @@ fn children_that_outlive_their_owner(rt: HostRuntime) {
     let first_ends = completes(&rt, alloc, &mut book, first, 1);
     assert!(rt; !owner_ends && !third_ends && !first_ends);
     assert!(rt; completes(&rt, alloc, &mut book, second, 2));
-    let want = "0.0 1, 0.3 1, 0.1 1, 0.2 1, 4 4 4 0";
+    let want = "0 1, 0.3 1, 0.1 1, 0.2 1, 4 4 4 0";
     compare(&rt, alloc, "a scope", shown(&rt, alloc, &book), want);
 }

@@ -66,7 +66,7 @@ const ROWS: &[(&str, u64, u64, &str)] = &[
         FAULTS,
         1_000_000,
         100,
-        "Ended { arrays: [[1], [2]], lines: [], faults: [Fault { path: Path { turns: [1] }, label: 4, kind: Raised(4) }, Fault { path: Path { turns: [2, 1] }, label: 9, kind: Raised(5) }] }",
+        "Ended { arrays: [[1], [2]], lines: [], faults: [Fault { path: Path { turns: [ChildNumber { number: 1 }] }, label: 4, kind: Raised(4) }, Fault { path: Path { turns: [ChildNumber { number: 2 }, ChildNumber { number: 1 }] }, label: 9, kind: Raised(5) }] }",
     ),
     (DOUBLING, 1_000_000, 100, ""),
     (MANY, 1_000_000, 100, ""),

@@ -22,7 +22,7 @@ const ROWS: &[(&str, &[u32], &str)] = &[
     (
         THREE_FAULTS,
         &[0, 0, 1, 2, 1, 0],
-        "Ended(Ended { arrays: [], lines: [], faults: [Fault { path: Path { turns: [1] }, label: 3, kind: Raised(1) }, Fault { path: Path { turns: [2] }, label: 5, kind: Raised(2) }, Fault { path: Path { turns: [] }, label: 6, kind: Raised(3) }] })",
+        "Ended(Ended { arrays: [], lines: [], faults: [Fault { path: Path { turns: [ChildNumber { number: 1 }] }, label: 3, kind: Raised(1) }, Fault { path: Path { turns: [ChildNumber { number: 2 }] }, label: 5, kind: Raised(2) }, Fault { path: Path { turns: [] }, label: 6, kind: Raised(3) }] })",
     ),
     (
         SCALAR,

@@ -11,6 +11,7 @@ use std::alloc::{AllocError, Global};
 use std::process::Abort;
 use std::test::Fail;
 use std::thread::Threads;
+use types::child_number::ChildNumber;
 use types::code::Label;
 use types::fault::{Fault, FaultKind};
 use types::input::Input;
@@ -22,8 +23,14 @@ type Task = (&'static [u32], Label, &'static [&'static [u32]]);
 
 /// A path.
 fn path(alloc: Global, turns: &[u32]) -> Result<Path, AllocError> {
-    let turns = Vec::from_slice(alloc, turns)?;
-    Ok(Path { turns })
+    let mut path = Path::root(alloc);
+    for turn in turns {
+        let Some(number) = ChildNumber::new(*turn) else {
+            return Err(AllocError);
+        };
+        path.turns.push(number)?;
+    }
+    Ok(path)
 }
 
 /// What its parent knows of a task that told nothing before it.

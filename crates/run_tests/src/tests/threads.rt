@@ -77,7 +77,12 @@ impl Gate for Holding {
 
 /// Whether a path has these turns.
 fn is_at(path: &Path, turns: Turns) -> bool {
-    path.turns.as_slice() == turns
+    path.turns.len() == turns.len()
+        && path
+            .turns
+            .iter()
+            .zip(turns)
+            .all(|(turn, number)| turn.get() == *number)
 }
 
 /// Counts who goes through.

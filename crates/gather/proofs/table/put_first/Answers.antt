@@ -2,9 +2,10 @@ use Rattle.std.proofs.Common.{◌≡◌, ◌∙◌, List, Option, Some, sym, ap,
 use Rattle.std.specs.Prelude.{ℕ, nat_eq, if◌then◌else◌}
 use Rattle.std.specs.Option.{option_flatten}
 use Rattle.std.specs.Cmp.Lexicographic.{pointwise}
+use Rattle.facts.proofs.Lists.{same_elements}
 use Rattle.indexmap.specs.IndexMap.{get}
 use Rattle.gather.specs.Unused.{first_of, is_same, left_in, said_of}
-use Rattle.gather.proofs.Firsts.{chained_with, cloned_is, firsts_with, in_front, said_by}
+use Rattle.gather.proofs.Firsts.{chained_with, firsts_with, in_front, said_by}
 use Rattle.gather.proofs.table.put_first.Goals as goal
 
 pub returns-clause-left : goal.returns-clause-left
@@ -21,7 +22,7 @@ returns-clause-chained c =
     c.flatten-next.ensures
     ∙ ap option_flatten c.in_ok-insert.ensures.old
     ∙ c.requires.finds key
-    ∙ ap (λ (p : List ℕ). first_of p (reverse xs)) (cloned_is c.args.task.path.turns.items key.turns.items c.in_ok-path.ensures.cases.0) in
+    ∙ ap (λ (p : List ℕ). first_of p (reverse xs)) (same_elements c.args.task.path.turns.items key.turns.items c.in_ok-path.ensures.cases.0) in
     chained_with xs c.push.new.self.items (record { task = c.args.task; next = c.flatten-next.result })
     c.in_ok-push.ensures.items next c.requires.chained
 
@@ -37,6 +38,6 @@ returns-clause-finds c = λ p.
     ∙ ap (λ (n : ℕ). if is_same key p then Some n else said_of old p) many
     ∙ ap (λ (o : Option ℕ). if is_same key p then Some (length xs) else o) (c.requires.finds p)
     ∙ ap (λ (k : List ℕ). if pointwise nat_eq k p.turns.items then Some (length xs) else first_of p.turns.items (reverse xs))
-    (cloned_is c.args.task.path.turns.items key.turns.items c.in_ok-path.ensures.cases.0)
+    (same_elements c.args.task.path.turns.items key.turns.items c.in_ok-path.ensures.cases.0)
     ∙ sym (firsts_with xs c.push.new.self.items (record { task = c.args.task; next = c.flatten-next.result })
     c.in_ok-push.ensures.items p.turns.items)

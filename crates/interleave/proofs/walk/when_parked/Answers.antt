@@ -1,10 +1,11 @@
 use Rattle.std.proofs.Common.{ℕ, [], ◌∷◌, ◌∙◌, List, ap, map, sym}
+use Rattle.facts.proofs.Lists.{same_elements}
 use Rattle.interleave.specs.Candidates.{when_parked}
 use Rattle.interleave.specs.Events.{Pass, Resume}
 use Rattle.interleave.specs.Replaying.{event}
 use Rattle.interleave.specs.Shown.{scope_id, stake}
 use Rattle.interleave.specs.declared.task.Stake.{Stake as rStake}
-use Rattle.interleave.proofs.InHand.{copied, first_is}
+use Rattle.interleave.proofs.InHand.{first_is}
 use Rattle.interleave.proofs.walk.when_parked.Goals as goal
 
 pub returns : goal.returns
@@ -12,8 +13,8 @@ returns c =
     let v = c.in-Some.ensures in
     let s = c.in-Some.stake.now in
     let f = first_is c.args.stakes.now.items s v.item.3.0 v.item.1 in
-    let path = copied c.args.path.now.turns.items c.in_ok-path.path.turns.items c.in_ok-path.ensures.cases.0 in
-    let owner = copied s.scope.owner.turns.items c.in_ok-scope.scope.owner.turns.items c.in_ok-scope.ensures.cases.0.0 in
+    let path = same_elements c.args.path.now.turns.items c.in_ok-path.path.turns.items c.in_ok-path.ensures.cases.0 in
+    let owner = same_elements s.scope.owner.turns.items c.in_ok-scope.scope.owner.turns.items c.in_ok-scope.ensures.cases.0.0 in
     ap (map event) c.in_ok-vec.ensures.items
     ∙ ap (λ (o : List ℕ). Pass (record { owner = o; number = c.in_ok-scope.scope.number }) ∷ Resume c.args.worker c.in_ok-path.path.turns.items ∷ []) owner
     ∙ ap (λ (n : ℕ). Pass (record { owner = s.scope.owner.turns.items; number = n }) ∷ Resume c.args.worker c.in_ok-path.path.turns.items ∷ []) c.in_ok-scope.ensures.cases.1

@@ -24,12 +24,12 @@ returns-clause-state c =
     = c.in_ok-faults.ensures ∙ ap (λ (fs : List rFault). map fault fs) c.deref-2.ensures.value in
     λ t. record {
       flow = flow old.flow;
-      environment = c.in_ok-copied.ensures t;
+      environment = c.in_ok-copied-2.ensures t;
       store = contents t;
       lines = lines t;
       faults = faults t;
       steps = old.steps;
-      path = c.in_ok-path.ensures t;
+      path = c.in_ok-copied.ensures t;
       spawned = old.spawned;
       extra = tt;
     }

@@ -9,9 +9,9 @@ use Rattle.step_trees.proofs.turn.begin_finish.Goals as goal
 pub returns : goal.returns
 returns c = record {
   tree =
-      entered_tree (codes c.args.body.now) (leaf_in c.args.turn) (leaf_of c.apart-behind.result.0) c.in_ok-turns.turns.items
+      entered_tree (codes c.args.body.now) (leaf_in c.args.turn) (leaf_of c.apart-behind.result.0) c.in_ok-path.path.turns.items
       c.args.turn.thread.spawned (leaf_of c.in_ok-body.body) (leaf_of c.inside.new.around) c.apart-behind.ensures.leaf
-      (c.in_ok-turns.ensures.items ∙ c.deref.ensures.value) refl c.in_ok-body.ensures.inside c.in_ok-body.ensures.around;
+      c.in_ok-path.ensures refl c.in_ok-body.ensures.inside c.in_ok-body.ensures.around;
   store = ap contents_of c.apart-behind.ensures.store;
   lengths = ap lengths_of c.apart-behind.ensures.store;
 }

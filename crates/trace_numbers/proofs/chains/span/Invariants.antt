@@ -1,4 +1,3 @@
-use Rattle.std.proofs.Common.{drop}
 use Rattle.trace_numbers.proofs.Spans.{IsAt}
 use Rattle.trace_numbers.proofs.chains.span.Given as goal
 

@@ -1,6 +1,6 @@
 use Rattle.std.proofs.Common.{◌++◌, List, ℕ, ap, ◌∙◌, append_assoc, codes}
+use Rattle.facts.proofs.Results.{ok_then}
 use Rattle.trace_numbers.specs.Text.{parallelism}
-use Rattle.trace_numbers.proofs.Pieces.{ok_then}
 use Rattle.trace_numbers.proofs.text.push_work.Goals as goal
 
 pub returns : goal.returns

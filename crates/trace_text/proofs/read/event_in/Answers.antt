@@ -1,8 +1,8 @@
 use Rattle.std.proofs.Common.{sym, ◌∙◌}
+use Rattle.facts.proofs.Results.{if_ok_then}
 use Rattle.trace_text.specs.Fields.{fields}
 use Rattle.trace_text.specs.Kinds.{kind_name, kind_of}
 use Rattle.trace_text.proofs.Arms.{kind_then_quote, same_kind, text_of_event}
-use Rattle.trace_text.proofs.Written.{if_ok_then}
 use Rattle.trace_text.proofs.read.event_in.Goals as goal
 
 pub returns-in_default-clause-told : goal.returns-in_default-clause-told

@@ -1,7 +1,7 @@
 use Rattle.std.proofs.Common.{codes}
+use Rattle.facts.proofs.Results.{if_ok_then}
 use Rattle.types.specs.Names.{path_text}
 use Rattle.trace_text.proofs.Marks.{path_then_quote}
-use Rattle.trace_text.proofs.Written.{if_ok_then}
 use Rattle.trace_text.proofs.read.path_in.Goals as goal
 
 pub returns-in_default-clause-spelled : goal.returns-in_default-clause-spelled

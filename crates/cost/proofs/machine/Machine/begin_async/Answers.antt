@@ -49,7 +49,8 @@ returns-clause-does c =
     = c.in_ok-begin_task.ensures
     ∙ ap (λ (n : ℕ). begins_at c.args.label (n + 1) c.in_ok-copied.copied (account m.account)) (c.len.ensures ∙ m.thread.path.turns.ok.0)
     ∙ ap (λ (n : ℕ). begins_at c.args.label (length m.thread.path.turns.items + 1) n (account m.account)) c.in_ok-copied.ensures in
-    let is_path = ap (λ (q : Path). q.turns.items) c.replace-path.ensures.after ∙ c.in_ok-child.ensures in
+    let is_path = ap (λ (q : Path). q.turns.items) c.replace-path.ensures.after ∙ c.in_ok-child.ensures
+    ∙ ap (λ (n : ℕ). m.thread.path.turns.items ++ n ∷ []) c.after-number.ensures in
     let at : Flow → List ℕ → Account → State Account = λ f q y.
     keeping y (record (hushed (state_of m.thread)) { flow = f; path = q; steps = fresh; spawned = 0 }) in
     let is : (standing kept begun).state ≡ child fresh (beginning_booked accounting p c.args.label st)

@@ -80,7 +80,7 @@ returns-in_ok-tell_before-in-EndFinish-clause-does c =
     let m = c.args.self.now in let p = program m.plan.program.now in let fresh = m.plan.budget.steps in
     let o = c.in-EndFinish.outer in
     let told = c.in_ok-tell_before-in-EndFinish.ensures in
-    let old = record m.thread { flow = c.after_finish-self.result } in
+    let old = record m.thread { flow = c.behind_finish-self.result } in
     let thread = c.tell_before.new.thread in let kept = c.leave_finish.new.self in
     let new = record m { thread = thread; account = kept } in
     let st = state_of m.thread in
@@ -103,8 +103,8 @@ returns-in_ok-tell_before-in-EndFinish-clause-does c =
           (standing_by_state (standing m.account m.thread) (standing kept thread)
           (end_finish o (standing m.account m.thread).state)
           (ap (keeping (account kept)) (told_before o.told old thread told)
-          ∙ ap (at (flow c.after_finish-self.result)) c.leave_finish.ensures
-          ∙ ap (λ f. at f (leaves_behind o.ended o.ended_by_label.items (account m.account))) (c.after_finish-self.ensures
+          ∙ ap (at (flow c.behind_finish-self.result)) c.leave_finish.ensures
+          ∙ ap (λ f. at f (leaves_behind o.ended o.ended_by_label.items (account m.account))) (c.behind_finish-self.ensures
           ∙ ap (λ (xs : List Fault). after_finish (flow m.thread.flow) (map fault xs)) c.deref.ensures.value))
           (ap (λ (t : Thread Store). t.nest) told.rest));
     })
@@ -115,7 +115,7 @@ returns-in_ok-tell_before-in-EndAsync-clause-does c =
     let box = c.in-EndAsync.owner in let q = c.into_inner-owner.result in
     let unboxed = c.into_inner-owner.ensures in
     let told = c.in_ok-tell_before-in-EndAsync.ensures in
-    let old = record m.thread { flow = c.after_async-self.result } in
+    let old = record m.thread { flow = c.behind_async-self.result } in
     let thread = c.tell_before-in-EndAsync.new.thread in let kept = c.end_task.new.self in
     let goes : Thread Store = record thread {
       path = q.path;
@@ -161,8 +161,8 @@ returns-in_ok-tell_before-in-EndAsync-clause-does c =
       };
       comes =
           ap (λ (s : State (Unit {0})). resume p fresh (stack m) (at s s.flow (account kept))) (told_before q.told old thread told)
-          ∙ ap (λ (y : Account). resume p fresh (stack m) (at st (flow c.after_async-self.result) y)) c.end_task.ensures
-          ∙ ap (λ (f : Flow). resume p fresh (stack m) (at st f (ends_behind q.here q.here_by_label.items (account m.account)))) c.after_async-self.ensures
+          ∙ ap (λ (y : Account). resume p fresh (stack m) (at st (flow c.behind_async-self.result) y)) c.end_task.ensures
+          ∙ ap (λ (f : Flow). resume p fresh (stack m) (at st f (ends_behind q.here q.here_by_label.items (account m.account)))) c.behind_async-self.ensures
           ∙ ap (λ (o : Owner). resume p fresh (stack m) (after_owner o s.state)) unboxed;
     })
 

@@ -1,7 +1,7 @@
 use Rattle.std.proofs.Common.{◌≡◌, ◌∙◌, ap, map, rules, sym}
 use Rattle.std.proofs.lemmas.Result.{IfErr-weaker, on_ok_weaker}
-use Rattle.std.specs.Prelude.{false, length, nat_eq}
-use Rattle.effects.proofs.Members.{false_true}
+use Rattle.std.specs.Prelude.{length, nat_eq}
+use Rattle.facts.proofs.Truths.{false_true}
 use Rattle.sections.specs.Translation.{window}
 use Rattle.own_run.specs.Places.{Places, meets}
 use Rattle.gather.specs.Stages.{IsClear}

@@ -1,16 +1,16 @@
 use Rattle.std.proofs.Common.{◌≡◌, ◌+◌, ◌∙◌, ◌∷◌, List, refl, ap, map}
+use Rattle.facts.proofs.Lists.{same_elements}
 use Rattle.interleave.specs.Courses.{behind}
 use Rattle.interleave.specs.Shown.{scope_id, stake}
 use Rattle.interleave.specs.World.{ScopeId, Stake}
 use Rattle.interleave.specs.declared.task.Task.{Task}
-use Rattle.interleave.proofs.InHand.{copied}
 use Rattle.interleave.proofs.task.Task.open.Goals as goal
 
 pub returns-clause-opened : goal.returns-clause-opened
 returns-clause-opened c =
     let rest : List Stake = map stake c.args.self.now.stakes.items in
     let w0 = c.args.job.w0 in
-    let owner = copied c.in_ok-owner.owner.turns.items c.in_ok-scope.scope.owner.turns.items c.in_ok-scope.ensures.cases.0.0 in
+    let owner = same_elements c.in_ok-owner.owner.turns.items c.in_ok-scope.scope.owner.turns.items c.in_ok-scope.ensures.cases.0.0 in
     let number = c.in_ok-scope.ensures.cases.1 in
     let same : scope_id c.in_ok-scope.scope ≡ scope_id (record { owner = c.in_ok-owner.owner; number = c.args.self.now.opened + 1 })
     = λ t. record { owner = owner t; number = number t } in
@@ -21,7 +21,7 @@ returns-clause-opened c =
       now = ap (λ (k : Task). k.doing) on ∙ ap behind c.in-Opens.is;
       opened = ap (λ (k : Task). k.opened) on;
       place = ap (λ (k : Task). k.place) on;
-      owner = copied c.args.path.now.turns.items c.in_ok-owner.owner.turns.items c.in_ok-owner.ensures.cases.0;
+      owner = same_elements c.args.path.now.turns.items c.in_ok-owner.owner.turns.items c.in_ok-owner.ensures.cases.0;
       number = refl;
       stakes = ap (map stake) (ap (λ (k : Task). k.stakes.items) on ∙ c.in_ok-push_front.ensures.items)
           ∙ ap (λ (i : ScopeId). record { scope = i; weight = w0 } ∷ rest) same;

@@ -1,4 +1,5 @@
-use Rattle.interleave.proofs.InHand.{copied, first_is}
+use Rattle.facts.proofs.Lists.{same_elements}
+use Rattle.interleave.proofs.InHand.{first_is}
 use Rattle.interleave.proofs.task.Task.share.Goals as goal
 
 pub returns-clause-share : goal.returns-clause-share
@@ -11,6 +12,6 @@ returns-clause-share c =
       outer = f.0;
       are = f.1;
       two = c.if-stake-lt2.false;
-      named = copied c.in-Spawns.start.path.turns.items c.in_ok-path.path.turns.items c.in_ok-path.ensures.cases.0;
+      named = same_elements c.in-Spawns.start.path.turns.items c.in_ok-path.path.turns.items c.in_ok-path.ensures.cases.0;
       given = c.in_ok-stakes.ensures;
     }

@@ -1,8 +1,8 @@
 use Rattle.std.proofs.Common.{◌≡◌, ◌∙◌, inr, sym, subst}
 use Rattle.std.specs.Set.{is_member}
 use Rattle.std.specs.Prelude.{true}
+use Rattle.facts.proofs.Lists.{same_elements}
 use Rattle.interleave.specs.Shown.{is_path}
-use Rattle.interleave.proofs.InHand.{copied}
 use Rattle.interleave.proofs.Walking.{named_more}
 use Rattle.interleave.proofs.walk.Walk.paths.Goals as goal
 
@@ -15,4 +15,4 @@ pub tasks-preserved : goal.tasks-preserved
 tasks-preserved c q there =
     named_more c.in-Some.path.now c.in_ok-clone.field-0 q c.tasks.path-iterator c.next.new.self c.tasks.paths.items c.push.new.self.items
     c.in-Some.ensures.steps
-    (copied c.in-Some.path.now.turns.items c.in_ok-clone.field-0.turns.items c.in_ok-clone.ensures.cases.0) c.in_ok-push.ensures.items (c.tasks.invariant q there)
+    (same_elements c.in-Some.path.now.turns.items c.in_ok-clone.field-0.turns.items c.in_ok-clone.ensures.cases.0) c.in_ok-push.ensures.items (c.tasks.invariant q there)

@@ -1,11 +1,10 @@
-use Rattle.std.proofs.Common.{◌∙◌, ◌∷◌, [], ap, arith, rules, sym, subst, Some}
+use Rattle.std.proofs.Common.{◌∙◌, ◌∷◌, [], ap, rules, sym, subst, Some}
 use Rattle.std.specs.Prelude.{if◌then◌else◌}
 use Rattle.std.proofs.lemmas.Result.{on_ok_weaker, IfErr-weaker}
 use Rattle.std.specs.HashMap.{get}
 use Rattle.own_run.specs.Translation.{task_result}
 use Rattle.interleave.specs.Ending.{GivesBack}
 use Rattle.interleave.specs.Shown.{ScopeStays, is_scope}
-use Rattle.interleave.specs.declared.scope.Scope.{Scope as rScope}
 use Rattle.interleave.specs.declared.task.Stake.{Stake as rStake}
 use Rattle.interleave.proofs.AtEnds.{found_here, late_here}
 use Rattle.interleave.proofs.world.World.hand_on.Goals as goal

@@ -1,7 +1,12 @@
-use Rattle.std.proofs.Common.{◌∙◌, sym, subst}
-use Rattle.std.proofs.lemmas.Bool.{OnTrue_from}
-use Rattle.std.proofs.lemmas.Option.{same_Some}
+use Rattle.std.proofs.Common.{◌∙◌, ◌*◌, ◌<◌, ap, sym, subst}
+use Rattle.std.proofs.lemmas.Bool.{OnFalse_from, OnTrue_from}
+use Rattle.std.proofs.lemmas.Option.{none-some, same_Some}
+use Rattle.std.specs.HashMap.{get}
+use Rattle.facts.proofs.Truths.{true_false}
 use Rattle.interleave.specs.Acting.{IsWanting}
+use Rattle.interleave.specs.Shown.{is_scope}
+use Rattle.interleave.specs.declared.scope.Scope.{Scope as rScope}
+use Rattle.interleave.proofs.AtEnds.{one_wanted}
 use Rattle.interleave.proofs.world.World.is_short.Goals as goal
 
 pub returns-in_default-wants-clause-not : goal.returns-in_default-wants-clause-not
@@ -21,3 +26,18 @@ returns-in-Some-get-clause-is c =
       found = sym c.in-Some-get.ensures.value;
       few = c.may_issue.ensures.few.0 e;
     })
+
+pub returns-in-Some-get-clause-not : goal.returns-in-Some-get-clause-not
+returns-in-Some-get-clause-not c =
+    OnFalse_from c.may_issue.result _
+    (λ e s.
+    let id = one_wanted (same_Some _ _ (c.in-Some.ensures.value ∙ s.at)) c.in-Some-wants.ensures s.wants in
+    let book = same_Some _ _ (c.in-Some-get.ensures.value ∙ ap (get is_scope c.args.self.now.scopes) id ∙ s.found) in
+    let may = c.may_issue.ensures.few.1
+    (subst (λ (b : rScope). b.issued < 2147483648 * c.args.self.now.job.w0) (sym book) s.few) in
+    true_false (sym may ∙ e))
+
+pub returns-in-None-clause-not : goal.returns-in-None-clause-not
+returns-in-None-clause-not c = λ s.
+    let id = one_wanted (same_Some _ _ (c.in-Some.ensures.value ∙ s.at)) c.in-Some-wants.ensures s.wants in
+    none-some _ (c.in-None.ensures.value ∙ ap (get is_scope c.args.self.now.scopes) id ∙ s.found)

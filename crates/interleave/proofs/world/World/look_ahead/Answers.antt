@@ -1,5 +1,4 @@
 use Rattle.std.proofs.Common.{sym}
-use Rattle.interleave.specs.Shown.{IsTaskOf}
 use Rattle.interleave.specs.declared.world.World.{World as rWorld}
 use Rattle.interleave.proofs.LookingAhead.{stays_back}
 use Rattle.interleave.proofs.Tables.{task_there}

@@ -1,6 +1,5 @@
 use Rattle.std.proofs.Common.{refl, sym, ap}
 use Rattle.std.specs.Prelude.{is_some}
-use Rattle.interleave.specs.Shown.{IsTaskOf}
 use Rattle.interleave.proofs.InHand.{ready_by}
 use Rattle.interleave.proofs.Staying.{stays_put}
 use Rattle.interleave.proofs.Tables.{task_there}

@@ -1,9 +1,8 @@
-use Rattle.std.proofs.Common.{◌∙◌, [], ap, arith, rules, sym, subst, Some}
+use Rattle.std.proofs.Common.{◌∙◌, [], ap, rules, sym, subst, Some}
 use Rattle.std.specs.Prelude.{if◌then◌else◌}
 use Rattle.std.specs.HashMap.{get}
 use Rattle.interleave.specs.Ending.{GivesBack}
 use Rattle.interleave.specs.Shown.{is_scope}
-use Rattle.interleave.specs.declared.scope.Scope.{Scope as rScope}
 use Rattle.interleave.specs.declared.task.Stake.{Stake as rStake}
 use Rattle.interleave.proofs.AtEnds.{found_here, late_here}
 use Rattle.interleave.proofs.world.World.return_weight.Goals as goal

@@ -15,7 +15,7 @@ returns-clause-told c =
     c.in_ok-told.ensures.told
     ∙ ap (λ (p : Program). told_of p (settled c.in-Ok.settled)) c.plan.ensures.program
     ∙ copies_tell c.args.self.now r.job r.world r.shows c.args.scope.now c.requires.root there.0 there.1 there.2
-    c.root_path.result c.root_path.ensures c.in-Some-get.task.now (sym c.in-Some-get.ensures.value)
+    c.root-path.result c.root-path.ensures c.in-Some-get.task.now (sym c.in-Some-get.ensures.value)
     c.in-AtEnd-Some.made c.in-AtEnd-Some.is-0 c.in-AtEnd-Some.results
     (ap (λ (s : rScope). s.results) same ∙ c.in-AtEnd-Some.is-1)
     c.in_ok-made.made c.in_ok-made.ensures c.in_ok-results.results.items

@@ -5,7 +5,7 @@ use Rattle.gather.specs.GivesBack.{GiveBack}
 use Rattle.interleave.specs.Ending.{GoesBehind}
 use Rattle.interleave.specs.declared.scope.Scope.{Scope as rScope}
 use Rattle.interleave.specs.declared.task.Task.{Task as rTask}
-use Rattle.interleave.proofs.AtEnds.{found_here}
+use Rattle.interleave.proofs.AtEnds.{found_here, none_here}
 use Rattle.interleave.proofs.world.World.settled_run.Goals as goal
 
 pub run_behind-requires : goal.run_behind-requires
@@ -32,3 +32,8 @@ returns-clause-goes c =
       kept = ap (λ (b : rScope). b.results) (sym same.book) ∙ c.in-AtFinish-Some.is-1;
       goes = subst (λ xs. GoesBehind c.in-AtFinish-Some.paused c.in-AtFinish-Some.made (map task_result xs) run) c.deref.ensures.value goes;
     }) c.run_behind.ensures.goes
+
+pub unreachable-requires-in_default-get : goal.unreachable-requires-in_default-get
+unreachable-requires-in_default-get c =
+    none_here c.args.self.now c.args.path.now c.requires.stands (sym c.in-Some.ensures.value) c.in-Some-front.ensures.lookup
+    (sym c.in_default-get.ensures.value)

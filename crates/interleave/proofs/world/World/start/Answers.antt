@@ -14,12 +14,12 @@ use Rattle.interleave.proofs.world.World.start.Goals as goal
 pub returns-clause-shows : goal.returns-clause-shows
 returns-clause-shows c =
     let w0 = c.args.job.w0 in
-    let path = c.root_path.result in
+    let path = c.root-path.result in
     let id = c.root_scope.result in
     let r : rWorld = record { job = c.args.job; tasks = c.insert.new.self; scopes = c.insert-2.new.self; hands = c.new-2.result; told = None } in
     let root = c.in_ok-root.root in
     let k : rTask = record { doing = Starts root; opened = 0; stakes = c.push_front.new.self; place = rQueue c.first.result } in
-    shows_start r root c.in_ok-root.ensures c.push_front.new.self c.new.result path id c.first.result c.first.ensures c.root_path.ensures c.root_scope.ensures
+    shows_start r root c.in_ok-root.ensures c.push_front.new.self c.new.result path id c.first.result c.first.ensures c.root-path.ensures c.root_scope.ensures
     (ap (map stake) c.in_ok-push_front.ensures.items
     ∙ ap (λ (i : ScopeId). record { scope = i; weight = w0 } ∷ map stake c.new-stakes.result.items) c.root_scope-scope.ensures
     ∙ ap (λ ss. record { scope = root_scope; weight = w0 } ∷ map stake ss) c.new-stakes.ensures.items)

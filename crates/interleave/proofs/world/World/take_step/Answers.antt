@@ -1,7 +1,6 @@
 use Rattle.std.proofs.Common.{ap, sym}
 use Rattle.std.proofs.lemmas.Result.{IfErr-weaker, IfOk-weaker}
 use Rattle.std.specs.Prelude.{is_some}
-use Rattle.interleave.specs.Shown.{IsTaskOf}
 use Rattle.interleave.specs.declared.task.Task.{Task as rTask}
 use Rattle.interleave.specs.declared.world.World.{World as rWorld}
 use Rattle.interleave.proofs.InPlace.{no_step, stepped_if}

@@ -26,7 +26,7 @@ returns c =
     let children : map listed c.in_ok-children.field-0.items ≡ map listed old.children.items
     = c.in_ok-children.ensures ∙ ap (λ (cs : List rListed). map listed cs) c.deref-3.ensures.value in
     λ t. record {
-      path = c.in_ok-path.ensures t;
+      path = c.in_ok-copied.ensures t;
       stopped = old.stopped;
       contents = contents t;
       owned = own t;

@@ -1,4 +1,4 @@
-use Rattle.std.proofs.Common.{◌≡◌, ◌-◌, List, [], ◌∷◌, ◌++◌, refl, sym, ap, ◌∙◌, subst}
+use Rattle.std.proofs.Common.{◌≡◌, List, [], ◌∷◌, ◌++◌, refl, sym, ap, ◌∙◌, subst}
 use Rattle.std.specs.Prelude.{slice_index_or}
 use Rattle.serial_run.specs.declared.code.Flat.{Flat}
 use Rattle.types.specs.Run.{Block}
@@ -10,7 +10,7 @@ use Rattle.own_run.specs.Translation.{owned_by}
 use Rattle.own_run.specs.declared.frame.Frame.{Frame as rFrame}
 use Rattle.own_run.specs.declared.frame.Frame.TheVariants.{Rest as rRest}
 use Rattle.own_run.specs.declared.memory.TaskMemory.{TaskMemory}
-use Rattle.own_run.proofs.RunTops.{same_end}
+use Rattle.own_run.proofs.Lists.{same_end}
 use Rattle.own_run.proofs.StepsInPlace.{below, is_above, is_put}
 use Rattle.own_run.proofs.run.Run.do_at_once.Goals as goal
 

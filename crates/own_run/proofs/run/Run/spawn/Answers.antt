@@ -1,4 +1,4 @@
-use Rattle.std.proofs.Common.{◌≡◌, ◌+◌, ◌-◌, ◌≤◌, ap, ◌∙◌, sym, refl, subst, List, [], ◌∷◌, ◌++◌, map, arith, Vec, Global}
+use Rattle.std.proofs.Common.{◌≡◌, ℕ, ◌+◌, ◌-◌, ◌≤◌, ap, ◌∙◌, sym, refl, subst, List, [], ◌∷◌, ◌++◌, map, arith, Vec, Global}
 use Rattle.std.proofs.lemmas.Bool.{or_right}
 use Rattle.std.proofs.lemmas.List.{map-append}
 use Rattle.std.specs.Prelude.{ℤ, ◌&&◌, not}
@@ -82,7 +82,7 @@ returns-clause-did g c =
       faults = c.replace-2.result;
     } in
     let is_listed : (x : Own) → (child x).listed ≡ listed kept = λ x t. record {
-      path = sym c.in_ok-child.ensures t;
+      path = (ap (λ (n : ℕ). m.thread.path.turns.items ++ n ∷ []) (sym c.after-number.ensures) ∙ sym c.in_ok-child.ensures) t;
       windows = sym listed_writes t;
       lines = map numbers (sym c.replace.ensures.value t).items;
       faults = map fault (sym c.replace-2.ensures.value t).items;

@@ -22,5 +22,5 @@ returns c =
       contents = contents t;
       owned = own t;
       nest = old.nest;
-      path = c.in_ok-path.ensures t;
+      path = c.in_ok-copied-2.ensures t;
     }

@@ -23,5 +23,5 @@ returns c =
       contents = contents t;
       owned = owns t;
       nest = c.args.plan.budget.nest;
-      path = c.new.ensures.items t;
+      path = c.root.ensures t;
     }

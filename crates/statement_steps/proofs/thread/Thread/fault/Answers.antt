@@ -8,7 +8,6 @@ use Rattle.statement_steps.proofs.thread.Thread.fault.Goals as goal
 pub returns-clause-state : goal.returns-clause-state
 returns-clause-state g c =
     let st = state_by g.S.Memory.contents c.args.self.now in
-    let same : c.in_ok-turns.turns.items ≡ c.args.self.now.path.turns.items = c.in_ok-turns.ensures.items ∙ c.deref.ensures.value in
     let with_faults : List Fault → State (Unit {0}) = λ fs. record st { flow = Faulted; faults = fs } in
     let with_path : List ℕ → State (Unit {0}) = λ path. with_faults (st.faults ++ record {
       path = path;
@@ -17,4 +16,4 @@ returns-clause-state g c =
       kind = c.args.kind;
     } ∷ []) in
     ap with_faults (map-pushed fault_of c.args.self.now.faults.items c.push.new.self.items _ c.in_ok-push.ensures.items)
-    ∙ ap with_path same
+    ∙ ap with_path c.in_ok-path.ensures

@@ -1,4 +1,4 @@
-use Rattle.std.proofs.Common.{◌≡◌, ◌+◌, ◌<◌, ◌≤◌, ◌-◌, refl, sym, ap, ◌∙◌, subst, rules, arith}
+use Rattle.std.proofs.Common.{◌≡◌, ◌<◌, ◌≤◌, ◌-◌, refl, sym, ap, ◌∙◌, subst, rules, arith}
 use Rattle.types.specs.Trees.{ready}
 use Rattle.types.specs.TreeSteps.{in_tree}
 use Rattle.step_trees.specs.Held.{tree_of, inside}

@@ -1,4 +1,4 @@
-use Rattle.std.proofs.Common.{ap, ◌∙◌}
+use Rattle.std.proofs.Common.{ap, rules, ◌∙◌}
 use Rattle.std.specs.Prelude.{cond, Some}
 use Rattle.std.specs.HashMap.{get}
 use Rattle.trace_numbers.specs.Tables.{is_path}
@@ -16,3 +16,11 @@ returns c =
           ∙ ap (λ o. cond (is_path key other) (Some c.args.worker) o) (shows.holder other));
       did = shows.did;
     }
+
+pub returns-in-Some : goal.returns-in-Some
+returns-in-Some c = λ h shows. record {
+  holder = λ other.
+      ((c.get_mut.follows.holds c.args.worker).3 (search rules)).0 other
+      ∙ ap (λ o. cond (is_path c.args.path.now other) (Some c.args.worker) o) (shows.holder other);
+  did = shows.did;
+}
