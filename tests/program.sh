@@ -54,13 +54,16 @@ To mend it: give one number for each element; an array that is left out begins w
 {"q": [1, 2]}
 END
 
-# A tree of 50,000 levels, and 20,000 tasks in one finish, with little of a stack.
+# The leftmost leaf always, the owner always, which leaves a tree of 50,000 levels, and 20,000 tasks in one finish, with
+# little of a stack.
 echo 'main { while true { async { skip; } } }' >"$room/deep.afx"
 yes 0 | head -100000 >"$room/zeros"
+awk 'BEGIN { for (i = 0; i < 100000; i++) print int(i / 2) }' >"$room/owner"
 echo 'main { var k = 0; finish { while k < 20000 { async { skip; } k = k + 1; } } print k; }' >"$room/wide.afx"
 printf 'ulimit -s 512\nexec "$@"\n' >"$room/small"
 afx="sh $room/small $afx"
 expect 3 'open 1' '' explore "$room/deep.afx" --choices-from "$room/zeros"
+expect 3 'open 50001' '' explore "$room/deep.afx" --choices-from "$room/owner"
 expect 0 '20000' '' explore "$room/wide.afx" --random 1
 
 echo "$passed passed, $failed failed"
