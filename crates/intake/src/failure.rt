@@ -28,65 +28,66 @@ use types::input_error::InputError;
 /// same text by `Display` is what the derive makes of the words here.
 #[derive(Debug, Drop, Error)]
 pub enum Failure {
-    /// `cannot read program.afx`
+    /// `cannot read nowhere.afx`: `run nowhere.afx`, where no such file is
     #[error("cannot read {}", Escaped(.name.as_str()))]
     CannotRead {
         name: String,
     },
-    /// `not UTF-8 program.afx`
+    /// `not UTF-8 program.afx`: a file with the byte 255
     #[error("not UTF-8 {}", Escaped(.name.as_str()))]
     NotUtf8 {
         name: String,
     },
-    /// `S2 at 1:13`
+    /// `S2 at 1:13`: `main { skip }`
     #[error(transparent)]
     Syntax(SyntaxError),
-    /// `Y1 at label 2`
+    /// `Y1 at label 1`: `main { print x; }`
     #[error(transparent)]
     Types(TypeError),
-    /// `C1 race in main: 2 write a, 4 read a`
+    /// `C1 race in main: 2 write a, 3 read a`: `main { array a: int[1]; async { a[0] = 1; } print a[0]; }`
     #[error("C1 race in {procedure}: {first}, {second}")]
     Race {
         procedure: String,
         first: String,
         second: String,
     },
-    /// `C2`
+    /// `C2`: no memory for the race check, of whatever program
     #[error("C2")]
     NoMemoryInCheck,
-    /// `N4 a`
+    /// `N4 a`: `main { array a: int[1]; }` on `{"a": [1, 2]}`
     #[error("{}", EscapedInput(.0))]
     Input(InputError),
-    /// `E1` to `E4`
+    /// `E1` to `E4`: `E2` is `main { async { skip; } async { skip; } }` with `--tasks 2`
     #[error("{}", .0.code())]
     Run(RunError),
-    /// `J1 line 3`, `J2`
+    /// `J1 line 1`: an empty file as a trace; `J2`: no memory for its lines
     #[error(transparent)]
     Trace(TraceError),
-    /// `illegal at event 7`: the first event of a trace that can't come where it stands, numbered from 0
+    /// `illegal at event 0`: a trace whose second line is `{"e":"end","path":"0"}`. It is the first event that
+    /// can't come where it stands, numbered from 0
     #[error("illegal at event {0}")]
     Illegal(usize),
     /// `E5`: the events that were noted of a run aren't its own. No run is known that comes to it.
     #[error("E5")]
     StrangeEvents,
-    /// `choices not understood`
+    /// `choices not understood`: `explore --choices 0,,1`
     #[error("choices not understood")]
     ChoicesNotUnderstood,
-    /// `no leaf at choice 2`: the first choice that names none, numbered from 0
+    /// `no leaf at choice 0`: `main { }` with `explore --choices 7`. It is the first choice that names none, numbered from 0
     #[error("no leaf at choice {0}")]
     NoLeaf(usize),
-    /// `not laid out`
+    /// `not laid out`: `main { }` on one line, with `fmt --check`
     #[error("not laid out")]
     NotLaidOut,
-    /// `cannot write picture.svg`
+    /// `cannot write /`: `run program.afx --trace /`
     #[error("cannot write {}", Escaped(.name.as_str()))]
     CannotWrite {
         name: String,
     },
-    /// `cannot write output`
+    /// `cannot write output`: whatever is told, to a full disk
     #[error("cannot write output")]
     CannotWriteOutput,
-    /// `no memory`
+    /// `no memory`: none for something else, of whatever program
     #[error("no memory")]
     NoMemory,
 }

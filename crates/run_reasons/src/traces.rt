@@ -8,9 +8,9 @@ use syntax::Place;
 /// What is wrong with a trace.
 #[derive(Clone, Copy, PartialEq, Eq, Debug)]
 pub enum Wrong {
-    /// The line of this number, from 1, is none.
+    /// The line of this number, from 1, is none: 1 of an empty text.
     Line(usize),
-    /// The event of this number, from 0, can't come where it stands.
+    /// The event of this number, from 0, can't come where it stands: 0 where a trace begins with the end of a task.
     Event(usize),
 }
 
