@@ -21,7 +21,7 @@ use types::fault::{Fault, FaultKind};
 use types::outcome::Outcome;
 use types::path::Path;
 
-/// The writer failed, or took nothing.
+/// The writer failed, or took nothing, as where a disk is full.
 #[derive(Clone, Copy, PartialEq, Eq, Debug)]
 pub struct EmitError;
 
