@@ -1,8 +1,8 @@
 #!/bin/sh
 # Prints the crates of crates.txt, lowest first, a line each: its name, and what it stands on, crates of the kit among
-# it. Then looks whether README.md (the table behind `## Crates`, a crate or several a row) and docs/ARCHITECTURE.md (the
-# lines behind `## The crates, lowest first` that begin with a crate's name in bold) name exactly these crates, each
-# behind all that it stands on. A line on the standard error says what is wrong, and the status is then 1.
+# it. Then looks whether README.md (the list behind `## Crates`, a line a crate) and docs/ARCHITECTURE.md (the table
+# behind `## The crates, lowest first`, a crate or several a row) name exactly these crates, each behind all that it
+# stands on. A line on the standard error says what is wrong, and the status is then 1.
 set -eu
 cd "$(dirname "$0")/.."
 
@@ -45,10 +45,12 @@ function print_all(    left, at, found) {
     }
 }
 
-# The page that is read names crates: each between two backquotes, before what the line says of them.
+# The page that is read names crates: each between two backquotes, in the first cell of a row or before the first colon
+# of a line.
 function name_crates(    parts, number, at) {
-    split(substr($0, 3), parts, / \| |\*\*[:,]/)
+    split(substr($0, 3), parts, / \| |: /)
     number = split(parts[1], parts, "`")
+    if (/^- / && number > 3) wrong(FILENAME " names several crates in one line")
     for (at = 2; at <= number; at += 2) name_crate(parts[at])
 }
 
@@ -69,7 +71,7 @@ function is_whole(page,    at) {
 FILENAME == "crates.txt" { if (!/^#/ && /:/) take($0); next }
 FNR == 1 { listed = 0 }
 /^## / { listed = $0 == "## Crates" || $0 == "## The crates, lowest first" }
-listed && (/^\| `/ || /^\*\*`/) { name_crates() }
+listed && /^[|-] `/ { name_crates() }
 
 END {
     print_all()
