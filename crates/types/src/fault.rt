@@ -21,17 +21,18 @@ pub struct Fault {
 /// A kind of fault.
 #[derive(Clone, Copy, PartialEq, Eq, Debug)]
 pub enum FaultKind {
-    /// F1: `a[i]` with `i` not below the length of `a`, or below 0.
+    /// F1: `a[i]` with `i` not below the length of `a`, or below 0: `main { array a: int[1]; a[1] = 0; }`.
     Index,
-    /// F2: a number that 64 bits with sign don't hold.
+    /// F2: a number that 64 bits with sign don't hold: `main { print 9223372036854775807 + 1; }`.
     Overflow,
-    /// F3: `x / 0` or `x % 0`.
+    /// F3: `x / 0` or `x % 0`: `main { print 1 / 0; }`.
     ZeroDivisor,
-    /// F4: a number that the element type doesn't hold, as 256 in a `byte`.
+    /// F4: a number that the element type doesn't hold: `main { array a: byte[1]; a[0] = 256; }`.
     OutOfElement,
-    /// F5: a split below 0 or beyond the section's length.
+    /// F5: a split below 0 or beyond the section's length:
+    /// `main { array a: int[1]; split a at 2 as l, r { skip; } }`.
     SplitPoint,
-    /// F6: `fault n`.
+    /// F6: `fault n`, with what `n` comes to: `main { fault 1; }`.
     Raised(i64),
 }
 
