@@ -2,6 +2,7 @@
 
 ghost use Rattle.std.specs.Prelude.{◌≡◌, IfOk};
 ghost use Rattle.command_line.specs.Requests.{settings as settings_of};
+ghost use Rattle.statement_steps.specs.Watched.{Watches};
 ghost use Rattle.answers.specs.Answers.{Does};
 ghost use Rattle.answers.specs.Outcomes.{Fits, IsOutcomeOf};
 
@@ -33,6 +34,7 @@ pub fn run_serially<F: FileSource, O: Write, W: Watch>(
     ensures done { Does Command.Serial (settings_of question.entry.settings) (F.held files.old)
         question.entry.text.now (O.contents out.old) (O.contents out.new) result }
     ensures keeps { F.held files.new ≡ F.held files.old }
+    ensures watched { Watches W.Told question.entry.settings.progress result watch.old watch.new }
 {
     let settings = question.settings;
     let given = question.given(alloc, files)?;
@@ -41,7 +43,7 @@ pub fn run_serially<F: FileSource, O: Write, W: Watch>(
     show(out, &given.typed.code().arrays, &outcome, settings.arrays)
 }
 
-/// The run on one thread. Where that is asked for, `watch` is told how far it has come.
+/// The run on one thread. Where that is asked for, `watch` is told how far it has come, and at its end.
 pub fn on_one_thread<W: Watch>(
     alloc: Global,
     typed: &Typed,
@@ -50,7 +52,8 @@ pub fn on_one_thread<W: Watch>(
     watch: &mut W,
 ) -> Result<Outcome, AllocError>
     requires { Fits typed.now input.now }
-    ensures { IfOk result (IsOutcomeOf typed.now input.now settings.entry.budget) }
+    ensures outcome { IfOk result (IsOutcomeOf typed.now input.now settings.entry.budget) }
+    ensures watched { Watches W.Told settings.entry.progress result watch.old watch.new }
 {
     if settings.progress {
         serial_watched(alloc, typed, input, settings.budget, watch)

@@ -4,3 +4,4 @@ pub mod Acting
 pub mod Leaving
 pub mod TracedRuns
 pub mod Tried
+pub mod Watched

@@ -3,3 +3,4 @@ pub mod Objects
 pub mod Orders
 pub mod Traced
 pub mod Trying
+pub mod Watching

@@ -11,6 +11,7 @@ ghost use Rattle.reading.specs.Orders.{AsksForObject, AsksToTest, AsksToTime};
 ghost use Rattle.reading.specs.Orders.{Order as OrderIn, Orders, names_once as order_names_once, order as order_said};
 ghost use Rattle.reading.specs.declared.order.Subject.{Subject};
 ghost use Rattle.driver.specs.Orders.{Acts, ActsOn, TellsAs, TestsAs, TimesAs};
+ghost use Rattle.driver.specs.Watching.{WatchesOrder};
 ghost use Rattle.options.specs.Replies.{IsMistake};
 ghost use Rattle.texts.specs.Appending.{AppendsBeginning};
 
@@ -59,6 +60,8 @@ pub fn act<R: Threads + Wait + Sync, F: FolderSource, O: Write, E: Write, T: Ter
     ensures twice { (o : OrderIn) → Orders (map string_bytes words.now) o → order_names_once o ≡ false
         → (F.held files.new ≡ F.held files.old) × TellsMistake (O.contents out.old) (O.contents out.new)
         (E.contents err.old) (E.contents err.new) result }
+    ensures watched { (o : OrderIn) → Orders (map string_bytes words.now) o → order_names_once o ≡ true
+        → WatchesOrder T.Told o result terminal.old terminal.new }
     ensures always { ((result ≤ 1) × (F.held files.new ≡ F.held files.old)) ⊎ ((o : OrderIn)
         × ActsOn o (F.named files.old) (F.held files.old) (F.held files.new)
         (O.contents out.old) (O.contents out.new) (E.contents err.old) (E.contents err.new) result) }
@@ -79,9 +82,10 @@ fn carry_out<R: Threads + Wait + Sync, F: FolderSource, O: Write, E: Write, T: T
     err: &mut E,
     terminal: &mut T,
 ) -> u8
-    ensures { ActsOn (order_said order.entry) (F.named files.old)
+    ensures acts { ActsOn (order_said order.entry) (F.named files.old)
         (F.held files.old) (F.held files.new)
         (O.contents out.old) (O.contents out.new) (E.contents err.old) (E.contents err.new) result }
+    ensures watched { WatchesOrder T.Told (order_said order.entry) result terminal.old terminal.new }
 {
     match order {
         Order::AsText(request) => {

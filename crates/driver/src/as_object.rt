@@ -2,13 +2,15 @@
 
 ghost use Rattle.std.specs.Prelude.{IfErr, IfOk};
 ghost use Rattle.std.specs.String.{string_bytes};
-ghost use Rattle.command_line.specs.Requests.{settings as settings_of};
+ghost use Rattle.statement_steps.specs.Watched.{Watches};
+ghost use Rattle.command_line.specs.Requests.{asked_of, settings as settings_of};
 ghost use Rattle.reading.specs.Orders.{command_of};
 ghost use Rattle.objects.specs.Objects.{FailsEarly, ObjectOf};
 ghost use Rattle.driver.specs.Acts.{Leaves};
 ghost use Rattle.driver.specs.Objects.{status_in};
 ghost use Rattle.driver.specs.Orders.{DoesWithLoaded};
 ghost use Rattle.driver.specs.Traced.{TracesRun};
+ghost use Rattle.driver.specs.Watching.{WatchesDoing, is_watched};
 ghost use Rattle.driver.specs.declared.doing.Doing.TheVariants.{Describing};
 
 use crate::loaded::Loaded;
@@ -38,8 +40,10 @@ pub(crate) fn told<R: Threads + Wait + Sync, F: FileSource, O: Write, W: Watch>(
     out: &mut O,
     watch: &mut W,
 ) -> Result<u8, Failure>
-    ensures { DoesWithLoaded (Describing subject) loaded.entry (F.held files.old) (F.held files.new)
+    ensures done { DoesWithLoaded (Describing subject) loaded.entry (F.held files.old) (F.held files.new)
         (O.contents out.old) (O.contents out.new) result }
+    ensures watched { WatchesDoing W.Told (Describing subject) (asked_of loaded.entry.request) result
+        watch.old watch.new }
 {
     let Loaded {
         alloc,
@@ -74,6 +78,8 @@ fn object_of<R: Threads + Wait + Sync, F: FileSource, W: Watch>(
         (F.held files.old) question.entry.text.now) }
     ensures leaves { Leaves (command_of subject) (settings_of question.entry.settings)
         question.entry.text.now (F.held files.old) (F.held files.new) (status_in result) }
+    ensures watched { Watches W.Told (is_watched (command_of subject) (settings_of question.entry.settings)) result
+        watch.old watch.new }
 {
     match subject {
         Subject::Run => run_told(rt, alloc, question, files),

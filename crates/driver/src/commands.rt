@@ -1,9 +1,10 @@
 //! What each command does with the text of its file.
 
 ghost use Rattle.answers.specs.Answers.{Does};
-ghost use Rattle.command_line.specs.Requests.{settings as settings_of};
+ghost use Rattle.command_line.specs.Requests.{asked_of, settings as settings_of};
 ghost use Rattle.driver.specs.Orders.{DoesWithLoaded};
 ghost use Rattle.driver.specs.Traced.{TracesRun};
+ghost use Rattle.driver.specs.Watching.{WatchesDoing};
 ghost use Rattle.driver.specs.declared.doing.Doing.TheVariants.{Answering};
 
 use crate::loaded::Loaded;
@@ -35,8 +36,9 @@ pub fn perform<R: Threads + Wait + Sync, F: FileSource, O: Write, W: Watch>(
     out: &mut O,
     watch: &mut W,
 ) -> Result<u8, Failure>
-    ensures { DoesWithLoaded Answering loaded.entry (F.held files.old) (F.held files.new)
+    ensures done { DoesWithLoaded Answering loaded.entry (F.held files.old) (F.held files.new)
         (O.contents out.old) (O.contents out.new) result }
+    ensures watched { WatchesDoing W.Told Answering (asked_of loaded.entry.request) result watch.old watch.new }
 {
     let Loaded {
         alloc,

@@ -4,6 +4,7 @@ ghost use Rattle.std.specs.Prelude.{◌≡◌};
 ghost use Rattle.command_line.specs.Requests.{asked_of};
 ghost use Rattle.driver.specs.Acts.{IsSaid, in_short};
 ghost use Rattle.driver.specs.Orders.{DoesWithLoaded, ReadsAnd, TellsUnread};
+ghost use Rattle.driver.specs.Watching.{WatchesDoing};
 
 use crate::answered::Answered;
 use crate::as_object::told;
@@ -57,6 +58,8 @@ pub fn read_and_do<R: Threads + Wait + Sync, F: FileSource, O: Write, T: Termina
         (F.held files.old) (F.held files.new)
         (O.contents out.old) (O.contents out.new) (in_short result) }
     ensures said { IsSaid ordered.entry.request.telling.explain result }
+    ensures watched { WatchesDoing T.Told ordered.entry.doing (asked_of ordered.entry.request) (in_short result)
+        terminal.old terminal.new }
 {
     let Ordered { doing, request } = ordered;
     let source = match source_of(alloc, files, request, terminal) {
@@ -103,8 +106,9 @@ fn do_with<R: Threads + Wait + Sync, F: FileSource, O: Write, T: Terminal>(
     out: &mut O,
     terminal: &mut T,
 ) -> Result<u8, Failure>
-    ensures { DoesWithLoaded doing loaded.entry (F.held files.old) (F.held files.new)
+    ensures done { DoesWithLoaded doing loaded.entry (F.held files.old) (F.held files.new)
         (O.contents out.old) (O.contents out.new) result }
+    ensures watched { WatchesDoing T.Told doing (asked_of loaded.entry.request) result terminal.old terminal.new }
 {
     match doing {
         Doing::Answering => {

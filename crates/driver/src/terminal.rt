@@ -53,9 +53,15 @@ impl<W: Watch, C: Clock> Stopwatch for Seen<W, C> {
 }
 
 impl<W: Watch, C: Clock> Watch for Seen<W, C> {
+    ghost Told = { λ counts old new. W.Told counts old.watch new.watch };
+
     fn look(&mut self, steps: u64) {
         self.watch.look(steps);
     }
+
+    ghost told_nothing = { λ s. W.told_nothing s.watch };
+
+    ghost told_more = { λ counts count a b c. W.told_more counts count a.watch b.watch c.watch };
 }
 
 impl<W: Watch, C: Clock> Terminal for Seen<W, C> {

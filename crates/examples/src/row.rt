@@ -48,9 +48,15 @@ struct Counting {
 }
 
 impl Watch for Counting {
+    ghost Told = { λ _ _ _. Unit {0} };
+
     fn look(&mut self, _steps: u64) {
         self.looks = self.looks.saturating_add(1);
     }
+
+    ghost told_nothing = { λ _. tt };
+
+    ghost told_more = { λ _ _ _ _ _ _ _. tt };
 }
 
 impl Stopwatch for Counting {

@@ -1,6 +1,6 @@
 //! Why a command has no answer.
 
-ghost use Rattle.std.specs.Prelude.{◌≡◌, IfOk};
+ghost use Rattle.std.specs.Prelude.{IfOk};
 ghost use Rattle.std.specs.String.{string_bytes};
 ghost use Rattle.types.specs.Typed.{code_of};
 ghost use Rattle.race_checker.specs.Races.{IsRace};

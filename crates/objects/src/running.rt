@@ -3,6 +3,7 @@
 ghost use Rattle.std.specs.Prelude.{◌≡◌, IfErr, IfOk};
 ghost use Rattle.std.specs.String.{string_bytes};
 ghost use Rattle.command_line.specs.Requests.{settings as settings_of};
+ghost use Rattle.statement_steps.specs.Watched.{Watches};
 ghost use Rattle.objects.specs.Objects.{FailsEarly, ObjectOf};
 
 use crate::outcomes::outcome_told;
@@ -30,6 +31,7 @@ pub fn serial_told<F: FileSource, W: Watch>(
     ensures why { IfErr result (FailsEarly Command.Serial (settings_of question.entry.settings)
         (F.held files.old) question.entry.text.now) }
     ensures keeps { F.held files.new ≡ F.held files.old }
+    ensures watched { Watches W.Told question.entry.settings.progress result watch.old watch.new }
 {
     let given = question.given(alloc, files)?;
     match on_one_thread(alloc, &given.typed, &given.input, question.settings, watch) {

@@ -5,3 +5,4 @@ pub mod Ends
 pub mod BoundsLemmas
 pub mod Stores
 pub mod Pairs
+pub mod Watching

@@ -3,3 +3,4 @@ pub mod Standing
 pub mod Primitive
 pub mod Resume
 pub mod Bounds
+pub mod Watched

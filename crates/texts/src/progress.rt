@@ -42,6 +42,8 @@ impl<C: Clock + Drop, W: Write + Drop> Progress<C, W> {
 }
 
 impl<C: Clock, W: Write> Watch for Progress<C, W> {
+    ghost Told = { λ _ _ _. Unit {0} };
+
     fn look(&mut self, steps: u64) {
         let (Some(lines), Some(start)) = (&mut self.lines, self.start) else {
             return;
@@ -59,4 +61,8 @@ impl<C: Clock, W: Write> Watch for Progress<C, W> {
             let _ = append(lines, line.as_bytes());
         }
     }
+
+    ghost told_nothing = { λ _. tt };
+
+    ghost told_more = { λ _ _ _ _ _ _ _. tt };
 }

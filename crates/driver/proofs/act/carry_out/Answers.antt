@@ -1,32 +1,57 @@
-use Rattle.std.proofs.Common.{ap, sym}
+use Rattle.std.proofs.Common.{ap, refl, sym}
 use Rattle.command_line.specs.Requests.{asked_of}
-use Rattle.reading.specs.Orders.{AsText, AsObject, Times, Tests, order}
+use Rattle.reading.specs.Orders.{AsText, AsObject, Times, Tests, command_of, order}
 use Rattle.driver.specs.Acts.{in_short}
+use Rattle.driver.specs.Watching.{is_watched, is_watched_by}
 use Rattle.driver.specs.declared.doing.Doing.TheVariants.{Answering, Describing, Timing}
 use Rattle.driver.proofs.Ordered.{acted, ordered, tested_as}
+use Rattle.driver.proofs.Watched.{reported_watched, watched_as}
 use Rattle.driver.proofs.act.carry_out.Goals as goal
 
-pub returns-in-AsText : goal.returns-in-AsText
-returns-in-AsText g c =
+pub returns-in-AsText-clause-acts : goal.returns-in-AsText-clause-acts
+returns-in-AsText-clause-acts g c =
     let asked = asked_of c.in-AsText.request in let done = c.read_and_do-done in
     ordered _ _ _ _ _ _ _ _ (AsText asked) (order c.args.order) (sym (ap order c.in-AsText.is))
     (acted _ _ _ _ _ _ _ Answering asked (in_short done.result) done.ensures.done c.report.ensures)
 
-pub returns-in-AsObject : goal.returns-in-AsObject
-returns-in-AsObject g c =
+pub returns-in-AsObject-clause-acts : goal.returns-in-AsObject-clause-acts
+returns-in-AsObject-clause-acts g c =
     let x = c.in-AsObject.subject in let asked = asked_of c.in-AsObject.request in
     let done = c.read_and_do-done-in-AsObject in
     ordered _ _ _ _ _ _ _ _ (AsObject x asked) (order c.args.order) (sym (ap order c.in-AsObject.is))
     (acted _ _ _ _ _ _ _ (Describing x) asked (in_short done.result) done.ensures.done c.report-in-AsObject.ensures)
 
-pub returns-in-Times : goal.returns-in-Times
-returns-in-Times g c =
+pub returns-in-Times-clause-acts : goal.returns-in-Times-clause-acts
+returns-in-Times-clause-acts g c =
     let asked = asked_of c.in-Times.request in let done = c.read_and_do-done-in-Times in
     ordered _ _ _ _ _ _ _ _ (Times asked) (order c.args.order) (sym (ap order c.in-Times.is))
     (acted _ _ _ _ _ _ _ Timing asked (in_short done.result) done.ensures.done c.report-in-Times.ensures)
 
-pub returns-in-Tests : goal.returns-in-Tests
-returns-in-Tests g c =
+pub returns-in-Tests-clause-acts : goal.returns-in-Tests-clause-acts
+returns-in-Tests-clause-acts g c =
     ordered _ _ _ _ _ _ _ _ (Tests c.in-Tests.folder.now) (order c.args.order) (sym (ap order c.in-Tests.is))
     (tested_as _ _ _ _ _ _ _ _ c.in-Tests.folder.now (in_short c.test-done.result) c.test-done.ensures.done
     c.report-in-Tests.ensures)
+
+pub returns-in-AsText-clause-watched : goal.returns-in-AsText-clause-watched
+returns-in-AsText-clause-watched g c =
+    let asked = asked_of c.in-AsText.request in let done = c.read_and_do-done in
+    watched_as g.T.Watch.Told _ _ (AsText asked) (order c.args.order) (sym (ap order c.in-AsText.is)) _
+    (reported_watched g.T.Watch.Told _ _ (is_watched_by asked.action asked.settings) asked.telling.explain _ _ (in_short done.result) _
+    done.ensures.watched c.report.ensures)
+
+pub returns-in-AsObject-clause-watched : goal.returns-in-AsObject-clause-watched
+returns-in-AsObject-clause-watched g c =
+    let x = c.in-AsObject.subject in let asked = asked_of c.in-AsObject.request in
+    let done = c.read_and_do-done-in-AsObject in
+    watched_as g.T.Watch.Told _ _ (AsObject x asked) (order c.args.order) (sym (ap order c.in-AsObject.is)) _
+    (reported_watched g.T.Watch.Told _ _ (is_watched (command_of x) asked.settings) asked.telling.explain _ _ (in_short done.result) _
+    done.ensures.watched c.report-in-AsObject.ensures)
+
+pub returns-in-Times-clause-watched : goal.returns-in-Times-clause-watched
+returns-in-Times-clause-watched g c =
+    watched_as g.T.Watch.Told _ _ (Times (asked_of c.in-Times.request)) (order c.args.order) (sym (ap order c.in-Times.is)) _ tt
+
+pub returns-in-Tests-clause-watched : goal.returns-in-Tests-clause-watched
+returns-in-Tests-clause-watched g c =
+    watched_as g.T.Watch.Told _ _ (Tests c.in-Tests.folder.now) (order c.args.order) (sym (ap order c.in-Tests.is)) _ refl

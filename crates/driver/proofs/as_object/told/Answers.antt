@@ -1,9 +1,25 @@
+use Rattle.std.proofs.Common.{ℕ}
 use Rattle.command_line.specs.Requests.{settings}
+use Rattle.intake.specs.declared.failure.Failure.{Failure}
+use Rattle.objects.specs.declared.told.Told.{Told}
+use Rattle.statement_steps.proofs.Watching.{behind_end, still_failed}
+use Rattle.reading.specs.Orders.{command_of}
+use Rattle.driver.specs.Watching.{is_watched}
 use Rattle.driver.proofs.Objects.{refusal_told}
 use Rattle.driver.proofs.as_object.told.Goals as goal
 
-pub returns-in-Err : goal.returns-in-Err
-returns-in-Err g c =
+pub returns-in-Err-clause-done : goal.returns-in-Err-clause-done
+returns-in-Err-clause-done g c =
     let request = c.args.loaded.request in
     refusal_told c.args.subject request.file.now (settings request.settings) c.args.loaded.text.now _ _ _ _ c.in-Err.failure
     c.in-Err.ensures.why c.tell_refusal.ensures c.in-Err.ensures.leaves
+
+pub returns-in-Ok-clause-watched : goal.returns-in-Ok-clause-watched
+returns-in-Ok-clause-watched g c =
+    behind_end g.W.Watch.Told Failure (is_watched (command_of c.args.subject) (settings c.args.loaded.request.settings)) c.in-Ok.told
+    c.answer_object.result _ _ c.in-Ok.ensures.watched
+
+pub returns-in-Err-clause-watched : goal.returns-in-Err-clause-watched
+returns-in-Err-clause-watched g c =
+    still_failed g.W.Watch.Told Told ℕ (is_watched (command_of c.args.subject) (settings c.args.loaded.request.settings))
+    c.in-Err.failure c.in-Err.failure _ _ c.in-Err.ensures.watched

@@ -3,24 +3,43 @@ use Rattle.driver.specs.declared.doing.Doing.TheVariants.{Answering, Describing,
 use Rattle.driver.proofs.Acting.{handed_over}
 use Rattle.driver.proofs.Ordered.{does_so}
 use Rattle.driver.proofs.Tried.{times_on}
+use Rattle.driver.proofs.Watched.{handed_watched, watched_so}
+use Rattle.driver.specs.Watching.{is_watched_by}
 use Rattle.driver.proofs.doing.do_with.Goals as goal
 
-pub returns-in-Answering : goal.returns-in-Answering
-returns-in-Answering g c =
+pub returns-in-Answering-clause-done : goal.returns-in-Answering-clause-done
+returns-in-Answering-clause-done g c =
     let request = c.args.loaded.request in let text = c.args.loaded.text.now in
     does_so c.args.doing Answering c.in-Answering.is (asked_of request) text _ _ _ _ c.handed_on.result
     (handed_over request.action request.file.now (settings_of request.settings) text _ _ _ _ _ c.perform-done.result
-    c.handed_on.result c.perform-done.ensures c.handed_on.ensures)
+    c.handed_on.result c.perform-done.ensures.done c.handed_on.ensures)
 
-pub returns-in-Describing : goal.returns-in-Describing
-returns-in-Describing g c =
+pub returns-in-Describing-clause-done : goal.returns-in-Describing-clause-done
+returns-in-Describing-clause-done g c =
     let request = c.args.loaded.request in let text = c.args.loaded.text.now in
     does_so c.args.doing (Describing c.in-Describing.subject) c.in-Describing.is (asked_of request) text _ _ _ _
-    c.told.result c.told.ensures
+    c.told.result c.told.ensures.done
 
-pub returns-in-Timing : goal.returns-in-Timing
-returns-in-Timing g c =
+pub returns-in-Timing-clause-done : goal.returns-in-Timing-clause-done
+returns-in-Timing-clause-done g c =
     let request = c.args.loaded.request in let text = c.args.loaded.text.now in
     does_so c.args.doing Timing c.in-Timing.is (asked_of request) text _ _ _ _ c.handed_on-in-Timing.result
     (times_on (settings_of request.settings) text _ _ _ _ _ c.time-done.result c.handed_on-in-Timing.result
     c.time-done.ensures c.handed_on-in-Timing.ensures)
+
+pub returns-in-Answering-clause-watched : goal.returns-in-Answering-clause-watched
+returns-in-Answering-clause-watched g c =
+    let request = c.args.loaded.request in
+    watched_so g.T.Watch.Told _ _ c.args.doing Answering c.in-Answering.is (asked_of request) c.handed_on.result
+    (handed_watched g.T.Watch.Told _ _ (is_watched_by request.action (settings_of request.settings)) _ _ c.perform-done.result
+    c.handed_on.result c.handed_on.ensures c.perform-done.ensures.watched)
+
+pub returns-in-Describing-clause-watched : goal.returns-in-Describing-clause-watched
+returns-in-Describing-clause-watched g c =
+    watched_so g.T.Watch.Told _ _ c.args.doing (Describing c.in-Describing.subject) c.in-Describing.is
+    (asked_of c.args.loaded.request) c.told.result c.told.ensures.watched
+
+pub returns-in-Timing-clause-watched : goal.returns-in-Timing-clause-watched
+returns-in-Timing-clause-watched g c =
+    watched_so g.T.Watch.Told _ _ c.args.doing Timing c.in-Timing.is (asked_of c.args.loaded.request)
+    c.handed_on-in-Timing.result tt

@@ -1,8 +1,11 @@
-use Rattle.std.proofs.Common.{List, ℕ, ◌≤◌, length, subst, sym}
+use Rattle.std.proofs.Common.{List, ℕ, ◌≤◌, length, Result, subst, sym}
 use Rattle.intake.specs.Held.{HasText}
+use Rattle.intake.specs.declared.failure.Failure.{Failure}
 use Rattle.command_line.specs.Requests.{asked_of}
 use Rattle.driver.specs.Acts.{in_short}
+use Rattle.driver.specs.Watching.{WatchesDoing}
 use Rattle.driver.proofs.Ordered.{read_on_text, read_without_text}
+use Rattle.driver.proofs.Watched.{unread_watched}
 use Rattle.driver.proofs.doing.read_and_do.Goals as goal
 
 pub returns-in-Err-clause-done : goal.returns-in-Err-clause-done
@@ -19,4 +22,16 @@ returns-clause-done g c =
     read_on_text c.args.ordered.doing (asked_of request) held _ _ _ _ _ c.in-Ok.ensures.keeps c.explained.ensures.keeps
     (in_short c.explained.result) c.do_with-done.result c.explained.ensures.same text
     (subst (HasText held request.file.now) same c.in-Ok.ensures.text)
-    (subst (λ (t : List ℕ). length t ≤ 1048576) same c.in-Ok.ensures.short) c.do_with-done.ensures
+    (subst (λ (t : List ℕ). length t ≤ 1048576) same c.in-Ok.ensures.short) c.do_with-done.ensures.done
+
+pub returns-in-Err-clause-watched : goal.returns-in-Err-clause-watched
+returns-in-Err-clause-watched g c =
+    unread_watched ℕ g.T.Watch.Told _ (g.met.T.Watch.told_nothing _) c.args.ordered.doing (asked_of c.args.ordered.request)
+    c.in-Err.refusal.failure
+
+pub returns-clause-watched : goal.returns-clause-watched
+returns-clause-watched g c =
+    let a = asked_of c.args.ordered.request in
+    let old = c.args.terminal.now in let new = c.do_with-done.new.terminal in
+    subst (λ (r : Result ℕ Failure). WatchesDoing g.T.Watch.Told c.args.ordered.doing a r old new)
+    (sym c.explained.ensures.same) c.do_with-done.ensures.watched

@@ -1,4 +1,4 @@
-use Rattle.std.proofs.Common.{◌≡◌, ap, ◌∙◌, List, ℕ, ◌++◌, ◌∷◌, []}
+use Rattle.std.proofs.Common.{ap, ◌∙◌, List, ℕ, ◌++◌, ◌∷◌, []}
 use Rattle.types.specs.Run.{Fault, State, Faulted}
 use Rattle.types.specs.Translation.{fault as fault_of}
 use Rattle.statement_steps.specs.Standing.{state_by}

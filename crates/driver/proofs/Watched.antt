@@ -1,0 +1,69 @@
+-- What one is told of a run stays so behind it.
+use Rattle.std.proofs.Common.{◌≡◌, ℕ, ◌≤◌, List, [], Bool, true, false, Option, Result, Ok, Err, sym, ◌∙◌, refl, subst, inr, arith}
+use Rattle.std.specs.Prelude.{◌≢◌}
+use Rattle.statement_steps.specs.Watched.{Watches}
+use Rattle.statement_steps.proofs.Watching.{behind_end, not_begun}
+use Rattle.syntax.specs.declared.error.SyntaxError.TheVariants.{OutOfMemory as MemoryInSyntax}
+use Rattle.types.specs.declared.error.TypeError.TheVariants.{OutOfMemory as MemoryInTypes}
+use Rattle.types.specs.declared.input_error.InputError.TheVariants.{OutOfMemory as MemoryInInput}
+use Rattle.gather.specs.declared.run_error.RunError.TheVariants.{OutOfMemory as MemoryInRun, TooManyTasks, Gather, Late}
+use Rattle.trace_text.specs.declared.error.TraceError.TheVariants.{NoMemory as MemoryInTrace}
+use Rattle.command_line.specs.Requests.{Asked}
+use Rattle.intake.specs.FailureStatus.{failure_status}
+use Rattle.intake.specs.declared.failure.Failure.{Failure}
+use Rattle.intake.specs.declared.failure.Failure.TheVariants.{Syntax, Types, NoMemoryInCheck}
+use Rattle.intake.specs.declared.failure.Failure.TheVariants.{Input, Run, Trace, StrangeEvents, NoMemory}
+use Rattle.reading.specs.Orders.{Order}
+use Rattle.driver.specs.Acts.{IsHandedOn, Reports}
+use Rattle.driver.specs.Watching.{WatchesDoing, WatchesOrder, WatchesTo}
+use Rattle.driver.specs.declared.doing.Doing.{Doing}
+use Rattle.driver.specs.declared.doing.Doing.TheVariants.{Answering, Describing, Timing}
+
+-- no failure has the status of an outcome
+of_failure : (f : Failure) → failure_status f ≢ 1 → failure_status f ≤ 3 → ⊥
+of_failure (Syntax MemoryInSyntax) other small = omega (arith, small)
+of_failure (Types MemoryInTypes) other small = omega (arith, small)
+of_failure NoMemoryInCheck other small = omega (arith, small)
+of_failure (Input MemoryInInput) other small = omega (arith, small)
+of_failure (Run MemoryInRun) other small = omega (arith, small)
+of_failure (Run (TooManyTasks ticket)) other small = omega (arith, small)
+of_failure (Trace MemoryInTrace) other small = omega (arith, small)
+of_failure NoMemory other small = omega (arith, small)
+of_failure (Run (Gather e)) other small = omega (arith, small)
+of_failure (Run Late) other small = omega (arith, small)
+of_failure StrangeEvents other small = omega (arith, small)
+of_failure _ other small = other refl
+
+module _ {W : Type 0} (Told : List ℕ → W → W → Type 0) (old new : W) where
+  -- what was done is handed on, and reported
+  pub handed_watched : (asked : Bool) (written later : Option (List ℕ)) (done r : Result ℕ Failure)
+      → IsHandedOn done written later r → Watches Told asked done old new → Watches Told asked r old new
+  handed_watched asked written later (Ok status) r on told = behind_end Told Failure asked status r old new told
+  handed_watched asked written later (Err f) r on told =
+      subst (λ (s : Result ℕ Failure). Watches Told asked s old new) (sym on.1) told
+
+  pub reported_watched : (asked explain : Bool) (err_old err_new : Option (List ℕ)) (r : Result ℕ Failure) (status : ℕ)
+      → Watches Told asked r old new → Reports explain err_old err_new r status → WatchesTo Told asked status old new
+  reported_watched false explain err_old err_new r status told reports = told
+  reported_watched true explain err_old err_new (Ok n) status told reports = (inr told, λ _ _. told)
+  reported_watched true explain err_old err_new (Err f) status told reports = (
+    told,
+    λ other small.
+        absurd (of_failure f (λ same. other (reports.0 ∙ same)) (subst (λ n. n ≤ 3) reports.0 small)),
+  )
+
+  -- what is done is the same, or what was ordered
+  pub watched_so : {A E : Type 0} (d e : Doing) → d ≡ e → (a : Asked) (r : Result A E) → WatchesDoing Told e a r old new
+      → WatchesDoing Told d a r old new
+  watched_so d e same a r told = subst (λ (x : Doing). WatchesDoing Told x a r old new) (sym same) told
+
+  pub watched_as : (o p : Order) → o ≡ p → (status : ℕ) → WatchesOrder Told o status old new
+      → WatchesOrder Told p status old new
+  watched_as o p same status told = subst (λ (q : Order). WatchesOrder Told q status old new) same told
+
+-- a file that has no text of a program tells nothing
+pub unread_watched : {W E : Type 0} (A : Type 0) (Told : List ℕ → W → W → Type 0) (w : W) → Told [] w w → (d : Doing) (a : Asked)
+    (e : E) → WatchesDoing Told {A = A} d a (Err e) w w
+unread_watched A Told w nothing Answering a e = not_begun Told A _ e w nothing
+unread_watched A Told w nothing (Describing x) a e = not_begun Told A _ e w nothing
+unread_watched A Told w nothing Timing a e = tt

@@ -1,0 +1,59 @@
+-- What somebody is told who looks at the program.
+use Rattle.std.specs.Prelude.{ℕ, ◌≡◌, ◌≢◌, ◌⊎◌, ◌≤◌, List, Bool, true, false, Result}
+use Rattle.statement_steps.specs.Watched.{IsTold, IsToldOfEnd, Watches}
+use Rattle.command_line.specs.Requests.{Asked, Settings}
+use Rattle.command_line.specs.declared.request.Action.{Action}
+use Rattle.command_line.specs.declared.request.Action.TheVariants.{Answer as AnswerBy, Rewrite}
+use Rattle.command_line.specs.declared.request.Command.{Command}
+use Rattle.command_line.specs.declared.request.Command.TheVariants.{Run, Serial, Check, Listing, Pairs, Explore}
+use Rattle.command_line.specs.declared.request.Command.TheVariants.{Labels, Places, Format, CheckFormat}
+use Rattle.command_line.specs.declared.request.Command.TheVariants.{View, Summary, Draw, Chrome, Cost}
+use Rattle.command_line.specs.declared.request.Command.TheVariants.{CostByLabel, CostByProcedure}
+use Rattle.reading.specs.Orders.{Order, AsText, AsObject, Times, Tests, command_of}
+use Rattle.driver.specs.declared.doing.Doing.{Doing}
+use Rattle.driver.specs.declared.doing.Doing.TheVariants.{Answering, Describing, Timing}
+
+-- how far a run on one thread has come is told where that is asked for, and of no other command
+abbrev pub is_watched : Command → Settings → Bool
+is_watched Serial s = s.progress
+is_watched Run s = false
+is_watched Check s = false
+is_watched Listing s = false
+is_watched Pairs s = false
+is_watched Explore s = false
+is_watched Labels s = false
+is_watched Places s = false
+is_watched Format s = false
+is_watched CheckFormat s = false
+is_watched Cost s = false
+is_watched CostByLabel s = false
+is_watched CostByProcedure s = false
+is_watched View s = false
+is_watched Summary s = false
+is_watched Draw s = false
+is_watched Chrome s = false
+
+abbrev pub is_watched_by : Action → Settings → Bool
+is_watched_by (AnswerBy c) s = is_watched c s
+is_watched_by Rewrite s = false
+
+module _ {W : Type 0} (Told : List ℕ → W → W → Type 0) where
+  -- what one is told while this is done with a text; one who times runs has the time read
+  abbrev pub WatchesDoing : {A E : Type 0} → Doing → Asked → Result A E → (old new : W) → Type 0
+  WatchesDoing Answering a r old new = Watches Told (is_watched_by a.action a.settings) r old new
+  WatchesDoing (Describing x) a r old new = Watches Told (is_watched (command_of x) a.settings) r old new
+  WatchesDoing Timing a r old new = Unit {0}
+
+  -- where that is asked for one is told how far the run has come, and to its end if the status is that of an outcome: a
+  -- failure has 1, 4 or 5
+  abbrev pub WatchesTo : (asked : Bool) → (status : ℕ) → (old new : W) → Type 0
+  WatchesTo false status old new = new ≡ old
+  WatchesTo true status old new =
+      (IsTold Told old new ⊎ IsToldOfEnd Told old new) × (status ≢ 1 → status ≤ 3 → IsToldOfEnd Told old new)
+
+  -- the same of an order
+  abbrev pub WatchesOrder : Order → (status : ℕ) → (old new : W) → Type 0
+  WatchesOrder (AsText a) status old new = WatchesTo (is_watched_by a.action a.settings) status old new
+  WatchesOrder (AsObject x a) status old new = WatchesTo (is_watched (command_of x) a.settings) status old new
+  WatchesOrder (Times a) status old new = Unit {0}
+  WatchesOrder (Tests folder) status old new = new ≡ old
