@@ -1,19 +1,16 @@
 -- What a statement may do, and what it leaves pending: least sets of accesses, or of labels.
-use Rattle.std.specs.Prelude.{ℕ, ◌≡◌, List, [], ◌∷◌, slice_index_or, nat_eq, ◌||◌, if◌then◌else◌}
+use Rattle.std.specs.Prelude.{ℕ, ◌≡◌, List, [], ◌∷◌, nat_eq, ◌||◌, if◌then◌else◌}
 use Rattle.std.proofs.Common.{refl}
 use Rattle.sections.specs.Member.{Member}
 use Rattle.types.specs.Code.{Number, Truth, Code, If, While, Split, Call, Async, Finish, Codes}
 use Rattle.types.specs.Code.{Then, Program}
 use Rattle.types.specs.Run.{procedure_of}
+use Rattle.types.specs.Sound.{passed_for}
 use Rattle.effects.specs.Accesses.{Access, own_accesses}
 
 -- around a split of s, both sides are s
 abbrev pub past_split : (s left right : ℕ) → ℕ → ℕ
 past_split s l r x = if nat_eq l x || nat_eq r x then s else x
-
--- around a call with these section arguments, parameter k is the k-th of them
-abbrev pub past_call : (sections : List ℕ) → ℕ → ℕ
-past_call ss k = slice_index_or ss k 0
 
 -- the access in other names
 abbrev pub renamed : (ℕ → ℕ) → Access → Access
@@ -43,7 +40,7 @@ module _ (p : Program) where
     split : {s : ℕ} {e : Number} {l r : ℕ} {b : Codes}
         → Inner (Split s e l r b) b (past_split s l r)
     call : {f : ℕ} {es : List Number} {ss : List ℕ}
-        → Inner (Call f es ss) (procedure_of p f).body (past_call ss)
+        → Inner (Call f es ss) (procedure_of p f).body (passed_for ss)
 
 module _ (p : Program) (subject : Subject) where
   mutual

@@ -3,7 +3,8 @@ use Rattle.std.specs.Prelude.{ℕ, ◌≡◌, ◌⊎◌, ◌↔◌, Bool, true}
 use Rattle.sections.specs.Member.{Member}
 use Rattle.types.specs.Code.{Code, Do, If, While, Split, Call, Async, Finish, Codes, End, Then, Program}
 use Rattle.types.specs.Run.{procedure_of}
-use Rattle.effects.specs.Effects.{past_split, past_call, Inner, Subject, AllOf, All, PendingOf, Pending}
+use Rattle.types.specs.Sound.{passed_for}
+use Rattle.effects.specs.Effects.{past_split, Inner, Subject, AllOf, All, PendingOf, Pending}
 
 module _ (p : Program) (subject : Subject) where
   -- one of these, in other names
@@ -18,7 +19,7 @@ module _ (p : Program) (subject : Subject) where
   Inside has (If t b c) x = has b x ⊎ has c x
   Inside has (While t b) x = has b x
   Inside has (Split s e l r b) x = Renamed (past_split s l r) (has b) x
-  Inside has (Call f es ss) x = Renamed (past_call ss) (has (procedure_of p f).body) x
+  Inside has (Call f es ss) x = Renamed (passed_for ss) (has (procedure_of p f).body) x
   Inside has (Async b) x = has b x
   Inside has (Finish b) x = has b x
 

@@ -5,7 +5,8 @@ ghost use Rattle.sections.specs.Translation.{section as section_of};
 ghost use Rattle.types.specs.Run.{procedure_of};
 ghost use Rattle.types.specs.Translation.{code as plain_code, codes as codes_of};
 ghost use Rattle.types.specs.Translation.{program as program_of};
-ghost use Rattle.effects.specs.Effects.{accesses, All, past_call};
+ghost use Rattle.types.specs.Sound.{passed_for};
+ghost use Rattle.effects.specs.Effects.{accesses, All};
 ghost use Rattle.effects.specs.Firsts.{AddsFirsts, kept_in};
 ghost use Rattle.effects.specs.Rows.{AllInside, Renamed};
 ghost use Rattle.effects.specs.Sound.{IsSound};
@@ -99,7 +100,7 @@ fn add_call(
     requires number { length sections.now
         ≡ length (procedure_of (program_of code.now) callee.number).parameters }
     ensures { let p = program_of code.now in OnOk result (AddsFirsts
-        (Renamed p accesses (past_call (map section_of sections.now))
+        (Renamed p accesses (passed_for (map section_of sections.now))
         (All p accesses (procedure_of p callee.number).body))
         (kept_in into.old) (kept_in into.new)) }
 {

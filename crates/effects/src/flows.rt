@@ -2,7 +2,6 @@
 
 ghost use Rattle.std.specs.Prelude.{◌≡◌, ◌++◌, [], ◌∷◌, OnOk, map};
 ghost use Rattle.sections.specs.Translation.{section as section_of};
-ghost use Rattle.types.specs.Translation.{code as plain_code};
 ghost use Rattle.effects.specs.Roots.{root_in};
 ghost use Rattle.effects.specs.Flows.{flows_of, flows_of_call, flows_of_labels, flows_of_sections};
 ghost use Rattle.effects.specs.Flows.{flows_of_use};

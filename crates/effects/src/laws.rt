@@ -1,12 +1,10 @@
 //! Laws of the definitions, each the contract of a function that does nothing.
 
 ghost use Rattle.std.specs.Prelude.{◌≡◌, ◌⊎◌, ◌↔◌, ℕ, ℤ, List, [], ◌∷◌, map, length};
-ghost use Rattle.std.specs.Prelude.{false, Some};
+ghost use Rattle.std.specs.Prelude.{Some};
 ghost use Rattle.sections.specs.Place.{Place, Window, sides_of};
 ghost use Rattle.sections.specs.Member.{Member};
 ghost use Rattle.sections.specs.Origins.{IsNumbered};
-ghost use Rattle.sections.specs.Overlap.{overlap};
-ghost use Rattle.sections.specs.Placed.{Apart};
 ghost use Rattle.types.specs.Code.{Number, Truth, Primitive, Code, Do, Split, Call, Codes};
 ghost use Rattle.types.specs.Code.{Procedure, Program};
 ghost use Rattle.types.specs.Indexed.{indexed, indexed_truth};
@@ -15,7 +13,6 @@ ghost use Rattle.types.specs.Run.{State, Rules, Work, run, primitive, procedure_
 ghost use Rattle.types.specs.Run.{with_sides};
 ghost use Rattle.types.specs.Meaning.{one_rules};
 ghost use Rattle.types.specs.Outcome.{whole_arrays};
-ghost use Rattle.types.specs.Typed.{code_of};
 ghost use Rattle.effects.specs.Accesses.{Access, own_accesses, reads};
 ghost use Rattle.effects.specs.Effects.{accesses, labels, AllOf, All, PendingOf, Pending};
 ghost use Rattle.effects.specs.Rows.{IsLeastSolution};
@@ -26,7 +23,7 @@ ghost use Rattle.effects.specs.Tables.{Table, IsDerived, IsDerivedPending, IsSta
 ghost use Rattle.effects.specs.Tables.{StableIsLeast};
 ghost use Rattle.effects.specs.Rounds.{possible, summaries, pending_summaries, needs_of};
 ghost use Rattle.effects.specs.Needs.{Provides, needs_in};
-ghost use Rattle.effects.specs.Sound.{Allowed, SplitsWell, PassesWell, is_writable};
+ghost use Rattle.effects.specs.Sound.{Allowed, SplitsWell, PassesWell};
 ghost use Rattle.effects.specs.Sound.{parameters_of, HasArrays, IsSoundIn, IsSound};
 ghost use Rattle.effects.specs.Fits.{Fits};
 ghost use Rattle.effects.specs.Kept.{SameWindows, KeepsWindows, WorkFollows};

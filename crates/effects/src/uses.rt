@@ -1,6 +1,6 @@
 //! Sets of labels by section.
 
-ghost use Rattle.std.specs.Prelude.{◌↔◌, ◌⊎◌, ◌≡◌, ◌≤◌, ◌<◌, ℕ, IsTrue, OnOk, IfOk, false, true, vec_len};
+ghost use Rattle.std.specs.Prelude.{◌↔◌, ◌⊎◌, ◌≡◌, ◌<◌, ℕ, IsTrue, OnOk, IfOk, false, true, vec_len};
 ghost use Rattle.effects.specs.Least.{IsLeast};
 ghost use Rattle.effects.specs.LabelSets.{HasLabel, HasNew};
 ghost use Rattle.effects.specs.UseSets.{HasUse};

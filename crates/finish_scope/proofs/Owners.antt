@@ -4,13 +4,13 @@ use Rattle.own_run.specs.Lists.{Each}
 use Rattle.own_run.specs.declared.result.TaskResult.{TaskResult as Made}
 use Rattle.gather.specs.declared.job.Job.{Job}
 use Rattle.task_machine.specs.Tasks.{IsResultOf}
-use Rattle.finish_scope.specs.Own.{IsOwnOwner, IsOwnPassing, IsOwnResting, IsOwnResult}
+use Rattle.finish_scope.specs.Own.{IsOwnOwner, IsOwnPassing, IsOwnResting, IsResultOfRun}
 use Rattle.finish_scope.specs.declared.resting.Passing.{Passing}
 use Rattle.finish_scope.specs.declared.resting.Resting.{Resting}
 
 module _ (o : Option Job) where
   -- results of a run are those of its job
-  pub results_are_of_the_job : (j : Job) → o ≡ Some j → (rs : List Made) → Each (IsOwnResult o) rs → Each (IsResultOf j) rs
+  pub results_are_of_the_job : (j : Job) → o ≡ Some j → (rs : List Made) → Each (IsResultOfRun o) rs → Each (IsResultOf j) rs
   results_are_of_the_job j is [] all = tt
   results_are_of_the_job j is (r ∷ rs) all = (all.0 j is, results_are_of_the_job j is rs all.1)
 
@@ -20,7 +20,7 @@ module _ (o : Option Job) where
 
   -- and so is a scope that passes with it
   pub passing_is_of_the_run : (x : Option Resting) (r : Resting) → x ≡ Some r → IsOwnOwner o x
-      → (rs : List Made) → Each (IsOwnResult o) rs → (p : Passing) → p.owner ≡ r → p.results.items ≡ rs
+      → (rs : List Made) → Each (IsResultOfRun o) rs → (p : Passing) → p.owner ≡ r → p.results.items ≡ rs
       → IsOwnPassing o p
   passing_is_of_the_run x r is own rs all p owner results =
       let rests = subst (IsOwnResting o) (sym owner) (owner_is_of_the_run x r is own) in record {
@@ -28,6 +28,6 @@ module _ (o : Option Job) where
         can = record {
           ends = rests.ends;
           results = results_are_of_the_job p.owner.parked.value.job rests.job p.results.items
-              (subst (Each (IsOwnResult o)) (sym results) all);
+              (subst (Each (IsResultOfRun o)) (sym results) all);
         };
       }

@@ -15,8 +15,8 @@ pub record CanPass (p : Passing) : Type 0 where
 
 module _ (o : Option Job) where
   -- a result is that of a task of the run
-  abbrev pub IsOwnResult : Made → Type 0
-  IsOwnResult made = (j : Job) → o ≡ Some j → IsResultOf j made
+  abbrev pub IsResultOfRun : Made → Type 0
+  IsResultOfRun made = (j : Job) → o ≡ Some j → IsResultOf j made
 
   -- an owner is one of its tasks
   pub record IsOwnResting (r : Resting) : Type 0 where
@@ -30,7 +30,7 @@ module _ (o : Option Job) where
 
   -- all that stands in a scope is of the run
   pub record IsOwnScope (came : List Made) (parked : Option Resting) : Type 0 where
-    pub results : Each IsOwnResult came
+    pub results : Each IsResultOfRun came
     pub owner : IsOwnOwner parked
 
   -- a scope of the run passes

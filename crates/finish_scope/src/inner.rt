@@ -3,7 +3,7 @@
 ghost use Rattle.std.specs.Prelude.{◌≡◌, ◌≢◌, ◌+◌, ◌<◌, ◌≤◌, ◌⊎◌, ◌↔◌, IfErr, IfNone, IfOk};
 ghost use Rattle.std.specs.Prelude.{IfSome, None, OnErr, OnOk};
 ghost use Rattle.weights.specs.Ledger.{issued_of, returned_of};
-ghost use Rattle.finish_scope.specs.Own.{IsOwnPassing, IsOwnResting, IsOwnResult};
+ghost use Rattle.finish_scope.specs.Own.{IsOwnPassing, IsOwnResting, IsResultOfRun};
 ghost use Rattle.finish_scope.specs.Scopes.{Cannot, Counts, Keeps, Mints, Parks, Passes, TakesBack};
 ghost use Rattle.finish_scope.specs.Scopes.{IsEven, out_of, given_by, scope_at_opening};
 
@@ -119,7 +119,7 @@ impl<'p, J: Running> Inner<'p, J> {
         weight: Weight,
         made: TaskResult,
     ) -> Result<Back, Late<(Weight, TaskResult)>>
-        requires own { IsOwnResult J.job made }
+        requires own { IsResultOfRun J.job made }
         ensures takes { OnOk result (TakesBack self.old self.new (given_by made weight) made) }
         ensures complete { IfOk result (λ b. (b ≡ Back.Complete) ↔ IsEven self.new) }
         ensures case { OnErr result (out_of self.old < weight) }
@@ -202,7 +202,7 @@ impl<'p, J: Running> Inner<'p, J> {
 
     /// Keeps a result. Where it finds no memory the scope is marked.
     fn keep(&mut self, made: TaskResult)
-        requires own { IsOwnResult J.job made }
+        requires own { IsResultOfRun J.job made }
         ensures { Keeps self.old self.new made }
     {
         if self.results.push(made).is_err() {

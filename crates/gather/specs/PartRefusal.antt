@@ -1,14 +1,9 @@
 -- When a part of the gathering is refused.
-use Rattle.std.specs.Prelude.{◌≡◌, Bool, true, false, nat_eq}
-use Rattle.std.specs.Cmp.Lexicographic.{pointwise}
+use Rattle.std.specs.Prelude.{◌≡◌, Bool, true, false}
 use Rattle.types.specs.declared.path.Path.{Path}
 use Rattle.gather.specs.Parts.{Waiting, comes_back_twice}
 use Rattle.gather.specs.declared.error.GatherError.{GatherError}
 use Rattle.gather.specs.declared.error.GatherError.TheVariants.{Lost, Double, Stranger, OutOfMemory}
-
--- whether two paths are the same
-abbrev pub is_path : (path other : Path) → Bool
-is_path path other = pointwise nat_eq other.turns.items path.turns.items
 
 -- a result of a path is left over: another one was used, or nobody listed it
 abbrev pub TellsLeftOver : (was_used : Bool) → Path → GatherError → Type 0

@@ -4,6 +4,7 @@ use Rattle.std.specs.Prelude.{if◌then◌else◌}
 use Rattle.std.specs.Cmp.Lexicographic.{pointwise}
 use Rattle.std.specs.Option.{option_flatten}
 use Rattle.indexmap.specs.IndexMap.{IndexMap, get}
+use Rattle.types.specs.Translation.{is_path}
 use Rattle.types.specs.declared.path.Path.{Path}
 use Rattle.own_run.specs.declared.result.TaskResult.{TaskResult}
 use Rattle.gather.specs.declared.table.Entry.{Entry}
@@ -41,13 +42,9 @@ next_in (Some e ∷ places) = first_of e.task.path.turns.items places ∷ next_i
 abbrev pub AreChained : List (Option Entry) → Type 0
 AreChained places = said_next places ≡ next_in places
 
--- whether two paths are the same
-abbrev pub is_same : (path other : Path) → Bool
-is_same path other = pointwise nat_eq path.turns.items other.turns.items
-
 -- where a table says that the first result of a path stands
 abbrev pub said_of : {S : Type 0} → IndexMap Path (Option ℕ) S → Path → Option ℕ
-said_of table path = option_flatten (get is_same table path)
+said_of table path = option_flatten (get is_path table path)
 
 -- a table says where the first result of each path stands
 abbrev pub FindsFirsts : {S : Type 0} → IndexMap Path (Option ℕ) S → List (Option Entry) → Type 0

@@ -7,7 +7,8 @@ ghost use Rattle.own_run.specs.Settling.{settle as settle_of};
 ghost use Rattle.own_run.specs.Translation.{owned_by, settled as settled_of};
 ghost use Rattle.own_run.specs.Translation.{task_result as result_of};
 ghost use Rattle.gather.specs.GivesBack.{GiveBack, all_owned};
-ghost use Rattle.gather.specs.PartRefusal.{TellsLeftOver, is_path};
+ghost use Rattle.types.specs.Translation.{is_path};
+ghost use Rattle.gather.specs.PartRefusal.{TellsLeftOver};
 ghost use Rattle.gather.specs.Parts.{IsWhole, comes_to};
 ghost use Rattle.gather.specs.Reached.{GoesOn, IsOwnCase, used_by};
 ghost use Rattle.gather.specs.Refusal.{IsCaseOf, Refuses};
@@ -164,7 +165,7 @@ impl Stage {
 
 /// A result of a path is left over, where those of some paths were used.
 fn left_over(used: &[Path], path: Path) -> GatherError
-    ensures { TellsLeftOver (list_any (is_path path) used.now) path result }
+    ensures { TellsLeftOver (list_any (λ p. is_path p path) used.now) path result }
 {
     if has_path(used, &path) {
         GatherError::Double(path)
@@ -175,7 +176,7 @@ fn left_over(used: &[Path], path: Path) -> GatherError
 
 /// Whether a path is among some.
 fn has_path(paths: &[Path], path: &Path) -> bool
-    ensures { result ≡ list_any (is_path path.now) paths.now }
+    ensures { result ≡ list_any (λ p. is_path p path.now) paths.now }
 {
     paths.iter().any(|other| *other == *path)
 }

@@ -3,7 +3,8 @@
 ghost use Rattle.std.specs.Prelude.{◌≡◌, ◌∷◌, IsSome, None, OnOk, Some, reverse};
 ghost use Rattle.std.specs.Prelude.{if◌then◌else◌, slice_index_or, slice_set};
 ghost use Rattle.std.proofs.Props.{props};
-ghost use Rattle.gather.specs.Unused.{AreChained, FindsFirsts, is_same, left_in, said_of};
+ghost use Rattle.types.specs.Translation.{is_path};
+ghost use Rattle.gather.specs.Unused.{AreChained, FindsFirsts, left_in, said_of};
 
 use indexmap::IndexMap;
 use own_run::result::TaskResult;
@@ -110,7 +111,7 @@ fn first_place(first: &IndexMap<Path, Option<usize>>, path: &Path) -> Option<usi
 fn set_first_place(first: &mut IndexMap<Path, Option<usize>>, path: &Path, next: Option<usize>)
     requires { IsSome (said_of first.old path.now) }
     ensures { (other : Path) → said_of first.new other
-        ≡ (if is_same path.now other then next else said_of first.old other) }
+        ≡ (if is_path path.now other then next else said_of first.old other) }
 {
     if let Some(place) = first.get_mut(path) {
         *place = next;

@@ -9,7 +9,8 @@ use Rattle.gather.specs.declared.job.Job.{Job}
 use Rattle.interleave.specs.Courses.{IsKnown, IsLooked}
 use Rattle.interleave.specs.Events.{issue, Steps as IsStep}
 use Rattle.interleave.specs.World.{Stake, hand_of, Scope as Book}
-use Rattle.interleave.specs.Shown.{Becomes, IsBookOf, WorldStays, is_path, is_scope, scope_id, stake, whereabouts}
+use Rattle.types.specs.Translation.{is_path}
+use Rattle.interleave.specs.Shown.{Becomes, IsBookOf, WorldStays, is_scope, scope_id, stake, whereabouts}
 use Rattle.interleave.specs.declared.doing.Doing.TheVariants.{Starts, Runs, Steps, Spawns, Opens}
 use Rattle.types.specs.declared.scope_id.ScopeId.{ScopeId}
 use Rattle.interleave.specs.declared.scope.Scope.{Scope}

@@ -20,7 +20,8 @@ use Rattle.own_run.specs.declared.run.Run.{Run}
 use Rattle.own_run.specs.declared.turn.Paused.{Paused}
 use Rattle.gather.specs.GivesBack.{GiveBack, all_owned}
 use Rattle.interleave.specs.Events.{give_back}
-use Rattle.interleave.specs.Shown.{IsBookOf, PutsScope, PutsTask, is_path, is_scope, stake}
+use Rattle.types.specs.Translation.{is_path}
+use Rattle.interleave.specs.Shown.{IsBookOf, PutsScope, PutsTask, is_scope, stake}
 use Rattle.interleave.specs.World.{Scope}
 use Rattle.interleave.specs.declared.doing.Doing.{Doing}
 use Rattle.interleave.specs.declared.doing.Doing.TheVariants.{AtEnd, AtFinish, Runs}

@@ -2,11 +2,10 @@
 use Rattle.std.specs.Prelude.{ℕ, ◌≡◌, ◌⊎◌, List, Bool, true, false, ◌&&◌, option_map}
 use Rattle.std.specs.Prelude.{not, nat_eq, map, Option, Some, None, Vec, codes, if◌then◌else◌}
 use Rattle.std.specs.Global.{Global}
-use Rattle.std.specs.Cmp.Lexicographic.{pointwise}
 use Rattle.std.specs.HashMap.{get}
 use Rattle.std.specs.HashSet.{contains}
 use Rattle.types.specs.Outcome.{outcome as one_thread}
-use Rattle.types.specs.Translation.{outcome as outcome_of}
+use Rattle.types.specs.Translation.{outcome as outcome_of, is_path}
 use Rattle.types.specs.declared.outcome.Outcome.{Outcome}
 use Rattle.types.specs.declared.path.Path.{Path}
 pub use Rattle.events.specs.Events.{scope_id, turns_of}
@@ -42,10 +41,6 @@ abbrev pub whereabouts : rWhereabouts → Whereabouts
 whereabouts (rQueue w) = Queue w
 whereabouts (rHand w) = Hand w
 whereabouts rParked = Parked
-
--- whether two keys of a table are the same
-abbrev pub is_path : (path other : Path) → Bool
-is_path path other = pointwise nat_eq path.turns.items other.turns.items
 
 abbrev pub is_scope : (id other : rScopeId) → Bool
 is_scope id other = is_path id.owner other.owner && nat_eq id.number other.number

@@ -11,7 +11,8 @@ use Rattle.interleave.specs.Events.{Event}
 use Rattle.interleave.specs.Jobs.{IsWeightedJob}
 use Rattle.interleave.specs.Replay.{Legal}
 use Rattle.interleave.specs.Replaying.{IsReplayed, comes}
-use Rattle.interleave.specs.Shown.{Shows, is_path, next_world}
+use Rattle.types.specs.Translation.{is_path}
+use Rattle.interleave.specs.Shown.{Shows, next_world}
 use Rattle.interleave.specs.World.{Live, World, has_passed, root_scope, task}
 use Rattle.interleave.specs.Worlds.{IsSpent}
 use Rattle.interleave.specs.declared.walk.Walk.{Walk}

@@ -20,8 +20,8 @@ module _ (p : Program) (input : List (List ℤ)) (b : Budget) where
   given_to = given p (needs_of p) b.steps (root p input b)
 
   -- it is that of the own run of a task, whose path is given its start
-  abbrev pub IsOwnResult : TaskResult → Type 0
-  IsOwnResult = IsOfOwnRun p (needs_of p) b.steps (root p input b)
+  abbrev pub ComesOfOwnRun : TaskResult → Type 0
+  ComesOfOwnRun = IsOfOwnRun p (needs_of p) b.steps (root p input b)
 
   -- a parked task stands at the end of a finish, and these results settle what it has made in that
   pub record Settles (t : Live) (results : List TaskResult) : Type 0 where

@@ -13,7 +13,8 @@ ghost use Rattle.interleave.specs.Courses.{IsKnown, IsNotToStep, behind, begun_b
 ghost use Rattle.interleave.specs.Events.{Opens as IsOpen, Replenish as IsReplenish};
 ghost use Rattle.interleave.specs.Events.{Spawns as IsSpawn, Steps as IsStep};
 ghost use Rattle.interleave.specs.Shown.{Becomes, IsTaskOf, IsWorld, Refuses, TaskStays, WorldStays};
-ghost use Rattle.interleave.specs.Shown.{is_path, scope_id, stake, whereabouts};
+ghost use Rattle.types.specs.Translation.{is_path};
+ghost use Rattle.interleave.specs.Shown.{scope_id, stake, whereabouts};
 ghost use Rattle.interleave.specs.Walks.{IsIllegal};
 ghost use Rattle.interleave.specs.World.{Live, hand_of};
 ghost use Rattle.interleave.specs.declared.error.EventError.TheVariants.{Illegal, NoMemory};

@@ -12,7 +12,6 @@ ghost use Rattle.interleave.specs.declared.error.EventError.TheVariants.{NoMemor
 ghost use Rattle.interleave.specs.declared.scope.Scope.{Scope as AnyScope};
 ghost use Rattle.types.specs.Outcome.{outcome as one_thread};
 ghost use Rattle.types.specs.Translation.{outcome as outcome_of};
-ghost use Rattle.types.specs.declared.outcome.Outcome.{Outcome as AnyOutcome};
 
 use crate::doing::Doing;
 use crate::ending::copies;

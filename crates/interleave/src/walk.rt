@@ -1,6 +1,6 @@
 //! Walks at random: one legal event behind the other.
 
-ghost use Rattle.std.specs.Prelude.{◌≡◌, ◌≤◌, ◌<◌, ◌∷◌, [], length, false, map, IfErr, IfOk, OnOk};
+ghost use Rattle.std.specs.Prelude.{◌≡◌, ◌<◌, ◌∷◌, [], length, false, map, IfErr, IfOk, OnOk};
 ghost use Rattle.interleave.specs.Candidates.{in_hand as hand_events, when_parked as parked_events};
 ghost use Rattle.interleave.specs.Events.{Take as IsTake};
 ghost use Rattle.own_run.specs.Lists.{Each};

@@ -1,13 +1,14 @@
 //! A world of tasks and scopes, and the events that touch no task's run.
 
-ghost use Rattle.std.specs.Prelude.{◌≡◌, ◌&&◌, [], IfErr, IfOk, OnOk, Some, true, false, not, nat_eq};
+ghost use Rattle.std.specs.Prelude.{◌≡◌, ◌&&◌, IfErr, IfOk, OnOk, Some, true, false, not, nat_eq};
 ghost use Rattle.std.specs.Bool.{OnTrue, OnFalse};
 ghost use Rattle.std.specs.HashMap.{get};
 ghost use Rattle.types.specs.Contents.{FitsArrays};
 ghost use Rattle.gather.specs.Jobs.{program_of, lists_of, budget_of};
 ghost use Rattle.interleave.specs.Events.{Pass as IsPass, Steal as IsSteal, Take as IsTake};
 ghost use Rattle.interleave.specs.Shown.{Becomes, IsWorld, PutsScope, PutsTask, Refuses, Shows};
-ghost use Rattle.interleave.specs.Shown.{is_path, is_scope, scope_id, whereabouts};
+ghost use Rattle.types.specs.Translation.{is_path};
+ghost use Rattle.interleave.specs.Shown.{is_scope, scope_id, whereabouts};
 ghost use Rattle.interleave.specs.World.{World as AnyWorld, book, has_passed, in_queue, weight_of};
 ghost use Rattle.interleave.specs.World.{root_scope as the_root_scope};
 ghost use Rattle.interleave.specs.Replay.{start_of as first_of};

@@ -1,6 +1,6 @@
 //! The pairs of accesses that may run together.
 
-ghost use Rattle.std.specs.Prelude.{◌≡◌, ◌++◌, ◌≤◌, IfOk, OnOk, length, map};
+ghost use Rattle.std.specs.Prelude.{◌≡◌, ◌++◌, IfOk, OnOk, map};
 ghost use Rattle.types.specs.Typed.{code_of};
 ghost use Rattle.types.specs.Translation.{code as plain_code, codes as codes_of, program};
 ghost use Rattle.effects.specs.Effects.{accesses};

@@ -4,7 +4,8 @@ ghost use Rattle.std.specs.Prelude.{◌≡◌, ◌++◌, OnOk, map};
 ghost use Rattle.sections.specs.Translation.{section as section_of};
 ghost use Rattle.types.specs.Translation.{code as plain_code, codes as codes_of};
 ghost use Rattle.effects.specs.Accesses.{own_accesses as own_by};
-ghost use Rattle.effects.specs.Effects.{accesses, past_call, past_split, renamed};
+ghost use Rattle.types.specs.Sound.{passed_for};
+ghost use Rattle.effects.specs.Effects.{accesses, past_split, renamed};
 ghost use Rattle.effects.specs.Tables.{all_in, all_inside, left_by, left_in};
 ghost use Rattle.effects.specs.Translation.{access as access_of};
 ghost use Rattle.parallel_relation.specs.Listing.{alls_of, pendings_of};
@@ -164,7 +165,7 @@ fn add_passed(
     into: &mut Vec<Access>,
 ) -> Result<(), AllocError>
     ensures { OnOk result (map access_of into.new.items ≡ map access_of into.old.items
-        ++ map (renamed (past_call (map section_of sections.now))) (map access_of inside.now)) }
+        ++ map (renamed (passed_for (map section_of sections.now))) (map access_of inside.now)) }
 {
     for access in inside {
         into.push(passed(*access, sections))?;
@@ -174,7 +175,7 @@ fn add_passed(
 
 /// An access of a procedure, in the names around a call with these sections.
 fn passed(access: Access, sections: &[SectionId]) -> Access
-    ensures { access_of result ≡ renamed (past_call (map section_of sections.now)) (access_of access) }
+    ensures { access_of result ≡ renamed (passed_for (map section_of sections.now)) (access_of access) }
 {
     match sections.get(access.section.number) {
         Some(section) => Access {

@@ -9,7 +9,7 @@ use Rattle.types.specs.Code.{Procedure, Program}
 use Rattle.types.specs.Value.{Environment}
 use Rattle.types.specs.Run.{procedure_of}
 use Rattle.effects.specs.Accesses.{Access, own_accesses}
-use Rattle.effects.specs.Effects.{past_call}
+use Rattle.types.specs.Sound.{passed_for}
 use Rattle.effects.specs.Sound.{SplitsWell, parameters_of}
 
 -- the sections in scope: those of the procedure's beginning, written or not, and sides of splits
@@ -60,7 +60,7 @@ module _ (p : Program) where
         InScope sc s × (InScope sc x → ⊥) × (InScope sc y → ⊥) × (x ≢ y)
         × Scoped (Inside s x y sc) b
     ScopedOf sc (Call f es ss) =
-        (k : ℕ) → k < length (procedure_of p f).parameters → InScope sc (past_call ss k)
+        (k : ℕ) → k < length (procedure_of p f).parameters → InScope sc (passed_for ss k)
     ScopedOf sc (Async b) = Scoped sc b
     ScopedOf sc (Finish b) = Scoped sc b
 

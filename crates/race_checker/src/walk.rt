@@ -4,14 +4,14 @@ ghost use Rattle.std.specs.Prelude.{◌≡◌, ◌≤◌, length, map, IfOk, Non
 ghost use Rattle.std.specs.List.{AllZip};
 ghost use Rattle.rayon.specs.Lists.{chunks_of};
 ghost use denote.Param.Send.{IsSync};
-ghost use Rattle.sections.specs.Tree.{origins_of};
 ghost use Rattle.sections.specs.Translation.{section as section_of};
 ghost use Rattle.types.specs.Translation.{code as plain_code, codes as codes_of, procedure as procedure_as};
 ghost use Rattle.types.specs.Translation.{program as program_as};
 ghost use Rattle.effects.specs.Sound.{IsSound};
 ghost use Rattle.effects.specs.Summarized.{AreSummaries};
 ghost use Rattle.types.specs.Run.{procedure_of as plain_procedure_of};
-ghost use Rattle.effects.specs.Effects.{accesses, All, Pending, past_call};
+ghost use Rattle.types.specs.Sound.{passed_for};
+ghost use Rattle.effects.specs.Effects.{accesses, All, Pending};
 ghost use Rattle.effects.specs.Firsts.{AreFirsts, kept_in};
 ghost use Rattle.effects.specs.Rows.{Renamed};
 ghost use Rattle.race_checker.specs.Found.{Stands, StandsOf, IsFoundIn, IsFoundOf};
@@ -211,12 +211,12 @@ fn found_of_call(
     requires number { length sections.now
         ≡ length (plain_procedure_of (program_as code.now) callee.number).parameters }
     ensures all { IfOk result (λ found. AreFirsts
-        (Renamed (program_as code.now) accesses (past_call (map section_of sections.now))
+        (Renamed (program_as code.now) accesses (passed_for (map section_of sections.now))
         (All (program_as code.now) accesses
         (plain_procedure_of (program_as code.now) callee.number).body))
         (kept_in found.all)) }
     ensures pending { IfOk result (λ found. AreFirsts
-        (Renamed (program_as code.now) accesses (past_call (map section_of sections.now))
+        (Renamed (program_as code.now) accesses (passed_for (map section_of sections.now))
         (Pending (program_as code.now) accesses
         (plain_procedure_of (program_as code.now) callee.number).body))
         (kept_in found.pending)) }

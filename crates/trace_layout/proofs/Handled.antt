@@ -12,7 +12,7 @@ use Rattle.std.specs.Map.{lookup}
 use Rattle.std.proofs.lemmas.Option.{get_or_from_slice_get, none-some, same_Some, slice_get_within}
 use Rattle.std.proofs.lemmas.Slice.Eq.{bytes_eq-Decides}
 use Rattle.events.specs.declared.event.Event.{Event}
-use Rattle.trace_numbers.specs.Tables.{is_path}
+use Rattle.types.specs.Translation.{is_path}
 use Rattle.types.specs.declared.path.Path.{Path}
 use Rattle.trace_layout.specs.Hands.{AreHands, AreInTurn, AreSpellsSoFar, IsEmptyHand, IsEndingSoFar, IsInTurn, IsOfTask, IsSpellSoFar}
 use Rattle.trace_layout.specs.Spells.{AreApart, AreInOrder, AreSpells, Hold, IsEnding, IsLatest, IsLeaving, IsSpell, ended_at, is_taking, parked_at, taken_at}

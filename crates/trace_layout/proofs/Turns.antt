@@ -8,7 +8,7 @@ use Rattle.std.proofs.lemmas.List.{get_or-set_other, get_or-set_same, get_or_app
 use Rattle.std.proofs.lemmas.Option.{same_Some}
 use Rattle.std.proofs.lemmas.Slice.Eq.{bytes_eq-Decides}
 use Rattle.events.specs.declared.event.Event.{Event}
-use Rattle.trace_numbers.specs.Tables.{is_path}
+use Rattle.types.specs.Translation.{is_path}
 use Rattle.types.specs.declared.path.Path.{Path}
 use Rattle.trace_layout.specs.Hands.{AreInTurn, IsInTurn, IsSpellSoFar}
 use Rattle.trace_layout.specs.Spells.{IsLatest, IsLeaving, IsOver, taken_at}

@@ -3,7 +3,7 @@ use Rattle.std.specs.Prelude.{ℕ, ◌≡◌, ◌-◌, ◌<◌, ◌≤◌, List,
 use Rattle.std.specs.Prelude.{All, count_by, slice_index_or}
 use Rattle.std.specs.HashMap.{get}
 use Rattle.events.specs.declared.event.Event.{Event}
-use Rattle.trace_numbers.specs.Tables.{is_path}
+use Rattle.types.specs.Translation.{is_path}
 use Rattle.types.specs.declared.path.Path.{Path}
 use Rattle.trace_layout.specs.Spells.{AreApart, AreInOrder, IsEnding, IsLatest, IsLeaving, IsOver, is_taking, taken_at}
 use Rattle.trace_layout.specs.declared.hands.Hands.{Hands}

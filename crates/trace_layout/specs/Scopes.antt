@@ -3,7 +3,7 @@ use Rattle.std.specs.Prelude.{ℕ, ◌≡◌, ◌+◌, ◌-◌, ◌<◌, ◌≤�
 use Rattle.std.specs.Prelude.{count_by, slice_index_or, unwrap_or}
 use Rattle.std.specs.HashMap.{get}
 use Rattle.events.specs.declared.event.Event.{Event}
-use Rattle.trace_numbers.specs.Tables.{is_path}
+use Rattle.types.specs.Translation.{is_path}
 use Rattle.types.specs.declared.path.Path.{Path}
 use Rattle.types.specs.declared.scope_id.ScopeId.{ScopeId}
 use Rattle.trace_layout.specs.Finishes.{AreOpenedInOrder, IsFinish, is_opening, opens}

@@ -1,13 +1,13 @@
 //! What is in the workers' hands, event by event.
 
-ghost use Rattle.std.specs.Prelude.{ℕ, ◌≡◌, ◌+◌, ◌-◌, ◌<◌, ◌↔◌, List, All, IfNone, IfSome, IsTrue, None, OnOk, Some};
+ghost use Rattle.std.specs.Prelude.{ℕ, ◌≡◌, ◌+◌, ◌-◌, ◌<◌, ◌↔◌, List, IfNone, IfSome, IsTrue, None, OnOk, Some};
 ghost use Rattle.std.specs.Prelude.{IfOk, length, slice_get, slice_index_or};
 ghost use Rattle.std.specs.HashMap.{get};
 ghost use Rattle.events.specs.declared.event.Event.{Event as AnyEvent};
 ghost use Rattle.trace_layout.specs.Hands.{AreHands, IsEmptyHand};
 ghost use Rattle.trace_layout.specs.Spells.{AreSpells, IsLeaving, taken_at};
 ghost use Rattle.trace_layout.specs.declared.spells.Spell.{Spell as AnySpell};
-ghost use Rattle.trace_numbers.specs.Tables.{is_path};
+ghost use Rattle.types.specs.Translation.{is_path};
 
 use crate::spells::{Beginning, Ending, Spell, Spells};
 use events::event::Event;

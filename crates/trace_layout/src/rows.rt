@@ -1,6 +1,6 @@
 //! Stretches in rows.
 
-ghost use Rattle.std.specs.Prelude.{◌≡◌, ◌<◌, ◌≤◌, All, Any, IfOk, IfSome, MatchOption, max};
+ghost use Rattle.std.specs.Prelude.{◌≡◌, ◌<◌, ◌≤◌, All, Any, IfOk, IfSome, MatchOption};
 ghost use Rattle.trace_layout.specs.Rows.{AreApart, first_free as first_free_row, rows_of as rows_in};
 
 use crate::stretch::Stretch;

@@ -1,8 +1,8 @@
 -- What the tables stand for by which the numbers of a trace are found.
-use Rattle.std.specs.Prelude.{ℕ, ◌≡◌, ◌<◌, ◌≤◌, List, length, Bool, nat_eq, Option, None, Some}
+use Rattle.std.specs.Prelude.{ℕ, ◌≡◌, ◌<◌, ◌≤◌, List, length, Option, None, Some}
 use Rattle.std.specs.Prelude.{slice_index, slice_index_or}
-use Rattle.std.specs.Cmp.Lexicographic.{pointwise}
 use Rattle.std.specs.HashMap.{HashMap, get}
+use Rattle.types.specs.Translation.{is_path}
 use Rattle.types.specs.declared.path.Path.{Path}
 use Rattle.trace_numbers.specs.Chains.{Chains}
 use Rattle.trace_numbers.specs.Hands.{Hands}
@@ -10,10 +10,6 @@ use Rattle.trace_numbers.specs.declared.chains.Chain.{Chain}
 use Rattle.trace_numbers.specs.declared.chains.Chains.{Chains as rChains}
 use Rattle.trace_numbers.specs.declared.chains.Scope.{Scope}
 use Rattle.trace_numbers.specs.declared.hands.Hands.{Hands as rHands}
-
--- whether two keys of a table are the same
-abbrev pub is_path : (path other : Path) → Bool
-is_path path other = pointwise nat_eq path.turns.items other.turns.items
 
 -- ---- chains
 abbrev pub known : Option Chain → Chain

@@ -3,7 +3,8 @@
 ghost use Rattle.std.specs.Prelude.{◌≡◌, IfOk, OnOk, if◌then◌else◌};
 ghost use Rattle.trace_numbers.specs.Chains.{Chains as AnyChains, begin_child, begin_finish, chained};
 ghost use Rattle.trace_numbers.specs.Chains.{come_back, leave, no_chains, one_more, span_of};
-ghost use Rattle.trace_numbers.specs.Tables.{AreAfter, Shows, chain_at, is_path};
+ghost use Rattle.types.specs.Translation.{is_path};
+ghost use Rattle.trace_numbers.specs.Tables.{AreAfter, Shows, chain_at};
 ghost use Rattle.types.specs.declared.path.Path.{Path as AnyPath};
 
 use events::event::Event;

@@ -1,5 +1,6 @@
 -- The Rust types as plain trees, without what says where they lie in memory.
-use Rattle.std.specs.Prelude.{ℤ, List, [], ◌∷◌, map, pos}
+use Rattle.std.specs.Prelude.{ℤ, List, [], ◌∷◌, map, pos, Bool, nat_eq}
+use Rattle.std.specs.Cmp.Lexicographic.{pointwise}
 use Rattle.std.specs.String.{string_bytes}
 use Rattle.sections.specs.Place.{nowhere}
 use Rattle.sections.specs.Translation.{section, window}
@@ -43,6 +44,7 @@ use Rattle.types.specs.declared.value.Environment.{Environment as rEnvironment}
 use Rattle.types.specs.declared.fault.Fault.{Fault as rFault}
 use Rattle.types.specs.declared.budget.Budget.{Budget as rBudget}
 use Rattle.types.specs.declared.input.Input.{Input}
+use Rattle.types.specs.declared.path.Path.{Path}
 use Rattle.types.specs.declared.outcome.Outcome.{Outcome as rOutcome}
 use Rattle.types.specs.declared.outcome.Outcome.TheVariants.{Ended as rEnded, Stopped as rStopped}
 
@@ -129,6 +131,10 @@ program p = record {
   procedures = map procedure p.procedures.items;
   main = procedure p.main;
 }
+
+-- whether two paths are the same
+abbrev pub is_path : (path other : Path) → Bool
+is_path path other = pointwise nat_eq path.turns.items other.turns.items
 
 -- a fault
 abbrev pub fault : rFault → Fault

@@ -1,8 +1,7 @@
 //! What stands before a run begins.
 
-ghost use Rattle.std.specs.Prelude.{◌≡◌, [], All, IfOk, OnOk, Option, Some};
+ghost use Rattle.std.specs.Prelude.{◌≡◌, All, IfOk, OnOk, Some};
 ghost use Rattle.gather.specs.Jobs.{IsJob};
-ghost use Rattle.tickets.specs.Seats.{IsSeatOf, drawn_of};
 ghost use Rattle.workers.specs.Desks.{HasSeat, IsFresh};
 
 use crate::code::OwnCode;

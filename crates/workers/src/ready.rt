@@ -1,6 +1,6 @@
 //! Tasks that wait for a worker.
 
-ghost use Rattle.std.specs.Prelude.{◌≡◌, IfOk};
+ghost use Rattle.std.specs.Prelude.{IfOk};
 ghost use Rattle.workers.specs.Own.{IsOwnChild, IsOwnTask};
 
 use crate::post::Post;

@@ -1,7 +1,7 @@
 //! What is done to a scope during one holding of its lock.
 
-ghost use Rattle.std.specs.Prelude.{◌≡◌, IfOk, IfSome};
-ghost use Rattle.finish_scope.specs.Own.{IsOwnPassing, IsOwnResting, IsOwnResult};
+ghost use Rattle.std.specs.Prelude.{IfOk, IfSome};
+ghost use Rattle.finish_scope.specs.Own.{IsOwnPassing, IsOwnResting, IsResultOfRun};
 ghost use Rattle.workers.specs.Own.{IsOwnChild, IsOwnTask, IsOwnWanting};
 
 use crate::error::Trouble;
@@ -49,7 +49,7 @@ pub fn give_back<'p, J: Running, R: Wait>(
     made: TaskResult,
     clerk: Clerk<'_>,
 ) -> Result<Option<Passing<'p>>, Trouble>
-    requires own { IsOwnResult J.job made }
+    requires own { IsResultOfRun J.job made }
     ensures { IfOk result (λ p. IfSome p (IsOwnPassing J.job)) }
 {
     let mut guard = scope.lock(rt);

@@ -4,7 +4,8 @@ use Rattle.std.specs.Option.{option_flatten}
 use Rattle.std.specs.Cmp.Lexicographic.{pointwise}
 use Rattle.facts.proofs.Lists.{same_elements}
 use Rattle.indexmap.specs.IndexMap.{get}
-use Rattle.gather.specs.Unused.{first_of, is_same, left_in, said_of}
+use Rattle.types.specs.Translation.{is_path}
+use Rattle.gather.specs.Unused.{first_of, left_in, said_of}
 use Rattle.gather.proofs.Firsts.{chained_with, firsts_with, in_front, said_by}
 use Rattle.gather.proofs.table.put_first.Goals as goal
 
@@ -34,9 +35,9 @@ returns-clause-finds c = λ p.
     let ok = c.args.places.now.ok in
     let many : c.len.result ≡ length xs = omega (arith, ok, c.len.ensures) in
     ap option_flatten (c.in_ok-insert.ensures.updates.0 p)
-    ∙ said_by (is_same key p) (Some c.len.result) (get is_same old p)
-    ∙ ap (λ (n : ℕ). if is_same key p then Some n else said_of old p) many
-    ∙ ap (λ (o : Option ℕ). if is_same key p then Some (length xs) else o) (c.requires.finds p)
+    ∙ said_by (is_path key p) (Some c.len.result) (get is_path old p)
+    ∙ ap (λ (n : ℕ). if is_path key p then Some n else said_of old p) many
+    ∙ ap (λ (o : Option ℕ). if is_path key p then Some (length xs) else o) (c.requires.finds p)
     ∙ ap (λ (k : List ℕ). if pointwise nat_eq k p.turns.items then Some (length xs) else first_of p.turns.items (reverse xs))
     (same_elements c.args.task.path.turns.items key.turns.items c.in_ok-path.ensures.cases.0)
     ∙ sym (firsts_with xs c.push.new.self.items (record { task = c.args.task; next = c.flatten-next.result })

@@ -1,7 +1,8 @@
 use Rattle.std.proofs.Common.{◌≡◌, ◌∙◌, Option, Some, IsSome, refl, sym, ap, subst, reverse}
 use Rattle.std.specs.Prelude.{ℕ, if◌then◌else◌}
 use Rattle.types.specs.declared.path.Path.{Path}
-use Rattle.gather.specs.Unused.{first_of, is_same, said_of}
+use Rattle.types.specs.Translation.{is_path}
+use Rattle.gather.specs.Unused.{first_of, said_of}
 use Rattle.gather.specs.declared.table.Table.{Table}
 use Rattle.gather.proofs.Firsts.{nowhere, stands, taken_out, one_fewer, firsts_after, chained_after, if_none}
 use Rattle.gather.proofs.table.Table.take.Goals as goal
@@ -37,7 +38,7 @@ invariant_of-self c =
           taken.ensures.found taken.ensures.taken;
       finds = λ other.
           c.set_first_place.ensures other
-          ∙ ap (λ (o : Option ℕ). if is_same path other then taken.result.next else o) (u.finds other)
+          ∙ ap (λ (o : Option ℕ). if is_path path other then taken.result.next else o) (u.finds other)
           ∙ sym (firsts_after path.turns.items u.places.items c.in_ok-place.place u.chained at taken.new.places.items taken.result
           taken.ensures.found taken.ensures.taken other.turns.items);
     }

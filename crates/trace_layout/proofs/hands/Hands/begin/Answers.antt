@@ -3,7 +3,7 @@ use Rattle.std.specs.Prelude.{Some, cond}
 use Rattle.std.specs.HashMap.{get}
 use Rattle.std.proofs.lemmas.Option.{slice_get_within}
 use Rattle.facts.proofs.Lists.{same_elements}
-use Rattle.trace_numbers.specs.Tables.{is_path}
+use Rattle.types.specs.Translation.{is_path}
 use Rattle.trace_layout.specs.Hands.{IsSpellSoFar}
 use Rattle.trace_layout.specs.Spells.{Hold}
 use Rattle.trace_layout.specs.declared.spells.Ending.TheVariants.{Going}

@@ -1,7 +1,8 @@
 use Rattle.std.proofs.Common.{ap, rules, ◌∙◌}
 use Rattle.std.specs.Prelude.{cond, Some}
 use Rattle.std.specs.HashMap.{get}
-use Rattle.trace_numbers.specs.Tables.{is_path, known}
+use Rattle.types.specs.Translation.{is_path}
+use Rattle.trace_numbers.specs.Tables.{known}
 use Rattle.trace_numbers.proofs.Known.{known_put, put_at}
 use Rattle.trace_numbers.proofs.chains.Chains.put.Goals as goal
 

@@ -1,7 +1,7 @@
 use Rattle.std.proofs.Common.{ap, rules, ◌∙◌}
 use Rattle.std.specs.Prelude.{cond, Some}
 use Rattle.std.specs.HashMap.{get}
-use Rattle.trace_numbers.specs.Tables.{is_path}
+use Rattle.types.specs.Translation.{is_path}
 use Rattle.trace_numbers.proofs.Holders.{held_at}
 use Rattle.trace_numbers.proofs.hands.Hands.take.Goals as goal
 
