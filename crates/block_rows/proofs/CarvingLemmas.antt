@@ -271,8 +271,9 @@ whole_only rs w r is whole k out = by_place (nat_lt k 256) refl
     by_place true e = here (ltb-true _ _ e)
     by_place false e = let le : 256 ≤ k = search rules in held_at-behind r k le
 
-pub cut_most : (only : Type 0) (n length : ℕ) → (only → n ≡ 0) → ((only → ⊥) → n ≡ length) → n ≤ length
-cut_most only n length moved counted = by_test (nat_le n length) refl
+-- where none or all of them are counted, at most all are
+pub at_most : (only : Type 0) (n length : ℕ) → (only → n ≡ 0) → ((only → ⊥) → n ≡ length) → n ≤ length
+at_most only n length moved counted = by_test (nat_le n length) refl
   where
     by_test : (t : Bool) → nat_le n length ≡ t → n ≤ length
     by_test true e = leb-true _ _ e

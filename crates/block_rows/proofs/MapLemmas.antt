@@ -8,7 +8,7 @@ use Rattle.block_rows.specs.Pieces.{taking}
 
 -- ---- numbers that are there
 
-number_none : (o : Option Held) → o ≡ None → option_map number_of o ≡ None
+pub number_none : (o : Option Held) → o ≡ None → option_map number_of o ≡ None
 number_none o e = ap (option_map number_of) e
 
 pub there-numbers : (set : Place → Bool) (m : Map Held) → IsThere set (numbers m) → IsThere set m

@@ -1,7 +1,7 @@
 -- Rooms for what comes in, and what stands apart.
 use Rattle.std.proofs.Common.{◌≡◌, ℕ, ◌+◌, ◌-◌, ◌*◌, ◌/◌, ◌%◌, ◌<◌, ◌≤◌, List, length, get_or, IsSome, is_some}
 use Rattle.std.proofs.Common.{Option, Some, None, Bool, true, false, inl, inr, refl, sym, ap, ◌∙◌, arith, rules, subst, ◌⊎◌}
-use Rattle.std.proofs.lemmas.Bool.{cases_eq, ltb-true}
+use Rattle.std.proofs.lemmas.Bool.{cases_eq, ltb-true, ne_eqb}
 use Rattle.std.proofs.lemmas.Option.{same_Some}
 use Rattle.std.specs.Prelude.{◌&&◌, nat_eq, nat_lt}
 use Rattle.sections.specs.Place.{Place}
@@ -61,9 +61,6 @@ pub row_room-more : (own own' : List Row) (a : ℕ) (r : Row) (n : ℕ) (b : Blo
     → (j : ℕ) (theirs : Block) → j < r.first + (n + 1) → block_in r j ≡ Some theirs → HasRoom own' a j theirs
 row_room-more own own' a r n b lt is before keeps here j theirs low there = by_eq (cases_eq j (r.first + n))
   where
-    ne_test : (x y : ℕ) → (x ≡ y → ⊥) → nat_eq x y ≡ false
-    ne_test x y h = search rules
-
     and_false : (c : Bool) → (c && false) ≡ false
     and_false true = refl
     and_false false = refl
@@ -73,7 +70,7 @@ row_room-more own own' a r n b lt is before keeps here j theirs low there = by_e
         let same : b ≡ theirs = same_Some _ _ (sym (row-nth r n b lt is) ∙ ap (block_in r) (sym e) ∙ there) in
         subst (λ m. HasRoom own' a m theirs) (sym e) (subst (HasRoom own' a (r.first + n)) same here)
     by_eq (inr ne) =
-        let other : (nat_eq a a && nat_eq j (r.first + n)) ≡ false = ap (λ c. nat_eq a a && c) (ne_test j (r.first + n) ne) ∙ and_false (nat_eq a a) in
+        let other : (nat_eq a a && nat_eq j (r.first + n)) ≡ false = ap (λ c. nat_eq a a && c) (ne_eqb j (r.first + n) ne) ∙ and_false (nat_eq a a) in
         keeps a j theirs (before j theirs (omega (arith, low, ne)) there) other
 
 pub row_room-done : (own : List Row) (a : ℕ) (r : Row) (n : ℕ) → length r.blocks.items ≤ n
@@ -194,14 +191,11 @@ pub all_room-more : (own own' others : List Row) (n : ℕ) (r : Row) → n < len
     → (i j : ℕ) (theirs : Block) → i < n + 1 → block_of others i j ≡ Some theirs → HasRoom own' i j theirs
 all_room-more own own' others n r lt is before keeps here i j theirs low there = by_eq (cases_eq i n)
   where
-    ne_test : (x y : ℕ) → (x ≡ y → ⊥) → nat_eq x y ≡ false
-    ne_test x y h = search rules
-
     by_eq : (i ≡ n) ⊎ (i ≡ n → ⊥) → HasRoom own' i j theirs
     by_eq (inl e) =
         let mine : block_in r j ≡ Some theirs = sym (block_of-item others n r lt is j) ∙ ap (λ m. block_of others m j) (sym e) ∙ there in
         subst (λ m. HasRoom own' m j theirs) (sym e) (here j theirs mine)
-    by_eq (inr ne) = keeps i j theirs (before i j theirs (omega (arith, low, ne)) there) (ne_test i n ne)
+    by_eq (inr ne) = keeps i j theirs (before i j theirs (omega (arith, low, ne)) there) (ne_eqb i n ne)
 
 pub all_room-done : (own others : List Row) (n : ℕ) → length others ≤ n
     → ((i j : ℕ) (theirs : Block) → i < n → block_of others i j ≡ Some theirs → HasRoom own i j theirs) → HasAllRoom own others

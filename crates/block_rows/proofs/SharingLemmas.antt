@@ -10,6 +10,7 @@ use Rattle.blocks.specs.declared.block.Block.{Block}
 use Rattle.block_rows.specs.Pieces.{taking}
 use Rattle.block_rows.specs.Rows.{Replaces, block_of, held_in_list, held_of}
 use Rattle.block_rows.specs.declared.row.Row.{Row}
+use Rattle.block_rows.proofs.MapLemmas.{number_none}
 use Rattle.block_rows.proofs.PresenceLemmas.{block-there, no_block-there}
 use Rattle.block_rows.proofs.RowLemmas.{held-changed, held_of-piece}
 
@@ -24,9 +25,6 @@ shared-piece w theirs a b x src old mid new fits from is out back says =
     ∙ ap (λ (h : Option Held). if in_range (w.at % 256) (w.at % 256 + w.length) (q.index % 256)
     then option_map Shared (option_map number_of h) else held_at a (q.index % 256))
     (sym (held_of-piece src w q e ∙ ap (λ o. held_of o (q.index % 256)) from)))
-
-number_none : (o : Option Held) → o ≡ None → option_map number_of o ≡ None
-number_none o e = ap (option_map number_of) e
 
 -- all of a piece is held by its block
 pub piece-held : (w : Window) (theirs : Block) (src : List Row) → w.at % 256 + w.length ≤ 256

@@ -9,7 +9,7 @@ ghost use Rattle.sections.specs.Translation.{window as window_of};
 ghost use Rattle.std.specs.Arc.{arc_value};
 ghost use Rattle.block_numbers.specs.Numbers.{number_in};
 ghost use Rattle.blocks.specs.Blocks.{owned_at};
-ghost use Rattle.blocks.specs.Held.{IsThere, as_owned, first_of, only, owned, without};
+ghost use Rattle.blocks.specs.Held.{IsThere, first_of, only, owned, without};
 ghost use Rattle.block_rows.specs.Copied.{CopiesSplit};
 ghost use Rattle.block_rows.specs.Pieces.{taking};
 

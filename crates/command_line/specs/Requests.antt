@@ -6,8 +6,8 @@ use Rattle.std.specs.Fmt.{decimal}
 use Rattle.types.specs.Outcome.{Budget}
 use Rattle.types.specs.Translation.{budget as budget_of}
 use Rattle.command_line.specs.declared.request.Command.{Command}
-use Rattle.command_line.specs.declared.request.Command.TheVariants.{Run, Serial, Check, Listing, Pairs, Explore}
-use Rattle.command_line.specs.declared.request.Command.TheVariants.{Labels, Places, Format, CheckFormat}
+use Rattle.command_line.specs.declared.request.Command.TheVariants.{Run, Serial, Check, Pairs, Explore, Places, Listing}
+use Rattle.command_line.specs.declared.request.Command.TheVariants.{Labels, Format, CheckFormat}
 use Rattle.command_line.specs.declared.request.Command.TheVariants.{View, Summary, Draw, Chrome, Cost}
 use Rattle.command_line.specs.declared.request.Command.TheVariants.{CostByLabel, CostByProcedure}
 use Rattle.command_line.specs.declared.request.Action.{Action}

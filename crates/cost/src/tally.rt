@@ -2,7 +2,7 @@
 
 ghost use Rattle.std.specs.Prelude.{◌≡◌, ◌+◌, IfOk, OnOk};
 ghost use Rattle.cost.specs.Costs.{begins_task, ends_task, enters_finish};
-ghost use Rattle.cost.specs.Costs.{leaves_finish, nothing_done, one_more};
+ghost use Rattle.cost.specs.Costs.{leaves_finish, one_more};
 
 use std::alloc::AllocError;
 

@@ -10,7 +10,8 @@ use Rattle.sections.proofs.Lines.{root_of-root, root_of-side}
 use Rattle.types.specs.Code.{Code, Codes, Procedure, Program}
 use Rattle.types.specs.Run.{procedure_of}
 use Rattle.effects.specs.Accesses.{Access, own_accesses}
-use Rattle.effects.specs.Effects.{past_split, past_call, renamed, Inner, AllOf, All, PendingOf, Pending, accesses}
+use Rattle.types.specs.Sound.{passed_for}
+use Rattle.effects.specs.Effects.{past_split, renamed, Inner, AllOf, All, PendingOf, Pending, accesses}
 use Rattle.effects.specs.Sound.{may_write, is_writable, Allowed, SplitsWell, PassesWell, Follows, FollowsOf}
 use Rattle.effects.specs.Sound.{IsSoundIn, IsSound, parameters_of}
 use Rattle.effects.proofs.Members.{numbers_from-below}
@@ -78,7 +79,7 @@ module _ (p : Program) where
   past_call_allowed : (g : Procedure) (scope : List ℕ) (f : ℕ) (ss : List ℕ)
       → IsSoundIn p (procedure_of p f) → PassesWell g scope (procedure_of p f).parameters ss
       → (x : Access) → Allowed (procedure_of p f) (parameters_of (procedure_of p f)) x
-      → Allowed g scope (renamed (past_call ss) x)
+      → Allowed g scope (renamed (passed_for ss) x)
   past_call_allowed g scope f ss sound k x a =
       let n : x.section < length (procedure_of p f).parameters =
       numbers_from-below (length (procedure_of p f).parameters) x.section a.in_scope in

@@ -13,7 +13,8 @@ use Rattle.types.specs.declared.ids.ProcedureId.{ProcedureId}
 use Rattle.effects.specs.Accesses.{Access}
 use Rattle.effects.specs.Coming.{Comes}
 use Rattle.effects.proofs.Derived.{Derived}
-use Rattle.effects.specs.Effects.{Inner, Subject, AllOf, All, PendingOf, Pending, past_split, past_call, accesses, labels as by_label, renamed}
+use Rattle.types.specs.Sound.{passed_for}
+use Rattle.effects.specs.Effects.{Inner, Subject, AllOf, All, PendingOf, Pending, past_split, accesses, labels as by_label, renamed}
 use Rattle.effects.specs.Flows.{flow, flows_of, flows_of_use, flows_of_labels, flows_of_sections}
 use Rattle.effects.specs.Outlines.{visits_of, flows_in, flows_in_all, numbered, StartsIn}
 use Rattle.effects.specs.Sound.{SplitsWell, CallsWell, FollowsOf, Follows, IsSoundIn, IsSound, parameters_of}
@@ -52,11 +53,11 @@ record Brings (p : Program) (subject : Subject) (to : (pending : Bool) → ℕ �
   called : (c : Bool) (f : ℕ) (g : Procedure) → Stands p f g → (w : Standing) → (c ≡ true → w ≡ Begun)
       → (l k : ℕ) (es : List Number) (ss : List ℕ) (scope : List ℕ) → CallsWell p g scope k es ss
       → Member (seen w l (Call k es ss)) (visits_of g) → (x : subject.Item) → All p subject (procedure_of p k).body x
-      → to false k x → to c f (subject.renamed (root_of g.sections) (subject.renamed (past_call ss) x))
+      → to false k x → to c f (subject.renamed (root_of g.sections) (subject.renamed (passed_for ss) x))
   passed : (f : ℕ) (g : Procedure) → Stands p f g
       → (l k : ℕ) (es : List Number) (ss : List ℕ) (scope : List ℕ) → CallsWell p g scope k es ss
       → Member (seen Open l (Call k es ss)) (visits_of g) → (x : subject.Item) → Pending p subject (procedure_of p k).body x
-      → to true k x → to true f (subject.renamed (root_of g.sections) (subject.renamed (past_call ss) x))
+      → to true k x → to true f (subject.renamed (root_of g.sections) (subject.renamed (passed_for ss) x))
   top : (g : Procedure) → IsSoundIn p g → (x : subject.Item) → All p subject g.body x
       → subject.renamed (root_of g.sections) x ≡ x
   top_pending : (g : Procedure) → IsSoundIn p g → (x : subject.Item) → Pending p subject g.body x
@@ -307,16 +308,16 @@ module _ (p : Program) (sound : IsSound p) where
         started p f g st (row c (root_of g.sections x.section) x.write) x.label (seen w l s) m
         (in_right (starts_of_label w l) (in_flat_map (starts_of_access (root_of g.sections) w) among (access_starts (root_of g.sections) c w h x)));
     called = λ c f g st w h l k es ss scope well m x a so_far.
-        brought p f g st k well.there (row false x.section x.write) (row c (root_of g.sections (past_call ss x.section)) x.write) x.label
+        brought p f g st k well.there (row false x.section x.write) (row c (root_of g.sections (passed_for ss x.section)) x.write) x.label
         w l es ss m
         (in_right (flows_of_labels (record { number = f }) w (record { number = k }))
         (section_flows (record { number = f }) (record { number = k }) (root_of g.sections) w x.write _ 0 x.section x.section ss
         (let there : x.section < length (procedure_of p k).parameters = below (procedure_of p k) (sound.procedures k) x a in
         omega (arith, there, well.passes.number)) (omega arith)
-        (use_flows (record { number = f }) (record { number = k }) x.section (root_of g.sections (past_call ss x.section)) x.write c w h)))
+        (use_flows (record { number = f }) (record { number = k }) x.section (root_of g.sections (passed_for ss x.section)) x.write c w h)))
         so_far;
     passed = λ f g st l k es ss scope well m x a so_far.
-        brought p f g st k well.there (row true x.section x.write) (row true (root_of g.sections (past_call ss x.section)) x.write) x.label
+        brought p f g st k well.there (row true x.section x.write) (row true (root_of g.sections (passed_for ss x.section)) x.write) x.label
         Open l es ss m
         (in_right (flows_of_labels (record { number = f }) Open (record { number = k }))
         (section_flows (record { number = f }) (record { number = k }) (root_of g.sections) Open x.write _ 0 x.section x.section ss

@@ -14,7 +14,8 @@ use Rattle.types.specs.declared.ids.ProcedureId.{ProcedureId}
 use Rattle.effects.specs.Accesses.{Access, own_accesses}
 use Rattle.effects.specs.Coming.{Comes}
 use Rattle.effects.proofs.Derived.{Derived}
-use Rattle.effects.specs.Effects.{Inner, Subject, AllOf, All, PendingOf, Pending, past_split, past_call, renamed, accesses, labels}
+use Rattle.types.specs.Sound.{passed_for}
+use Rattle.effects.specs.Effects.{Inner, Subject, AllOf, All, PendingOf, Pending, past_split, renamed, accesses, labels}
 use Rattle.effects.specs.Flows.{flows_of, flows_of_code, flows_of_labels, flows_of_sections, flows_of_use}
 use Rattle.effects.specs.Outlines.{visits_of, starts_in, flows_in, flows_in_all, numbered, StartsIn}
 use Rattle.effects.specs.Sound.{SplitsWell, IsSoundIn, IsSound, parameters_of}
@@ -67,7 +68,8 @@ module _ (p : Program) where
   body_of-main =
       let n = length p.procedures in then_of (nat_eq n n) p.main.body (procedure_of p n).body (eq-eqb n n refl)
 
-  body_of-other : (f : ℕ) → f < length p.procedures → body_of p f ≡ (procedure_of p f).body
+  -- a procedure that can be called isn't `main`
+  pub body_of-other : (f : ℕ) → f < length p.procedures → body_of p f ≡ (procedure_of p f).body
   body_of-other f h =
       let n = length p.procedures in
       else_of (nat_eq f n) p.main.body (procedure_of p f).body (ne_eqb f n (λ e. omega (arith, h, e)))
@@ -224,10 +226,10 @@ module _ (p : Program) (sound : IsSound p) (g : Procedure) (here : IsSoundIn p g
     label_brings Awaited m (next h) = elim h [ ]
 
     abbrev passed : (i l : ℕ) → Bool → Access
-    passed i l b = renamed (past_call ss) (record { label = l; section = i; write = b })
+    passed i l b = renamed (passed_for ss) (record { label = l; section = i; write = b })
 
     use_brings : (w : Standing) → Member (call_at w) (visits_of g) → (i : ℕ) (b : Bool) → {x : Flow}
-        → Member x (flows_of_use caller w callee (record { number = i }) (record { number = root_of g.sections (past_call ss i) }) b)
+        → Member x (flows_of_use caller w callee (record { number = i }) (record { number = root_of g.sections (passed_for ss i) }) b)
         → Brings caller f x
     use_brings Open m i b first = (refl, refl, λ l h. accesses_may (call_at Open) m (passed i l b) (AllOf.inner Inner.call h refl))
     use_brings Open m i b (next first) =
@@ -245,7 +247,7 @@ module _ (p : Program) (sound : IsSound p) (g : Procedure) (here : IsSoundIn p g
     UseOf w k i s b x = Member x (flows_of_use caller w callee (record { number = k + i }) (record { number = root_of g.sections s }) b)
 
     from_sections : (w : Standing) (k : ℕ) (ts : List ℕ) {x : Flow} → Member x (flows_of_sections caller (root_of g.sections) w callee k ts)
-        → (i : ℕ) × (b : Bool) × UseOf w k i (past_call ts i) b x
+        → (i : ℕ) × (b : Bool) × UseOf w k i (passed_for ts i) b x
     from_sections w k [] m = elim m [ ]
     from_sections w k (t ∷ ts) {x} m =
         let uses : (n : ℕ) (b : Bool) → List Flow =
@@ -261,7 +263,7 @@ module _ (p : Program) (sound : IsSound p) (g : Procedure) (here : IsSoundIn p g
                   suc r.0,
                   r.1,
                   subst (λ (n : ℕ). Member x (flows_of_use caller w callee (record { number = n })
-                      (record { number = root_of g.sections (past_call ts r.0) }) r.1)) shift r.2,
+                      (record { number = root_of g.sections (passed_for ts r.0) }) r.1)) shift r.2,
                 )
           ]
         ]
@@ -273,7 +275,7 @@ module _ (p : Program) (sound : IsSound p) (g : Procedure) (here : IsSoundIn p g
         let same : 0 + r.0 ≡ r.0 = omega arith in
         use_brings w m r.0 r.1
         (subst (λ (n : ℕ). Member x (flows_of_use caller w callee (record { number = n })
-        (record { number = root_of g.sections (past_call ss r.0) }) r.1)) same r.2)
+        (record { number = root_of g.sections (passed_for ss r.0) }) r.1)) same r.2)
 
     call_brings : (w : Standing) → Member (call_at w) (visits_of g) → {x : Flow}
         → Member x (flows_of_labels caller w callee ++ flows_of_sections caller (root_of g.sections) w callee 0 ss) → Brings caller f x

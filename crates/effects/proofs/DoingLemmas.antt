@@ -6,7 +6,8 @@ use Rattle.sections.specs.Member.{Member}
 use Rattle.types.specs.Code.{Code, Codes, End, Then, Program}
 use Rattle.types.specs.Run.{procedure_of}
 use Rattle.effects.specs.Accesses.{Access, own_accesses}
-use Rattle.effects.specs.Effects.{accesses, past_call, AllOf, All}
+use Rattle.types.specs.Sound.{passed_for}
+use Rattle.effects.specs.Effects.{accesses, AllOf, All}
 use Rattle.effects.specs.Firsts.{HasAsEarly, AreFirsts, AreFirstsIn, AddsFirsts, IsPassed}
 use Rattle.effects.specs.Rows.{AllInside, Renamed}
 use Rattle.effects.specs.Sound.{IsSound, parameters_of}
@@ -97,7 +98,7 @@ module _ (p : Program) where
 
 -- ---- calls
 module _ (p : Program) (ss : List ℕ) (those done : Access → Type 0) where
-  passed_out : ((x : Access) → those x → done x) → (y : Access) → IsPassed those ss y → Renamed p accesses (past_call ss) done y
+  passed_out : ((x : Access) → those x → done x) → (y : Access) → IsPassed those ss y → Renamed p accesses (passed_for ss) done y
   passed_out out y h = record {
     item = record y { section = h.parameter };
     among = out (record y { section = h.parameter }) h.among;
@@ -105,7 +106,7 @@ module _ (p : Program) (ss : List ℕ) (those done : Access → Type 0) where
   }
 
   passed_back : ((x : Access) → done x → those x) → ((x : Access) → done x → x.section < length ss) → (y : Access)
-      → Renamed p accesses (past_call ss) done y → IsPassed those ss y
+      → Renamed p accesses (passed_for ss) done y → IsPassed those ss y
   passed_back back below y h = record {
     parameter = h.item.section;
     below = below h.item h.among;
@@ -116,9 +117,9 @@ module _ (p : Program) (ss : List ℕ) (those done : Access → Type 0) where
   -- what is passed is what the callee does, in the names around the call
   pub passed_renamed : ((x : Access) → those x → done x) → ((x : Access) → done x → those x)
       → ((x : Access) → done x → x.section < length ss) → (xs : List Access) → AreFirsts (IsPassed those ss) xs
-      → AreFirsts (Renamed p accesses (past_call ss) done) xs
+      → AreFirsts (Renamed p accesses (passed_for ss) done) xs
   passed_renamed out back below xs h =
-      firsts_same (IsPassed those ss) (Renamed p accesses (past_call ss) done) xs (passed_out out) (passed_back back below) h
+      firsts_same (IsPassed those ss) (Renamed p accesses (passed_for ss) done) xs (passed_out out) (passed_back back below) h
 
 module _ (p : Program) (sound : IsSound p) (f n : ℕ) (e : n ≡ length (procedure_of p f).parameters) where
   pub all_in_callee : (x : Access) → All p accesses (procedure_of p f).body x → x.section < n

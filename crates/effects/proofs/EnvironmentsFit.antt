@@ -14,7 +14,7 @@ use Rattle.types.specs.Value.{Environment}
 use Rattle.types.specs.Run.{array_of, no_array, bind, by_number, entry, with_sides}
 use Rattle.types.specs.Outcome.{whole_arrays}
 use Rattle.types.proofs.Lists.{whole_array-by_number}
-use Rattle.effects.specs.Effects.{past_call}
+use Rattle.types.specs.Sound.{passed_for}
 use Rattle.effects.specs.Sound.{may_write, SplitsWell, PassesWell, IsSoundIn, parameters_of, as_parameter, HasArrays}
 use Rattle.effects.specs.Fits.{LiesInArray, Fits, names_in}
 use Rattle.effects.proofs.Members.{numbers_from-below}
@@ -188,20 +188,20 @@ module _ (p : Program) (g : Procedure) (scope : List ℕ) (env : Environment) (n
       let e : length ss ≡ length f.parameters = passes.number in
       omega arith
 
-  at_argument : (k : ℕ) → Member k (parameters_of f) → env.windows (past_call ss k) ≡ inner.windows k
+  at_argument : (k : ℕ) → Member k (parameters_of f) → env.windows (passed_for ss k) ≡ inner.windows k
   at_argument k m = sym (by_number-map env.windows nowhere 0 ss k (passed k m))
 
   arguments_apart : (j k : ℕ) → j ≢ k → Member j (parameters_of f) → Member k (parameters_of f)
-      → may_write f.parameters j ≡ true → Apart (env.windows (past_call ss j)) (env.windows (past_call ss k))
-  arguments_apart j k ne m n w = disjoint-apart (names_in g scope) env.windows numbered fits.placed (past_call ss j) (past_call ss k)
+      → may_write f.parameters j ≡ true → Apart (env.windows (passed_for ss j)) (env.windows (passed_for ss k))
+  arguments_apart j k ne m n w = disjoint-apart (names_in g scope) env.windows numbered fits.placed (passed_for ss j) (passed_for ss k)
       (passes.in_scope j (passed j m)) (passes.in_scope k (passed k n)) (passes.alone j k ne (passed k n) w) (inl (passes.writable j w))
 
   pub fits_in_call : Fits p f (parameters_of f) inner
   fits_in_call = record {
-    lies = λ k m. subst (LiesInArray p) (at_argument k m) (fits.lies (past_call ss k) (passes.in_scope k (passed k m)));
+    lies = λ k m. subst (LiesInArray p) (at_argument k m) (fits.lies (passed_for ss k) (passes.in_scope k (passed k m)));
     placed = record {
       apart = λ j k ne m n e h w. subst (λ v. Apart (inner.windows j) v) (at_argument k n)
-          (subst (λ v. Apart v (env.windows (past_call ss k))) (at_argument j m) (arguments_apart j k ne m n w));
+          (subst (λ v. Apart v (env.windows (passed_for ss k))) (at_argument j m) (arguments_apart j k ne m n w));
       left = λ s l m e. root_left (first_root p f sound l m) e;
       right = λ s r m e. root_right (first_root p f sound r m) e;
     };

@@ -43,6 +43,11 @@ firsts_same those these xs out back h = record {
   first = λ x k. h.first x (back x k);
 }
 
+-- where there are none, none are the firsts
+pub firsts_of_none : (those : Access → Type 0) (xs : List Access) → xs ≡ [] → ((x : Access) → those x → ⊥) → AreFirsts those xs
+firsts_of_none those xs e none =
+    subst (AreFirsts those) (sym e) (record { among = λ x m. elim m [ ]; first = λ x h. absurd (none x h) })
+
 -- firsts of what is kept are firsts of all
 pub firsts_of_firsts : (those : Access → Type 0) (ys xs : List Access) → AreFirsts those ys → AreFirstsIn ys xs
     → AreFirsts those xs

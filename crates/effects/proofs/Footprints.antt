@@ -10,7 +10,8 @@ use Rattle.types.specs.Indexed.{indexed}
 use Rattle.types.specs.Value.{Environment}
 use Rattle.types.specs.Run.{procedure_of, entry, with_sides}
 use Rattle.effects.specs.Accesses.{Access, own_accesses, reads}
-use Rattle.effects.specs.Effects.{past_split, past_call, renamed, Inner, AllOf, All, PendingOf, Pending, accesses}
+use Rattle.types.specs.Sound.{passed_for}
+use Rattle.effects.specs.Effects.{past_split, renamed, Inner, AllOf, All, PendingOf, Pending, accesses}
 use Rattle.effects.specs.Footprint.{Touches, Overwrites, MayTouch, MayWrite, MayTouchOf, MayWriteOf, MayStillTouch}
 use Rattle.effects.specs.Footprint.{MayStillWrite, MayStillTouchOf, MayStillWriteOf}
 use Rattle.effects.specs.Sound.{IsSound, parameters_of}
@@ -44,7 +45,7 @@ module _ (p : Program) where
   pub record FromBody (xs : Codes → Access → Type 0) (f : ℕ) (ss : List ℕ) (y : Access) : Type 0 where
     pub access : Access
     pub among : xs (procedure_of p f).body access
-    pub same : y ≡ renamed (past_call ss) access
+    pub same : y ≡ renamed (passed_for ss) access
 
   all_of_call : {l f : ℕ} {es : List Number} {ss : List ℕ} (y : Access) → AllOf p accesses l (Call f es ss) y
       → Member y (own_accesses l (Call f es ss)) ⊎ FromBody (All p accesses) f ss y
@@ -60,7 +61,7 @@ module _ (p : Program) where
     abbrev inside : Environment
     inside = entry values (map env.windows ss)
 
-    passed : (x : Access) → All p accesses (procedure_of p f).body x → inside.windows x.section ≡ env.windows (past_call ss x.section)
+    passed : (x : Access) → All p accesses (procedure_of p f).body x → inside.windows x.section ≡ env.windows (passed_for ss x.section)
     passed x h =
         let g = sound.procedures f in
         let a = allowed p sound h (procedure_of p f) (parameters_of (procedure_of p f)) g.numbered g.body in
@@ -69,7 +70,7 @@ module _ (p : Program) where
         by_number-map env.windows nowhere 0 ss x.section (omega arith)
 
     into : (x : Access) → All p accesses (procedure_of p f).body x → In (inside.windows x.section) q
-        → In (env.windows (past_call ss x.section)) q
+        → In (env.windows (passed_for ss x.section)) q
     into x h k = subst (λ w. In w q) (passed x h) k
 
     from : (xs : Codes → Access → Type 0) → ((x : Access) → xs (procedure_of p f).body x → All p accesses (procedure_of p f).body x)
@@ -100,7 +101,7 @@ module _ (p : Program) where
         → MayTouchOf p env l (Call f es ss) q
     call_reads (inl t) = record { access = t.access; among = AllOf.own_access t.among; place = t.place }
     call_reads (inr t) =
-        touches_renamed inside env (All p accesses (procedure_of p f).body) (AllOf p accesses l (Call f es ss)) (past_call ss)
+        touches_renamed inside env (All p accesses (procedure_of p f).body) (AllOf p accesses l (Call f es ss)) (passed_for ss)
         (λ x h. AllOf.inner Inner.call h refl) q into t
 
     -- what a call may touch besides its own reads is what its body may touch, and so on
@@ -117,14 +118,14 @@ module _ (p : Program) where
     pub call-writes : MayWriteOf p env l (Call f es ss) q ↔ MayWrite p inside (procedure_of p f).body q
     call-writes = (
       writes_of_call,
-      overwrites_renamed inside env (All p accesses (procedure_of p f).body) (AllOf p accesses l (Call f es ss)) (past_call ss)
+      overwrites_renamed inside env (All p accesses (procedure_of p f).body) (AllOf p accesses l (Call f es ss)) (passed_for ss)
           (λ x h. AllOf.inner Inner.call h refl) q into,
     )
 
     pub call-pending_reads : MayStillTouchOf p env (Call f es ss) q ↔ MayStillTouch p inside (procedure_of p f).body q
     call-pending_reads = (
       λ t. touch_body (Pending p accesses) (λ x h. pending_all p h) t.access (pending_of_call t.access t.among) t.place,
-      touches_renamed inside env (Pending p accesses (procedure_of p f).body) (PendingOf p accesses (Call f es ss)) (past_call ss)
+      touches_renamed inside env (Pending p accesses (procedure_of p f).body) (PendingOf p accesses (Call f es ss)) (passed_for ss)
           (λ x h. PendingOf.inner Inner.call h refl) q
           (λ x h. into x (pending_all p h)),
     )
@@ -132,7 +133,7 @@ module _ (p : Program) where
     pub call-pending_writes : MayStillWriteOf p env (Call f es ss) q ↔ MayStillWrite p inside (procedure_of p f).body q
     call-pending_writes = (
       λ t. overwrite_body (Pending p accesses) (λ x h. pending_all p h) t.access (pending_of_call t.access t.among) t.place t.writes,
-      overwrites_renamed inside env (Pending p accesses (procedure_of p f).body) (PendingOf p accesses (Call f es ss)) (past_call ss)
+      overwrites_renamed inside env (Pending p accesses (procedure_of p f).body) (PendingOf p accesses (Call f es ss)) (passed_for ss)
           (λ x h. PendingOf.inner Inner.call h refl) q
           (λ x h. into x (pending_all p h)),
     )

@@ -7,7 +7,8 @@ use Rattle.sections.specs.Member.{Member, first, next}
 use Rattle.types.specs.Code.{Code, Do, If, While, Split, Call, Async, Finish, Codes, End, Then, Procedure, Program}
 use Rattle.types.specs.Run.{procedure_of, no_procedure}
 use Rattle.effects.specs.Accesses.{Access, own_accesses}
-use Rattle.effects.specs.Effects.{past_split, past_call, renamed, Inner, AllOf, All, accesses}
+use Rattle.types.specs.Sound.{passed_for}
+use Rattle.effects.specs.Effects.{past_split, renamed, Inner, AllOf, All, accesses}
 use Rattle.effects.specs.Sound.{parameters_of, IsSound}
 use Rattle.effects.specs.Tables.{Table, all_inside, all_in, left_by, left_in, IsDerived, IsDerivedPending, IsStable}
 use Rattle.effects.specs.Tables.{IsStablePending}
@@ -36,7 +37,7 @@ module _ (table more : Table accesses) (grows : (f : ℕ) (x : Access) → Membe
     inside_more (While t b) x m = all_more b x m
     inside_more (Split s e y z b) x m =
         map_more (renamed (past_split s y z)) (all_in accesses table b) (all_in accesses more b) (all_more b) x m
-    inside_more (Call f es ss) x m = map_more (renamed (past_call ss)) (table f) (more f) (grows f) x m
+    inside_more (Call f es ss) x m = map_more (renamed (passed_for ss)) (table f) (more f) (grows f) x m
     inside_more (Async b) x m = all_more b x m
     inside_more (Finish b) x m = all_more b x m
 
@@ -59,7 +60,7 @@ module _ (alls table more : Table accesses) (grows : (f : ℕ) (x : Access) → 
     by_more (Split s e y z b) x m =
         map_more table more grows (renamed (past_split s y z)) (left_in accesses alls table b) (left_in accesses alls more b)
         (left_more b) x m
-    by_more (Call f es ss) x m = map_more table more grows (renamed (past_call ss)) (table f) (more f) (grows f) x m
+    by_more (Call f es ss) x m = map_more table more grows (renamed (passed_for ss)) (table f) (more f) (grows f) x m
     by_more (Async b) x m = m
     by_more (Finish b) x m = m
 

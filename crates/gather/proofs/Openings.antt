@@ -19,7 +19,7 @@ use Rattle.own_run.proofs.Lists.{each_more, each_last}
 use Rattle.own_run.proofs.SettledResults.{taken}
 use Rattle.own_run.proofs.CompleteResults.{path_same}
 use Rattle.gather.proofs.Wholes.{each_end}
-use Rattle.gather.specs.PartRefusal.{is_path}
+use Rattle.types.specs.Translation.{is_path}
 use Rattle.gather.specs.Parts.{Part, Waiting, opened as opened_of, filled, unopened, comes_back_twice}
 use Rattle.gather.specs.Reached.{IsPartOf, IsReached, outstanding}
 use Rattle.gather.specs.Refusal.{times, paths_of, listed, listed_by, IsDue, begun, further, IsLost, IsLeftOver, ComesBackTwice}
@@ -51,23 +51,23 @@ none_of path (r ∷ rs) e = by_path (none_of path rs) (pointwise nat_eq r.path p
     by_path rec false q = let h = rec (later_none (take path rs) q) in omega (arith, h)
 
 -- whether a path is among some
-pub among_times : (path : Path) (paths : List Path) → list_any (is_path path) paths ≡ true
+pub among_times : (path : Path) (paths : List Path) → list_any (λ p. is_path p path) paths ≡ true
     → 0 < times path.turns.items (map (λ p. p.turns.items) paths)
 among_times path [] e = absurd (false_true e)
-among_times path (p ∷ ps) e = by_path (among_times path ps) (is_path path p) e
+among_times path (p ∷ ps) e = by_path (among_times path ps) (is_path p path) e
   where
-    by_path : (list_any (is_path path) ps ≡ true → 0 < times path.turns.items (map (λ p. p.turns.items) ps)) → (b : Bool)
-        → (b || list_any (is_path path) ps) ≡ true → 0 < (if b then 1 else 0) + times path.turns.items (map (λ p. p.turns.items) ps)
+    by_path : (list_any (λ p. is_path p path) ps ≡ true → 0 < times path.turns.items (map (λ p. p.turns.items) ps)) → (b : Bool)
+        → (b || list_any (λ p. is_path p path) ps) ≡ true → 0 < (if b then 1 else 0) + times path.turns.items (map (λ p. p.turns.items) ps)
     by_path rec true q = omega arith
     by_path rec false q = let h = rec q in omega (arith, h)
 
-pub not_among : (path : Path) (paths : List Path) → list_any (is_path path) paths ≡ false
+pub not_among : (path : Path) (paths : List Path) → list_any (λ p. is_path p path) paths ≡ false
     → times path.turns.items (map (λ p. p.turns.items) paths) ≡ 0
 not_among path [] e = refl
-not_among path (p ∷ ps) e = by_path (not_among path ps) (is_path path p) e
+not_among path (p ∷ ps) e = by_path (not_among path ps) (is_path p path) e
   where
-    by_path : (list_any (is_path path) ps ≡ false → times path.turns.items (map (λ p. p.turns.items) ps) ≡ 0) → (b : Bool)
-        → (b || list_any (is_path path) ps) ≡ false → (if b then 1 else 0) + times path.turns.items (map (λ p. p.turns.items) ps) ≡ 0
+    by_path : (list_any (λ p. is_path p path) ps ≡ false → times path.turns.items (map (λ p. p.turns.items) ps) ≡ 0) → (b : Bool)
+        → (b || list_any (λ p. is_path p path) ps) ≡ false → (if b then 1 else 0) + times path.turns.items (map (λ p. p.turns.items) ps) ≡ 0
     by_path rec true q = absurd (false_true (sym q))
     by_path rec false q = let h = rec q in omega (arith, h)
 

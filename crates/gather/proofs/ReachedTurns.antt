@@ -6,7 +6,8 @@ use Rattle.own_run.specs.Results.{TaskResult, Settled}
 use Rattle.own_run.specs.Settling.{take}
 use Rattle.own_run.specs.Translation.{task_result}
 use Rattle.own_run.specs.declared.result.TaskResult.{TaskResult as rTaskResult}
-use Rattle.gather.specs.PartRefusal.{TellsLeftOver, RefusesHole, is_path}
+use Rattle.types.specs.Translation.{is_path}
+use Rattle.gather.specs.PartRefusal.{TellsLeftOver, RefusesHole}
 use Rattle.gather.specs.Parts.{Part, Waiting, opened, filled, unopened}
 use Rattle.gather.specs.Reached.{IsReached, IsOwnCase}
 use Rattle.gather.specs.Refusal.{IsCaseOf, ComesBackTwice}
@@ -63,7 +64,7 @@ hole_case used left ws vs w f (Stranger path) full popped h = absurd h
 
 -- nothing waits any more, and a result is left
 pub left_case : (e : GatherError) (used : List Path) (left rest : List rTaskResult) (task : rTaskResult) (vs : List rWaiting) (f : Part)
-    → f.holes ≡ [] → vs ≡ [] → left ≡ task ∷ rest → TellsLeftOver (list_any (is_path task.path) used) task.path e
+    → f.holes ≡ [] → vs ≡ [] → left ≡ task ∷ rest → TellsLeftOver (list_any (λ p. is_path p task.path) used) task.path e
     → IsOwnCase (map (λ p. p.turns.items) used) (gathered left vs f) e
 left_case OutOfMemory used left rest task vs f full none some h = absurd h
 left_case (Lost path) used left rest task vs f full none some h = absurd h

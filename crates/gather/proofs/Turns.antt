@@ -1,17 +1,14 @@
 -- What comes of a gathering stays the same when a hole is opened, and when one is filled.
-use Rattle.std.proofs.Common.{◌≡◌, List, [], ◌∷◌, ◌++◌, Option, Some, None, refl, sym, ap, ◌∙◌}
+use Rattle.std.proofs.Common.{◌≡◌, List, [], ◌∷◌, ◌++◌, Option, Some, None, sym, ap, ◌∙◌}
 use Rattle.std.specs.Prelude.{Bool, true, false, ◌||◌, if◌then◌else◌}
 use Rattle.sections.specs.Covers.{has}
 use Rattle.own_run.specs.Places.{Places}
 use Rattle.own_run.specs.Results.{TaskResult, Settled, fill, and_then}
 use Rattle.own_run.specs.Settling.{take, fill_all, none_left, settle}
+use Rattle.own_run.proofs.SettledResults.{and_then-some}
 use Rattle.gather.specs.Parts.{Part, Waiting, Comes, opened, closed, filled, comes_back_twice, settle_one, finished}
 use Rattle.gather.specs.Parts.{gone_on, come, comes_to, unopened}
 use Rattle.gather.proofs.Depth.{and_then-assoc, and_then-none, settle_one-finished}
-
-and_then-some : {A : Type 0} (o : Option A) → and_then o (λ x. Some x) ≡ o
-and_then-some None = refl
-and_then-some (Some x) = refl
 
 -- the last that waits goes on first
 come-push : (ws : List Waiting) (w : Waiting) (x : Settled × List TaskResult) → come (ws ++ w ∷ []) x ≡ and_then (gone_on w x) (come ws)

@@ -1,6 +1,6 @@
 //! Where the program finds what its words name.
 
-ghost use Rattle.std.specs.Prelude.{◌≡◌, ◌≤◌, ℕ, List, length, Option, None, option_map};
+ghost use Rattle.std.specs.Prelude.{◌≡◌, ◌≤◌, length, Option, None, option_map};
 ghost use Rattle.std.specs.Prelude.{IfOk, IfErr, MatchResult, OnOk};
 ghost use Rattle.intake.specs.Failures.{TellsUnwritten};
 ghost use Rattle.intake.specs.Held.{Held, IsGiven, KeepsOthers, TellsNoProgram, TellsNoText, first};

@@ -4,7 +4,7 @@ ghost use Rattle.std.specs.Prelude.{◌≡◌, IfErr, IfOk, option_map};
 ghost use Rattle.types.specs.Inputs.{IsInput};
 ghost use Rattle.types.specs.Translation.{input as lists_of};
 ghost use Rattle.types.specs.Typed.{code_of};
-ghost use Rattle.intake.specs.Held.{BeginsWith, HasText, Says, TellsNoInput, TellsNoText, zeros as zeros_of};
+ghost use Rattle.intake.specs.Held.{BeginsWith, Says, TellsNoInput, zeros as zeros_of};
 
 use crate::failure::Failure;
 use crate::files::{FileSource, read_file};

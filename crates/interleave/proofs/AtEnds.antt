@@ -25,7 +25,8 @@ use Rattle.interleave.specs.Ending.{NoneIsLate, ScopeBecomes, StandsAt, TaskBeco
 use Rattle.interleave.specs.Events.{Event, Ends, Parks, only_if, did, give_back, owns, with_next, in_innermost, by_end, by_park}
 use Rattle.interleave.specs.Jobs.{IsWeightedJob}
 use Rattle.interleave.specs.Replay.{does, hands_on}
-use Rattle.interleave.specs.Shown.{AreBoth, ArePaths, IsTaskOf, IsWorld, IsBookOf, IsTold, Becomes, Refuses, ScopeStays, Shows, WorldStays, is_path, is_scope, next_world}
+use Rattle.types.specs.Translation.{is_path}
+use Rattle.interleave.specs.Shown.{AreBoth, ArePaths, IsTaskOf, IsWorld, IsBookOf, IsTold, Becomes, Refuses, ScopeStays, Shows, WorldStays, is_scope, next_world}
 use Rattle.interleave.specs.Shown.{scope_id, stake, whereabouts}
 use Rattle.interleave.specs.World.{Stake, Live, Scope, World, Whereabouts, Parked, task, put_task}
 use Rattle.interleave.specs.World.{without_task, scope, put_scope, hand_of, hand_is_free, is_passed, root_scope}

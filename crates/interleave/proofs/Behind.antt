@@ -7,7 +7,7 @@ use Rattle.std.specs.Prelude.{Bool, true, false, ◌&&◌, ◌<◌, not, nat_eq,
 use Rattle.std.specs.HashMap.{get}
 use Rattle.std.specs.HashSet.{contains}
 use Rattle.types.specs.Run.{State}
-use Rattle.types.specs.Translation.{program}
+use Rattle.types.specs.Translation.{program, is_path}
 use Rattle.types.specs.declared.path.Path.{Path}
 use Rattle.effects.specs.Rounds.{needs_of}
 use Rattle.own_run.specs.Frames.{AtEnd, handed}
@@ -32,7 +32,7 @@ use Rattle.interleave.specs.Courses.{Course, course_of, further, HasCome, IsDoin
 use Rattle.interleave.specs.Ending.{GoesBehind, IsBehind, IsGoneOn, IsOutside, MayGoOn, MayLeave, ScopeBecomes, StandsAt, TaskBecomes}
 use Rattle.interleave.specs.Events.{Resume, only_if, by_resume}
 use Rattle.interleave.specs.Jobs.{IsWeightedJob}
-use Rattle.interleave.specs.Shown.{AreBoth, AreResultsOf, Becomes, IsTaskOf, IsBookOf, IsDoingThere, IsParked, Shows, WorldStays, is_path, is_scope, next_world}
+use Rattle.interleave.specs.Shown.{AreBoth, AreResultsOf, Becomes, IsTaskOf, IsBookOf, IsDoingThere, IsParked, Shows, WorldStays, is_scope, next_world}
 use Rattle.interleave.specs.Shown.{scope_id, stake, whereabouts}
 use Rattle.interleave.specs.World.{Stake, Live, Scope, World, Hand, Parked, task, put_task, scope, is_parked}
 use Rattle.interleave.specs.World.{in_hand, hand_is_free}
@@ -48,7 +48,7 @@ use Rattle.interleave.proofs.InHand.{does_in, gives_in, one_first}
 use Rattle.interleave.proofs.Lookups.{scopes_same, task_path}
 use Rattle.interleave.proofs.Outcomes.{results_are_own}
 use Rattle.interleave.proofs.Staying.{stays_hands, stays_shown}
-use Rattle.interleave.proofs.Tables.{there, not_there, tasks_put, paths_put, free_put, led_on}
+use Rattle.interleave.proofs.Tables.{there, not_there, tasks_put, paths_put, taken_hand, free_put, led_on}
 use Rattle.interleave.proofs.Turning.{its_task}
 
 -- ---- a run behind a finish
@@ -371,10 +371,6 @@ module _ (old : rWorld) (ok : IsWeightedJob old.job) (path : Path) (m : MayLeave
             parked_out : (v : ℕ) → in_hand it.its.place v ≡ false
             parked_out v = ap (λ q. in_hand q v) it.place
 
-            in_hands : (x f : Bool) → (if x then true else not f) ≡ not (not x && f)
-            in_hands true f = refl
-            in_hands false f = refl
-
             named : it.its.path ≡ path.turns.items
             named = task_path path.turns.items w.live it.its it.lives
 
@@ -390,7 +386,7 @@ module _ (old : rWorld) (ok : IsWeightedJob old.job) (path : Path) (m : MayLeave
               hands = λ v. hand v
                   ∙ ap (λ (r : rWorld). if nat_eq worker v then true else contains nat_eq r.hands v) both_others
                   ∙ ap (λ b. if nat_eq worker v then true else b) (same_hands v ∙ h.hands v)
-                  ∙ in_hands (nat_eq worker v) (hand_is_free v w.live)
+                  ∙ taken_hand (nat_eq worker v) (hand_is_free v w.live)
                   ∙ ap not (sym (free_put v left it.its w.live (ap (λ x. task x w.live) named ∙ it.lives) (parked_out v)));
               told = h.told;
             }

@@ -35,7 +35,7 @@ use Rattle.interleave.proofs.Stakes.{scope_of, own as own_scope, IsPositive, Wei
 use Rattle.interleave.proofs.Changes.{hand_awake}
 use Rattle.interleave.proofs.Kept.{base, Hangs, IsTold}
 use Rattle.interleave.proofs.Truth.{Rel}
-use Rattle.interleave.proofs.Levels.{depth, depth-append, depth_next}
+use Rattle.interleave.proofs.Levels.{depth, depth-append, depth-last_action, take-append, depth_next}
 use Rattle.interleave.proofs.Direct.{bracketed}
 use Rattle.interleave.proofs.Numbered.{get_last}
 use Rattle.interleave.proofs.OwnTasks.{IsOwnTask, truly, truly_is, own_is_awake, awake_level, next_in_truth}
@@ -254,15 +254,10 @@ module _ (p : Program) (needs : Codes → Needs) (fresh w0 : ℕ) (least : 1 ≤
       last_only : (a : Action) → does_next t ≡ Some a → depth (length outer) (a ∷ []) ≡ None → (t.done ≡ length raw) × (last_action t.path ≡ a)
       last_only a e none = by_place (get_last (own p needs fresh t.start).extra.actions (last_action (own p needs fresh t.start).path) a t.done (ap (λ l. slice_get l t.done) (sym (truly_is p needs fresh w0 root nameless t.start)) ∙ next_in_truth p needs fresh w0 root nameless t its a e))
         where
-          take_left : {A : Type 0} (xs ys : List A) (k : ℕ) (x : A) → slice_get xs k ≡ Some x → take k (xs ++ ys) ≡ take k xs
-          take_left [] ys k x e = absurd (none-some _ e)
-          take_left (z ∷ xs) ys zero x e = refl
-          take_left (z ∷ xs) ys (suc k) x e = ap (λ l. z ∷ l) (take_left xs ys k x e)
-
           by_place : (slice_get (own p needs fresh t.start).extra.actions t.done ≡ Some a) ⊎ ((t.done ≡ length (own p needs fresh t.start).extra.actions) × (last_action (own p needs fresh t.start).path ≡ a))
               → (t.done ≡ length (own p needs fresh t.start).extra.actions) × (last_action t.path ≡ a)
           by_place (inl f) =
-              let first = ap (take t.done) (truly_is p needs fresh w0 root nameless t.start) ∙ take_left (own p needs fresh t.start).extra.actions _ t.done a f in
+              let first = ap (take t.done) (truly_is p needs fresh w0 root nameless t.start) ∙ take-append (own p needs fresh t.start).extra.actions _ t.done a f in
               let bb = bracketed p needs fresh (in_truth p needs fresh) t.start in
               let g = depth_next 0 (own p needs fresh t.start).extra.actions t.done a bb.rise (length outer) bb.level f (ap (depth 0) (sym first) ∙ level) in
               absurd (none-some _ (sym none ∙ g.1))
@@ -331,10 +326,6 @@ module _ (p : Program) (needs : Codes → Needs) (fresh w0 : ℕ) (least : 1 ≤
     still_waits : (s : Stake) (outer : List Stake) → t.stakes ≡ s ∷ outer → does_next t ≡ None → is_waiting (run_by p needs fresh t.receipts t.start) ≡ true
     still_waits s outer are e = by_rel (in_truth_or_behind p needs fresh w0 root nameless t its)
       where
-        none_after : (q : List ℕ) → depth 0 (last_action q ∷ []) ≡ None
-        none_after [] = refl
-        none_after (k ∷ q) = refl
-
         in_truth' : run_by p needs fresh t.receipts t.start ≡ own p needs fresh t.start → ⊥
         in_truth' f =
             let b = bracketed p needs fresh (in_truth p needs fresh) t.start in
@@ -342,7 +333,7 @@ module _ (p : Program) (needs : Codes → Needs) (fresh w0 : ℕ) (least : 1 ≤
             let zero_rise = b.flat (own_is_awake p needs fresh w0 root nameless t.start) in
             let end = ap (depth 0) (truly_is p needs fresh w0 root nameless t.start)
             ∙ depth-append 0 (own p needs fresh t.start).extra.actions (last_action (own p needs fresh t.start).path ∷ []) b.rise b.level
-            ∙ ap (λ n. depth n (last_action (own p needs fresh t.start).path ∷ [])) zero_rise ∙ none_after (own p needs fresh t.start).path in
+            ∙ ap (λ n. depth n (last_action (own p needs fresh t.start).path ∷ [])) zero_rise ∙ depth-last_action (own p needs fresh t.start).path in
             none-some _ (sym end ∙ ap (depth 0) (sym all) ∙ level s outer are)
 
         by_rel : Rel (run_by p needs fresh t.receipts t.start) (own p needs fresh t.start) → is_waiting (run_by p needs fresh t.receipts t.start) ≡ true

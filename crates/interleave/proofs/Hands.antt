@@ -46,7 +46,8 @@ free_is v (t ∷ ts) =
 free_none : (v : ℕ) (ts : List Live) → hand_is_free v ts ≡ true → sum_by (in_one v) ts ≡ 0
 free_none v ts e = eqb-true (sum_by (in_one v) ts) 0 (sym (free_is v ts) ∙ e)
 
-queue_out : (q : Whereabouts) (w v : ℕ) → in_queue q w ≡ true → in_hand q v ≡ false
+-- a task that is in a queue is in no hand
+pub queue_out : (q : Whereabouts) (w v : ℕ) → in_queue q w ≡ true → in_hand q v ≡ false
 queue_out (Queue u) w v e = refl
 queue_out (Hand u) w v e = false_true e
 queue_out Parked w v e = refl

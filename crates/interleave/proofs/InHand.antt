@@ -21,7 +21,8 @@ use Rattle.interleave.specs.Courses.{Course, IsKnown, course_of, IsDoing, IsNext
 use Rattle.interleave.specs.Events.{Event, Steps, Replenish, Spawns, Opens, did, issue, may_issue, only_if, new_scope, new_task}
 use Rattle.interleave.specs.Events.{with_next, in_innermost, by_step, by_replenish, by_spawn, by_open, next_action}
 use Rattle.interleave.specs.Replay.{does, hands_on}
-use Rattle.interleave.specs.Shown.{AreBoth, IsTaskOf, IsBookOf, IsDoingThere, is_path, is_scope, scope_id, stake, whereabouts}
+use Rattle.types.specs.Translation.{is_path}
+use Rattle.interleave.specs.Shown.{AreBoth, IsTaskOf, IsBookOf, IsDoingThere, is_scope, scope_id, stake, whereabouts}
 use Rattle.interleave.specs.Shown.{IsTold, Shows, TaskStays, WorldStays, next_world, Becomes, Refuses}
 use Rattle.interleave.specs.World.{Live, ScopeId, Stake, Scope, World, Whereabouts, Queue, Hand, Parked, task, put_task, scope, put_scope, child_path}
 use Rattle.interleave.specs.World.{hand_of, in_hand, hand_is_free, is_passed, root_scope, same_path, same_scope}

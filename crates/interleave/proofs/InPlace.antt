@@ -12,7 +12,8 @@ use Rattle.interleave.specs.Acting.{SteppedIf, TookStep, TookStepIf}
 use Rattle.interleave.specs.Courses.{IsNotToStep, course_of}
 use Rattle.interleave.specs.Events.{Steps, by_step, next_action}
 use Rattle.interleave.specs.Replay.{does, hands_on}
-use Rattle.interleave.specs.Shown.{Becomes, IsTaskOf, TaskStays, is_path}
+use Rattle.types.specs.Translation.{is_path}
+use Rattle.interleave.specs.Shown.{Becomes, IsTaskOf, TaskStays}
 use Rattle.interleave.specs.Walks.{IsIllegal}
 use Rattle.interleave.specs.World.{Live, World, hand_of, task}
 use Rattle.interleave.specs.declared.doing.Doing.TheVariants.{Steps as rSteps}

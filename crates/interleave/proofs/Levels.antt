@@ -2,7 +2,7 @@
 use Rattle.std.proofs.Common.{◌≡◌, ℕ, zero, suc, ◌+◌, List, [], ◌∷◌, ◌++◌, Option, Some, None, refl, sym, ap, ◌∙◌, arith}
 use Rattle.std.specs.Prelude.{take, slice_get}
 use Rattle.std.proofs.lemmas.Option.{none-some, same_Some}
-use Rattle.own_run.specs.OwnRun.{Action, Step, Spawn, EnterFinish, EndFinish, EndTask}
+use Rattle.own_run.specs.OwnRun.{Action, Step, Spawn, EnterFinish, EndFinish, EndTask, last_action}
 
 -- how many finishes are open behind actions, where d were before; none where one ends that isn't there, or the task
 abbrev pub depth : ℕ → List Action → Option ℕ
@@ -22,6 +22,11 @@ depth-append d (EnterFinish ∷ xs) bs e h = depth-append (suc d) xs bs e h
 depth-append zero (EndFinish ∷ xs) bs e h = absurd (none-some _ h)
 depth-append (suc d) (EndFinish ∷ xs) bs e h = depth-append d xs bs e h
 depth-append d (EndTask ∷ xs) bs e h = absurd (none-some _ h)
+
+-- the last of a task's actions fits no bracket
+pub depth-last_action : (q : List ℕ) → depth 0 (last_action q ∷ []) ≡ None
+depth-last_action [] = refl
+depth-last_action (k ∷ q) = refl
 
 -- actions that open so many finishes more than they end, from wherever they start
 abbrev pub IsLevel : List Action → ℕ → Type 0
@@ -43,6 +48,12 @@ pub take_next : {A : Type 0} (xs : List A) (k : ℕ) (x : A) → slice_get xs k 
 take_next [] k x e = absurd (none-some _ e)
 take_next (y ∷ xs) zero x e = ap (λ z. z ∷ []) (same_Some _ _ e)
 take_next (y ∷ xs) (suc k) x e = ap (λ l. y ∷ l) (take_next xs k x e)
+
+-- those before one of the first list
+pub take-append : {A : Type 0} (xs ys : List A) (k : ℕ) (x : A) → slice_get xs k ≡ Some x → take k (xs ++ ys) ≡ take k xs
+take-append [] ys k x e = absurd (none-some _ e)
+take-append (z ∷ xs) ys zero x e = refl
+take-append (z ∷ xs) ys (suc k) x e = ap (λ l. z ∷ l) (take-append xs ys k x e)
 
 -- a beginning of bracketed actions, with the next
 pub depth_next : (d : ℕ) (xs : List Action) (k : ℕ) (a : Action) (e f : ℕ) → depth d xs ≡ Some e → slice_get xs k ≡ Some a → depth d (take k xs) ≡ Some f → (g : ℕ) × (depth f (a ∷ []) ≡ Some g)

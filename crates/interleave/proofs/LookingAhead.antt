@@ -10,7 +10,8 @@ use Rattle.interleave.specs.Courses.{Course, course_of, IsDoing}
 use Rattle.interleave.specs.Events.{Event}
 use Rattle.interleave.specs.Jobs.{IsWeightedJob}
 use Rattle.interleave.specs.Shown.{Becomes, IsDoingThere, IsTaskOf, IsWorld, Refuses, TaskStays, WorldStays}
-use Rattle.interleave.specs.Shown.{is_path, next_world}
+use Rattle.types.specs.Translation.{is_path}
+use Rattle.interleave.specs.Shown.{next_world}
 use Rattle.interleave.specs.Walks.{IsIllegal}
 use Rattle.interleave.specs.World.{Live, Whereabouts, Queue, Hand, Parked}
 use Rattle.interleave.specs.declared.error.EventError.{EventError}

@@ -13,7 +13,8 @@ use Rattle.gather.specs.declared.job.Job.{Job}
 use Rattle.interleave.specs.Courses.{Course, course_of, IsDoing}
 use Rattle.interleave.specs.Events.{Event, Take, Steal, Pass, only_if, moved, by_pass}
 use Rattle.interleave.specs.Replay.{does, hands_on}
-use Rattle.interleave.specs.Shown.{IsTaskOf, IsBookOf, IsDoingThere, is_path, is_scope, scope_id, whereabouts}
+use Rattle.types.specs.Translation.{is_path}
+use Rattle.interleave.specs.Shown.{IsTaskOf, IsBookOf, IsDoingThere, is_scope, scope_id, whereabouts}
 use Rattle.interleave.specs.Shown.{AreResultsOf, IsTold, Shows, next_world}
 use Rattle.interleave.specs.World.{Live, Scope, World, Whereabouts, Queue, Hand, Parked, task, scope, put_scope}
 use Rattle.interleave.specs.World.{in_queue, in_hand, hand_is_free, has_passed, root_scope}
@@ -26,21 +27,13 @@ use Rattle.interleave.specs.declared.task.Whereabouts.{Whereabouts as rWhereabou
 use Rattle.interleave.specs.declared.task.Whereabouts.TheVariants.{Queue as rQueue, Hand as rHand}
 use Rattle.interleave.specs.declared.world.World.{World as rWorld}
 use Rattle.interleave.proofs.Lookups.{task_path, scope_id as named_so, scope_is, passed_beside, scope-put_scope}
-use Rattle.interleave.proofs.Tables.{there, tasks_put, paths_put, scopes_put, free_put, led_on}
+use Rattle.interleave.proofs.Tables.{there, tasks_put, paths_put, scopes_put, taken_hand, free_put, led_on}
+use Rattle.interleave.proofs.Hands.{queue_out}
 
 queued_doing : (j : Job) (q : Whereabouts) (w : ℕ) (c : Course) (d : Doing) → in_queue q w ≡ true → IsDoingThere j q c d → IsDoing j c d
 queued_doing j (Queue v) w c d e h = h
 queued_doing j (Hand v) w c d e h = h
 queued_doing j Parked w c d e h = false_true e
-
-queued_out : (q : Whereabouts) (w v : ℕ) → in_queue q w ≡ true → in_hand q v ≡ false
-queued_out (Queue u) w v e = refl
-queued_out (Hand u) w v e = false_true e
-queued_out Parked w v e = refl
-
-taken_hand : (b f : Bool) → (if b then true else not f) ≡ not (not b && f)
-taken_hand true f = refl
-taken_hand false f = refl
 
 -- where a task of a path is in a queue, it is so in the definition
 pub record Found (old : rWorld) (w : World) (path : Path) (worker : ℕ) (k : rTask) : Type 0 where
@@ -89,7 +82,7 @@ module _ (old : rWorld) (w : World) (h : Shows old w) (path : Path) where
           scopes = h.scopes;
           hands = λ v. hand v
               ∙ ap not (sym (free_put v (record its { place = whereabouts place }) its w.live (ap (λ p. task p w.live) named ∙ f.lives)
-              (queued_out its.place from v f.queued)));
+              (queue_out its.place from v f.queued)));
           told = h.told;
         }
 

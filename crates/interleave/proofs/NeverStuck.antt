@@ -33,10 +33,10 @@ use Rattle.interleave.proofs.ReplayLaws.{IsFree as IsFreeBy, IsUnsettled}
 use Rattle.interleave.proofs.Changes.{IsResume, becomes, is_live}
 use Rattle.interleave.proofs.Lookups.{scope_id}
 use Rattle.interleave.proofs.Outcomes.{IsSound, first_sound, list_sound, replays_are_worlds, sound as is_sound}
-use Rattle.interleave.proofs.Rooted.{its_stakes}
+use Rattle.interleave.proofs.Rooted.{root_last, its_stakes}
 use Rattle.interleave.proofs.Stakes.{scope_of, own as own_scope}
 use Rattle.interleave.proofs.Present.{IsThere}
-use Rattle.interleave.proofs.Histories.{contains_nil, contains_here, contains_later, contains_cons}
+use Rattle.interleave.proofs.Histories.{contains_nil, contains_cons}
 use Rattle.interleave.proofs.GoingOn.{goes_on}
 use Rattle.interleave.proofs.Measured.{worth, worth_lists}
 use Rattle.interleave.proofs.There.{root_has_all, told_once_settled}
@@ -106,10 +106,6 @@ scope_there (k ∷ ss) scopes id h c = by_place (contains_cons (scope_of k) (map
         → (s : Scope) × (scope id scopes ≡ Some s)
     by_place (inl e) rest = subst (λ i. (s : Scope) × (scope i scopes ≡ Some s)) e h.0
     by_place (inr d) rest = rest d
-
-root_last : (above : List ℕ) → Contains (map (own_scope []) (above ++ 0 ∷ [])) root_scope
-root_last [] = contains_here root_scope []
-root_last (n ∷ above) = contains_later (own_scope [] n) (map (own_scope []) (above ++ 0 ∷ [])) root_scope (root_last above)
 
 module _ (p : Program) (sound : IsSoundProgram p) (accepted : IsAccepted p) (w0 : ℕ) (least : 1 ≤ w0) (input : List (List ℤ)) (b : Budget)
     (fits : FitsArrays p.arrays input) (es : List Event) (w : World) (leads : LeadsTo p w0 input b es w) where

@@ -25,7 +25,7 @@ use Rattle.interleave.proofs.ReplayLaws.{ReplaysAreWorlds, PassedHasEnded, Start
 use Rattle.interleave.proofs.ReplayLaws.{ResultsComeOnce, ResultsAreHanded, RefusesTheFirst}
 use Rattle.interleave.proofs.Lookups.{by_test, held_least, task_path}
 use Rattle.interleave.proofs.Handed.{Last, Handed, event_handed, begun_in_one}
-use Rattle.interleave.proofs.Histories.{contains_nil, contains_here, contains_later}
+use Rattle.interleave.proofs.Histories.{contains_nil, contains_here}
 use Rattle.interleave.proofs.Stakes.{scope_of, own as own_scope, Weighty, weighs_below, positive_in}
 use Rattle.interleave.proofs.Changes.{becomes}
 use Rattle.interleave.proofs.Kept.{Kept}
@@ -34,7 +34,7 @@ use Rattle.interleave.proofs.OwnTasks.{IsOwnTask, AllOwn, IsAtLevel, truly, hand
 use Rattle.interleave.proofs.Levels.{depth}
 use Rattle.interleave.proofs.Once.{OfGone, AllOnce, event_once}
 use Rattle.interleave.proofs.Present.{IsThere, AllThere, event_there}
-use Rattle.interleave.proofs.Rooted.{IsRooted, its_stakes, event_rooted}
+use Rattle.interleave.proofs.Rooted.{IsRooted, root_last, its_stakes, event_rooted}
 
 module _ (p : Program) (needs : Codes → Needs) (fresh w0 : ℕ) (least : 1 ≤ w0) (root : Start) (nameless : root.path ≡ []) where
   abbrev go : List Event → World → Option World
@@ -125,10 +125,6 @@ module _ (p : Program) (needs : Codes → Needs) (fresh w0 : ℕ) (least : 1 ≤
     scopes_are : map scope_of h.rooted.its.stakes ≡ map (own_scope []) (h.rooted.above ++ 0 ∷ [])
     scopes_are = its_stakes es w h.kept h.rooted ∙ ap (map (own_scope [])) h.rooted.inside
 
-    last_in : (above : List ℕ) → Contains (map (own_scope []) (above ++ 0 ∷ [])) root_scope
-    last_in [] = contains_here root_scope []
-    last_in (n ∷ above) = contains_later (own_scope [] n) (map (own_scope []) (above ++ 0 ∷ [])) root_scope (last_in above)
-
     -- then the root waits at the end of `main`, and has done its own run
     abbrev pub IsDone : Type 0
     IsDone = (run_by p needs fresh h.rooted.its.receipts h.rooted.its.start ≡ own p needs fresh h.rooted.its.start)
@@ -143,7 +139,7 @@ module _ (p : Program) (needs : Codes → Needs) (fresh w0 : ℕ) (least : 1 ≤
         by_stakes : (w : Whereabouts) (ss : List Stake) (above : List ℕ) → map scope_of ss ≡ map (own_scope []) (above ++ 0 ∷ []) → weight_in root_scope ss ≡ 0 → Weighty w [] ss
             → IsAtLevel p needs fresh w0 root nameless w ss h.rooted.its → IsDone
         by_stakes w ss (n ∷ above) e z x l =
-            absurd (heavy ss (weighs_below w [] ss (own_scope [] n) root_scope (map (own_scope []) (above ++ 0 ∷ [])) x e (last_in above)) z)
+            absurd (heavy ss (weighs_below w [] ss (own_scope [] n) root_scope (map (own_scope []) (above ++ 0 ∷ [])) x e (root_last above)) z)
         by_stakes (Queue v) ss [] e z x l = absurd (heavy ss (positive_in root_scope ss x (subst (λ l. Contains l root_scope) (sym e) (contains_here root_scope []))) z)
         by_stakes (Hand v) ss [] e z x l = absurd (heavy ss (positive_in root_scope ss x (subst (λ l. Contains l root_scope) (sym e) (contains_here root_scope []))) z)
         by_stakes Parked [] [] e z x l = absurd x

@@ -1,5 +1,5 @@
 -- Each task of a world started with what its path is given, and does what its own run does.
-use Rattle.std.proofs.Common.{◌≡◌, ℕ, zero, suc, ◌+◌, ◌-◌, ◌/◌, List, [], ◌∷◌, ◌++◌, length, Option, Some, None, refl}
+use Rattle.std.proofs.Common.{◌≡◌, ℕ, suc, ◌+◌, ◌-◌, ◌/◌, List, [], ◌∷◌, ◌++◌, length, Option, Some, None, refl}
 use Rattle.std.proofs.Common.{sym, ap, ◌∙◌, subst, inl, inr, arith, append_assoc}
 use Rattle.std.proofs.lemmas.List.{append-nil, length_push}
 use Rattle.std.specs.Prelude.{Bool, true, false, ◌⊎◌, take, slice_get, if◌then◌else◌}
@@ -30,7 +30,7 @@ use Rattle.interleave.proofs.Changes.{Becomes}
 use Rattle.interleave.proofs.Steps.{put_cases}
 use Rattle.interleave.proofs.Events.{rebooked}
 use Rattle.interleave.proofs.Truth.{Rel, Behind, run_in_truth}
-use Rattle.interleave.proofs.Levels.{depth, depth-append, take_next, depth_next}
+use Rattle.interleave.proofs.Levels.{depth, depth-append, take_next, take-append, depth_next}
 use Rattle.interleave.proofs.Direct.{bracketed}
 use Rattle.interleave.proofs.Numbered.{given_path, begun_at}
 
@@ -124,14 +124,9 @@ module _ (p : Program) (needs : Codes → Needs) (fresh w0 : ℕ) (root : Start)
             let here : slice_get raw t.done ≡ Some a = ap (λ (b : Bool). slice_get (if b then (run_by p needs fresh t.receipts t.start).extra.actions else (run_by p needs fresh t.receipts t.start).extra.actions ++ last_action (run_by p needs fresh t.receipts t.start).path ∷ []) t.done) (sym i.waits) ∙ e in
             let b = bracketed p needs fresh (from_receipts t.receipts) t.start in
             let whole : truly t.start ≡ raw ++ (i.prefix.rest ++ last_action (own p needs fresh t.start).path ∷ []) = truly_is t.start ∙ ap (λ l. l ++ last_action (own p needs fresh t.start).path ∷ []) i.prefix.is ∙ append_assoc raw i.prefix.rest _ in
-            let first : take t.done (truly t.start) ≡ take t.done raw = ap (take t.done) whole ∙ take_append raw _ t.done a here in
+            let first : take t.done (truly t.start) ≡ take t.done raw = ap (take t.done) whole ∙ take-append raw _ t.done a here in
             let g = depth_next 0 raw t.done a b.rise f b.level here (ap (depth 0) (sym first) ∙ d) in
             none-some _ (sym n ∙ g.1)
-          where
-            take_append : {A : Type 0} (xs ys : List A) (k : ℕ) (x : A) → slice_get xs k ≡ Some x → take k (xs ++ ys) ≡ take k xs
-            take_append [] ys k x e = absurd (none-some _ e)
-            take_append (z ∷ xs) ys zero x e = refl
-            take_append (z ∷ xs) ys (suc k) x e = ap (λ l. z ∷ l) (take_append xs ys k x e)
 
         by_rel : Rel (run_by p needs fresh t.receipts t.start) (own p needs fresh t.start) → run_by p needs fresh t.receipts t.start ≡ own p needs fresh t.start
         by_rel (inl i) = i

@@ -34,7 +34,7 @@ use Rattle.interleave.proofs.Changes.{IsQuiet, IsReplenish, IsSpawn, IsOpen, IsP
 use Rattle.interleave.proofs.Changes.{Becomes}
 use Rattle.interleave.proofs.Kept.{Kept}
 use Rattle.interleave.proofs.Steps.{put_cases}
-use Rattle.interleave.proofs.Levels.{depth, depth-append, take_next}
+use Rattle.interleave.proofs.Levels.{depth, depth-append, depth-last_action, take_next}
 use Rattle.interleave.proofs.Direct.{start_of, bracketed}
 use Rattle.interleave.proofs.OwnTasks.{IsOwnTask, AllOwn, truly, truly_is, own_is_awake, nexts, hands, next_in_truth}
 use Rattle.interleave.proofs.OwnTasks.{depth_more, at_level}
@@ -51,10 +51,6 @@ listed_last : (cs : List Child) (ss : List Start) (c : Start) → map start_of c
 listed_last [] ss c e = absurd (nil_snoc ss c [] e)
 listed_last (d ∷ cs) [] c e = (d, first, cons_head e)
 listed_last (d ∷ cs) (s ∷ ss) c e = let h = listed_last cs ss c (cons_tail e) in (h.0, next h.1, h.2)
-
-ends_none : (q : List ℕ) → depth 0 (last_action q ∷ []) ≡ None
-ends_none [] = refl
-ends_none (k ∷ q) = refl
 
 module _ (p : Program) (needs : Codes → Needs) (scoped : IsScoped p) (calm : IsCalm p) (provided : Provides p needs) (fresh w0 : ℕ)
     (root : Start) (nameless : root.path ≡ []) (may_begin : MayBegin p needs root) where
@@ -134,7 +130,7 @@ module _ (p : Program) (needs : Codes → Needs) (scoped : IsScoped p) (calm : I
       ap (depth 0) (truly_is p needs fresh w0 root nameless s)
       ∙ depth-append 0 (own p needs fresh s).extra.actions (last_action (own p needs fresh s).path ∷ []) b.rise b.level
       ∙ ap (λ n. depth n (last_action (own p needs fresh s).path ∷ [])) (b.flat (own_is_awake p needs fresh w0 root nameless s))
-      ∙ ends_none (own p needs fresh s).path
+      ∙ depth-last_action (own p needs fresh s).path
 
   take_whole : {A : Type 0} (xs : List A) (x : A) (n : ℕ) → length xs ≡ n → take (n + 1) (xs ++ x ∷ []) ≡ xs ++ x ∷ []
   take_whole xs x n e =

@@ -1,17 +1,17 @@
 -- The root lives on, in its outer finish.
 use Rattle.std.proofs.Common.{◌≡◌, ℕ, ◌+◌, ◌-◌, ◌/◌, List, [], ◌∷◌, ◌++◌, Option, Some, refl, sym, ap, ◌∙◌, subst}
 use Rattle.std.proofs.lemmas.List.{append-nil}
-use Rattle.std.specs.Prelude.{map, drop, if◌then◌else◌}
+use Rattle.std.specs.Prelude.{map, drop, Contains, if◌then◌else◌}
 use Rattle.std.proofs.lemmas.Option.{same_Some}
 use Rattle.own_run.specs.Results.{TaskResult}
 use Rattle.own_run.specs.OwnRun.{Action}
 use Rattle.own_run.proofs.SettledResults.{paths_same}
-use Rattle.interleave.specs.World.{same_path, ScopeId, Live, World, Hand, Parked, child_path, task, put_task}
+use Rattle.interleave.specs.World.{same_path, ScopeId, Live, World, Hand, Parked, child_path, task, put_task, root_scope}
 use Rattle.interleave.specs.Events.{Event, Take, Steal, Steps, Replenish, Spawns, Opens, Parks, Ends, Pass, Resume}
 use Rattle.interleave.specs.Events.{did, new_task}
 use Rattle.interleave.specs.History.{Told, spawned_more, opened_more, left_one, tell, told}
 use Rattle.interleave.proofs.Lookups.{by_test, path_is, true_not_false, task-without_task}
-use Rattle.interleave.proofs.Histories.{told_last, cons_head, cons_tail, nil_cons}
+use Rattle.interleave.proofs.Histories.{contains_here, contains_later, told_last, cons_head, cons_tail, nil_cons}
 use Rattle.interleave.proofs.Stakes.{scope_of, own}
 use Rattle.interleave.proofs.Changes.{Becomes}
 use Rattle.interleave.proofs.Kept.{base, Kept}
@@ -22,6 +22,11 @@ pub record IsRooted (es : List Event) (w : World) : Type 0 where
   pub lives : task [] w.live ≡ Some its
   pub above : List ℕ
   pub inside : (told es []).inside ≡ above ++ 0 ∷ []
+
+-- the outermost of its scopes is the root's
+pub root_last : (above : List ℕ) → Contains (map (own []) (above ++ 0 ∷ [])) root_scope
+root_last [] = contains_here root_scope []
+root_last (n ∷ above) = contains_later (own [] n) (map (own []) (above ++ 0 ∷ [])) root_scope (root_last above)
 
 module _ (es : List Event) (a : World) (k : Kept es a) (r : IsRooted es a) where
   -- the root's stakes are all its own

@@ -18,7 +18,8 @@ use Rattle.interleave.proofs.Histories.{child_is_longer, child_is_other, BegunLa
 use Rattle.interleave.proofs.Stakes.{scope_of, own, IsPositive, weighty_awake, awake_weighty}
 use Rattle.interleave.proofs.Changes.{IsSpawn}
 use Rattle.interleave.proofs.Kept.{base, Hangs, WasSpawned, IsNamed, IsTold, IsKnown, Kept}
-use Rattle.interleave.proofs.Steps.{named_still, known_more, all_known_more, scope_still, IsPut, put_cases, put_lives}
+use Rattle.interleave.proofs.Steps.{named_still, known_more, all_known_more, scope_still, IsPut, put_cases}
+use Rattle.interleave.proofs.Steps.{put_lives, put_from}
 use Rattle.interleave.proofs.Events.{reweighed, task_known}
 use Rattle.interleave.proofs.Scopes.{spawns_same, base_is}
 
@@ -136,13 +137,6 @@ module _ (es : List Event) (a : World) (k : Kept es a) {does : Live → Option A
   kid_lives : task c live ≡ Some kid
   kid_lives = ap (λ (x : Bool). if x then Some kid else task c (put_task to a.live)) (path_same c)
 
-  put_from : (q : List ℕ) (t : Live) → IsPut to a.live q t → (s : Live) × (task q a.live ≡ Some s)
-  put_from q t i = by_place i.here
-    where
-      by_place : ((p ≡ q) × (to ≡ t)) ⊎ ((p ≡ q → ⊥) × (task q a.live ≡ Some t)) → (s : Live) × (task q a.live ≡ Some s)
-      by_place (inl (f, g)) = (h.at.was, subst (λ r. task r a.live ≡ Some h.at.was) f found)
-      by_place (inr (f, g)) = (t, g)
-
   -- ---- weights
   weights : (id : ScopeId) → held id live ≡ held id a.live
   weights id =
@@ -239,7 +233,7 @@ module _ (es : List Event) (a : World) (k : Kept es a) {does : Live → Option A
 
       by_place : ((c ≡ q) × (kid ≡ t)) ⊎ ((c ≡ q → ⊥) × IsPut to a.live q t) → (q ≡ []) ⊎ Hangs es' live line q
       by_place (inl (f, g)) = inr (subst (Hangs es' live line) f kid_hangs)
-      by_place (inr (n, j)) = by_kind n (let s = put_from q t j in k.hangs q s.0 s.1)
+      by_place (inr (n, j)) = by_kind n (let s = put_from to h.at.was t q a.live found j in k.hangs q s.0 s.1)
 
   -- ---- names
   kid_spawned : SpawnsAt es' es p c
@@ -250,7 +244,7 @@ module _ (es : List Event) (a : World) (k : Kept es a) {does : Live → Option A
     where
       by_place : ((c ≡ q) × (kid ≡ t)) ⊎ ((c ≡ q → ⊥) × IsPut to a.live q t) → IsNamed es' q
       by_place (inl (f, g)) = inr (record { before = es; parent = p; at = subst (SpawnsAt es' es p) f kid_spawned })
-      by_place (inr (n, j)) = named_still es (Spawns p) q (let s = put_from q t j in k.named q s.0 s.1)
+      by_place (inr (n, j)) = named_still es (Spawns p) q (let s = put_from to h.at.was t q a.live found j in k.named q s.0 s.1)
 
   quiet : (q : List ℕ) → IsNamed es' q ⊎ (told es' q ≡ untold q)
   quiet q =

@@ -11,7 +11,8 @@ use Rattle.own_run.specs.declared.start.Start.{Start as rStart}
 use Rattle.gather.specs.Jobs.{program_of, lists_of, budget_of}
 use Rattle.interleave.specs.Events.{new_task, new_scope}
 use Rattle.interleave.specs.Replay.{start_of}
-use Rattle.interleave.specs.Shown.{AreBoth, IsTaskOf, IsBookOf, IsTold, Shows, is_path, is_scope, scope_id, stake}
+use Rattle.types.specs.Translation.{is_path}
+use Rattle.interleave.specs.Shown.{AreBoth, IsTaskOf, IsBookOf, IsTold, Shows, is_scope, scope_id, stake}
 use Rattle.interleave.specs.World.{Live, Queue, Stake, same_path, same_scope, root_scope, scope}
 use Rattle.interleave.specs.declared.doing.Doing.TheVariants.{Starts}
 use Rattle.types.specs.declared.scope_id.ScopeId.{ScopeId as rScopeId}

@@ -16,7 +16,8 @@ use Rattle.interleave.specs.Acting.{IsSame}
 use Rattle.interleave.specs.Courses.{Course, course_of, IsLooked}
 use Rattle.interleave.specs.Events.{Event}
 use Rattle.interleave.specs.Shown.{AreBoth, AreResultsOf, IsTaskOf, IsBookOf, IsDoingThere, IsTold, Refuses, ScopeStays, Shows, TaskStays, WorldStays}
-use Rattle.interleave.specs.Shown.{is_path, is_scope, next_world, scope_id, stake, whereabouts}
+use Rattle.types.specs.Translation.{is_path}
+use Rattle.interleave.specs.Shown.{is_scope, next_world, scope_id, stake, whereabouts}
 use Rattle.interleave.specs.World.{Live, Scope, ScopeId, World, Whereabouts, Queue, Hand, Parked, task, scope, has_passed, root_scope}
 use Rattle.interleave.specs.Worlds.{LeadsTo}
 use Rattle.interleave.specs.declared.doing.Doing.{Doing}

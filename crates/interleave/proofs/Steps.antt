@@ -31,6 +31,14 @@ put_lives to was t q ts e f =
     (λ g h. (to, h)) (λ g h. (t, h ∙ f))
     (task-put_task to was q ts e)
 
+-- what lives then lived before
+pub put_from : (to was t : Live) (q : List ℕ) (ts : List Live) → task to.path ts ≡ Some was → IsPut to ts q t → (s : Live) × (task q ts ≡ Some s)
+put_from to was t q ts found h = by_place h.here
+  where
+    by_place : ((to.path ≡ q) × (to ≡ t)) ⊎ ((to.path ≡ q → ⊥) × (task q ts ≡ Some t)) → (s : Live) × (task q ts ≡ Some s)
+    by_place (inl (f, g)) = (was, subst (λ r. task r ts ≡ Some was) f found)
+    by_place (inr (f, g)) = (t, g)
+
 -- ---- knowledge stays
 pub named_still : (es : List Event) (e : Event) (q : List ℕ) → IsNamed es q → IsNamed (es ++ e ∷ []) q
 named_still es e q (inl f) = inl f
@@ -147,13 +155,6 @@ module _ (es : List Event) (e : Event) (a : World) (k : Kept es a) where
     abbrev b : World
     b = record { live = put_task to a.live; scopes = ss }
 
-    put_from : (q : List ℕ) (t : Live) → IsPut to a.live q t → (s : Live) × (task q a.live ≡ Some s)
-    put_from q t h = by_place h.here
-      where
-        by_place : ((to.path ≡ q) × (to ≡ t)) ⊎ ((to.path ≡ q → ⊥) × (task q a.live ≡ Some t)) → (s : Live) × (task q a.live ≡ Some s)
-        by_place (inl (f, g)) = (p.was, subst (λ r. task r a.live ≡ Some p.was) f p.found)
-        by_place (inr (f, g)) = (t, g)
-
     put_tasks : (q : List ℕ) (t : Live) → IsPut to a.live q t → IsTold (told es' q) (k.line q) q t
     put_tasks q t h = by_place h.here
       where
@@ -183,7 +184,7 @@ module _ (es : List Event) (e : Event) (a : World) (k : Kept es a) where
     pub put_change : Change b
     put_change = record {
       unique = unique-put_task to p.was a.live p.found k.unique;
-      from = λ q t f. put_from q t (put_cases to p.was t q a.live p.found f);
+      from = λ q t f. put_from to p.was t q a.live p.found (put_cases to p.was t q a.live p.found f);
       tasks = λ q t f. put_tasks q t (put_cases to p.was t q a.live p.found f);
       open' = put_open;
       known = each-put_task (λ (t : Live). Each (IsKnown es') t.stakes) to a.live (all_known_more es e a.live k.known) p.known;

@@ -12,7 +12,8 @@ use Rattle.own_run.proofs.SettledResults.{gives, paths_same}
 use Rattle.gather.specs.declared.job.Job.{Job}
 use Rattle.interleave.specs.Events.{Event, after}
 use Rattle.interleave.specs.Replay.{does, hands_on, start_of}
-use Rattle.interleave.specs.Shown.{ArePaths, AreBoth, IsTaskOf, IsBookOf, is_path, is_scope, scope_id}
+use Rattle.types.specs.Translation.{is_path}
+use Rattle.interleave.specs.Shown.{ArePaths, AreBoth, IsTaskOf, IsBookOf, is_scope, scope_id}
 use Rattle.interleave.specs.World.{Live, Scope, World, same_path, task, put_task, without_task, scope, put_scope, in_hand, hand_is_free}
 use Rattle.interleave.specs.Worlds.{LeadsTo, event_of}
 use Rattle.types.specs.declared.scope_id.ScopeId.{ScopeId as rScopeId}
@@ -106,6 +107,11 @@ swap : (a b c : Bool) → (a && (b && c)) ≡ (b && (a && c))
 swap true b c = refl
 swap false true c = refl
 swap false false c = refl
+
+-- the hands that are taken, with one more
+pub taken_hand : (b f : Bool) → (if b then true else not f) ≡ not (not b && f)
+taken_hand true f = refl
+taken_hand false f = refl
 
 -- a task that wasn't in this hand is put in its place
 pub free_put : (v : ℕ) (to was : Live) (ts : List Live) → task to.path ts ≡ Some was → in_hand was.place v ≡ false

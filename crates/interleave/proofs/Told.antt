@@ -5,7 +5,7 @@ use Rattle.std.specs.Prelude.{true, false, ◌&&◌, not, nat_eq, map}
 use Rattle.std.specs.HashMap.{get}
 use Rattle.facts.proofs.Truths.{false_true}
 use Rattle.types.specs.Outcome.{Outcome, outcome}
-use Rattle.types.specs.Translation.{outcome as plain_outcome}
+use Rattle.types.specs.Translation.{outcome as plain_outcome, is_path}
 use Rattle.types.specs.declared.outcome.Outcome.{Outcome as rOutcome}
 use Rattle.types.specs.declared.path.Path.{Path}
 use Rattle.types.specs.declared.scope_id.ScopeId.{ScopeId as rScopeId}
@@ -23,7 +23,7 @@ use Rattle.interleave.specs.Courses.{Course, course_of, IsEndOf}
 use Rattle.interleave.specs.Events.{Event, Pass, only_if}
 use Rattle.interleave.specs.Jobs.{IsWeightedJob}
 use Rattle.interleave.specs.Replay.{hands_on}
-use Rattle.interleave.specs.Shown.{IsTaskOf, IsDoingThere, IsTold, Shows, is_path, is_scope, scope_id}
+use Rattle.interleave.specs.Shown.{IsTaskOf, IsDoingThere, IsTold, Shows, is_scope, scope_id}
 use Rattle.interleave.specs.World.{Live, Scope, World, Whereabouts, Queue, Hand, Parked, task, scope, root_scope, has_passed, is_passed}
 use Rattle.interleave.specs.Worlds.{outcome_of}
 use Rattle.interleave.specs.declared.doing.Doing.TheVariants.{AtEnd}

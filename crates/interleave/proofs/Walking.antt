@@ -16,7 +16,8 @@ use Rattle.interleave.specs.Events.{Event}
 use Rattle.interleave.specs.Jobs.{IsWeightedJob}
 use Rattle.interleave.specs.Replay.{Legal}
 use Rattle.interleave.specs.Replaying.{IsReplayed, comes, event}
-use Rattle.interleave.specs.Shown.{Becomes, IsTaskOf, Refuses, Shows, is_path, next_world, turns_of}
+use Rattle.types.specs.Translation.{is_path}
+use Rattle.interleave.specs.Shown.{Becomes, IsTaskOf, Refuses, Shows, next_world, turns_of}
 use Rattle.interleave.specs.Walks.{AreCandidates, AreTasks, HasOneMore, HasStopped, IsAsBefore, IsIdle}
 use Rattle.interleave.specs.Walks.{IsIllegal, IsWalk}
 use Rattle.interleave.specs.World.{Live, World, has_passed, root_scope, task}

@@ -2,7 +2,7 @@
 use Rattle.std.proofs.Common.{◌≡◌, ◌-◌, ℕ, List, [], ◌∷◌, ◌++◌, length, map, Option, None, Some, Ok, Err}
 use Rattle.std.proofs.Common.{Bool, true, false, refl, sym, ap, ◌∙◌, arith, subst, true≢false}
 use Rattle.std.proofs.Common.{Less, Equal, Greater, nat_cmp, option_map}
-use Rattle.std.proofs.lemmas.Bool.{and_parts, eq-eqb}
+use Rattle.std.proofs.lemmas.Bool.{and_parts, eq-eqb, or_right}
 use Rattle.std.proofs.lemmas.Slice.Eq.{bytes_eq-Decides}
 use Rattle.std.specs.Prelude.{ℤ, pos, negsuc, ◌^◌, ◌||◌, nat_eq, nat_lt, int_le, int_lt, is_some, option_and_then}
 use Rattle.std.specs.Prelude.{if◌then◌else◌, ok_or}
@@ -106,11 +106,7 @@ itself : (name : List ℕ) → bytes_eq name name ≡ true
 itself name = (bytes_eq-Decides name name).1 refl
 
 named_later : (x : Array) (xs : List Array) (name : List ℕ) → is_named xs name ≡ true → is_named (x ∷ xs) name ≡ true
-named_later x xs name later = or_later (bytes_eq x.name name) (is_named xs name) later
-  where
-    or_later : (a b : Bool) → b ≡ true → (a || b) ≡ true
-    or_later true b e = refl
-    or_later false b e = e
+named_later x xs name later = or_right (bytes_eq x.name name) (is_named xs name) later
 
 all_named_later : (x : Array) (all xs : List Array) → AllByRecursion (λ y. is_named all y.name ≡ true) xs
     → AllByRecursion (λ y. is_named (x ∷ all) y.name ≡ true) xs

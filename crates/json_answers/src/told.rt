@@ -2,7 +2,6 @@
 
 ghost use Rattle.std.specs.Prelude.{◌≡◌, IfOk, option_map};
 ghost use Rattle.std.specs.String.{string_bytes};
-ghost use Rattle.syntax.specs.declared.place.Place.{Place as AnyPlace};
 ghost use Rattle.intake.specs.Messages.{failure_text};
 ghost use Rattle.json_answers.specs.Refusals.{failure_array, failure_code, failure_label, failure_place};
 

@@ -1,6 +1,6 @@
 //! Where a layout stands in a text.
 
-ghost use Rattle.std.specs.Prelude.{◌≡◌, ◌≤◌, ◌<◌, ◌+◌, ◌^◌};
+ghost use Rattle.std.specs.Prelude.{◌≡◌, ◌<◌, ◌+◌, ◌^◌};
 ghost use Rattle.syntax.specs.Canonical.{depth_by, left_by, left_by_mark, left_by_minus};
 ghost use Rattle.syntax.specs.Token.{WordToken, token as token_tree};
 ghost use Rattle.syntax.specs.declared.token.Left.{Left as AnyLeft};

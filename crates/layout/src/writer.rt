@@ -1,6 +1,6 @@
 //! Writes items, each behind its gap.
 
-ghost use Rattle.std.specs.Prelude.{◌≡◌, ◌<◌, [], ◌∷◌, ◌++◌, OnOk, length};
+ghost use Rattle.std.specs.Prelude.{◌≡◌, ◌<◌, [], ◌++◌, OnOk, length};
 ghost use Rattle.syntax.specs.Canonical.{indent};
 ghost use Rattle.syntax.specs.Token.{token as token_tree};
 ghost use Rattle.layout.specs.Gap.{gap_text};

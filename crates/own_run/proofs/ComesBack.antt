@@ -64,11 +64,12 @@ module _ (begin : Codes → A → A) (begins : (b : Codes) (st : A) → R st (be
     finish = λ l st out h q i. there_or (st.extra.contents q) (st.store q) (merged out q) (λ k. h q k) i;
   }
 
-module _ (p : Program) (needs : Codes → Needs) (fresh : ℕ) where
-  only_there : (t : Bool) (v : Option ℤ) → t ≡ true → IsThere v → IsThere (if t then v else None)
-  only_there true v e h = h
-  only_there false v e h = absurd (false_true e)
+-- where only some places are kept, a number at one of them stays there
+pub only_there : (t : Bool) (v : Option ℤ) → t ≡ true → IsThere v → IsThere (if t then v else None)
+only_there true v e h = h
+only_there false v e h = absurd (false_true e)
 
+module _ (p : Program) (needs : Codes → Needs) (fresh : ℕ) where
   begins_present : (nest : ℕ) (b : Codes) (st : A) → R st (begin_apart p needs fresh nest b st)
   begins_present zero b st q h = h
   begins_present (suc n) b st q h =

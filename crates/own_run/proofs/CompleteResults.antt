@@ -22,7 +22,7 @@ use Rattle.own_run.specs.Lists.{Each, Inserted, here, later, Shuffled, none, one
 use Rattle.own_run.proofs.Lists.{each_more}
 use Rattle.own_run.specs.Settling.{NoTwice}
 use Rattle.own_run.proofs.Begun.{run_tells, at_first_fine}
-use Rattle.own_run.proofs.OnePath.{own_path}
+use Rattle.own_run.proofs.OnePath.{own_path, results}
 use Rattle.own_run.proofs.SettledResults.{paths_same, IsGiven, begun_is_true}
 use Rattle.own_run.proofs.OwnRunSettles.{own_settles}
 
@@ -108,26 +108,23 @@ module _ (p : Program) (needs : Codes → Needs) (fresh : ℕ) (root : Start) wh
       → IsParted (result_of (own p needs fresh s)) → Each IsParted rs → length rs < k
       → Done (settle_within k (result_of (own p needs fresh s)) rs) (comes_to p needs fresh s) ts rs
 
-  abbrev pub results : ℕ → Child → List TaskResult
-  results n c = result_of (own p needs fresh c.start) ∷ below p needs fresh n c.start
-
   pub fill_complete : (k n : ℕ) → Deep k n → (owned : Places) (cs : List Child) (so_far : Settled) (ts rs : List TaskResult)
       → Each (Stands n) cs
-      → Shuffled (flat_map (results n) cs ++ ts) rs → NoTwice rs → Parted owned (map (λ c. c.listed) cs) → Each IsParted rs → length rs ≤ k
+      → Shuffled (flat_map (results p needs fresh n) cs ++ ts) rs → NoTwice rs → Parted owned (map (λ c. c.listed) cs) → Each IsParted rs → length rs ≤ k
       → Done (fill_all (settle_within k) owned (map (λ c. c.listed) cs) so_far rs) (filled p needs fresh cs so_far) ts rs
   fill_complete k n deep owned [] so_far ts rs h s o pt ps le =
       record { rest = rs; is = refl; left = s; once = o; parted = ps; fewer = le_refl (length rs) }
   fill_complete k n deep owned (c ∷ cs) so_far ts rs h s o pt ps le =
       let r = result_of (own p needs fresh c.start) in
       let tail = below p needs fresh n c.start in
-      let i = pick (subst (λ l. Shuffled (r ∷ l) rs) (append_assoc tail (flat_map (results n) cs) ts) s) in
+      let i = pick (subst (λ l. Shuffled (r ∷ l) rs) (append_assoc tail (flat_map (results p needs fresh n) cs) ts) s) in
       let long = length_inserted i.put in
       let mine = inserted_each IsParted i.put ps in
       let more : Places = λ q. owned q || has c.listed.windows q in
       let at : r.path ≡ c.listed.path = own_path p needs fresh c.start ∙ sym h.0.is.listed in
       let take_it = ap (λ q. take q rs) (sym at) ∙ taken_one r i.others rs i.put o in
       let child =
-      deep c.start h.0.nest h.0.is.is (flat_map (results n) cs ++ ts) i.others i.left (inserted_once i.put o) mine.0 mine.1
+      deep c.start h.0.nest h.0.is.is (flat_map (results p needs fresh n) cs ++ ts) i.others i.left (inserted_once i.put o) mine.0 mine.1
       (omega (arith, long, le)) in
       let fewer = child.fewer in
       let others =

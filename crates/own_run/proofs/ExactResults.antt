@@ -14,6 +14,7 @@ use Rattle.own_run.specs.Given.{own, given, IsOwn, below}
 use Rattle.std.specs.Cmp.Lexicographic.{pointwise}
 use Rattle.own_run.specs.Settling.{behind, take, fill_all, settle_within, none_left, settle}
 use Rattle.own_run.specs.Lists.{Each, Inserted, here, later, Shuffled, none, one}
+use Rattle.own_run.proofs.OnePath.{results}
 use Rattle.own_run.proofs.SettledResults.{unless_none, gives, taken, IsGiven, settle_sound}
 use Rattle.own_run.proofs.CompleteResults.{Stands, stands, lists_none}
 
@@ -41,9 +42,6 @@ module _ (p : Program) (needs : Codes → Needs) (fresh : ℕ) (root : Start) wh
   abbrev Used : List TaskResult → (rs rest : List TaskResult) → Type 0
   Used us rs rest = (ts : List TaskResult) → Shuffled ts rest → Shuffled (us ++ ts) rs
 
-  abbrev results : ℕ → Child → List TaskResult
-  results n c = result_of (own p needs fresh c.start) ∷ below p needs fresh n c.start
-
   abbrev Deep : ℕ → ℕ → Type 0
   Deep k n = (s : Start) → s.nest ≡ n → IsGiven p needs fresh root s → (rs : List TaskResult) → Each (IsOwn p needs fresh root) rs
       → (x : Settled × List TaskResult) → settle_within k (result_of (own p needs fresh s)) rs ≡ Some x
@@ -53,7 +51,7 @@ module _ (p : Program) (needs : Codes → Needs) (fresh : ℕ) (root : Start) wh
       → Each (Stands p needs fresh root n) cs
       → Each (IsOwn p needs fresh root) rs → (x : Settled × List TaskResult)
       → fill_all (settle_within k) owned (map (λ c. c.listed) cs) so_far rs ≡ Some x
-      → Used (flat_map (results n) cs) rs x.1
+      → Used (flat_map (results p needs fresh n) cs) rs x.1
   fill_used k n deep owned [] so_far rs h all x e ts sh =
       let i : (so_far, rs) ≡ x = same_Some _ _ e in subst (Shuffled ts) (sym (ap (λ (x : Settled × List TaskResult). x.1) i)) sh
   fill_used k n deep owned (c ∷ cs) so_far rs h all x e ts sh =
@@ -70,8 +68,8 @@ module _ (p : Program) (needs : Codes → Needs) (fresh : ℕ) (root : Start) wh
       (fill c.listed f.one.0 so_far) f.one.1 h.1 others x f.next ts sh in
       let whole =
       one (subst (λ r. Inserted r g.one.1 rs) is_own (took c.listed.path rs g.one g.first))
-      (child (flat_map (results n) cs ++ ts) tail) in
-      subst (λ l. Shuffled (r ∷ l) rs) (sym (append_assoc (below p needs fresh n c.start) (flat_map (results n) cs) ts)) whole
+      (child (flat_map (results p needs fresh n) cs ++ ts) tail) in
+      subst (λ l. Shuffled (r ∷ l) rs) (sym (append_assoc (below p needs fresh n c.start) (flat_map (results p needs fresh n) cs) ts)) whole
 
   settle_used : (k n : ℕ) → Deep k n
   settle_used zero n s e is rs all x q = absurd (none-some _ q)

@@ -16,7 +16,8 @@ use Rattle.types.specs.Run.{State, Rules, stopped, fault, with_value, assign, pr
 use Rattle.types.specs.Run.{truth_at, window_at, entry, with_sides, array_of, procedure_of, primitive}
 use Rattle.types.proofs.Keeps.{still_there}
 use Rattle.effects.specs.Accesses.{Access}
-use Rattle.effects.specs.Effects.{past_call, if_body, if_other, while, AllOf, All, PendingOf, Pending, accesses}
+use Rattle.types.specs.Sound.{passed_for}
+use Rattle.effects.specs.Effects.{if_body, if_other, while, AllOf, All, PendingOf, Pending, accesses}
 use Rattle.effects.specs.Footprint.{Touches, Overwrites}
 use Rattle.effects.specs.Needs.{Needs, AreNeeds, Provides, ProvidesIn}
 use Rattle.race_checker.specs.Scope.{Scope, Top, Inside, InScope, FitsScope, may_writes, Scoped, IsScoped}
@@ -35,7 +36,7 @@ use Rattle.own_run.proofs.Windows.{named_some, some_named, passed_same, sides_so
 use Rattle.own_run.proofs.AccessNames.{named_all, touches_more, overwrites_more}
 use Rattle.own_run.proofs.Simulation.{behind, part_ready, again_ready, split_ready, call_ready, unlocked_ready, ReadyOf}
 use Rattle.own_run.proofs.Stacks.{anywhere, restack, anchor, unlock, unlock_ready}
-use Rattle.own_run.proofs.ComesBack.{written_touched}
+use Rattle.own_run.proofs.ComesBack.{written_touched, only_there}
 
 abbrev pub none : Place → Type 0
 none q = ⊥
@@ -409,7 +410,7 @@ module _ (p : Program) (needs : Codes → Needs) where
             record {
               inside = λ z i. tt;
               known = λ z i. passed_same st.environment.windows env.windows ss z
-                  (h.known (past_call ss z) (h.ready.scoped z (subst (λ n. z < n) (length_may_writes (procedure_of p f)) i)));
+                  (h.known (passed_for ss z) (h.ready.scoped z (subst (λ n. z < n) (length_may_writes (procedure_of p f)) i)));
               ready = unlock_ready p needs st.store st.extra.owned top new none none m b (λ q j. j) body;
             },
             relimit st.environment.windows (InScope sc) st.store st.extra.owned (after sc env l c gs st h new b) gs
@@ -529,10 +530,6 @@ module _ (p : Program) (needs : Codes → Needs) where
         owned_without o true f e = absurd (f refl)
         owned_without true false f e = refl
         owned_without false false f e = e
-
-        only_there : (t : Bool) (v : Option ℤ) → t ≡ true → IsThere v → IsThere (if t then v else None)
-        only_there true v e h = h
-        only_there false v e h = absurd (false_true e)
 
         there_or_back : (w : Bool) (v : Option ℤ) (b : Bool) → (w ≡ true → b ≡ true) → IsThere v
             → IsThere (if w then None else v) ⊎ (b ≡ true)

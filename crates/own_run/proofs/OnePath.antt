@@ -2,6 +2,7 @@
 use Rattle.std.proofs.lemmas.Option.{none-some}
 use Rattle.std.proofs.Common.{◌≡◌, ℕ, zero, suc, ◌+◌, ◌<◌, List, [], ◌∷◌, ◌++◌, length, Option, Some, None, refl, sym}
 use Rattle.std.proofs.Common.{ap, ◌∙◌, subst, arith, append_assoc}
+use Rattle.std.proofs.lemmas.List.{append-nil}
 use Rattle.std.specs.Prelude.{◌≢◌, Bool, true, false, flat_map, slice_get, if◌then◌else◌}
 use Rattle.types.specs.Code.{Codes, Program}
 use Rattle.types.specs.Run.{State, Rules, Work, Block, run}
@@ -158,6 +159,7 @@ module _ (p : Program) (needs : Codes → Needs) (fresh : ℕ) where
     pub number : ℕ
     pub path : c.start.path ≡ base ++ suc number ∷ []
 
+  -- the results of a child and of all below it
   abbrev pub results : ℕ → Child → List TaskResult
   results n c = result_of (own p needs fresh c.start) ∷ below p needs fresh n c.start
 
@@ -180,10 +182,6 @@ module _ (p : Program) (needs : Codes → Needs) (fresh : ℕ) where
       each_more (IsBegun s.nest end) (From s.path) end.extra.pending
       (λ c h. record { number = h.number; path = h.path ∙ ap (λ q. q ++ suc h.number ∷ []) t.path })
       (t.fine (at_first_fine s.nest needs (in_truth p needs fresh) fresh s)).begun
-
-  append_nil : (xs : List ℕ) → xs ++ [] ≡ xs
-  append_nil [] = refl
-  append_nil (x ∷ xs) = ap (λ l. x ∷ l) (append_nil xs)
 
   all_under : (n : ℕ) (base : List ℕ) (cs : List Child) → Each (From base) cs
       → ((s : Start) → Each (Under s.path) (below p needs fresh n s)) → Each (Under base) (flat_map (results n) cs)
@@ -208,7 +206,7 @@ module _ (p : Program) (needs : Codes → Needs) (fresh : ℕ) where
 
   child_extends : (n : ℕ) (c : Child) → Each (Extends c.start.path) (results n c)
   child_extends n c = (
-    record { rest = []; path = own_path c.start ∙ sym (append_nil c.start.path) },
+    record { rest = []; path = own_path c.start ∙ sym (append-nil c.start.path) },
     each_more (Under c.start.path) (Extends c.start.path) (below p needs fresh n c.start)
         (λ x u. record { rest = suc u.number ∷ u.rest; path = u.path }) (below_under n c.start),
   )

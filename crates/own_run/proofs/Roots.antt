@@ -2,8 +2,8 @@
 use Rattle.std.proofs.Common.{◌≡◌, ℕ, zero, suc, ◌+◌, ◌<◌, ◌≤◌, List, [], ◌∷◌, length, Option, Some, None, refl, ap, ◌∙◌, inl, inr}
 use Rattle.std.proofs.Common.{arith}
 use Rattle.std.proofs.lemmas.Option.{slice_get-get_or}
-use Rattle.std.specs.Prelude.{ℤ, pos, Bool, true, false, ◌||◌, is_some, slice_get, slice_index_or}
-use Rattle.std.proofs.lemmas.Bool.{or_cases}
+use Rattle.std.specs.Prelude.{ℤ, pos, true, is_some, slice_get, slice_index_or}
+use Rattle.std.proofs.lemmas.Bool.{or_cases, or_left, or_right}
 use Rattle.sections.proofs.Covering.{in_window, is_in-from}
 use Rattle.facts.proofs.Truths.{same_truth, false_true}
 use Rattle.sections.specs.Covers.{has, is_in}
@@ -15,14 +15,6 @@ use Rattle.holdings.specs.Held.{as_owned, numbers, owned}
 use Rattle.holdings.specs.Holdings.{held, listed}
 use Rattle.holdings.specs.declared.holdings.Holdings.{Holdings}
 use Rattle.own_run.specs.Translation.{contents_of, owned_by}
-
-or_second : (a b : Bool) → b ≡ true → (a || b) ≡ true
-or_second true b h = refl
-or_second false b h = h
-
-or_first : (a b : Bool) → a ≡ true → (a || b) ≡ true
-or_first true b h = refl
-or_first false b h = false_true h
 
 is_there : (xs : List ℤ) (i : ℕ) → i < length xs → is_some (slice_get xs i) ≡ true
 is_there xs i lt = ap is_some (slice_get-get_or xs i (pos 0) lt)
@@ -69,11 +61,11 @@ outside n k [] (r ∷ rs) fits q e h = elim fits [ ]
 outside n k (x ∷ xs) [] fits q e h = elim fits [ ]
 outside n zero (x ∷ xs) (r ∷ rs) (also l fits) q e h =
     let i = there_is r q.index h in
-    or_first (is_in (whole n x) q) (has (whole_arrays (n + 1) xs) q)
+    or_left (is_in (whole n x) q) (has (whole_arrays (n + 1) xs) q)
     (is_in-from (whole n x) q
     (record { array = omega (arith, e); low = omega arith; high = omega (arith, i, l) }))
 outside n (suc k) (x ∷ xs) (r ∷ rs) (also l fits) q e h =
-    or_second (is_in (whole n x) q) (has (whole_arrays (n + 1) xs) q)
+    or_right (is_in (whole n x) q) (has (whole_arrays (n + 1) xs) q)
     (outside (n + 1) k xs rs fits q (omega (arith, e)) h)
 
 -- all places of all arrays are owned

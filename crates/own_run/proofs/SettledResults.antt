@@ -75,15 +75,15 @@ module _ (P : TaskResult → Type 0) (path : List ℕ) where
           subst (Taken P path) i (record { at = paths_same r.path path w; this = h.0; others = h.1 })
       by_path rec false w q = later rec (take path rs) refl q
 
-module _ (p : Program) (needs : Codes → Needs) (fresh : ℕ) where
-  some_of : {A : Type 0} (o : Option A) → and_then o (λ x. Some x) ≡ o
-  some_of None = refl
-  some_of (Some x) = refl
+pub and_then-some : {A : Type 0} (o : Option A) → and_then o (λ x. Some x) ≡ o
+and_then-some None = refl
+and_then-some (Some x) = refl
 
+module _ (p : Program) (needs : Codes → Needs) (fresh : ℕ) where
   -- the k-th child of a task
   pub given_last : (path : List ℕ) (root s : Start) (k : ℕ) → given p needs fresh root path ≡ Some s
       → given p needs fresh root (path ++ k ∷ []) ≡ kth k (begun_by (own p needs fresh s).extra.actions)
-  given_last [] root s k e = some_of _ ∙ ap (λ (s : Start). kth k (begun_by (own p needs fresh s).extra.actions)) (same_Some _ _ e)
+  given_last [] root s k e = and_then-some _ ∙ ap (λ (s : Start). kth k (begun_by (own p needs fresh s).extra.actions)) (same_Some _ _ e)
   given_last (j ∷ path) root s k e = by_child (λ c. given_last path c s k) (kth j (begun_by (own p needs fresh root).extra.actions)) e
     where
       by_child : ((c : Start) → given p needs fresh c path ≡ Some s

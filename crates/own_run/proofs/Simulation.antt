@@ -19,7 +19,8 @@ use Rattle.types.specs.Run.{Flow, On, Faulted, Stopped, Work, Block, Turn, Rules
 use Rattle.types.specs.Run.{array_of, procedure_of, counted, act, block, work, within}
 use Rattle.types.specs.Meaning.{hushed, joined, child, after_async, after_body, after_finish, one_rules_by, begin_one}
 use Rattle.effects.specs.Accesses.{Access, own_accesses}
-use Rattle.effects.specs.Effects.{past_split, past_call, if_body, if_other, while, split, call, AllOf, All}
+use Rattle.types.specs.Sound.{passed_for}
+use Rattle.effects.specs.Effects.{past_split, if_body, if_other, while, split, call, AllOf, All}
 use Rattle.effects.specs.Effects.{PendingOf, Pending, accesses}
 use Rattle.effects.specs.Footprint.{Touches, Overwrites}
 use Rattle.effects.specs.Needs.{Needs, ProvidesIn, ProvidesOf, Provides}
@@ -226,15 +227,15 @@ module _ (p : Program) (needs : Codes → Needs) where
       free = λ q t. r.free q (around q t);
       held = λ q t. r.held q (around q t);
       wrote = λ q t. r.wrote q
-          (overwrites_renamed x.env within_call.env (past_call ss) _ _ q (call_in x.env.windows q ss) (λ y i. AllOf.inner call i refl) t);
+          (overwrites_renamed x.env within_call.env (passed_for ss) _ _ q (call_in x.env.windows q ss) (λ y i. AllOf.inner call i refl) t);
       kept = r.kept;
       added = λ q t. r.added q
-          (overwrites_renamed x.env within_call.env (past_call ss) _ _ q (call_in x.env.windows q ss) (λ y i. PendingOf.inner call i refl) t);
+          (overwrites_renamed x.env within_call.env (passed_for ss) _ _ q (call_in x.env.windows q ss) (λ y i. PendingOf.inner call i refl) t);
     }
       where
         around : (q : Place) → Touches within_call.env (All p accesses (procedure_of p f).body) q
             → Touches x.env (AllOf p accesses l (Call f es ss)) q
-        around q = touches_renamed x.env within_call.env (past_call ss) _ _ q (call_in x.env.windows q ss) (λ y i. AllOf.inner call i refl)
+        around q = touches_renamed x.env within_call.env (passed_for ss) _ _ q (call_in x.env.windows q ss) (λ y i. AllOf.inner call i refl)
 
     enter_call : (vs : List ℤ) (o : S) (a : A) → Same x locked o a
         → Same within_call locked (record o { environment = entry vs (map (window_at o) ss) })
@@ -242,7 +243,7 @@ module _ (p : Program) (needs : Codes → Needs) where
     enter_call vs o a k =
         stand x within_call.scope within_call.env locked o a (ap (λ env. entry vs (map env.windows ss)) k.environment)
         (λ z i. passed_same o.environment.windows x.env.windows ss z
-        (k.windows (past_call ss z) (r.scoped z (subst (λ n. z < n) (length_may_writes (procedure_of p f)) i)))) k
+        (k.windows (passed_for ss z) (r.scoped z (subst (λ n. z < n) (length_may_writes (procedure_of p f)) i)))) k
 
     leave_call : (o oo : S) (a aa : A) → Same x locked o a → Agree within_call final oo aa
         → Agree x final (record oo { environment = o.environment }) (record aa { environment = a.environment })

@@ -16,7 +16,8 @@ use Rattle.types.specs.declared.fault.FaultKind.{FaultKind}
 use Rattle.types.specs.declared.fault.FaultKind.TheVariants.{SplitPoint}
 use Rattle.types.specs.Value.{Environment, Valued}
 use Rattle.types.specs.Run.{bind, with_sides}
-use Rattle.effects.specs.Effects.{past_split, past_call}
+use Rattle.types.specs.Sound.{passed_for}
+use Rattle.effects.specs.Effects.{past_split}
 use Rattle.race_checker.specs.Scope.{Scope, Top, Inside, InScope, FitsScope, FitsTop}
 use Rattle.own_run.specs.Places.{named}
 
@@ -97,12 +98,12 @@ split_in s x y v w f q g h z i = by_tests (nat_eq x z) (nat_eq y z) i
     by_tests false false i = i
 
 -- the sections of a call, seen from around it
-pub call_in : (f : ℕ → Window) (q : Place) (ss : List ℕ) (k : ℕ) → In (slice_index_or (map f ss) k nowhere) q → In (f (past_call ss k)) q
+pub call_in : (f : ℕ → Window) (q : Place) (ss : List ℕ) (k : ℕ) → In (slice_index_or (map f ss) k nowhere) q → In (f (passed_for ss k)) q
 call_in f q [] k i = absurd (not_nowhere q i)
 call_in f q (s ∷ ss) zero i = i
 call_in f q (s ∷ ss) (suc k) i = call_in f q ss k i
 
-pub passed_same : (f g : ℕ → Window) (ss : List ℕ) (k : ℕ) → f (past_call ss k) ≡ g (past_call ss k)
+pub passed_same : (f g : ℕ → Window) (ss : List ℕ) (k : ℕ) → f (passed_for ss k) ≡ g (passed_for ss k)
     → slice_index_or (map f ss) k nowhere ≡ slice_index_or (map g ss) k nowhere
 passed_same f g [] k e = refl
 passed_same f g (s ∷ ss) zero e = e

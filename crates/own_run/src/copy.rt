@@ -7,7 +7,7 @@ ghost use Rattle.own_run.specs.Copies.{IsCopy, IsPausedCopy};
 ghost use Rattle.own_run.specs.Frames.{Frame as AnyFrame};
 ghost use Rattle.own_run.specs.OwnRun.{Own};
 ghost use Rattle.own_run.specs.Standings.{IsEnd, ShowsFrame, Stacked, state_of};
-ghost use Rattle.own_run.specs.Translation.{contents_of, listed, owned_by, start as start_of, task_result};
+ghost use Rattle.own_run.specs.Translation.{listed, owned_by, start as start_of, task_result};
 
 use crate::frame::{Frame, Outer};
 use crate::memory::TaskMemory;

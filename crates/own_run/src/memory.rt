@@ -1,6 +1,6 @@
 //! What a task reads and writes.
 
-ghost use Rattle.std.specs.Prelude.{◌≡◌, ◌&&◌, ◌++◌, ◌∷◌, [], ℤ, true, not, map, IfOk, IfSome, OnOk};
+ghost use Rattle.std.specs.Prelude.{◌≡◌, ◌&&◌, ◌++◌, ◌∷◌, [], true, not, map, IfOk, IfSome, OnOk};
 ghost use Rattle.sections.specs.Covers.{has};
 ghost use Rattle.sections.specs.Translation.{section as section_of, window as window_of};
 ghost use Rattle.types.specs.Contents.{read as read_of, IsThere};

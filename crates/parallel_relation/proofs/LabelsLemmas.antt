@@ -1,11 +1,11 @@
 -- The labels of statements, added up.
-use Rattle.std.proofs.Common.{◌≡◌, ◌⊎◌, inl, inr, ℕ, ◌<◌, length, nat_eq, refl, sym, subst, arith}
-use Rattle.std.proofs.lemmas.Bool.{ne_eqb}
-use Rattle.std.specs.Prelude.{◌↔◌, Bool, true, false, if◌then◌else◌}
+use Rattle.std.proofs.Common.{◌≡◌, ◌⊎◌, inl, inr, ℕ, ◌<◌, length, sym, subst}
+use Rattle.std.specs.Prelude.{◌↔◌}
 use Rattle.types.specs.Code.{Code, Codes, End, Then, Program}
 use Rattle.types.specs.Run.{procedure_of}
 use Rattle.effects.specs.Effects.{labels, All}
 use Rattle.effects.specs.Summarized.{body_of}
+use Rattle.effects.proofs.ComesSound.{body_of-other}
 use Rattle.parallel_relation.specs.Around.{Gains, none, both, one}
 use Rattle.parallel_relation.proofs.StatementParts.{Done, all_one, of_label, of_done}
 use Rattle.parallel_relation.proofs.Sums.{gains_joined, gains_union}
@@ -69,19 +69,9 @@ module _ (p : Program) where
       (λ x k. elim k [ inl r ↦ All.later r | inr f ↦ only_first l s rest x f ])
       (λ x k. elim (either l s rest x k) [ inl f ↦ inr f | inr r ↦ inl r ])
 
-  by_false : (b : Bool) (c d : Codes) → b ≡ false → (if b then c else d) ≡ d
-  by_false true c d e = cc
-  by_false false c d e = refl
-
-  -- a procedure that can be called isn't `main`
-  pub callee_body : (f : ℕ) → f < length p.procedures → body_of p f ≡ (procedure_of p f).body
-  callee_body f within =
-      by_false (nat_eq f (length p.procedures)) p.main.body (procedure_of p f).body
-      (ne_eqb f (length p.procedures) (λ e. omega (arith, e)))
-
   pub gains_callee : (f : ℕ) (a s e : ℕ → Type 0) → f < length p.procedures → ((l : ℕ) → e l ↔ (a l ⊎ s l))
       → ((l : ℕ) → s l ↔ All p labels (body_of p f) l) → Gains a (All p labels (procedure_of p f).body) e
-  gains_callee f a s e within h same = subst (λ b. Gains a (All p labels b) e) (callee_body f within) (record {
+  gains_callee f a s e within h same = subst (λ b. Gains a (All p labels b) e) (body_of-other p f within) (record {
     keeps = λ x k. (h x).1 (inl k);
     has = λ x k. (h x).1 (inr ((same x).1 k));
     only = λ x k. elim ((h x).0 k) [ inl o ↦ inl o | inr n ↦ inr ((same x).0 n) ];

@@ -20,7 +20,7 @@ use Rattle.effects.proofs.StableTables.{listed, left}
 use Rattle.parallel_relation.specs.Around.{Gains}
 use Rattle.parallel_relation.specs.Listing.{InList, IsUse, all_listed, pending_listed, alls_of, pendings_of, IsListedAt, AreListsOf}
 use Rattle.parallel_relation.specs.declared.listing.Listed.{Listed}
-use Rattle.parallel_relation.proofs.LabelsLemmas.{callee_body}
+use Rattle.effects.proofs.ComesSound.{body_of-other}
 use Rattle.parallel_relation.proofs.SpreadLemmas.{below_next, no_body}
 
 -- an access more at the end of a list
@@ -104,7 +104,7 @@ module _ (p : Program) where
   ]
     where
       exact : IsSummary p (procedure_of p n).body s
-      exact = subst (λ (b : Codes). IsSummary p b s) (callee_body p n within) summary
+      exact = subst (λ (b : Codes). IsSummary p b s) (body_of-other p n within) summary
 
       got : slice_get those n ≡ Some y
       got = ap (λ (xs : List Listed). slice_get xs n) is

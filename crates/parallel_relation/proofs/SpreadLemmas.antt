@@ -11,7 +11,7 @@ use Rattle.parallel_relation.specs.Around.{Adds, each}
 use Rattle.parallel_relation.specs.Found.{FoundMeets}
 use Rattle.parallel_relation.specs.Rows.{HasAt}
 use Rattle.parallel_relation.specs.declared.found.Found.{Found}
-use Rattle.parallel_relation.proofs.LabelsLemmas.{callee_body}
+use Rattle.effects.proofs.ComesSound.{body_of-other}
 use Rattle.parallel_relation.proofs.Sums.{adds_joined}
 
 pub below_next : (x n : ℕ) → x < n + 1 → (x < n) ⊎ (x ≡ n)
@@ -50,7 +50,7 @@ module _ (p : Program) (calls ends : ℕ → ℕ → Type 0) where
       → Adds f (CalledBelow p calls ends n) g → Adds g (each all (calls n)) h → Adds h (each left (ends n)) k
       → Adds f (CalledBelow p calls ends (n + 1)) k
   adds_callee n all left within all_is left_is below a b =
-      let body = callee_body p n within in
+      let body = body_of-other p n within in
       let those : (x : ℕ) → all x ↔ AllOf n x = subst (λ b. (x : ℕ) → all x ↔ All p labels b x) body all_is in
       let these : (x : ℕ) → left x ↔ LeftOf n x = subst (λ b. (x : ℕ) → left x ↔ Pending p labels b x) body left_is in
       adds_joined (CalledBelow p calls ends (n + 1)) below

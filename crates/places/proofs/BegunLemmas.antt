@@ -11,7 +11,7 @@ use Rattle.syntax.specs.declared.place.Place.{Place}
 use Rattle.syntax.specs.declared.token.Spanned.{Spanned}
 use Rattle.syntax.specs.Lexical.{AreTokensOf}
 use Rattle.syntax.specs.Place.{place_at}
-use Rattle.syntax.specs.Refusals.{ArePlaced, StandsAt}
+use Rattle.syntax.specs.Refusals.{ArePlaced}
 use Rattle.syntax.specs.Token.{Token, plain, token}
 use Rattle.syntax.specs.Lexical.{is_in_line}
 use Rattle.syntax.specs.Spelling.{spelling}

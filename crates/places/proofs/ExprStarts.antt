@@ -1,5 +1,5 @@
 -- No statement begins inside an expression.
-use Rattle.std.proofs.Common.{◌≡◌, true, false, List, [], ◌∷◌, refl, ◌∙◌}
+use Rattle.std.proofs.Common.{◌≡◌, false, List, [], ◌∷◌, refl, ◌∙◌}
 use Rattle.syntax_tree.specs.declared.tree.Relation.{Relation}
 use Rattle.syntax_tree.specs.declared.tree.Relation.TheVariants.{Less}
 use Rattle.syntax_tree.specs.declared.tree.Sign.{Sign}

@@ -1,8 +1,8 @@
 -- The tokens that begin a statement are those at which the program's statements begin.
 use Rattle.std.proofs.Common.{◌≡◌, Bool, true, false, List, [], ◌∷◌, ◌++◌, Option, Some, None, refl, ap, sym, ◌∙◌, append_assoc, append-nil}
 use Rattle.syntax.specs.declared.token.Word.TheVariants.{Else as WordElse}
-use Rattle.syntax.specs.declared.token.Mark.TheVariants.{LeftBrace, RightBrace, RightParen, Semicolon, RightBracket, Becomes}
-use Rattle.syntax.specs.Spelling.{expr_then, more_then, exprs_then, stmt_then, block_then, arrays_then, parameter_then}
+use Rattle.syntax.specs.declared.token.Mark.TheVariants.{LeftBrace, RightParen, Semicolon, RightBracket, Becomes}
+use Rattle.syntax.specs.Spelling.{expr_then, more_then, stmt_then, block_then, arrays_then, parameter_then}
 use Rattle.syntax.specs.Spelling.{more_parameters_then, parameters_then, procedures_then, main_tokens, spelling}
 use Rattle.syntax.specs.Token.{Token, WordToken, MarkToken}
 use Rattle.syntax_tree.specs.Tree.{Stmt, Skip, Var, Assign, Store, Print, Fault, If, IfElse, While}

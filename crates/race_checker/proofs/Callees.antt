@@ -10,7 +10,8 @@ use Rattle.types.specs.Translation.{procedure, program}
 use Rattle.types.specs.declared.code.Program.{Program as rProgram}
 use Rattle.effects.specs.Accesses.{Access}
 use Rattle.effects.specs.AccessSets.{HasAccess}
-use Rattle.effects.specs.Effects.{accesses, All, Pending, past_call}
+use Rattle.types.specs.Sound.{passed_for}
+use Rattle.effects.specs.Effects.{accesses, All, Pending}
 use Rattle.effects.specs.Firsts.{AreFirsts, IsPassed}
 use Rattle.effects.specs.Rows.{Renamed}
 use Rattle.effects.specs.Sound.{IsSound}
@@ -45,7 +46,7 @@ module _ (code : rProgram) (f : ℕ) (ss : List SectionId) (s : Summary)
   abbrev pub Passed : (kept : Accesses) (done : Access → Type 0) → Type 0
   Passed kept done =
       (xs : List Access) → AreFirsts (IsPassed (HasAccess kept) (map section ss)) xs
-      → AreFirsts (Renamed (program code) accesses (past_call (map section ss)) done) xs
+      → AreFirsts (Renamed (program code) accesses (passed_for (map section ss)) done) xs
 
   passed : (kept : Accesses) (done : Access → Type 0) → ((x : Access) → HasAccess kept x ↔ done x)
       → ((x : Access) → done x → x.section < length (map section ss)) → Passed kept done

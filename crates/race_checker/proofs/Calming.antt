@@ -12,7 +12,8 @@ use Rattle.types.specs.Code.{Code, Do, If, While, Split, Call, Async, Finish, Co
 use Rattle.types.specs.Value.{Environment}
 use Rattle.types.specs.Run.{entry, procedure_of}
 use Rattle.effects.specs.Accesses.{Access, own_accesses}
-use Rattle.effects.specs.Effects.{past_call, accesses, AllOf, All, PendingOf}
+use Rattle.types.specs.Sound.{passed_for}
+use Rattle.effects.specs.Effects.{accesses, AllOf, All, PendingOf}
 use Rattle.effects.specs.Sound.{may_write, is_writable, Allowed, PassesWell, Follows, FollowsOf, IsSound}
 use Rattle.effects.specs.Fits.{names_in}
 use Rattle.effects.proofs.AccessesInScope.{allowed, allowed_of, pending_of_all}
@@ -68,8 +69,8 @@ module _ (p : Program) (sound : IsSound p) (g : Procedure) (numbered : IsNumbere
       → FitsTop (may_writes f) (entry [] (map env.windows ss))
   passes {scope = scope} ls f ss k env fits i j may lt ne =
       subst (λ v. Apart v (inner.windows j)) (sym (at_argument i inside_i))
-      (subst (λ v. Apart (env.windows (past_call ss i)) v) (sym (at_argument j inside_j))
-      (disjoint-apart (names_in g scope) env.windows numbered (fits_placed p g firsts ls env fits) (past_call ss i) (past_call ss j)
+      (subst (λ v. Apart (env.windows (passed_for ss i)) v) (sym (at_argument j inside_j))
+      (disjoint-apart (names_in g scope) env.windows numbered (fits_placed p g firsts ls env fits) (passed_for ss i) (passed_for ss j)
       (k.in_scope i inside_i) (k.in_scope j inside_j) (k.alone i j ne inside_j w) (inl (k.writable i w))))
     where
       inner : Environment
@@ -90,7 +91,7 @@ module _ (p : Program) (sound : IsSound p) (g : Procedure) (numbered : IsNumbere
       inside_j : j < length ss
       inside_j = is_argument j lt
 
-      at_argument : (n : ℕ) → n < length ss → inner.windows n ≡ env.windows (past_call ss n)
+      at_argument : (n : ℕ) → n < length ss → inner.windows n ≡ env.windows (passed_for ss n)
       at_argument n lt = by_number-map env.windows nowhere 0 ss n lt
 
   abbrev NoClash : Codes → Type 0

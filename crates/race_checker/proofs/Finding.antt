@@ -21,7 +21,7 @@ use Rattle.effects.specs.declared.access.Access.{Access as rAccess}
 use Rattle.effects.specs.declared.firsts.Firsts.{Firsts}
 use Rattle.effects.proofs.AccessesInScope.{allowed, allowed_of, pending_of_all, pending_all}
 use Rattle.effects.proofs.DoingLemmas.{all_in_callee}
-use Rattle.effects.proofs.FirstLabels.{firsts_same, firsts_of_firsts, firsts_both, firsts_renamed, as_early_itself}
+use Rattle.effects.proofs.FirstLabels.{firsts_of_none, firsts_same, firsts_of_firsts, firsts_both, firsts_renamed, as_early_itself}
 use Rattle.effects.proofs.OwnAllowed.{own_allowed}
 use Rattle.effects.proofs.Statements.{codes_before}
 use Rattle.effects.proofs.LeastRows.{all_rows, pending_rows, all_lists, pending_lists}
@@ -264,16 +264,12 @@ module _ (p : Program) where
           (race_found here.race) (race_found rest.race) h.least_race g.least_race)));
     }
 
-    kept_none : (those : Access → Type 0) (xs : List Access) → xs ≡ [] → ((x : Access) → those x → ⊥) → AreFirsts those xs
-    kept_none those xs e never =
-        subst (AreFirsts those) (sym e) (record { among = λ x m. elim m [ ]; first = λ x h. absurd (never x h) })
-
     -- of no statements
     pub found_in_none : (found : Found) → kept_in found.all ≡ [] → kept_in found.pending ≡ [] → race_found found.race ≡ None
         → IsFoundIn p origins f End found
     found_in_none found a b c = record {
-      all_firsts = kept_none (All p accesses End) (kept_in found.all) a none_all;
-      pending_firsts = kept_none (Pending p accesses End) (kept_in found.pending) b none_pending;
+      all_firsts = firsts_of_none (All p accesses End) (kept_in found.all) a none_all;
+      pending_firsts = firsts_of_none (Pending p accesses End) (kept_in found.pending) b none_pending;
       least_race = least_none origins f (Together p accesses End) (race_found found.race) c none_together;
     }
 
@@ -281,8 +277,8 @@ module _ (p : Program) where
     pub found_inside_nothing : (s : Primitive) (found : Found) → kept_in found.all ≡ [] → kept_in found.pending ≡ []
         → race_found found.race ≡ None → IsFoundInside p origins f (Do s) found
     found_inside_nothing s found a b c = record {
-      all_firsts = kept_none (λ x. ⊥) (kept_in found.all) a (λ x h. h);
-      pending_firsts = kept_none (λ x. ⊥) (kept_in found.pending) b (λ x h. h);
+      all_firsts = firsts_of_none (λ x. ⊥) (kept_in found.all) a (λ x h. h);
+      pending_firsts = firsts_of_none (λ x. ⊥) (kept_in found.pending) b (λ x h. h);
       least_race = least_none origins f (λ x y. ⊥) (race_found found.race) c (λ x y h. h);
     }
 
@@ -327,7 +323,7 @@ module _ (p : Program) where
         → kept_in outside.pending ≡ [] → outside.race ≡ inside.race → IsFoundInside p origins f (Finish b) outside
     found_inside_finish b inside outside h all pending race = record {
       all_firsts = subst (AreFirsts (All p accesses b)) (ap kept_in (sym all)) h.all_firsts;
-      pending_firsts = kept_none (λ x. ⊥) (kept_in outside.pending) pending (λ x h. h);
+      pending_firsts = firsts_of_none (λ x. ⊥) (kept_in outside.pending) pending (λ x h. h);
       least_race = subst (LeastOf (Clashes origins f (Together p accesses b))) (ap race_found (sym race)) h.least_race;
     }
 

@@ -14,6 +14,7 @@ use Rattle.effects.specs.Effects.{accesses, All, Pending}
 use Rattle.effects.specs.Firsts.{AreFirsts}
 use Rattle.effects.specs.Rows.{Renamed}
 use Rattle.effects.specs.Sound.{IsSoundIn, IsSound, parameters_of}
+use Rattle.effects.proofs.FirstLabels.{firsts_of_none}
 use Rattle.effects.proofs.Members.{numbers_from-below}
 use Rattle.parallel_relation.specs.Together.{Together}
 use Rattle.race_checker.specs.Clash.{HasNoClash, IsAccepted}
@@ -175,9 +176,6 @@ no_items p g x e h = elim (subst (λ (k : Procedure). All p accesses k.body x) e
 
 none_pending : (p : Program) (g : Procedure) (x : Access) → g ≡ no_procedure → Pending p accesses g.body x → ⊥
 none_pending p g x e h = elim (subst (λ (k : Procedure). Pending p accesses k.body x) e h) [ ]
-
-firsts_of_none : (those : Access → Type 0) (xs : List Access) → xs ≡ [] → ((x : Access) → those x → ⊥) → AreFirsts those xs
-firsts_of_none those xs e none = subst (AreFirsts those) (sym e) (record { among = λ x m. elim m [ ]; first = λ x h. absurd (none x h) })
 
 pub nothing_behind_all : (p : Program) (f : ℕ) (out : ℕ → ℕ) → length p.procedures ≤ f → (xs : List Access) → xs ≡ []
     → AreFirsts (Renamed p accesses out (All p accesses (procedure_of p f).body)) xs

@@ -7,7 +7,8 @@ use Rattle.sections.specs.Member.{Member}
 use Rattle.sections.proofs.Members.{any_member, member_any}
 use Rattle.types.specs.Code.{Code, Async, Finish, Codes, Program}
 use Rattle.types.specs.Run.{procedure_of}
-use Rattle.effects.specs.Effects.{past_split, past_call, Inner, Subject, AllOf, All, PendingOf, Pending}
+use Rattle.types.specs.Sound.{passed_for}
+use Rattle.effects.specs.Effects.{past_split, Inner, Subject, AllOf, All, PendingOf, Pending}
 use Rattle.effects.specs.Tables.{Table, all_inside, all_in, left_by, left_in, alls_after, IsDerivedPending}
 use Rattle.race_checker.proofs.LeastNumbers.{Passing, some_passes}
 use Rattle.effects.proofs.Members.{in_left, in_right, in_map}
@@ -38,7 +39,7 @@ module _ (p : Program) (subject : Subject) where
       (k, same_names (all_in subject (alls k) b ++ all_in subject (alls k) c) x (in_right (all_in subject (alls k) b) h))
   inner_reached (Inner.while {b = b}) x k h = (k, same_names (all_in subject (alls k) b) x h)
   inner_reached (Inner.split {s = s} {l = l} {r = r}) x k h = (k, in_map (subject.renamed (past_split s l r)) h)
-  inner_reached (Inner.call {f = f} {ss = ss}) x k h = (suc k, in_map (subject.renamed (past_call ss)) h)
+  inner_reached (Inner.call {f = f} {ss = ss}) x k h = (suc k, in_map (subject.renamed (passed_for ss)) h)
 
   mutual
     of_reached : {l : ℕ} {s : Code} {x : subject.Item} → AllOf p subject l s x
@@ -75,7 +76,7 @@ module _ (p : Program) (subject : Subject) where
       (k, same_names (one ++ left_in subject (alls k) (pendings k) c) x (in_right one h))
   inner_left (Inner.while {b = b}) x k h = (k, same_names (left_in subject (alls k) (pendings k) b) x h)
   inner_left (Inner.split {s = s} {l = l} {r = r}) x k h = (k, in_map (subject.renamed (past_split s l r)) h)
-  inner_left (Inner.call {f = f} {ss = ss}) x k h = (suc k, in_map (subject.renamed (past_call ss)) h)
+  inner_left (Inner.call {f = f} {ss = ss}) x k h = (suc k, in_map (subject.renamed (passed_for ss)) h)
 
   mutual
     by_reached : {s : Code} {x : subject.Item} → PendingOf p subject s x → (k : ℕ) × Member x (left_by subject (alls k) (pendings k) s)

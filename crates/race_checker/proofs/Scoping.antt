@@ -10,7 +10,7 @@ use Rattle.types.specs.Code.{Code, Do, If, While, Split, Call, Async, Finish, Co
 use Rattle.types.specs.Code.{Procedure, Program}
 use Rattle.types.specs.Value.{Environment}
 use Rattle.types.specs.Run.{procedure_of}
-use Rattle.effects.specs.Effects.{past_call}
+use Rattle.types.specs.Sound.{passed_for}
 use Rattle.effects.specs.Sound.{no_parameter, as_parameter, parameters_of, FollowsOf, Follows}
 use Rattle.effects.specs.Sound.{HasArrays, IsSound}
 use Rattle.effects.specs.Fits.{names_in}
@@ -57,7 +57,8 @@ module _ (p : Program) (g : Procedure) where
   bit_inside (m ∷ ms) (suc k) h = let lt = bit_inside ms k h in omega (arith, lt)
 
   module _ (firsts : (k : ℕ) → k < length g.parameters → slice_get g.sections k ≡ Some Root) where
-    is_root : (k : ℕ) → Member k (parameters_of g) → origin_of g.sections k ≡ Root
+    -- a parameter is a root
+    pub is_root : (k : ℕ) → Member k (parameters_of g) → origin_of g.sections k ≡ Root
     is_root k m = origin_from_get g.sections k (firsts k (numbers_from-below (length g.parameters) k m))
 
     -- windows that fit a scope stand as the origins say
@@ -85,7 +86,7 @@ module _ (p : Program) (g : Procedure) where
         scoped (inside k.0 ls) b k.2,
       )
       scoped_of ls (Call f es ss) k =
-          λ j lt. in_scope ls (past_call ss j)
+          λ j lt. in_scope ls (passed_for ss j)
           (k.passes.in_scope j (let n : length ss ≡ length (procedure_of p f).parameters = k.passes.number in omega (arith, lt, n)))
       scoped_of ls (Async b) k = scoped ls b k
       scoped_of ls (Finish b) k = scoped ls b k

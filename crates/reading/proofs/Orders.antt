@@ -12,7 +12,7 @@ use Rattle.reading.specs.Orders.{Order, AsText, AsObject, Times, Tests, Orders, 
 use Rattle.reading.specs.Orders.{subject_of}
 use Rattle.reading.specs.Reading.{taken}
 use Rattle.reading.specs.declared.order.Subject.{Subject}
-use Rattle.reading.proofs.Reading.{Lacks, asks_no_form, bench_asks_nothing, test_asks_nothing}
+use Rattle.reading.proofs.Reading.{Lacks, bench_asks_nothing, some_is_none, test_asks_nothing, asks_no_form}
 
 -- ---- lists and options
 
@@ -33,9 +33,6 @@ no_subject_is x is = cc
 
 pub subject_is : (x y : Subject) → Some x ≡ Some y → x ≡ y
 subject_is x y is = cc
-
-no_text_is : (text : List ℕ) → Some text ≡ (let o : Option (List ℕ) = None in o) → ⊥
-no_text_is text is = cc
 
 -- a word that was found to be another
 pub is_word : (b : Bool) (word other : List ℕ) → b ≡ bytes_eq word other → b ≡ true → word ≡ other
@@ -61,7 +58,7 @@ pub form_said : (command : List ℕ) (behind : List (List ℕ)) (a : Asked) (t :
     → option_map (λ v. v.now) t ≡ (taken (codes "--format") behind).0 → t ≡ Some form → Asks (command ∷ behind) a → ⊥
 form_said command behind a t form said is asks =
     let lacks : Lacks (codes "--format") behind = asks_no_form (command ∷ behind) a asks in
-    no_text_is form.now
+    some_is_none form.now
     (sym (ap (option_map (λ (v : Bor (List ℕ)). v.now)) is) ∙ said
     ∙ ap (λ (p : Option (List ℕ) × List (List ℕ)). p.0) lacks)
 

@@ -1,13 +1,14 @@
 -- Words that ask plainly are read as what they ask.
+use Rattle.std.proofs.Math.Bool.{and-false}
 use Rattle.std.proofs.Common.{◌≡◌, ℕ, List, [], ◌∷◌, Option, Some, None, refl, sym, ap, ◌∙◌, subst, codes}
-use Rattle.std.specs.Prelude.{Bool, true, false, ◌&&◌, if◌then◌else◌, IsTrue, IfSome, IsSomeAnd, option_map}
+use Rattle.std.specs.Prelude.{Bool, true, false, if◌then◌else◌, IsTrue, IfSome, IsSomeAnd, option_map, ◌&&◌}
 use Rattle.std.specs.Prelude.{◌<◌, ◌^◌, Result, Ok, Err, unwrap_or}
 use Rattle.std.specs.Fmt.{decimal}
 use Rattle.std.specs.Result.{result_ok}
 use Rattle.std.specs.Str.{bytes_eq}
 use Rattle.std.specs.Str.Parse.{ParsesUnsigned}
 use Rattle.std.proofs.lemmas.Fmt.{parse-decimal}
-use Rattle.std.proofs.Math.Bool.{and-false}
+use Rattle.std.proofs.lemmas.Option.{none-some}
 use Rattle.reading.specs.declared.plain.Line.{Line as rLine}
 use Rattle.command_line.specs.declared.request.Action.{Action}
 use Rattle.command_line.specs.declared.request.Action.TheVariants.{Answer, Rewrite}
@@ -586,13 +587,10 @@ unread_by : (command : List ℕ) → IsNoCommand command → (r : Option (Manner
 unread_by command none None = refl
 unread_by command none (Some (m, words)) = ap (option_map (λ (l : Line). (l, m))) (none words)
 
-none_is_some : (l : Line × Manner) → (let o : Option (Line × Manner) = None in o) ≡ Some l → ⊥
-none_is_some l is = cc
-
 asks_none : (command : List ℕ) (behind : List (List ℕ)) (a : Asked) → IsNoCommand command → Asks (command ∷ behind) a → ⊥
 asks_none command behind a none asks =
     let l = asks_told (command ∷ behind) a asks in
-    none_is_some _ (sym (unread_by command none (read_manner behind)) ∙ l.is_read)
+    none-some _ (sym (unread_by command none (read_manner behind)) ∙ l.is_read)
 
 no_test : IsNoCommand (codes "test")
 no_test [] = refl
@@ -646,7 +644,7 @@ pub is_some_and : {a b : Asked} (r : Option Request) → a ≡ b → IsSomeAnd r
     → IsSomeAnd r (λ q. asked_of q ≡ b)
 is_some_and r same asks = subst (λ (c : Asked). IsSomeAnd r (λ q. asked_of q ≡ c)) same asks
 
-some_is_none : (text : List ℕ) → Some text ≡ (let o : Option (List ℕ) = None in o) → ⊥
+pub some_is_none : (text : List ℕ) → Some text ≡ (let o : Option (List ℕ) = None in o) → ⊥
 some_is_none text is = cc
 
 some_injective : (a b : List ℕ) → Some a ≡ Some b → a ≡ b

@@ -1,7 +1,5 @@
 //! What makes a statement fault.
 
-ghost use Rattle.std.specs.Prelude.{◌≡◌};
-
 use sections::id::ArrayId;
 use sections::window::Window;
 use types::code::Operator;

@@ -1,7 +1,7 @@
 -- Worked examples, computed by the definitions.
 use Rattle.std.proofs.Common.{◌≡◌, ℕ, List, [], ◌∷◌, refl}
-use Rattle.std.specs.Prelude.{Bool, true, false}
-use Rattle.sections.specs.Covers.{has, is_cover}
+use Rattle.std.specs.Prelude.{true, false}
+use Rattle.sections.specs.Covers.{is_cover}
 use Rattle.sections.specs.Origins.{Origin, Root, Left, Right}
 use Rattle.sections.specs.Overlap.{overlap}
 use Rattle.sections.specs.Place.{Window}

@@ -3,9 +3,8 @@ use Rattle.std.proofs.Common.{◌≡◌, ◌≢◌, ◌⊎◌, inl, inr, ℕ, �
 use Rattle.std.proofs.lemmas.Bool.{eqb-true, eqb-false, eq-eqb, ne_eqb, and_parts, and_from, or_cases, or_left, or_right}
 use Rattle.std.proofs.lemmas.Bool.{not-true, not-false, not_from_false, false_from_ne_true, false≢true, cases_order}
 use Rattle.std.proofs.Math.Bool.{or_comm}
-use Rattle.std.specs.Prelude.{Bool, true, false, ◌||◌, not, nat_eq}
+use Rattle.std.specs.Prelude.{Bool, true, false, not, nat_eq}
 use Rattle.std.specs.List.{list_any}
-use Rattle.facts.proofs.Truths.{same_truth}
 use Rattle.sections.specs.Member.{Member}
 use Rattle.sections.specs.Origins.{Origin, Root, Left, Right, origin_of, IsNumbered, IsSideOf, left, right}
 use Rattle.sections.specs.Overlap.{one_parent, line, root_of, are_sides, are_opposite, under_opposite, are_disjoint, overlap}
@@ -126,10 +125,6 @@ module _ (origins : List Origin) where
   ]
 
   -- a section has one parent
-  left_parent : (a s t : ℕ) → origin_of origins a ≡ Left s → IsSideOf origins t a → s ≡ t
-  left_parent a s t e (left f) = cc
-  left_parent a s t e (right f) = absurd cc
-
   right_parent : (a s t : ℕ) → origin_of origins a ≡ Right s → IsSideOf origins t a → s ≡ t
   right_parent a s t e (left f) = absurd cc
   right_parent a s t e (right f) = cc

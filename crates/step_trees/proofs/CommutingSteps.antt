@@ -1,14 +1,13 @@
 -- Steps of two leaves commute, so all runs that end come to one end.
 use Rattle.std.proofs.Common.{◌≡◌, ◌⊎◌, inl, inr, ℕ, suc, ◌+◌, ◌<◌, List, [], ◌∷◌, Some, None, refl, sym, ap, ◌∙◌, subst, arith}
-use Rattle.std.proofs.lemmas.Bool.{and_parts}
 use Rattle.facts.proofs.Truths.{true_false}
 use Rattle.std.specs.Prelude.{ℤ, Bool, true, false, if◌then◌else◌}
 use Rattle.sections.proofs.Windows.{places_same}
 use Rattle.sections.specs.Place.{Place, same_place}
-use Rattle.types.specs.Code.{Codes, End, Then, Program}
+use Rattle.types.specs.Code.{Program}
 use Rattle.types.specs.Contents.{Contents, write}
 use Rattle.types.specs.Value.{Environment}
-use Rattle.types.specs.Trees.{Caller, Leaf, Tree, Single, AndThen, Beside, is_done, all_done, ready, and_then, closed}
+use Rattle.types.specs.Trees.{Caller, Leaf, Tree, Single, AndThen, Beside, all_done, ready, and_then, closed}
 use Rattle.types.specs.TreeRuns.{Runs, here, next}
 use Rattle.effects.specs.Accesses.{Access}
 use Rattle.effects.specs.Footprint.{Touches, Overwrites}
@@ -19,6 +18,7 @@ use Rattle.step_trees.specs.Still.{waiting, left_of, still}
 use Rattle.step_trees.proofs.Steps.{Step, tree_or, store_or, step_from, step_to, step_below}
 use Rattle.step_trees.proofs.LocalSteps.{Update, updated, Hits, local}
 use Rattle.step_trees.proofs.GoodTrees.{Good, step_kept}
+use Rattle.step_trees.proofs.Places.{done_ready}
 
 -- Updates of different places
 
@@ -74,19 +74,6 @@ writes_touch p (Beside t u) q (inl h) = inl (writes_touch p t q h)
 writes_touch p (Beside t u) q (inr h) = inr (writes_touch p u q h)
 
 module _ (p : Program) where
-  done_ready : (t : Tree) → all_done t ≡ true → ready t ≡ 0
-  done_ready (Single k) e = by k.rest e
-    where
-      by : (c : Codes) → is_done c ≡ true → ◌≡◌ {A = ℕ} (if is_done c then 0 else 1) 0
-      by End e = refl
-      by (Then l s rest) e = cc
-  done_ready (AndThen t k) e = cc
-  done_ready (Beside t u) e =
-      let h = and_parts (all_done t) (all_done u) e in
-      let x = done_ready t h.0 in
-      let y = done_ready u h.1 in
-      omega arith
-
   pub not_done : {n : ℕ} {k : Leaf} {t u : Tree} {a b : Contents} → Step p n k t a u b → all_done t ≡ false
   not_done {t = t} s = by (all_done t) refl
     where

@@ -1,18 +1,16 @@
 -- Windows that stand as the origins of a scope's names say fit the scope.
-use Rattle.std.proofs.Common.{◌≡◌, ℕ, ◌+◌, ◌<◌, List, ◌∷◌, length, Option, Some, refl, sym, ap, ◌∙◌, subst, arith}
+use Rattle.std.proofs.Common.{◌≡◌, ℕ, ◌+◌, ◌<◌, List, ◌∷◌, Option, Some, refl, sym, ap, ◌∙◌, subst, arith}
 use Rattle.sections.specs.Member.{Member, first, next}
-use Rattle.sections.specs.Origins.{Root, Right, origin_of}
+use Rattle.sections.specs.Origins.{Right, origin_of}
 use Rattle.sections.specs.Place.{Window}
 use Rattle.sections.specs.Placed.{Placed}
 use Rattle.types.specs.Code.{Procedure, Program}
 use Rattle.types.specs.Value.{Environment}
-use Rattle.effects.specs.Sound.{SplitsWell, IsSoundIn, parameters_of}
+use Rattle.effects.specs.Sound.{SplitsWell, IsSoundIn}
 use Rattle.effects.specs.Fits.{names_in}
-use Rattle.effects.proofs.Members.{numbers_from-below}
-use Rattle.effects.proofs.AccessesInScope.{origin_from_get}
 use Rattle.effects.proofs.EnvironmentsFit.{left_right}
 use Rattle.race_checker.specs.Scope.{Scope, FitsScope, Lists, may_writes}
-use Rattle.race_checker.proofs.Scoping.{named, in_scope, bits, bit_inside}
+use Rattle.race_checker.proofs.Scoping.{named, in_scope, bits, bit_inside, is_root}
 
 either_side : {A : Type 0} {x l r : ℕ} {scope : List ℕ} → Member x (l ∷ r ∷ scope) → (x ≡ l → A) → (x ≡ r → A)
     → (Member x scope → A) → A
@@ -58,16 +56,13 @@ module _ (p : Program) (g : Procedure) (is_sound : IsSoundIn p g) where
         };
   }
 
-  is_root : (k : ℕ) → Member k (parameters_of g) → origin_of g.sections k ≡ Root
-  is_root k m = origin_from_get g.sections k (is_sound.first k (numbers_from-below (length g.parameters) k m))
-
   -- windows that stand so fit
   pub fits_scope : {sc : Scope} {scope : List ℕ} → Lists g sc scope → (env : Environment)
       → Placed (names_in g scope) env.windows → FitsScope sc env
   fits_scope Lists.top env placed = λ j k may lt ne.
       let a = named p g Lists.top j (bit_inside p g (may_writes g) j may) in
       let b = named p g Lists.top k lt in
-      placed.apart j k ne a b (is_root j a) (is_root k b) (sym (bits p g g.parameters j) ∙ may)
+      placed.apart j k ne a b (is_root p g is_sound.first j a) (is_root p g is_sound.first k b) (sym (bits p g g.parameters j) ∙ may)
   fits_scope (Lists.inside {s = s} {l = l} {r = r} k deeper) env placed =
       let h = placed.left s l first k.left in (
         fits_scope deeper env (placed_around k env.windows placed),

@@ -10,7 +10,7 @@ ghost use Rattle.types.specs.Trees.{before_rest, done as done_leaf, failed as fa
 ghost use Rattle.types.specs.Trees.{held_back, inside as inside_leaf, is_done};
 ghost use Rattle.types.specs.Trees.{returned as returned_leaf, single, Single};
 ghost use Rattle.step_trees.specs.Translation.{leaf_of};
-ghost use Rattle.step_trees.specs.Turns.{becomes, leaf_in, store_in, Comes, After, IsReady, Steps};
+ghost use Rattle.step_trees.specs.Turns.{leaf_in, store_in, Comes, After, IsReady, Steps};
 ghost use Rattle.step_trees.specs.Turns.{MayTurn};
 
 use crate::leaf::{Caller, Leaf, done, returned};

@@ -1,5 +1,5 @@
 -- The text of lines.
-use Rattle.std.proofs.Common.{◌≡◌, ℕ, zero, suc, replicate, ◌+◌, ◌-◌, Bool, true, false, if◌then◌else◌, List, [], ◌∷◌}
+use Rattle.std.proofs.Common.{◌≡◌, ℕ, replicate, ◌+◌, ◌-◌, Bool, true, false, if◌then◌else◌, List, [], ◌∷◌}
 use Rattle.std.proofs.Common.{◌++◌, map, codes, Option, Some, None, String, Global, length, unwrap_or, length-append}
 use Rattle.std.proofs.Common.{arith, refl, ap, sym, ◌∙◌, append_assoc, append-nil}
 use Rattle.std.specs.Fmt.{char_count, decimal, format_spec, styled_decimal, padded_integral}

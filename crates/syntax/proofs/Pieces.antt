@@ -113,9 +113,6 @@ module _ {A : Type 0} (blank comment word number other : A) where
   by_first-blank : (b c n d : Bool) → b ≡ true → by_first b c n d ≡ blank
   by_first-blank b c n d e = ap (λ b. by_first b c n d) e
 
-  by_first-comment : (b c n d : Bool) → b ≡ false → c ≡ true → by_first b c n d ≡ comment
-  by_first-comment b c n d e f = ap (λ b. by_first b c n d) e ∙ ap (λ c. by_first false c n d) f
-
   by_first-word : (b c n d : Bool) → b ≡ false → c ≡ false → n ≡ true → by_first b c n d ≡ word
   by_first-word b c n d e f g = ap (λ b. by_first b c n d) e ∙ ap (λ c. by_first false c n d) f ∙ ap (λ n. by_first false false n d) g
 

@@ -1,8 +1,8 @@
 //! Expressions as canonical text.
 
-ghost use Rattle.std.specs.Prelude.{◌≡◌, ◌++◌, [], ◌∷◌, codes, OnOk};
+ghost use Rattle.std.specs.Prelude.{◌≡◌, ◌++◌, [], ◌∷◌, OnOk};
 ghost use Rattle.std.specs.String.{string_bytes};
-ghost use Rattle.syntax.specs.Canonical.{in_line, token_text};
+ghost use Rattle.syntax.specs.Canonical.{in_line};
 ghost use Rattle.syntax.specs.Spelling.{expr_then, conj_then, neg_then, cmp_then};
 ghost use Rattle.syntax.specs.Spelling.{sum_then, prod_then};
 ghost use Rattle.syntax.specs.Spelling.{unary_then, atom_then, exprs_then, more_then};

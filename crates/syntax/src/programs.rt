@@ -6,7 +6,7 @@ ghost use Rattle.syntax_tree.specs.declared.tree.ElementType.{ElementType as Any
 ghost use Rattle.syntax.specs.Reading.{IsRead, IsReadClosed, ReadsClosed, Refuses};
 ghost use Rattle.syntax.specs.Reading.{RefusesClosed, list_level};
 ghost use Rattle.syntax.specs.Spelling.{array_then, arrays_then, block_then, element_word};
-ghost use Rattle.syntax.specs.Spelling.{main_tokens, parameter_then};
+ghost use Rattle.syntax.specs.Spelling.{parameter_then};
 ghost use Rattle.syntax.specs.Spelling.{parameters_then, procedure_then, spelling};
 ghost use Rattle.syntax.specs.Token.{Token as PlainToken, NameToken, WordToken, MarkToken, plain};
 ghost use Rattle.syntax_tree.specs.Tree.{Main as MainTree, Program as ProgramTree};

@@ -1,6 +1,6 @@
 //! How a trace is read.
 
-ghost use Rattle.std.specs.Prelude.{◌≡◌, ◌<◌, ◌+◌, ◌∷◌, ◌++◌, ◌↔◌, ◌^◌, ℕ, List, All, IfErr};
+ghost use Rattle.std.specs.Prelude.{◌≡◌, ◌<◌, ◌+◌, ◌∷◌, ◌++◌, ◌↔◌, ◌^◌, ℕ, List, IfErr};
 ghost use Rattle.std.specs.Prelude.{IfNone, IfOk, IfSome, IsSomeAnd, IsTrue, Some, codes, length, map, option_map};
 ghost use Rattle.std.specs.Fmt.{decimal};
 ghost use Rattle.types.specs.Names.{path_text};

@@ -1,6 +1,6 @@
 //! Folders, and the names of what stands in them.
 
-ghost use Rattle.std.specs.Prelude.{◌≡◌, ◌≤◌, length, map, IfErr, IfOk, MatchResult, None, Ok, Err};
+ghost use Rattle.std.specs.Prelude.{◌≡◌, map, IfErr, IfOk, MatchResult, None, Ok, Err};
 ghost use Rattle.std.specs.String.{string_bytes};
 ghost use Rattle.trials.specs.Folders.{AreGiven, Folders, TellsNoFolder};
 

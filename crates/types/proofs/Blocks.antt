@@ -1,5 +1,5 @@
 -- The code of a statement is that of its blocks.
-use Rattle.std.proofs.Common.{◌≡◌, ℕ, List, [], ◌∷◌, ◌++◌, Vec, Global, refl, ap, ◌∙◌}
+use Rattle.std.proofs.Common.{◌≡◌, List, [], ◌∷◌, ◌++◌, Vec, Global, refl, ap, ◌∙◌}
 use mathlib.Core.Former.{Count}
 use Rattle.types.specs.Code.{If, While, Split, Async, Finish, Codes, End, Then}
 use Rattle.types.specs.Translation.{number, truth, code, row_codes, codes}

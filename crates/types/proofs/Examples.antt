@@ -1,6 +1,6 @@
 -- What worked programs come to, computed.
 use Rattle.std.proofs.Common.{◌≡◌, ℕ, zero, suc, ◌+◌, ◌*◌, List, [], ◌∷◌, refl}
-use Rattle.std.specs.Prelude.{ℤ, pos, negsuc, replicate, true, false}
+use Rattle.std.specs.Prelude.{ℤ, pos, negsuc, replicate}
 use Rattle.types.specs.declared.code.Operator.TheVariants.{Over, Modulo}
 use Rattle.types.specs.declared.fault.FaultKind.TheVariants.{Index, Overflow, ZeroDivisor, OutOfElement, SplitPoint, Raised}
 use Rattle.types.specs.Code.{Chain, Link, Done, Negative}

@@ -1,8 +1,8 @@
 -- Expressions as chains of their operands: what is found so far, and what is left.
 use Rattle.std.proofs.Common.{◌≡◌, ◌≢◌, ◌⊎◌, inl, inr, ℕ, Bool, List, [], ◌∷◌, ◌++◌, length, map, refl, sym, ap, ◌∙◌, arith, true, false, Some, None, String, Box, Global}
 use Rattle.std.specs.String.{string_bytes}
-use Rattle.syntax_tree.specs.Tree.{Or, And, Add, Multiply, Alone, Compare, Positive, Negative as Minus_of, Cmp, Conj, Conjs, NoConj, OrConj}
-use Rattle.syntax_tree.specs.Tree.{Neg, Negs, NoNeg, AndNeg, Prod, Terms, NoTerm, AddTerm, Unary, Factors, NoFactor, MultiplyFactor}
+use Rattle.syntax_tree.specs.Tree.{Or, And, Add, Multiply, Cmp, Conj, NoConj}
+use Rattle.syntax_tree.specs.Tree.{Neg, NoNeg, Prod, Terms, NoTerm, AddTerm, Unary, NoFactor}
 use Rattle.syntax_tree.specs.Tree.{expr, conj, neg, cmp, sum, prod, unary, atom, conjs, negs, terms, factors, term, negated}
 use Rattle.syntax_tree.specs.Tree.{Number as Number_of, True, False, Name, Element, Length, Parens}
 use Rattle.syntax_tree.specs.declared.tree.Atom.TheVariants.{Number as rNumber, True as rTrue, False as rFalse, Name as rName}
@@ -19,7 +19,7 @@ use Rattle.syntax_tree.specs.declared.tree.Neg.{Neg as rNeg, out-Neg}
 use Rattle.syntax_tree.specs.declared.tree.Term.{Term as rTerm, out-Term, roll-out-Term}
 use Rattle.syntax_tree.specs.declared.tree.Factor.{Factor as rFactor}
 use Rattle.syntax_tree.proofs.RowLemmas.{term_built}
-use Rattle.types.specs.Code.{Number, Chain, Links, Done, Link, Truth, Both, Either, Truths, NoMore, Also}
+use Rattle.types.specs.Code.{Number, Chain, Links, Done, Link, Both, Either, Truths, NoMore, Also}
 use Rattle.types.specs.declared.code.Link.{Link as rLink}
 use Rattle.types.specs.declared.code.Number.{Number as CodeNumber}
 use Rattle.types.specs.declared.code.Truth.{Truth as rTruth}
@@ -64,11 +64,6 @@ module _ (names : Names) where
   pub sum_alone : (p : Prod) (ts : List rTerm) → length ts ≡ 0 → resolution.number_sum names (Add p (terms ts)) ≡ resolution.number_prod names p
   sum_alone p [] none = refl
   sum_alone p (t ∷ ts) none = absurd (omega (arith, none))
-
-  sum_chain_by : (p : Prod) (ts : Terms) → ts ≢ NoTerm
-      → resolution.number_sum names (Add p ts) ≡ Chain (resolution.number_prod names p) (resolution.terms names ts)
-  sum_chain_by p NoTerm some = absurd (some refl)
-  sum_chain_by p (AddTerm o q ts) some = refl
 
   pub sum_chain : (p : Prod) (ts : List rTerm) → length ts ≢ 0
       → resolution.number_sum names (Add p (terms ts)) ≡ Chain (resolution.number_prod names p) (resolution.terms names (terms ts))

@@ -1,8 +1,9 @@
 -- Inputs that fit, and what JSON values say of arrays.
 use Rattle.std.proofs.Common.{◌≡◌, ℕ, zero, suc, ◌+◌, ◌<◌, ◌≤◌, List, [], ◌∷◌, ◌++◌, length, map, Option, Some, None, Result, Ok, Err, IfOk, IfErr, IfSome, Vec, get_or, drop, is_some}
-use Rattle.std.proofs.Common.{Bool, true, false, refl, sym, ap, ◌∙◌, arith, subst, append_assoc, Less, Equal, Greater}
+use Rattle.std.proofs.Common.{Bool, true, false, refl, sym, ap, ◌∙◌, arith, subst, Less, Equal, Greater}
 use Rattle.std.proofs.Common.{String, Global, string_bytes, string_cmp, nat_cmp, option_map, replicate, BTreeMap}
 use Rattle.std.proofs.lemmas.Bool.{eqb-true, eq-eqb, ne_eqb}
+use Rattle.std.proofs.lemmas.Option.{none-some}
 use Rattle.std.specs.Prelude.{ℤ, pos, nat_eq, not, unwrap_or, option_and_then, if◌then◌else◌, ◌&&◌, ok_or}
 use Rattle.std.proofs.lemmas.List.{length-map, length-replicate, drop_all}
 use Rattle.std.specs.Cmp.Lexicographic.{slice_cmp}
@@ -13,7 +14,6 @@ use Rattle.std.specs.Ordering.{match_ordering}
 use Rattle.std.specs.BTreeMap.{IsOrdered, keys}
 use Rattle.serde_json.specs.Data.{Data, null, boolean, number, string, array, object, Items, no_items, item, Members}
 use Rattle.serde_json.specs.Find.{as_object, as_array, as_i64, as_number, get, get_member}
-use Rattle.serde_json.specs.Read.{read}
 use Rattle.serde_json.specs.View.{items_view, members_view}
 use Rattle.serde_json.specs.declared.value.Value.{Value}
 use Rattle.syntax_tree.specs.declared.tree.ElementType.{ElementType}
@@ -23,7 +23,7 @@ use Rattle.types.specs.Contents.{FitsArrays, no_more, also}
 use Rattle.types.specs.InputErrors.{mistake_in, told}
 use Rattle.types.specs.InputNames.{is_array}
 use Rattle.types.specs.Inputs as inputs
-use Rattle.types.specs.Inputs.{Mistake, NoObject, OtherLength, BadElement, IsRow, IsInput, wrong_row, wrong_rows, first_of}
+use Rattle.types.specs.Inputs.{Mistake, OtherLength, BadElement, IsRow, IsInput, wrong_row, wrong_rows, first_of}
 use Rattle.types.specs.Inputs.{numbers_in, items_count, list_says, value_says, member_says, both, members_say}
 use Rattle.types.specs.Inputs.{is_named, strangers, lesser, least, after_stranger, data_says, Stranger}
 use Rattle.types.specs.Translation.{array as array_of}
@@ -31,9 +31,6 @@ use Rattle.types.specs.Value.{holds_number}
 use Rattle.types.specs.declared.code.Array.{Array as rArray}
 use Rattle.types.specs.declared.input.ListFault.{ListFault}
 use Rattle.types.specs.declared.input_error.InputError.{InputError}
-
-none_is_some : {A : Type 0} {x : A} → None ≡ Some x → ⊥
-none_is_some e = cc
 
 -- ---- inputs that fit
 
@@ -43,17 +40,17 @@ row_from x row = by_length (nat_eq (length row) x.length) refl
     by_held : (b : Bool) → list_all (holds_number x.element) row ≡ b → length row ≡ x.length
         → (if b then None else Some (BadElement x.name)) ≡ None → IsRow x row
     by_held true h long e = record { long = long; held = h }
-    by_held false h long e = absurd (none_is_some (sym e))
+    by_held false h long e = absurd (none-some _ (sym e))
 
     by_length : (b : Bool) → nat_eq (length row) x.length ≡ b
         → (if b then (if list_all (holds_number x.element) row then None else Some (BadElement x.name))
         else Some (OtherLength x.name)) ≡ None → IsRow x row
     by_length true long e = by_held (list_all (holds_number x.element) row) refl (eqb-true _ _ long) e
-    by_length false long e = absurd (none_is_some (sym e))
+    by_length false long e = absurd (none-some _ (sym e))
 
 first_none : (a b : Option Mistake) → first_of a b ≡ None → (a ≡ None) × (b ≡ None)
 first_none None b e = (refl, e)
-first_none (Some m) b e = absurd (none_is_some (sym e))
+first_none (Some m) b e = absurd (none-some _ (sym e))
 
 -- lists with which nothing is wrong fit
 pub IsInput-from_wrong_rows : (xs : List Array) (rows : List (List ℤ)) → length rows ≡ length xs
@@ -285,7 +282,7 @@ AreHeld t ds vs = (list_all (holds_number t) vs ≡ true) × (length vs ≡ item
 one_more : (t : ElementType) (d : Data) (ds : Items) (v : ℤ) (o : Option (List ℤ)) (vs : List ℤ)
     → ((ws : List ℤ) → o ≡ Some ws → AreHeld t ds ws) → holds_number t v ≡ true
     → option_map (λ ws. v ∷ ws) o ≡ Some vs → AreHeld t (item d ds) vs
-one_more t d ds v None vs rest held e = absurd (none_is_some e)
+one_more t d ds v None vs rest held e = absurd (none-some _ e)
 one_more t d ds v (Some ws) vs rest held e =
     let h = rest ws refl in
     let same : v ∷ ws ≡ vs = cc in
@@ -297,14 +294,14 @@ one_held : (t : ElementType) (d : Data) (ds : Items) (v : ℤ) (b : Bool) (vs : 
     → option_and_then (λ v. option_map (λ vs. v ∷ vs) (numbers_in t ds)) (if b then Some v else None) ≡ Some vs
     → AreHeld t (item d ds) vs
 one_held t d ds v true vs held rest e = one_more t d ds v (numbers_in t ds) vs rest held e
-one_held t d ds v false vs held rest e = absurd (none_is_some e)
+one_held t d ds v false vs held rest e = absurd (none-some _ e)
 
 one_read : (t : ElementType) (d : Data) (ds : Items) (o : Option ℤ) (vs : List ℤ)
     → ((ws : List ℤ) → numbers_in t ds ≡ Some ws → AreHeld t ds ws)
     → option_and_then (λ v. option_map (λ vs. v ∷ vs) (numbers_in t ds))
     (option_and_then (λ v. if holds_number t v then Some v else None) o) ≡ Some vs
     → AreHeld t (item d ds) vs
-one_read t d ds None vs rest e = absurd (none_is_some e)
+one_read t d ds None vs rest e = absurd (none-some _ e)
 one_read t d ds (Some v) vs rest e = one_held t d ds v (holds_number t v) vs refl rest e
 
 numbers_held : (t : ElementType) (ds : Items) (vs : List ℤ) → numbers_in t ds ≡ Some vs → AreHeld t ds vs

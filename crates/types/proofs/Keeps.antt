@@ -1,5 +1,5 @@
 -- A run keeps what each of its operations keeps.
-use Rattle.std.proofs.Common.{◌≡◌, ℕ, zero, suc, ◌+◌, Option, Some, Ok, Err, refl}
+use Rattle.std.proofs.Common.{ℕ, zero, suc, ◌+◌, Option, Some, Ok, Err, refl}
 use Rattle.std.specs.Prelude.{ℤ, Bool, true, false, map, ok_or, if◌then◌else◌}
 use Rattle.sections.specs.Place.{Place, sides_of, same_place}
 use Rattle.types.specs.declared.fault.FaultKind.{FaultKind}

@@ -32,9 +32,6 @@ pub record HasKinds (ps : List Parameter) (os : List Origin) (ks : List Paramete
 
 -- a split's sides have the kind of what is split
 module _ (ps : List Parameter) (os : List Origin) (ks : List Parameter) (known : HasKinds ps os ks) (s : ℕ) (there : s < length os) where
-  sides : List Origin
-  sides = Left s ∷ Right s ∷ []
-
   abbrev kind : Parameter
   kind = slice_index_or ks s no_section
 

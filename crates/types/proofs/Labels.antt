@@ -90,10 +90,6 @@ module _ (all : List Procedure) where
         joined _ _ _ (here.label ∷ labels_inside (code all here s)) (labels_of (codes all (behind s here) rest)) (counts_code s here)
         (counts_codes rest (behind s here))
 
-  -- a block has as many labels as the label goes on by
-  pub label_after : (b : Block) (here : Scope) → (after b here).label ≡ here.label + length (labels_of (codes all here b))
-  label_after b here = (counts_codes b here).end
-
 counts_procedures : (all fs : List Procedure) (label : ℕ)
     → Counts label (label_behind_all label fs) (labels_of_procedures (procedures all label fs))
 counts_procedures all [] label = none label

@@ -1,13 +1,13 @@
 -- The names in scope as a map's entries, the latest first: each name stands there once.
-use Rattle.std.proofs.Common.{◌≡◌, ℕ, ◌+◌, ◌-◌, ◌≤◌, Bool, true, false, cond, List, [], ◌∷◌, ◌++◌, length, map, drop, take, reverse}
-use Rattle.std.proofs.Common.{Option, Some, None, is_some, inl, String, refl, sym, ap, ◌∙◌, subst, arith, if◌then◌else◌}
+use Rattle.std.proofs.Common.{◌≡◌, ℕ, ◌+◌, ◌-◌, Bool, true, false, cond, List, [], ◌∷◌, ◌++◌, length, map, drop, take, reverse}
+use Rattle.std.proofs.Common.{Option, Some, None, is_some, inl, String, refl, sym, ap, ◌∙◌, arith, if◌then◌else◌}
 use Rattle.std.specs.Prelude.{nat_eq}
 use Rattle.std.specs.Cmp.Lexicographic.{pointwise}
 use Rattle.std.specs.List.{AllByRecursion, IsDistinct}
 use Rattle.std.specs.Map.{lookup, keys_of}
 use Rattle.std.specs.Option.{option_map}
 use Rattle.std.specs.String.{string_bytes, string_eq}
-use Rattle.std.proofs.lemmas.List.{reverse-append, map-append, length-append, length-reverse, take-append-drop, length-map, length-drop}
+use Rattle.std.proofs.lemmas.List.{reverse-append, map-append, length-reverse, take-append-drop, length-map, length-drop}
 use Rattle.std.proofs.lemmas.Slice.Eq.{bytes_eq-Decides}
 use Rattle.types.specs.NameErrors.{declaring}
 use Rattle.types.specs.Told.{Told}

@@ -1,5 +1,5 @@
 -- Which numbers stand in a list of so many from the first on.
-use Rattle.std.proofs.Common.{ℕ, zero, suc, ◌+◌, ◌<◌, ◌≤◌, ◌∷◌, subst, arith, inl, inr}
+use Rattle.std.proofs.Common.{ℕ, zero, suc, ◌+◌, ◌<◌, ◌≤◌, subst, arith, inl, inr}
 use Rattle.std.proofs.lemmas.Bool.{cases_eq}
 use Rattle.sections.specs.Member.{Member, first, next}
 use Rattle.types.specs.Sound.{numbers_from}

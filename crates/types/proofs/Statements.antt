@@ -2,7 +2,6 @@
 use Rattle.std.proofs.Common.{◌≡◌, ℕ, ◌+◌, List, [], ◌∷◌, ◌++◌, map, length, Vec, Global, Some, refl, sym, ap, ◌∙◌, subst}
 use Rattle.syntax_tree.specs.Tree.{Stmt, Skip, Var, Assign, Store, Print, Fault, If, IfElse, While, Split, Call, Async, Finish}
 use Rattle.syntax_tree.specs.Tree.{Expr, Block, Procedure}
-use Rattle.sections.specs.declared.id.SectionId.{SectionId}
 use Rattle.std.proofs.Common.{String}
 use Rattle.std.specs.String.{string_bytes}
 use Rattle.syntax_tree.specs.Tree as tree
@@ -10,28 +9,24 @@ use Rattle.syntax_tree.specs.declared.tree.Expr.{Expr as rExpr}
 use Rattle.syntax_tree.specs.declared.tree.Stmt.TheVariants.{Skip as tree_Skip, Var as tree_Var, Assign as tree_Assign, Store as tree_Store}
 use Rattle.syntax_tree.specs.declared.tree.Stmt.TheVariants.{Print as tree_Print, Fault as tree_Fault, Call as tree_Call}
 use Rattle.types.specs.Code as code
-use Rattle.types.specs.declared.code.Number.{Number}
-use Rattle.types.specs.declared.code.Primitive.TheVariants.{Skip as rSkip, Assign as rAssign, Store as rStore, Print as rPrint, Fault as rRaise}
+use Rattle.types.specs.declared.code.Primitive.TheVariants.{Skip as rSkip}
 use Rattle.types.specs.declared.code.Sides.{Sides}
 use Rattle.types.specs.declared.code.Stmt.{Stmt as rStmt}
 use Rattle.types.specs.declared.code.StmtKind.{StmtKind}
 use Rattle.types.specs.declared.code.StmtKind.TheVariants.{Do as rDo, If as rIf, While as rWhile, Split as rSplit, Async as rAsync, Finish as rFinish}
 use Rattle.types.specs.declared.code.Truth.{Truth}
 use Rattle.types.specs.declared.error.TypeError.{TypeError}
-use Rattle.types.specs.declared.ids.Slot.{Slot}
-use Rattle.types.specs.NameErrors.{declaring, naming_section, naming_written, naming_assigned}
-use Rattle.types.specs.ExpressionErrors.{number as number_errors, numbers as numbers_errors, truth as truth_errors}
+use Rattle.types.specs.NameErrors.{declaring, naming_section}
+use Rattle.types.specs.ExpressionErrors.{number as number_errors, truth as truth_errors}
 use Rattle.types.specs.Resolution as resolution
 use Rattle.types.specs.Resolving.{left, Resolves}
-use Rattle.types.specs.Rules.{errors, errors_in, own_errors, inner_errors}
-use Rattle.types.specs.Scope.{Scope, ASection, AScalar, meant, section_of, section_or_0, slot_or_0, next, inside_async, with_sides, with_scalar}
+use Rattle.types.specs.Rules.{errors}
+use Rattle.types.specs.Scope.{Scope, ASection, meant, section_of, section_or_0, next, inside_async, with_sides}
 use Rattle.types.specs.Scope.{out_of, behind, after}
-use Rattle.types.specs.Told.{Told}
-use Rattle.types.specs.CallErrors.{calling}
-use Rattle.types.specs.Translation.{number, truth, codes, code as plain_code}
+use Rattle.types.specs.Translation.{number, truth, codes}
 use Rattle.types.proofs.Blocks.{code_If, code_While, code_Split, code_Async, code_Finish}
 use Rattle.types.proofs.Scopes.{left_next, left_else, left_async, left_sides}
-use Rattle.types.proofs.Telling.{none_both, told_left, told_right}
+use Rattle.types.proofs.Telling.{none_both}
 
 module _ (fs : List Procedure) (here there : Scope) where
   -- ---- blocks
@@ -139,55 +134,6 @@ module _ (fs : List Procedure) (here there : Scope) where
   -- ---- statements of one step
   pub resolves_Skip : there ≡ next here → Resolves fs here Skip (rDo rSkip) there
   resolves_Skip is = record { right = refl; kind = refl; place = is }
-
-  pub resolves_Var : (x : List ℕ) (e : Expr) (k : Slot) (v : Number) (mid : Scope) → mid ≡ next here
-      → number_errors here.label here.names e ≡ [] → resolution.number here.names e ≡ number v
-      → declaring (Some here.label) (meant x mid.names) ≡ [] → k.number ≡ here.slot → there ≡ with_scalar x mid
-      → Resolves fs here (Var x e) (rDo (rAssign k v)) there
-  resolves_Var x e k v mid at right same declared slot is = record {
-    right = none_both _ _ (none_both _ _ right (ap (λ m. declaring (Some here.label) (meant x m.names)) (sym at) ∙ declared)) refl;
-    kind = ap (λ n. code.Do (code.Assign here.slot n)) same ∙ ap (λ z. code.Do (code.Assign z (number v))) (sym slot);
-    place = is ∙ ap (with_scalar x) at;
-  }
-
-  pub resolves_Assign : (x : List ℕ) (e : Expr) (k : Slot) (v : Number) → naming_assigned here.label here (meant x here.names) ≡ []
-      → meant x here.names ≡ Some (AScalar k.number) → number_errors here.label here.names e ≡ [] → resolution.number here.names e ≡ number v
-      → there ≡ next here → Resolves fs here (Assign x e) (rDo (rAssign k v)) there
-  resolves_Assign x e k v named known right same is = record {
-    right = none_both _ _ (none_both _ _ named right) refl;
-    kind = ap (λ m. code.Do (code.Assign (slot_or_0 m) (resolution.number here.names e))) known ∙ ap (λ n. code.Do (code.Assign k.number n)) same;
-    place = is;
-  }
-
-  pub resolves_Store : (x : List ℕ) (i e : Expr) (s : SectionId) (j v : Number) → naming_written here.label here (meant x here.names) ≡ []
-      → meant x here.names ≡ Some (ASection s.number) → number_errors here.label here.names i ≡ [] → resolution.number here.names i ≡ number j
-      → number_errors here.label here.names e ≡ [] → resolution.number here.names e ≡ number v
-      → there ≡ next here → Resolves fs here (Store x i e) (rDo (rStore s j v)) there
-  resolves_Store x i e s j v named known right_i same_i right_e same_e is = record {
-    right = none_both _ _ (none_both _ _ named (none_both _ _ right_i right_e)) refl;
-    kind = ap (λ m. code.Do (code.Store (section_or_0 m) (resolution.number here.names i) (resolution.number here.names e))) known
-        ∙ ap (λ n. code.Do (code.Store s.number n (resolution.number here.names e))) same_i
-        ∙ ap (λ n. code.Do (code.Store s.number (number j) n)) same_e;
-    place = is;
-  }
-
-  pub resolves_Print : (e : Expr) (es : List Expr) (vs : Vec Number Global) → numbers_errors here.label here.names (e ∷ es) ≡ []
-      → map (resolution.number here.names) (e ∷ es) ≡ map number vs.items → there ≡ next here
-      → Resolves fs here (Print e es) (rDo (rPrint vs)) there
-  resolves_Print e es vs right same is = record {
-    right = none_both _ _ right refl;
-    kind = ap (λ l. code.Do (code.Print l)) same;
-    place = is;
-  }
-
-  pub resolves_Fault : (e : Expr) (v : Number) → number_errors here.label here.names e ≡ [] → resolution.number here.names e ≡ number v
-      → there ≡ next here → Resolves fs here (Fault e) (rDo (rRaise v)) there
-  resolves_Fault e v right same is = record { right = none_both _ _ right refl; kind = ap (λ n. code.Do (code.Raise n)) same; place = is }
-
-  pub resolves_Call : (x : List ℕ) (es : List Expr) (k : StmtKind)
-      → calling here.label here (resolution.procedure_of 0 x fs) es ≡ []
-      → resolution.call fs here.names (resolution.procedure_of 0 x fs) es ≡ plain_code k → there ≡ next here → Resolves fs here (Call x es) k there
-  resolves_Call x es k right same is = record { right = none_both _ _ right refl; kind = same; place = is }
 
 -- another statement that is the same
 pub resolves_same : (fs : List Procedure) (here there : Scope) (s t : Stmt) (k : StmtKind) → s ≡ t → Resolves fs here t k there → Resolves fs here s k there

@@ -1,5 +1,5 @@
 -- Which inputs fit a program, what a JSON value says of its arrays, and what is wrong where it says nothing.
-use Rattle.std.specs.Prelude.{ℕ, ◌+◌, ◌≡◌, ◌&&◌, List, [], ◌∷◌, length, replicate, Bool, true, ℤ}
+use Rattle.std.specs.Prelude.{ℕ, ◌+◌, ◌≡◌, List, [], ◌∷◌, length, replicate, Bool, true, ℤ}
 use Rattle.std.specs.Prelude.{pos, nat_eq}
 use Rattle.std.specs.Prelude.{Option, Some, None, option_map, option_and_then, unwrap_or, Result}
 use Rattle.std.specs.Prelude.{Ok, Err, ok_or}

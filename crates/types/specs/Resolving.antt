@@ -1,7 +1,7 @@
 -- What the Rust values of the type checker show: the names and the scope at a place, and what a part
 -- resolves to.
-use Rattle.std.specs.Prelude.{ℕ, ◌+◌, ◌-◌, ◌≡◌, ◌<◌, ◌≤◌, List, [], ◌∷◌, map, reverse, length, drop}
-use Rattle.std.specs.Prelude.{Bool, Option, Some, String}
+use Rattle.std.specs.Prelude.{ℕ, ◌+◌, ◌-◌, ◌≡◌, ◌<◌, ◌≤◌, List, [], map, reverse, length, drop}
+use Rattle.std.specs.Prelude.{Some, String}
 use Rattle.std.specs.String.{string_bytes}
 use Rattle.sections.specs.Tree.{origins_of}
 use Rattle.syntax_tree.specs.Tree.{Stmt, Procedure}

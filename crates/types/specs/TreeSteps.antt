@@ -1,5 +1,5 @@
 -- One step of a step tree: one step of one of its leaves.
-use Rattle.std.specs.Prelude.{ℕ, ◌-◌, List, [], map, ℤ, Ok, Err, ok_or, nat_eq, nat_lt}
+use Rattle.std.specs.Prelude.{ℕ, ◌-◌, [], map, ℤ, Ok, Err, ok_or, nat_eq, nat_lt}
 use Rattle.std.specs.Prelude.{Option, Some, None, if◌then◌else◌}
 use Rattle.sections.specs.Place.{Window, sides_of}
 use Rattle.types.specs.declared.fault.FaultKind.TheVariants.{SplitPoint}

@@ -5,7 +5,8 @@ use Rattle.std.proofs.lemmas.Option.{slice_get-get_or}
 use Rattle.types.specs.Code.{Code, If, While, Split, Call, Async, Codes, Then, Procedure, Program}
 use Rattle.types.specs.Run.{procedure_of}
 use Rattle.effects.specs.Accesses.{Access}
-use Rattle.effects.specs.Effects.{accesses, renamed, past_call, Inner, AllOf, All, PendingOf, Pending}
+use Rattle.types.specs.Sound.{passed_for}
+use Rattle.effects.specs.Effects.{accesses, renamed, Inner, AllOf, All, PendingOf, Pending}
 use Rattle.effects.specs.Sound.{IsSound, Follows, FollowsOf, parameters_of}
 use Rattle.effects.proofs.AccessesInScope.{allowed, pending_all}
 use Rattle.effects.proofs.Members.{numbers_from-below}
@@ -121,7 +122,7 @@ module _ (p : Program) where
   ruled (Goes.enter {m} {f} {es} {ss} {s} {k} there below) l x e h =
       subst (λ z. DoesOf m l (Call f es ss) (record x { section = z })) (passed ss k s there ∙ sym e) (inner_of m l (record x { section = k }) Inner.call h)
     where
-      passed : (ss : List ℕ) (k s : ℕ) → slice_get ss k ≡ Some s → past_call ss k ≡ s
+      passed : (ss : List ℕ) (k s : ℕ) → slice_get ss k ≡ Some s → passed_for ss k ≡ s
       passed [] k s q = absurd (none q)
         where
           none : None ≡ Some s → ⊥

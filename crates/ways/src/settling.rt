@@ -1,7 +1,6 @@
 //! The shortest ways from the bodies of all procedures to an access, found by rounds.
 
-ghost use Rattle.std.specs.Prelude.{◌≡◌, ◌<◌, ℕ, Bool, IfOk, OnOk, length};
-ghost use Rattle.types.specs.Run.{procedure_of as plain_procedure_of};
+ghost use Rattle.std.specs.Prelude.{◌<◌, ℕ, IfOk, OnOk, length};
 ghost use Rattle.types.specs.Translation.{program as program_of};
 ghost use Rattle.effects.specs.Translation.{access as access_of};
 ghost use Rattle.ways.specs.Known.{AreShortest, AreWays};

@@ -2,7 +2,7 @@
 
 #![tactic(auto, using(crate::proofs::Telling::telling))]
 
-ghost use Rattle.std.specs.Prelude.{◌≡◌, [], ◌∷◌, ◌++◌, map, OnOk, IfOk, IfErr, Some, pos};
+ghost use Rattle.std.specs.Prelude.{◌≡◌, [], ◌∷◌, map, OnOk, IfOk, IfErr, Some, pos};
 ghost use Rattle.std.specs.String.{string_bytes};
 ghost use Rattle.syntax_tree.specs.Tree.{expr as expr_of, conj as conj_of, neg as neg_of, cmp as cmp_of};
 ghost use Rattle.syntax_tree.specs.Tree.{sum as sum_of, prod as prod_of};

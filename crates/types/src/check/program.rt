@@ -2,7 +2,7 @@
 
 #![tactic(auto, using(crate::proofs::Telling::telling))]
 
-ghost use Rattle.std.specs.Prelude.{◌≡◌, [], ◌∷◌, ◌++◌, ◌≤◌, ◌+◌, map, OnOk, IfOk, IfErr, length};
+ghost use Rattle.std.specs.Prelude.{◌≡◌, [], ◌≤◌, ◌+◌, map, OnOk, IfOk, IfErr, length};
 ghost use Rattle.std.specs.Prelude.{sum_by, Some, None, codes};
 ghost use Rattle.std.specs.String.{string_bytes};
 ghost use Rattle.syntax_tree.specs.Tree.{block as block_of, procedure as procedure_as};

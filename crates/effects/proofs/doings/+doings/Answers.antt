@@ -5,7 +5,8 @@ use Rattle.sections.specs.Translation.{section}
 use Rattle.types.specs.Code.{Code, Codes}
 use Rattle.types.specs.Run.{procedure_of}
 use Rattle.types.specs.Translation.{program, code, codes}
-use Rattle.effects.specs.Effects.{accesses, past_call, past_split, renamed, All}
+use Rattle.types.specs.Sound.{passed_for}
+use Rattle.effects.specs.Effects.{accesses, past_split, renamed, All}
 use Rattle.effects.specs.Firsts.{AddsFirsts, AreFirsts, AreFirstsIn, kept_in}
 use Rattle.effects.specs.Rows.{AllInside, Renamed}
 use Rattle.effects.specs.Statements.{Block}
@@ -143,5 +144,5 @@ add_inside-returns-in-Call t c =
     let new = kept_in c.add_call.new.into in
     on_ok_weaker c.add_call.result
     (λ h. subst (λ (k : Code). AddsFirsts (AllInside p accesses k) old new) (sym (ap code c.in-Call.is))
-    (subst (λ xs. AddsFirsts (Renamed p accesses (past_call (map section xs)) those) old new) c.deref-in-Call.ensures.value h))
+    (subst (λ xs. AddsFirsts (Renamed p accesses (passed_for (map section xs)) those) old new) c.deref-in-Call.ensures.value h))
     c.add_call.ensures

@@ -7,7 +7,8 @@ use Rattle.types.specs.Code.{Codes}
 use Rattle.types.specs.Run.{procedure_of}
 use Rattle.types.specs.Translation.{program}
 use Rattle.effects.specs.AccessSets.{HasAccess}
-use Rattle.effects.specs.Effects.{accesses, All, past_call}
+use Rattle.types.specs.Sound.{passed_for}
+use Rattle.effects.specs.Effects.{accesses, All}
 use Rattle.effects.specs.Firsts.{AreFirstsIn, kept_in}
 use Rattle.effects.specs.Rows.{Renamed}
 use Rattle.effects.specs.Summarized.{IsSummary}
@@ -29,7 +30,7 @@ returns c =
     (omega (arith, c.requires.summaries.number, c.requires.there)))) in
     let outside = c.in_ok-outside.outside in
     on_ok_weaker c.add_all.result
-    (λ h. adds_firsts (Renamed p accesses (past_call ss) (All p accesses callee)) (kept_in outside) (kept_in c.args.into.now)
+    (λ h. adds_firsts (Renamed p accesses (passed_for ss) (All p accesses callee)) (kept_in outside) (kept_in c.args.into.now)
     (kept_in c.add_all.new.self)
     (passed_renamed p ss (HasAccess s.all) (All p accesses callee) (λ x. (exact.all x).0) (λ x. (exact.all x).1)
     (all_in_callee p c.requires.sound f (length ss) (length-map c.args.sections.now section ∙ c.requires.number)) (kept_in outside)

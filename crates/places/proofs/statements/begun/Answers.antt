@@ -1,6 +1,5 @@
 use Rattle.std.proofs.Common.{◌≡◌, ◌+◌, ◌<◌, List, drop, length, ap, sym, ◌∙◌, subst, arith}
 use Rattle.std.proofs.lemmas.List.{drop_all}
-use Rattle.syntax.specs.declared.place.Place.{Place}
 use Rattle.syntax.specs.declared.token.Spanned.{Spanned}
 use Rattle.syntax.specs.Place.{place_at}
 use Rattle.syntax.specs.Token.{plain, token}

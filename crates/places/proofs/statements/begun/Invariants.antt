@@ -1,7 +1,6 @@
-use Rattle.std.proofs.Common.{◌≡◌, ◌++◌, List, take, drop}
-use Rattle.std.specs.Prelude.{false}
+use Rattle.std.proofs.Common.{◌≡◌, drop}
 use Rattle.syntax.specs.Place.{place_at}
-use Rattle.syntax.specs.Token.{Token, plain}
+use Rattle.syntax.specs.Token.{plain}
 use Rattle.places.proofs.BegunLemmas.{IsFound}
 use Rattle.places.proofs.statements.begun.Given as goal
 

@@ -4,7 +4,8 @@ use Rattle.types.specs.Code.{Codes, Procedure}
 use Rattle.types.specs.Run.{procedure_of}
 use Rattle.types.specs.Translation.{code, codes, number, primitive, program, truth}
 use Rattle.types.specs.declared.code.Stmt.{Stmt}
-use Rattle.effects.specs.Effects.{accesses, All, Pending, past_call}
+use Rattle.types.specs.Sound.{passed_for}
+use Rattle.effects.specs.Effects.{accesses, All, Pending}
 use Rattle.effects.specs.Firsts.{AreFirsts, kept_in}
 use Rattle.effects.specs.Rows.{Renamed}
 use Rattle.effects.specs.Translation.{access}
@@ -194,8 +195,8 @@ found_of-returns-in-Call g t c =
     let whole = c.in_ok-found-in-Call.found in
     found_of_arm _ _ _ _ _ _ (ap code c.in-Call.is) (λ x y h. h) _ (ap (map access) c.deref-in-Call-2.ensures.value ∙ c.in_ok-own.ensures) whole
     (record {
-      all_firsts = subst (λ (ss : List ℕ). AreFirsts (Renamed p accesses (past_call ss) (All p accesses callee)) (kept_in whole.all)) value found.all;
-      pending_firsts = subst (λ (ss : List ℕ). AreFirsts (Renamed p accesses (past_call ss) (Pending p accesses callee)) (kept_in whole.pending)) value found.pending;
+      all_firsts = subst (λ (ss : List ℕ). AreFirsts (Renamed p accesses (passed_for ss) (All p accesses callee)) (kept_in whole.all)) value found.all;
+      pending_firsts = subst (λ (ss : List ℕ). AreFirsts (Renamed p accesses (passed_for ss) (Pending p accesses callee)) (kept_in whole.pending)) value found.pending;
       least_race = least_none _ _ (λ x y. ⊥) (race_found whole.race) found.race (λ x y h. h);
     }) _ c.with_own-in-Call.ensures
 

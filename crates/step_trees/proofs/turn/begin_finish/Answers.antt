@@ -1,4 +1,4 @@
-use Rattle.std.proofs.Common.{ap, ◌∙◌, refl}
+use Rattle.std.proofs.Common.{ap, refl}
 use Rattle.types.specs.Translation.{codes}
 use Rattle.statement_steps.specs.Lists.{contents_of, lengths_of}
 use Rattle.step_trees.specs.Translation.{leaf_of}

@@ -1,4 +1,4 @@
-use Rattle.std.proofs.Common.{refl, arith}
+use Rattle.std.proofs.Common.{arith}
 use Rattle.texts.proofs.Appending.{fails, first_begins}
 use Rattle.texts.proofs.emit.emit_turns.Goals as goal
 

@@ -4,7 +4,7 @@ use Rattle.blocks.specs.Blocks.{owned_at}
 use Rattle.block_numbers.specs.Offsets.{HasAll}
 use Rattle.blocks.specs.declared.block.Block.TheVariants.{Empty}
 use Rattle.block_rows.specs.Rows.{block_of, held_in_list}
-use Rattle.block_rows.proofs.CarvingLemmas.{cut_keeps, cut_most, cut_movable, cut_taken, has_copies, has_cut, held-same, piece_block, piece_owned, replaced-here, replaced-twice, whole_only}
+use Rattle.block_rows.proofs.CarvingLemmas.{at_most, cut_keeps, cut_movable, cut_taken, has_copies, has_cut, held-same, piece_block, piece_owned, replaced-here, replaced-twice, whole_only}
 use Rattle.block_rows.proofs.rows.Rows.cut_piece.Goals as goal
 use Rattle.block_rows.proofs.rows.Rows.cut_piece.Goals.{Joined-swap}
 
@@ -77,6 +77,6 @@ returns c =
       movable = cut_movable own others new_own new_others w r s (record { piece = c.args.piece; cut = x }) refl h k c.requires.piece c.requires.within c.requires.clear;
       keeps = λ d clear n. cut_keeps own others new_own new_others w r s x h k c.requires.piece owned d clear n;
       taken = cut_taken own others new_own new_others w r s x h k c.requires.piece owned;
-      most = cut_most _ x.copied w.length h.moved h.counted;
+      most = at_most _ x.copied w.length h.moved h.counted;
       moved = λ whole. h.moved (whole_only own w r h.there whole);
     }

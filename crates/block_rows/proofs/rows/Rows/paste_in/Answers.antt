@@ -1,7 +1,7 @@
 use Rattle.std.proofs.Common.{◌≡◌, ◌∙◌, ◌≤◌, ◌/◌, ◌%◌, ◌+◌, ◌*◌, ℕ, List, Bool, true, false, Some, None, option_map, ap, arith, is_some, refl, rules, subst, sym, inl, inr, ◌⊎◌}
-use Rattle.std.proofs.lemmas.Bool.{and_from, eq-eqb, leb-false, leb-true, ltb-true}
+use Rattle.std.proofs.lemmas.Bool.{and_from, eq-eqb, ltb-true}
 use Rattle.std.proofs.lemmas.Option.{same_Some}
-use Rattle.std.specs.Prelude.{nat_le, nat_lt, if◌then◌else◌}
+use Rattle.std.specs.Prelude.{nat_lt, if◌then◌else◌}
 use Rattle.sections.specs.Place.{Place}
 use Rattle.std.specs.Arc.{arc_value}
 use Rattle.std.specs.declared.alloc.Global.{Global}
@@ -18,7 +18,7 @@ use Rattle.blocks.proofs.BlockLemmas.{held_at-behind, owned_number-shared}
 use Rattle.block_rows.specs.Rooms.{HasRoom, TakesIn}
 use Rattle.block_rows.specs.Rows.{block_of, held_in_list, in_block}
 use Rattle.block_rows.specs.declared.row.Row.{Row}
-use Rattle.block_rows.proofs.CarvingLemmas.{held-there, replaced-here, replaced-twice, took_in}
+use Rattle.block_rows.proofs.CarvingLemmas.{at_most, held-there, replaced-here, replaced-twice, took_in}
 use Rattle.block_rows.proofs.RoomLemmas.{room-elsewhere}
 use Rattle.block_rows.proofs.rows.Rows.paste_in.Goals as goal
 
@@ -60,16 +60,6 @@ within own a m mine theirs is all k some none = by_small (nat_lt k 256) refl
         let here : in_block a m q ≡ true = and_from _ _ (eq-eqb a a refl) (eq-eqb (i / 256) m block) in
         all q here (λ n. some (sym (ap (held_at mine) offset) ∙ sym (held-there own a m mine q here is) ∙ n))
         (ap (owned_at theirs) offset ∙ none)
-
-at_most : (all : Type 0) (r n : ℕ) → (all → r ≡ 0) → ((all → ⊥) → r ≡ n) → r ≤ n
-at_most all r n moved counted = by_le (nat_le r n) refl
-  where
-    by_le : (t : Bool) → nat_le r n ≡ t → r ≤ n
-    by_le true e = leb-true _ _ e
-    by_le false e =
-        let gt = leb-false r n e in
-        let ne : all → ⊥ = λ w. omega (arith, gt, moved w) in
-        absurd (omega (arith, gt, counted ne))
 
 pub returns-in-Empty : goal.returns-in-Empty
 returns-in-Empty c = record {

@@ -2,7 +2,7 @@ use Rattle.std.proofs.Common.{◌≡◌, ◌∙◌, inr, sym, subst}
 use Rattle.std.specs.Set.{is_member}
 use Rattle.std.specs.Prelude.{true}
 use Rattle.facts.proofs.Lists.{same_elements}
-use Rattle.interleave.specs.Shown.{is_path}
+use Rattle.types.specs.Translation.{is_path}
 use Rattle.interleave.proofs.Walking.{named_more}
 use Rattle.interleave.proofs.walk.Walk.paths.Goals as goal
 

@@ -3,7 +3,8 @@ use Rattle.std.specs.Prelude.{◌⊎◌, Contains, is_some, true}
 use Rattle.std.specs.HashMap.{get}
 use Rattle.std.specs.Set.{is_member}
 use Rattle.types.specs.declared.path.Path.{Path}
-use Rattle.interleave.specs.Shown.{is_path, turns_of}
+use Rattle.types.specs.Translation.{is_path}
+use Rattle.interleave.specs.Shown.{turns_of}
 use Rattle.interleave.proofs.walk.Walk.paths.Given as goal
 
 -- each task of the table is among those so far, or is still to come

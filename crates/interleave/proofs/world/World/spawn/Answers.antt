@@ -1,7 +1,8 @@
 use Rattle.std.proofs.Common.{◌≤◌, ◌∙◌, sym, ap, subst, Some}
 use Rattle.std.specs.Prelude.{is_some, if◌then◌else◌}
 use Rattle.interleave.specs.Events.{Spawns}
-use Rattle.interleave.specs.Shown.{Refuses, is_path}
+use Rattle.types.specs.Translation.{is_path}
+use Rattle.interleave.specs.Shown.{Refuses}
 use Rattle.interleave.specs.declared.error.EventError.TheVariants.{NoMemory}
 use Rattle.interleave.specs.declared.job.WeightedJob.{WeightedJob}
 use Rattle.interleave.specs.declared.world.World.{World as rWorld}

@@ -2,7 +2,8 @@ use Rattle.std.proofs.Common.{◌∙◌, ap, refl, ◌∷◌, None, Some}
 use Rattle.std.specs.List.{list_any}
 use Rattle.std.specs.Map.{lookup}
 use Rattle.std.specs.Prelude.{map, nat_eq, if◌then◌else◌}
-use Rattle.interleave.specs.Shown.{is_path, is_scope, stake}
+use Rattle.types.specs.Translation.{is_path}
+use Rattle.interleave.specs.Shown.{is_scope, stake}
 use Rattle.interleave.specs.World.{ScopeId, root_scope}
 use Rattle.interleave.specs.declared.doing.Doing.TheVariants.{Starts}
 use Rattle.interleave.specs.declared.task.Task.{Task as rTask}

@@ -1,4 +1,4 @@
-use Rattle.std.proofs.Common.{◌≡◌, ◌≤◌, ◌+◌}
+use Rattle.std.proofs.Common.{◌≡◌, ◌≤◌}
 use Rattle.syntax.specs.Place.{place_at}
 use Rattle.places.proofs.statements.Reached.on_to.Given as goal
 

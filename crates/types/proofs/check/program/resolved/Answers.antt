@@ -1,4 +1,4 @@
-use Rattle.std.proofs.Common.{◌≡◌, ◌≤◌, sym, subst, arith}
+use Rattle.std.proofs.Common.{◌≤◌, sym, subst, arith}
 use Rattle.syntax_tree.specs.Tree.{block}
 use Rattle.types.specs.Resolving.{scope_of, procedures_of}
 use Rattle.types.specs.Scope.{Scope}

@@ -1,4 +1,4 @@
-use Rattle.std.proofs.Common.{◌≡◌, ◌∙◌, length, sym, arith, ◌<◌, ◌≤◌, ap, List, subst, map, rules}
+use Rattle.std.proofs.Common.{◌≡◌, ◌∙◌, length, sym, arith, ◌<◌, ap, List, subst, map, rules}
 use Rattle.std.proofs.lemmas.Grind.{common_steps}
 use Rattle.types.specs.Inputs.{IsInput, wrong_row}
 use Rattle.types.specs.Translation.{array as array_of, input}

@@ -1,7 +1,7 @@
 use Rattle.std.proofs.Common.{◌≡◌, ◌∙◌, length, arith, ap, List, subst, map}
 use Rattle.std.proofs.lemmas.Grind.{common_steps}
 use Rattle.types.specs.Inputs.{IsInput}
-use Rattle.types.specs.Translation.{array as array_of, input}
+use Rattle.types.specs.Translation.{array as array_of}
 use Rattle.types.specs.declared.code.Array.{Array}
 use Rattle.types.proofs.InputLemmas.{IsInput-to_the_end}
 use Rattle.types.proofs.input.Input.new.Goals as goal

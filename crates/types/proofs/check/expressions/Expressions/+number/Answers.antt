@@ -1,7 +1,7 @@
-use Rattle.std.proofs.Common.{◌≡◌, ◌≢◌, ◌+◌, ◌<◌, ◌≤◌, [], ◌∷◌, ◌++◌, drop, length, sym, ap, ◌∙◌, subst, rules}
+use Rattle.std.proofs.Common.{◌≡◌, ◌≢◌, ◌+◌, ◌<◌, ◌≤◌, ◌++◌, drop, length, sym, ap, ◌∙◌, subst, rules}
 use Rattle.std.proofs.lemmas.List.{at_drop_all}
 use Rattle.std.specs.String.{string_bytes}
-use Rattle.syntax_tree.specs.Tree.{expr, conj, neg, cmp, sum, prod, unary, atom, terms, factors, negated}
+use Rattle.syntax_tree.specs.Tree.{expr, conj, neg, cmp, prod, unary, atom, terms, factors, negated}
 use Rattle.syntax_tree.specs.Tree.{Number as Number_of, Name, Element, Length, Parens}
 use Rattle.syntax_tree.specs.declared.tree.Expr.{out-Expr}
 use Rattle.syntax_tree.specs.declared.tree.Conj.{out-Conj}
@@ -25,7 +25,7 @@ use Rattle.types.proofs.Expressions.{number_alone, conj_alone, errors-terms_more
 use Rattle.types.proofs.Expressions.{errors-of_conj_alone, errors-of_conj_chain, errors-of_neg_plain, errors-of_neg_denied}
 use Rattle.types.proofs.Expressions.{errors-of_cmp_alone, errors-of_cmp_compared, errors-of_sum, errors-of_prod, no_terms, no_factors}
 use Rattle.types.proofs.Expressions.{atom_Number, atom_Name, atom_Element, atom_Length, atom_Parens, errors-of_truth_value}
-use Rattle.types.proofs.Telling.{at_exit, at_front, exit_left, told_left, told_right, none_both, same_right, same_code, same_error, wrong}
+use Rattle.types.proofs.Telling.{at_exit, at_front, exit_left, told_right, none_both, same_right, same_code, same_error, wrong}
 use Rattle.types.proofs.check.expressions.Expressions.+number.Goals as goal
 
 pub number-returns-then-is_empty-clause-right : goal.number-returns-then-is_empty-clause-right

@@ -20,7 +20,7 @@ use Rattle.types.proofs.Expressions.{chosen, chosen_push, chosen_all, either_alo
 use Rattle.types.proofs.Expressions.{truth_sum_alone, truth_prod_alone, errors-sum_alone, errors-sum_chain, errors-prod_alone}
 use Rattle.types.proofs.Expressions.{errors-prod_chain, errors-negated, no_conjs, no_negs, atom_True, atom_False, atom_Parens}
 use Rattle.types.proofs.Expressions.{atom_Number, atom_Name, atom_Element, atom_Length}
-use Rattle.types.proofs.Telling.{at_exit, at_front, exit_left, told_left, told_right, none_both, same_right, same_code, same_error, wrong}
+use Rattle.types.proofs.Telling.{at_exit, at_front, exit_left, told_right, none_both, same_right, same_code, same_error, wrong}
 use Rattle.types.proofs.check.expressions.Expressions.+truth.Goals as goal
 
 pub truth_sum-returns-then-is_empty-clause-right : goal.truth_sum-returns-then-is_empty-clause-right

@@ -1,13 +1,12 @@
-use Rattle.std.proofs.Common.{◌≡◌, ◌+◌, ◌<◌, ◌≤◌, [], ◌∷◌, ◌++◌, drop, length, map, sym, ap, ◌∙◌, subst, rules, append-nil}
+use Rattle.std.proofs.Common.{◌+◌, ◌<◌, ◌≤◌, [], ◌∷◌, ◌++◌, drop, length, map, sym, ap, ◌∙◌, rules, append-nil}
 use Rattle.std.proofs.lemmas.List.{at_drop_all}
 use Rattle.syntax_tree.specs.Tree.{expr}
 use Rattle.types.specs.ExpressionErrors as errors
 use Rattle.types.specs.Resolution as resolution
 use Rattle.types.specs.Resolving.{names_of}
-use Rattle.types.specs.Told.{Told}
 use Rattle.types.specs.Translation.{number}
 use Rattle.types.proofs.Expressions.{one_more_number}
-use Rattle.types.proofs.Telling.{at_exit, at_front, exit_left, told_left}
+use Rattle.types.proofs.Telling.{at_front, exit_left}
 use Rattle.types.proofs.check.expressions.Expressions.numbers.Goals as goal
 
 pub loop-expr-init : goal.loop-expr-init

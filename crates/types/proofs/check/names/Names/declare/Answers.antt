@@ -1,5 +1,5 @@
-use Rattle.std.proofs.Common.{◌∷◌, ◌++◌, [], true, false, sym, ap, ◌∙◌}
-use Rattle.std.specs.String.{string_bytes, string_eq}
+use Rattle.std.proofs.Common.{◌∷◌, true, false, sym, ap, ◌∙◌}
+use Rattle.std.specs.String.{string_eq}
 use Rattle.indexmap.proofs.CallerLemmas.{insert_entry-new}
 use Rattle.types.specs.Resolving.{meant_by}
 use Rattle.types.proofs.NamesInScope.{names_in, names_in-push, found_there, absent_key, declared_twice, declared_once}

@@ -1,7 +1,7 @@
-use Rattle.std.proofs.Common.{IfOk, IfErr, Some, map, ◌≡◌, ◌+◌, ◌<◌, ◌≤◌, ◌++◌, [], ◌∷◌, drop, length, refl, sym, ap, ◌∙◌, subst, arith, rules}
+use Rattle.std.proofs.Common.{IfOk, IfErr, Some, map, ◌≡◌, ◌+◌, ◌<◌, ◌≤◌, ◌++◌, [], ◌∷◌, drop, length, sym, ap, ◌∙◌, subst, arith, rules}
 use Rattle.std.proofs.lemmas.List.{at_drop_more, at_drop_all}
 use Rattle.std.specs.String.{string_bytes}
-use Rattle.syntax_tree.specs.Tree.{Then, Var, Assign, Store, Print, Fault, If, IfElse, While, Split, Call, Async, Finish, stmt, block, expr}
+use Rattle.syntax_tree.specs.Tree.{Then, Print, If, IfElse, While, Split, Call, Async, Finish, stmt, block, expr}
 use Rattle.syntax_tree.proofs.RowLemmas.{stmt_If, stmt_IfElse, stmt_While, stmt_Split, stmt_Async, stmt_Finish}
 use Rattle.types.specs.Code as code
 use Rattle.types.specs.Resolution as resolution
@@ -9,8 +9,6 @@ use Rattle.types.specs.Resolving.{scope_of, procedures_of, left, IsWellScoped, R
 use Rattle.types.specs.Rules.{errors, errors_in, own_errors, limit}
 use Rattle.types.specs.Scope.{Scope, ASection, meant, with_sides, inside_async, next as next_place, after, behind}
 use Rattle.types.specs.NameErrors.{declaring}
-use Rattle.std.proofs.lemmas.Grind.{common_steps}
-use borrow.Author.Gap.{counting}
 use Rattle.syntax_tree.specs.declared.tree.Stmt.TheVariants.{If as tree_If}
 use Rattle.types.specs.Told.{Told}
 use Rattle.types.specs.Translation as plain
