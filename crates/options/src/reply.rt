@@ -17,11 +17,12 @@ use std::alloc::{AllocError, Global};
 /// What is replied to words that ask nothing of a program.
 #[derive(Drop)]
 pub enum Reply {
-    /// What `clap` says: help, the version, or a mistake in the words.
+    /// What `clap` says: help, the version, or a mistake in the words, as to `afx chek`.
     Said(Error),
-    /// A text that was asked for, for the standard output.
+    /// A text that was asked for, for the standard output, as by `afx explain Y5`.
     Page(String),
-    /// Lines for the standard error: no page is asked for by these words, or a program stands in a command's place.
+    /// Lines for the standard error: no page is asked for by these words, as by `afx explain Y99`, or a program stands in a
+    /// command's place, as in `afx a.afx`.
     NoPage(String),
 }
 
