@@ -23,8 +23,8 @@ use program_code::pieces::ProgramCode;
 use std::alloc::AllocError;
 
 impl<'p> Task<'p> {
-    /// Turns on, as long as nobody else sees it; gives the first turn that is more. It goes by the program's flat code
-    /// where it may.
+    /// Turns on, as long as nobody else sees it; gives the first turn that is more. It goes by the
+    /// program's flat code where it may.
     pub fn go(self, code: &ProgramCode<'p>) -> Result<Turn<'p>, AllocError>
         requires task { IsTask self }
         requires code { IsCodeOfProgram (program_of self.body.value.job) code.now }

@@ -154,13 +154,6 @@ impl<'p> Waiting<'p> {
         })
     }
 
-    /// The task goes no further: what it holds in the scopes around the finish is to go back.
-    pub fn give_up(self) -> Vec<Stake>
-        ensures { result ≡ self.entry.outer }
-    {
-        self.outer
-    }
-
     /// What the run came to: the root goes no further.
     pub fn outcome(self, settled: Settled) -> Result<Outcome, AllocError>
         requires main { IsAtMain self }

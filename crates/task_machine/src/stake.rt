@@ -1,10 +1,7 @@
 //! What a task holds in a scope.
 
-ghost use Rattle.std.specs.Prelude.{◌≡◌, ◌+◌, ◌/◌, ◌≤◌, IfErr, IfOk, take};
+ghost use Rattle.std.specs.Prelude.{◌≡◌, ◌+◌, ◌/◌, ◌≤◌, IfErr, IfOk};
 
-use std::alloc::{AllocError, Global};
-use types::path::Path;
-use types::scope_id::ScopeId;
 use weights::weight::Weight;
 
 /// A scope, told by a task that stands in it: its owner is that task or one above it.
@@ -26,23 +23,6 @@ pub struct Share {
 pub struct Stake {
     pub scope: ScopeMark,
     pub share: Share,
-}
-
-impl ScopeMark {
-    /// The name of the scope, of which this is the mark in a task of this path.
-    pub fn id(self, alloc: Global, path: &Path) -> Result<ScopeId, AllocError>
-        ensures owner { IfOk result (λ id. id.owner.turns.items
-            ≡ take self.depth path.now.turns.items) }
-        ensures number { IfOk result (λ id. id.number ≡ self.number) }
-    {
-        let depth = self.depth.min(path.turns.len());
-        let turns = Vec::from_slice(alloc, &path.turns[..depth])?;
-        let owner = Path { turns };
-        Ok(ScopeId {
-            owner,
-            number: self.number,
-        })
-    }
 }
 
 impl Share {

@@ -84,25 +84,6 @@ impl<'p> Task<'p> {
         };
         run.thread.steps
     }
-
-    /// The innermost scope in which it stands.
-    pub fn scope(&self) -> ScopeMark
-        ensures { result ≡ self.now.body.value.scope }
-    {
-        self.body.scope
-    }
-
-    /// A task that goes no further: what it holds in its innermost scope, and in the others, is to
-    /// go back.
-    pub fn cut(self) -> (Stake, Vec<Stake>)
-        ensures scope { result.0.scope ≡ self.entry.body.value.scope }
-        ensures weight { result.0.share.weight ≡ self.entry.share.weight }
-        ensures outer { result.1 ≡ self.entry.body.value.outer }
-    {
-        let Task { body, share } = self;
-        let Body { scope, outer, .. } = Box::into_inner(body);
-        (Stake { scope, share }, outer)
-    }
 }
 
 impl<'p> Child<'p> {
