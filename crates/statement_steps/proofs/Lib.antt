@@ -6,3 +6,4 @@ pub mod BoundsLemmas
 pub mod Stores
 pub mod Pairs
 pub mod Watching
+pub mod WatchedExamples
