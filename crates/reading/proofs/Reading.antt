@@ -1,5 +1,6 @@
 -- Words that ask plainly are read as what they ask.
 use Rattle.std.proofs.Math.Bool.{and-false}
+use Rattle.std.proofs.lemmas.Bool.{false_from_ne_true}
 use Rattle.std.proofs.Common.{◌≡◌, ℕ, List, [], ◌∷◌, Option, Some, None, refl, sym, ap, ◌∙◌, subst, codes}
 use Rattle.std.specs.Prelude.{Bool, true, false, if◌then◌else◌, IsTrue, IfSome, IsSomeAnd, option_map, ◌&&◌}
 use Rattle.std.specs.Prelude.{◌<◌, ◌^◌, Result, Ok, Err, unwrap_or}
@@ -329,14 +330,10 @@ read_places_behind file named =
 
 -- ---- names of files
 
-is_not : (b : Bool) → (b ≡ true → ⊥) → b ≡ false
-is_not true never = absurd (never refl)
-is_not false never = refl
-
 named_differs : (file option : List ℕ) → is_file_name option ≡ false → IsTrue (is_file_name file)
     → bytes_eq file option ≡ false
 named_differs file option dashed named =
-    is_not (bytes_eq file option)
+    false_from_ne_true (bytes_eq file option)
     (λ is. true≢false
     (sym (subst (λ (w : List ℕ). IsTrue (is_file_name w)) ((bytes_eq-Decides file option).0 is) named) ∙ dashed))
 

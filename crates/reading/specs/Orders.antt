@@ -1,5 +1,5 @@
--- What the words of a command line order: what they ask of one program, told as text or as one object; that its runs
--- are timed; or that the programs of a folder are tested.
+-- What the words of a command line order: what they ask of one program, told as text or as one object;
+-- that its runs are timed; or that the programs of a folder are tested.
 use Rattle.std.specs.Prelude.{ℕ, ◌≡◌, Bool, true, List, [], ◌∷◌, Option, None, Some, IsTrue, codes}
 use Rattle.command_line.specs.Requests.{Asked, Asks, asked_of, is_file_name}
 use Rattle.command_line.specs.declared.request.Action.{Action}
@@ -12,7 +12,8 @@ use Rattle.reading.specs.declared.order.Order.TheVariants.{AsText as rAsText, As
 use Rattle.reading.specs.declared.order.Order.TheVariants.{Times as rTimes, Tests as rTests}
 use Rattle.reading.specs.declared.order.Subject.{Subject}
 use Rattle.reading.specs.declared.order.Subject.TheVariants.{Run as RunTold, Serial as SerialTold}
-use Rattle.reading.specs.declared.order.Subject.TheVariants.{Check as CheckTold, Cost as CostTold, Pairs as PairsTold}
+use Rattle.reading.specs.declared.order.Subject.TheVariants.{Check as CheckTold, Cost as CostTold}
+use Rattle.reading.specs.declared.order.Subject.TheVariants.{Pairs as PairsTold}
 
 pub data Order : Type 0 where
   AsText : (a : Asked) → Order

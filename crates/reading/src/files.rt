@@ -2,14 +2,15 @@
 
 ghost use Rattle.std.specs.Prelude.{◌≡◌, map, option_map};
 ghost use Rattle.command_line.specs.Requests.{asked_of, choosing, file_of};
+ghost use Rattle.std.specs.Str.{bytes_eq};
 ghost use Rattle.reading.specs.Files.{all_differ as all_differ_in, is_among as is_among_in};
-ghost use Rattle.reading.specs.Files.{names_once as is_named_once};
+ghost use Rattle.reading.specs.Files.{names_once as is_named_once, plain_name as plain_name_in};
 
 use command_line::request::{Choosing, Request};
 
-/// Whether a request gives no name twice, `-` neither: nothing is read and written by the same name, and the standard
-/// input is read once. `run a.afx --trace a.afx` would lose the program. Names are compared as they stand, so
-/// `run a.afx --trace ./a.afx` passes, and loses it.
+/// Whether a request gives no name twice, `-` neither: nothing is read and written by the same name, and
+/// the standard input is read once. `run a.afx --trace ./a.afx` would lose the program. No file is looked
+/// up, so a name through another folder passes, as `x/../a.afx`, and a link.
 pub fn names_once(request: &Request<'_>) -> bool
     ensures { result ≡ is_named_once (asked_of request.now) }
 {
@@ -51,6 +52,23 @@ fn is_among(name: &str, others: &[Option<&str>]) -> bool
     match others {
         [] => false,
         [None, behind @ ..] => is_among(name, behind),
-        [Some(other), behind @ ..] => name == *other || is_among(name, behind),
+        [Some(other), behind @ ..] => names_same(name, other) || is_among(name, behind),
+    }
+}
+
+/// Whether two names are of one file, as far as they show it.
+fn names_same(name: &str, other: &str) -> bool
+    ensures { result ≡ bytes_eq (plain_name_in name.now) (plain_name_in other.now) }
+{
+    plain_name(name.as_bytes()) == plain_name(other.as_bytes())
+}
+
+/// A name without `./` in front, however often that stands there.
+fn plain_name(name: &[u8]) -> &[u8]
+    ensures { result.now ≡ plain_name_in name.now }
+{
+    match name {
+        [b'.', b'/', after, ..] if *after != b'/' => plain_name(&name[2..]),
+        _ => name,
     }
 }

@@ -21,9 +21,9 @@ use command_line::request::{Request, Telling};
 use options::reply::{self, Reply};
 use std::alloc::Global;
 
-/// Reads the words behind the program's name. What names a command, how it is told, a file and options behind it, in
-/// their order, is read here; all else, as other orders, help, pages and mistakes, by `clap`. Words that give the same
-/// name to two files are a mistake: `run a.afx --trace a.afx`.
+/// Reads the words behind the program's name. What names a command, how it is told, a file and options
+/// behind it, in their order, is read here; all else, as other orders, help, pages and mistakes, by
+/// `clap`. Words that give the same name to two files are a mistake: `run a.afx --trace a.afx`.
 pub fn order_of<'w>(alloc: Global, words: &'w [String]) -> Result<Order<'w>, Reply>
     ensures read { (o : OrderIn) → Orders (map string_bytes words.now) o → names_once o ≡ true
         → IsOkAnd result (λ r. order_said r ≡ o) }
