@@ -1,5 +1,6 @@
 -- Maps that a loop changes, offset by offset.
 use Rattle.std.proofs.Common.{◌≡◌, ℕ, zero, suc, ◌+◌, ◌<◌, ◌≤◌, Option, Some, None, Bool, true, false, refl, sym, ap, ◌∙◌, arith, rules, ◌⊎◌, inl, inr}
+use Rattle.std.proofs.Math.Bool.{and-false}
 use Rattle.std.proofs.lemmas.Bool.{eqb-true, eqb-false, leb-true, leb-false, ltb-true, lt-ltb, le-ltb, le-leb, lt-leb}
 use Rattle.std.specs.Prelude.{◌&&◌, nat_eq, nat_le, nat_lt, is_some, if◌then◌else◌}
 use Rattle.block_numbers.specs.Counts.{how_many}
@@ -14,11 +15,7 @@ pub in_range-below : (from to k : ℕ) → k < from → in_range from to k ≡ f
 in_range-below from to k lt = ap (λ b. b && nat_lt k to) (lt-leb from k lt)
 
 pub in_range-behind : (from to k : ℕ) → to ≤ k → in_range from to k ≡ false
-in_range-behind from to k le = ap (λ b. nat_le from k && b) (le-ltb k to le) ∙ either (nat_le from k)
-  where
-    either : (b : Bool) → (b && false) ≡ false
-    either true = refl
-    either false = refl
+in_range-behind from to k le = ap (λ b. nat_le from k && b) (le-ltb k to le) ∙ and-false (nat_le from k)
 
 pub in_range-cases : (from to k : ℕ)
     → ((in_range from to k ≡ true) × (from ≤ k) × (k < to)) ⊎ ((in_range from to k ≡ false) × ((k < from) ⊎ (to ≤ k)))

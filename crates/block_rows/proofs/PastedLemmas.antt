@@ -1,10 +1,10 @@
 -- How many places a paste copies, block after block.
 use Rattle.std.proofs.Common.{◌≡◌, ℕ, zero, suc, ◌+◌, ◌*◌, ◌/◌, ◌%◌, ◌<◌, ◌≤◌, List, [], ◌∷◌, Option, Some, None}
 use Rattle.std.proofs.Common.{Bool, inl, inr, true, false, refl, sym, ap, ◌∙◌, arith, cond}
-use Rattle.std.proofs.lemmas.Bool.{and_parts, and_from, cases_eq, eq-eqb, eqb-true, false≢true, leb-true, lt-ltb, ltb-true, or_cases, or_left, or_right}
+use Rattle.std.proofs.lemmas.Bool.{and_parts, and_from, cases_eq, eq-eqb, eqb-true, false≢true, leb-true, lt-ltb, ltb-true, or_cases, or_left, or_parts, or_right}
 use Rattle.std.proofs.lemmas.List.Sums.{sum_by-cons}
 use Rattle.std.specs.List.{count_by, list_any, range_with_len, sum_by}
-use Rattle.std.specs.Prelude.{ℤ, ◌&&◌, ◌||◌, ◌⊎◌, min, not, nat_eq, nat_le, nat_lt}
+use Rattle.std.specs.Prelude.{ℤ, ◌&&◌, ◌⊎◌, min, not, nat_eq, nat_le, nat_lt}
 use Rattle.std.proofs.lemmas.Bool.{le-ltb}
 use Rattle.sections.specs.Covers.{has, is_in}
 use Rattle.sections.specs.Place.{In, Place, Window, same_place}
@@ -184,7 +184,7 @@ pub none-has : (lengths : ℕ → ℕ) (a : ℕ) (ws : List Window) (b : ℕ) �
     → passing (in_block a b) ws ≤ split_where (in_block a b) lengths ws
 none-has lengths a [] b none = omega arith
 none-has lengths a (w ∷ ws) b none =
-    let parts = not_either (nat_eq w.array a && has_block (lengths a) w b) (any_has (lengths a) a ws b) none in
+    let parts = or_parts (nat_eq w.array a && has_block (lengths a) w b) (any_has (lengths a) a ws b) none in
     let rest = none-has lengths a ws b parts.1 in
     let here : passing_in (in_block a b) w ≤ count_by (λ i. in_block a b (record { array = w.array; index = i })
     && not (has_block (lengths w.array) w (i / 256))) (range_with_len w.at w.length) =
@@ -198,10 +198,6 @@ none-has lengths a (w ∷ ws) b none =
       rest,
     )
   where
-    not_either : (x y : Bool) → (x || y) ≡ false → (x ≡ false) × (y ≡ false)
-    not_either true y e = absurd (false≢true (sym e))
-    not_either false y e = (refl, e)
-
     at : (nat_eq w.array a && has_block (lengths a) w b) ≡ false → (i : ℕ) (c : Bool) → in_block a b (record { array = w.array; index = i }) ≡ c
         → one c ≤ one (c && not (has_block (lengths w.array) w (i / 256)))
     at free i false e = omega arith

@@ -1,6 +1,7 @@
 -- Rooms for what comes in, and what stands apart.
 use Rattle.std.proofs.Common.{◌≡◌, ℕ, ◌+◌, ◌-◌, ◌*◌, ◌/◌, ◌%◌, ◌<◌, ◌≤◌, List, length, get_or, IsSome, is_some}
 use Rattle.std.proofs.Common.{Option, Some, None, Bool, true, false, inl, inr, refl, sym, ap, ◌∙◌, arith, rules, subst, ◌⊎◌}
+use Rattle.std.proofs.Math.Bool.{and-false}
 use Rattle.std.proofs.lemmas.Bool.{cases_eq, ltb-true, ne_eqb}
 use Rattle.std.proofs.lemmas.Option.{same_Some}
 use Rattle.std.specs.Prelude.{◌&&◌, nat_eq, nat_lt}
@@ -61,16 +62,12 @@ pub row_room-more : (own own' : List Row) (a : ℕ) (r : Row) (n : ℕ) (b : Blo
     → (j : ℕ) (theirs : Block) → j < r.first + (n + 1) → block_in r j ≡ Some theirs → HasRoom own' a j theirs
 row_room-more own own' a r n b lt is before keeps here j theirs low there = by_eq (cases_eq j (r.first + n))
   where
-    and_false : (c : Bool) → (c && false) ≡ false
-    and_false true = refl
-    and_false false = refl
-
     by_eq : (j ≡ r.first + n) ⊎ (j ≡ r.first + n → ⊥) → HasRoom own' a j theirs
     by_eq (inl e) =
         let same : b ≡ theirs = same_Some _ _ (sym (row-nth r n b lt is) ∙ ap (block_in r) (sym e) ∙ there) in
         subst (λ m. HasRoom own' a m theirs) (sym e) (subst (HasRoom own' a (r.first + n)) same here)
     by_eq (inr ne) =
-        let other : (nat_eq a a && nat_eq j (r.first + n)) ≡ false = ap (λ c. nat_eq a a && c) (ne_eqb j (r.first + n) ne) ∙ and_false (nat_eq a a) in
+        let other : (nat_eq a a && nat_eq j (r.first + n)) ≡ false = ap (λ c. nat_eq a a && c) (ne_eqb j (r.first + n) ne) ∙ and-false (nat_eq a a) in
         keeps a j theirs (before j theirs (omega (arith, low, ne)) there) other
 
 pub row_room-done : (own : List Row) (a : ℕ) (r : Row) (n : ℕ) → length r.blocks.items ≤ n

@@ -1,7 +1,7 @@
 -- Rows with more blocks, which hold nothing.
 use Rattle.std.proofs.Common.{◌≡◌, ℕ, ◌+◌, ◌-◌, ◌<◌, ◌≤◌, List, ◌++◌, length, get_or}
 use Rattle.std.proofs.Common.{Option, Some, None, Bool, true, false, inl, inr, refl, sym, ap, ◌∙◌, arith, rules, ◌⊎◌, IsSome, is_some}
-use Rattle.std.proofs.lemmas.Bool.{leb-true, ltb-true, false≢true}
+use Rattle.std.proofs.lemmas.Bool.{cases_Bool, leb-true, ltb-true, false≢true}
 use Rattle.std.proofs.lemmas.List.{length-append}
 use Rattle.std.proofs.lemmas.List.{get_or-append-add, get_or_append_left}
 use Rattle.std.specs.Prelude.{nat_le, nat_lt, slice_get, if◌then◌else◌}
@@ -63,11 +63,7 @@ before-append first number es xs b at none = by_low (nat_le first b) refl
 
     by_low : (t : Bool) → nat_le first b ≡ t → IsAsBefore (row_from first xs b) (row_from number (es ++ xs) b)
     by_low true e = by_high (leb-true _ _ e) (nat_lt b (first + length xs)) refl
-    by_low false e = let lt : b < first = search rules in by_there lt (by_bool (nat_le number b))
-      where
-        by_bool : (t : Bool) → (t ≡ true) ⊎ (t ≡ false)
-        by_bool true = inl refl
-        by_bool false = inr refl
+    by_low false e = let lt : b < first = search rules in by_there lt (cases_Bool (nat_le number b))
 
 -- a block that is there
 pub row-there : (first : ℕ) (xs : List Block) (b : ℕ) → first ≤ b → b < first + length xs → IsSome (row_from first xs b)

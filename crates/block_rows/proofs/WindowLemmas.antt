@@ -1,7 +1,7 @@
 -- Places of lists of windows, one window more at a time.
 use Rattle.std.proofs.Common.{◌≡◌, ℕ, zero, suc, ◌+◌, ◌<◌, List, [], ◌∷◌, ◌++◌, length, get_or, map, take}
-use Rattle.std.proofs.Common.{Bool, true, false, refl, sym, ap, ◌∙◌, arith, ◌⊎◌, inl, inr}
-use Rattle.std.proofs.Math.Bool.{or_assoc, or-false}
+use Rattle.std.proofs.Common.{true, sym, ap, ◌∙◌, arith, ◌⊎◌, inl, inr}
+use Rattle.std.proofs.Math.Bool.{or_assoc, or-false, or-true}
 use Rattle.std.proofs.lemmas.Bool.{or_cases}
 use Rattle.std.proofs.lemmas.List.{take_more}
 use Rattle.std.specs.Prelude.{◌||◌}
@@ -33,11 +33,7 @@ has-item (x ∷ xs) zero w q lt is here =
     ap (λ (y : rWindow). is_in (window_of y) q || has (map window_of xs) q) (sym is)
     ∙ ap (λ b. b || has (map window_of xs) q) here
 has-item (x ∷ xs) (suc i) w q lt is here =
-    ap (λ b. is_in (window_of x) q || b) (has-item xs i w q (omega (arith, lt)) is here) ∙ or_true (is_in (window_of x) q)
-  where
-    or_true : (a : Bool) → (a || true) ≡ true
-    or_true true = refl
-    or_true false = refl
+    ap (λ b. is_in (window_of x) q || b) (has-item xs i w q (omega (arith, lt)) is here) ∙ or-true (is_in (window_of x) q)
 
 pub there-more : {A : Type 0} (ws : List rWindow) (i : ℕ) (w : rWindow) (m : Map A) → i < length ws → w ≡ get_or ws i w
     → IsThere (has (map window_of (take i ws))) m → IsThere (is_in (window_of w)) m → IsThere (has (map window_of (take (i + 1) ws))) m

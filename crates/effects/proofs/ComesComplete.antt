@@ -2,7 +2,7 @@
 use Rattle.std.proofs.Common.{◌≡◌, ◌≢◌, ℕ, zero, suc, ◌+◌, ◌<◌, List, [], ◌∷◌, ◌++◌, length, refl, sym, ap}
 use Rattle.std.proofs.Common.{subst, ◌∙◌, arith, Some, Option}
 use Rattle.std.proofs.lemmas.Bool.{lt-ltb, eqb-true, eqb-false}
-use Rattle.std.specs.Prelude.{Bool, true, false, nat_eq, if◌then◌else◌, slice_get, slice_index_or, flat_map}
+use Rattle.std.specs.Prelude.{Bool, true, false, nat_eq, if◌then◌else◌, slice_get, slice_index_or}
 use Rattle.facts.proofs.Truths.{false_true}
 use Rattle.sections.specs.Member.{Member, first, next}
 use Rattle.sections.specs.Overlap.{root_of}
@@ -28,11 +28,7 @@ use Rattle.effects.specs.declared.visits.Standing.{Standing}
 use Rattle.effects.specs.declared.visits.Standing.TheVariants.{Open, Begun, Awaited}
 use Rattle.effects.proofs.AccessesInScope.{origin_from_get, allowed, pending_all}
 use Rattle.effects.proofs.ComesSound.{past_root}
-use Rattle.effects.proofs.Members.{in_left, in_right, numbers_from-below}
-
-in_flat_map : {A B : Type 0} (f : A → List B) {x : A} {y : B} {xs : List A} → Member x xs → Member y (f x) → Member y (flat_map f xs)
-in_flat_map f (first {xs = xs}) h = in_left (flat_map f xs) h
-in_flat_map f (next {y = z} m) h = in_right (f z) (in_flat_map f m h)
+use Rattle.effects.proofs.Members.{in_flat_map, in_left, in_right, numbers_from-below}
 
 -- a statement of a procedure, where it stands
 abbrev seen : Standing → ℕ → Code → Visit

@@ -1,7 +1,6 @@
 -- Firsts to which more accesses are added.
-use Rattle.std.proofs.Common.{◌≡◌, ◌⊎◌, inl, inr, ℕ, List, [], ◌++◌, length, refl, sym, ap, subst, arith}
-use Rattle.std.specs.Prelude.{nat_eq, Bool, true, false, if◌then◌else◌, ◌<◌}
-use Rattle.std.proofs.lemmas.Bool.{eqb-true}
+use Rattle.std.proofs.Common.{◌≡◌, ◌⊎◌, inl, inr, ℕ, List, [], ◌++◌, length, sym, ap, subst, arith}
+use Rattle.std.specs.Prelude.{◌<◌}
 use Rattle.sections.specs.Member.{Member}
 use Rattle.types.specs.Code.{Code, Codes, End, Then, Program}
 use Rattle.types.specs.Run.{procedure_of}
@@ -11,7 +10,6 @@ use Rattle.effects.specs.Effects.{accesses, AllOf, All}
 use Rattle.effects.specs.Firsts.{HasAsEarly, AreFirsts, AreFirstsIn, AddsFirsts, IsPassed}
 use Rattle.effects.specs.Rows.{AllInside, Renamed}
 use Rattle.effects.specs.Sound.{IsSound, parameters_of}
-use Rattle.effects.specs.Summarized.{body_of}
 use Rattle.effects.proofs.AccessesInScope.{allowed}
 use Rattle.effects.proofs.FirstLabels.{as_early_itself, as_early_through, firsts_same}
 use Rattle.effects.proofs.LeastRows.{all_rows, all_lists}
@@ -129,10 +127,3 @@ module _ (p : Program) (sound : IsSound p) (f n : ℕ) (e : n ≡ length (proced
       numbers_from-below (length (procedure_of p f).parameters) x.section
       (allowed p sound h (procedure_of p f) (parameters_of (procedure_of p f)) g.numbered g.body).in_scope in
       omega arith
-
-pub body_of_callee : (p : Program) (f : ℕ) → f < length p.procedures → body_of p f ≡ (procedure_of p f).body
-body_of_callee p f h = by (nat_eq f (length p.procedures)) refl
-  where
-    by : (b : Bool) → nat_eq f (length p.procedures) ≡ b → (if b then p.main.body else (procedure_of p f).body) ≡ (procedure_of p f).body
-    by true e = let k : f ≡ length p.procedures = eqb-true f (length p.procedures) e in absurd (omega arith)
-    by false e = refl

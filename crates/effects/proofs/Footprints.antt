@@ -19,6 +19,10 @@ use Rattle.effects.proofs.Members.{from_map, numbers_from-below}
 use Rattle.effects.proofs.AccessesInScope.{allowed, pending_all}
 use Rattle.effects.proofs.EnvironmentsFit.{by_number-map}
 
+-- what is overwritten is touched
+pub overwrites_touch : (env : Environment) (xs : Access → Type 0) (q : Place) → Overwrites env xs q → Touches env xs q
+overwrites_touch env xs q t = record { access = t.access; among = t.among; place = t.place }
+
 -- Renaming, and places
 
 module _ (env other : Environment) (xs ys : Access → Type 0) (out : ℕ → ℕ) (among : (x : Access) → xs x → ys (renamed out x))

@@ -2,8 +2,8 @@
 use Rattle.std.proofs.Common.{◌≡◌, ◌⊎◌, ℕ, zero, suc, ◌+◌, ◌-◌, ◌<◌, ◌≤◌, List, [], ◌∷◌, ◌++◌, length, map, refl, sym}
 use Rattle.std.proofs.Common.{ap, ◌∙◌, subst, inl, inr, arith}
 use Rattle.std.proofs.lemmas.Bool.{ltb-true, ltb-false}
-use Rattle.std.specs.Prelude.{Bool, true, false, nat_lt, flat_map, slice_index_or}
-use Rattle.sections.specs.Member.{Member, first, next}
+use Rattle.std.specs.Prelude.{Bool, true, false, nat_lt, slice_index_or}
+use Rattle.sections.specs.Member.{Member}
 use Rattle.types.specs.Code.{Code, Do, If, While, Split, Call, Async, Finish, Codes, End, Then, Procedure, Program}
 use Rattle.types.specs.Run.{procedure_of, no_procedure}
 use Rattle.effects.specs.Accesses.{Access, own_accesses}
@@ -14,7 +14,7 @@ use Rattle.effects.specs.Tables.{Table, all_inside, all_in, left_by, left_in, Is
 use Rattle.effects.specs.Tables.{IsStablePending}
 use Rattle.effects.specs.Rounds.{none, after, all_round, pending_round, standing, possible, possible_below, summaries}
 use Rattle.effects.specs.Rounds.{pending_summaries}
-use Rattle.effects.proofs.Members.{in_left, in_right, in_map, from_map}
+use Rattle.effects.proofs.Members.{in_flat_map, in_left, in_right, in_map, from_map}
 use Rattle.effects.proofs.AccessesInScope.{allowed, pending_all}
 use Rattle.effects.proofs.StableTables.{parts, listed, left}
 use Rattle.effects.proofs.Stability.{becomes_stable, first_keeps}
@@ -165,11 +165,6 @@ module _ (p : Program) where
         from_more (all_in accesses none rest) (own_accesses l s ++ (all_inside accesses none s ++ all_in accesses none rest)) x
         (λ y m. in_right (own_accesses l s) (in_right (all_inside accesses none s) m)) (from_all h)
 
-  in_flat_map : {A B : Type 0} (f : A → List B) {y : A} {x : B} (ys : List A) → Member y ys → Member x (f y) → Member x (flat_map f ys)
-  in_flat_map f [] m n = elim m [ ]
-  in_flat_map f {y = y} (z ∷ ys) first n = in_left (flat_map f ys) n
-  in_flat_map f (z ∷ ys) (next m) n = in_right (f z) (in_flat_map f ys m n)
-
   module _ (sound : IsSound p) where
     -- what a body does is possible
     pub is_possible : (f : ℕ) (x : Access) → All p accesses (procedure_of p f).body x → Member x (possible p f)
@@ -178,7 +173,7 @@ module _ (p : Program) where
         let g = sound.procedures f in
         let a = allowed p sound h (procedure_of p f) (parameters_of (procedure_of p f)) g.numbered g.body in
         in_flat_map
-        (λ (y : Access). map (λ s. record y { section = s }) (parameters_of (procedure_of p f))) {y = k.access} all_standing k.among
+        (λ (y : Access). map (λ s. record y { section = s }) (parameters_of (procedure_of p f))) {x = k.access} k.among
         (subst (λ y. Member y (map (λ s. record k.access { section = s }) (parameters_of (procedure_of p f))))
         (ap (λ l. make l x.section k.access.write) k.label ∙ ap (make x.label x.section) k.write)
         (in_map (λ s. make k.access.label s k.access.write) a.in_scope))

@@ -9,6 +9,21 @@ use Rattle.std.proofs.lemmas.Slice.Zip.{AllZip-map}
 pub same_elements : {A : Type 0} (xs ys : List A) → AllZip (λ x y. y ≡ x) xs ys → ys ≡ xs
 same_elements xs ys h = AllZip-map (λ x. x) xs ys h ∙ map-id xs
 
+-- two lists that are the same begin the same and go on the same
+pub same_head : {A : Type 0} {x y : A} {xs ys : List A} → x ∷ xs ≡ y ∷ ys → x ≡ y
+same_head {A} {x} e = ap head e
+  where
+    head : List A → A
+    head [] = x
+    head (z ∷ zs) = z
+
+pub same_rest : {A : Type 0} {x y : A} {xs ys : List A} → x ∷ xs ≡ y ∷ ys → xs ≡ ys
+same_rest {A} e = ap rest e
+  where
+    rest : List A → List A
+    rest [] = []
+    rest (z ∷ zs) = zs
+
 -- a space that is repeated is a row of spaces
 pub spaces : (n : ℕ) → repeat {A = ℕ} n (32 ∷ []) ≡ replicate n 32
 spaces zero = refl

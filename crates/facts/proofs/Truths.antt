@@ -1,5 +1,5 @@
 -- Truth values.
-use Rattle.std.proofs.Common.{◌≡◌, sym, refl, true≢false}
+use Rattle.std.proofs.Common.{◌≡◌, ◌∙◌, sym, refl, true≢false}
 use Rattle.std.specs.Prelude.{Bool, true, false, ◌||◌}
 
 -- from two that differ anything follows
@@ -8,6 +8,10 @@ false_true h = absurd (true≢false (sym h))
 
 pub true_false : {A : Type 0} → true ≡ false → A
 true_false h = absurd (true≢false h)
+
+-- one that is both true and false: anything follows
+pub not_both : {A : Type 0} {b : Bool} → b ≡ true → b ≡ false → A
+not_both t f = true_false (sym t ∙ f)
 
 -- two that follow from one another are the same
 pub same_truth : (a b : Bool) → (a ≡ true → b ≡ true) → (b ≡ true → a ≡ true) → a ≡ b

@@ -8,6 +8,7 @@ use Rattle.std.proofs.lemmas.List.{length-reverse, reverse-append, reverse-rever
 use Rattle.std.proofs.lemmas.Option.{none-some, same_Some}
 use Rattle.std.specs.Option.{option_flatten}
 use Rattle.facts.proofs.Truths.{false_true}
+use Rattle.facts.proofs.Lists.{same_head, same_rest}
 use Rattle.own_run.specs.Settling.{behind, take}
 use Rattle.own_run.specs.Translation.{task_result}
 use Rattle.own_run.proofs.SettledResults.{paths_same}
@@ -17,22 +18,6 @@ use Rattle.gather.specs.declared.table.Entry.{Entry}
 use Rattle.gather.proofs.Taking.{taken_here, passed}
 
 -- ---- lists
-head_or : {A : Type 0} → A → List A → A
-head_or d [] = d
-head_or d (x ∷ xs) = x
-
-rest_of : {A : Type 0} → List A → List A
-rest_of [] = []
-rest_of (x ∷ xs) = xs
-
-same_head : {A : Type 0} (x y : A) (xs ys : List A) → x ∷ xs ≡ y ∷ ys → x ≡ y
-unfolding head_or
-same_head x y xs ys e = ap (head_or x) e
-
-same_rest : {A : Type 0} (x y : A) (xs ys : List A) → x ∷ xs ≡ y ∷ ys → xs ≡ ys
-unfolding rest_of
-same_rest x y xs ys e = ap rest_of e
-
 get_behind : {A : Type 0} (p d x : A) (ps : List A) (i : ℕ) → i < length ps → get_or (reverse ps) i d ≡ x → get_or (reverse (p ∷ ps)) i d ≡ x
 get_behind p d x ps i lt e =
     ap (λ l. get_or l i d) (reverse_onto ps p [])
@@ -102,10 +87,10 @@ pub record Found (path : List ℕ) (ps : List (Option Entry)) (i : ℕ) : Type 0
 -- it stands in front
 module _ (path : List ℕ) (x : Entry) (ps : List (Option Entry)) (chain : AreChained (Some x ∷ ps)) where
   next_is : x.next ≡ first_of x.task.path.turns.items ps
-  next_is = same_head x.next (first_of x.task.path.turns.items ps) (said_next ps) (next_in ps) chain
+  next_is = let same : x.next ∷ said_next ps ≡ first_of x.task.path.turns.items ps ∷ next_in ps = chain in same_head same
 
   chain_behind : AreChained ps
-  chain_behind = same_rest x.next (first_of x.task.path.turns.items ps) (said_next ps) (next_in ps) chain
+  chain_behind = let same : x.next ∷ said_next ps ≡ first_of x.task.path.turns.items ps ∷ next_in ps = chain in same_rest same
 
   firsts_here : is_of path x.task ≡ true → (other : List ℕ)
       → first_of other ps ≡ (if pointwise nat_eq path other then x.next else first_of other (Some x ∷ ps))

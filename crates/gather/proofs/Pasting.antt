@@ -1,7 +1,7 @@
 -- What comes back from a task goes into its hole.
 use Rattle.std.proofs.Common.{◌≡◌, ℕ, zero, suc, ◌+◌, ◌≤◌, ◌<◌, List, [], ◌∷◌, ◌++◌, Option, Some, None, refl, sym, ap, ◌∙◌, arith, subst, ◌⊎◌, inl, inr}
 use Rattle.std.proofs.Math.Bool.{or_assoc, or-false, or-true}
-use Rattle.std.proofs.lemmas.Bool.{eqb-true, or_parts, or_cases}
+use Rattle.std.proofs.lemmas.Bool.{eqb-true, or_parts, or_cases, true_from_ne_false}
 use Rattle.std.proofs.lemmas.List.{map-append}
 use Rattle.std.specs.Prelude.{ℤ, Bool, true, false, ◌||◌, is_some, length, nat_eq, map, option_map, if◌then◌else◌, Result, Ok, Err, IfErr, Vec}
 use Rattle.std.specs.Global.{Global}
@@ -268,11 +268,7 @@ pub refuses_back : (e : GatherError) (path : Path) (met : Bool) (apart : Type 0)
     → RefusesPaste path apart e → RefusesBack path met e
 refuses_back OutOfMemory path met apart back h = tt
 refuses_back (Lost other) path met apart back h = h
-refuses_back (Double other) path met apart back h = (h.0, unless met (λ e. h.1 (back e)))
-  where
-    unless : (b : Bool) → (b ≡ false → ⊥) → b ≡ true
-    unless true k = refl
-    unless false k = absurd (k refl)
+refuses_back (Double other) path met apart back h = (h.0, true_from_ne_false met (λ e. h.1 (back e)))
 refuses_back (Stranger other) path met apart back h = h
 
 pub refuses_hole : (e : GatherError) (w : Waiting) (path : Path) → path.turns.items ≡ w.hole.path

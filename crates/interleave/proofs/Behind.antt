@@ -6,6 +6,7 @@ use Rattle.std.proofs.lemmas.Bool.{not-false}
 use Rattle.std.specs.Prelude.{Bool, true, false, ◌&&◌, ◌<◌, not, nat_eq, map, drop, slice_index_or, if◌then◌else◌}
 use Rattle.std.specs.HashMap.{get}
 use Rattle.std.specs.HashSet.{contains}
+use Rattle.facts.proofs.Lists.{same_head}
 use Rattle.types.specs.Run.{State}
 use Rattle.types.specs.Translation.{program, is_path}
 use Rattle.types.specs.declared.path.Path.{Path}
@@ -43,7 +44,7 @@ use Rattle.interleave.specs.declared.task.Task.{Task as rTask}
 use Rattle.interleave.specs.declared.task.Whereabouts.TheVariants.{Parked as rParked}
 use Rattle.interleave.specs.declared.world.World.{World as rWorld}
 use Rattle.interleave.proofs.Came.{results_came}
-use Rattle.interleave.proofs.Histories.{cons_head, nil_cons}
+use Rattle.interleave.proofs.Histories.{nil_cons}
 use Rattle.interleave.proofs.InHand.{does_in, gives_in, one_first}
 use Rattle.interleave.proofs.Lookups.{scopes_same, task_path}
 use Rattle.interleave.proofs.Outcomes.{results_are_own}
@@ -185,7 +186,7 @@ module _ (r : rWorld) (w : World) (h : Shows r w) (path : Path) (worker : ℕ) w
       by_items t [] items x rest e b f = absurd (nil_cons (sym (ap (map stake) items) ∙ e))
       by_items t (y ∷ ys) items x rest e b f =
           let same : s ≡ y = front ∙ ap (λ xs. slice_index_or xs 0 s) items in
-          let head : stake y ≡ x = cons_head (sym (ap (map stake) items) ∙ e) in
+          let head : stake y ≡ x = same_head (sym (ap (map stake) items) ∙ e) in
           let there_so = ap (λ (z : Stake). scope z.scope w.scopes) (ap stake same ∙ head) ∙ f in
           ap (λ z. is_parked t.place && (z && hand_is_free worker w.live)) (by_book (get is_scope r.scopes s.scope) refl b there_so)
           ∙ none_passed (is_parked t.place) (hand_is_free worker w.live)

@@ -7,6 +7,7 @@ use Rattle.std.specs.Prelude.{Bool, true, false, ◌⊎◌, ◌&&◌, not, nat_e
 use Rattle.std.specs.Prelude.{if◌then◌else◌, is_some}
 use Rattle.std.proofs.lemmas.Option.{none-some, same_Some}
 use Rattle.facts.proofs.Truths.{false_true}
+use Rattle.facts.proofs.Lists.{same_head, same_rest}
 use Rattle.types.specs.Code.{Codes, Program}
 use Rattle.effects.specs.Needs.{Needs}
 use Rattle.own_run.specs.Results.{and_then}
@@ -30,7 +31,7 @@ use Rattle.interleave.proofs.ReplayLaws.{IsFree, IsSpent, IsUnsettled, GoesOn, E
 use Rattle.interleave.proofs.Lookups.{by_test, path_is, path_not, other_path, scopes_same, task_path}
 use Rattle.interleave.proofs.Lookups.{Unique, each_task}
 use Rattle.interleave.proofs.Histories.{contains_nil, contains_here, contains_later, contains_cons, contains_map}
-use Rattle.interleave.proofs.Histories.{cons_head, cons_tail, nil_cons, nil_snoc}
+use Rattle.interleave.proofs.Histories.{nil_cons, nil_snoc}
 use Rattle.interleave.proofs.Stakes.{scope_of, own as own_scope, IsPositive, Weighty, weighty_awake}
 use Rattle.interleave.proofs.Changes.{hand_awake}
 use Rattle.interleave.proofs.Kept.{base, Hangs, IsTold}
@@ -277,10 +278,10 @@ module _ (p : Program) (needs : Codes → Needs) (fresh w0 : ℕ) (least : 1 ≤
               IsEnd x = ⊥
 
           by_inside : (ns : List ℕ) (l : List ScopeId) → h.kept.line q ≡ l → map scope_of (s ∷ outer) ≡ map (own_scope q) ns ++ base l → same_path t.path s.scope.owner ≡ true
-          by_inside (n ∷ ns) l f g = path_is (named ∙ ap (λ (i : ScopeId). i.owner) (sym (cons_head g)))
+          by_inside (n ∷ ns) l f g = path_is (named ∙ ap (λ (i : ScopeId). i.owner) (sym (same_head g)))
           by_inside [] [] f g = absurd (nil_cons (sym g))
           by_inside [] (b ∷ l) f g =
-              let none : depth (length outer) (EndFinish ∷ []) ≡ None = ap (λ ss. depth (length ss) (EndFinish ∷ [])) (alone outer (cons_tail g)) in
+              let none : depth (length outer) (EndFinish ∷ []) ≡ None = ap (λ ss. depth (length ss) (EndFinish ∷ [])) (alone outer (same_rest g)) in
               let k = last_only EndFinish e none in
               let r : q ≡ [] = sym named ∙ own_last t.path k.1 in
               absurd (nil_cons (sym h.kept.no_line ∙ ap h.kept.line (sym r) ∙ f))
@@ -319,8 +320,8 @@ module _ (p : Program) (needs : Codes → Needs) (fresh w0 : ℕ) (least : 1 ≤
               other f = let a = g.shorter in let b : length g.owner ≡ length q = ap length f in omega (arith, a, b)
 
               by_inside : (ns : List ℕ) → map scope_of (s ∷ outer) ≡ map (own_scope q) ns ++ own_scope g.owner g.number ∷ [] → same_path t.path s.scope.owner ≡ false
-              by_inside [] f = path_not t.path s.scope.owner (λ i. other (ap (λ (j : ScopeId). j.owner) (sym (cons_head f)) ∙ sym i ∙ named))
-              by_inside (n ∷ ns) f = absurd (nil_snoc (map (own_scope q) ns) (own_scope g.owner g.number) [] (sym (ap (map scope_of) none_below) ∙ cons_tail f))
+              by_inside [] f = path_not t.path s.scope.owner (λ i. other (ap (λ (j : ScopeId). j.owner) (sym (same_head f)) ∙ sym i ∙ named))
+              by_inside (n ∷ ns) f = absurd (nil_snoc (map (own_scope q) ns) (own_scope g.owner g.number) [] (sym (ap (map scope_of) none_below) ∙ same_rest f))
 
     -- with nothing left to do its own run waits
     still_waits : (s : Stake) (outer : List Stake) → t.stakes ≡ s ∷ outer → does_next t ≡ None → is_waiting (run_by p needs fresh t.receipts t.start) ≡ true
@@ -438,16 +439,16 @@ module _ (p : Program) (needs : Codes → Needs) (fresh w0 : ℕ) (least : 1 ≤
           by_kind : (q ≡ []) ⊎ Hangs es w.live h.kept.line q → ⊥
           by_kind (inl g) = nil_cons (sym h.kept.no_line ∙ ap h.kept.line (sym g) ∙ e)
           by_kind (inr g) =
-              let same : g.owner ≡ q = ap (λ (i : ScopeId). i.owner) (cons_head (sym g.lined ∙ e)) ∙ f in
+              let same : g.owner ≡ q = ap (λ (i : ScopeId). i.owner) (same_head (sym g.lined ∙ e)) ∙ f in
               let a = g.shorter in let n : length g.owner ≡ length q = ap length same in omega (arith, a, n)
 
       inner : IsInner
       inner = by_inside (told es q).inside (h.kept.line q) refl refl longest_scopes
         where
           by_inside : (ns : List ℕ) (line : List ScopeId) → (told es q).inside ≡ ns → h.kept.line q ≡ line → map scope_of (s ∷ outer) ≡ map (own_scope q) ns ++ base line → IsInner
-          by_inside (n ∷ ns) line e f g = record { number = n; low = ns; inside = e; same = cons_head g; others = cons_tail g ∙ ap (λ x. map (own_scope q) ns ++ base x) (sym f) }
+          by_inside (n ∷ ns) line e f g = record { number = n; low = ns; inside = e; same = same_head g; others = same_rest g ∙ ap (λ x. map (own_scope q) ns ++ base x) (sym f) }
           by_inside [] [] e f g = absurd (nil_cons (sym g))
-          by_inside [] (b ∷ rest) e f g = absurd (not_base b rest f (ap (λ (i : ScopeId). i.owner) (sym (cons_head g)) ∙ own_owner))
+          by_inside [] (b ∷ rest) e f g = absurd (not_base b rest f (ap (λ (i : ScopeId). i.owner) (sym (same_head g)) ∙ own_owner))
 
       -- a base is no scope of this task
       base_other : (r : List ℕ) (u : Live) → task r w.live ≡ Some u → Contains (base (h.kept.line r)) s.scope → ⊥
@@ -525,8 +526,8 @@ module _ (p : Program) (needs : Codes → Needs) (fresh w0 : ℕ) (least : 1 ≤
               low_none (n ∷ ns) e = absurd (nil_cons (sym e))
 
               by_above : (above : List ℕ) → inner.number ∷ inner.low ≡ above ++ 0 ∷ [] → s.scope ≡ root_scope
-              by_above [] e = inner.same ∙ ap (λ n. own_scope q n) (cons_head e) ∙ ap (λ r. own_scope r 0) g
-              by_above (n ∷ above) e = absurd (nil_snoc above 0 [] (sym (low_none inner.low none_there) ∙ cons_tail e))
+              by_above [] e = inner.same ∙ ap (λ n. own_scope q n) (same_head e) ∙ ap (λ r. own_scope r 0) g
+              by_above (n ∷ above) e = absurd (nil_snoc above 0 [] (sym (low_none inner.low none_there) ∙ same_rest e))
 
       parked_among : (e : Event) → Contains (when_parked 0 q (s ∷ outer)) e → Contains (candidates 0 q t.place t.stakes) e
       parked_among e c =

@@ -5,6 +5,8 @@ use Rattle.std.proofs.lemmas.List.{append-nil}
 use Rattle.std.proofs.lemmas.List.Elements.{Contains-append_left, Contains-push, Contains-push_cases}
 use Rattle.std.specs.Prelude.{Bool, true, false, ◌⊎◌, map, Contains, if◌then◌else◌}
 use Rattle.std.proofs.lemmas.Option.{none-some, same_Some}
+use Rattle.facts.proofs.Truths.{not_both}
+use Rattle.facts.proofs.Lists.{same_head, same_rest}
 use Rattle.own_run.specs.Results.{TaskResult}
 use Rattle.own_run.specs.Lists.{Each}
 use Rattle.own_run.specs.OwnRun.{Action}
@@ -16,8 +18,8 @@ use Rattle.interleave.specs.Events.{Event, Take, Steal, Steps, Replenish, Spawns
 use Rattle.interleave.specs.Events.{issue, give_back, did, new_task, new_scope}
 use Rattle.interleave.specs.History.{told, SpawnsAt, BegunIn, in_own, handed_on}
 use Rattle.interleave.proofs.Lookups.{by_test, other_path, task-without_task, gone-without_task}
-use Rattle.interleave.proofs.Lookups.{scope-put_scope, scope_is, path_is, scopes_same, true_not_false}
-use Rattle.interleave.proofs.Histories.{cons_head, cons_tail, nil_cons, still_spawns, spawned_since}
+use Rattle.interleave.proofs.Lookups.{scope-put_scope, scope_is, path_is, scopes_same}
+use Rattle.interleave.proofs.Histories.{nil_cons, still_spawns, spawned_since}
 use Rattle.interleave.proofs.Stakes.{scope_of, own}
 use Rattle.interleave.proofs.Changes.{IsQuiet, IsSpawn, IsOpen, IsEnd, IsResume, Becomes}
 use Rattle.interleave.proofs.Kept.{base, Kept, Hangs}
@@ -31,14 +33,14 @@ record Splits {X : Type 0} (b c : List X) (x y : X) : Type 0 where
 
 splits : {X : Type 0} (b c l m : List X) (x y : X) → b ++ x ∷ l ≡ c ++ y ∷ m → Splits b c x y
 splits [] [] l m x y e = record { how = inl refl }
-splits [] (d ∷ c) l m x y e = record { how = inr (inl (c, ap (λ z. z ∷ c) (sym (cons_head e)))) }
-splits (d ∷ b) [] l m x y e = record { how = inr (inr (b, ap (λ z. z ∷ b) (cons_head e))) }
-splits (d ∷ b) (f ∷ c) l m x y e = further (splits b c l m x y (cons_tail e)).how
+splits [] (d ∷ c) l m x y e = record { how = inr (inl (c, ap (λ z. z ∷ c) (sym (same_head e)))) }
+splits (d ∷ b) [] l m x y e = record { how = inr (inr (b, ap (λ z. z ∷ b) (same_head e))) }
+splits (d ∷ b) (f ∷ c) l m x y e = further (splits b c l m x y (same_rest e)).how
   where
     further : (b ≡ c) ⊎ (((m : List _) × (c ≡ b ++ x ∷ m)) ⊎ ((m : List _) × (b ≡ c ++ y ∷ m))) → Splits (d ∷ b) (f ∷ c) x y
-    further (inl g) = record { how = inl (ap (λ z. z ∷ b) (cons_head e) ∙ ap (λ l. f ∷ l) g) }
-    further (inr (inl (k, g))) = record { how = inr (inl (k, ap (λ z. z ∷ c) (sym (cons_head e)) ∙ ap (λ l. d ∷ l) g)) }
-    further (inr (inr (k, g))) = record { how = inr (inr (k, ap (λ z. z ∷ b) (cons_head e) ∙ ap (λ l. f ∷ l) g)) }
+    further (inl g) = record { how = inl (ap (λ z. z ∷ b) (same_head e) ∙ ap (λ l. f ∷ l) g) }
+    further (inr (inl (k, g))) = record { how = inr (inl (k, ap (λ z. z ∷ c) (sym (same_head e)) ∙ ap (λ l. d ∷ l) g)) }
+    further (inr (inr (k, g))) = record { how = inr (inr (k, ap (λ z. z ∷ b) (same_head e) ∙ ap (λ l. f ∷ l) g)) }
 
 record SameSpawn (b c : List Event) (o p : List ℕ) : Type 0 where
   before : b ≡ c
@@ -69,7 +71,7 @@ pub begun_in_one : (es : List Event) (i j : ScopeId) (q : List ℕ) → BegunIn 
 begun_in_one es i j q (in_own {before = b} {low = l} h e) (in_own {before = c} {low = m} k f) =
     let s = spawn_once es b c i.owner j.owner q h k in
     let ns = sym e ∙ ap (λ x. (told x i.owner).inside) s.before ∙ ap (λ r. (told c r).inside) s.parent ∙ f in
-    ap (λ r. own r i.number) s.parent ∙ ap (own j.owner) (cons_head ns)
+    ap (λ r. own r i.number) s.parent ∙ ap (own j.owner) (same_head ns)
 begun_in_one es i j q (in_own {before = b} h e) (handed_on {before = c} {path = p} k f g) =
     let s = spawn_once es b c i.owner p q h k in
     absurd (nil_cons (sym (sym e ∙ ap (λ x. (told x i.owner).inside) s.before ∙ ap (λ r. (told c r).inside) s.parent ∙ f)))
@@ -93,10 +95,10 @@ Last (s ∷ r ∷ more) id = Last (r ∷ more) id
 last_same_scopes : (ss rs : List Stake) (id : ScopeId) → map scope_of ss ≡ map scope_of rs → Last ss id → Last rs id
 last_same_scopes [] rs id e h = absurd h
 last_same_scopes (s ∷ ss) [] id e h = absurd (nil_cons (sym e))
-last_same_scopes (s ∷ []) (r ∷ []) id e h = sym (cons_head e) ∙ h
-last_same_scopes (s ∷ []) (r ∷ t ∷ rs) id e h = absurd (nil_cons (cons_tail e))
-last_same_scopes (s ∷ t ∷ ss) (r ∷ []) id e h = absurd (nil_cons (sym (cons_tail e)))
-last_same_scopes (s ∷ t ∷ ss) (r ∷ u ∷ rs) id e h = last_same_scopes (t ∷ ss) (u ∷ rs) id (cons_tail e) h
+last_same_scopes (s ∷ []) (r ∷ []) id e h = sym (same_head e) ∙ h
+last_same_scopes (s ∷ []) (r ∷ t ∷ rs) id e h = absurd (nil_cons (same_rest e))
+last_same_scopes (s ∷ t ∷ ss) (r ∷ []) id e h = absurd (nil_cons (sym (same_rest e)))
+last_same_scopes (s ∷ t ∷ ss) (r ∷ u ∷ rs) id e h = last_same_scopes (t ∷ ss) (u ∷ rs) id (same_rest e) h
 
 -- the result of a task is in a scope
 pub record IsKeptIn (es : List Event) (ss : List Scope) (q : List ℕ) : Type 0 where
@@ -267,9 +269,9 @@ module _ (does : Live → Option Action) (gives : Live → TaskResult) (w0 : ℕ
       begun = by_inside (told es p).inside (k.line p) refl refl heads
         where
           by_inside : (ns : List ℕ) (l : List ScopeId) → (told es p).inside ≡ ns → k.line p ≡ l → c.at.inner.scope ∷ map scope_of c.at.outer ≡ map (own p) ns ++ base l → BegunIn (es ++ Spawns p ∷ []) c.at.inner.scope (child_path c.at.was.path (c.at.was.spawned + 1))
-          by_inside (n ∷ ns) l f g e = subst (λ i. BegunIn (es ++ Spawns p ∷ []) i (child_path c.at.was.path (c.at.was.spawned + 1))) (sym (cons_head e)) (in_own at f)
+          by_inside (n ∷ ns) l f g e = subst (λ i. BegunIn (es ++ Spawns p ∷ []) i (child_path c.at.was.path (c.at.was.spawned + 1))) (sym (same_head e)) (in_own at f)
           by_inside [] [] f g e = absurd (nil_cons (sym e))
-          by_inside [] (d ∷ l) f g e = by_parent (h.live p c.at.was c.at.inner.scope c.at.found (subst (λ ss. Last ss c.at.inner.scope) (sym c.at.stakes) (alone c.at.outer (cons_tail e))))
+          by_inside [] (d ∷ l) f g e = by_parent (h.live p c.at.was c.at.inner.scope c.at.found (subst (λ ss. Last ss c.at.inner.scope) (sym c.at.stakes) (alone c.at.outer (same_rest e))))
             where
               alone : (ss : List Stake) → map scope_of ss ≡ [] → Last (c.at.inner ∷ ss) c.at.inner.scope
               alone [] e = refl
@@ -278,7 +280,7 @@ module _ (does : Live → Option Action) (gives : Live → TaskResult) (w0 : ℕ
               by_hang : (p ≡ []) ⊎ Hangs es a.live k.line p → c.at.inner.scope.owner ≡ p → ⊥
               by_hang (inl r) o = nil_cons (sym k.no_line ∙ ap k.line (sym r) ∙ g)
               by_hang (inr r) o =
-                  let same : r.owner ≡ p = ap (λ (i : ScopeId). i.owner) (cons_head (sym r.lined ∙ g) ∙ sym (cons_head e)) ∙ o in
+                  let same : r.owner ≡ p = ap (λ (i : ScopeId). i.owner) (same_head (sym r.lined ∙ g) ∙ sym (same_head e)) ∙ o in
                   let n : length r.owner ≡ length p = ap length same in
                   let s = r.shorter in omega (arith, n, s)
 
@@ -314,7 +316,7 @@ module _ (does : Live → Option Action) (gives : Live → TaskResult) (w0 : ℕ
         where
           by_owner : (c.at.inner.scope.owner ≡ p) ⊎ BegunIn es c.at.inner.scope p → BegunIn es c.at.inner.scope p
           by_owner (inr o) = o
-          by_owner (inl o) = absurd (true_not_false (path_is (c.at.named ∙ sym o)) c.own)
+          by_owner (inl o) = absurd (not_both (path_is (c.at.named ∙ sym o)) c.own)
 
       begun' : BegunIn (es ++ Ends p ∷ []) c.at.inner.scope p
       begun' = begun_in_still es (Ends p) c.at.inner.scope p begun

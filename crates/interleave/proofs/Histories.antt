@@ -3,6 +3,7 @@ use Rattle.std.proofs.Common.{◌≡◌, ℕ, zero, suc, ◌+◌, ◌<◌, ◌�
 use Rattle.std.proofs.Common.{subst, inl, inr, arith, append_assoc, le_refl}
 use Rattle.std.specs.Prelude.{Bool, ◌⊎◌, map, Contains, if◌then◌else◌}
 use Rattle.std.proofs.lemmas.List.{length_push}
+use Rattle.facts.proofs.Lists.{same_head, same_rest}
 use Rattle.own_run.proofs.CompleteResults.{path_same}
 use Rattle.own_run.proofs.Lists.{same_end}
 use Rattle.interleave.specs.World.{same_path, ScopeId, child_path}
@@ -41,20 +42,6 @@ map_contains f (y ∷ xs) x h = by_place (contains_cons y xs x h) (map_contains 
     by_place (inl e) rec = subst (λ z. Contains (f y ∷ map f xs) (f z)) e (contains_here (f y) (map f xs))
     by_place (inr k) rec = contains_later (f y) (map f xs) (f x) (rec k)
 
-pub cons_head : {X : Type 0} {x y : X} {xs ys : List X} → x ∷ xs ≡ y ∷ ys → x ≡ y
-cons_head {X} {x} e = ap head e
-  where
-    head : List X → X
-    head [] = x
-    head (z ∷ zs) = z
-
-pub cons_tail : {X : Type 0} {x y : X} {xs ys : List X} → x ∷ xs ≡ y ∷ ys → xs ≡ ys
-cons_tail {X} e = ap tail e
-  where
-    tail : List X → List X
-    tail [] = []
-    tail (z ∷ zs) = zs
-
 pub nil_cons : {X : Type 0} {x : X} {xs : List X} → [] ≡ x ∷ xs → ⊥
 nil_cons {X} e = subst IsNil e tt
   where
@@ -68,14 +55,14 @@ nil_snoc (y ∷ xs) x ys e = nil_cons e
 
 -- a list with one element more, at a place in it
 pub at_last : {X : Type 0} (es before later : List X) (e x : X) → es ++ e ∷ [] ≡ before ++ x ∷ later → ((l : List X) × (es ≡ before ++ x ∷ l)) ⊎ ((before ≡ es) × (e ≡ x))
-at_last [] [] later e x h = inr (refl, cons_head h)
-at_last [] (b ∷ before) later e x h = absurd (nil_snoc before x later (cons_tail h))
-at_last (y ∷ es) [] later e x h = inl (es, ap (λ a. a ∷ es) (cons_head h))
-at_last (y ∷ es) (b ∷ before) later e x h = further (at_last es before later e x (cons_tail h))
+at_last [] [] later e x h = inr (refl, same_head h)
+at_last [] (b ∷ before) later e x h = absurd (nil_snoc before x later (same_rest h))
+at_last (y ∷ es) [] later e x h = inl (es, ap (λ a. a ∷ es) (same_head h))
+at_last (y ∷ es) (b ∷ before) later e x h = further (at_last es before later e x (same_rest h))
   where
     further : ((l : List _) × (es ≡ before ++ x ∷ l)) ⊎ ((before ≡ es) × (e ≡ x)) → ((l : List _) × (y ∷ es ≡ b ∷ before ++ x ∷ l)) ⊎ ((b ∷ before ≡ y ∷ es) × (e ≡ x))
-    further (inl (l, g)) = inl (l, ap (λ a. a ∷ es) (cons_head h) ∙ ap (λ t. b ∷ t) g)
-    further (inr (g, i)) = inr (ap (λ a. a ∷ before) (sym (cons_head h)) ∙ ap (λ t. y ∷ t) g, i)
+    further (inl (l, g)) = inl (l, ap (λ a. a ∷ es) (same_head h) ∙ ap (λ t. b ∷ t) g)
+    further (inr (g, i)) = inr (ap (λ a. a ∷ before) (sym (same_head h)) ∙ ap (λ t. y ∷ t) g, i)
 
 -- ---- what is told
 pub tell_all-append : (q : List ℕ) (xs ys : List Event) (t : Told) → tell_all q (xs ++ ys) t ≡ tell_all q ys (tell_all q xs t)

@@ -3,7 +3,7 @@ use Rattle.std.proofs.Common.{◌≡◌, ℕ, ◌+◌, ◌≤◌, List, [], ◌�
 use Rattle.std.proofs.lemmas.Bool.{eqb-true, eq-eqb, and_parts}
 use Rattle.std.specs.Prelude.{Bool, true, false, ◌&&◌, nat_eq, if◌then◌else◌}
 use Rattle.std.proofs.lemmas.Option.{none-some, same_Some}
-use Rattle.facts.proofs.Truths.{false_true}
+use Rattle.facts.proofs.Truths.{not_both}
 use Rattle.own_run.specs.Lists.{Each}
 use Rattle.own_run.proofs.CompleteResults.{path_same}
 use Rattle.own_run.proofs.SettledResults.{paths_same}
@@ -12,14 +12,11 @@ use Rattle.interleave.specs.World.{put_scope, weight_in, held, is_passed, root_s
 use Rattle.interleave.specs.Events.{new_scope, only_if}
 
 -- ---- tests
-pub true_not_false : {b : Bool} → b ≡ true → b ≡ false → ⊥
-true_not_false e f = false_true (sym f ∙ e)
-
 pub path_is : {p q : List ℕ} → p ≡ q → same_path p q ≡ true
 path_is {p} e = subst (λ r. same_path p r ≡ true) e (path_same p)
 
 pub other_path : {p q : List ℕ} → same_path p q ≡ false → p ≡ q → ⊥
-other_path f e = true_not_false (path_is e) f
+other_path f e = not_both (path_is e) f
 
 pub path_not : (p q : List ℕ) → (p ≡ q → ⊥) → same_path p q ≡ false
 path_not p q ne = by_test (same_path p q) refl
@@ -41,7 +38,7 @@ scopes_same a b e =
     ∙ ap (λ n. let i : ScopeId = record { owner = b.owner; number = n } in i) numbers
 
 pub other_scope : {a b : ScopeId} → same_scope a b ≡ false → a ≡ b → ⊥
-other_scope f e = true_not_false (scope_is e) f
+other_scope f e = not_both (scope_is e) f
 
 pub record Holds {A : Type 0} (b : Bool) (o : Option A) (y : A) : Type 0 where
   pub test : b ≡ true
@@ -92,7 +89,7 @@ module _ {A K : Type 0} (same : K → K → Bool) (are : (i j : K) → same i j 
 
       later : (b c : Bool) → same (name y) i ≡ b → same (name to) i ≡ c → same (name y) (name to) ≡ false → named i (put to ys) ≡ (if c then Some to else named i ys)
           → (if b then Some y else named i (put to ys)) ≡ (if c then Some to else (if b then Some y else named i ys))
-      later true true f g ne h = absurd (true_not_false (ap (λ k. same (name y) k) (are (name to) i g) ∙ f) ne)
+      later true true f g ne h = absurd (not_both (ap (λ k. same (name y) k) (are (name to) i g) ∙ f) ne)
       later true false f g ne h = refl
       later false c f g ne h = h
 

@@ -5,6 +5,8 @@ use Rattle.std.proofs.lemmas.List.{append-nil}
 use Rattle.std.proofs.lemmas.List.Elements.{Contains-append_left, Contains-push}
 use Rattle.std.specs.Prelude.{Bool, true, false, ◌⊎◌, ◌≢◌, map, Contains, if◌then◌else◌}
 use Rattle.std.proofs.lemmas.Option.{none-some, same_Some}
+use Rattle.facts.proofs.Truths.{not_both}
+use Rattle.facts.proofs.Lists.{same_head}
 use Rattle.own_run.specs.Results.{TaskResult}
 use Rattle.own_run.specs.Lists.{Each}
 use Rattle.own_run.specs.OwnRun.{Action}
@@ -15,9 +17,9 @@ use Rattle.interleave.specs.World.{without_task, scope, put_scope}
 use Rattle.interleave.specs.Events.{Event, Take, Steal, Steps, Replenish, Spawns, Opens, Parks, Ends, Pass, Resume}
 use Rattle.interleave.specs.Events.{issue, give_back, did, new_task, new_scope}
 use Rattle.interleave.specs.History.{told}
-use Rattle.interleave.proofs.Lookups.{true_not_false, path_is, by_test, path_not, task-put_task, none-without_task}
+use Rattle.interleave.proofs.Lookups.{path_is, by_test, path_not, task-put_task, none-without_task}
 use Rattle.interleave.proofs.Lookups.{gone-without_task}
-use Rattle.interleave.proofs.Histories.{still_spawns, cons_head, nil_cons}
+use Rattle.interleave.proofs.Histories.{still_spawns, nil_cons}
 use Rattle.interleave.proofs.Stakes.{scope_of, own}
 use Rattle.interleave.proofs.Changes.{IsQuiet, IsEnd, Becomes}
 use Rattle.interleave.proofs.Kept.{base, WasSpawned, IsNamed, Kept}
@@ -90,7 +92,7 @@ root_stays es a k {p = p} c f =
   where
     owned : (ns : List ℕ) → map scope_of (c.at.inner ∷ c.at.outer) ≡ map (own p) ns ++ [] → ⊥
     owned [] e = nil_cons (sym e)
-    owned (n ∷ ns) e = true_not_false (path_is (c.at.named ∙ ap (λ (i : ScopeId). i.owner) (sym (cons_head e)))) c.own
+    owned (n ∷ ns) e = not_both (path_is (c.at.named ∙ ap (λ (i : ScopeId). i.owner) (sym (same_head e)))) c.own
 
 pub event_once : (does : Live → Option Action) (gives : Live → TaskResult) (w0 : ℕ) (es : List Event) (e : Event) (a b : World) → Kept es a → AllOnce es a.live a.scopes
     → ((q : List ℕ) (t : Live) → task q a.live ≡ Some t → (gives t).path ≡ q) → Becomes does gives w0 e a b → AllOnce (es ++ e ∷ []) b.live b.scopes

@@ -4,6 +4,7 @@ use Rattle.std.proofs.Common.{refl, sym, ap, ◌∙◌, subst, inl, inr, arith, 
 use Rattle.std.proofs.lemmas.Option.{none-some, same_Some}
 use Rattle.std.specs.Prelude.{true, false, ◌⊎◌, map, take, slice_get, sum_by, if◌then◌else◌}
 use Rattle.facts.proofs.Truths.{false_true}
+use Rattle.facts.proofs.Lists.{same_head, same_rest}
 use Rattle.sections.specs.Member.{Member, first, next}
 use Rattle.types.specs.Code.{Codes, Program}
 use Rattle.types.specs.Run.{State}
@@ -29,7 +30,7 @@ use Rattle.interleave.specs.World.{child_path, task, put_task, without_task, is_
 use Rattle.interleave.specs.Events.{Event, Take, Steal, Steps, Replenish, Spawns, Opens, Parks, Ends, Pass, Resume}
 use Rattle.interleave.specs.Events.{did, new_task}
 use Rattle.interleave.proofs.Lookups.{by_test, other_path, task-without_task, gone-without_task}
-use Rattle.interleave.proofs.Histories.{cons_head, cons_tail, nil_snoc}
+use Rattle.interleave.proofs.Histories.{nil_snoc}
 use Rattle.interleave.proofs.Changes.{IsQuiet, IsReplenish, IsSpawn, IsOpen, IsPark, IsEnd, IsResume}
 use Rattle.interleave.proofs.Changes.{Becomes}
 use Rattle.interleave.proofs.Kept.{Kept}
@@ -49,8 +50,8 @@ use Rattle.interleave.proofs.Owed.{open_even, spawn_even, end_even, resume_even,
 -- the last of what is listed
 listed_last : (cs : List Child) (ss : List Start) (c : Start) → map start_of cs ≡ ss ++ c ∷ [] → (d : Child) × Member d cs × (d.start ≡ c)
 listed_last [] ss c e = absurd (nil_snoc ss c [] e)
-listed_last (d ∷ cs) [] c e = (d, first, cons_head e)
-listed_last (d ∷ cs) (s ∷ ss) c e = let h = listed_last cs ss c (cons_tail e) in (h.0, next h.1, h.2)
+listed_last (d ∷ cs) [] c e = (d, first, same_head e)
+listed_last (d ∷ cs) (s ∷ ss) c e = let h = listed_last cs ss c (same_rest e) in (h.0, next h.1, h.2)
 
 module _ (p : Program) (needs : Codes → Needs) (scoped : IsScoped p) (calm : IsCalm p) (provided : Provides p needs) (fresh w0 : ℕ)
     (root : Start) (nameless : root.path ≡ []) (may_begin : MayBegin p needs root) where
@@ -236,7 +237,7 @@ module _ (p : Program) (needs : Codes → Needs) (scoped : IsScoped p) (calm : I
           let to = turn p (own_rules needs c.at.was.start.nest (in_truth p needs fresh)) m.frame m.frames m.state in
           let all = turn_pending p needs fresh c.at.was.start.nest m.frame m.frames m.state
           ∙ ap (λ xs. spawned (pendings (m.frame ∷ m.frames) m.state) xs) m.does in
-          let d = listed_last to.state.extra.pending (map start_of m.state.extra.pending) c.child (cons_head all) in
+          let d = listed_last to.state.extra.pending (map start_of m.state.extra.pending) c.child (same_head all) in
           subst (λ x. StandsBy x [] 0) d.2 (
             begun fresh d.0.start,
             record {

@@ -3,6 +3,8 @@ use Rattle.std.proofs.Common.{◌≡◌, ℕ, ◌+◌, ◌-◌, ◌/◌, List, [
 use Rattle.std.proofs.lemmas.List.{append-nil}
 use Rattle.std.specs.Prelude.{map, drop, Contains, if◌then◌else◌}
 use Rattle.std.proofs.lemmas.Option.{same_Some}
+use Rattle.facts.proofs.Truths.{not_both}
+use Rattle.facts.proofs.Lists.{same_head, same_rest}
 use Rattle.own_run.specs.Results.{TaskResult}
 use Rattle.own_run.specs.OwnRun.{Action}
 use Rattle.own_run.proofs.SettledResults.{paths_same}
@@ -10,8 +12,8 @@ use Rattle.interleave.specs.World.{same_path, ScopeId, Live, World, Hand, Parked
 use Rattle.interleave.specs.Events.{Event, Take, Steal, Steps, Replenish, Spawns, Opens, Parks, Ends, Pass, Resume}
 use Rattle.interleave.specs.Events.{did, new_task}
 use Rattle.interleave.specs.History.{Told, spawned_more, opened_more, left_one, tell, told}
-use Rattle.interleave.proofs.Lookups.{by_test, path_is, true_not_false, task-without_task}
-use Rattle.interleave.proofs.Histories.{contains_here, contains_later, told_last, cons_head, cons_tail, nil_cons}
+use Rattle.interleave.proofs.Lookups.{by_test, path_is, task-without_task}
+use Rattle.interleave.proofs.Histories.{contains_here, contains_later, told_last, nil_cons}
 use Rattle.interleave.proofs.Stakes.{scope_of, own}
 use Rattle.interleave.proofs.Changes.{Becomes}
 use Rattle.interleave.proofs.Kept.{base, Kept}
@@ -92,7 +94,7 @@ module _ (es : List Event) (a : World) (k : Kept es a) (r : IsRooted es a) where
         where
           owned : (ns : List ℕ) → map scope_of (h.at.inner ∷ h.at.outer) ≡ map (own []) ns → ⊥
           owned [] e = nil_cons (sym e)
-          owned (n ∷ ns) e = true_not_false (path_is (f ∙ ap (λ (i : ScopeId). i.owner) (sym (cons_head e)))) h.own
+          owned (n ∷ ns) e = not_both (path_is (f ∙ ap (λ (i : ScopeId). i.owner) (sym (same_head e)))) h.own
   event_rooted does gives w0 (Pass id) b h =
       still (Pass id) b (told_inside (Pass id) refl) (subst (λ (w : World). (s : Live) × (task [] w.live ≡ Some s)) h.now (r.its, r.lives))
   event_rooted does gives w0 (Resume w p) b h = record {
@@ -110,7 +112,7 @@ module _ (es : List Event) (a : World) (k : Kept es a) (r : IsRooted es a) where
       lower [] e f =
           let same : h.was ≡ r.its = same_Some _ _ (sym h.found ∙ ap (λ q. task q a.live) f ∙ r.lives) in
           let two = ap (map scope_of) (sym h.stakes) ∙ ap (λ (t : Live). map scope_of t.stakes) same ∙ its_stakes ∙ ap (map (own [])) e in
-          absurd (nil_cons (sym (cons_tail two)))
+          absurd (nil_cons (sym (same_rest two)))
       lower (n ∷ above) e f = (above, ap (drop 1) e)
 
       up : (above : List ℕ) × ((if same_path p [] then left_one (told es []) else told es []).inside ≡ above ++ 0 ∷ [])

@@ -3,7 +3,8 @@ use Rattle.std.proofs.Common.{◌≡◌, ℕ, ◌+◌, ◌<◌, ◌≤◌, List,
 use Rattle.std.proofs.Common.{inl, inr, arith}
 use Rattle.std.specs.Prelude.{Bool, true, false, ◌⊎◌, map, drop, if◌then◌else◌}
 use Rattle.std.proofs.lemmas.Option.{none-some, same_Some}
-use Rattle.facts.proofs.Truths.{false_true}
+use Rattle.facts.proofs.Truths.{false_true, not_both}
+use Rattle.facts.proofs.Lists.{same_head, same_rest}
 use Rattle.own_run.specs.Results.{TaskResult}
 use Rattle.own_run.specs.Lists.{Each}
 use Rattle.own_run.specs.OwnRun.{Action}
@@ -15,10 +16,10 @@ use Rattle.interleave.specs.World.{is_parked}
 use Rattle.interleave.specs.Events.{Event, Spawns, Opens, Ends, Resume}
 use Rattle.interleave.specs.Events.{give_back, did, new_scope}
 use Rattle.interleave.specs.History.{Told, opened_more, left_one, told}
-use Rattle.interleave.proofs.Lookups.{true_not_false, by_test, path_is, path_not, other_path, scopes_same}
+use Rattle.interleave.proofs.Lookups.{by_test, path_is, path_not, other_path, scopes_same}
 use Rattle.interleave.proofs.Lookups.{task-without_task, unique-without_task, gone-without_task, each-without_task}
 use Rattle.interleave.proofs.Lookups.{held-put_task, held-without_task}
-use Rattle.interleave.proofs.Histories.{cons_head, cons_tail, nil_cons, nil_snoc, told_last}
+use Rattle.interleave.proofs.Histories.{nil_cons, nil_snoc, told_last}
 use Rattle.interleave.proofs.Stakes.{scope_of, own, IsPositive, Weighty, weighty_awake, awake_weighty}
 use Rattle.interleave.proofs.Changes.{IsOpen, IsEnd, IsResume}
 use Rattle.interleave.proofs.Kept.{base, IsTold, IsKnown, ScopeOk, Kept}
@@ -48,16 +49,16 @@ pub record Lone (inside : List ℕ) (outer : List Stake) : Type 0 where
 
 -- a task whose innermost scope isn't its own stands in no other
 pub lone : (q : List ℕ) (s : Stake) (outer : List Stake) (inside : List ℕ) (line : List ScopeId) → map scope_of (s ∷ outer) ≡ map (own q) inside ++ base line → same_path q s.scope.owner ≡ false → Lone inside outer
-lone q s outer (n ∷ inside) line e f = absurd (true_not_false (path_is (ap (λ (i : ScopeId). i.owner) (sym (cons_head e)))) f)
+lone q s outer (n ∷ inside) line e f = absurd (not_both (path_is (ap (λ (i : ScopeId). i.owner) (sym (same_head e)))) f)
 lone q s outer [] [] e f = absurd (nil_cons (sym e))
 lone q s [] [] (b ∷ line) e f = record { no_inside = refl; no_outer = refl }
-lone q s (r ∷ outer) [] (b ∷ line) e f = absurd (nil_cons (sym (cons_tail e)))
+lone q s (r ∷ outer) [] (b ∷ line) e f = absurd (nil_cons (sym (same_rest e)))
 
 -- what stands first in a line
 pub base_is : (x : ScopeId) (xs ys l : List ScopeId) → x ∷ xs ≡ ys ++ base l → base (ys ++ l) ≡ x ∷ []
 base_is x xs [] [] e = absurd (nil_cons (sym e))
-base_is x xs [] (b ∷ l) e = ap (λ i. i ∷ []) (sym (cons_head e))
-base_is x xs (y ∷ ys) l e = ap (λ i. i ∷ []) (sym (cons_head e))
+base_is x xs [] (b ∷ l) e = ap (λ i. i ∷ []) (sym (same_head e))
+base_is x xs (y ∷ ys) l e = ap (λ i. i ∷ []) (sym (same_head e))
 
 -- a parked task leaves its innermost scope, which is its own
 pub record Left (q : List ℕ) (s : Stake) (rest : List Stake) (inside : List ℕ) (line : List ScopeId) : Type 0 where
@@ -68,9 +69,9 @@ pub record Left (q : List ℕ) (s : Stake) (rest : List Stake) (inside : List �
   pub others : map scope_of rest ≡ map (own q) low ++ base line
 
 pub left : (q : List ℕ) (s r : Stake) (rest : List Stake) (inside : List ℕ) (line : List ScopeId) → map scope_of (s ∷ r ∷ rest) ≡ map (own q) inside ++ base line → Left q s (r ∷ rest) inside line
-left q s r rest (n ∷ inside) line e = record { number = n; low = inside; are = refl; scope = cons_head e; others = cons_tail e }
+left q s r rest (n ∷ inside) line e = record { number = n; low = inside; are = refl; scope = same_head e; others = same_rest e }
 left q s r rest [] [] e = absurd (nil_cons (sym e))
-left q s r rest [] (b ∷ line) e = absurd (nil_cons (sym (cons_tail e)))
+left q s r rest [] (b ∷ line) e = absurd (nil_cons (sym (same_rest e)))
 
 weighty_parked : (w : Whereabouts) (q : List ℕ) (s : Stake) (ss : List Stake) → is_parked w ≡ true → Weighty w q (s ∷ ss) → (s.weight ≡ 0) × Each IsPositive ss
 weighty_parked (Queue w) q s ss e h = absurd (false_true e)
@@ -292,10 +293,10 @@ module _ (es : List Event) (a : World) (k : Kept es a) where
 
     resume_inside : (m : ℕ) (top low : List ℕ) → (told es r).inside ≡ top ++ m ∷ low → 1 ≤ held (own r m) a.live → (up : List ℕ) × ((told after_resume r).inside ≡ up ++ m ∷ low)
     resume_inside m [] low f g =
-        let x : held (own r m) a.live ≡ held h.inner.scope a.live = ap (λ n. held (own r n) a.live) (sym (cons_head (sym its_left.are ∙ f))) ∙ ap (λ i. held i a.live) (sym its_left.scope) in
+        let x : held (own r m) a.live ≡ held h.inner.scope a.live = ap (λ n. held (own r n) a.live) (sym (same_head (sym its_left.are ∙ f))) ∙ ap (λ i. held i a.live) (sym its_left.scope) in
         let y = none_there in
         absurd (omega (arith, x, y, g))
-    resume_inside m (n ∷ top) low f g = (top, drop_one ∙ cons_tail (sym its_left.are ∙ f))
+    resume_inside m (n ∷ top) low f g = (top, drop_one ∙ same_rest (sym its_left.are ∙ f))
 
     resume_kept_own : Kept after_resume b
     resume_kept_own =

@@ -2,11 +2,12 @@
 use Rattle.std.proofs.Common.{◌≡◌, ℕ, ◌+◌, ◌≤◌, List, [], ◌∷◌, ◌++◌, sym, ap, ◌∙◌, subst, inl, inr, arith}
 use Rattle.std.specs.Prelude.{Bool, false, ◌⊎◌, map, Contains, if◌then◌else◌}
 use Rattle.facts.proofs.Truths.{false_true}
+use Rattle.facts.proofs.Lists.{same_head, same_rest}
 use Rattle.own_run.specs.Lists.{Each}
 use Rattle.interleave.specs.World.{ScopeId, Stake, Whereabouts, Queue, Hand, Parked, same_scope, weight_in, is_parked}
 use Rattle.interleave.proofs.Lookups.{scope_is}
-use Rattle.interleave.proofs.Histories.{contains_nil, contains_here, contains_later, contains_cons, cons_head}
-use Rattle.interleave.proofs.Histories.{cons_tail, nil_cons}
+use Rattle.interleave.proofs.Histories.{contains_nil, contains_here, contains_later, contains_cons}
+use Rattle.interleave.proofs.Histories.{nil_cons}
 
 abbrev pub scope_of : Stake → ScopeId
 scope_of s = s.scope
@@ -53,7 +54,7 @@ positive_in b (s ∷ ss) h k = by_place (contains_cons s.scope (map scope_of ss)
 -- below its innermost scope it weighs, wherever it is
 pub weighs_below : (w : Whereabouts) (q : List ℕ) (ss : List Stake) (x b : ScopeId) (xs : List ScopeId) → Weighty w q ss → map scope_of ss ≡ x ∷ xs → Contains xs b → 1 ≤ weight_in b ss
 weighs_below w q [] x b xs h e k = absurd (nil_cons e)
-weighs_below w q (s ∷ ss) x b xs h e k = more (positive_in b ss (tail_positive w h) (subst (λ l. Contains l b) (sym (cons_tail e)) k))
+weighs_below w q (s ∷ ss) x b xs h e k = more (positive_in b ss (tail_positive w h) (subst (λ l. Contains l b) (sym (same_rest e)) k))
   where
     tail_positive : (w : Whereabouts) → Weighty w q (s ∷ ss) → Each IsPositive ss
     tail_positive (Queue w) h = h.1
@@ -71,7 +72,7 @@ weighs_last w q ss b [] h e ne = lone w ss h e
     lone (Queue w) ss h e = positive_in b ss h (subst (λ l. Contains l b) (sym e) (contains_here b []))
     lone (Hand w) ss h e = positive_in b ss h (subst (λ l. Contains l b) (sym e) (contains_here b []))
     lone Parked [] h e = absurd h
-    lone Parked (s ∷ ss) h e = absurd (ne (ap (λ (i : ScopeId). i.owner) (sym (cons_head e)) ∙ h.1))
+    lone Parked (s ∷ ss) h e = absurd (ne (ap (λ (i : ScopeId). i.owner) (sym (same_head e)) ∙ h.1))
 weighs_last w q ss b (x ∷ xs) h e ne = weighs_below w q ss x b (xs ++ b ∷ []) h e (last_of xs)
   where
     last_of : (xs : List ScopeId) → Contains (xs ++ b ∷ []) b

@@ -5,6 +5,8 @@ use Rattle.std.proofs.lemmas.List.{append-nil}
 use Rattle.std.proofs.lemmas.List.Sums.{sum_by-cons, sum_by_push}
 use Rattle.std.specs.Prelude.{Bool, true, false, ◌⊎◌, map, take, drop, slice_get, sum_by, if◌then◌else◌}
 use Rattle.std.proofs.lemmas.Option.{none-some, same_Some}
+use Rattle.facts.proofs.Truths.{not_both}
+use Rattle.facts.proofs.Lists.{same_head, same_rest}
 use Rattle.types.specs.Code.{Codes, Program}
 use Rattle.effects.specs.Needs.{Needs}
 use Rattle.own_run.specs.Results.{TaskResult}
@@ -17,8 +19,8 @@ use Rattle.interleave.specs.World.{is_parked}
 use Rattle.interleave.specs.Events.{Event, Take, Steal, Steps, Replenish, Spawns, Opens, Parks, Ends, Pass, Resume}
 use Rattle.interleave.specs.Events.{issue, give_back, did, new_task, new_scope, first_world}
 use Rattle.interleave.specs.History.{told}
-use Rattle.interleave.proofs.Lookups.{by_test, path_not, scope_is, scopes_same, true_not_false}
-use Rattle.interleave.proofs.Histories.{cons_head, cons_tail, nil_cons, nil_snoc}
+use Rattle.interleave.proofs.Lookups.{by_test, path_not, scope_is, scopes_same}
+use Rattle.interleave.proofs.Histories.{nil_cons, nil_snoc}
 use Rattle.interleave.proofs.Stakes.{scope_of, own as own_scope}
 use Rattle.interleave.proofs.Changes.{IsQuiet, IsReplenish, IsSpawn, IsOpen, IsPark, IsEnd, IsPass, IsResume, Becomes}
 use Rattle.interleave.proofs.Kept.{base, Kept}
@@ -37,7 +39,7 @@ is_spawn (Spawn d) = true
 is_spawn a = false
 
 begins_none : (a : Action) → is_spawn a ≡ false → (d : Start) → a ≡ Spawn d → ⊥
-begins_none a none d e = true_not_false (ap is_spawn e) none
+begins_none a none d e = not_both (ap is_spawn e) none
 
 pub sum_by-each_zero : {A : Type 0} (g : A → ℕ) (xs : List A) → Each (λ x. g x ≡ 0) xs → sum_by g xs ≡ 0
 sum_by-each_zero g [] h = refl
@@ -166,10 +168,10 @@ module _ (p : Program) (needs : Codes → Needs) (fresh w0 : ℕ) (root : Start)
     based_same [] [] e = refl
     based_same [] (r ∷ rs) e = absurd (nil_cons e)
     based_same (s ∷ ss) [] e = absurd (nil_cons (sym e))
-    based_same (s ∷ []) (r ∷ []) e = ap (λ i. same_scope i root_scope) (cons_head e)
-    based_same (s ∷ []) (r ∷ t ∷ rs) e = absurd (nil_cons (cons_tail e))
-    based_same (s ∷ t ∷ ss) (r ∷ []) e = absurd (nil_cons (sym (cons_tail e)))
-    based_same (s ∷ t ∷ ss) (r ∷ u ∷ rs) e = based_same (t ∷ ss) (u ∷ rs) (cons_tail e)
+    based_same (s ∷ []) (r ∷ []) e = ap (λ i. same_scope i root_scope) (same_head e)
+    based_same (s ∷ []) (r ∷ t ∷ rs) e = absurd (nil_cons (same_rest e))
+    based_same (s ∷ t ∷ ss) (r ∷ []) e = absurd (nil_cons (sym (same_rest e)))
+    based_same (s ∷ t ∷ ss) (r ∷ u ∷ rs) e = based_same (t ∷ ss) (u ∷ rs) (same_rest e)
 
     abbrev pub reward : Live → ℕ
     reward t = if same_path t.path [] then 0 else f (result_of (own p needs fresh t.start))
@@ -317,14 +319,14 @@ module _ (p : Program) (needs : Codes → Needs) (fresh w0 : ℕ) (root : Start)
               where
                 by_inside : (ns : List ℕ) (l : List ScopeId) → k.line path ≡ l → c.at.inner.scope ∷ r.scope ∷ map scope_of more ≡ map (own_scope path) ns ++ base l → Falls ((told es path).opened + 1) ns → ⊥
                 by_inside [] [] i j x = nil_cons (sym j)
-                by_inside [] (d ∷ l) i j x = nil_cons (sym (cons_tail j))
+                by_inside [] (d ∷ l) i j x = nil_cons (sym (same_rest j))
                 by_inside (n ∷ m ∷ ns) l i j x =
-                    let zero_is : n ≡ 0 = ap (λ (i : ScopeId). i.number) (sym (cons_head j) ∙ g) in
+                    let zero_is : n ≡ 0 = ap (λ (i : ScopeId). i.number) (sym (same_head j) ∙ g) in
                     let y = x.1.0 in omega (arith, zero_is, y)
                 by_inside (n ∷ []) l i j x =
-                    let root_is : path ≡ [] = ap (λ (i : ScopeId). i.owner) (sym (cons_head j) ∙ g) in
+                    let root_is : path ≡ [] = ap (λ (i : ScopeId). i.owner) (sym (same_head j) ∙ g) in
                     let none : base l ≡ [] = ap base (sym i ∙ ap k.line root_is ∙ k.no_line) in
-                    nil_cons (sym (cons_tail j ∙ none))
+                    nil_cons (sym (same_rest j ∙ none))
 
             not_root_scope : same_scope c.at.inner.scope root_scope ≡ false
             not_root_scope = by_test (λ x. same_scope c.at.inner.scope root_scope ≡ x → same_scope c.at.inner.scope root_scope ≡ false) (same_scope c.at.inner.scope root_scope)

@@ -1,11 +1,11 @@
 -- None of the values has a float, so that each has one compact text.
-use Rattle.std.proofs.Common.{◌≡◌, ℕ, List, [], ◌∷◌, map, Option, None, Some, Bool, false, refl, ap, ◌∙◌}
+use Rattle.std.proofs.Common.{◌≡◌, ℕ, List, [], ◌∷◌, map, Option, None, Some, false, refl}
 use Rattle.std.proofs.Common.{Ordering, Less, Equal, Greater, nat_cmp}
 use Rattle.std.specs.Prelude.{ℤ, pos, negsuc, ◌||◌}
 use Rattle.std.specs.Cmp.Lexicographic.{slice_cmp}
 use Rattle.std.specs.List.{AllByRecursion, zip}
 use Rattle.std.specs.Ordering.{match_ordering}
-use Rattle.std.proofs.lemmas.Bool.{or_parts}
+use Rattle.std.proofs.lemmas.Bool.{or_from, or_parts}
 use Rattle.serde_json.specs.Data.{Data, string, Members, no_members, member, put}
 use Rattle.serde_json.specs.View.{items_of}
 use Rattle.serde_json.specs.Written.{has_float, items_have_float, members_have_float}
@@ -23,9 +23,6 @@ use Rattle.json_answers.specs.Refusals.{failure_array, failure_code, failure_lab
 
 abbrev pub HasNoFloat : Data → Type 0
 HasNoFloat d = has_float d ≡ false
-
-neither : (a b : Bool) → a ≡ false → b ≡ false → (a || b) ≡ false
-neither a b p q = ap (λ x. x || b) p ∙ q
 
 pub integer_has_none : (z : ℤ) → HasNoFloat (integer z)
 integer_has_none (pos n) = refl
@@ -46,17 +43,17 @@ pub list_has_none : {X : Type 0} (f : X → Data) (xs : List X) → ((x : X) →
     → HasNoFloat (list_by f xs)
 list_has_none f [] none = refl
 list_has_none f (x ∷ xs) none =
-    neither (has_float (f x)) (items_have_float (items_of (map f xs))) (none x) (list_has_none f xs none)
+    or_from (has_float (f x)) (items_have_float (items_of (map f xs))) (none x) (list_has_none f xs none)
 
 -- an object has none where no value under a key has one
 pub object_has_none : (ms : List (List ℕ × Data)) → AllByRecursion (λ m. HasNoFloat m.1) ms → HasNoFloat (object_of ms)
 object_has_none [] all = refl
 object_has_none (m ∷ ms) all =
-    neither (has_float m.1) (members_have_float (members_by ms)) all.0 (object_has_none ms all.1)
+    or_from (has_float m.1) (members_have_float (members_by ms)) all.0 (object_has_none ms all.1)
 
 put_has_none : (k : List ℕ) (d : Data) (ms : Members) → HasNoFloat d → members_have_float ms ≡ false
     → members_have_float (put k d ms) ≡ false
-put_has_none k d no_members none others = neither (has_float d) false none refl
+put_has_none k d no_members none others = or_from (has_float d) false none refl
 put_has_none k d (member l e ms) none others =
     let parts = or_parts (has_float e) (members_have_float ms) others in
     by_order (slice_cmp nat_cmp k l) parts.0 parts.1 (put_has_none k d ms none parts.1)
@@ -64,9 +61,9 @@ put_has_none k d (member l e ms) none others =
     by_order : (o : Ordering) → has_float e ≡ false → members_have_float ms ≡ false
         → members_have_float (put k d ms) ≡ false
         → members_have_float (match_ordering o (member k d (member l e ms)) (member l d ms) (member l e (put k d ms))) ≡ false
-    by_order Less p q r = neither (has_float d) (has_float e || members_have_float ms) none (neither (has_float e) (members_have_float ms) p q)
-    by_order Equal p q r = neither (has_float d) (members_have_float ms) none q
-    by_order Greater p q r = neither (has_float e) (members_have_float (put k d ms)) p r
+    by_order Less p q r = or_from (has_float d) (has_float e || members_have_float ms) none (or_from (has_float e) (members_have_float ms) p q)
+    by_order Equal p q r = or_from (has_float d) (members_have_float ms) none q
+    by_order Greater p q r = or_from (has_float e) (members_have_float (put k d ms)) p r
 
 numbers_have_none : (numbers : List ℤ) → HasNoFloat (numbers_json numbers)
 numbers_have_none numbers = list_has_none integer numbers integer_has_none

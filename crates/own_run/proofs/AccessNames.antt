@@ -70,9 +70,6 @@ pub overwrites_more : (env : Environment) (part all : Access → Type 0) (q : Pl
     → Overwrites env all q
 overwrites_more env part all q f t = record { access = t.access; among = f t.access t.among; place = t.place; writes = t.writes }
 
-pub overwrites_touch : (env : Environment) (all : Access → Type 0) (q : Place) → Overwrites env all q → Touches env all q
-overwrites_touch env all q t = record { access = t.access; among = t.among; place = t.place }
-
 -- those of accesses under other names, which name the same
 module _ (env inner : Environment) (past : ℕ → ℕ) (part all : Access → Type 0) (q : Place)
     (out : (z : ℕ) → In (inner.windows z) q → In (env.windows (past z)) q)
@@ -82,10 +79,12 @@ module _ (env inner : Environment) (past : ℕ → ℕ) (part all : Access → T
       record { access = renamed past t.access; among = among t.access t.among; place = out t.access.section t.place }
 
   pub overwrites_renamed : Overwrites inner part q → Overwrites env all q
-  unfolding touches_renamed overwrites_touch
-  overwrites_renamed t =
-      let at = touches_renamed (overwrites_touch inner part q t) in
-      record { access = at.access; among = at.among; place = at.place; writes = t.writes }
+  overwrites_renamed t = record {
+    access = renamed past t.access;
+    among = among t.access t.among;
+    place = out t.access.section t.place;
+    writes = t.writes;
+  }
 
 -- ---- the reads of an expression
 pub read_listed : (l s : ℕ) (ss : List ℕ) → Contains ss s → Member (record { label = l; section = s; write = false }) (reads l ss)

@@ -1,7 +1,7 @@
 -- What a task lists, it has begun, each under a path of its own; and where all is handed over it never waits.
 use Rattle.std.proofs.lemmas.Option.{none-some}
 use Rattle.std.proofs.Common.{◌≡◌, ℕ, zero, suc, ◌+◌, List, [], ◌∷◌, ◌++◌, length, Option, Some, None, refl, sym, ap}
-use Rattle.std.proofs.Common.{◌∙◌, subst, arith, append_assoc}
+use Rattle.std.proofs.Common.{◌∙◌, subst, arith, add-one, append_assoc}
 use Rattle.std.proofs.lemmas.List.{append-nil, length_push}
 use Rattle.std.specs.Prelude.{Bool, true, false, slice_get, if◌then◌else◌}
 use Rattle.types.specs.Code.{Codes, Program}
@@ -111,7 +111,7 @@ module _ (nest : ℕ) where
               (each_more (IsBegun nest st) (IsBegun nest to) st.extra.pending (λ d. still_begun st to d refl done refl) h.begun)
               (record {
                 number = st.spawned;
-                path = ap (λ k. st.path ++ k ∷ []) (add_one st.spawned);
+                path = ap (λ k. st.path ++ k ∷ []) (add-one st.spawned);
                 listed = refl;
                 here = ap (λ ss. slice_get ss st.spawned) (begun_by-append st.extra.actions done)
                     ∙ get_last (begun_by st.extra.actions) c.start st.spawned h.counted;
@@ -119,9 +119,6 @@ module _ (nest : ℕ) where
               });
         };
       }
-    where
-      add_one : (k : ℕ) → k + 1 ≡ suc k
-      add_one k = omega arith
 
   module _ (needs : Codes → Needs) (close : State Own → Option Settled) where
     abbrev r : Rules Own

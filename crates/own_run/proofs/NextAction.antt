@@ -1,7 +1,8 @@
 -- The next action of a task is what its next turn does, or the end that it stands at.
 use Rattle.std.proofs.Common.{◌≡◌, ℕ, List, [], ◌∷◌, ◌++◌, length, Some, refl, sym, ap, ◌∙◌, append_assoc}
 use Rattle.std.proofs.lemmas.List.{append-nil}
-use Rattle.std.specs.Prelude.{Bool, true, false, ◌&&◌, slice_get, if◌then◌else◌}
+use Rattle.std.proofs.lemmas.Bool.{and_right}
+use Rattle.std.specs.Prelude.{Bool, true, false, slice_get, if◌then◌else◌}
 use Rattle.types.specs.Code.{Codes, Program}
 use Rattle.types.specs.Run.{State}
 use Rattle.effects.specs.Needs.{Needs}
@@ -65,9 +66,5 @@ module _ (p : Program) (needs : Codes → Needs) (fresh : ℕ) (root s : Start) 
   next_is_last st w h =
       ap (λ (out : State Own). slice_get (actions_of out) (length st.extra.actions)) (by_now (record { frames = []; state = st }) h)
       ∙ ap (λ b. slice_get (if b then st.extra.actions else st.extra.actions ++ last_action st.path ∷ []) (length st.extra.actions))
-      (asleep (is_stopped st.flow) st.extra.waits w)
+      (and_right (is_stopped st.flow) st.extra.waits w)
       ∙ at_length st.extra.actions (last_action st.path) []
-    where
-      asleep : (f w : Bool) → w ≡ false → (f && w) ≡ false
-      asleep true w e = e
-      asleep false w e = refl

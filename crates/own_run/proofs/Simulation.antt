@@ -27,6 +27,7 @@ use Rattle.effects.specs.Needs.{Needs, ProvidesIn, ProvidesOf, Provides}
 use Rattle.race_checker.specs.Scope.{Top, Inside, InScope, FitsScope, may_writes, Scoped, ScopedOf, IsScoped}
 use Rattle.race_checker.specs.Calm.{Calm, CalmOf, IsCalm}
 use Rattle.race_checker.proofs.Scoping.{length_may_writes}
+use Rattle.effects.proofs.Footprints.{overwrites_touch}
 use Rattle.own_run.specs.Places.{written, touched, first_of}
 use Rattle.own_run.specs.Apart.{Aside, nothing, is_stopped, stops_anywhere, merged, child_apart, set_aside, gather}
 use Rattle.own_run.specs.Apart.{apart_rules_by, begin_apart}
@@ -34,7 +35,7 @@ use Rattle.own_run.specs.Ready.{Around, Ready}
 use Rattle.own_run.proofs.Windows.{named_some, some_named, sides_some, sides_in, split_in, call_in}
 use Rattle.own_run.proofs.Windows.{passed_same, fits_split, around_split, split_agree}
 use Rattle.own_run.proofs.AccessNames.{all_alone, pending_alone, named_all, touches_more, overwrites_more}
-use Rattle.own_run.proofs.AccessNames.{overwrites_renamed, overwrites_touch, read_listed, touches_renamed}
+use Rattle.own_run.proofs.AccessNames.{overwrites_renamed, read_listed, touches_renamed}
 use Rattle.own_run.proofs.SideBySide.{S, A, Set, Same, Agree, same, both_stop, widen, then_same, step_same}
 use Rattle.own_run.proofs.SideBySide.{fault_same, value_same, choose_same, reads_same, stand, Readable, number_alike}
 use Rattle.own_run.proofs.SideBySide.{truth_alike, numbers_alike, assign_same, print_same, put_same}

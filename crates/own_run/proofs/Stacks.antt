@@ -14,7 +14,7 @@ use Rattle.own_run.specs.Ready.{Ready}
 use Rattle.own_run.specs.OwnRun.{Own}
 use Rattle.own_run.specs.Frames.{Frame, Rest, Again, AtEnd, Back}
 use Rattle.own_run.specs.Holds.{having, locked_after, Stack}
-use Rattle.own_run.proofs.AccessNames.{overwrites_touch}
+use Rattle.effects.proofs.Footprints.{overwrites_touch}
 
 abbrev pub anywhere : ℕ → Type 0
 anywhere s = Unit {0}

@@ -2,8 +2,8 @@
 use Rattle.std.proofs.Common.{◌≡◌, ℕ, zero, suc, List, [], ◌∷◌, ◌++◌, length, Option, None, Ok, Err, refl, sym, ap}
 use Rattle.std.proofs.Common.{◌∙◌, subst, arith}
 use Rattle.std.proofs.lemmas.List.{append-nil}
-use Rattle.std.specs.Prelude.{Bool, true, false, ◌&&◌, ok_or, slice_get, if◌then◌else◌}
-use Rattle.std.proofs.lemmas.Bool.{and_parts}
+use Rattle.std.specs.Prelude.{Bool, true, false, ok_or, slice_get, if◌then◌else◌}
+use Rattle.std.proofs.lemmas.Bool.{and_parts, and_right}
 use Rattle.facts.proofs.Truths.{false_true}
 use Rattle.sections.specs.Place.{sides_of}
 use Rattle.types.specs.declared.fault.FaultKind.TheVariants.{SplitPoint}
@@ -129,14 +129,10 @@ module _ (p : Program) (needs : Codes → Needs) (nest : ℕ) (close : State Own
   end_waits before fs st w e =
       let noted = record st { extra = notes EndFinish st.extra } in
       let left : leave_own close before st ≡ leave_with before noted None =
-      ap (λ b. if b then st else leave_with before noted (close st)) (asleep (is_stopped st.flow) st.extra.waits w)
+      ap (λ b. if b then st else leave_with before noted (close st)) (and_right (is_stopped st.flow) st.extra.waits w)
       ∙ ap (leave_with before noted) e in
       let h = resume_waits fs (leave_with before noted None) refl in
       (ap (λ st. is_waiting (resume p r fs st)) left ∙ h.waits, ap (λ st. acts (resume p r fs st)) left ∙ h.actions)
-    where
-      asleep : (f w : Bool) → w ≡ false → (f && w) ≡ false
-      asleep true w e = e
-      asleep false w e = refl
 
 -- a task at the end of a finish, by its receipts so far, waits there
 pub follower_waits : (p : Program) (needs : Codes → Needs) (fresh : ℕ) (root s : Start) (taken : List (List TaskResult))

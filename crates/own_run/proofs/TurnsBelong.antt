@@ -1,5 +1,6 @@
 -- What a turn leaves to do is of the program, and a task's places, with those that come back, stay the same.
 use Rattle.std.proofs.Common.{◌≡◌, ℕ, zero, suc, List, [], ◌∷◌, ◌++◌, Ok, Err, refl, sym, ap, ◌∙◌, subst}
+use Rattle.std.proofs.Math.Bool.{or-false, or_assoc}
 use Rattle.std.specs.Prelude.{Bool, true, false, not, ◌&&◌, ◌||◌, Option, ok_or}
 use Rattle.sections.specs.Covers.{has}
 use Rattle.sections.specs.Place.{Place, sides_of}
@@ -33,18 +34,10 @@ abbrev pub all_places : List (Frame Own) → (owned : Places) → List Child →
 all_places fs o cs q = (o q || back_from cs q) || back_around fs q
 
 back_last : (cs : List Child) (c : Child) (q : Place) → back_from (cs ++ c ∷ []) q ≡ (back_from cs q || has c.listed.windows q)
-back_last [] c q = or_none (has c.listed.windows q)
-  where
-    or_none : (w : Bool) → (w || false) ≡ w
-    or_none true = refl
-    or_none false = refl
+back_last [] c q = or-false (has c.listed.windows q)
 back_last (d ∷ cs) c q =
     ap (λ (b : Bool). has d.listed.windows q || b) (back_last cs c q)
-    ∙ or_nested (has d.listed.windows q) (back_from cs q) (has c.listed.windows q)
-  where
-    or_nested : (a b c : Bool) → (a || (b || c)) ≡ ((a || b) || c)
-    or_nested true b c = refl
-    or_nested false b c = refl
+    ∙ sym (or_assoc (has d.listed.windows q) (back_from cs q) (has c.listed.windows q))
 
 -- what is owned and goes to a child comes back
 gone_and_back : (o b w : Bool) → (w ≡ true → o ≡ true) → ((o && not w) || (b || w)) ≡ (o || b)

@@ -7,7 +7,7 @@ use Rattle.effects.specs.Effects.{labels, All}
 use Rattle.effects.specs.Summarized.{body_of}
 use Rattle.effects.proofs.ComesSound.{body_of-other}
 use Rattle.parallel_relation.specs.Around.{Gains, none, both, one}
-use Rattle.parallel_relation.proofs.StatementParts.{Done, all_one, of_label, of_done}
+use Rattle.parallel_relation.proofs.StatementParts.{Done, all_one, none_at_end, of_label, of_done}
 use Rattle.parallel_relation.proofs.Sums.{gains_joined, gains_union}
 
 module _ (p : Program) where
@@ -19,12 +19,9 @@ module _ (p : Program) where
       (λ x k. elim k [ inl own ↦ All.here (of_label p l t x own) | inr d ↦ All.here (of_done p l t x d) ])
       (all_one p l t))
 
-  nothing : {A : Type 0} {x : ℕ} → All p labels End x → A
-  nothing h = elim h [ ]
-
   only_first : (l : ℕ) (s : Code) (rest : Codes) (x : ℕ) → All p labels (one l s) x → All p labels (Then l s rest) x
   only_first l s rest x (All.here k) = All.here k
-  only_first l s rest x (All.later k) = nothing k
+  only_first l s rest x (All.later k) = none_at_end p k
 
   either : (l : ℕ) (s : Code) (rest : Codes) (x : ℕ) → All p labels (Then l s rest) x → All p labels (one l s) x ⊎ All p labels rest x
   either l s rest x (All.here k) = inl (All.here k)
@@ -44,7 +41,7 @@ module _ (p : Program) where
 
   in_first : (c : ℕ → Type 0) (x : ℕ) → c x ⊎ All p labels End x → c x
   in_first c x (inl k) = k
-  in_first c x (inr k) = nothing k
+  in_first c x (inr k) = none_at_end p k
 
   -- and in the end
   pub none_is_left : {a b c : ℕ → Type 0} → Gains c (All p labels End) (both a b) → Gains a b c
@@ -58,7 +55,7 @@ module _ (p : Program) where
   pub nothing_behind : {a c : ℕ → Type 0} → Gains none a c → Gains a (All p labels End) c
   nothing_behind g = record {
     keeps = λ x k. g.has x k;
-    has = λ x k. nothing k;
+    has = λ x k. none_at_end p k;
     only = λ x k. elim (g.only x k) [ inl n ↦ absurd n | inr o ↦ inl o ];
   }
 

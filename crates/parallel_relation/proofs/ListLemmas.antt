@@ -1,7 +1,8 @@
 -- The list of pairs.
-use Rattle.std.proofs.Common.{◌≡◌, ◌⊎◌, inl, inr, ℕ, zero, suc, ◌+◌, ◌-◌, ◌<◌, ◌≤◌, ◌^◌, List, [], ◌∷◌, ◌++◌, drop, refl, sym, ap, ◌∙◌, subst, arith}
-use Rattle.std.proofs.lemmas.Bool.{cases_lt}
+use Rattle.std.proofs.Common.{◌≡◌, inl, inr, ℕ, zero, suc, ◌+◌, ◌-◌, ◌<◌, ◌≤◌, ◌^◌, List, [], ◌∷◌, ◌++◌, drop, refl, sym, ap, ◌∙◌, subst, arith}
+use Rattle.std.proofs.lemmas.Bool.{cases_Bool, cases_lt}
 use Rattle.std.specs.Prelude.{Bool, true, false, if◌then◌else◌, slice_get, Some, None}
+use Rattle.facts.proofs.Truths.{not_both}
 use Rattle.sections.specs.Member.{Member, first, next}
 use Rattle.effects.proofs.HasLabels.{has_label-true, from_has_label, label_within}
 use Rattle.effects.proofs.Members.{in_left, in_right, in_parts}
@@ -18,14 +19,6 @@ pick_first false s t e = cc
 pick_second : (b : Bool) (s t : List (ℕ × ℕ)) → b ≡ false → (if b then s else t) ≡ t
 pick_second true s t e = cc
 pick_second false s t e = refl
-
-true_or_false : (b : Bool) → (b ≡ true) ⊎ (b ≡ false)
-true_or_false true = inl refl
-true_or_false false = inr refl
-
-not_both : {A : Type 0} (b : Bool) → b ≡ true → b ≡ false → A
-not_both true e f = cc
-not_both false e f = cc
 
 module _ (row : LabelSet) (x : ℕ) where
   -- the next pair of a row
@@ -70,7 +63,7 @@ module _ (row : LabelSet) (x : ℕ) where
 
   pub from_row : (n y : ℕ) (m : ℕ × ℕ) → Member m (in_row row x y n) → OfRow y m
   from_row zero y m h = elim h [ ]
-  from_row (suc n) y m h = elim (true_or_false (has_label row y)) [
+  from_row (suc n) y m h = elim (cases_Bool (has_label row y)) [
     | inl e ↦ head y (in_row row x (y + 1) n) m e (from_row n (y + 1) m)
         (subst (Member m) (pick_first (has_label row y) ((x, y) ∷ in_row row x (y + 1) n) (in_row row x (y + 1) n) e) h)
     | inr e ↦ narrower y m (from_row n (y + 1) m
@@ -79,7 +72,7 @@ module _ (row : LabelSet) (x : ℕ) where
 
   pub in_this_row : (n y b : ℕ) → y ≤ b → b < y + n → HasLabel row b → Member (x, b) (in_row row x y n)
   in_this_row zero y b from to h = absurd (omega arith)
-  in_this_row (suc n) y b from to h = elim (true_or_false (has_label row y)) [
+  in_this_row (suc n) y b from to h = elim (cases_Bool (has_label row y)) [
     | inl e ↦ subst (Member (x, b)) (sym (pick_first (has_label row y) ((x, y) ∷ in_row row x (y + 1) n) (in_row row x (y + 1) n) e))
         (elim (cases_lt y b) [
           | inl less ↦ next (in_this_row n (y + 1) b (omega arith) (omega arith) h)
@@ -90,13 +83,13 @@ module _ (row : LabelSet) (x : ℕ) where
         (elim (cases_lt y b) [
           | inl less ↦ in_this_row n (y + 1) b (omega arith) (omega arith) h
           | inr past ↦ let same : y ≡ b = omega arith in
-              not_both (has_label row y) (subst (λ l. has_label row l ≡ true) (sym same) (has_label-true row b h)) e
+              not_both (subst (λ l. has_label row l ≡ true) (sym same) (has_label-true row b h)) e
         ])
   ]
 
   pub row_ascends : (n y : ℕ) → Ascend (in_row row x y n)
   row_ascends zero y = tt
-  row_ascends (suc n) y = elim (true_or_false (has_label row y)) [
+  row_ascends (suc n) y = elim (cases_Bool (has_label row y)) [
     | inl e ↦ subst Ascend (sym (pick_first (has_label row y) ((x, y) ∷ in_row row x (y + 1) n) (in_row row x (y + 1) n) e))
         (λ m k. let r = from_row n (y + 1) m k in inr (sym r.label, (let l = r.later in omega arith)), row_ascends n (y + 1))
     | inr e ↦ subst Ascend (sym (pick_second (has_label row y) ((x, y) ∷ in_row row x (y + 1) n) (in_row row x (y + 1) n) e))
@@ -214,7 +207,7 @@ labels_within (row ∷ rows) (suc i) y h = labels_within rows i y h
 
 -- a test that fails
 pub no_label : (row : LabelSet) (l : ℕ) → (HasLabel row l → ⊥) → has_label row l ≡ false
-no_label row l none = elim (true_or_false (has_label row l)) [ inl e ↦ absurd (none (from_has_label row l e)) | inr e ↦ e ]
+no_label row l none = elim (cases_Bool (has_label row l)) [ inl e ↦ absurd (none (from_has_label row l e)) | inr e ↦ e ]
 
 -- the list from a place on: its next pair
 pub place_next : (end : ℕ) (rows : List LabelSet) (x y z : ℕ) (row : LabelSet) → slice_get rows x ≡ Some row → y ≤ z → z < end

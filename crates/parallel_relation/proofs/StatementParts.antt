@@ -119,13 +119,14 @@ module _ (p : Program) where
   met_of (Together.inside {l = l} {x = x} {y = y} i h) = inr (inl (met_inside i l x y h))
   met_of (Together.later h) = inr (inr h)
 
+  -- behind the last statement there are none
+  pub none_at_end : {A : Type 0} {x : ℕ} → All p labels End x → A
+  none_at_end h = elim h [ ]
+
   -- those of a statement alone
   pub alone : (l : ℕ) (s : Code) (x y : ℕ) → Together p labels (one l s) x y → Met l s x y
-  alone l s x y h = elim (met_of h) [ inl k ↦ nothing k.1 | inr k ↦ elim k [ inl m ↦ m | inr t ↦ no_pair t ] ]
+  alone l s x y h = elim (met_of h) [ inl k ↦ none_at_end k.1 | inr k ↦ elim k [ inl m ↦ m | inr t ↦ no_pair t ] ]
     where
-      nothing : {A : Type 0} → All p labels End y → A
-      nothing h = elim h [ ]
-
       no_pair : {A : Type 0} → Together p labels End x y → A
       no_pair h = elim h [ ]
 

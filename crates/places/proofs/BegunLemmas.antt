@@ -1,7 +1,6 @@
 -- Places that are found one behind the other.
 use Rattle.std.proofs.Common.{◌≡◌, ℕ, ◌+◌, ◌<◌, Bool, true, false, List, [], ◌∷◌, ◌++◌, take, drop, length, get_or, refl, ap, sym, ◌∙◌, subst}
 use Rattle.std.proofs.Common.{append_assoc, append-nil, take-append-drop, arith, reverse, ◌^◌}
-use Rattle.std.specs.List.{prefix_len}
 use Rattle.std.proofs.lemmas.List.{length-reverse, length-take}
 use Rattle.std.proofs.lemmas.List.Sums.{prefix_len-le-length}
 use Rattle.std.proofs.Math.Bool.{and-false}
@@ -111,9 +110,6 @@ begins_here a b r ended begins is = ap (λ (x : Bool). x && b) ended ∙ sym is 
 
 pub begins_not : (a b r : Bool) → r ≡ false → r ≡ b → (a && b) ≡ false
 begins_not a b r begins is = ap (λ (x : Bool). a && x) (sym is ∙ begins) ∙ and-false a
-
-pub goes_on : (a b : Bool) → a ≡ false → (a && b) ≡ false
-goes_on a b ended = ap (λ (x : Bool). x && b) ended
 
 -- the places of a text's tokens are those of whatever program it spells
 pub begun_starts : (text : List ℕ) (ts : List Token) (places : List Place) (p : Program) → AreTokensOf text ts

@@ -18,7 +18,8 @@ use Rattle.effects.specs.Sound.{IsSound}
 use Rattle.effects.specs.Summarized.{IsSummary, body_of}
 use Rattle.effects.specs.declared.accesses.Accesses.{Accesses}
 use Rattle.effects.specs.declared.summary.Summary.{Summary}
-use Rattle.effects.proofs.DoingLemmas.{passed_renamed, all_in_callee, body_of_callee}
+use Rattle.effects.proofs.ComesSound.{body_of-other}
+use Rattle.effects.proofs.DoingLemmas.{passed_renamed, all_in_callee}
 use Rattle.race_checker.proofs.Finding.{pending_in_callee}
 
 -- a program has as many procedures as its code
@@ -36,7 +37,7 @@ module _ (code : rProgram) (f : ℕ) (ss : List SectionId) (s : Summary)
     (number : length ss ≡ length (procedure_of (program code) f).parameters) where
   exact : IsSummary (program code) (procedure_of (program code) f).body s
   exact =
-      subst (λ (b : Codes). IsSummary (program code) b s) (body_of_callee (program code) f
+      subst (λ (b : Codes). IsSummary (program code) b s) (body_of-other (program code) f
       (within_procedures code below)) told
 
   as_many : length (map section ss) ≡ length (procedure_of (program code) f).parameters

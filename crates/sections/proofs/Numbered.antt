@@ -34,30 +34,31 @@ below_or_behind n a = go (nat_lt a n) refl
     go true e = inl (ltb-true a n e)
     go false e = inr (a - n, (let h : n ≤ a = ltb-false a n e in omega arith))
 
-module _ (os ps : List Origin) (numbered : IsNumbered os) (more : Continues (length os) ps) where
-  within : (a : ℕ) → a < length os → origin_of (os ++ ps) a ≡ origin_of os a
-  within a h = get_or-append os ps Root a h
+-- a section comes from where it came from, as others are added behind it
+pub origin-prefix : (os ps : List Origin) (a : ℕ) → a < length os → origin_of (os ++ ps) a ≡ origin_of os a
+origin-prefix os ps a h = get_or-append os ps Root a h
 
+module _ (os ps : List Origin) (numbered : IsNumbered os) (more : Continues (length os) ps) where
   behind : (a b : ℕ) → a ≡ length os + b → origin_of (os ++ ps) a ≡ origin_of ps b
   behind a b e = ap (origin_of (os ++ ps)) e ∙ get_or-append-add os ps b Root
 
   left_in : (a s : ℕ) → origin_of (os ++ ps) a ≡ Left s → s < a
   left_in a s e = elim (below_or_behind (length os) a) [
-    | inl h ↦ numbered.left a s (sym (within a h) ∙ e)
+    | inl h ↦ numbered.left a s (sym (origin-prefix os ps a h) ∙ e)
     | inr (b, h) ↦ (let k = more.left b s (sym (behind a b h) ∙ e) in omega (arith, k, h))
   ]
 
   right_in : (a s : ℕ) → origin_of (os ++ ps) a ≡ Right s → s < a
   right_in a s e = elim (below_or_behind (length os) a) [
-    | inl h ↦ numbered.right a s (sym (within a h) ∙ e)
+    | inl h ↦ numbered.right a s (sym (origin-prefix os ps a h) ∙ e)
     | inr (b, h) ↦ (let k = more.right b s (sym (behind a b h) ∙ e) in omega (arith, k, h))
   ]
 
   right_behind_in : (a s : ℕ) → origin_of (os ++ ps) a ≡ Left s → origin_of (os ++ ps) (a + 1) ≡ Right s
   right_behind_in a s e = elim (below_or_behind (length os) a) [
     | inl h ↦
-        (let k = numbered.right_behind a s (sym (within a h) ∙ e) in
-        within (a + 1) (right_is_there os (a + 1) s k) ∙ k)
+        (let k = numbered.right_behind a s (sym (origin-prefix os ps a h) ∙ e) in
+        origin-prefix os ps (a + 1) (right_is_there os (a + 1) s k) ∙ k)
     | inr (b, h) ↦
         (let k = more.right_behind b s (sym (behind a b h) ∙ e) in
         behind (a + 1) (b + 1) (omega (arith, h)) ∙ k)
@@ -66,8 +67,8 @@ module _ (os ps : List Origin) (numbered : IsNumbered os) (more : Continues (len
   left_before_in : (a s : ℕ) → origin_of (os ++ ps) a ≡ Right s → origin_of (os ++ ps) (a - 1) ≡ Left s
   left_before_in a s e = elim (below_or_behind (length os) a) [
     | inl h ↦
-        (let k = numbered.left_before a s (sym (within a h) ∙ e) in
-        within (a - 1) (left_is_there os (a - 1) s k) ∙ k)
+        (let k = numbered.left_before a s (sym (origin-prefix os ps a h) ∙ e) in
+        origin-prefix os ps (a - 1) (left_is_there os (a - 1) s k) ∙ k)
     | inr (b, h) ↦
         (let k = more.left_before b s (sym (behind a b h) ∙ e) in
         behind (a - 1) k.0 (omega (arith, h, k.1)) ∙ k.2)

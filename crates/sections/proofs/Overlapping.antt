@@ -1,7 +1,7 @@
 -- The laws of overlap.
 use Rattle.std.proofs.Common.{◌≡◌, ◌≢◌, ◌⊎◌, inl, inr, ℕ, ◌+◌, ◌-◌, ◌<◌, ◌≤◌, List, refl, sym, ap, ◌∙◌, subst, arith, true≢false}
 use Rattle.std.proofs.lemmas.Bool.{eqb-true, eqb-false, eq-eqb, ne_eqb, and_parts, and_from, or_cases, or_left, or_right}
-use Rattle.std.proofs.lemmas.Bool.{not-true, not-false, not_from_false, false_from_ne_true, false≢true, cases_order}
+use Rattle.std.proofs.lemmas.Bool.{not-true, not-false, not_from_false, false_from_ne_true, true_from_ne_false, false≢true, cases_order}
 use Rattle.std.proofs.Math.Bool.{or_comm}
 use Rattle.std.specs.Prelude.{Bool, true, false, not, nat_eq}
 use Rattle.std.specs.List.{list_any}
@@ -166,17 +166,13 @@ module _ (origins : List Origin) where
 
     -- a section overlaps itself
     pub overlap-self : (a : ℕ) → overlap origins a a ≡ true
-    overlap-self a = from_ne_false (overlap origins a a) (λ h. elim (disjoint_cases a a h) [
+    overlap-self a = true_from_ne_false (overlap origins a a) (λ h. elim (disjoint_cases a a h) [
       | inl ne ↦ ne refl
       | inr u ↦ elim (opposite_cases u.over_a u.over_b u.opposite) [
         | inl s ↦ sides_part u.over_a u.over_b a s u.a_lies u.b_lies
         | inr s ↦ sides_part u.over_b u.over_a a s u.b_lies u.a_lies
       ]
     ])
-      where
-        from_ne_false : (b : Bool) → (b ≡ false → ⊥) → b ≡ true
-        from_ne_false true h = refl
-        from_ne_false false h = absurd (h refl)
 
     under-side : (a s b : ℕ) → IsSideOf origins s a → Under s b → Under a b
     under-side a s b side u = record {

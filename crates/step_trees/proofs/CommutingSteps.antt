@@ -6,12 +6,10 @@ use Rattle.sections.proofs.Windows.{places_same}
 use Rattle.sections.specs.Place.{Place, same_place}
 use Rattle.types.specs.Code.{Program}
 use Rattle.types.specs.Contents.{Contents, write}
-use Rattle.types.specs.Value.{Environment}
 use Rattle.types.specs.Trees.{Caller, Leaf, Tree, Single, AndThen, Beside, all_done, ready, and_then, closed}
 use Rattle.types.specs.TreeRuns.{Runs, here, next}
-use Rattle.effects.specs.Accesses.{Access}
-use Rattle.effects.specs.Footprint.{Touches, Overwrites}
 use Rattle.effects.specs.Sound.{IsSound}
+use Rattle.effects.proofs.Footprints.{overwrites_touch}
 use Rattle.race_checker.specs.Clash.{IsAccepted}
 use Rattle.race_checker.proofs.Calming.{is_calm}
 use Rattle.step_trees.specs.Still.{waiting, left_of, still}
@@ -54,16 +52,13 @@ updates_commute None v a h k f = refl
 updates_commute (Some x) None a h k f = refl
 updates_commute {P = P} (Some x) (Some y) a h k f = writes_commute y.0 x.0 y.1 x.1 a (λ e. f y.0 (subst P (sym e) h) k)
 
-over_touches : {env : Environment} {xs : Access → Type 0} {q : Place} → Overwrites env xs q → Touches env xs q
-over_touches t = record { access = t.access; among = t.among; place = t.place }
-
 waiting_touch : (p : Program) (fs : List Caller) (q : Place) → (waiting p fs).writes q → (waiting p fs).touches q
 waiting_touch p [] q h = h
-waiting_touch p (f ∷ fs) q (inl h) = inl (over_touches h)
+waiting_touch p (f ∷ fs) q (inl h) = inl (overwrites_touch _ _ q h)
 waiting_touch p (f ∷ fs) q (inr h) = inr (waiting_touch p fs q h)
 
 left_touch : (p : Program) (k : Leaf) (q : Place) → (left_of p k).writes q → (left_of p k).touches q
-left_touch p k q (inl h) = inl (over_touches h)
+left_touch p k q (inl h) = inl (overwrites_touch _ _ q h)
 left_touch p k q (inr h) = inr (waiting_touch p k.callers q h)
 
 pub writes_touch : (p : Program) (t : Tree) (q : Place) → (still p t).writes q → (still p t).touches q

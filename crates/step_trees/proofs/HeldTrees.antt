@@ -1,6 +1,7 @@
 -- Trees as they are held: the numbers in them, and their ends.
 use Rattle.std.proofs.Common.{◌≡◌, ℕ, suc, ◌+◌, List, [], ◌∷◌, ◌++◌, length, refl, sym, ap, ◌∙◌, arith}
 use Rattle.std.proofs.lemmas.List.{append_assoc}
+use Rattle.std.proofs.lemmas.Bool.{and_from}
 use Rattle.std.specs.Prelude.{ℤ, Bool, true, false, ◌&&◌, nat_eq, map, if◌then◌else◌, Box}
 use Rattle.std.specs.Global.{Global}
 use Rattle.types.specs.declared.fault.Fault.{Fault as rFault}
@@ -79,9 +80,6 @@ second_of : (a b : Bool) → (a && b) ≡ true → b ≡ true
 second_of true b e = e
 second_of false b e = absurd (let bad : ⊥ = cc in bad)
 
-both_of : (a b : Bool) → a ≡ true → b ≡ true → (a && b) ≡ true
-both_of a b e f = ap (λ (x : Bool). x && b) e ∙ f
-
 -- where all is done, so is the first
 pub done-first : (bs : List (Box rTree Global)) (t : Tree) → all_done (with_rights bs t) ≡ true → all_done t ≡ true
 done-first [] t e = e
@@ -95,7 +93,7 @@ pub done-rights : (bs : List (Box rTree Global)) (t u : Tree) → all_done (with
 done-rights [] t u e = second_of (all_done t) (all_done u) e
 done-rights (x ∷ bs) t u e =
     let c = all_done (with_rights bs (Beside t u)) in let d = all_done (tree_of x.value) in
-    both_of (all_done (with_rights bs u)) d (done-rights bs t u (first_of c d e)) (second_of c d e)
+    and_from (all_done (with_rights bs u)) d (done-rights bs t u (first_of c d e)) (second_of c d e)
 
 -- what waited for the end of a tree of which this is left
 module _ (t : Tree) (k : Leaf) (r : Remains) (left : IsLeftOf t r) where

@@ -14,6 +14,7 @@ use Rattle.types.specs.TreeRuns.{Runs, here as no_step, next, Reachable}
 use Rattle.types.specs.TreePlaces.{StandsBefore}
 use Rattle.effects.specs.Effects.{Inner, labels, AllOf, All, PendingOf, Pending}
 use Rattle.parallel_relation.specs.Together.{Block, Together, LabelsMeet}
+use Rattle.parallel_relation.proofs.StatementParts.{none_at_end}
 use Rattle.step_trees.proofs.Statements.{either_of, from_either, all_append, pending_append}
 use Rattle.step_trees.proofs.Steps.{Step, step_from, step_below, step_at}
 
@@ -123,11 +124,8 @@ module _ (p : Program) where
   end_known : Known End
   end_known x y h = elim h [ ]
 
-  end_in : {A : Type 0} {x : ℕ} → All p labels End x → A
-  end_in h = elim h [ ]
-
   done_known : (k : Leaf) (f : Labels) → KeptKnown f (Single (done k))
-  done_known k f = record { known = KnownTree.is_leaf end_known; part = λ x. from_either end_in (λ h. absurd h) }
+  done_known k f = record { known = KnownTree.is_leaf end_known; part = λ x. from_either (none_at_end p) (λ h. absurd h) }
 
   kept_part : {f g : Labels} {u : Tree} → Part f g → KeptKnown f u → KeptKnown g u
   kept_part h k = record { known = k.known; part = λ x i. h x (k.part x i) }

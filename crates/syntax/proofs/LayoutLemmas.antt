@@ -1,13 +1,13 @@
 -- The tokens of tokens laid out are the same again.
 use Rattle.std.proofs.Common.{◌≡◌, ◌≢◌, ◌≤◌, ◌<◌, ◌+◌, ◌-◌, ◌*◌, ℕ, zero, suc, Bool, true, false, if◌then◌else◌, ◌&&◌}
 use Rattle.std.proofs.Common.{◌||◌, List, [], ◌∷◌, ◌++◌, codes, replicate, length, fold, Option, Some, None}
-use Rattle.std.proofs.Common.{refl, ap, sym, subst, ◌∙◌, arith}
+use Rattle.std.proofs.Common.{refl, ap, subst, ◌∙◌, arith}
 use Rattle.std.specs.Char.{is_ascii_digit, digit_value}
 use Rattle.std.specs.Fmt.{decimal}
 use Rattle.std.specs.List.{list_all, flat_map}
 use Rattle.std.specs.Option.{option_map}
 use Rattle.std.specs.Str.Parse.{AllDigits, digits_value_after}
-use Rattle.std.proofs.lemmas.Bool.{false≢true, and_parts}
+use Rattle.std.proofs.lemmas.Bool.{and_parts, or_parts}
 use Rattle.std.proofs.lemmas.Bool.Decides.{nat_tests}
 use Rattle.std.proofs.lemmas.List.Folds.{list_all-append}
 use Rattle.std.proofs.lemmas.Fmt.{decimal_is_IsNumeral}
@@ -30,10 +30,6 @@ use Rattle.syntax.specs.Token.{Token, NameToken, NumberToken, WordToken, MarkTok
 use Rattle.syntax.specs.Spelling.{spelling}
 use Rattle.syntax_tree.specs.Tree.{Program}
 use Rattle.syntax.proofs.MarkLemmas.{IsNeither, bracket_stands, minus_stands, paren_stands, quiet_mark}
-
-second_false : (a b : Bool) → (a || b) ≡ false → b ≡ false
-second_false true b e = absurd (false≢true (sym e))
-second_false false b e = e
 
 -- blanks
 
@@ -216,7 +212,7 @@ number_is (c ∷ cs) k = number_is cs (k * 10 + digit_value c)
 
 no_digit : (cs : List ℕ) → starts is_in_name cs ≡ false → starts is_ascii_digit cs ≡ false
 no_digit [] e = refl
-no_digit (c ∷ cs) e = second_false (begins_name c) (is_ascii_digit c) e
+no_digit (c ∷ cs) e = (or_parts (begins_name c) (is_ascii_digit c) e).1
 
 -- the tokens that a text can have
 

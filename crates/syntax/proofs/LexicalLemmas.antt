@@ -8,7 +8,7 @@ use Rattle.syntax.specs.Token.{Token}
 use Rattle.std.specs.Char.{is_ascii_alphabetic, is_ascii_digit}
 use Rattle.std.specs.Int.{is_in_range}
 use Rattle.std.specs.Str.{IsAscii}
-use Rattle.std.proofs.lemmas.Bool.{eqb-true, leb-true, false≢true, or_cases}
+use Rattle.std.proofs.lemmas.Bool.{eqb-true, leb-true, and_parts, or_cases}
 use Rattle.syntax.specs.Lexical.{begins_name, is_in_name, starts, Piece, token_of, Begins, AreCut, Reads, HasTokens}
 
 module _ (p : ℕ → Bool) where
@@ -67,12 +67,8 @@ piece_read text rest after ts us has reads = record {
   tokens = tokens-push has.pieces reads.piece ∙ ap (λ l. l ++ token_of reads.piece) has.tokens ∙ ap (λ l. ts ++ l) reads.tokens;
 }
 
-both : (a b : Bool) → (a && b) ≡ true → (a ≡ true) × (b ≡ true)
-both true b e = (refl, e)
-both false b e = absurd (false≢true e)
-
 in_range_is_below : (low high c : ℕ) → high < 128 → is_in_range low high c ≡ true → c < 128
-in_range_is_below low high c small e = omega (arith, small, leb-true c high (both _ _ e).1)
+in_range_is_below low high c small e = omega (arith, small, leb-true c high (and_parts _ _ e).1)
 
 in_name_is_ascii : (c : ℕ) → is_in_name c ≡ true → c < 128
 in_name_is_ascii c e =
@@ -86,7 +82,7 @@ in_name_is_ascii c e =
     (or_cases (begins_name c) (is_ascii_digit c) e)
 
 all_in_name : (c : ℕ) (cs : List ℕ) → list_all is_in_name (c ∷ cs) ≡ true → (is_in_name c ≡ true) × (list_all is_in_name cs ≡ true)
-all_in_name c cs e = both (is_in_name c) (list_all is_in_name cs) e
+all_in_name c cs e = and_parts (is_in_name c) (list_all is_in_name cs) e
 
 pub letters_are_ascii : (cs : List ℕ) → list_all is_in_name cs ≡ true → IsAscii cs
 letters_are_ascii [] e i = lit< tt

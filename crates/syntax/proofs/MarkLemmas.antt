@@ -41,7 +41,7 @@ quiet_mark m rest q = record {
 }
 
 -- ---- marks that may stand before any text: none is longer, and no comment begins so
-begins_none : (c : ℕ) (rest : List ℕ) → (c == 47) ≡ false → begins_comment (c ∷ rest) ≡ false
+pub begins_none : (c : ℕ) (rest : List ℕ) → (c == 47) ≡ false → begins_comment (c ∷ rest) ≡ false
 begins_none c [] other = refl
 begins_none c (d ∷ rest) other = ap (λ b. b && (d == 47)) other
 

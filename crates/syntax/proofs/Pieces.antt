@@ -22,6 +22,7 @@ use Rattle.syntax.specs.Lexical.{word_text, mark_text, is_blank, begins_name, is
 use Rattle.syntax.specs.Lexical.{begins_comment, number_of, Piece, BlankPiece, CommentPiece, NamePiece, NumberPiece}
 use Rattle.syntax.specs.Lexical.{WordPiece, MarkPiece, letters, token_of, IsMark, MayStand, Begins, AreCut, AreTokensOf}
 use Rattle.syntax.specs.Lexical.{BeginsNoPiece, BeginsLargeNumber, StopsAt}
+use Rattle.syntax.proofs.MarkLemmas.{begins_none}
 
 -- Words and marks are told apart by their characters.
 
@@ -178,14 +179,10 @@ starts-not : (q r : ℕ → Bool) (cs rest : List ℕ) → ((c : ℕ) → q c �
 starts-not q r [] rest apart begins = absurd (false≢true begins)
 starts-not q r (c ∷ cs) rest apart begins = apart c begins
 
-no_comment : (c : ℕ) (cs : List ℕ) → (c == 47) ≡ false → begins_comment (c ∷ cs) ≡ false
-no_comment c [] e = refl
-no_comment c (d ∷ cs) e = ap (λ b. b && d == 47) e
-
 begins_no_comment : (q : ℕ → Bool) (cs rest : List ℕ) → ((c : ℕ) → q c ≡ true → (c == 47) ≡ false) → starts q cs ≡ true
     → begins_comment (cs ++ rest) ≡ false
 begins_no_comment q [] rest apart begins = absurd (false≢true begins)
-begins_no_comment q (c ∷ cs) rest apart begins = no_comment c (cs ++ rest) (apart c begins)
+begins_no_comment q (c ∷ cs) rest apart begins = begins_none c (cs ++ rest) (apart c begins)
 
 in_range : (low high c : ℕ) → is_in_range low high c ≡ true → (low ≤ c) × (c ≤ high)
 in_range low high c e =

@@ -4,7 +4,7 @@ use Rattle.std.specs.Prelude.{cond, count_by, slice_get, unwrap_or}
 use Rattle.std.specs.Cmp.Lexicographic.{pointwise}
 use Rattle.std.specs.HashMap.{get}
 use Rattle.std.specs.Map.{lookup}
-use Rattle.std.proofs.Common.{nat_eq}
+use Rattle.std.proofs.Common.{add-one, nat_eq}
 use Rattle.std.proofs.lemmas.Slice.Eq.{bytes_eq-Decides}
 use Rattle.types.specs.Translation.{is_path}
 use Rattle.std.proofs.lemmas.Bool.{cases_eq, cases_lt}
@@ -181,14 +181,11 @@ order_added fs f was earlier i j d behind lt there =
     subst (λ (x : Finish). (get_or fs i d).first < x.first) (sym (get_or_push fs f d j at)) (earlier i d behind (omega arith)))
     (cases_lt j (length fs)))
 
-next : (n : ℕ) → n + 1 ≡ suc n
-next n = omega arith
-
 -- behind the root's
 opened_number : (es : List Event) (n count k : ℕ) (f : Finish) → k ≡ count + 1 → IsOpened es f
     → f.first ≤ f.last → f.first < n → IsFinishSoFar es n k f
 opened_number es n count k f is opens forward before =
-    subst (λ (i : ℕ). IsFinishSoFar es n i f) (sym (is ∙ next count))
+    subst (λ (i : ℕ). IsFinishSoFar es n i f) (sym (is ∙ add-one count))
     (record { is = record { begins = opens; forward = forward }; before = omega arith; opened = λ there. before })
 
 pub scopes_opened : (es : List Event) (n : ℕ) (path key : Path) (name : ScopeId) (old mid new : Scopes) → opener_at es n ≡ Some path.turns.items

@@ -2,6 +2,7 @@
 use Rattle.std.proofs.Common.{◌≡◌, ℕ, List, Some, Bool, true, false, ap, sym, ◌∙◌, refl}
 use Rattle.std.specs.Prelude.{slice_get, option_and_then}
 use Rattle.std.proofs.lemmas.Option.{none-some, option_and_then_some, same_Some}
+use Rattle.facts.proofs.Truths.{not_both}
 use Rattle.events.specs.declared.event.Event.{Event}
 use Rattle.events.specs.declared.event.Event.TheVariants.{Take, Park, End, Resume}
 use Rattle.trace_layout.specs.Spells.{Hold, IsLeaving, ended, is_taking, parked, taken, taken_at}
@@ -33,13 +34,10 @@ ended_leaves : (e : Event) (y : List ℕ) → ended e ≡ Some y → is_leaving 
 ended_leaves (End path) y h = refl
 ended_leaves _ y h = absurd (none-some y h)
 
-not_both : (b : Bool) → b ≡ true → b ≡ false → ⊥
-not_both b does never = let both : true ≡ false = sym does ∙ never in cc
-
 -- it takes nothing
 leaving_takes_none : (e : Event) → is_leaving e ≡ true → is_taking e ≡ false
-leaving_takes_none (Take worker path) h = absurd (not_both false h refl)
-leaving_takes_none (Resume worker path) h = absurd (not_both false h refl)
+leaving_takes_none (Take worker path) h = absurd (not_both {b = false} h refl)
+leaving_takes_none (Resume worker path) h = absurd (not_both {b = false} h refl)
 leaving_takes_none _ h = refl
 
 pub taking_at : (es : List Event) (n : ℕ) (y : Hold) → taken_at es n ≡ Some y → IsAtNumber es n true
@@ -76,8 +74,8 @@ taken_stays _ y h = absurd (none-some y h)
 -- by an event that is no park or end no task leaves its worker's hand
 pub leaves_none : (es : List Event) (n : ℕ) (x : Event) (path : List ℕ) (e : Ending) → slice_get es n ≡ Some x → is_leaving x ≡ false
     → IsLeaving es n path e → ⊥
-leaves_none es n x path Parked at never h = not_both (is_leaving x) (parked_leaves x path (ap (option_and_then parked) (sym at) ∙ h)) never
-leaves_none es n x path Ended at never h = not_both (is_leaving x) (ended_leaves x path (ap (option_and_then ended) (sym at) ∙ h)) never
+leaves_none es n x path Parked at never h = not_both (parked_leaves x path (ap (option_and_then parked) (sym at) ∙ h)) never
+leaves_none es n x path Ended at never h = not_both (ended_leaves x path (ap (option_and_then ended) (sym at) ∙ h)) never
 leaves_none es n x path Left at never h = h
 leaves_none es n x path Going at never h = h
 

@@ -97,7 +97,7 @@ abbrev pub KnownAt : List Parameter → List ℕ → Scope → Type 0
 KnownAt ps scope here = Known ps scope here.names here.slot here.sections here.kinds
 
 -- one name more, by whether it is the one that is looked for
-section_or_later : (b : Bool) (k s : ℕ) (o : Option Meant) → (if b then Some (AScalar k) else o) ≡ Some (ASection s)
+pub section_or_later : (b : Bool) (k s : ℕ) (o : Option Meant) → (if b then Some (AScalar k) else o) ≡ Some (ASection s)
     → o ≡ Some (ASection s)
 section_or_later true k s o h = absurd cc
 section_or_later false k s o h = h
@@ -112,7 +112,7 @@ side_or_later : (b : Bool) (n s : ℕ) (o : Option Meant) (scope : List ℕ) →
 side_or_later true n s o scope old h = let e : n ≡ s = cc in subst (λ k. Member k (n ∷ scope)) e first
 side_or_later false n s o scope old h = further (old h)
 
-past_section : (b : Bool) (n k : ℕ) (o : Option Meant) → (if b then Some (ASection n) else o) ≡ Some (AScalar k)
+pub past_section : (b : Bool) (n k : ℕ) (o : Option Meant) → (if b then Some (ASection n) else o) ≡ Some (AScalar k)
     → o ≡ Some (AScalar k)
 past_section true n k o h = absurd cc
 past_section false n k o h = h

@@ -1,12 +1,12 @@
 -- What is known of sections stays so as more are added.
 use Rattle.std.proofs.Common.{◌≡◌, ℕ, zero, suc, ◌+◌, ◌<◌, ◌≤◌, List, [], ◌∷◌, ◌++◌, length, refl, ap, ◌∙◌, arith}
-use Rattle.std.proofs.Math.ListN.{get_or-append}
 use Rattle.std.specs.Prelude.{Bool, ◌&&◌, ◌||◌, not, nat_eq}
 use Rattle.std.specs.List.{list_any}
 use Rattle.sections.specs.Member.{Member, first, next}
 use Rattle.sections.specs.Origins.{Origin, Root, Left, Right, origin_of, IsNumbered}
 use Rattle.sections.specs.Overlap.{beyond, one_parent, line_within, line, root_within, root_of, are_sides, are_opposite}
 use Rattle.sections.specs.Overlap.{under_opposite, overlap}
+use Rattle.sections.proofs.Numbered.{origin-prefix}
 use Rattle.sections.proofs.Lines.{line-below}
 
 beyond-same : {A : Type 0} (d : A) (f g : ℕ → A) (o : Origin) (n : ℕ) → ((s : ℕ) → o ≡ Left s → s < n)
@@ -21,20 +21,17 @@ any-same f g (x ∷ xs) h =
     ap (λ b. b || list_any f xs) (h x first) ∙ ap (λ b. g x || b) (any-same f g xs (λ y m. h y (next m)))
 
 module _ (os ps : List Origin) (numbered : IsNumbered os) where
-  pub origin-prefix : (a : ℕ) → a < length os → origin_of (os ++ ps) a ≡ origin_of os a
-  origin-prefix a h = get_or-append os ps Root a h
-
   root_within-prefix : (n a : ℕ) → a < length os → root_within (os ++ ps) n a ≡ root_within os n a
   root_within-prefix zero a h = refl
   root_within-prefix (suc n) a h =
-      ap (beyond a (root_within (os ++ ps) n)) (origin-prefix a h)
+      ap (beyond a (root_within (os ++ ps) n)) (origin-prefix os ps a h)
       ∙ beyond-same a (root_within (os ++ ps) n) (root_within os n) (origin_of os a) a (numbered.left a) (numbered.right a)
       (λ s k. root_within-prefix n s (let below : s < a = k in omega arith))
 
   line_within-prefix : (n a : ℕ) → a < length os → line_within (os ++ ps) n a ≡ line_within os n a
   line_within-prefix zero a h = refl
   line_within-prefix (suc n) a h =
-      ap (λ o. a ∷ beyond [] (line_within (os ++ ps) n) o) (origin-prefix a h)
+      ap (λ o. a ∷ beyond [] (line_within (os ++ ps) n) o) (origin-prefix os ps a h)
       ∙ ap (λ l. a ∷ l) (beyond-same [] (line_within (os ++ ps) n) (line_within os n) (origin_of os a) a (numbered.left a)
       (numbered.right a) (λ s k. line_within-prefix n s (let below : s < a = k in omega arith)))
 
@@ -46,8 +43,8 @@ module _ (os ps : List Origin) (numbered : IsNumbered os) where
 
   sides-prefix : (l r : ℕ) → l < length os → r < length os → are_sides (os ++ ps) l r ≡ are_sides os l r
   sides-prefix l r h k =
-      ap (λ o. nat_eq r (l + 1) && one_parent o (origin_of (os ++ ps) r)) (origin-prefix l h)
-      ∙ ap (λ o. nat_eq r (l + 1) && one_parent (origin_of os l) o) (origin-prefix r k)
+      ap (λ o. nat_eq r (l + 1) && one_parent o (origin_of (os ++ ps) r)) (origin-prefix os ps l h)
+      ∙ ap (λ o. nat_eq r (l + 1) && one_parent (origin_of os l) o) (origin-prefix os ps r k)
 
   opposite-prefix : (a b : ℕ) → a < length os → b < length os → are_opposite (os ++ ps) a b ≡ are_opposite os a b
   opposite-prefix a b h k =

@@ -24,7 +24,7 @@ use Rattle.types.specs.Labels.{labels_of_program}
 use Rattle.types.specs.Sound.{numbers_from, as_parameter, parameter_at, IsSoundIn, IsSound}
 use Rattle.types.proofs.CallsFollow.{section_kinds, scalar_count, Callable}
 use Rattle.types.proofs.Growth.{grows_none, grows_after}
-use Rattle.types.proofs.Known.{KnownAt, known_after}
+use Rattle.types.proofs.Known.{KnownAt, known_after, past_section, section_or_later}
 use Rattle.types.proofs.LabelLimit.{none_left, none_right, label_after}
 use Rattle.types.proofs.StatementsFollow.{follows}
 
@@ -48,16 +48,6 @@ scalar_among : (b : Bool) (k n j : ℕ) (o : Option Meant) → k < n → (o ≡ 
 scalar_among true k n j o new old h = let e : k ≡ j = cc in omega arith
 scalar_among false k n j o new old h = old h
 
-no_section_here : (b : Bool) (k s : ℕ) (o : Option Meant) → (if b then Some (AScalar k) else o) ≡ Some (ASection s)
-    → o ≡ Some (ASection s)
-no_section_here true k s o h = absurd cc
-no_section_here false k s o h = h
-
-no_scalar_here : (b : Bool) (k j : ℕ) (o : Option Meant) → (if b then Some (ASection k) else o) ≡ Some (AScalar j)
-    → o ≡ Some (AScalar j)
-no_scalar_here true k j o h = absurd cc
-no_scalar_here false k j o h = h
-
 roots_more : (n : ℕ) → replicate n Root ++ Root ∷ [] ≡ replicate (suc n) Root
 roots_more zero = refl
 roots_more (suc n) = ap (λ os. Root ∷ os) (roots_more n)
@@ -74,13 +64,13 @@ begins_root x k here begins =
       roots = ap (λ os. os ++ Root ∷ []) begins.roots ∙ roots_more (length here.kinds) ∙ ap (λ n. replicate n Root) one_more;
       sections = λ y s h. section_among (pointwise nat_eq y x) (length here.sections) (length (here.kinds ++ k ∷ [])) s (meant y here.names)
           (omega arith) (λ old. let lt : s < length here.kinds = begins.sections y s old in omega arith) h;
-      scalars = λ y j h. begins.scalars y j (no_scalar_here (pointwise nat_eq y x) (length here.sections) j (meant y here.names) h);
+      scalars = λ y j h. begins.scalars y j (past_section (pointwise nat_eq y x) (length here.sections) j (meant y here.names) h);
     }
 
 begins_scalar : (x : List ℕ) (here : Scope) → BeginsAt here → BeginsAt (with_scalar x here)
 begins_scalar x here begins = record {
   roots = begins.roots;
-  sections = λ y s h. begins.sections y s (no_section_here (pointwise nat_eq y x) here.slot s (meant y here.names) h);
+  sections = λ y s h. begins.sections y s (section_or_later (pointwise nat_eq y x) here.slot s (meant y here.names) h);
   scalars = λ y j h. scalar_among (pointwise nat_eq y x) here.slot (here.slot + 1) j (meant y here.names) (omega arith)
       (λ old. let lt : j < here.slot = begins.scalars y j old in omega arith) h;
 }

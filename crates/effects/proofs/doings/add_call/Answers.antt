@@ -13,7 +13,8 @@ use Rattle.effects.specs.Firsts.{AreFirstsIn, kept_in}
 use Rattle.effects.specs.Rows.{Renamed}
 use Rattle.effects.specs.Summarized.{IsSummary}
 use Rattle.effects.specs.Translation.{access}
-use Rattle.effects.proofs.DoingLemmas.{adds_firsts, all_in_callee, body_of_callee, passed_renamed}
+use Rattle.effects.proofs.ComesSound.{body_of-other}
+use Rattle.effects.proofs.DoingLemmas.{adds_firsts, all_in_callee, passed_renamed}
 use Rattle.effects.proofs.doings.add_call.Goals as goal
 
 pub returns : goal.returns
@@ -25,7 +26,7 @@ returns c =
     let callee = (procedure_of p f).body in
     let below : f < length p.procedures = c.requires.there in
     let exact : IsSummary p callee s =
-    subst (λ (b : Codes). IsSummary p b s) (body_of_callee p f below)
+    subst (λ (b : Codes). IsSummary p b s) (body_of-other p f below)
     (c.requires.summaries.each f s (slice_get-get_or c.args.table.now f c.index-table-callee.result
     (omega (arith, c.requires.summaries.number, c.requires.there)))) in
     let outside = c.in_ok-outside.outside in

@@ -1,11 +1,12 @@
 use Rattle.std.proofs.Common.{◌≡◌, ◌+◌, ◌<◌, List, drop, length, ap, sym, ◌∙◌, subst, arith}
+use Rattle.std.proofs.lemmas.Bool.{and_left}
 use Rattle.std.proofs.lemmas.List.{drop_all}
 use Rattle.syntax.specs.declared.token.Spanned.{Spanned}
 use Rattle.syntax.specs.Place.{place_at}
 use Rattle.syntax.specs.Token.{plain, token}
 use Rattle.places.specs.Starts.{begins_if_line}
 use Rattle.places.specs.declared.statements.Reached.{Reached}
-use Rattle.places.proofs.BegunLemmas.{IsFound, all_found, begins_here, begins_not, found_no_more, found_one_more, goes_on}
+use Rattle.places.proofs.BegunLemmas.{IsFound, all_found, begins_here, begins_not, found_no_more, found_one_more}
 use Rattle.places.proofs.statements.begun.Goals as goal
 use Rattle.places.proofs.statements.begun.Goals.{then-ended+then-begins_statement+in_ok-push, else-ended}
 use Rattle.places.proofs.statements.begun.Goals.{else-ended-via-then-ended+else-begins_statement, else-ended-via-else-ended}
@@ -44,7 +45,7 @@ loop-spanned-preserved c =
                   (begins_not ended first v.begins_statement.result v.if-begins_statement.false v.begins_statement.ensures)
               | else-ended-via-else-ended v ↦
                   found_no_more text tokens i s within c.spanned-item.is ended c.loop-spanned.places.items found next
-                  c.ends_line-ended.ensures (goes_on ended first v.if-ended.false)
+                  c.ends_line-ended.ensures (and_left ended first v.if-ended.false)
             ]);
       }
     ]
