@@ -17,7 +17,8 @@ pub(crate) const PAGES: &[Page] = &[
         name: "cannot-write",
         others: ["cannot write output", "cannot write"],
         about: "a file or an answer that can't be written",
-        rule: "A trace or a picture: no file of this name may be written, or the disk is full. Then no answer is written either.
+        rule: "A trace, a picture or a layout: no file of this name may be written, or the disk is full. Then no answer is
+written either.
 `cannot write output`: the standard output failed or took nothing. A beginning of the answer may stand there.",
         program: ["main {", "}"],
         tells: "run program.afx --trace -" => "cannot write -",

@@ -150,8 +150,8 @@ after an even number of turns the answer is in the first array.",
     page! {
         name: "reader_of_all",
         about: "tasks that read all of an array",
-        rule: "Any number of tasks may read one section, as long as nobody writes it. By `run` each of them gets a copy of
-all of it, so keep such tasks few, or cut what they read as well.",
+        rule: "Any number of tasks may read one section, as long as nobody writes it. By `run` they hold it in
+common, and only of a block of 256 elements that goes in part elements are copied.",
         shape: [
             "proc ranks(read all: int, mut part: int, first: int) {",
             "  split part at len(part) / 2 as l, r {",
