@@ -51,8 +51,8 @@ fn refuses_colours(rt: &HostRuntime) -> bool {
     }
 }
 
-/// The words behind the program's name, and where the answer goes, in large pieces. No word at a terminal asks for
-/// help, since nobody types a program there.
+/// The words behind the program's name, and where the answer goes, in large pieces. No word at a terminal
+/// asks for help, since nobody types a program there.
 fn lent(rt: &HostRuntime) -> io::Result<(Vec<String>, BufWriter<Stdout>)> {
     let alloc = rt.alloc();
     let mut words = Vec::new(alloc);

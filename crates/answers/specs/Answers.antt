@@ -53,7 +53,8 @@ use Rattle.intake.specs.declared.failure.Failure.TheVariants.{ChoicesNotUndersto
 use Rattle.intake.specs.declared.failure.Failure.TheVariants.{Trace, Illegal, StrangeEvents, CannotWrite}
 use Rattle.intake.specs.declared.failure.Failure.TheVariants.{Run as RunFailed}
 use Rattle.command_line.specs.declared.request.Command.{Command}
-use Rattle.command_line.specs.declared.request.Command.TheVariants.{Run, Serial, Check, Listing, Pairs, Explore}
+use Rattle.command_line.specs.declared.request.Command.TheVariants.{Run, Serial, Check, Listing}
+use Rattle.command_line.specs.declared.request.Command.TheVariants.{Pairs, Explore}
 use Rattle.command_line.specs.declared.request.Command.TheVariants.{Labels, Places, Format, CheckFormat}
 use Rattle.command_line.specs.declared.request.Command.TheVariants.{View, Summary, Draw, Chrome, Cost}
 use Rattle.command_line.specs.declared.request.Command.TheVariants.{CostByLabel, CostByProcedure}
@@ -119,7 +120,8 @@ abbrev pub AnswersSerial : Settings → Held → (text told : List ℕ) → (sta
 AnswersSerial s held text told status =
     TellsOfRun s held text (λ code input. Shows s.arrays (outcome code input s.budget) code told status)
 
--- the lines of a cost, and behind them those of the shares of each label, or of each procedure, of which these are the rows
+-- the lines of a cost, and behind them those of the shares of each label, or of each procedure, of which
+-- these are the rows
 abbrev pub cost_lines : Shares → Numbers → (work span : List ℕ) → Program → List ℕ
 cost_lines Untold c work span code = cost_text c
 cost_lines ByLabel c work span code = cost_text c ++ labels_text work span
@@ -152,8 +154,8 @@ pub data TellsCost (code : Program) (o : Outcome) (cost told : List ℕ) (status
   numbers : status_of o ≡ 0 → told ≡ cost → status ≡ 0 → TellsCost code o cost told status
   not_ended : status_of o ≢ 0 → Shows false o code told status → TellsCost code o cost told status
 
--- `cost`: what the run on one thread cost, of the text's program on the input and under the budget given; with
--- `--by-line` and `--by-procedure` behind it shares
+-- `cost`: what the run on one thread cost, of the text's program on the input and under the budget given;
+-- with `--by-line` and `--by-procedure` behind it shares
 abbrev pub AnswersCost : Shares → Settings → Held → (text told : List ℕ) → (status : ℕ) → Type 0
 AnswersCost shares s held text told status =
     TellsOfRun s held text
@@ -390,7 +392,8 @@ pub record FailsAsTasks (c : Command) (s : Settings) (held : Held) (text : List 
 abbrev pub IsTraced : Settings → Type 0
 IsTraced s = IsTrue (is_some s.trace)
 
--- a failure is one of the text, for what was asked; only want of memory is free, and which file can't be written
+-- a failure is one of the text, for what was asked; only want of memory is free, and which file can't be
+-- written
 abbrev pub Explains : Command → Settings → Held → (text : List ℕ) → Failure → Type 0
 Explains c s held text (CannotRead name) =
     (LacksInput c s held text (CannotRead name)) ⊎ (LacksChoices c s held text (CannotRead name))

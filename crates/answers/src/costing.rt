@@ -31,8 +31,9 @@ pub enum Shares {
     ByProcedure,
 }
 
-/// Runs the program on one thread, and writes what that costs: work, span and other numbers, and behind them these shares of
-/// them. Of a run that has faults or is stopped its outcome is written in their place; gives the exit status.
+/// Runs the program on one thread, and writes what that costs: work, span and other numbers, and behind
+/// them these shares of them. Of a run that has faults or is stopped its outcome is written in their
+/// place; gives the exit status.
 pub fn tell_cost<F: FileSource, O: Write>(
     alloc: Global,
     shares: Shares,

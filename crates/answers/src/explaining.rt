@@ -29,8 +29,9 @@ use types::budget::{Budget, MOST_NEST, MOST_STEPS};
 use types::input_error::InputError;
 use witness::witness::witness_of;
 
-/// What went wrong, why, and what would be right: in the text of a program, in the file of its input or in that of a
-/// trace, in its choices, or in its layout. Nothing where more can't be said than the failure's line does.
+/// What went wrong, why, and what would be right: in the text of a program, in the file of its input or in
+/// that of a trace, in its choices, or in its layout. Nothing where more can't be said than the failure's
+/// line does.
 pub fn explanation<R: Threads + Sync, F: FileSource>(
     rt: &R,
     alloc: Global,
@@ -142,8 +143,9 @@ fn trace_explained<F: FileSource>(
     }
 }
 
-/// What made the faults of a run, or which task was over its budget, behind an outcome with this status. The program is run
-/// once more, on one thread; files are read again. Nothing behind any other answer, and where files can't be had again.
+/// What made the faults of a run, or which task was over its budget, behind an outcome with this status.
+/// The program is run once more, on one thread; files are read again. Nothing behind any other answer, and
+/// where files can't be had again.
 pub fn run_explanation<F: FileSource>(
     alloc: Global,
     files: &mut F,
@@ -171,8 +173,8 @@ fn without_run(alloc: Global, command: Command, status: u8) -> Result<String, Al
     }
 }
 
-/// What a run of a command that ended with this status may spend; None where no run has ended. A run by choices has no
-/// budget, and with status 3 it is open.
+/// What a run of a command that ended with this status may spend; None where no run has ended. A run by
+/// choices has no budget, and with status 3 it is open.
 fn budget_of(command: Command, settings: Settings<'_>, status: u8) -> Option<Budget> {
     match command {
         Command::Run => Some(settings.budget),

@@ -1,4 +1,5 @@
-//! What is asked of a program, and what is had for it: the program of its text, and what its arrays hold at first.
+//! What is asked of a program, and what is had for it: the program of its text, and what its arrays hold
+//! at first.
 
 ghost use Rattle.std.specs.Prelude.{◌≡◌, IfErr, IfOk};
 ghost use Rattle.types.specs.Translation.{input as lists_in};

@@ -35,8 +35,8 @@ Programs, inputs and traces are UTF-8.
 To mend it: write the file anew in UTF-8; outside of comments a program has ASCII alone.
 ";
 
-/// Why the file of a program gives no text, and what would be right. Nothing where more can't be said than the failure's
-/// line does.
+/// Why the file of a program gives no text, and what would be right. Nothing where more can't be said than
+/// the failure's line does.
 pub fn unread_explanation<F: FileSource>(
     alloc: Global,
     files: &mut F,

@@ -6,7 +6,8 @@ use Rattle.std.specs.Fmt.{decimal}
 use Rattle.types.specs.Outcome.{Budget}
 use Rattle.types.specs.Translation.{budget as budget_of}
 use Rattle.command_line.specs.declared.request.Command.{Command}
-use Rattle.command_line.specs.declared.request.Command.TheVariants.{Run, Serial, Check, Pairs, Explore, Places, Listing}
+use Rattle.command_line.specs.declared.request.Command.TheVariants.{Run, Serial, Check, Pairs}
+use Rattle.command_line.specs.declared.request.Command.TheVariants.{Explore, Places, Listing}
 use Rattle.command_line.specs.declared.request.Command.TheVariants.{Labels, Format, CheckFormat}
 use Rattle.command_line.specs.declared.request.Command.TheVariants.{View, Summary, Draw, Chrome, Cost}
 use Rattle.command_line.specs.declared.request.Command.TheVariants.{CostByLabel, CostByProcedure}
@@ -235,8 +236,8 @@ abbrev pub flagged : (option : List ℕ) → Bool → (behind : List (List ℕ))
 flagged option true behind = option ∷ behind
 flagged option false behind = behind
 
--- the words of options of a run as tasks, in this order: `--input FILE --steps N --nest N --tasks N
--- --w0 N --workers N --trace FILE --arrays`
+-- the words of options of a run as tasks, in this order:
+-- `--input FILE --steps N --nest N --tasks N --w0 N --workers N --trace FILE --arrays`
 abbrev pub words_of : Texts → List (List ℕ)
 words_of t =
     valued (codes "--input") t.input (valued (codes "--steps") t.steps

@@ -1,6 +1,6 @@
--- What a run on one thread costs at each label: a tally, and beside it, by label, the steps that were taken and those of
--- its chains. Where two chains are equally long, a task's own is told and none of a task that it waited for; and of two
--- tasks that ended in a finish, that of the one that ended first.
+-- What a run on one thread costs at each label: a tally, and beside it, by label, the steps that were
+-- taken and those of its chains. Where two chains are equally long, a task's own is told and none of a
+-- task that it waited for; and of two tasks that ended in a finish, that of the one that ended first.
 use Rattle.std.specs.Prelude.{ℕ, ◌+◌, List, [], length, replicate, ℤ, if◌then◌else◌}
 use Rattle.std.specs.Prelude.{nat_lt, slice_index, slice_set}
 use Rattle.types.specs.Code.{Code, Do, If, While, Split, Call, Async, Finish, Program}
@@ -12,8 +12,9 @@ use Rattle.cost.specs.declared.tally.Tally.{Tally}
 use Rattle.cost.specs.Costs.{begins_task, ends_task, enters_finish, leaves_finish, nothing_done}
 use Rattle.cost.specs.Costs.{one_more}
 
--- a tally; and by label how many steps all tasks took, how many of these lie on the longest chain that leads to where the
--- task is, and how many on the longest to the end of a task that ended in its innermost finish
+-- a tally; and by label how many steps all tasks took, how many of these lie on the longest chain that
+-- leads to where the task is, and how many on the longest to the end of a task that ended in its innermost
+-- finish
 pub record Account : Type 0 where
   pub tally : Tally
   pub work : List ℕ
@@ -55,7 +56,8 @@ longer m n xs ys = if nat_lt m n then ys else xs
 abbrev pub span_by_label : Account → List ℕ
 span_by_label a = longer a.tally.here a.tally.ended a.here a.ended
 
--- an async takes its step, and behind that its task begins, which stands in so many asyncs and copies so many places
+-- an async takes its step, and behind that its task begins, which stands in so many asyncs and copies so
+-- many places
 abbrev pub begins_at : (label depth copied : ℕ) → Account → Account
 begins_at l depth copied a = record (steps_at l a) { tally = begins_task depth copied a.tally }
 
@@ -71,8 +73,8 @@ ends_behind here ns a = record a {
 abbrev pub enters_at : (label : ℕ) → Account → Account
 enters_at l a = record (steps_at l a) { tally = enters_finish a.tally; ended = [] }
 
--- what is behind a finish comes behind its statements and behind all tasks that ended in it; in the finish around it
--- tasks had ended before
+-- what is behind a finish comes behind its statements and behind all tasks that ended in it; in the finish
+-- around it tasks had ended before
 abbrev pub leaves_behind : (ended : ℕ) → (by_label : List ℕ) → Account → Account
 leaves_behind ended ns a = record a {
   tally = leaves_finish ended a.tally;

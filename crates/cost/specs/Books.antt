@@ -1,5 +1,5 @@
--- A run on one thread that keeps a book beside its states: the one recursion over statements, by rules that write in it
--- what each step, each async and each finish does.
+-- A run on one thread that keeps a book beside its states: the one recursion over statements, by rules
+-- that write in it what each step, each async and each finish does.
 use Rattle.std.specs.Prelude.{ℕ, zero, suc, ◌+◌, length}
 use Rattle.types.specs.Code.{Codes, Program}
 use Rattle.types.specs.Meaning.{hushed, joined, child, after_body, after_finish}
@@ -10,7 +10,8 @@ use Rattle.spawn_copies.specs.Copied.{copied_at}
 pub record Book (X : Type 0) : Type 0 where
   -- a statement takes its step
   pub steps : (label : ℕ) → X → X
-  -- an async takes its step, and behind that its task begins, which stands in so many asyncs and copies so many places
+  -- an async takes its step, and behind that its task begins, which stands in so many asyncs and copies so
+  -- many places
   pub begins : (label depth copied : ℕ) → X → X
   -- its task has ended, before which this was written
   pub ends : (before out : X) → X

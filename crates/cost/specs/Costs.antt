@@ -1,5 +1,6 @@
--- What a run on one thread costs: a tally of steps, which it keeps as its book. A step comes behind the steps of its task
--- before it, behind the async that began its task, and, behind a finish, behind all that was done in that.
+-- What a run on one thread costs: a tally of steps, which it keeps as its book. A step comes behind the
+-- steps of its task before it, behind the async that began its task, and, behind a finish, behind all that
+-- was done in that.
 use Rattle.std.specs.Prelude.{ℕ, ◌+◌, max, List, ℤ}
 use Rattle.types.specs.Code.{Program}
 use Rattle.types.specs.Contents.{held_by}
@@ -25,7 +26,8 @@ nothing_done = record {
 abbrev pub one_more : Tally → Tally
 one_more t = record t { work = t.work + 1; here = t.here + 1 }
 
--- an async takes its step, and behind that its task begins, which stands in so many asyncs and copies so many places
+-- an async takes its step, and behind that its task begins, which stands in so many asyncs and copies so
+-- many places
 abbrev pub begins_task : (depth copied : ℕ) → Tally → Tally
 begins_task depth copied t =
     record (one_more t) {
@@ -42,8 +44,8 @@ ends_task here t = record t { here = here; ended = max t.ended t.here }
 abbrev pub enters_finish : Tally → Tally
 enters_finish t = record (one_more t) { ended = 0; finishes = t.finishes + 1 }
 
--- what is behind a finish comes behind its statements and behind all tasks that ended in it; in the finish around it
--- tasks had ended before
+-- what is behind a finish comes behind its statements and behind all tasks that ended in it; in the finish
+-- around it tasks had ended before
 abbrev pub leaves_finish : (ended : ℕ) → Tally → Tally
 leaves_finish ended t = record t { here = max t.here t.ended; ended = ended }
 

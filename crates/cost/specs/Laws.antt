@@ -13,8 +13,8 @@ untallied = keeping tt
 abbrev pub totals : State Account → State Tally
 totals st = keeping st.extra.tally st
 
--- no chain is longer than all that was done; each task but the root, and each finish but that around `main`, took a
--- step of its own
+-- no chain is longer than all that was done; each task but the root, and each finish but that around
+-- `main`, took a step of its own
 pub record IsFair (t : Tally) : Type 0 where
   pub here : t.here ≤ t.work
   pub ended : t.ended ≤ t.work

@@ -11,7 +11,8 @@ use crate::tally::Tally;
 use std::alloc::{AllocError, Global};
 use types::code::{Label, StmtKind};
 
-/// What was done so far. A table by label has a row for each label and for 0; where it has none, nothing is kept by label.
+/// What was done so far. A table by label has a row for each label and for 0; where it has none, nothing
+/// is kept by label.
 #[derive(Drop)]
 pub struct Account {
     pub tally: Tally,

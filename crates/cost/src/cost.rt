@@ -35,8 +35,8 @@ pub struct Cost {
     pub deepest_nest: usize,
     /// How many finishes there were, the one around `main` among them.
     pub finishes: usize,
-    /// How many places lie, at each async that begins a task, in blocks of 256 that aren't wholly inside of what its body
-    /// may write, counted twice: once for the way to the task, once for the way back.
+    /// How many places lie, at each async that begins a task, in blocks of 256 that aren't wholly inside
+    /// of what its body may write, counted twice: once for the way to the task, once for the way back.
     pub copied: usize,
 }
 
@@ -64,7 +64,8 @@ pub struct Costed {
     pub cost: Cost,
 }
 
-/// The same, and how much of it at each label. The number of a label has that index; the first is of no statement.
+/// The same, and how much of it at each label. The number of a label has that index; the first is of no
+/// statement.
 #[derive(Drop)]
 pub struct CostByLabel {
     pub costed: Costed,
@@ -74,8 +75,8 @@ pub struct CostByLabel {
     pub span: Vec<u64>,
 }
 
-/// What a program, an input and a budget come to on one thread, and what that costs. The input has a list for each
-/// array, of its length. A count that is too large is told as want of memory.
+/// What a program, an input and a budget come to on one thread, and what that costs. The input has a list
+/// for each array, of its length. A count that is too large is told as want of memory.
 ///
 /// `main { finish { async { skip; } skip; } skip; }` costs 5 steps, of which 4 come one behind the other.
 pub fn measure(
@@ -94,11 +95,12 @@ pub fn measure(
     Ok(costed)
 }
 
-/// The same by label, where the labels are less than `rows`: a step at any other is counted at 0. Of two chains that are
-/// equally long it is a task's own rather than one of a task that it waited for, and of two tasks that of the first.
+/// The same by label, where the labels are less than `rows`: a step at any other is counted at 0. Of two
+/// chains that are equally long it is a task's own rather than one of a task that it waited for, and of
+/// two tasks that of the first.
 ///
-/// `main { finish { async { skip; } skip; } skip; }` has 5 labels, at each of which a step is taken. That at 3, inside the
-/// async, lies beside the longest chain, which goes on behind the async.
+/// `main { finish { async { skip; } skip; } skip; }` has 5 labels, at each of which a step is taken. That
+/// at 3, inside the async, lies beside the longest chain, which goes on behind the async.
 pub fn measure_by_label(
     alloc: Global,
     typed: &Typed,

@@ -11,7 +11,8 @@ ghost use Rattle.cost.specs.Costs.{cost_of, tallied, tally_of};
 ghost use Rattle.cost.specs.Laws.{AddsUp, IsFair, totals, untallied};
 ghost use Rattle.cost.specs.declared.tally.Tally.{Tally as AnyTally};
 
-/// A tally changes nothing: a run that keeps one comes to what the one-thread meaning says, whatever the tally was.
+/// A tally changes nothing: a run that keeps one comes to what the one-thread meaning says, whatever the
+/// tally was.
 pub fn tallies_change_nothing()
     ensures { (p : Program) (fresh nest : ℕ) (w : Work) (st : State AnyTally)
         → untallied (tallied p fresh nest w st) ≡ one p fresh nest w (untallied st) }
@@ -22,8 +23,8 @@ pub fn tallies_are_fair()
     ensures { (p : Program) (input : List (List ℤ)) (b : Budget) → IsFair (tally_of p input b) }
 {}
 
-/// An account changes no tally: a run that keeps one comes to what that does which keeps its tally alone, whatever the
-/// account was. So the tally of a whole run is the same with any number of rows.
+/// An account changes no tally: a run that keeps one comes to what that does which keeps its tally alone,
+/// whatever the account was. So the tally of a whole run is the same with any number of rows.
 pub fn accounts_change_no_tally()
     ensures state { (p : Program) (fresh nest : ℕ) (w : Work) (st : State Account)
         → totals (accounted p fresh nest w st) ≡ tallied p fresh nest w (totals st) }
@@ -31,8 +32,8 @@ pub fn accounts_change_no_tally()
         → (account_of p rows input b).tally ≡ tally_of p input b }
 {}
 
-/// Whatever the program, the input and the budget, where there is a row at all: those of all steps add up to the work, and
-/// those of the longest chain to the span.
+/// Whatever the program, the input and the budget, where there is a row at all: those of all steps add up
+/// to the work, and those of the longest chain to the span.
 pub fn accounts_add_up()
     ensures rows { (p : Program) (rows : ℕ) (input : List (List ℤ)) (b : Budget)
         → 0 < rows → AddsUp (account_of p rows input b) }

@@ -1,4 +1,5 @@
--- How the numbers of a cost are told, one on each line; and what share of it each label has, or each procedure.
+-- How the numbers of a cost are told, one on each line; and what share of it each label has, or each
+-- procedure.
 use Rattle.std.specs.Prelude.{ℕ, ◌+◌, List, [], ◌∷◌, ◌++◌, codes, slice_index, nat_eq, if◌then◌else◌}
 use Rattle.std.specs.Fmt.{decimal}
 use Rattle.trace_numbers.specs.Text.{line, parallelism}

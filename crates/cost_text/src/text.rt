@@ -14,8 +14,8 @@ use std::alloc::{AllocError, Global};
 use trace_numbers::text::push_parallelism;
 use types::code::{Procedure, Program};
 
-/// The numbers of a cost, one on each line: `work: 61`, `span: 17`, `parallelism: 3.58`, which is the work by the span
-/// with two digits, `tasks: 8`, `deepest nest: 3`, `finishes: 2`, `copied places: 24`.
+/// The numbers of a cost, one on each line: `work: 61`, `span: 17`, `parallelism: 3.58`, which is the work
+/// by the span with two digits, `tasks: 8`, `deepest nest: 3`, `finishes: 2`, `copied places: 24`.
 pub fn cost_text(alloc: Global, cost: &Cost) -> Result<String, AllocError>
     ensures { IfOk result (λ text. string_bytes text ≡ cost_text cost.now) }
 {
@@ -49,7 +49,8 @@ fn push_tasks(text: &mut String, cost: &Cost) -> Result<(), AllocError>
     )
 }
 
-/// What share each label has, one on each line: `label 3: work 7, span 2`. The tables are those of a cost by label.
+/// What share each label has, one on each line: `label 3: work 7, span 2`. The tables are those of a cost
+/// by label.
 pub fn labels_text(alloc: Global, work: &[u64], span: &[u64]) -> Result<String, AllocError>
     ensures { IfOk result (λ text. string_bytes text ≡ labels_text work.now span.now) }
 {

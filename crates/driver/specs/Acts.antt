@@ -15,7 +15,8 @@ use Rattle.command_line.specs.Requests.{Settings}
 use Rattle.command_line.specs.declared.request.Action.{Action}
 use Rattle.command_line.specs.declared.request.Action.TheVariants.{Answer as AnswerBy, Rewrite}
 use Rattle.command_line.specs.declared.request.Command.{Command}
-use Rattle.command_line.specs.declared.request.Command.TheVariants.{Run, Serial, Check, Listing, Pairs, Explore}
+use Rattle.command_line.specs.declared.request.Command.TheVariants.{Run, Serial, Check, Listing}
+use Rattle.command_line.specs.declared.request.Command.TheVariants.{Pairs, Explore}
 use Rattle.command_line.specs.declared.request.Command.TheVariants.{Labels, Places, Format, CheckFormat}
 use Rattle.command_line.specs.declared.request.Command.TheVariants.{View, Summary, Draw, Chrome, Cost}
 use Rattle.command_line.specs.declared.request.Command.TheVariants.{CostByLabel, CostByProcedure}
@@ -41,8 +42,8 @@ ExplainsAny Draw s held text = ExplainsTrace Draw s held text
 ExplainsAny Chrome s held text = ExplainsTrace Chrome s held text
 ExplainsAny c s held text = Explains c s held text
 
--- what files hold behind a command: the trace of a run in the file that was named for it, a picture in its file; and
--- whatever else they held
+-- what files hold behind a command: the trace of a run in the file that was named for it, a picture in its
+-- file; and whatever else they held
 abbrev pub Leaves : Command → Settings → (text : List ℕ) → (held later : Held) → Result ℕ Failure → Type 0
 Leaves Run s text held later r = TracesRun s text held later r
 Leaves Draw s text held later r = WritesTo (picture_name s) (IsDrawn s held text) held later r
@@ -64,8 +65,8 @@ Leaves Summary s text held later r = later ≡ held
 
 -- ---- what is done with a file
 
--- the text told, with its status, answers what is asked of the text of a program: that of a command, or nothing of one
--- that is laid out in its file
+-- the text told, with its status, answers what is asked of the text of a program: that of a command, or
+-- nothing of one that is laid out in its file
 abbrev pub AnswersTo : Action → Settings → Held → (text : List ℕ) → Answer
 AnswersTo (AnswerBy c) s held text = AnswersAny c s held text
 AnswersTo Rewrite s held text = AnswersRewrite text
@@ -76,7 +77,8 @@ ExplainsTo (AnswerBy c) file s held text = ExplainsAny c s held text
 ExplainsTo Rewrite file s held text = ExplainsRewrite file text
 
 -- what files hold behind it
-abbrev pub LeavesTo : Action → (file : List ℕ) → Settings → (text : List ℕ) → (held later : Held) → Result ℕ Failure
+abbrev pub LeavesTo : Action → (file : List ℕ) → Settings → (text : List ℕ) → (held later : Held)
+    → Result ℕ Failure
     → Type 0
 LeavesTo (AnswerBy c) file s text held later r = Leaves c s text held later r
 LeavesTo Rewrite file s text held later r = LeavesRewritten file text held later r
@@ -93,8 +95,8 @@ pub record IsTold (explain : Bool) (old new : Option (List ℕ)) (f : Failure) :
   pub bare : explain ≡ false → more ≡ []
   pub told : AppendsBeginning old new ((failure_text f ++ codes "\n") ++ more)
 
--- behind an answer nothing is said, unless that is asked for, and a run ended with faults or was stopped: then what
--- explains its outcome was appended, as far as it was taken
+-- behind an answer nothing is said, unless that is asked for, and a run ended with faults or was stopped:
+-- then what explains its outcome was appended, as far as it was taken
 pub record IsFollowed (explain : Bool) (answered : ℕ) (old new : Option (List ℕ)) : Type 0 where
   pub more : List ℕ
   pub bare : explain ≡ false → more ≡ []
@@ -107,8 +109,8 @@ abbrev pub Reports : (explain : Bool) → (old new : Option (List ℕ)) → Resu
 Reports explain old new (Ok answered) status = (status ≡ answered) × IsFollowed explain answered old new
 Reports explain old new (Err f) status = (status ≡ failure_status f) × IsTold explain old new f
 
--- a mistake in the words was told with status 1: a text of it was appended to the error output as far as it was taken,
--- and the other output is as it was
+-- a mistake in the words was told with status 1: a text of it was appended to the error output as far as
+-- it was taken, and the other output is as it was
 pub record TellsMistake (old new err_old err_new : Option (List ℕ)) (status : ℕ) : Type 0 where
   pub text : List ℕ
   pub told : AppendsBeginning err_old err_new text
@@ -126,8 +128,8 @@ IsHandedOn (Ok status) old new r =
     Keeps old new × (IfOk r (λ n. n ≡ status) × IfErr r (λ f. f ≡ CannotWriteOutput))
 IsHandedOn (Err f) old new r = (new ≡ old) × (r ≡ Err f)
 
--- behind the line of a refusal, and behind an answer, more is said only where that is asked for; behind an answer with
--- status 0 or 1 nothing is
+-- behind the line of a refusal, and behind an answer, more is said only where that is asked for; behind an
+-- answer with status 0 or 1 nothing is
 pub record IsSaid (explain : Bool) (r : Result Answered Refusal) : Type 0 where
   pub bare : IfErr r (λ refusal. explain ≡ false → string_bytes refusal.more ≡ [])
   pub quiet : IfOk r (λ answered. explain ≡ false → string_bytes answered.more ≡ [])

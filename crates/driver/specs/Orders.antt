@@ -15,7 +15,8 @@ use Rattle.driver.specs.declared.doing.Doing.TheVariants.{Answering, Describing,
 use Rattle.driver.specs.declared.loaded.Loaded.{Loaded}
 use Rattle.trials.specs.Folders.{Folders}
 
--- this was done with the text of a program: what is asked of it, or it was told as one object, or its runs were timed
+-- this was done with the text of a program: what is asked of it, or it was told as one object, or its runs
+-- were timed
 abbrev pub DoesWith : Doing → Asked → (text : List ℕ) → (held later : Held) → (old new : Option (List ℕ))
     → Result ℕ Failure → Type 0
 DoesWith Answering a text held later old new r = Performs a.action a.file a.settings text held later old new r
@@ -23,7 +24,8 @@ DoesWith (Describing x) a text held later old new r = TellsObject x a.file a.set
 DoesWith Timing a text held later old new r = TimesRuns a.settings text held later old new r
 
 -- the same of a request and the text of its file
-abbrev pub DoesWithLoaded : Doing → Loaded → (held later : Held) → (old new : Option (List ℕ)) → Result ℕ Failure
+abbrev pub DoesWithLoaded : Doing → Loaded → (held later : Held) → (old new : Option (List ℕ))
+    → Result ℕ Failure
     → Type 0
 DoesWithLoaded d l held later old new r = DoesWith d (asked_of l.request) l.text.now held later old new r
 

@@ -15,7 +15,8 @@ use Rattle.trace_text.specs.Lines.{trace_text}
 use Rattle.command_line.specs.Requests.{Settings}
 use Rattle.intake.specs.Held.{Held}
 use Rattle.intake.specs.declared.failure.Failure.{Failure}
-use Rattle.intake.specs.declared.failure.Failure.TheVariants.{Run as RunFailed, StrangeEvents, CannotWrite, NoMemory}
+use Rattle.intake.specs.declared.failure.Failure.TheVariants.{Run as RunFailed, StrangeEvents}
+use Rattle.intake.specs.declared.failure.Failure.TheVariants.{CannotWrite, NoMemory}
 use Rattle.answers.specs.Answers.{HasInput, IsExplored, IsTraced}
 use Rattle.answers.specs.declared.question.Begun.{Begun}
 use Rattle.viewing.specs.Files.{WritesTo}
@@ -30,8 +31,8 @@ header_of s = record {
   workers = s.spread.workers;
 }
 
--- the lines of a run of a program on an input: its events are legal from the start, one behind the other, and the
--- world that they lead to has passed its root's scope, and tells the one-thread outcome
+-- the lines of a run of a program on an input: its events are legal from the start, one behind the other,
+-- and the world that they lead to has passed its root's scope, and tells the one-thread outcome
 pub record IsTraceOf (p : Program) (input : List (List ℤ)) (s : Settings) (bytes : List ℕ) : Type 0 where
   pub events : List Event
   pub lines : bytes ≡ trace_text (header_of s) events
@@ -44,7 +45,8 @@ pub record IsTraceOfText (s : Settings) (held : Held) (text bytes : List ℕ) : 
   pub run : IsExplored s held text
   pub trace : IsTraceOf run.code run.input s bytes
 
--- the program of a text, which has this code, has no race, and came to this outcome on the input that was given
+-- the program of a text, which has this code, has no race, and came to this outcome on the input that was
+-- given
 pub record HasRun (s : Settings) (held : Held) (text : List ℕ) (code : Program) (o : Outcome) : Type 0 where
   pub accepted : IsAccepted code
   pub input : List (List ℤ)
@@ -62,7 +64,8 @@ WritesTrace None AreRight held later r = later ≡ held
 WritesTrace (Some name) AreRight held later r = WritesTo name AreRight held later r
 
 -- so the trace of a run of a text's program is written
-abbrev pub TracesRun : {T : Type 0} → Settings → (text : List ℕ) → (held later : Held) → Result T Failure → Type 0
+abbrev pub TracesRun : {T : Type 0} → Settings → (text : List ℕ) → (held later : Held) → Result T Failure
+    → Type 0
 TracesRun s text held later r = WritesTrace s.trace (IsTraceOfText s held text) held later r
 
 -- so is that of a program that was had, on its input

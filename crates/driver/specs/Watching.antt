@@ -5,7 +5,8 @@ use Rattle.command_line.specs.Requests.{Asked, Settings}
 use Rattle.command_line.specs.declared.request.Action.{Action}
 use Rattle.command_line.specs.declared.request.Action.TheVariants.{Answer as AnswerBy, Rewrite}
 use Rattle.command_line.specs.declared.request.Command.{Command}
-use Rattle.command_line.specs.declared.request.Command.TheVariants.{Run, Serial, Check, Listing, Pairs, Explore}
+use Rattle.command_line.specs.declared.request.Command.TheVariants.{Run, Serial, Check, Listing}
+use Rattle.command_line.specs.declared.request.Command.TheVariants.{Pairs, Explore}
 use Rattle.command_line.specs.declared.request.Command.TheVariants.{Labels, Places, Format, CheckFormat}
 use Rattle.command_line.specs.declared.request.Command.TheVariants.{View, Summary, Draw, Chrome, Cost}
 use Rattle.command_line.specs.declared.request.Command.TheVariants.{CostByLabel, CostByProcedure}
@@ -44,8 +45,8 @@ module _ {W : Type 0} (Told : List ℕ → W → W → Type 0) where
   WatchesDoing (Describing x) a r old new = Watches Told (is_watched (command_of x) a.settings) r old new
   WatchesDoing Timing a r old new = Unit {0}
 
-  -- where that is asked for one is told how far the run has come, and to its end if the status is that of an outcome: a
-  -- failure has 1, 4 or 5
+  -- where that is asked for one is told how far the run has come, and to its end if the status is that of
+  -- an outcome: a failure has 1, 4 or 5
   abbrev pub WatchesTo : (asked : Bool) → (status : ℕ) → (old new : W) → Type 0
   WatchesTo false status old new = new ≡ old
   WatchesTo true status old new =

@@ -32,9 +32,9 @@ use std::thread::Threads;
 use texts::emit::append;
 use trials::folders::FolderSource;
 
-/// Does what the words behind the program's name order, and answers the exit status. Words that give the same name to
-/// two files are a mistake: nothing is read and written by one name. `--progress` has `terminal` told how far a run
-/// has come, and `bench` has the time from it.
+/// Does what the words behind the program's name order, and answers the exit status. Words that give the
+/// same name to two files are a mistake: nothing is read and written by one name. `--progress` has
+/// `terminal` told how far a run has come, and `bench` has the time from it.
 pub fn act<R: Threads + Wait + Sync, F: FolderSource, O: Write, E: Write, T: Terminal>(
     rt: &R,
     alloc: Global,
@@ -110,7 +110,8 @@ fn carry_out<R: Threads + Wait + Sync, F: FolderSource, O: Write, E: Write, T: T
     }
 }
 
-/// Says on the standard error what stands behind an answer, or why there is none; `explain` says whether more was asked.
+/// Says on the standard error what stands behind an answer, or why there is none; `explain` says whether
+/// more was asked.
 fn report<E: Write>(done: Result<Answered, Refusal>, explain: bool, err: &mut E) -> u8
     requires said { IsSaid explain done }
     ensures { Reports explain (E.contents err.old) (E.contents err.new) (in_short done) result }

@@ -22,7 +22,8 @@ pub struct Answered {
 }
 
 impl Answered {
-    /// A run that ended with faults or was stopped is explained, so coloured, where that is asked for and memory is there.
+    /// A run that ended with faults or was stopped is explained, so coloured, where that is asked for and
+    /// memory is there.
     pub fn explained<F: FileSource>(
         alloc: Global,
         files: &mut F,

@@ -73,8 +73,8 @@ pub fn perform<R: Threads + Wait + Sync, F: FileSource, O: Write, W: Watch>(
     }
 }
 
-/// `run`: runs the program as tasks, and writes its outcome, behind its trace where that is asked for; gives the exit
-/// status.
+/// `run`: runs the program as tasks, and writes its outcome, behind its trace where that is asked for;
+/// gives the exit status.
 fn run_as_tasks<R: Threads + Wait + Sync, F: FileSource, O: Write>(
     rt: &R,
     alloc: Global,

@@ -6,7 +6,8 @@ use statement_steps::watch::{Unwatched, Watch};
 use std::time::Clock;
 use trials::clock::Stopwatch;
 
-/// Is told how far a run has come, and knows whether what is read there may have colours, and how much time goes by.
+/// Is told how far a run has come, and knows whether what is read there may have colours, and how much
+/// time goes by.
 pub trait Terminal: Watch + Stopwatch {
     /// Whether it may.
     fn has_colours(&self) -> bool;

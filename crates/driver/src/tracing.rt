@@ -51,7 +51,8 @@ pub fn run_of<R: Threads + Wait + Sync, F: FileSource>(
     Ok(Ran { given, outcome })
 }
 
-/// The outcome of a run as tasks. Where a file is named for its trace, that is written before the outcome is told.
+/// The outcome of a run as tasks. Where a file is named for its trace, that is written before the outcome
+/// is told.
 fn outcome_of<R: Threads + Wait + Sync, F: FileSource>(
     rt: &R,
     alloc: Global,

@@ -82,8 +82,8 @@ module _ (p : Program) (subject : Subject) where
   IsStablePending alls pendings = (f : ℕ) (x : subject.Item)
       → Member x (left_in subject alls pendings (procedure_of p f).body) → Member x (pendings f)
 
-  -- tables that list only what is derived, and to which one more round adds nothing, list all of it; and rounds
-  -- from nothing on list only what is derived
+  -- tables that list only what is derived, and to which one more round adds nothing, list all of it; and
+  -- rounds from nothing on list only what is derived
   pub record StableIsLeast : Type 0 where
     pub alls : (table : Table subject) → IsDerived table → IsStable table
         → (b : Codes) (x : subject.Item) → Member x (all_in subject table b) ↔ All p subject b x

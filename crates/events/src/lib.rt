@@ -1,4 +1,5 @@
-//! What the workers of a run do, event by event: plain data, for whoever writes it down, reads it or judges it.
+//! What the workers of a run do, event by event: plain data, for whoever writes it down, reads it or
+//! judges it.
 
 #![tactic(auto)]
 

@@ -9,9 +9,10 @@ use std::alloc::Global;
 use std::io;
 
 impl Row<'_> {
-    /// Whether the command, asked to explain itself, tells the same, leaves the same files, and writes more to the standard
-    /// error alone, behind what it writes there without that; and none where its status is 0. So are commands that don't
-    /// take the word, and mistakes in words, of which `clap` tells by all of them.
+    /// Whether the command, asked to explain itself, tells the same, leaves the same files, and writes
+    /// more to the standard error alone, behind what it writes there without that; and none where its
+    /// status is 0. So are commands that don't take the word, and mistakes in words, of which `clap` tells
+    /// by all of them.
     pub fn is_so_explained<R: Machine>(
         &self,
         rt: &R,
@@ -33,7 +34,8 @@ impl Row<'_> {
     }
 }
 
-/// The words of a command line with `--explain` behind the command; None where that takes none, or has it already.
+/// The words of a command line with `--explain` behind the command; None where that takes none, or has it
+/// already.
 fn explaining_words(alloc: Global, command: &str) -> io::Result<Option<Vec<String>>> {
     let mut words = words_of(alloc, command)?;
     match words.first() {

@@ -13,8 +13,10 @@ mod transcript;
 use crate::table::Way;
 use std::{env, io};
 
-/// Does each of the words behind the program's name: `rows checks.rows` is a table, `explained checks.rows` is one whose
-/// commands have `--explain` too, `objects checks.rows` one whose commands have `--format json`, `pages` are those of
+/// Does each of the words behind the program's name: `rows checks.rows` is a table,
+/// `explained checks.rows` is one whose commands have `--explain` too, `objects checks.rows` one whose
+/// commands have
+/// `--format json`, `pages` are those of
 /// `explain`, all else is a command line, as `run two_arrays.afx`.
 fn main(rt: HostRuntime) -> io::Result<()> {
     for line in env::args(&rt)?.skip(1) {

@@ -13,8 +13,8 @@ use std::alloc::{AllocError, Global};
 use std::io;
 
 impl Row<'_> {
-    /// Whether it is a row of a command that can tell an object, with outputs that take all, and with words that are
-    /// understood.
+    /// Whether it is a row of a command that can tell an object, with outputs that take all, and with
+    /// words that are understood.
     pub fn has_object(&self) -> bool {
         let wanted = self.wanted;
         let asks_otherwise = self.command.contains(" --list")
@@ -28,7 +28,8 @@ impl Row<'_> {
         tells_object(command) && !asks_otherwise && has_outputs && is_understood
     }
 
-    /// Whether the command tells with `--format json` what the row says. Where it doesn't, the object is shown.
+    /// Whether the command tells with `--format json` what the row says. Where it doesn't, the object is
+    /// shown.
     pub fn is_so_as_object<R: Machine>(
         &self,
         rt: &R,
@@ -82,8 +83,8 @@ impl Row<'_> {
         self.told_by(rt, shelf, &words, Limit::Never, Limit::Never)
     }
 
-    /// Whether an object says what the row says: its status, and its output or its message; and whether the standard error
-    /// has what it has without it.
+    /// Whether an object says what the row says: its status, and its output or its message; and whether
+    /// the standard error has what it has without it.
     fn says(&self, alloc: Global, told: &Told, object: &Value) -> Result<bool, AllocError> {
         let wanted = self.wanted;
         let out = text_of(&wanted.out);

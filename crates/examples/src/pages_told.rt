@@ -25,7 +25,8 @@ pub fn compare<R: Machine>(rt: &R) -> io::Result<()> {
     println!(rt; "{so} pages say what is so")
 }
 
-/// Whether the program of a page tells the page's line; whether a shape can be read, and its program is accepted.
+/// Whether the program of a page tells the page's line; whether a shape can be read, and its program is
+/// accepted.
 fn is_so<R: Machine>(rt: &R, page: &Page) -> io::Result<bool> {
     match page.example {
         Example::Nothing => Ok(true),

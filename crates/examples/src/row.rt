@@ -38,8 +38,8 @@ pub struct Answer<'a> {
     looks: usize,
 }
 
-/// Counts how often it is told, and has a clock that goes on only where it is looked at: the nth time by 7 n microseconds
-/// modulo 11.
+/// Counts how often it is told, and has a clock that goes on only where it is looked at: the nth time by 7
+/// n microseconds modulo 11.
 #[derive(Drop)]
 struct Counting {
     looks: usize,
@@ -116,8 +116,8 @@ impl Row<'_> {
         Ok(true)
     }
 
-    /// Whether the command tells what it must to an output that takes all, and a beginning of it to each that fails
-    /// at an earlier call: the last of these at the flush, behind the whole answer.
+    /// Whether the command tells what it must to an output that takes all, and a beginning of it to each
+    /// that fails at an earlier call: the last of these at the flush, behind the whole answer.
     fn is_so_swept<R: Machine>(&self, rt: &R, shelf: &mut Shelf<'_, R>) -> io::Result<bool> {
         let mut taken = 0;
         for calls in 0..1_000 {

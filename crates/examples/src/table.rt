@@ -19,7 +19,8 @@ pub enum Way {
     AsObjects,
 }
 
-/// Does the rows of a table of the folder `rows`, and tells how many there are, or which of them answer otherwise.
+/// Does the rows of a table of the folder `rows`, and tells how many there are, or which of them answer
+/// otherwise.
 pub fn compare<R: Machine>(rt: &R, name: &str, way: Way) -> io::Result<()> {
     let path = format!(in rt.alloc(); "rows/{name}")?;
     let text = fs::read_to_string(rt, path.as_str())?;

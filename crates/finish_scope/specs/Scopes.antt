@@ -1,7 +1,9 @@
 -- What stands in a scope, and what each call does to it.
-use Rattle.std.specs.Prelude.{ℕ, ◌≡◌, ◌-◌, ◌+◌, ◌<◌, ◌≤◌, ◌⊎◌, List, [], ◌∷◌, ◌++◌, Option, Some, None, Bool, true, false}
+use Rattle.std.specs.Prelude.{ℕ, ◌≡◌, ◌-◌, ◌+◌, ◌<◌, ◌≤◌, ◌⊎◌, List, [], ◌∷◌, ◌++◌, Option, Some}
+use Rattle.std.specs.Prelude.{None, Bool, true, false}
 use Rattle.own_run.specs.declared.result.TaskResult.{TaskResult as Made}
-use Rattle.weights.specs.Ledger.{Ledger, Returned, issued_of, returned_of, opened, minted, listed, without_entry}
+use Rattle.weights.specs.Ledger.{Ledger, Returned, issued_of, returned_of, opened, minted, listed}
+use Rattle.weights.specs.Ledger.{without_entry}
 use Rattle.finish_scope.specs.declared.late.Reason.{Reason}
 use Rattle.finish_scope.specs.declared.late.Reason.TheVariants.{NotDue, IssuedTooOften}
 use Rattle.finish_scope.specs.declared.resting.Passing.{Passing}

@@ -13,7 +13,8 @@ error_code (TooManyTasks ticket) = codes "E2"
 error_code (Gather e) = codes "E3"
 error_code Late = codes "E4"
 
--- E2 has a ticket whose number is the most tasks that the run may have, or more; want of memory is never told as E3
+-- E2 has a ticket whose number is the most tasks that the run may have, or more; want of memory is never
+-- told as E3
 abbrev pub IsCause : (tasks : ℕ) → RunError → Type 0
 IsCause tasks OutOfMemory = Unit {0}
 IsCause tasks (TooManyTasks ticket) = tasks ≤ ticket.number

@@ -6,7 +6,8 @@ use Rattle.intake.specs.declared.failure.Failure.TheVariants.{Input, Run, Trace,
 use Rattle.syntax.specs.declared.error.SyntaxError.TheVariants.{OutOfMemory as MemoryInSyntax}
 use Rattle.types.specs.declared.error.TypeError.TheVariants.{OutOfMemory as MemoryInTypes}
 use Rattle.types.specs.declared.input_error.InputError.TheVariants.{OutOfMemory as MemoryInInput}
-use Rattle.gather.specs.declared.run_error.RunError.TheVariants.{OutOfMemory as MemoryInRun, TooManyTasks, Gather, Late}
+use Rattle.gather.specs.declared.run_error.RunError.TheVariants.{OutOfMemory as MemoryInRun}
+use Rattle.gather.specs.declared.run_error.RunError.TheVariants.{TooManyTasks, Gather, Late}
 use Rattle.trace_text.specs.declared.error.TraceError.TheVariants.{NoMemory as MemoryInTrace}
 
 -- 4 for want of memory and for too many tasks, 5 for a result, a weight or events that are lost or

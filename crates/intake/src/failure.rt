@@ -24,8 +24,8 @@ use types::error::TypeError;
 use types::ids::ProcedureId;
 use types::input_error::InputError;
 
-/// Why a command ended without its answer. `message::emit_message` writes its line, and its clause says which bytes; the
-/// same text by `Display` is what the derive makes of the words here.
+/// Why a command ended without its answer. `message::emit_message` writes its line, and its clause says
+/// which bytes; the same text by `Display` is what the derive makes of the words here.
 #[derive(Debug, Drop, Error)]
 pub enum Failure {
     /// `cannot read nowhere.afx`: `run nowhere.afx`, where no such file is
@@ -63,8 +63,8 @@ pub enum Failure {
     /// `J1 line 1`: an empty file as a trace; `J2`: no memory for its lines
     #[error(transparent)]
     Trace(TraceError),
-    /// `illegal at event 0`: a trace whose second line is `{"e":"end","path":"0"}`. It is the first event that
-    /// can't come where it stands, numbered from 0
+    /// `illegal at event 0`: a trace whose second line is `{"e":"end","path":"0"}`. It is the first event
+    /// that can't come where it stands, numbered from 0
     #[error("illegal at event {0}")]
     Illegal(usize),
     /// `E5`: the events that were noted of a run aren't its own. No run is known that comes to it.
@@ -73,7 +73,8 @@ pub enum Failure {
     /// `choices not understood`: `explore --choices 0,,1`
     #[error("choices not understood")]
     ChoicesNotUnderstood,
-    /// `no leaf at choice 0`: `main { }` with `explore --choices 7`. It is the first choice that names none, numbered from 0
+    /// `no leaf at choice 0`: `main { }` with `explore --choices 7`. It is the first choice that names
+    /// none, numbered from 0
     #[error("no leaf at choice {0}")]
     NoLeaf(usize),
     /// `not laid out`: `main { }` on one line, with `fmt --check`
@@ -93,8 +94,8 @@ pub enum Failure {
 }
 
 impl Failure {
-    /// The exit status: 1 refused, 4 want of memory or too many tasks, 5 a lost or strange result or weight, or strange
-    /// events.
+    /// The exit status: 1 refused, 4 want of memory or too many tasks, 5 a lost or strange result or
+    /// weight, or strange events.
     pub fn status(&self) -> u8
         ensures { result ≡ failure_status self.now }
     {

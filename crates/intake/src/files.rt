@@ -110,8 +110,8 @@ pub fn write_file<F: FileSource>(
     }
 }
 
-/// The files of the machine; `-` is the standard input. What `read` gave of the standard input, and of the file that it
-/// read last, is kept, since a pipe gives nothing more when it is explained what is wrong there.
+/// The files of the machine; `-` is the standard input. What `read` gave of the standard input, and of the
+/// file that it read last, is kept, since a pipe gives nothing more when it is explained what is wrong there.
 #[derive(Drop)]
 pub struct MachineFiles<'r, R> {
     rt: &'r R,
@@ -168,7 +168,8 @@ impl<R: Files + Input + AllocGlobal> FileSource for MachineFiles<'_, R> {
         }
     }
 
-    /// The standard input isn't written, so `-` fails. A file that can't be written whole may have lost what it held.
+    /// The standard input isn't written, so `-` fails. A file that can't be written whole may have lost
+    /// what it held.
     fn write(&mut self, name: &str, bytes: &[u8]) -> Result<(), FileError> {
         if name == "-" {
             return Err(FileError::Failed);

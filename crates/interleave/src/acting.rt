@@ -121,8 +121,8 @@ impl<'p> World<'p> {
         }
     }
 
-    /// A task's next action becomes known. It leaves the table while its run turns, and no copy of it does: after
-    /// an error it is gone.
+    /// A task's next action becomes known. It leaves the table while its run turns, and no copy of it
+    /// does: after an error it is gone.
     pub(crate) fn look_ahead(&mut self, path: &Path) -> Result<(), EventError>
         requires { IsWorld self.old }
         ensures stays { OnOk result (WorldStays self.old self.new) }

@@ -11,7 +11,8 @@ use Rattle.json_answers.specs.Outcomes.{arrays_json}
 abbrev pub AreOf64Bits : List (List ℤ) → Type 0
 AreOf64Bits rows = list_all (list_all fits_64_bits) rows ≡ true
 
--- of arrays with such names: whatever text is read as what is told of them, as an input it says what they held
+-- of arrays with such names: whatever text is read as what is told of them, as an input it says what they
+-- held
 abbrev pub AreGivenBack : List Array → Type 0
 AreGivenBack arrays =
     (rows : List (List ℤ)) → IsInput arrays rows → AreOf64Bits rows

@@ -11,7 +11,8 @@ use std::alloc::{AllocError, Global};
 use syntax::Place;
 use types::fault::{Fault, FaultKind};
 
-/// `{"column":11,"kind":"F6","label":3,"line":2,"number":7,"path":"0.1"}`: a fault, and where its statement begins.
+/// `{"column":11,"kind":"F6","label":3,"line":2,"number":7,"path":"0.1"}`: a fault, and where its
+/// statement begins.
 pub(crate) fn fault_value(
     alloc: Global,
     places: &[Place],

@@ -18,9 +18,10 @@ use types::code::Array;
 use types::fault::Fault;
 use types::outcome::Outcome;
 
-/// An outcome, with the arrays as an input has them. `declared` are the arrays of the program, `places` the places of
-/// its statements:
-/// `{"arrays":{"a":[2,4]},"faults":[],"lines":[[7,8]],"status":0,"stopped":false}`, or `{"status":3,"stopped":true}`.
+/// An outcome, with the arrays as an input has them. `declared` are the arrays of the program, `places`
+/// the places of its statements:
+/// `{"arrays":{"a":[2,4]},"faults":[],"lines":[[7,8]],"status":0,"stopped":false}`, or
+/// `{"status":3,"stopped":true}`.
 pub fn outcome_object(
     alloc: Global,
     declared: &[Array],

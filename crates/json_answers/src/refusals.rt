@@ -15,8 +15,8 @@ use serde_json::{Value, json};
 use std::alloc::{AllocError, Global};
 use syntax::Place;
 
-/// A failure, with the file of the program as it was named, and the places of the program's statements where they are
-/// known. Where something isn't told, null stands:
+/// A failure, with the file of the program as it was named, and the places of the program's statements
+/// where they are known. Where something isn't told, null stands:
 /// `{"array":null,"code":"Y5","column":28,"file":"d.afx","label":3,"line":1,"message":"Y5 at label 3","status":1}`.
 pub fn refusal_object(
     alloc: Global,

@@ -17,7 +17,8 @@ abbrev pub of_log : EventError → LoggedRunError
 of_log Illegal = Unlogged
 of_log NoMemory = Run OutOfMemory
 
--- E2 has a ticket whose number is the most tasks that the run may have, or more; want of memory is never told as E3
+-- E2 has a ticket whose number is the most tasks that the run may have, or more; want of memory is never
+-- told as E3
 abbrev pub IsCauseOrUnlogged : (tasks : ℕ) → LoggedRunError → Type 0
 IsCauseOrUnlogged tasks (Run e) = IsCause tasks e
 IsCauseOrUnlogged tasks Unlogged = Unit {0}

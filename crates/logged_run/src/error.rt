@@ -9,10 +9,11 @@ use workers::error::RunError;
 /// Why a run under a log has no outcome: what came first.
 #[derive(PartialEq, Eq, Debug, Drop)]
 pub enum LoggedRunError {
-    /// `E1` to `E4`, as without a log: `E2` of `main { async { } }` where there may be one task. `E1` also where the log
-    /// finds no memory, as may be of `main { }`.
+    /// `E1` to `E4`, as without a log: `E2` of `main { async { } }` where there may be one task. `E1` also
+    /// where the log finds no memory, as may be of `main { }`.
     Run(RunError),
-    /// `E5`: what the workers did isn't legal, or doesn't lead to the end of the run. No run is known that comes to it.
+    /// `E5`: what the workers did isn't legal, or doesn't lead to the end of the run. No run is known that
+    /// comes to it.
     Unlogged,
 }
 

@@ -24,8 +24,8 @@ use workers::gate::Gate;
 use workers::run::run_noted;
 use workers::settings::Settings;
 
-/// Runs a program on an input as `workers` does, and answers a log of what they did beside the outcome. Nothing is
-/// known of what they note: it is judged here, behind the run, by the world of events.
+/// Runs a program on an input as `workers` does, and answers a log of what they did beside the outcome.
+/// Nothing is known of what they note: it is judged here, behind the run, by the world of events.
 pub fn run_logged<'p, G: Gate + Sync, R: Threads + Wait + Sync>(
     rt: &R,
     alloc: Global,
@@ -45,7 +45,8 @@ pub fn run_logged<'p, G: Gate + Sync, R: Threads + Wait + Sync>(
 {
     let (outcome, events) = run_noted(rt, alloc, accepted, input, settings, gate)?;
     let log = Log::of_events(alloc, &header_of(settings), accepted, input, events)?;
-    // The outcome and what is told of a world that has ended are both that of one thread, so they are never compared.
+    // The outcome and what is told of a world that has ended are both that of one thread, so they are
+    // never compared.
     if has_ended(&log) {
         Ok((outcome, log))
     } else {

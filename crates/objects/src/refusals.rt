@@ -22,8 +22,8 @@ use types::laws::typed_programs_are_sound;
 use types::typed::Typed;
 use witness::witness::witness_of;
 
-/// The line of a failure, of a command that was asked of the file with this text; the text is empty where the file has none.
-/// A race is looked for once more, since its failure has its accesses as text.
+/// The line of a failure, of a command that was asked of the file with this text; the text is empty where
+/// the file has none. A race is looked for once more, since its failure has its accesses as text.
 pub fn refusal_line<R: Threads + Sync>(
     rt: &R,
     alloc: Global,

@@ -15,8 +15,8 @@ ghost use Rattle.parallel_relation.specs.Translation.{meeting as plain, key_in};
 use effects::access::Access;
 use std::cmp::Ordering;
 
-/// Two accesses that may run together, in the names of the procedure in which they do. The first has the smaller
-/// label; with equal labels it has the smaller section, and then it is the read.
+/// Two accesses that may run together, in the names of the procedure in which they do. The first has the
+/// smaller label; with equal labels it has the smaller section, and then it is the read.
 #[derive(Clone, Copy, Debug)]
 pub struct Meeting {
     pub first: Access,

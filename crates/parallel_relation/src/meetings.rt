@@ -23,8 +23,8 @@ use types::code::{Label, Program, Stmt, StmtKind};
 use types::ids::ProcedureId;
 use types::typed::Typed;
 
-/// The pairs of accesses of a procedure that may run together, each once and in their order; `main` is numbered
-/// behind the others.
+/// The pairs of accesses of a procedure that may run together, each once and in their order; `main` is
+/// numbered behind the others.
 pub fn meetings(
     alloc: Global,
     typed: &Typed,
@@ -44,8 +44,8 @@ pub fn meetings(
     Ok(found)
 }
 
-/// Those pairs that the statement with this label adds, each once and in their order: with what stands behind it in
-/// its list, and with its own next turn. Nothing for the label of no statement.
+/// Those pairs that the statement with this label adds, each once and in their order: with what stands
+/// behind it in its list, and with its own next turn. Nothing for the label of no statement.
 pub fn meetings_at(
     alloc: Global,
     typed: &Typed,

@@ -12,7 +12,8 @@ const ARROWS: usize = 500;
 /// In how many stretches steals are counted beyond that.
 const STRETCHES: usize = 200;
 
-/// An arrow for each steal, or where there are too many a row of ticks, as high as there are steals in a stretch.
+/// An arrow for each steal, or where there are too many a row of ticks, as high as there are steals in a
+/// stretch.
 pub fn push_steals(
     text: &mut String,
     alloc: Global,

@@ -73,7 +73,8 @@ fn letters_width(letters: usize) -> u32
     letters.min(100) as u32 * 65 + 60
 }
 
-/// Where the name of a scope begins: above the beginning of its bracket, but as far left as it takes to end on the paper.
+/// Where the name of a scope begins: above the beginning of its bracket, but as far left as it takes to
+/// end on the paper.
 fn named_at(axis: Axis, finish: &Finish, letters: usize) -> u32
     ensures { result ≤ 16000 }
 {
@@ -159,7 +160,8 @@ impl Brackets {
     }
 }
 
-/// A bracket: solid while the owner is at work in it, dashed while it waits, and a full circle where it parked.
+/// A bracket: solid while the owner is at work in it, dashed while it waits, and a full circle where it
+/// parked.
 fn push_bracket(
     text: &mut String,
     alloc: Global,

@@ -18,7 +18,8 @@ pub fn push_beginning(text: &mut String, width: u32, height: u32) -> Result<(), 
     text.push_str(STYLE)
 }
 
-/// How the classes of elements look: `p3` is the pale colour of tasks with three dots in their path, `d3` the full one.
+/// How the classes of elements look: `p3` is the pale colour of tasks with three dots in their path, `d3`
+/// the full one.
 const STYLE: &str = "<style>
 text{font-family:'DejaVu Sans',sans-serif;font-size:10px;fill:#222}
 .paper{fill:#fff}

@@ -22,7 +22,8 @@ pub fn heading_of(alloc: Global, heading: &str) -> Result<String, AllocError> {
     Ok(text)
 }
 
-/// `4 workers · 96 events · 8 tasks · 2 finish scopes · 15 steals · work 61 steps · span 17 steps · parallelism 3.59`
+/// `4 workers · 96 events · 8 tasks · 2 finish scopes · 15 steals · work 61 steps · span 17 steps ·
+/// parallelism 3.59`
 pub fn numbers_of(
     alloc: Global,
     summary: &Summary,

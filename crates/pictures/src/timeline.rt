@@ -18,8 +18,9 @@ use trace_layout::layout::{Layout, layout_of};
 use trace_numbers::summary::{Summary, summarize};
 use trace_text::header::Header;
 
-/// The picture of a trace under a heading: a lane for each worker, in which the tasks stand that it did, along an axis of
-/// events; below them finishes, how many tasks were in hands, and a legend. Any list of events has a picture.
+/// The picture of a trace under a heading: a lane for each worker, in which the tasks stand that it did,
+/// along an axis of events; below them finishes, how many tasks were in hands, and a legend. Any list of
+/// events has a picture.
 pub fn draw(
     alloc: Global,
     heading: &str,

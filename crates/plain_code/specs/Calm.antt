@@ -1,5 +1,7 @@
--- What a walk over statements tests: no async and no finish stands in one, and it calls calm procedures alone.
-use Rattle.std.specs.Prelude.{ℕ, ◌+◌, ◌≡◌, ◌↔◌, List, [], ◌∷◌, length, Bool, true, false, ◌&&◌, slice_index_or}
+-- What a walk over statements tests: no async and no finish stands in one, and it calls calm procedures
+-- alone.
+use Rattle.std.specs.Prelude.{ℕ, ◌+◌, ◌≡◌, ◌↔◌, List, [], ◌∷◌, length, Bool, true, false, ◌&&◌}
+use Rattle.std.specs.Prelude.{slice_index_or}
 use Rattle.types.specs.Code.{Code, Do, If, While, Split, Call, Async, Finish, Codes, End, Then, Program}
 use Rattle.types.specs.Run.{procedure_of}
 use Rattle.plain_code.specs.Plain.{ArePlain, Reaches}

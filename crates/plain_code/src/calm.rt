@@ -18,8 +18,8 @@ pub fn calm_procedures(alloc: Global, program: &Program) -> Result<Vec<bool>, Al
     Ok(calm)
 }
 
-/// Marks procedures that aren't calm, if those marked so far aren't; whether one was found. Where none was, all were
-/// looked at.
+/// Marks procedures that aren't calm, if those marked so far aren't; whether one was found. Where none
+/// was, all were looked at.
 fn round(program: &Program, calm: &mut [bool]) -> bool
     requires count { length calm.old ≡ length program.now.procedures.items }
     requires marked { AreMarked (program_of program.now) calm.old }

@@ -1,5 +1,5 @@
-//! What no clause says of the libraries below the runs, by rows: a table for each area, with the calls that its rows
-//! need.
+//! What no clause says of the libraries below the runs, by rows: a table for each area, with the calls
+//! that its rows need.
 
 mod completed_words;
 mod copied_places;

@@ -10,8 +10,8 @@ use effects::access::Access;
 use parallel_relation::meeting::is_before;
 use types::ids::ProcedureId;
 
-/// Two accesses that clash, in the names of the procedure in which they do. The first has the smaller label; with
-/// equal labels it has the smaller section, and then it is the read.
+/// Two accesses that clash, in the names of the procedure in which they do. The first has the smaller
+/// label; with equal labels it has the smaller section, and then it is the read.
 #[derive(Clone, Copy, PartialEq, Eq, Debug)]
 pub struct Race {
     pub procedure: ProcedureId,
@@ -39,7 +39,8 @@ impl Race {
         }
     }
 
-    /// Whether it is told before the other: ordered by both labels, then by procedure, then by what each access does.
+    /// Whether it is told before the other: ordered by both labels, then by procedure, then by what each
+    /// access does.
     pub(crate) fn is_before(self, other: Race) -> bool
         ensures { result ≡ comes_before (plain self) (plain other) }
     {

@@ -43,7 +43,8 @@ pub(crate) fn procedure_of(program: &Program, procedure: ProcedureId) -> &Proced
 /// How many statements of a list are one piece, which one thread goes through.
 const PIECE: usize = 256;
 
-/// What is found of a list of statements: of its pieces, each for itself, put together from the last to the first.
+/// What is found of a list of statements: of its pieces, each for itself, put together from the last to
+/// the first.
 #[cycle(walk)]
 pub(crate) fn found_in<R: Threads + Sync>(
     rt: &R,
@@ -197,8 +198,8 @@ fn found_of<R: Threads + Sync>(
     }
 }
 
-/// What is found of a call: what its procedure does and leaves pending, in the names around the call. What clashes
-/// in there is found in that procedure.
+/// What is found of a call: what its procedure does and leaves pending, in the names around the call. What
+/// clashes in there is found in that procedure.
 fn found_of_call(
     alloc: Global,
     code: &Program,

@@ -43,8 +43,10 @@ accesses_members places p r w =
 abbrev pub accesses_json : List Place → Program → Race → Witness → Data
 accesses_json places p r w = object_of (accesses_members places p r w)
 
--- what a refusal by a race tells, in place of an array the accesses, with the label and the place of the first
-abbrev pub told_members : (file : List ℕ) → Option Place → (label : ℕ) → (message : List ℕ) → (accesses : Data)
+-- what a refusal by a race tells, in place of an array the accesses, with the label and the place of the
+-- first
+abbrev pub told_members : (file : List ℕ) → Option Place → (label : ℕ) → (message : List ℕ)
+    → (accesses : Data)
     → List (List ℕ × Data)
 told_members file place label message accesses =
     (codes "code", string (codes "C1"))

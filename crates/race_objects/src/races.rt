@@ -24,8 +24,8 @@ use std::alloc::{AllocError, Global};
 use syntax::Place;
 use types::code::{Label, Procedure, Program};
 
-/// A race of a program, as the refusal that it is: with both accesses, in the names of the procedure that has it, its
-/// witness, and the place of the first access. An access is
+/// A race of a program, as the refusal that it is: with both accesses, in the names of the procedure that
+/// has it, its witness, and the place of the first access. An access is
 /// `{"column":7,"kind":"write","label":3,"line":4,"section":"a"}`.
 pub fn race_object(alloc: Global, file: &str, found: Found<'_>) -> Result<String, AllocError>
     ensures text { IfOk result (λ text. string_bytes text ≡ line (race_json file.now found.entry.places.now

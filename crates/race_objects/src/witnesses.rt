@@ -19,8 +19,8 @@ use witness::sharing::Sharing;
 use witness::step::Step;
 use witness::witness::Witness;
 
-/// A witness: the ways to the first and to the second access of the race, from where they part, how they come to run
-/// together, which of them is left pending, and why the sections share places.
+/// A witness: the ways to the first and to the second access of the race, from where they part, how they
+/// come to run together, which of them is left pending, and why the sections share places.
 pub(crate) fn witness_value(alloc: Global, found: Found<'_>) -> Result<Value, AllocError>
     ensures { IfOk result (λ v. view v ≡ witness_json found.entry.places.now
         (program found.entry.code.now) (race_of found.entry.race) found.entry.witness.now) }

@@ -8,7 +8,8 @@ use Rattle.syntax_tree.specs.Tree as tree
 use Rattle.layout.specs.Kept.{IsLaidOut}
 use Rattle.intake.specs.Held.{Held, IsGiven, KeepsOthers}
 use Rattle.intake.specs.declared.failure.Failure.{Failure}
-use Rattle.intake.specs.declared.failure.Failure.TheVariants.{Syntax, CannotWrite, CannotWriteOutput, NoMemory}
+use Rattle.intake.specs.declared.failure.Failure.TheVariants.{Syntax, CannotWrite}
+use Rattle.intake.specs.declared.failure.Failure.TheVariants.{CannotWriteOutput, NoMemory}
 use Rattle.answers.specs.Answers.{IsLayoutOf, NeedsLayout, TellsUnspelled}
 
 -- nothing is told of a text that spells a program
@@ -26,8 +27,8 @@ ExplainsRewrite file text CannotWriteOutput = Unit {0}
 ExplainsRewrite file text NoMemory = Unit {0}
 ExplainsRewrite file text _ = ⊥
 
--- the file was written, and no other: it has the text in the canonical layout, with its comments, which spells the same
--- program
+-- the file was written, and no other: it has the text in the canonical layout, with its comments, which
+-- spells the same program
 pub record Rewrote (file text : List ℕ) (held later : Held) : Type 0 where
   pub bytes : List ℕ
   pub program : tree.Program
@@ -41,8 +42,8 @@ pub data LeavesLaidOut (file text : List ℕ) (held later : Held) : Type 0 where
   rewritten : Rewrote file text held later → LeavesLaidOut file text held later
   was_laid_out : IsLaidOut (chars text) (chars text) → later ≡ held → LeavesLaidOut file text held later
 
--- of a file that can't be written nothing is known; where a command fails for another reason all files hold what they
--- held
+-- of a file that can't be written nothing is known; where a command fails for another reason all files
+-- hold what they held
 abbrev pub LeavesRewritten : (file text : List ℕ) → (held later : Held) → Result ℕ Failure → Type 0
 LeavesRewritten file text held later (Ok status) = LeavesLaidOut file text held later
 LeavesRewritten file text held later (Err CannotWriteOutput) = LeavesLaidOut file text held later

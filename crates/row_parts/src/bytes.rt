@@ -17,8 +17,8 @@ pub fn number_in(text: &str) -> io::Result<usize> {
     }
 }
 
-/// Adds a whole line, as ` skip;`, a piece of one, as `+ "skip;"`, one that stands there many times, as `* 99 "("`, or
-/// bytes in hexadecimal, as `x c3 a9`.
+/// Adds a whole line, as ` skip;`, a piece of one, as `+ "skip;"`, one that stands there many times, as
+/// `* 99 "("`, or bytes in hexadecimal, as `x c3 a9`.
 pub fn push_spelled(alloc: Global, bytes: &mut Vec<u8>, spelled: &str) -> io::Result<()> {
     if spelled.is_empty() {
         push_line(bytes, "")
@@ -69,7 +69,8 @@ fn split_at_quotes(spelled: &str) -> Option<(&str, &str)> {
     Some((head, piece))
 }
 
-/// How often a piece stands there, and the numbers that `#` is in it: the first, and how much is added each time.
+/// How often a piece stands there, and the numbers that `#` is in it: the first, and how much is added
+/// each time.
 #[derive(Clone, Copy)]
 struct Turns {
     count: usize,

@@ -1,4 +1,5 @@
-//! What rows of tables are made of: the files that their commands are lent, outputs that end, and what must be told.
+//! What rows of tables are made of: the files that their commands are lent, outputs that end, and what
+//! must be told.
 
 #![tactic(auto)]
 

@@ -4,8 +4,8 @@ use crate::values::{list_in, number_in, text_in};
 use serde_json::Value;
 use std::alloc::{AllocError, Global};
 
-/// Whether an explanation says of a race what its witness does: the same ways, a line for each step that has one, and the
-/// same reason why its sections share places.
+/// Whether an explanation says of a race what its witness does: the same ways, a line for each step that
+/// has one, and the same reason why its sections share places.
 pub fn is_explained(alloc: Global, race: &Value, explained: &str) -> Result<bool, AllocError> {
     let told = lines_of(alloc, race)?;
     let reason = reason_of(alloc, race)?;
@@ -30,8 +30,8 @@ pub fn is_explained(alloc: Global, race: &Value, explained: &str) -> Result<bool
     Ok(wanted.next().is_none() && explained.contains(reason.as_str()))
 }
 
-/// The words of the lines of a race's ways, each behind two blanks: the way to the access that is left pending, and the
-/// other where it is more than the access and not the same.
+/// The words of the lines of a race's ways, each behind two blanks: the way to the access that is left
+/// pending, and the other where it is more than the access and not the same.
 fn lines_of(alloc: Global, race: &Value) -> Result<String, AllocError> {
     let mut lines = String::new(alloc);
     let Some(witness) = race.get("witness") else {

@@ -1,4 +1,5 @@
-//! The files that a row's command is lent: those that its table gives or a command of its group wrote, and the machine's.
+//! The files that a row's command is lent: those that its table gives or a command of its group wrote, and
+//! the machine's.
 
 ghost use Rattle.std.specs.Prelude.{◌≤◌, IfOk, length};
 
@@ -33,8 +34,8 @@ struct WrittenFile {
     bytes: Vec<u8>,
 }
 
-/// The files of a table, of which the last with a name counts, and those of the machine. What a command writes stands
-/// here alone.
+/// The files of a table, of which the last with a name counts, and those of the machine. What a command
+/// writes stands here alone.
 #[derive(Drop)]
 pub struct Shelf<'t, R> {
     alloc: Global,
@@ -189,8 +190,8 @@ impl<R: Files + Input + AllocGlobal> FileSource for Shelf<'_, R> {
 }
 
 impl<R: Files + Input + AllocGlobal + Clone + Drop> FolderSource for Shelf<'_, R> {
-    /// What stands behind the name of the folder, as `one.afx` in `tests/one.afx`; a folder of which the table has no file is
-    /// the machine's. One that has no memory is said as a file.
+    /// What stands behind the name of the folder, as `one.afx` in `tests/one.afx`; a folder of which the
+    /// table has no file is the machine's. One that has no memory is said as a file.
     fn names(&mut self, folder: &str) -> Result<Vec<String>, FileError> {
         if let Some(Contents::NoMemory) = contents_of(&self.files, folder) {
             return Err(FileError::NoMemory);

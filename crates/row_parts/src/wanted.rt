@@ -46,8 +46,8 @@ impl Wanted {
         }
     }
 
-    /// Takes a line: what is written (`>`, `!`), the status (`=`), how often a watch is told (`~`), which outputs there
-    /// are (`%`), or a file that is written (`@`) with its lines (`|`).
+    /// Takes a line: what is written (`>`, `!`), the status (`=`), how often a watch is told (`~`), which
+    /// outputs there are (`%`), or a file that is written (`@`) with its lines (`|`).
     pub fn read(&mut self, line: &str) -> io::Result<()> {
         if let Some(spelled) = line.strip_prefix('>') {
             push_spelled(self.alloc, &mut self.out, spelled)

@@ -10,7 +10,8 @@ use syntax::Place;
 pub enum Wrong {
     /// The line of this number, from 1, is none: 1 of an empty text.
     Line(usize),
-    /// The event of this number, from 0, can't come where it stands: 0 where a trace begins with the end of a task.
+    /// The event of this number, from 0, can't come where it stands: 0 where a trace begins with the end
+    /// of a task.
     Event(usize),
 }
 

@@ -5,7 +5,8 @@ use sections::window::Window;
 use types::code::Operator;
 use types::fault::FaultKind;
 
-/// The values from which a fault comes. Of several elements or operators in one statement, `nth` is which one it was, from
+/// The values from which a fault comes. Of several elements or operators in one statement, `nth` is which
+/// one it was, from
 /// 0 in the order of the text.
 #[derive(Clone, Copy, PartialEq, Eq, Debug)]
 pub enum Cause {

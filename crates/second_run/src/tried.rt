@@ -7,7 +7,8 @@ use types::code::{Link, Number, Operator, Truth};
 use types::fault::FaultKind;
 use types::value::{Environment, Places, holds, operate};
 
-/// Where expressions of a statement are evaluated, and how many elements and operators stand before in its text.
+/// Where expressions of a statement are evaluated, and how many elements and operators stand before in its
+/// text.
 #[derive(Drop)]
 pub struct Tried<'e> {
     environment: &'e Environment,
@@ -106,7 +107,8 @@ impl<'e> Tried<'e> {
         }
     }
 
-    /// Whether one of several is this value; the first that is ends it, and the value of all is that of the last.
+    /// Whether one of several is this value; the first that is ends it, and the value of all is that of
+    /// the last.
     #[cycle(truth)]
     fn up_to(&mut self, operands: &[Truth], end: bool) -> Result<bool, Cause> {
         for operand in operands {

@@ -76,8 +76,8 @@ impl Window {
         Some((left, right))
     }
 
-    /// The place of the element `index`, or None where the window has none: in a few instructions, as runs ask for it
-    /// at each access.
+    /// The place of the element `index`, or None where the window has none: in a few instructions, as runs
+    /// ask for it at each access.
     #[inline(always)]
     pub fn place(self, index: i64) -> Option<Place>
         ensures { MatchOption result (place_in (window_of self) index ≡ None)

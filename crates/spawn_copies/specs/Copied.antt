@@ -1,5 +1,6 @@
--- How many places are copied where an async begins a task, and where that has ended. What the body may write moves out and
--- comes back: blocks of 256 places as they are where they are wholly inside it, and the places of others one by one.
+-- How many places are copied where an async begins a task, and where that has ended. What the body may
+-- write moves out and comes back: blocks of 256 places as they are where they are wholly inside it, and
+-- the places of others one by one.
 use Rattle.std.specs.Prelude.{ℕ, ◌*◌, List, [], map, Option, None, Some}
 use Rattle.sections.specs.Place.{Window}
 use Rattle.types.specs.Code.{Codes, Program}
@@ -28,6 +29,7 @@ module _ (p : Program) where
   abbrev pub taken_at : (label : ℕ) → Environment → List Window
   taken_at l env = cover_of (map env.windows (written_at l))
 
-  -- what is copied at an async, in this environment: where its task begins, and as much again where that has ended
+  -- what is copied at an async, in this environment: where its task begins, and as much again where that
+  -- has ended
   abbrev pub copied_at : (label : ℕ) → Environment → ℕ
   copied_at l env = 2 * split_in length_of (taken_at l env)

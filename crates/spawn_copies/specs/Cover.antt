@@ -1,4 +1,5 @@
--- The cover of windows: the one list in ascending order, none empty and none touching another, that has their places.
+-- The cover of windows: the one list in ascending order, none empty and none touching another, that has
+-- their places.
 use Rattle.std.specs.Prelude.{List, [], ◌∷◌, if◌then◌else◌}
 use Rattle.sections.specs.Covers.{has_places}
 use Rattle.sections.specs.Joining.{begins_no_later, joined, meets}

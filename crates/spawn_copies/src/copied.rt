@@ -15,8 +15,9 @@ use std::alloc::{AllocError, Global};
 use types::code::{Label, Program};
 use types::value::Environment;
 
-/// How many places are copied where the async of a label begins a task in this environment, and where that has ended: none
-/// at the label of another statement. Of an array of 1,024, an async that may write the first 300 places copies 88.
+/// How many places are copied where the async of a label begins a task in this environment, and where that
+/// has ended: none at the label of another statement. Of an array of 1,024, an async that may write the
+/// first 300 places copies 88.
 ///
 /// `carve` of `holdings` copies at most half of that, whoever else holds blocks of the array.
 pub fn copied_places(

@@ -40,8 +40,9 @@ fn length_in(code: &Program, window: Window) -> usize
     }
 }
 
-/// How many places of a window, in an array of this length, lie in blocks that aren't wholly inside it: all but those from
-/// where its first whole block begins to where its last one ends. The last block of an array may be shorter.
+/// How many places of a window, in an array of this length, lie in blocks that aren't wholly inside it:
+/// all but those from where its first whole block begins to where its last one ends. The last block of an
+/// array may be shorter.
 fn split_places(length: usize, window: Window) -> usize
     ensures { result ≡ split_of (λ a. length) (window_of window) }
 {

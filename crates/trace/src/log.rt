@@ -67,8 +67,8 @@ impl<'p> Log<'p> {
         })
     }
 
-    /// The log of a run that is over, whose events are these. No task is copied before it acts, as it is where
-    /// they are recorded one by one.
+    /// The log of a run that is over, whose events are these. No task is copied before it acts, as it is
+    /// where they are recorded one by one.
     pub fn of_events(
         alloc: Global,
         header: &Header,

@@ -5,7 +5,8 @@ use Rattle.std.specs.HashMap.{get}
 use Rattle.events.specs.declared.event.Event.{Event}
 use Rattle.types.specs.Translation.{is_path}
 use Rattle.types.specs.declared.path.Path.{Path}
-use Rattle.trace_layout.specs.Spells.{AreApart, AreInOrder, IsEnding, IsLatest, IsLeaving, IsOver, is_taking, taken_at}
+use Rattle.trace_layout.specs.Spells.{AreApart, AreInOrder, IsEnding, IsLatest, IsLeaving, IsOver}
+use Rattle.trace_layout.specs.Spells.{is_taking, taken_at}
 use Rattle.trace_layout.specs.declared.hands.Hands.{Hands}
 use Rattle.trace_layout.specs.declared.spells.Ending.{Ending}
 use Rattle.trace_layout.specs.declared.spells.Ending.TheVariants.{Parked, Ended, Left, Going}
@@ -47,7 +48,8 @@ pub record IsOfTask (es : List Event) (n : ℕ) (ss : List Spell) (path : List �
 
 -- the spell of a number has passed no park or end of its task, and is found where it is the task's latest
 pub record IsInTurn (es : List Event) (n : ℕ) (found : Path → Option ℕ) (k : ℕ) (s : Spell) : Type 0 where
-  pub inside : (m : ℕ) (e : Ending) → m < n → s.first ≤ m → IsLeaving es m s.path.turns.items e → IsLatest es s m → IsOver s m e
+  pub inside : (m : ℕ) (e : Ending) → m < n → s.first ≤ m → IsLeaving es m s.path.turns.items e
+      → IsLatest es s m → IsOver s m e
   pub latest : IsLeaving es s.last s.path.turns.items s.ending → IsLatest es s s.last
   pub named : (path : Path) → path.turns.items ≡ s.path.turns.items → IsLatest es s n → found path ≡ Some k
 
@@ -58,7 +60,8 @@ pub record AreHands (es : List Event) (n : ℕ) (h : Hands) : Type 0 where
   pub last : h.last ≡ length es - 1
   pub hands : length h.workers ≡ 64
   pub spells : AreSpellsSoFar es n h.last h.workers h.spells.items
-  pub tasks : (path : Path) (k : ℕ) → get is_path h.tasks path ≡ Some k → IsOfTask es n h.spells.items path.turns.items k
+  pub tasks : (path : Path) (k : ℕ) → get is_path h.tasks path ≡ Some k
+      → IsOfTask es n h.spells.items path.turns.items k
   pub turns : AreInTurn es n (get is_path h.tasks) h.spells.items
   pub count : length h.spells.items ≡ count_by is_taking (take n es)
 

@@ -4,7 +4,8 @@ use Rattle.std.specs.Prelude.{slice_index, slice_index_or, slice_set}
 use Rattle.std.specs.List.{prefix_len}
 use Rattle.trace_layout.specs.declared.stretch.Stretch.{Stretch}
 
--- the first row whose end comes before a place, or the row behind the last: how many rows before it are full there
+-- the first row whose end comes before a place, or the row behind the last: how many rows before it are
+-- full there
 abbrev pub first_free : (ends : List ℕ) → (first : ℕ) → ℕ
 first_free ends first = prefix_len (λ e. nat_le first e) ends
 

@@ -18,7 +18,8 @@ pub record IsFinishSoFar (es : List Event) (n k : ℕ) (f : Finish) : Type 0 whe
 
 pub record AreScopes (es : List Event) (n : ℕ) (s : Scopes) : Type 0 where
   pub last : s.last ≡ length es - 1
-  pub each : (k : ℕ) (d : Finish) → k < length s.all.items → IsFinishSoFar es n k (slice_index_or s.all.items k d)
+  pub each : (k : ℕ) (d : Finish) → k < length s.all.items
+      → IsFinishSoFar es n k (slice_index_or s.all.items k d)
   pub order : AreOpenedInOrder s.all.items
   pub count : length s.all.items ≡ count_by is_opening (take n es) + 1
   -- how many each task has opened

@@ -75,8 +75,10 @@ pub record IsSpell (es : List Event) (s : Spell) : Type 0 where
   pub ends : IsEnding es s s.ending
   pub forward : s.first ≤ s.last
   pub within : s.last < length es
-  -- it goes no further than to the next park or end of its task, unless a worker takes the task once more before that
-  pub inside : (n : ℕ) (e : Ending) → s.first ≤ n → IsLeaving es n s.path.turns.items e → IsLatest es s n → IsOver s n e
+  -- it goes no further than to the next park or end of its task, unless a worker takes the task once more
+  -- before that
+  pub inside : (n : ℕ) (e : Ending) → s.first ≤ n → IsLeaving es n s.path.turns.items e → IsLatest es s n
+      → IsOver s n e
   -- nor does it end by a park or end that comes behind such a take
   pub latest : IsLeaving es s.last s.path.turns.items s.ending → IsLatest es s s.last
 

@@ -87,7 +87,8 @@ impl Links {
         Ok(self.tasks.insert(path.clone()?, number)?)
     }
 
-    /// What leads to a task comes back to its innermost scope, and stays there if no longer chain came before.
+    /// What leads to a task comes back to its innermost scope, and stays there if no longer chain came
+    /// before.
     fn come_back(&mut self, path: &Path, chains: &Chains)
         ensures { self.new.before ≡ self.old.before }
     {

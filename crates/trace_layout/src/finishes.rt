@@ -179,7 +179,8 @@ impl Scopes {
     }
 }
 
-/// The numbers of at most so many scopes, in ascending order: no scope that is left out stands longer than one of these.
+/// The numbers of at most so many scopes, in ascending order: no scope that is left out stands longer than
+/// one of these.
 pub fn longest(alloc: Global, all: &[Finish], most: usize) -> Result<Vec<usize>, AllocError> {
     let mut numbers: Vec<usize> = (0..all.len()).collect(alloc)?;
     numbers.sort_by_key(|number| {

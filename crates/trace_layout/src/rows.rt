@@ -6,7 +6,8 @@ ghost use Rattle.trace_layout.specs.Rows.{AreApart, first_free as first_free_row
 use crate::stretch::Stretch;
 use std::alloc::{AllocError, Global};
 
-/// The row of each stretch: the first that is free where it begins. None where that takes more rows than there may be.
+/// The row of each stretch: the first that is free where it begins. None where that takes more rows than
+/// there may be.
 pub fn rows_of(
     alloc: Global,
     stretches: &[Stretch],

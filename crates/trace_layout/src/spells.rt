@@ -25,7 +25,8 @@ pub enum Ending {
     Going,
 }
 
-/// A task in a worker's hand, from a `take` or `resume` to the next `park` or `end` of that task, both included.
+/// A task in a worker's hand, from a `take` or `resume` to the next `park` or `end` of that task, both
+/// included.
 #[derive(Debug, Drop)]
 pub struct Spell {
     pub path: Path,

@@ -1,15 +1,15 @@
--- The longest chain of steps in a list of events. A step comes behind the steps of its task before it, behind the one
--- that spawned its task, and, behind a finish, behind all that was done in that.
+-- The longest chain of steps in a list of events. A step comes behind the steps of its task before it,
+-- behind the one that spawned its task, and, behind a finish, behind all that was done in that.
 use Rattle.std.specs.Prelude.{ℕ, ◌+◌, max, List, [], ◌∷◌, ◌++◌, if◌then◌else◌, nat_eq}
 use Rattle.std.specs.Cmp.Lexicographic.{pointwise}
 use Rattle.events.specs.declared.event.Event.{Event}
 use Rattle.events.specs.declared.event.Event.TheVariants.{Take, Steal, Step, Replenish, Spawn}
 use Rattle.events.specs.declared.event.Event.TheVariants.{Open, Park, End, Pass, Resume}
 
--- of each task, by its path, what the longest chain costs that leads to where it is, the innermost scope in which it
--- stands, and how many tasks it has spawned; scopes go by their numbers, in the order in which they were opened behind
--- the root's, 0: how many there are, and of each what the longest chain costs that came back to it, and the scope in
--- which its owner stood when it opened it
+-- of each task, by its path, what the longest chain costs that leads to where it is, the innermost scope
+-- in which it stands, and how many tasks it has spawned; scopes go by their numbers, in the order in which
+-- they were opened behind the root's, 0: how many there are, and of each what the longest chain costs that
+-- came back to it, and the scope in which its owner stood when it opened it
 pub record Chains : Type 0 where
   pub cost : List ℕ → ℕ
   pub stands : List ℕ → ℕ

@@ -33,15 +33,16 @@ pub struct Scope {
     pub around: usize,
 }
 
-/// All tasks that did something, and all scopes by their numbers: 0 is the root's, and then as they were opened.
+/// All tasks that did something, and all scopes by their numbers: 0 is the root's, and then as they were
+/// opened.
 #[derive(Drop)]
 pub struct Chains {
     tasks: HashMap<Path, Chain>,
     pub scopes: Vec<Scope>,
 }
 
-/// What the longest chain of steps costs: 4 of the one trace of `main { finish { async { skip; } skip; } skip; }`,
-/// whose two tasks do a step each at once.
+/// What the longest chain of steps costs: 4 of the one trace of
+/// `main { finish { async { skip; } skip; } skip; }`, whose two tasks do a step each at once.
 pub fn span(alloc: Global, events: &[Event]) -> Result<usize, AllocError>
     ensures { IfOk result (λ n. n ≡ span_of events.now) }
 {

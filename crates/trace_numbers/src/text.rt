@@ -7,8 +7,8 @@ ghost use Rattle.trace_numbers.specs.Text.{parallelism, summary_text, task_lines
 use crate::summary::Summary;
 use std::alloc::{AllocError, Global};
 
-/// The numbers of a trace, one on each line: of all, and then the steps of each worker of the run, which had so many,
-/// and of any other that did some.
+/// The numbers of a trace, one on each line: of all, and then the steps of each worker of the run, which
+/// had so many, and of any other that did some.
 pub fn summary_text(alloc: Global, summary: &Summary, workers: u32) -> Result<String, AllocError>
     ensures { IfOk result (λ text. string_bytes text ≡ summary_text workers summary.now) }
 {

@@ -8,8 +8,9 @@ use trace_layout::moves::Birth;
 use trace_layout::spells::{Beginning, Ending, Spell};
 use types::path::Path;
 
-/// The spans of a list of events, one for each spell of a task in its worker's thread, with the number of an event for
-/// a time; arrows from a spawn to the child's take, a mark for each steal and pass, and how many tasks are in hands.
+/// The spans of a list of events, one for each spell of a task in its worker's thread, with the number of
+/// an event for a time; arrows from a spawn to the child's take, a mark for each steal and pass, and how
+/// many tasks are in hands.
 pub fn spans(alloc: Global, events: &[Event]) -> Result<String, AllocError> {
     let layout = layout_of(alloc, events)?;
     let mut text = String::from_str(

@@ -44,7 +44,8 @@ const LINES_OF_ITS_PICTURE: &[&str] = &[
     "</svg>\n",
 ];
 
-/// Lines that no run makes: tasks that are taken twice or never, ends of nothing, workers that the run doesn't have.
+/// Lines that no run makes: tasks that are taken twice or never, ends of nothing, workers that the run
+/// doesn't have.
 const NO_RUN: &str = "{\"format\":1,\"nest\":100,\"steps\":1000000,\"w0\":8,\"workers\":2}
 {\"e\":\"end\",\"path\":\"0.7\"}
 {\"e\":\"spawn\",\"path\":\"0.7\"}

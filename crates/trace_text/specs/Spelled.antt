@@ -1,5 +1,6 @@
 -- Which events a trace can spell: their workers, paths and scopes are in the ranges of the format.
-use Rattle.std.specs.Prelude.{ℕ, ◌≡◌, ◌≢◌, ◌^◌, ◌<◌, ◌≤◌, List, ◌∷◌, ◌++◌, length, All, slice_index, Option, None, Some}
+use Rattle.std.specs.Prelude.{ℕ, ◌≡◌, ◌≢◌, ◌^◌, ◌<◌, ◌≤◌, List, ◌∷◌, ◌++◌, length, All, slice_index}
+use Rattle.std.specs.Prelude.{Option, None, Some}
 use Rattle.events.specs.Events.{Event, Take, Steal, Pass, Resume, ScopeId}
 use Rattle.trace_text.specs.Kinds.{task_of}
 

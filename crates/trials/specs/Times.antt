@@ -60,5 +60,6 @@ pub record AnswersTimes (s : Settings) (held : Held) (text told : List ℕ) (sta
       (cost_of (tally_of run.code run.input s.budget)) told status
 
 -- `bench` was done: its answer was written, or why not is why the program isn't run
-abbrev pub DoesBench : Settings → Held → (text : List ℕ) → (old new : Option (List ℕ)) → Result ℕ Failure → Type 0
+abbrev pub DoesBench : Settings → Held → (text : List ℕ) → (old new : Option (List ℕ)) → Result ℕ Failure
+    → Type 0
 DoesBench s held text old new r = Done (AnswersTimes s held text) (Explains Run s held text) old new r

@@ -1,6 +1,8 @@
 -- What the programs of a folder should tell, and what is told of them.
-use Rattle.std.specs.Prelude.{ℕ, zero, suc, ℤ, ◌≡◌, ◌≢◌, ◌-◌, ◌+◌, Bool, true, false, if◌then◌else◌, List, [], ◌∷◌, ◌++◌, codes}
-use Rattle.std.specs.Prelude.{Option, None, Some, Result, Ok, MatchOption, length, map, take, drop, IsPermutation}
+use Rattle.std.specs.Prelude.{ℕ, zero, suc, ℤ, ◌≡◌, ◌≢◌, ◌-◌, ◌+◌, Bool, true, false, if◌then◌else◌}
+use Rattle.std.specs.Prelude.{List, [], ◌∷◌, ◌++◌, codes}
+use Rattle.std.specs.Prelude.{Option, None, Some, Result, Ok, MatchOption, length, map, take, drop}
+use Rattle.std.specs.Prelude.{IsPermutation}
 use Rattle.std.specs.Fmt.{decimal}
 use Rattle.std.specs.List.{flat_map}
 use Rattle.std.specs.List.Sorted.{IsSorted}
@@ -92,7 +94,8 @@ pub record IsCompared (held : Held) (t : Trial) (same : Bool) : Type 0 where
   pub given : IsGiven (held (file t (codes ".out"))) (Ok bytes)
   pub same_is : same ≡ bytes_eq told bytes
 
--- the failure says why it isn't compared: its file gives no text, `run` fails before it answers, or there is no `.out` file
+-- the failure says why it isn't compared: its file gives no text, `run` fails before it answers, or there
+-- is no `.out` file
 pub data IsUncompared (held : Held) (t : Trial) (f : Failure) : Type 0 where
   without_text : TellsNoProgram held (file t (codes ".afx")) f → IsUncompared held t f
   without_answer : (text : List ℕ) → HasText held (file t (codes ".afx")) text
@@ -115,9 +118,11 @@ HasLine held t line = MatchOption line (IsCompared held t true) (λ l. IsLine he
 pub data AreTested (held : Held) (f : Folder) : (stems : List (List ℕ)) → (lines : List ℕ) → (passed failed : ℕ) → Type 0 where
   none : AreTested held f [] [] 0 0
   pass : (ss : List (List ℕ)) (s lines : List ℕ) (n m : ℕ) → AreTested held f ss lines n m
-      → IsCompared held (record { folder = f; stem = s }) true → AreTested held f (ss ++ s ∷ []) lines (n + 1) m
+      → IsCompared held (record { folder = f; stem = s }) true
+      → AreTested held f (ss ++ s ∷ []) lines (n + 1) m
   fail : (ss : List (List ℕ)) (s lines line : List ℕ) (n m : ℕ) → AreTested held f ss lines n m
-      → IsLine held (record { folder = f; stem = s }) line → AreTested held f (ss ++ s ∷ []) (lines ++ line) n (m + 1)
+      → IsLine held (record { folder = f; stem = s }) line
+      → AreTested held f (ss ++ s ∷ []) (lines ++ line) n (m + 1)
 
 -- one more is counted, which passed
 abbrev pub AddsPassed : (old new : Found) → Type 0
@@ -159,5 +164,6 @@ ExplainsTest named name CannotWriteOutput = Unit {0}
 ExplainsTest named name f = TellsNoFolder named name f
 
 -- `test` was done: its answer was written, or there is a reason why not
-abbrev pub DoesTest : Folders → Held → (name : List ℕ) → (old new : Option (List ℕ)) → Result ℕ Failure → Type 0
+abbrev pub DoesTest : Folders → Held → (name : List ℕ) → (old new : Option (List ℕ)) → Result ℕ Failure
+    → Type 0
 DoesTest named held name old new r = Done (AnswersTest named held name) (ExplainsTest named name) old new r

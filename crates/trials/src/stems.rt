@@ -8,7 +8,8 @@ ghost use Rattle.trials.specs.Trials.{has_name as has_name_of, stem};
 use intake::failure::Failure;
 use std::alloc::{AllocError, Global};
 
-/// The programs of a folder with these files, by what stands before `.afx` in their names, in the order of these.
+/// The programs of a folder with these files, by what stands before `.afx` in their names, in the order of
+/// these.
 pub fn stems_in(alloc: Global, names: &[String]) -> Result<Vec<String>, Failure>
     ensures all { IfOk result (λ v. IsPermutation
         (flat_map stem (map string_bytes names.now)) (map string_bytes v.items)) }

@@ -18,8 +18,9 @@ use std::sync::Wait;
 use std::thread::Threads;
 use texts::emit::append;
 
-/// Runs each program of a folder, in the order of their names, and compares what it tells with its `.out` file. Writes a
-/// line for each that fails, and behind these how many passed and failed; gives the exit status: 1 where one failed.
+/// Runs each program of a folder, in the order of their names, and compares what it tells with its `.out`
+/// file. Writes a line for each that fails, and behind these how many passed and failed; gives the exit
+/// status: 1 where one failed.
 pub fn test_folder<R: Threads + Wait + Sync, F: FolderSource, O: Write, W: Runs>(
     rt: &R,
     alloc: Global,

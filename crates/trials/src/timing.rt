@@ -38,9 +38,9 @@ pub struct Timing<'t, W, C> {
     pub clock: &'t mut C,
 }
 
-/// Runs a program five times on one thread, and five times each as tasks on 1, 2 and 4 workers, and writes how long that
-/// took, how many tasks there were, and how many places are copied for them. Of a run that has faults or is stopped its
-/// outcome is written in their place; gives the exit status.
+/// Runs a program five times on one thread, and five times each as tasks on 1, 2 and 4 workers, and writes
+/// how long that took, how many tasks there were, and how many places are copied for them. Of a run that
+/// has faults or is stopped its outcome is written in their place; gives the exit status.
 pub fn bench<R: Threads + Wait + Sync, F: FileSource, O: Write, W: Runs, C: Stopwatch>(
     rt: &R,
     timing: Timing<'_, W, C>,

@@ -8,8 +8,8 @@ use std::alloc::{AllocError, AllocFailed};
 use std::error::Error;
 use std::fmt;
 
-/// Why an input is refused, with one for `main { array a: byte[1]; }` that is. The arrays are taken in the order
-/// of their declaration, and for each first its length, then its elements.
+/// Why an input is refused, with one for `main { array a: byte[1]; }` that is. The arrays are taken in the
+/// order of their declaration, and for each first its length, then its elements.
 #[derive(PartialEq, Eq, Debug, Drop)]
 pub enum InputError {
     /// N1: a text that is no JSON, as `{`.

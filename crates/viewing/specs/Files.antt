@@ -13,7 +13,8 @@ pub record Wrote (name : List ℕ) (AreRight : (bytes : List ℕ) → Type 0) (h
 
 -- the file of this name is written before the standard output is; of one that can't be written nothing is
 -- known; where a command fails for another reason all files hold what they held
-abbrev pub WritesTo : {T : Type 0} → (name : List ℕ) → (AreRight : (bytes : List ℕ) → Type 0) → (held later : Held)
+abbrev pub WritesTo : {T : Type 0} → (name : List ℕ) → (AreRight : (bytes : List ℕ) → Type 0)
+    → (held later : Held)
     → Result T Failure → Type 0
 WritesTo name AreRight held later (Ok status) = Wrote name AreRight held later
 WritesTo name AreRight held later (Err CannotWriteOutput) = Wrote name AreRight held later

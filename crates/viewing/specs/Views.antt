@@ -17,7 +17,8 @@ use Rattle.trace_text.specs.declared.error.TraceError.{TraceError}
 use Rattle.trace_text.specs.declared.header.Header.{Header}
 use Rattle.command_line.specs.Requests.{Settings}
 use Rattle.command_line.specs.declared.request.Command.{Command}
-use Rattle.command_line.specs.declared.request.Command.TheVariants.{Run, Serial, Check, Listing, Pairs, Explore}
+use Rattle.command_line.specs.declared.request.Command.TheVariants.{Run, Serial, Check, Listing}
+use Rattle.command_line.specs.declared.request.Command.TheVariants.{Pairs, Explore}
 use Rattle.command_line.specs.declared.request.Command.TheVariants.{Labels, Places, Format, CheckFormat}
 use Rattle.command_line.specs.declared.request.Command.TheVariants.{View, Summary, Draw, Chrome, Cost}
 use Rattle.command_line.specs.declared.request.Command.TheVariants.{CostByLabel, CostByProcedure}
@@ -50,7 +51,8 @@ pub record HoldsTrace (held : Held) (name : List ℕ) (h : Header) (es : List Ev
   pub has_text : HasText held name lines
   pub is_trace : IsTrace (header_of h) (map event_of es) lines
 
--- events are legal from the start of a program's run on an input, under the budget and with the weight of a header
+-- events are legal from the start of a program's run on an input, under the budget and with the weight of
+-- a header
 pub record AreLegal (p : Program) (input : List (List ℤ)) (h : Header) (es : List Event) : Type 0 where
   pub world : World
   pub legal : LeadsTo p h.w0 input (budget h.budget) (map event_of es) world
@@ -74,8 +76,8 @@ pub record IsSummaryText (workers : ℕ) (es : List Event) (told : List ℕ) : T
   pub are : IsSummary es numbers
   pub told_is : told ≡ summary_text workers numbers
 
--- what is told of a trace: by `view` the table of its events, by `view --summary` its numbers; by `view --svg` and
--- `view --chrome` nothing stands on the standard output
+-- what is told of a trace: by `view` the table of its events, by `view --summary` its numbers; by
+-- `view --svg` and `view --chrome` nothing stands on the standard output
 abbrev pub TellsTrace : Command → Header → List Event → (told : List ℕ) → Type 0
 TellsTrace View h es told = told ≡ table_text (map event_of es)
 TellsTrace Summary h es told = IsSummaryText h.workers es told

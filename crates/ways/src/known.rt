@@ -10,7 +10,8 @@ use std::alloc::{AllocError, Global};
 use std::collections::HashMap;
 use types::ids::ProcedureId;
 
-/// Where a way may enter a procedure: at its body, to an access to this parameter, which it does or leaves pending.
+/// Where a way may enter a procedure: at its body, to an access to this parameter, which it does or leaves
+/// pending.
 #[derive(Clone, Copy)]
 pub(crate) struct Entry {
     pub procedure: ProcedureId,

@@ -11,7 +11,8 @@ use effects::own::own_accesses;
 use std::alloc::{AllocError, Global};
 use types::code::Stmt;
 
-/// Whether a statement's own expressions make an access. Most statements have another label, and then it takes no memory.
+/// Whether a statement's own expressions make an access. Most statements have another label, and then it
+/// takes no memory.
 pub(crate) fn makes(alloc: Global, statement: &Stmt, access: Access) -> Result<bool, AllocError>
     ensures { IfOk result (λ makes. makes ≡ lists
         (own_by statement.now.label (plain_code statement.now.kind)) (access_of access)) }

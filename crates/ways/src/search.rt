@@ -80,7 +80,8 @@ impl Sought {
         makes(alloc, statement, self.access)
     }
 
-    /// The same inside a split, where it goes to this section. None where that has another name around the split.
+    /// The same inside a split, where it goes to this section. None where that has another name around the
+    /// split.
     fn inside(
         self,
         section: SectionId,

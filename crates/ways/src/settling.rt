@@ -15,8 +15,8 @@ use std::alloc::{AllocError, Global};
 use types::code::Program;
 use types::ids::ProcedureId;
 
-/// The shortest ways to an access: rounds, until none finds a shorter one. After each round no way is shorter that has
-/// one step more than before.
+/// The shortest ways to an access: rounds, until none finds a shorter one. After each round no way is
+/// shorter that has one step more than before.
 pub(crate) fn settled(alloc: Global, code: &Program, access: Access) -> Result<Known, AllocError>
     ensures ways { IfOk result (AreWays (program_of code.now) (access_of access)) }
     ensures shortest { IfOk result (λ known. (n : ℕ)
@@ -31,8 +31,8 @@ pub(crate) fn settled(alloc: Global, code: &Program, access: Access) -> Result<K
     }
 }
 
-/// The entries of all procedures: from the last one to the first, and back, so that one round goes through calls of procedures
-/// that stand before their callers as well as behind them.
+/// The entries of all procedures: from the last one to the first, and back, so that one round goes through
+/// calls of procedures that stand before their callers as well as behind them.
 fn entries_of(alloc: Global, code: &Program) -> Result<Vec<Entry>, AllocError>
     ensures { IfOk result (λ entries. ListsAll (program_of code.now) 0 entries.items) }
 {

@@ -35,7 +35,8 @@ pub enum Rule {
 pub struct Step {
     pub label: Label,
     pub rule: Rule,
-    /// What the access goes to, in the names around the statement. In the names inside it is the next step's section.
+    /// What the access goes to, in the names around the statement. In the names inside it is the next
+    /// step's section.
     pub section: SectionId,
 }
 

@@ -22,16 +22,16 @@ pub fn ways_lead_to_what_is_done()
         → Way p true b way x → Pending p accesses b x }
 {}
 
-/// Of a sound program each race is shown by two ways that meet; and where two ways meet, what they lead to may run
-/// together.
+/// Of a sound program each race is shown by two ways that meet; and where two ways meet, what they lead to
+/// may run together.
 pub fn races_are_shown()
     ensures shown { (p : Program) → IsSound p → (r : Race) → IsRace p r → IsShown p r }
     ensures together { (p : Program) (b : Codes) (kind : Meeting) (one other : List Step)
         (x y : Access) → Meets p b kind one other x y → Together p accesses b x y }
 {}
 
-/// Where two ways show a race with the fewest steps, each of them is a shortest one: no way that shows it beside the
-/// second has fewer steps than the first, and none beside the first has fewer than the second.
+/// Where two ways show a race with the fewest steps, each of them is a shortest one: no way that shows it
+/// beside the second has fewer steps than the first, and none beside the first has fewer than the second.
 pub fn each_way_is_shortest()
     ensures pending { (p : Program) (r : Race) (w : TheWitness) (way : List Step) → IsShortest p r w
         → Shows p r w.first_pends w.meeting way w.later.items

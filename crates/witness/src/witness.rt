@@ -22,8 +22,8 @@ use types::typed::Typed;
 use ways::aim::Aim;
 use ways::step::Step;
 
-/// Why two accesses may run together, and share places. Both ways begin at statements of one list of the race's
-/// procedure, and each step is at a statement of the list to which the step before it has come.
+/// Why two accesses may run together, and share places. Both ways begin at statements of one list of the
+/// race's procedure, and each step is at a statement of the list to which the step before it has come.
 #[derive(Drop)]
 pub struct Witness {
     /// Whether the two begin at a statement and at one behind it, or at a loop.
@@ -38,8 +38,8 @@ pub struct Witness {
     pub sharing: Sharing,
 }
 
-/// A witness of a race, as `check` tells it: one with as few steps as any. None of two accesses that are no race of the
-/// program.
+/// A witness of a race, as `check` tells it: one with as few steps as any. None of two accesses that are
+/// no race of the program.
 pub fn witness_of(alloc: Global, typed: &Typed, race: Race) -> Result<Option<Witness>, AllocError>
     ensures witness { IfOk result (λ found.
         IfSome found (IsWitness (code_of typed.now) (race_of race))) }

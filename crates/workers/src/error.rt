@@ -13,8 +13,8 @@ use std::alloc::{AllocError, AllocFailed};
 pub enum Trouble {
     /// Memory, as may be of `main { }`; a scope that has issued weight as often as is counted.
     OutOfMemory,
-    /// The results of tasks aren't put together: memory is wanting, or they don't make a whole. No run is known that
-    /// comes to the latter.
+    /// The results of tasks aren't put together: memory is wanting, or they don't make a whole. No run is
+    /// known that comes to the latter.
     Gather(GatherError),
     /// A scope didn't take what was given back to it. No run is known that comes to it.
     Late,

@@ -8,8 +8,8 @@ use task_machine::stake::ScopeMark;
 use types::path::Path;
 use types::scope_id::ScopeId;
 
-/// What a run did, in an order in which it is legal: an event stands behind all that made it possible. Nothing is
-/// kept unless it is asked for.
+/// What a run did, in an order in which it is legal: an event stands behind all that made it possible.
+/// Nothing is kept unless it is asked for.
 #[derive(Drop)]
 pub struct Journal {
     pages: Option<Mutex<Pages>>,
@@ -108,8 +108,8 @@ impl Journal {
     }
 }
 
-/// Who writes down what a worker gives back to a scope. It is called while that scope's lock is held, so that what
-/// came back to it stands before that it passes.
+/// Who writes down what a worker gives back to a scope. It is called while that scope's lock is held, so
+/// that what came back to it stands before that it passes.
 #[derive(Clone, Copy)]
 pub struct Clerk<'j> {
     pub journal: &'j Journal,

@@ -58,8 +58,8 @@ pub fn run<'p, G: Gate + Sync, R: Threads + Wait + Sync>(
     Ok(outcome)
 }
 
-/// The same, and what the workers did, event by event, in an order in which it is legal. No clause says so: a replay
-/// over a world does. A noted run is slower: each step is written down, by one worker at a time.
+/// The same, and what the workers did, event by event, in an order in which it is legal. No clause says
+/// so: a replay over a world does. A noted run is slower: each step is written down, by one worker at a time.
 pub fn run_noted<'p, G: Gate + Sync, R: Threads + Wait + Sync>(
     rt: &R,
     alloc: Global,

@@ -38,8 +38,8 @@ const ROWS: &[(&str, &str)] = &[
 ];
 
 /// Where the options of COMMAND stand: in the reply to these words, from a text to another one, each behind a
-/// mark, of which so many a line count, since the text of an option may name another one; and whether `--help` is told
-/// there too, as the last.
+/// mark, of which so many a line count, since the text of an option may name another one; and whether
+/// `--help` is told there too, as the last.
 struct Source {
     words: &'static str,
     begin: &'static str,

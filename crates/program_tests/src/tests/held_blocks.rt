@@ -22,8 +22,9 @@ enum Step {
 
 use Step::{Again, Carve, Paste, Share, Write};
 
-/// Steps in turn from a block that owns all offsets, and a line before them and behind each: how many numbers were copied or whether an offset was written, and what is held
-/// then. Of each block the numbers at a few offsets are shown, those in brackets as copies.
+/// Steps in turn from a block that owns all offsets, and a line before them and behind each: how many
+/// numbers were copied or whether an offset was written, and what is held then. Of each block the numbers
+/// at a few offsets are shown, those in brackets as copies.
 type Story = (&'static [Step], &'static str);
 
 const STORIES: &[Story] = &[

@@ -31,7 +31,8 @@ type Row = (Step, &'static str, &'static str);
 
 const INNER: &[Numbers] = &[(0, 1, 2)];
 
-/// Steps in turn. Of each holdings the numbers at five places of the array and at the first of another array are shown.
+/// Steps in turn. Of each holdings the numbers at five places of the array and at the first of another
+/// array are shown.
 const STORIES: &[&[Row]] = &[
     // ---- carved and pasted
     &[

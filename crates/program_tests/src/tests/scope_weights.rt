@@ -79,8 +79,8 @@ fn completes(rt: &impl Abort, alloc: Global, book: &mut Book, weight: Weight, ch
     book.back(weight, &path) == Back::Complete
 }
 
-/// Shows a book: what came back from whom, how many times it has issued and how much, how much came back, and how much
-/// of that isn't listed.
+/// Shows a book: what came back from whom, how many times it has issued and how much, how much came back,
+/// and how much of that isn't listed.
 fn shown(rt: &impl Abort, alloc: Global, book: &Book) -> String {
     let mut text = String::new(alloc);
     for number in 0..MOST_ENTRIES {

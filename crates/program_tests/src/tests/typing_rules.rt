@@ -1,7 +1,7 @@
 //! The typing rules, each by programs that keep it and programs that break it alone.
 //!
-//! Of a program that breaks no rule it is told that it is right; of one that breaks a rule its code is told, and the
-//! label where it is broken in a statement.
+//! Of a program that breaks no rule it is told that it is right; of one that breaks a rule its code is
+//! told, and the label where it is broken in a statement.
 
 use crate::tests::{RIGHT, compare, compare_refusal};
 use std::alloc::Global;
@@ -318,7 +318,8 @@ const MAIN: &[Verdict] = &[
     ("proc f() { f(); } proc g() { }", "Y8"),
 ];
 
-/// Compares what is told of a text with what is wanted: where it goes wrong, or which rule its program breaks.
+/// Compares what is told of a text with what is wanted: where it goes wrong, or which rule its program
+/// breaks.
 fn compare_told(rt: &impl Abort, alloc: Global, row: &str, text: &str, want: &str) {
     match parse(alloc, text) {
         Ok(program) => compare_refusal(rt, alloc, row, type_check(alloc, program), want),

@@ -1,4 +1,5 @@
-//! Runs under a log: what the workers did is legal, stands in an order that it may have had, and is told by numbers.
+//! Runs under a log: what the workers did is legal, stands in an order that it may have had, and is told
+//! by numbers.
 
 ghost use Rattle.types.specs.Contents.{FitsArrays};
 ghost use Rattle.types.specs.Translation.{input as lists_in};
@@ -106,7 +107,8 @@ fn what_workers_do_is_legal(rt: HostRuntime) {
     }
 }
 
-/// Where the ends of two tasks stand in a run of two workers, the first of which is held until the other has left.
+/// Where the ends of two tasks stand in a run of two workers, the first of which is held until the other
+/// has left.
 fn ends(
     rt: &(impl Abort + Threads + Wait + Sync),
     alloc: Global,

@@ -1,4 +1,5 @@
-//! Results put together by path, also where one is missing or too many come, or owns other places than are listed for it.
+//! Results put together by path, also where one is missing or too many come, or owns other places than are
+//! listed for it.
 
 use crate::tests::{accepted, compare};
 use gather::settle::settle;
@@ -17,8 +18,8 @@ use types::fault::{Fault, FaultKind};
 use types::input::Input;
 use types::path::Path;
 
-/// A task of a program with no array: its path, and the paths of those that it began. It ends with a fault, whose
-/// number is that of its label.
+/// A task of a program with no array: its path, and the paths of those that it began. It ends with a
+/// fault, whose number is that of its label.
 type Task = (&'static [u32], Label, &'static [&'static [u32]]);
 
 /// A path.
@@ -93,7 +94,8 @@ const SECOND_WITH_CHILD: Task = (&[2], 5, &[&[2, 1]]);
 
 const CHILD: Task = (&[2, 1], 9, &[]);
 
-/// Results that come for the root, and the labels of the faults in their order, or why they don't make a whole.
+/// Results that come for the root, and the labels of the faults in their order, or why they don't make a
+/// whole.
 const ROWS: &[(&str, &[Task], &str)] = &[
     ("both in turn", &[FIRST, SECOND], "[3, 5, 7]"),
     ("the second first", &[SECOND, FIRST], "[3, 5, 7]"),
@@ -144,8 +146,9 @@ fn results_settle_by_path(rt: HostRuntime) -> Result<(), Fail> {
 /// Elements of an array of four: from which on, and how many.
 type Places = &'static [(usize, usize)];
 
-/// A task of a program with such an array: its path, the number that it has at all its elements, those that it owns,
-/// those of which it has copies, and the tasks that it began, each with what is listed for it. It tells nothing.
+/// A task of a program with such an array: its path, the number that it has at all its elements, those
+/// that it owns, those of which it has copies, and the tasks that it began, each with what is listed for
+/// it. It tells nothing.
 type Holder = (
     &'static [u32],
     i64,

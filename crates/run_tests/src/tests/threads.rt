@@ -28,7 +28,8 @@ pub(crate) const TWO_TASKS: &str = "main { finish { async { skip; } async { skip
 /// The turns of a task's path.
 pub(crate) type Turns = &'static [u32];
 
-/// A task that is held, and the one that it waits for: one worker alone would run both in one of the two orders.
+/// A task that is held, and the one that it waits for: one worker alone would run both in one of the two
+/// orders.
 pub(crate) const HELD: [(Turns, Turns); 2] = [(&[1], &[2]), (&[2], &[1])];
 
 /// Holds one task until another one has left.

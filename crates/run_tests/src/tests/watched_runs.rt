@@ -31,9 +31,10 @@ const COUNTING: &str = "main { var i = 0; while i < 1000000 { i = i + 1; } }";
 const FINISHING: &str =
     "main { var i = 0; while i < 40000 { finish { async { skip; } } i = i + 1; } }";
 
-/// A look comes at the end, and behind 16 turns of the machine, where 65,536 steps are done since the last one. A loop of
-/// two steps a turn is left at its own end, behind 65,537 steps, and goes on by one more. In the other five steps are done
-/// in four turns of the machine: the finish begins, the async begins, its body ends, and the finish ends.
+/// A look comes at the end, and behind 16 turns of the machine, where 65,536 steps are done since the last
+/// one. A loop of two steps a turn is left at its own end, behind 65,537 steps, and goes on by one more.
+/// In the other five steps are done in four turns of the machine: the finish begins, the async begins, its
+/// body ends, and the finish ends.
 const ROWS: &[(&str, &str)] = &[
     (COUNTING, "[1048608, 2000002]"),
     (FINISHING, "[65540, 131080, 196620, 200002]"),
