@@ -1,6 +1,8 @@
+pub mod ExactSummaries
 pub mod Examples
 pub mod FoundLemmas
 pub mod LabelsLemmas
+pub mod LeastNumbers
 pub mod ListLemmas
 pub mod ListingLemmas
 pub mod MeetingLemmas
@@ -8,6 +10,7 @@ pub mod MeetingsExact
 pub mod Ordering
 pub mod PairsLemmas
 pub mod Programs
+pub mod ReachedRounds
 pub mod SpreadLemmas
 pub mod StatementParts
 pub mod Sums

@@ -31,7 +31,7 @@ pub fn meetings(
     summaries: &Summaries,
     procedure: ProcedureId,
 ) -> Result<Vec<Meeting>, AllocError>
-    requires { AreSummaries (code_of typed.now) summaries.now }
+    requires { ∥ AreSummaries (code_of typed.now) summaries.now ∥₁ }
     ensures { let p = code_of typed.now in IfOk result (λ found.
         AreMeetings (Together p accesses (plain_body_of p procedure.number))
         (map plain found.items)) }
@@ -52,7 +52,7 @@ pub fn meetings_at(
     summaries: &Summaries,
     label: Label,
 ) -> Result<Vec<Meeting>, AllocError>
-    requires { AreSummaries (code_of typed.now) summaries.now }
+    requires { ∥ AreSummaries (code_of typed.now) summaries.now ∥₁ }
     ensures { let p = code_of typed.now in IfOk result (λ found.
         AreMeetings (AccessesAddedAt p label) (map plain found.items)) }
 {

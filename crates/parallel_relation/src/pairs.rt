@@ -38,7 +38,7 @@ pub fn may_run_together(
     typed: &Typed,
     summaries: &Summaries,
 ) -> Result<Pairs, AllocError>
-    requires { AreSummaries (code_of typed.now) summaries.now }
+    requires { ∥ AreSummaries (code_of typed.now) summaries.now ∥₁ }
     ensures { IfOk result (ArePairs (code_of typed.now)) }
 {
     let code = typed.code();

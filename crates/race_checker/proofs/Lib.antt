@@ -2,14 +2,11 @@ pub mod Calming
 pub mod Callees
 pub mod Clashing
 pub mod Deciding
-pub mod ExactSummaries
 pub mod Examples
 pub mod Finding
 pub mod Judging
-pub mod LeastNumbers
 pub mod LeastRaces
 pub mod Pieces
 pub mod RaceOrder
-pub mod ReachedRounds
 pub mod Scoping
 pub mod ToldExamples

@@ -1,15 +1,20 @@
 use Rattle.std.proofs.Common.{◌≡◌, ◌++◌, ◌∙◌, List, map, ap, subst}
 use Rattle.std.specs.Prelude.{None}
 use Rattle.types.specs.Code.{Program}
-use Rattle.types.specs.Translation.{codes}
+use Rattle.types.specs.Translation.{codes, program}
 use Rattle.types.specs.Typed.{code_of}
 use Rattle.effects.specs.Summarized.{body_of}
 use Rattle.parallel_relation.specs.Listing.{AreListsOf}
 use Rattle.parallel_relation.specs.Translation.{meeting}
 use Rattle.parallel_relation.specs.declared.listing.Listed.{Listed}
 use Rattle.parallel_relation.specs.declared.meeting.Meeting.{Meeting as rMeeting}
+use Rattle.parallel_relation.proofs.ExactSummaries.{exact_of}
 use Rattle.parallel_relation.proofs.MeetingLemmas.{those, are_meetings}
 use Rattle.parallel_relation.proofs.meetings.meetings.Goals as goal
+
+pub list_procedures-requires : goal.list_procedures-requires
+list_procedures-requires c =
+    exact_of (code_of c.args.typed.now) (program c.code-code.result.now) c.args.summaries.now c.code-code.ensures.code c.requires
 
 pub returns : goal.returns
 returns c =

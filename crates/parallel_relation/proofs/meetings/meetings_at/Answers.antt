@@ -8,8 +8,13 @@ use Rattle.effects.specs.Summarized.{body_of}
 use Rattle.parallel_relation.specs.Listing.{AreListsOf}
 use Rattle.parallel_relation.specs.Translation.{meeting}
 use Rattle.parallel_relation.specs.declared.listing.Listed.{Listed}
+use Rattle.parallel_relation.proofs.ExactSummaries.{exact_of}
 use Rattle.parallel_relation.proofs.MeetingLemmas.{those, those_next, main_body, are_meetings_at}
 use Rattle.parallel_relation.proofs.meetings.meetings_at.Goals as goal
+
+pub list_procedures-requires : goal.list_procedures-requires
+list_procedures-requires c =
+    exact_of (code_of c.args.typed.now) (program c.code-code.result.now) c.args.summaries.now c.code-code.ensures.code c.requires
 
 pub returns : goal.returns
 returns c =

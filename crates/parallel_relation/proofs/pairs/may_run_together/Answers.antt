@@ -5,8 +5,17 @@ use Rattle.types.specs.Translation.{program}
 use Rattle.types.specs.Typed.{code_of}
 use Rattle.parallel_relation.specs.Found.{Arises}
 use Rattle.parallel_relation.specs.Rows.{HasAt}
+use Rattle.parallel_relation.proofs.ExactSummaries.{exact_of}
 use Rattle.parallel_relation.proofs.PairsLemmas.{pairs_are}
 use Rattle.parallel_relation.proofs.pairs.may_run_together.Goals as goal
+
+pub walk_all-requires : goal.walk_all-requires
+walk_all-requires c =
+    exact_of (code_of c.args.typed.now) (program c.code-code.result.now) c.args.summaries.now c.code-code.ensures.code c.requires
+
+pub spread-requires : goal.spread-requires
+spread-requires c =
+    exact_of (code_of c.args.typed.now) (program c.code-code.result.now) c.args.summaries.now c.code-code.ensures.code c.requires
 
 pub returns : goal.returns
 returns c =

@@ -1,5 +1,5 @@
 use Rattle.types.specs.Typed.{code_of}
-use Rattle.race_checker.proofs.ExactSummaries.{exact_summaries}
+use Rattle.parallel_relation.proofs.ExactSummaries.{exact_summaries}
 use Rattle.race_checker.proofs.accepted.Accepted.summaries.Goals as goal
 
 pub returns-clause-exact : goal.returns-clause-exact

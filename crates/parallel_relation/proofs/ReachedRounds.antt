@@ -10,7 +10,7 @@ use Rattle.types.specs.Run.{procedure_of}
 use Rattle.types.specs.Sound.{passed_for}
 use Rattle.effects.specs.Effects.{past_split, Inner, Subject, AllOf, All, PendingOf, Pending}
 use Rattle.effects.specs.Tables.{Table, all_inside, all_in, left_by, left_in, alls_after, IsDerivedPending}
-use Rattle.race_checker.proofs.LeastNumbers.{Passing, some_passes}
+use Rattle.parallel_relation.proofs.LeastNumbers.{Passing, some_passes}
 use Rattle.effects.proofs.Members.{in_left, in_right, in_map}
 use Rattle.effects.proofs.StableTables.{parts, listed, left, alls_derived}
 

@@ -1,5 +1,5 @@
 -- Where summaries are known to be those of a program, they are: what they say can be found from them.
-use Rattle.std.proofs.Common.{ℕ, refl, Some, None, Option}
+use Rattle.std.proofs.Common.{◌≡◌, ℕ, refl, sym, subst, Some, None, Option}
 use Rattle.std.proofs.Math.Logic.{∥∥₁_elim, ∥∥₁_map}
 use Rattle.std.proofs.lemmas.Bool.{eq-eqb, eqb-true}
 use Rattle.std.specs.Coded.{Coded-set, coded_ℕ}
@@ -18,7 +18,7 @@ use Rattle.effects.specs.UseSets.{HasIn, HasUse}
 use Rattle.effects.specs.declared.label_set.LabelSet.{LabelSet}
 use Rattle.effects.specs.declared.summaries.Summaries.{Summaries}
 use Rattle.effects.specs.declared.summary.Summary.{Summary}
-use Rattle.race_checker.proofs.ReachedRounds.{all_found, pending_found}
+use Rattle.parallel_relation.proofs.ReachedRounds.{all_found, pending_found}
 use denote.Struct.Props.{props}
 
 -- ---- what sets have, has one proof at most
@@ -81,3 +81,7 @@ module _ (p : Program) where
     };
     asyncs = λ l. exact_need l (needs_at s.asyncs l) (∥∥₁_map are (λ a. a.asyncs l));
   }
+
+-- of the same program read from elsewhere too
+pub exact_of : (p q : Program) (s : Summaries) → q ≡ p → ∥ AreSummaries p s ∥₁ → AreSummaries q s
+exact_of p q s same are = subst (λ r. AreSummaries r s) (sym same) (exact_summaries p s are)
