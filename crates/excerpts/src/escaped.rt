@@ -10,8 +10,8 @@ pub struct Escaped<'n>(pub &'n str);
 impl fmt::Display for Escaped<'_> {
     fn fmt<W: fmt::Write>(&self, f: &mut fmt::Formatter<W>) -> fmt::Result {
         for character in self.0.chars() {
-            let code = u32::from(character);
-            if code < 32 || code == 127 {
+            if character.is_control() {
+                let code = u32::from(character);
                 write!(f, "\\x{code:02x}")?;
             } else {
                 write!(f, "{character}")?;

@@ -1,7 +1,8 @@
 -- The texts and the statuses of worked outcomes, computed.
-use Rattle.std.proofs.Common.{◌≡◌, List, [], ◌∷◌, Some, refl, codes}
+use Rattle.std.proofs.Common.{◌≡◌, List, [], ◌∷◌, ◌++◌, Some, refl, codes}
 use Rattle.std.specs.Prelude.{ℕ, ℤ, pos, negsuc, true, false}
 use Rattle.std.specs.Fmt.{digits}
+use Rattle.std.specs.List.{flat_map}
 use Rattle.syntax_tree.specs.declared.tree.ElementType.TheVariants.{Byte}
 use Rattle.types.specs.declared.fault.FaultKind.{FaultKind}
 use Rattle.types.specs.declared.fault.FaultKind.TheVariants.{OutOfElement, Raised}
@@ -11,6 +12,7 @@ use Rattle.types.specs.Outcome.{Outcome, Ended, Stopped}
 use Rattle.types.specs.TreeRuns.{Open, NoSuchChoice}
 use Rattle.texts.specs.ExploredText.{explored_text, explored_status}
 use Rattle.texts.specs.OutcomeText.{outcome_text, status_of}
+use Rattle.texts.specs.Reasons.{escaped_character}
 
 abbrev fault_at : List ℕ → ℕ → FaultKind → Fault
 fault_at path label kind = record { path = path; label = label; kind = kind }
@@ -70,3 +72,8 @@ two_open_status = refl
 
 no_leaf_status : explored_status (NoSuchChoice 2) ≡ 1
 no_leaf_status = refl
+
+-- what steers a terminal, below 128 and above, and a letter of two bytes
+steering_name : flat_map escaped_character (98 ∷ 27 ∷ 155 ∷ 228 ∷ []) ≡ codes "b\\x1b\\x9b" ++ (195 ∷ 164 ∷ [])
+unfolding lib.Utf8.encode
+steering_name = refl

@@ -1,3 +1,4 @@
 pub mod Appending
+pub mod Escaping
 pub mod Examples
 pub mod OutcomeText

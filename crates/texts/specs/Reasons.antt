@@ -1,6 +1,7 @@
 -- The pieces of the line that tells why something is refused.
-use Rattle.std.specs.Prelude.{ℕ, ◌+◌, ◌/◌, ◌%◌, List, [], ◌∷◌, ◌++◌, ◌||◌, codes}
-use Rattle.std.specs.Prelude.{if◌then◌else◌, nat_eq, nat_lt}
+use Rattle.std.specs.Prelude.{ℕ, ◌+◌, ◌/◌, ◌%◌, List, [], ◌∷◌, ◌++◌, codes}
+use Rattle.std.specs.Prelude.{chars, encode_utf8, if◌then◌else◌, nat_lt}
+use Rattle.std.specs.Char.{is_control}
 use Rattle.std.specs.List.{flat_map}
 use Rattle.std.specs.String.{string_bytes}
 use Rattle.types.specs.InputErrors.{error_text}
@@ -18,14 +19,14 @@ race_text procedure first second =
 abbrev pub digit : ℕ → ℕ
 digit n = if nat_lt n 10 then 48 + n else 87 + n
 
--- a byte of a name: one that steers a terminal is told by its number, as `\x1b`
-abbrev pub escaped_byte : ℕ → List ℕ
-escaped_byte b =
-    if nat_lt b 32 || nat_eq b 127
-    then codes "\\x" ++ (digit (b / 16) ∷ digit (b % 16) ∷ []) else b ∷ []
+-- a character of a name: one that steers a terminal is told by its number, as `\x1b`
+abbrev pub escaped_character : ℕ → List ℕ
+escaped_character c =
+    if is_control c
+    then codes "\\x" ++ (digit (c / 16) ∷ digit (c % 16) ∷ []) else encode_utf8 c
 
 abbrev pub escaped : List ℕ → List ℕ
-escaped name = flat_map escaped_byte name
+escaped name = flat_map escaped_character (chars name)
 
 -- a mistake in an input: the name of a member may have any characters, that of an array has none that steers
 abbrev pub input_text : InputError → List ℕ

@@ -5,7 +5,8 @@ ghost use Rattle.std.specs.Fmt.{decimal};
 ghost use Rattle.syntax.specs.Refusals.{at_text, error_text as syntax_text};
 ghost use Rattle.types.specs.Codes.{error_text, labelled};
 ghost use Rattle.texts.specs.Appending.{Writes};
-ghost use Rattle.texts.specs.Reasons.{digit, escaped, escaped_byte, input_text, race_text};
+ghost use Rattle.texts.specs.Reasons.{digit, escaped, escaped_character, input_text};
+ghost use Rattle.texts.specs.Reasons.{race_text};
 
 use crate::emit::{EmitError, append, emit_count, emit_label};
 use std::io::Write;
@@ -36,30 +37,31 @@ pub fn emit_file<W: Write>(err: &mut W, told: &str, name: &str) -> Result<(), Em
         (told.now ++ escaped name.now) }
 {
     emit_text(err, told)?;
-    emit_escaped(err, name.as_bytes())
+    emit_escaped(err, name)
 }
 
-/// A name, byte by byte.
-fn emit_escaped<W: Write>(err: &mut W, name: &[u8]) -> Result<(), EmitError>
+/// A name, character by character.
+fn emit_escaped<W: Write>(err: &mut W, name: &str) -> Result<(), EmitError>
     ensures { Writes (W.contents err.old) (W.contents err.new) result (escaped name.now) }
 {
-    for byte in name {
-        emit_byte(err, *byte)?;
+    for character in name.chars() {
+        emit_character(err, character)?;
     }
     Ok(())
 }
 
-/// A byte of a name: one that steers a terminal is told by its number.
-fn emit_byte<W: Write>(err: &mut W, byte: u8) -> Result<(), EmitError>
-    ensures { Writes (W.contents err.old) (W.contents err.new) result (escaped_byte byte) }
+/// A character of a name: one that steers a terminal is told by its number.
+fn emit_character<W: Write>(err: &mut W, character: char) -> Result<(), EmitError>
+    ensures { Writes (W.contents err.old) (W.contents err.new) result (escaped_character character) }
 {
-    if byte < 32 || byte == 127 {
+    if character.is_control() {
+        let number = character as u8;
         append(
             err,
-            &[b'\\', b'x', digit_of(byte / 16), digit_of(byte % 16)],
+            &[b'\\', b'x', digit_of(number / 16), digit_of(number % 16)],
         )
     } else {
-        append(err, &[byte])
+        append(err, character.encode_utf8(&mut [0; 4]).as_bytes())
     }
 }
 

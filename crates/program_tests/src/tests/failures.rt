@@ -148,10 +148,16 @@ const NAMED: &[(Named, &str, &str)] = &[
     ),
     (Named::NotUtf8, "a.afx", "not UTF-8 a.afx"),
     (Named::NotUtf8, "\t", "not UTF-8 \\x09"),
+    (
+        Named::NotUtf8,
+        "\u{80}\u{9b}1m\u{9f}\u{a0}",
+        "not UTF-8 \\x80\\x9b1m\\x9f\u{a0}",
+    ),
     (Named::CannotWrite, "-", "cannot write -"),
     (Named::CannotWrite, "a\u{1b}.svg", "cannot write a\\x1b.svg"),
     (Named::UnknownArray, "z", "N3 z"),
     (Named::UnknownArray, "b\nc\u{1b}", "N3 b\\x0ac\\x1b"),
+    (Named::UnknownArray, "\u{9b}", "N3 \\x9b"),
     (Named::WrongLength, "a", "N4 a"),
     (Named::WrongElement, "a", "N5 a"),
 ];

@@ -1,7 +1,7 @@
-use Rattle.texts.specs.Reasons.{escaped_byte}
-use Rattle.texts.proofs.Appending.{AppendsFirst}
+use Rattle.std.specs.Str.Iter.{chars_rest}
+use Rattle.texts.proofs.Escaping.{ToldBefore}
 use Rattle.texts.proofs.reasons.emit_escaped.Given as goal
 
-abbrev pub invariant-loop-byte : goal.invariant-loop-byte
-invariant-loop-byte g l =
-    AppendsFirst escaped_byte l.name l.byte-index (g.W.Write.contents l.fn.err) (g.W.Write.contents l.err)
+abbrev pub invariant-loop-character : goal.invariant-loop-character
+invariant-loop-character g l =
+    ToldBefore l.fn.name (chars_rest l.character-iterator) (g.W.Write.contents l.fn.err) (g.W.Write.contents l.err)

@@ -6,4 +6,4 @@ returns-in_err-emit_text g c = fails _ c.from_residual.ensures.0 (begins_longer 
 
 pub returns : goal.returns
 returns g c = then_writes _ _ _ _ _ _ c.in_ok-emit_text.ensures
-    (rw c.as_bytes.ensures.value at c.emit_escaped.ensures)
+    c.emit_escaped.ensures
