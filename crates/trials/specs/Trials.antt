@@ -15,6 +15,7 @@ use Rattle.types.specs.Outcome.{Outcome, outcome}
 use Rattle.types.specs.Translation.{input as lists_of}
 use Rattle.types.specs.Typed.{code_of}
 use Rattle.texts.specs.OutcomeText.{outcome_text}
+use Rattle.texts.specs.Reasons.{escaped}
 use Rattle.command_line.specs.Requests.{Settings, usual}
 use Rattle.command_line.specs.declared.request.Command.TheVariants.{Run}
 use Rattle.intake.specs.Held.{Held, HasText, IsGiven, TellsNoProgram, TellsNoText}
@@ -102,11 +103,12 @@ pub data IsUncompared (held : Held) (t : Trial) (f : Failure) : Type 0 where
       → Explains Run (settings_of t) held text f → f ≢ CannotWriteOutput → IsUncompared held t f
   without_output : TellsNoText held (file t (codes ".out")) f → IsUncompared held t f
 
--- the line of one that fails
+-- the line of one that fails, with what steers a terminal in its name told by numbers
 pub data IsLine (held : Held) (t : Trial) (line : List ℕ) : Type 0 where
-  otherwise : IsCompared held t false → line ≡ t.stem ++ codes ".afx: tells otherwise\n" → IsLine held t line
+  otherwise : IsCompared held t false → line ≡ escaped t.stem ++ codes ".afx: tells otherwise\n"
+      → IsLine held t line
   uncompared : (f : Failure) → IsUncompared held t f
-      → line ≡ t.stem ++ (codes ".afx: " ++ (failure_text f ++ codes "\n")) → IsLine held t line
+      → line ≡ escaped t.stem ++ (codes ".afx: " ++ (failure_text f ++ codes "\n")) → IsLine held t line
 
 -- one without a line passes, and any other has the line of one that fails
 abbrev pub HasLine : Held → Trial → Option (String Global) → Type 0

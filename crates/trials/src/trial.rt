@@ -7,6 +7,7 @@ ghost use Rattle.types.specs.Translation.{input as lists_of};
 ghost use Rattle.types.specs.Typed.{code_of};
 ghost use Rattle.intake.specs.Held.{BeginsWith, HasText, IsGiven, TellsNoInput, TellsNoText};
 ghost use Rattle.intake.specs.Messages.{failure_text};
+ghost use Rattle.texts.specs.Reasons.{escaped};
 ghost use Rattle.trials.specs.Trials.{HasLine, IsCompared, IsUncompared};
 ghost use Rattle.trials.specs.Trials.{file as file_of, has_name as has_name_of, input_file, trial as trial_of};
 
@@ -21,6 +22,7 @@ use intake::message::emit_message;
 use std::alloc::{AllocError, Global};
 use std::sync::Wait;
 use std::thread::Threads;
+use texts::reasons::emit_file;
 use types::input::Input;
 use types::typed::Typed;
 
@@ -171,10 +173,11 @@ impl Trial<'_> {
 /// The line of a program that tells otherwise.
 fn otherwise(alloc: Global, stem: &str) -> Result<String, Failure>
     ensures line { IfOk result
-        (λ line. string_bytes line ≡ stem.now ++ codes ".afx: tells otherwise\n") }
+        (λ line. string_bytes line ≡ escaped stem.now ++ codes ".afx: tells otherwise\n") }
     ensures why { IfErr result (λ f. f ≡ Failure.NoMemory) }
 {
-    match format!(in alloc; "{stem}.afx: tells otherwise\n") {
+    let shown = shown_of(alloc, stem)?;
+    match format!(in alloc; "{shown}.afx: tells otherwise\n") {
         Ok(line) => Ok(line),
         Err(AllocError) => Err(Failure::NoMemory),
     }
@@ -183,14 +186,27 @@ fn otherwise(alloc: Global, stem: &str) -> Result<String, Failure>
 /// The line of a program that isn't compared.
 fn failed(alloc: Global, stem: &str, failure: &Failure) -> Result<String, Failure>
     ensures line { IfOk result (λ line. string_bytes line
-        ≡ stem.now ++ (codes ".afx: " ++ (failure_text failure.now ++ codes "\n"))) }
+        ≡ escaped stem.now ++ (codes ".afx: " ++ (failure_text failure.now ++ codes "\n"))) }
     ensures why { IfErr result (λ f. f ≡ Failure.NoMemory) }
 {
+    let shown = shown_of(alloc, stem)?;
     let message = message_of(alloc, failure)?;
-    match format!(in alloc; "{stem}.afx: {message}") {
+    match format!(in alloc; "{shown}.afx: {message}") {
         Ok(line) => Ok(line),
         Err(AllocError) => Err(Failure::NoMemory),
     }
+}
+
+/// A name of a folder, in which nothing steers a terminal.
+fn shown_of(alloc: Global, name: &str) -> Result<String, Failure>
+    ensures text { IfOk result (λ text. string_bytes text ≡ escaped name.now) }
+    ensures why { IfErr result (λ f. f ≡ Failure.NoMemory) }
+{
+    let mut bytes = Vec::new(alloc);
+    if emit_file(&mut bytes, "", name).is_err() {
+        return Err(Failure::NoMemory);
+    }
+    text_of(bytes)
 }
 
 /// The line that tells a failure, with its line feed.
@@ -202,9 +218,17 @@ fn message_of(alloc: Global, failure: &Failure) -> Result<String, Failure>
     if emit_message(&mut bytes, failure).is_err() {
         return Err(Failure::NoMemory);
     }
+    text_of(bytes)
+}
+
+/// The text that these bytes are.
+fn text_of(bytes: Vec<u8>) -> Result<String, Failure>
+    ensures text { IfOk result (λ text. string_bytes text ≡ bytes.items) }
+    ensures why { IfErr result (λ f. f ≡ Failure.NoMemory) }
+{
     match String::from_utf8(bytes) {
         Ok(text) => Ok(text),
-        // No clause says that a message is text; it is put together of texts.
+        // No clause says that they are one; they are put together of texts.
         Err(_) => Err(Failure::NoMemory),
     }
 }
