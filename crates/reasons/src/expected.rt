@@ -31,9 +31,9 @@ impl Front {
         Front { alloc, tokens }
     }
 
-    /// The last of them.
-    pub fn last(&self) -> Option<&Token> {
-        self.tokens.last().map(|spanned| &spanned.token)
+    /// All of them.
+    pub fn tokens(&self) -> &[Spanned] {
+        &self.tokens
     }
 
     /// Whether they are a whole program with its `main`, behind which nothing may stand.

@@ -3,6 +3,7 @@
 #![tactic(auto)]
 
 mod expected;
+mod habits;
 pub mod input_errors;
 pub mod races;
 pub mod syntax_errors;

@@ -1,14 +1,15 @@
 //! Texts that spell no program.
 
 use crate::expected::{Front, WORDS, mark_text, word_text};
-use excerpts::named::is_operator;
-use excerpts::source::push_excerpt;
+use crate::habits::{Around, mend_of_character};
+use excerpts::named::begins_with;
+use excerpts::source::{line_of, push_excerpt};
 use std::alloc::{AllocError, Global};
 use syntax::cursor::Stuck;
 use syntax::error::SyntaxError;
-use syntax::lexer;
 use syntax::programs::program;
 use syntax::token::{Mark, Spanned, Token, Word};
+use syntax::{Place, lexer};
 
 /// What stands behind the line of an error of a text: where, why, and what would be right.
 pub fn explained_syntax(
@@ -21,7 +22,7 @@ pub fn explained_syntax(
         push_excerpt(&mut told, text, place)?;
     }
     match error {
-        SyntaxError::NotACharacter { .. } => told.push_str(NO_TOKEN)?,
+        SyntaxError::NotACharacter { place } => push_no_token(&mut told, text, *place)?,
         SyntaxError::UnexpectedToken { .. } => push_unexpected(alloc, &mut told, text)?,
         SyntaxError::NumberTooLarge { .. } => told.push_str(TOO_LARGE)?,
         SyntaxError::TooDeep { .. } => told.push_str(TOO_DEEP)?,
@@ -35,10 +36,6 @@ pub fn explained_syntax(
 /// stand there: the parser goes over all of them for each.
 const MOST_TOKENS: usize = 50_000;
 
-const NO_TOKEN: &str = "No token begins with this character.
-To mend it: take it away; a comment begins with //, and not equal is !=.
-";
-
 const TOO_LARGE: &str = "A number is at most 9223372036854775807.
 To mend it: write a smaller one.
 ";
@@ -51,6 +48,16 @@ const TOO_LONG: &str = "
 A text has at most 1048576 bytes.
 To mend it: shorten it; numbers are read from a file by --input.
 ";
+
+/// Adds that no token begins with the character at a place.
+fn push_no_token(told: &mut String, text: &str, place: Place) -> Result<(), AllocError> {
+    let before = usize::try_from(place.column).unwrap_or(1).saturating_sub(1);
+    let mend = mend_of_character(line_of(text, place).chars().nth(before));
+    write!(
+        told,
+        "No token begins with this character.\nTo mend it: {mend}.\n"
+    )
+}
 
 /// Adds which token may not stand where it does, and what may stand there.
 fn push_unexpected(alloc: Global, told: &mut String, text: &str) -> Result<(), AllocError> {
@@ -141,51 +148,23 @@ fn push_reserved(told: &mut String) -> Result<(), AllocError> {
 /// Adds what would be right.
 fn push_mend(told: &mut String, front: &mut Front, behind: &[Spanned]) -> Result<(), AllocError> {
     told.push_str("To mend it: ")?;
-    if is_else_if(front.last(), behind) {
-        return told.push_str("there is no `else if`: write `else { if .. { .. } }`.\n");
-    }
-    if is_short_assignment(behind) {
-        return told.push_str("there is no `+=` and its like: write `x = x + ..;`.\n");
-    }
-    if is_array(behind) {
-        return told.push_str("arrays are declared in main alone, before its first statement.\n");
+    told.push_str(match Around::of(front.tokens(), behind).mend() {
+        Some(mend) => mend,
+        None => usual_mend(front, behind)?,
+    })?;
+    told.push_str(".\n")
+}
+
+/// What would be right as far as what may stand here tells it.
+fn usual_mend(front: &mut Front, behind: &[Spanned]) -> Result<&'static str, AllocError> {
+    if begins_with(behind, Mark::Becomes) && front.takes_mark(Mark::Equal)? {
+        return Ok("equal is ==");
     }
     if front.takes_mark(Mark::Semicolon)? {
-        return told.push_str("a statement ends with `;`: write it before this.\n");
+        return Ok("a statement ends with `;`: write it before this");
     }
-    told.push_str("write one of these here.\n")
-}
-
-/// Whether an `if` stands behind an `else`.
-fn is_else_if(last: Option<&Token>, behind: &[Spanned]) -> bool {
-    match (last, behind) {
-        (Some(Token::Word(Word::Else)), [first, ..]) => {
-            matches!(&first.token, Token::Word(Word::If))
-        }
-        _ => false,
+    if behind.is_empty() && front.takes_mark(Mark::RightBrace)? {
+        return Ok("close each block that is open with `}`");
     }
-}
-
-/// Whether `+=`, `-=`, `*=`, `/=` or `%=` stands first.
-fn is_short_assignment(behind: &[Spanned]) -> bool {
-    match behind {
-        [first, second, ..] => is_operator(&first.token) && is_becomes(&second.token),
-        _ => false,
-    }
-}
-
-/// Whether a token is `=`.
-fn is_becomes(token: &Token) -> bool {
-    match token {
-        Token::Mark(Mark::Becomes) => true,
-        _ => false,
-    }
-}
-
-/// Whether an `array` stands first.
-fn is_array(behind: &[Spanned]) -> bool {
-    match behind {
-        [first, ..] => matches!(&first.token, Token::Word(Word::Array)),
-        [] => false,
-    }
+    Ok("write one of these here")
 }

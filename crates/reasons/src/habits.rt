@@ -1,0 +1,186 @@
+//! What those write who come from other languages, and what would be right.
+
+use excerpts::named::is_operator;
+use syntax::token::{Mark, Spanned, Token, Word};
+
+const ELSE_IF: &str = "there is no `else if`: write `else { if .. { .. } }`";
+
+const BLOCK: &str = "begin the block with `{`";
+
+/// What would be right in place of a character that begins no token.
+pub fn mend_of_character(character: Option<char>) -> &'static str {
+    match character {
+        Some('&') => "write `and` between truth values",
+        Some('|') => "write `or` between truth values",
+        Some('!') => "write `not` before a truth value; not equal is !=",
+        Some('"') | Some('\'') => "print numbers: there are no texts",
+        Some('.') => "write a whole number; the length of a section is len(s)",
+        Some('#') => "begin a comment with //",
+        Some('\u{feff}') => "save the text without the byte order mark that stands here",
+        _ => "take it away; a comment begins with //, and not equal is !=",
+    }
+}
+
+/// The tokens around the place at which a text goes wrong: two before it, and two from it on.
+#[derive(Clone, Copy)]
+pub struct Around<'t> {
+    last_but_one: Option<&'t Token>,
+    last: Option<&'t Token>,
+    first: Option<&'t Token>,
+    second: Option<&'t Token>,
+}
+
+impl<'t> Around<'t> {
+    /// Those between the tokens before and behind the place.
+    pub fn of(before: &'t [Spanned], behind: &'t [Spanned]) -> Around<'t> {
+        Around {
+            last_but_one: before
+                .len()
+                .checked_sub(2)
+                .and_then(|at| token_at(before, at)),
+            last: before.last().map(|spanned| &spanned.token),
+            first: token_at(behind, 0),
+            second: token_at(behind, 1),
+        }
+    }
+
+    /// What would be right, where it can be told what was meant.
+    pub fn mend(self) -> Option<&'static str> {
+        if let Some(mend) = mend_of_name(self.first) {
+            return Some(mend);
+        }
+        if let Some(mend) = mend_of_name(self.last) {
+            return Some(mend);
+        }
+        match self.first {
+            Some(Token::Name(name)) if is_before_block(name) => Some(BLOCK),
+            Some(Token::Mark(mark)) => self.mend_of_mark(*mark),
+            Some(Token::Word(Word::Array)) => {
+                Some("arrays are declared in main alone, before its first statement")
+            }
+            Some(Token::Word(Word::Int)) | Some(Token::Word(Word::Byte)) => {
+                Some("declare a variable as in `var x = 1;`")
+            }
+            _ => self.mend_behind(),
+        }
+    }
+
+    /// Where a mark stands that may not.
+    fn mend_of_mark(self, mark: Mark) -> Option<&'static str> {
+        match (self.last, mark) {
+            (Some(Token::Word(Word::Main)), Mark::LeftParen) => {
+                Some("main has no parameters: write `main { .. }`")
+            }
+            (Some(Token::Word(Word::Int)), Mark::LeftBracket)
+            | (Some(Token::Word(Word::Byte)), Mark::LeftBracket) => {
+                Some("take the brackets away: the length of a section s is len(s)")
+            }
+            (Some(Token::Mark(Mark::RightBracket)), Mark::LeftBracket) => {
+                Some("write one index, as in `a[i * n + j]`: arrays have no rows")
+            }
+            (Some(Token::Name(_)), Mark::LeftBracket) if self.declares(Word::Array) => {
+                Some("write the type before the length, as in `array a: int[8];`")
+            }
+            (Some(Token::Name(_)), Mark::Colon) if self.declares(Word::Var) => {
+                Some("take the type away: variables are numbers, as in `var x = 1;`")
+            }
+            (_, Mark::Semicolon) if self.is_ended() => {
+                Some("take it away: a statement that does nothing is `skip;`")
+            }
+            _ => self.mend_of_step(mark),
+        }
+    }
+
+    /// Where a variable is to be changed in place.
+    fn mend_of_step(self, mark: Mark) -> Option<&'static str> {
+        match self.second {
+            Some(Token::Mark(second)) => {
+                if *second == mark && (mark == Mark::Plus || mark == Mark::Minus) {
+                    Some("there is no `x++`: write `x = x + 1;`")
+                } else if *second == Mark::Becomes && self.first.is_some_and(is_operator) {
+                    Some("there is no `+=` and its like: write `x = x + ..;`")
+                } else {
+                    self.mend_behind()
+                }
+            }
+            _ => self.mend_behind(),
+        }
+    }
+
+    /// By what stands before alone.
+    fn mend_behind(self) -> Option<&'static str> {
+        match (self.last_but_one, self.last) {
+            (_, Some(Token::Word(Word::Else))) => Some(self.mend_of_else()),
+            (_, Some(Token::Word(Word::Async))) => {
+                Some("write what the task does in braces, as in `async { f(a); }`")
+            }
+            (_, Some(Token::Word(Word::Finish))) => {
+                Some("write what is waited for in braces, as in `finish { f(a); }`")
+            }
+            (Some(Token::Word(Word::Int)), Some(Token::Mark(Mark::LeftBracket)))
+            | (Some(Token::Word(Word::Byte)), Some(Token::Mark(Mark::LeftBracket))) => {
+                Some("write the length as a number")
+            }
+            _ => None,
+        }
+    }
+
+    /// Behind `else`.
+    fn mend_of_else(self) -> &'static str {
+        match self.first {
+            Some(Token::Word(Word::If)) => ELSE_IF,
+            _ => BLOCK,
+        }
+    }
+
+    /// Whether the last token is what a word declares.
+    fn declares(self, declaring: Word) -> bool {
+        match self.last_but_one {
+            Some(Token::Word(word)) => *word == declaring,
+            _ => false,
+        }
+    }
+
+    /// Whether a statement has just ended, or none has begun.
+    fn is_ended(self) -> bool {
+        match self.last {
+            Some(Token::Mark(mark)) => {
+                *mark == Mark::Semicolon || *mark == Mark::LeftBrace || *mark == Mark::RightBrace
+            }
+            _ => false,
+        }
+    }
+}
+
+/// Whether a name is a word that stands before a block in other languages.
+fn is_before_block(name: &str) -> bool {
+    matches!(name, "then" | "do")
+}
+
+/// A token by its number, where there are so many.
+fn token_at(tokens: &[Spanned], at: usize) -> Option<&Token> {
+    tokens.get(at).map(|spanned| &spanned.token)
+}
+
+/// What would be right in place of a name that is a word of other languages.
+fn mend_of_name(token: Option<&Token>) -> Option<&'static str> {
+    let Some(Token::Name(name)) = token else {
+        return None;
+    };
+    match name.as_str() {
+        "for" | "foreach" | "loop" => {
+            Some("there is no `for`: write `var i = 0; while i < n { .. i = i + 1; }`")
+        }
+        "let" | "const" => Some("declare a variable as in `var x = 1;`"),
+        "fn" | "func" | "function" | "def" | "void" => {
+            Some("begin a procedure with `proc`, as in `proc f(mut s: int) { .. }`")
+        }
+        "return" => Some("a procedure answers nothing: it writes into a section of its caller"),
+        "break" | "continue" => Some("there is no `break`: a loop ends by its guard alone"),
+        "elif" | "elsif" | "elseif" => Some(ELSE_IF),
+        "spawn" | "sync" | "await" => {
+            Some("begin a task by `async { .. }`, and wait for tasks by `finish { .. }`")
+        }
+        _ => None,
+    }
+}
