@@ -46,18 +46,16 @@ use Rattle.texts.specs.Labels.{accepted_text, labels_in, pair_text}
 use Rattle.texts.specs.OutcomeText.{outcome_text, status_of}
 use Rattle.command_line.specs.Requests.{Settings}
 use Rattle.intake.specs.declared.failure.Failure.{Failure}
-use Rattle.intake.specs.declared.failure.Failure.TheVariants.{CannotRead, NotUtf8, Syntax, Types}
-use Rattle.intake.specs.declared.failure.Failure.TheVariants.{Race, NoMemoryInCheck, Input}
-use Rattle.intake.specs.declared.failure.Failure.TheVariants.{CannotWriteOutput, NoMemory}
-use Rattle.intake.specs.declared.failure.Failure.TheVariants.{ChoicesNotUnderstood, NoLeaf, NotLaidOut}
-use Rattle.intake.specs.declared.failure.Failure.TheVariants.{Trace, Illegal, StrangeEvents, CannotWrite}
-use Rattle.intake.specs.declared.failure.Failure.TheVariants.{Run as RunFailed}
+use Rattle.intake.specs.declared.failure.Failure.TheVariants.{CannotRead, NotUtf8, Syntax, Types, Race}
+use Rattle.intake.specs.declared.failure.Failure.TheVariants.{NoMemoryInCheck, Input, CannotWriteOutput}
+use Rattle.intake.specs.declared.failure.Failure.TheVariants.{NoMemory, ChoicesNotUnderstood, NoLeaf}
+use Rattle.intake.specs.declared.failure.Failure.TheVariants.{NotLaidOut, Trace, Illegal, StrangeEvents}
+use Rattle.intake.specs.declared.failure.Failure.TheVariants.{CannotWrite, Run as RunFailed}
 use Rattle.command_line.specs.declared.request.Command.{Command}
-use Rattle.command_line.specs.declared.request.Command.TheVariants.{Run, Serial, Check, Listing}
-use Rattle.command_line.specs.declared.request.Command.TheVariants.{Pairs, Explore}
-use Rattle.command_line.specs.declared.request.Command.TheVariants.{Labels, Places, Format, CheckFormat}
-use Rattle.command_line.specs.declared.request.Command.TheVariants.{View, Summary, Draw, Chrome, Cost}
-use Rattle.command_line.specs.declared.request.Command.TheVariants.{CostByLabel, CostByProcedure}
+use Rattle.command_line.specs.declared.request.Command.TheVariants.{Run, Serial, Check, Listing, Pairs}
+use Rattle.command_line.specs.declared.request.Command.TheVariants.{Explore, Labels, Places, Format}
+use Rattle.command_line.specs.declared.request.Command.TheVariants.{CheckFormat, View, Summary, Draw, Chrome}
+use Rattle.command_line.specs.declared.request.Command.TheVariants.{Cost, CostByLabel, CostByProcedure}
 
 -- the text spells a program that breaks no rule, of which this is the code
 pub record IsCodeOf (text : List ℕ) (code : Program) : Type 0 where

@@ -1,6 +1,5 @@
 -- Numbers of neighbouring offsets.
-use Rattle.std.specs.Prelude.{ℕ, ◌+◌, ◌-◌, ◌≤◌, ◌≡◌, ℤ, List, length, slice_get, nat_le}
-use Rattle.std.specs.Prelude.{None, if◌then◌else◌}
+use Rattle.std.specs.Prelude.{ℕ, ◌+◌, ◌-◌, ◌≤◌, ◌≡◌, ℤ, List, length, slice_get, nat_le, None, if◌then◌else◌}
 use Rattle.block_numbers.specs.Offsets.{Offsets}
 use Rattle.block_numbers.specs.declared.numbers.Numbers.{Numbers}
 

@@ -16,8 +16,7 @@ pub struct Numbers {
 }
 
 impl Numbers {
-    ghost use Rattle.std.specs.Prelude.{◌≡◌, ◌-◌, ◌<◌, ◌↔◌, IfOk, IsTrue, false, is_some};
-    ghost use Rattle.std.specs.Prelude.{[]};
+    ghost use Rattle.std.specs.Prelude.{◌≡◌, ◌-◌, ◌<◌, ◌↔◌, IfOk, IsTrue, false, is_some, []};
     ghost use Rattle.block_numbers.specs.Numbers.{ReachOver, number_in};
     ghost use Rattle.block_numbers.specs.Offsets.{Agree, HasAll, inside, put_at};
 

@@ -2,8 +2,7 @@
 use Rattle.std.proofs.Common.{◌≡◌, Option, None, Bool, true, false, refl, sym, ap}
 use Rattle.std.specs.Prelude.{ℤ, ◌||◌, option_map, if◌then◌else◌}
 use Rattle.sections.specs.Place.{Place}
-use Rattle.blocks.specs.Held.{Held, Map, Shared, only, IsThere}
-use Rattle.blocks.specs.Held.{number_of, numbers, as_shared}
+use Rattle.blocks.specs.Held.{Held, Map, Shared, only, IsThere, number_of, numbers, as_shared}
 use Rattle.block_rows.specs.Pieces.{taking}
 
 -- ---- numbers that are there

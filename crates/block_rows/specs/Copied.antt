@@ -1,6 +1,5 @@
 -- How many places are copied, at most, where others are moved.
-use Rattle.std.specs.Prelude.{ℕ, ◌+◌, ◌*◌, ◌/◌, ◌<◌, ◌≤◌, ◌≡◌, min, List, Bool, true, ◌&&◌, not}
-use Rattle.std.specs.Prelude.{nat_le, None}
+use Rattle.std.specs.Prelude.{ℕ, ◌+◌, ◌*◌, ◌/◌, ◌<◌, ◌≤◌, ◌≡◌, min, List, Bool, true, ◌&&◌, not, nat_le, None}
 use Rattle.std.specs.List.{count_by, range_with_len, sum_by}
 use Rattle.sections.specs.Covers.{has, is_cover}
 use Rattle.sections.specs.Place.{Place, Window}

@@ -1,7 +1,6 @@
 //! Places that move out.
 
-ghost use Rattle.std.specs.Prelude.{◌≡◌, ◌≤◌, ◌<◌, ◌+◌, ◌%◌, ◌||◌, ℕ, true, false, IfOk, IsSome};
-ghost use Rattle.std.specs.Prelude.{None};
+ghost use Rattle.std.specs.Prelude.{◌≡◌, ◌≤◌, ◌<◌, ◌+◌, ◌%◌, ◌||◌, ℕ, true, false, IfOk, IsSome, None};
 ghost use Rattle.std.specs.Prelude.{MatchOption, OnOk, map, nat_eq, if◌then◌else◌};
 ghost use Rattle.sections.specs.Covers.{has, is_cover, is_in};
 ghost use Rattle.sections.specs.Place.{Place};
@@ -38,8 +37,7 @@ impl Rows {
     ghost use Rattle.std.specs.Prelude.{◌&&◌, get_or, length, option_map};
     ghost use Rattle.blocks.specs.Held.{Owned as OwnedAs};
     ghost use Rattle.block_rows.specs.Carvings.{IsCut, IsMovable, IsPiece, IsWhole, StandClear};
-    ghost use Rattle.block_rows.specs.Carvings.{copied_places, cut_places, moved_places, moves};
-    ghost use Rattle.block_rows.specs.Carvings.{piece_of};
+    ghost use Rattle.block_rows.specs.Carvings.{copied_places, cut_places, moved_places, moves, piece_of};
     ghost use Rattle.block_rows.specs.Copied.{LiesWithin, split_places};
     ghost use Rattle.block_rows.specs.Rows.{block_of, held_in, in_block};
     ghost use Rattle.block_rows.specs.declared.carving.Carving.{Carving as CarvingOf};

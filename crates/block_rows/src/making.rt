@@ -1,7 +1,6 @@
 //! Rows of blocks from lists of numbers, and back.
 
-ghost use Rattle.std.specs.Prelude.{◌≡◌, ◌≤◌, ◌<◌, ◌+◌, ◌*◌, ℕ, IfOk, Some, get_or, length, map};
-ghost use Rattle.std.specs.Prelude.{pos};
+ghost use Rattle.std.specs.Prelude.{◌≡◌, ◌≤◌, ◌<◌, ◌+◌, ◌*◌, ℕ, IfOk, Some, get_or, length, map, pos};
 ghost use Rattle.std.specs.Prelude.{option_map, slice_get, unwrap_or};
 ghost use Rattle.std.specs.List.{All};
 ghost use Rattle.blocks.specs.Held.{Owned, as_owned, number_of, numbers};

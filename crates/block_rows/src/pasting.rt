@@ -12,9 +12,8 @@ use blocks::block::Block;
 use std::alloc::AllocError;
 
 impl Rows {
-    ghost use Rattle.std.specs.Prelude.{ℕ, ◌<◌, ◌≤◌, ◌&&◌, ◌%◌, IsSome, None, Some, List, false};
-    ghost use Rattle.std.specs.Prelude.{true, nat_eq};
-    ghost use Rattle.std.specs.Prelude.{option_map, if◌then◌else◌};
+    ghost use Rattle.std.specs.Prelude.{ℕ, ◌<◌, ◌≤◌, ◌&&◌, ◌%◌, IsSome, None, Some, List, false, true};
+    ghost use Rattle.std.specs.Prelude.{nat_eq, option_map, if◌then◌else◌};
     ghost use Rattle.sections.specs.Covers.{has, is_cover};
     ghost use Rattle.sections.specs.Place.{Place, Window};
     ghost use Rattle.blocks.specs.Blocks.{owned_at};

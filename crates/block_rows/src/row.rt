@@ -15,10 +15,8 @@ pub struct Row {
 }
 
 impl Row {
-    ghost use Rattle.std.specs.Prelude.{◌≡◌, ◌<◌, ◌&&◌, ℕ, IfOk, IsSome, IsTrue, OnErr, OnOk, Some};
-    ghost use Rattle.std.specs.Prelude.{None};
-    ghost use Rattle.std.specs.Prelude.{false, slice_get, is_some, nat_eq, option_copied};
-    ghost use Rattle.std.specs.Prelude.{if◌then◌else◌, ◌↔◌};
+    ghost use Rattle.std.specs.Prelude.{◌≡◌, ◌<◌, ◌&&◌, ℕ, IfOk, IsSome, IsTrue, OnErr, OnOk, Some, None};
+    ghost use Rattle.std.specs.Prelude.{false, slice_get, is_some, nat_eq, option_copied, if◌then◌else◌, ◌↔◌};
     ghost use Rattle.std.specs.Bool.{OnFalse, OnTrue};
     ghost use Rattle.blocks.specs.Held.{Owned, in_place_of, owned_number};
     ghost use Rattle.block_rows.specs.Rows.{block_in, held_of, IsAsBefore};

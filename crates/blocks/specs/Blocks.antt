@@ -1,6 +1,5 @@
 -- What a block holds.
-use Rattle.std.specs.Prelude.{◌-◌, get_or, ℤ}
-use Rattle.std.specs.Prelude.{Option, Some, None, option_map}
+use Rattle.std.specs.Prelude.{◌-◌, get_or, ℤ, Option, Some, None, option_map}
 use Rattle.std.specs.Arc.{arc_value}
 use Rattle.std.specs.Box.{box_value}
 use Rattle.blocks.specs.Held.{Held, Owned, Shared, owned_number, number_of}

@@ -1,6 +1,5 @@
 -- What is held of the arrays: at some places a number, owned or as a copy.
-use Rattle.std.specs.Prelude.{◌≡◌, Bool, true, ℤ}
-use Rattle.std.specs.Prelude.{Option, Some, None, is_some, option_map, if◌then◌else◌}
+use Rattle.std.specs.Prelude.{◌≡◌, Bool, true, ℤ, Option, Some, None, is_some, option_map, if◌then◌else◌}
 use Rattle.sections.specs.Place.{Place, same_place}
 
 -- a number that is held

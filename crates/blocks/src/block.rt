@@ -26,9 +26,8 @@ pub enum Block {
 }
 
 impl Block {
-    ghost use Rattle.std.specs.Prelude.{◌≡◌, ◌↔◌, ◌<◌, ◌≤◌, ◌-◌, ℕ, true, false, pos, IfOk, IsTrue};
-    ghost use Rattle.std.specs.Prelude.{None, OnErr, get_or, is_some, length, option_map, slice_get};
-    ghost use Rattle.std.specs.Prelude.{unwrap_or};
+    ghost use Rattle.std.specs.Prelude.{◌≡◌, ◌↔◌, ◌<◌, ◌≤◌, ◌-◌, ℕ, true, false, pos, IfOk, IsTrue, None};
+    ghost use Rattle.std.specs.Prelude.{OnErr, get_or, is_some, length, option_map, slice_get, unwrap_or};
     ghost use Rattle.block_numbers.specs.Numbers.{number_in};
     ghost use Rattle.blocks.specs.Blocks.{held_at, kind_of, number_at, owned_at};
     ghost use Rattle.blocks.specs.Held.{Owned, Shared};

@@ -10,8 +10,7 @@ use std::mem;
 use std::sync::Arc;
 
 impl Block {
-    ghost use Rattle.std.specs.Prelude.{◌≡◌, ◌<◌, ◌≤◌, ◌-◌, ℕ, IfOk, IfSome, None, OnErr, OnOk};
-    ghost use Rattle.std.specs.Prelude.{false, true};
+    ghost use Rattle.std.specs.Prelude.{◌≡◌, ◌<◌, ◌≤◌, ◌-◌, ℕ, IfOk, IfSome, None, OnErr, OnOk, false, true};
     ghost use Rattle.block_numbers.specs.Numbers.{ReachOver, number_in};
     ghost use Rattle.blocks.specs.Blocks.{held_at, held_in, owned_at};
     ghost use Rattle.block_numbers.specs.Offsets.{Agree, HasAll, HasOnly, IsWithin, in_range};

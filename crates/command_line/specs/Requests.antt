@@ -1,16 +1,14 @@
 -- What the words of a command line ask.
-use Rattle.std.specs.Prelude.{ℕ, ◌≡◌, ◌<◌, ◌≤◌, ◌^◌, List, [], ◌∷◌, codes}
-use Rattle.std.specs.Prelude.{Bool, true, false, not, Option, None, Some}
-use Rattle.std.specs.Prelude.{nat_eq, IsTrue, IfSome, option_map, unwrap_or}
+use Rattle.std.specs.Prelude.{ℕ, ◌≡◌, ◌<◌, ◌≤◌, ◌^◌, List, [], ◌∷◌, codes, Bool, true, false, not, Option}
+use Rattle.std.specs.Prelude.{None, Some, nat_eq, IsTrue, IfSome, option_map, unwrap_or}
 use Rattle.std.specs.Fmt.{decimal}
 use Rattle.types.specs.Outcome.{Budget}
 use Rattle.types.specs.Translation.{budget as budget_of}
 use Rattle.command_line.specs.declared.request.Command.{Command}
-use Rattle.command_line.specs.declared.request.Command.TheVariants.{Run, Serial, Check, Pairs}
-use Rattle.command_line.specs.declared.request.Command.TheVariants.{Explore, Places, Listing}
-use Rattle.command_line.specs.declared.request.Command.TheVariants.{Labels, Format, CheckFormat}
-use Rattle.command_line.specs.declared.request.Command.TheVariants.{View, Summary, Draw, Chrome, Cost}
-use Rattle.command_line.specs.declared.request.Command.TheVariants.{CostByLabel, CostByProcedure}
+use Rattle.command_line.specs.declared.request.Command.TheVariants.{Run, Serial, Check, Pairs, Explore}
+use Rattle.command_line.specs.declared.request.Command.TheVariants.{Places, Listing, Labels, Format}
+use Rattle.command_line.specs.declared.request.Command.TheVariants.{CheckFormat, View, Summary, Draw, Chrome}
+use Rattle.command_line.specs.declared.request.Command.TheVariants.{Cost, CostByLabel, CostByProcedure}
 use Rattle.command_line.specs.declared.request.Action.{Action}
 use Rattle.command_line.specs.declared.request.Action.TheVariants.{Answer, Rewrite}
 use Rattle.command_line.specs.declared.manner.Manner.{Manner}

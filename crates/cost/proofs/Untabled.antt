@@ -8,8 +8,7 @@ use Rattle.types.specs.Outcome.{Budget, start}
 use Rattle.types.specs.Run.{State, Work, Block}
 use Rattle.cost.specs.declared.tally.Tally.{Tally}
 use Rattle.cost.specs.Books.{after_booked, beginning_booked}
-use Rattle.cost.specs.Accounts.{Account, account_of, accounted, accounted_rules, accounting}
-use Rattle.cost.specs.Accounts.{nothing_noted}
+use Rattle.cost.specs.Accounts.{Account, account_of, accounted, accounted_rules, accounting, nothing_noted}
 use Rattle.cost.specs.Costs.{tallied, tally_of, tallying}
 use Rattle.cost.specs.Laws.{totals}
 use Rattle.cost.proofs.Seen.{nested-seen}

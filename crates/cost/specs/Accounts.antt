@@ -9,8 +9,7 @@ use Rattle.types.specs.Outcome.{Budget, start}
 use Rattle.types.specs.Run.{State, Rules, Work, Block}
 use Rattle.cost.specs.Books.{Book, booked, booked_rules}
 use Rattle.cost.specs.declared.tally.Tally.{Tally}
-use Rattle.cost.specs.Costs.{begins_task, ends_task, enters_finish, leaves_finish, nothing_done}
-use Rattle.cost.specs.Costs.{one_more}
+use Rattle.cost.specs.Costs.{begins_task, ends_task, enters_finish, leaves_finish, nothing_done, one_more}
 
 -- a tally; and by label how many steps all tasks took, how many of these lie on the longest chain that
 -- leads to where the task is, and how many on the longest to the end of a task that ended in its innermost

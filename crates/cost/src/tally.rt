@@ -1,8 +1,7 @@
 //! What was done so far in a run, and what of it comes one behind the other.
 
 ghost use Rattle.std.specs.Prelude.{◌≡◌, ◌+◌, IfOk, OnOk};
-ghost use Rattle.cost.specs.Costs.{begins_task, ends_task, enters_finish};
-ghost use Rattle.cost.specs.Costs.{leaves_finish, one_more};
+ghost use Rattle.cost.specs.Costs.{begins_task, ends_task, enters_finish, leaves_finish, one_more};
 
 use std::alloc::AllocError;
 

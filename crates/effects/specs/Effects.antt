@@ -2,8 +2,7 @@
 use Rattle.std.specs.Prelude.{ℕ, ◌≡◌, List, [], ◌∷◌, nat_eq, ◌||◌, if◌then◌else◌}
 use Rattle.std.proofs.Common.{refl}
 use Rattle.sections.specs.Member.{Member}
-use Rattle.types.specs.Code.{Number, Truth, Code, If, While, Split, Call, Async, Finish, Codes}
-use Rattle.types.specs.Code.{Then, Program}
+use Rattle.types.specs.Code.{Number, Truth, Code, If, While, Split, Call, Async, Finish, Codes, Then, Program}
 use Rattle.types.specs.Run.{procedure_of}
 use Rattle.types.specs.Sound.{passed_for}
 use Rattle.effects.specs.Accesses.{Access, own_accesses}

@@ -1,6 +1,5 @@
 -- What calls bring from the rows of their procedures into those of the caller.
-use Rattle.std.specs.Prelude.{ℕ, ◌+◌, List, [], ◌∷◌, ◌++◌, Bool, true, false, nat_lt}
-use Rattle.std.specs.Prelude.{if◌then◌else◌}
+use Rattle.std.specs.Prelude.{ℕ, ◌+◌, List, [], ◌∷◌, ◌++◌, Bool, true, false, nat_lt, if◌then◌else◌}
 use Rattle.sections.specs.declared.id.SectionId.{SectionId}
 use Rattle.types.specs.Code.{Code, Do, If, While, Split, Call, Async, Finish}
 use Rattle.types.specs.declared.ids.ProcedureId.{ProcedureId}

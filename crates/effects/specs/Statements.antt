@@ -1,7 +1,6 @@
 -- The statements of a program, at any depth.
 use Rattle.std.specs.Prelude.{ℕ}
-use Rattle.types.specs.Code.{Number, Truth, Code, If, While, Split, Async, Finish, Codes, Then}
-use Rattle.types.specs.Code.{Program}
+use Rattle.types.specs.Code.{Number, Truth, Code, If, While, Split, Async, Finish, Codes, Then, Program}
 use Rattle.types.specs.Run.{procedure_of}
 
 -- the blocks that stand inside a statement; what a call runs stands in its procedure

@@ -1,6 +1,5 @@
 -- Summaries: what each procedure may do and leaves pending.
-use Rattle.std.specs.Prelude.{ℕ, ◌≡◌, ◌+◌, ◌↔◌, List, length, Some, slice_get}
-use Rattle.std.specs.Prelude.{if◌then◌else◌, nat_eq}
+use Rattle.std.specs.Prelude.{ℕ, ◌≡◌, ◌+◌, ◌↔◌, List, length, Some, slice_get, if◌then◌else◌, nat_eq}
 use Rattle.types.specs.Code.{Codes, Program}
 use Rattle.types.specs.Run.{procedure_of}
 use Rattle.effects.specs.Accesses.{Access}

@@ -1,8 +1,7 @@
 -- All and Pending as lists, over tables of what each procedure's body has.
 use Rattle.std.specs.Prelude.{ℕ, zero, suc, List, [], ◌++◌, map, ◌↔◌}
 use Rattle.sections.specs.Member.{Member}
-use Rattle.types.specs.Code.{Code, Do, If, While, Split, Call, Async, Finish, Codes, End, Then}
-use Rattle.types.specs.Code.{Program}
+use Rattle.types.specs.Code.{Code, Do, If, While, Split, Call, Async, Finish, Codes, End, Then, Program}
 use Rattle.types.specs.Run.{procedure_of}
 use Rattle.types.specs.Sound.{passed_for}
 use Rattle.effects.specs.Effects.{past_split, Subject, All, Pending}

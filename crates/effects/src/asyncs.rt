@@ -2,8 +2,7 @@
 
 ghost use Rattle.std.specs.Prelude.{◌≡◌, ℕ, IfOk, OnOk};
 ghost use Rattle.types.specs.Code.{Async};
-ghost use Rattle.types.specs.Translation.{code as plain_code, codes as codes_of};
-ghost use Rattle.types.specs.Translation.{program as program_of};
+ghost use Rattle.types.specs.Translation.{code as plain_code, codes as codes_of, program as program_of};
 ghost use Rattle.effects.specs.AsyncNeeds.{IsNeedAt, Keeps, needs_at};
 ghost use Rattle.effects.specs.Sound.{IsSound};
 ghost use Rattle.effects.specs.Statements.{HasStatement, IsPartOf, Stands};

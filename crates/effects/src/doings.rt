@@ -3,8 +3,7 @@
 ghost use Rattle.std.specs.Prelude.{◌≡◌, ◌<◌, OnOk, length, map};
 ghost use Rattle.sections.specs.Translation.{section as section_of};
 ghost use Rattle.types.specs.Run.{procedure_of};
-ghost use Rattle.types.specs.Translation.{code as plain_code, codes as codes_of};
-ghost use Rattle.types.specs.Translation.{program as program_of};
+ghost use Rattle.types.specs.Translation.{code as plain_code, codes as codes_of, program as program_of};
 ghost use Rattle.types.specs.Sound.{passed_for};
 ghost use Rattle.effects.specs.Effects.{accesses, All};
 ghost use Rattle.effects.specs.Firsts.{AddsFirsts, kept_in};

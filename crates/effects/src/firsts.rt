@@ -5,8 +5,7 @@ ghost use Rattle.sections.specs.Member.{Member};
 ghost use Rattle.sections.specs.Translation.{section as section_of};
 ghost use Rattle.effects.specs.AccessSets.{HasAccess};
 ghost use Rattle.effects.specs.Effects.{past_split, renamed};
-ghost use Rattle.effects.specs.Firsts.{AreFirsts, AreFirstsIn, IsAlikeAt, kept_in};
-ghost use Rattle.effects.specs.Firsts.{IsPassed, IsPassedAs};
+ghost use Rattle.effects.specs.Firsts.{AreFirsts, AreFirstsIn, IsAlikeAt, kept_in, IsPassed, IsPassedAs};
 ghost use Rattle.effects.specs.Translation.{access as access_of};
 
 use crate::access::Access;

@@ -1,7 +1,6 @@
 //! Laws of the definitions, each the contract of a function that does nothing.
 
-ghost use Rattle.std.specs.Prelude.{◌≡◌, ◌⊎◌, ◌↔◌, ℕ, ℤ, List, [], ◌∷◌, map, length};
-ghost use Rattle.std.specs.Prelude.{Some};
+ghost use Rattle.std.specs.Prelude.{◌≡◌, ◌⊎◌, ◌↔◌, ℕ, ℤ, List, [], ◌∷◌, map, length, Some};
 ghost use Rattle.sections.specs.Place.{Place, Window, sides_of};
 ghost use Rattle.sections.specs.Member.{Member};
 ghost use Rattle.sections.specs.Origins.{IsNumbered};
@@ -9,16 +8,14 @@ ghost use Rattle.types.specs.Code.{Number, Truth, Primitive, Code, Do, Split, Ca
 ghost use Rattle.types.specs.Code.{Procedure, Program};
 ghost use Rattle.types.specs.Indexed.{indexed, indexed_truth};
 ghost use Rattle.types.specs.Value.{Environment, number, truth};
-ghost use Rattle.types.specs.Run.{State, Rules, Work, run, primitive, procedure_of, entry};
-ghost use Rattle.types.specs.Run.{with_sides};
+ghost use Rattle.types.specs.Run.{State, Rules, Work, run, primitive, procedure_of, entry, with_sides};
 ghost use Rattle.types.specs.Meaning.{one_rules};
 ghost use Rattle.types.specs.Outcome.{whole_arrays};
 ghost use Rattle.effects.specs.Accesses.{Access, own_accesses, reads};
 ghost use Rattle.effects.specs.Effects.{accesses, labels, AllOf, All, PendingOf, Pending};
 ghost use Rattle.effects.specs.Rows.{IsLeastSolution};
-ghost use Rattle.effects.specs.Footprint.{Touches, Overwrites, MayTouch, MayWrite, MayTouchOf};
-ghost use Rattle.effects.specs.Footprint.{MayWriteOf, MayStillTouch, MayStillWrite};
-ghost use Rattle.effects.specs.Footprint.{MayStillTouchOf, MayStillWriteOf};
+ghost use Rattle.effects.specs.Footprint.{Touches, Overwrites, MayTouch, MayWrite, MayTouchOf, MayWriteOf};
+ghost use Rattle.effects.specs.Footprint.{MayStillTouch, MayStillWrite, MayStillTouchOf, MayStillWriteOf};
 ghost use Rattle.effects.specs.Tables.{Table, IsDerived, IsDerivedPending, IsStable, IsStablePending};
 ghost use Rattle.effects.specs.Tables.{StableIsLeast};
 ghost use Rattle.effects.specs.Rounds.{possible, summaries, pending_summaries, needs_of};

@@ -2,8 +2,7 @@
 
 ghost use Rattle.std.specs.Prelude.{◌≡◌, ◌≤◌, ◌<◌, ℕ, IfOk, OnOk, map, length, slice_index_or};
 ghost use Rattle.sections.specs.Translation.{section as section_of};
-ghost use Rattle.effects.specs.Needs.{also, needs_by, others_by, written_by};
-ghost use Rattle.effects.specs.Needs.{among as is_among};
+ghost use Rattle.effects.specs.Needs.{also, needs_by, others_by, written_by, among as is_among};
 ghost use Rattle.effects.specs.Translation.{access as access_of, needs as needs_in};
 
 use crate::access::Access;

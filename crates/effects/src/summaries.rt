@@ -36,8 +36,7 @@ pub fn summarize(alloc: Global, typed: &Typed) -> Result<Summaries, AllocError>
 }
 
 impl Summaries {
-    ghost use Rattle.effects.specs.Summarized.{summaries_of, body_of};
-    ghost use Rattle.effects.specs.Summarized.{IsSummary};
+    ghost use Rattle.effects.specs.Summarized.{summaries_of, body_of, IsSummary};
     ghost use Rattle.std.specs.Prelude.{option_map};
     ghost use Rattle.std.specs.Option.{option_copied};
     ghost use Rattle.effects.specs.AsyncNeeds.{IsNeedAt};

@@ -3,12 +3,9 @@ use Rattle.std.specs.Prelude.{ℕ, List}
 use Rattle.types.specs.declared.path.Path.{Path}
 use Rattle.types.specs.declared.scope_id.ScopeId.{ScopeId as rScopeId}
 use Rattle.events.specs.declared.event.Event.{Event as rEvent}
-use Rattle.events.specs.declared.event.Event.TheVariants.{Take as rTake, Steal as rSteal}
-use Rattle.events.specs.declared.event.Event.TheVariants.{Step as rStep}
-use Rattle.events.specs.declared.event.Event.TheVariants.{Replenish as rReplenish}
-use Rattle.events.specs.declared.event.Event.TheVariants.{Spawn as rSpawn}
-use Rattle.events.specs.declared.event.Event.TheVariants.{Open as rOpen, Park as rPark}
-use Rattle.events.specs.declared.event.Event.TheVariants.{End as rEnd}
+use Rattle.events.specs.declared.event.Event.TheVariants.{Take as rTake, Steal as rSteal, Step as rStep}
+use Rattle.events.specs.declared.event.Event.TheVariants.{Replenish as rReplenish, Spawn as rSpawn}
+use Rattle.events.specs.declared.event.Event.TheVariants.{Open as rOpen, Park as rPark, End as rEnd}
 use Rattle.events.specs.declared.event.Event.TheVariants.{Pass as rPass, Resume as rResume}
 
 -- a scope's name: the path of its owner, and which of its finishes it is, from 1

@@ -2,8 +2,7 @@
 
 ghost use Rattle.std.specs.Prelude.{◌≡◌, IfOk};
 ghost use Rattle.types.specs.Contents.{FitsArrays};
-ghost use Rattle.types.specs.Translation.{budget as budget_of, input as lists_in};
-ghost use Rattle.types.specs.Translation.{program as program_of};
+ghost use Rattle.types.specs.Translation.{budget as budget_of, input as lists_in, program as program_of};
 ghost use Rattle.types.specs.Typed.{code_of};
 ghost use Rattle.own_run.specs.Runs.{root as root_of};
 ghost use Rattle.own_run.specs.Translation.{start as start_of};

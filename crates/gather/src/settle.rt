@@ -4,8 +4,7 @@ ghost use Rattle.std.specs.Prelude.{◌≡◌, ◌<◌, [], IfErr, IfOk, IsTrue,
 ghost use Rattle.std.specs.List.{list_any};
 ghost use Rattle.sections.specs.Place.{Place};
 ghost use Rattle.own_run.specs.Settling.{settle as settle_of};
-ghost use Rattle.own_run.specs.Translation.{owned_by, settled as settled_of};
-ghost use Rattle.own_run.specs.Translation.{task_result as result_of};
+ghost use Rattle.own_run.specs.Translation.{owned_by, settled as settled_of, task_result as result_of};
 ghost use Rattle.gather.specs.GivesBack.{GiveBack, all_owned};
 ghost use Rattle.types.specs.Translation.{is_path};
 ghost use Rattle.gather.specs.PartRefusal.{TellsLeftOver};

@@ -30,8 +30,7 @@ pub struct Table {
 }
 
 impl Table {
-    ghost use Rattle.std.specs.Prelude.{◌+◌, [], IfNone, IfOk, IfSome, List, MatchOption};
-    ghost use Rattle.std.specs.Prelude.{length, map};
+    ghost use Rattle.std.specs.Prelude.{◌+◌, [], IfNone, IfOk, IfSome, List, MatchOption, length, map};
     ghost use Rattle.gather.specs.Left.{left_of};
     ghost use Rattle.own_run.specs.Settling.{take as take_of};
     ghost use Rattle.own_run.specs.Translation.{task_result as result_of};

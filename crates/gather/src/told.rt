@@ -2,8 +2,7 @@
 
 ghost use Rattle.std.specs.Prelude.{◌≡◌, IfOk, map};
 ghost use Rattle.types.specs.Contents.{shown as shown_in};
-ghost use Rattle.types.specs.Translation.{array as array_of, outcome as outcome_of};
-ghost use Rattle.types.specs.Translation.{program as program_of};
+ghost use Rattle.types.specs.Translation.{array as array_of, outcome as outcome_of, program as program_of};
 ghost use Rattle.own_run.specs.Given.{told_of};
 ghost use Rattle.own_run.specs.Translation.{contents_of, settled as settled_of};
 

@@ -20,8 +20,7 @@ pub struct Holdings {
 
 impl Holdings {
     ghost use Rattle.std.specs.Prelude.{◌≡◌, ◌<◌, ◌↔◌, IfErr, IfOk, IsSome, IsTrue, None, OnErr, OnOk};
-    ghost use Rattle.std.specs.Prelude.{is_some, map};
-    ghost use Rattle.std.specs.Prelude.{ok_or};
+    ghost use Rattle.std.specs.Prelude.{is_some, map, ok_or};
     ghost use Rattle.std.specs.Bool.{OnFalse, OnTrue};
     ghost use Rattle.sections.specs.Place.{Place as PlainPlace};
     ghost use Rattle.sections.specs.Covers.{has};

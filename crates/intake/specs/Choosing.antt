@@ -5,8 +5,7 @@ use Rattle.intake.specs.Choices.{said_by, filed_by}
 use Rattle.intake.specs.Held.{Held, IsGiven}
 use Rattle.command_line.specs.Requests.{Choosing, Listed, InFile, Random}
 use Rattle.intake.specs.declared.failure.Failure.{Failure}
-use Rattle.intake.specs.declared.failure.Failure.TheVariants.{CannotRead, NoMemory}
-use Rattle.intake.specs.declared.failure.Failure.TheVariants.{ChoicesNotUnderstood}
+use Rattle.intake.specs.declared.failure.Failure.TheVariants.{CannotRead, NoMemory, ChoicesNotUnderstood}
 use Rattle.intake.specs.declared.files.FileError.TheVariants.{Failed as Unread}
 
 -- the file of this name says these choices, or none

@@ -34,8 +34,7 @@ use Rattle.interleave.specs.Events.{issue, give_back, new_scope, next, first_wor
 use Rattle.interleave.specs.Replay.{does, hands_on}
 use Rattle.interleave.specs.Worlds.{LeadsTo}
 use Rattle.interleave.proofs.Lookups.{by_test}
-use Rattle.interleave.proofs.Changes.{IsOpen, IsEnd, Becomes}
-use Rattle.interleave.proofs.Changes.{becomes}
+use Rattle.interleave.proofs.Changes.{IsOpen, IsEnd, Becomes, becomes}
 use Rattle.interleave.proofs.Events.{rebooked}
 use Rattle.interleave.proofs.OwnTasks.{nexts, hands}
 use Rattle.interleave.proofs.Outcomes.{IsSound, first_sound, list_sound, replays_are_worlds}

@@ -31,8 +31,7 @@ use Rattle.interleave.specs.Events.{Event, Take, Steal, Steps, Replenish, Spawns
 use Rattle.interleave.specs.Events.{did, new_task}
 use Rattle.interleave.proofs.Lookups.{by_test, other_path, task-without_task, gone-without_task}
 use Rattle.interleave.proofs.Histories.{nil_snoc}
-use Rattle.interleave.proofs.Changes.{IsQuiet, IsReplenish, IsSpawn, IsOpen, IsPark, IsEnd, IsResume}
-use Rattle.interleave.proofs.Changes.{Becomes}
+use Rattle.interleave.proofs.Changes.{IsQuiet, IsReplenish, IsSpawn, IsOpen, IsPark, IsEnd, IsResume, Becomes}
 use Rattle.interleave.proofs.Kept.{Kept}
 use Rattle.interleave.proofs.Steps.{put_cases}
 use Rattle.interleave.proofs.Levels.{depth, depth-append, depth-last_action, take_next}

@@ -13,8 +13,7 @@ use Rattle.own_run.proofs.SettledResults.{paths_same}
 use Rattle.interleave.specs.World.{same_path, ScopeId, Stake, Live, Scope, World, Whereabouts, Queue, Hand, Parked}
 use Rattle.interleave.specs.World.{same_scope, task, put_task, without_task, scope, put_scope, weight_in, held}
 use Rattle.interleave.specs.World.{is_parked}
-use Rattle.interleave.specs.Events.{Event, Spawns, Opens, Ends, Resume}
-use Rattle.interleave.specs.Events.{give_back, did, new_scope}
+use Rattle.interleave.specs.Events.{Event, Spawns, Opens, Ends, Resume, give_back, did, new_scope}
 use Rattle.interleave.specs.History.{Told, opened_more, left_one, told}
 use Rattle.interleave.proofs.Lookups.{by_test, path_is, path_not, other_path, scopes_same}
 use Rattle.interleave.proofs.Lookups.{task-without_task, unique-without_task, gone-without_task, each-without_task}

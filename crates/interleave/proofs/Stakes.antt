@@ -6,8 +6,7 @@ use Rattle.facts.proofs.Lists.{same_head, same_rest}
 use Rattle.own_run.specs.Lists.{Each}
 use Rattle.interleave.specs.World.{ScopeId, Stake, Whereabouts, Queue, Hand, Parked, same_scope, weight_in, is_parked}
 use Rattle.interleave.proofs.Lookups.{scope_is}
-use Rattle.interleave.proofs.Histories.{contains_nil, contains_here, contains_later, contains_cons}
-use Rattle.interleave.proofs.Histories.{nil_cons}
+use Rattle.interleave.proofs.Histories.{contains_nil, contains_here, contains_later, contains_cons, nil_cons}
 
 abbrev pub scope_of : Stake → ScopeId
 scope_of s = s.scope

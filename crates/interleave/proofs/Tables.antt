@@ -1,8 +1,7 @@
 -- A world in Rust after an event: its tables, the hands, and the events that led to it.
 use Rattle.std.proofs.Common.{◌≡◌, ℕ, List, [], ◌∷◌, ◌++◌, Option, Some, None, refl, sym, ap, ◌∙◌, subst}
 use Rattle.std.proofs.lemmas.Option.{none-some, same_Some}
-use Rattle.std.specs.Prelude.{Bool, true, false, ◌&&◌, not, ℤ, if◌then◌else◌}
-use Rattle.std.specs.Prelude.{is_some}
+use Rattle.std.specs.Prelude.{Bool, true, false, ◌&&◌, not, ℤ, if◌then◌else◌, is_some}
 use Rattle.types.specs.Code.{Program}
 use Rattle.types.specs.Outcome.{Budget}
 use Rattle.types.specs.declared.path.Path.{Path}

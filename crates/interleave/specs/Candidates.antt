@@ -2,8 +2,7 @@
 -- some task, is legal, or a task wants weight from a scope that has issued 2^31 times.
 use Rattle.std.specs.Prelude.{ℕ, List, [], ◌∷◌}
 use Rattle.interleave.specs.World.{Stake, Whereabouts, Queue, Hand, Parked}
-use Rattle.interleave.specs.Events.{Event, Take, Steps, Replenish, Spawns, Opens, Parks, Ends}
-use Rattle.interleave.specs.Events.{Pass, Resume}
+use Rattle.interleave.specs.Events.{Event, Take, Steps, Replenish, Spawns, Opens, Parks, Ends, Pass, Resume}
 
 -- in a hand
 abbrev pub in_hand : (path : List ℕ) → List Event

@@ -8,8 +8,7 @@ use Rattle.own_run.specs.Settling.{settle}
 use Rattle.own_run.specs.OwnRun.{Start, Action, actions_of, result_of, run_by}
 use Rattle.own_run.specs.Given.{root_of, told_of}
 use Rattle.interleave.specs.World.{World, scope, root_scope, task}
-use Rattle.interleave.specs.Events.{only_if}
-use Rattle.interleave.specs.Events.{Event, next, first_world}
+use Rattle.interleave.specs.Events.{only_if, Event, next, first_world}
 
 -- a world, or the number of the first event that isn't legal
 pub data Replayed : Type 0 where

@@ -7,8 +7,7 @@ use Rattle.interleave.specs.Shown.{Shows}
 use Rattle.interleave.specs.World.{World}
 use Rattle.interleave.specs.Worlds.{replayed}
 use Rattle.interleave.specs.declared.error.ReplayError.{ReplayError}
-use Rattle.interleave.specs.declared.error.ReplayError.TheVariants.{IllegalAt as rIllegalAt}
-use Rattle.interleave.specs.declared.error.ReplayError.TheVariants.{NoMemory}
+use Rattle.interleave.specs.declared.error.ReplayError.TheVariants.{IllegalAt as rIllegalAt, NoMemory}
 use Rattle.events.specs.declared.event.Event.{Event as rEvent}
 use Rattle.interleave.specs.declared.job.WeightedJob.{WeightedJob}
 use Rattle.interleave.specs.declared.world.World.{World as rWorld}

@@ -16,9 +16,8 @@ use Rattle.gather.specs.declared.job.Job.{Job}
 use Rattle.interleave.specs.Courses.{Course, course_of, further, IsDoing, IsLooked}
 use Rattle.interleave.specs.Events.{Event}
 use Rattle.interleave.specs.Jobs.{IsWeightedJob}
-use Rattle.interleave.specs.World.{Stake, Live, Scope, World}
-use Rattle.interleave.specs.World.{Whereabouts, Queue, Hand, Parked}
-use Rattle.interleave.specs.World.{task, scope, hand_is_free, has_passed, root_scope}
+use Rattle.interleave.specs.World.{Stake, Live, Scope, World, Whereabouts, Queue, Hand, Parked, task, scope}
+use Rattle.interleave.specs.World.{hand_is_free, has_passed, root_scope}
 use Rattle.interleave.specs.Worlds.{LeadsTo, event_of}
 use Rattle.interleave.specs.declared.doing.Doing.{Doing}
 use Rattle.interleave.specs.declared.error.EventError.{EventError}

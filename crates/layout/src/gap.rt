@@ -3,8 +3,7 @@
 ghost use Rattle.std.specs.Prelude.{◌≡◌, ◌<◌, ◌+◌, ◌^◌};
 ghost use Rattle.syntax.specs.Canonical.{begins_line, is_closing, is_opening};
 ghost use Rattle.syntax.specs.Token.{token as token_tree};
-ghost use Rattle.layout.specs.Gap.{comment_gap, token_gap, line_gap, space_gap, space_unless};
-ghost use Rattle.layout.specs.Gap.{keeps_empty};
+ghost use Rattle.layout.specs.Gap.{comment_gap, token_gap, line_gap, space_gap, space_unless, keeps_empty};
 ghost use Rattle.layout.specs.Gap.{inner_levels, token_levels, is_right_brace};
 ghost use Rattle.layout.specs.Spot.{spot as spot_of};
 

@@ -8,10 +8,8 @@ use Rattle.intake.specs.Held.{Held}
 use Rattle.intake.specs.declared.failure.Failure.{Failure}
 use Rattle.intake.specs.declared.failure.Failure.TheVariants.{NoMemory}
 use Rattle.race_checker.specs.Clash.{IsAccepted}
-use Rattle.answers.specs.Answers.{Explains, IsRunBy, LooksForRaces}
-use Rattle.answers.specs.Answers.{TellsNotBegun}
-use Rattle.answers.proofs.Answering.{IsOther, other_failure}
-use Rattle.answers.proofs.Answering.{not_begun_explained, not_begun_other}
+use Rattle.answers.specs.Answers.{Explains, IsRunBy, LooksForRaces, TellsNotBegun}
+use Rattle.answers.proofs.Answering.{IsOther, other_failure, not_begun_explained, not_begun_other}
 use Rattle.objects.specs.Objects.{FailsEarly}
 
 module _ (c : Command) (s : Settings) (held : Held) (text : List ℕ) where

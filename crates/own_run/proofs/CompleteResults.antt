@@ -16,8 +16,7 @@ use Rattle.own_run.specs.Given.{filled, in_truth, comes_to, own, below}
 use Rattle.own_run.specs.Frames.{IsBegun, IsGivenChild}
 use Rattle.std.specs.Cmp.Lexicographic.{pointwise}
 use Rattle.sections.proofs.Covering.{is_in-from}
-use Rattle.own_run.specs.Settling.{behind, take, fill_all, settle_within, none_left, settle, Parted}
-use Rattle.own_run.specs.Settling.{IsParted}
+use Rattle.own_run.specs.Settling.{behind, take, fill_all, settle_within, none_left, settle, Parted, IsParted}
 use Rattle.own_run.specs.Lists.{Each, Inserted, here, later, Shuffled, none, one}
 use Rattle.own_run.proofs.Lists.{each_more}
 use Rattle.own_run.specs.Settling.{NoTwice}

@@ -11,9 +11,8 @@ use Rattle.types.specs.Run.{fault, number_at, numbers_at, truth_at, window_at, e
 use Rattle.types.specs.Run.{procedure_of, primitive, counted, run}
 use Rattle.effects.specs.Needs.{Needs}
 use Rattle.own_run.specs.Results.{TaskResult, Settled}
-use Rattle.own_run.specs.OwnRun.{Start, Child, Action, Step, Spawn, EnterFinish, EndFinish, Own}
-use Rattle.own_run.specs.OwnRun.{notes, child_of, begun_by, go_on_with, own_rules, from_receipts}
-use Rattle.own_run.specs.OwnRun.{run_by}
+use Rattle.own_run.specs.OwnRun.{Start, Child, Action, Step, Spawn, EnterFinish, EndFinish, Own, notes}
+use Rattle.own_run.specs.OwnRun.{child_of, begun_by, go_on_with, own_rules, from_receipts, run_by}
 use Rattle.own_run.specs.Given.{in_truth, own, given}
 use Rattle.own_run.specs.Lists.{Each}
 

@@ -8,8 +8,7 @@ use Rattle.types.specs.Outcome.{Outcome, outcome_by, whole_arrays}
 use Rattle.effects.specs.Needs.{Needs}
 use Rattle.own_run.specs.Apart.{nothing, stops_anywhere, merged, apart}
 use Rattle.own_run.specs.Results.{TaskResult, Settled, none_yet, fill, complete, and_then}
-use Rattle.own_run.specs.OwnRun.{Start, Child, Own, beginning, result_of, begun_by, kth, flow_after}
-use Rattle.own_run.specs.OwnRun.{own_run}
+use Rattle.own_run.specs.OwnRun.{Start, Child, Own, beginning, result_of, begun_by, kth, flow_after, own_run}
 
 module _ (p : Program) (needs : Codes → Needs) (fresh : ℕ) where
   -- what comes of a start

@@ -8,8 +8,7 @@ use Rattle.own_run.specs.declared.frame.Frame.TheVariants.{Rest, Again, EndFinis
 use Rattle.own_run.specs.declared.run.Run.{Run}
 use Rattle.own_run.specs.declared.turn.Paused.{Paused}
 use Rattle.own_run.specs.declared.turn.Turn.{Turn}
-use Rattle.own_run.specs.declared.turn.Turn.TheVariants.{Going, Spawns, EntersFinish, EndsFinish}
-use Rattle.own_run.specs.declared.turn.Turn.TheVariants.{Ended, Over}
+use Rattle.own_run.specs.declared.turn.Turn.TheVariants.{Going, Spawns, EntersFinish, EndsFinish, Ended, Over}
 
 -- how many turns a step may lead to, where so many asyncs may stand inside one another: a child
 -- has as many fresh steps, with less nest

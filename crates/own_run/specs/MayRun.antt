@@ -15,8 +15,7 @@ use Rattle.own_run.specs.declared.result.TaskResult.{TaskResult}
 use Rattle.own_run.specs.declared.run.Run.{Run}
 use Rattle.own_run.specs.declared.turn.Paused.{Paused}
 use Rattle.own_run.specs.declared.turn.Turn.{Turn}
-use Rattle.own_run.specs.declared.turn.Turn.TheVariants.{Going, Spawns, EntersFinish, EndsFinish}
-use Rattle.own_run.specs.declared.turn.Turn.TheVariants.{Ended, Over}
+use Rattle.own_run.specs.declared.turn.Turn.TheVariants.{Going, Spawns, EntersFinish, EndsFinish, Ended, Over}
 
 -- the run stands for a task of the program's, on this input and under this budget
 pub record MayRun (p : Program) (input : List (List ℤ)) (b : Budget) (r : Run) : Type 0 where

@@ -12,8 +12,7 @@ use Rattle.statement_steps.specs.Primitive.{CanStore}
 use Rattle.statement_steps.specs.declared.flow.Flow.TheVariants.{On as rOn}
 use Rattle.own_run.specs.Places.{written, touched}
 use Rattle.own_run.specs.Results.{Settled}
-use Rattle.own_run.specs.OwnRun.{Own, Action, Spawn, EnterFinish, own_rules, result_of}
-use Rattle.own_run.specs.OwnRun.{back_from}
+use Rattle.own_run.specs.OwnRun.{Own, Action, Spawn, EnterFinish, own_rules, result_of, back_from}
 use Rattle.own_run.specs.Frames.{Frame, Rest, Again, AtEnd, Back, Standing, acted, by_flow, turn, done_by}
 use Rattle.own_run.specs.Frames.{done_at, done_in}
 use Rattle.own_run.specs.Quiet.{IsLittle, Quietly}
@@ -33,8 +32,7 @@ use Rattle.own_run.specs.declared.turn.Paused.{Paused}
 use Rattle.own_run.specs.declared.turn.Step.{Step as rStep}
 use Rattle.own_run.specs.declared.turn.Step.TheVariants.{Did as rDid, AtEnd as rAtEnd}
 use Rattle.own_run.specs.declared.turn.Turn.{Turn}
-use Rattle.own_run.specs.declared.turn.Turn.TheVariants.{Going, Spawns, EntersFinish, EndsFinish}
-use Rattle.own_run.specs.declared.turn.Turn.TheVariants.{Ended, Over}
+use Rattle.own_run.specs.declared.turn.Turn.TheVariants.{Going, Spawns, EntersFinish, EndsFinish, Ended, Over}
 
 -- what becomes of frames and the state on top of them
 abbrev pub Going_on : Type 0

@@ -34,9 +34,8 @@ use types::code::{Label, Stmt, StmtKind, Truth};
 use types::fault::Fault;
 
 impl<'p> Run<'p> {
-    ghost use Rattle.own_run.specs.RunTurns.{CanAct, CanTurn, DidAct, DidNext, GoesOn};
-    ghost use Rattle.own_run.specs.RunTurns.{HasRoom, IsAtEnd, IsEnding, IsStep, IsTurn, NextIsOf};
-    ghost use Rattle.own_run.specs.RunTurns.{StepsUpTo, below_top};
+    ghost use Rattle.own_run.specs.RunTurns.{CanAct, CanTurn, DidAct, DidNext, GoesOn, HasRoom, IsAtEnd};
+    ghost use Rattle.own_run.specs.RunTurns.{IsEnding, IsStep, IsTurn, NextIsOf, StepsUpTo, below_top};
     ghost use Rattle.own_run.specs.declared.run.Run.{Run as AnyRun};
 
     /// Turns on in place, as long as nobody else sees it, plain statements at once, and takes the first

@@ -2,8 +2,13 @@
 
 use crate::page::{Page, page};
 
+/// These pages.
+pub(crate) fn pages() -> &'static [Page] {
+    PAGES
+}
+
 /// `F1` to `F6`, and `stopped`
-pub(crate) const PAGES: &[Page] = &[
+const PAGES: &[Page] = &[
     page! {
         name: "F1",
         about: "an index that the section does not have",

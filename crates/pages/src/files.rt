@@ -2,8 +2,13 @@
 
 use crate::page::{Page, page};
 
+/// These pages.
+pub(crate) fn pages() -> &'static [Page] {
+    PAGES
+}
+
 /// Files that can't be read or written, or are no text or not laid out; and memory
-pub(crate) const PAGES: &[Page] = &[
+const PAGES: &[Page] = &[
     page! {
         name: "cannot-read",
         others: ["cannot read"],

@@ -9,19 +9,20 @@ use crate::page::{Page, push_all};
 use crate::{faults, files, idioms, inputs, races, rules, runs, texts, traces, words};
 use std::alloc::{AllocError, Global};
 
-/// All pages, topic by topic.
+/// All pages, topic by topic. (Each topic by a call: what constants in one body cost the prover goes up with the
+/// square of their length.)
 pub fn tables() -> [&'static [Page]; 10] {
     [
-        texts::PAGES,
-        rules::PAGES,
-        races::PAGES,
-        inputs::PAGES,
-        faults::PAGES,
-        runs::PAGES,
-        files::PAGES,
-        traces::PAGES,
-        words::PAGES,
-        idioms::PAGES,
+        texts::pages(),
+        rules::pages(),
+        races::pages(),
+        inputs::pages(),
+        faults::pages(),
+        runs::pages(),
+        files::pages(),
+        traces::pages(),
+        words::pages(),
+        idioms::pages(),
     ]
 }
 

@@ -2,8 +2,13 @@
 
 use crate::page::{Page, page};
 
+/// These pages.
+pub(crate) fn pages() -> &'static [Page] {
+    PAGES
+}
+
 /// `C1` and `C2`
-pub(crate) const PAGES: &[Page] = &[
+const PAGES: &[Page] = &[
     page! {
         name: "C1",
         others: ["race"],

@@ -2,8 +2,13 @@
 
 use crate::page::{Page, page};
 
+/// These pages.
+pub(crate) fn pages() -> &'static [Page] {
+    PAGES
+}
+
 /// `Y1` to `Y10`
-pub(crate) const PAGES: &[Page] = &[
+const PAGES: &[Page] = &[
     page! {
         name: "Y1",
         about: "a name that isn't in scope",

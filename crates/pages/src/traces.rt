@@ -2,8 +2,13 @@
 
 use crate::page::{Page, page};
 
+/// These pages.
+pub(crate) fn pages() -> &'static [Page] {
+    PAGES
+}
+
 /// `trace`, `J1`, `J2` and `illegal`
-pub(crate) const PAGES: &[Page] = &[
+const PAGES: &[Page] = &[
     page! {
         name: "trace",
         about: "what the workers of a run did, event by event",

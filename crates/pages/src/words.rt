@@ -2,8 +2,13 @@
 
 use crate::page::{Page, page};
 
+/// These pages.
+pub(crate) fn pages() -> &'static [Page] {
+    PAGES
+}
+
 /// `words`
-pub(crate) const PAGES: &[Page] = &[page! {
+const PAGES: &[Page] = &[page! {
         name: "words",
         about: "the reserved words, which are no names",
         rule: "and array as async at by byte else false fault finish if int len main mut

@@ -1,8 +1,7 @@
 -- The pairs that may run together as lists, over tables of what each procedure's body has.
 use Rattle.std.specs.Prelude.{ℕ, List, [], ◌∷◌, ◌++◌, map, Bool, true, if◌then◌else◌, ◌↔◌}
 use Rattle.sections.specs.Member.{Member}
-use Rattle.types.specs.Code.{Code, Do, If, While, Split, Call, Async, Finish, Codes, End, Then}
-use Rattle.types.specs.Code.{Program}
+use Rattle.types.specs.Code.{Code, Do, If, While, Split, Call, Async, Finish, Codes, End, Then, Program}
 use Rattle.effects.specs.Effects.{Subject}
 use Rattle.effects.specs.Tables.{Table, all_of, all_in, left_by, IsDerived, IsDerivedPending}
 use Rattle.effects.specs.Tables.{IsStable, IsStablePending}

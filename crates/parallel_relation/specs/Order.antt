@@ -1,6 +1,5 @@
 -- The order of accesses, and of the pairs of them that are told.
-use Rattle.std.specs.Prelude.{ℕ, ◌≡◌, List, [], ◌∷◌, Bool, true, false, nat_eq, nat_lt}
-use Rattle.std.specs.Prelude.{if◌then◌else◌}
+use Rattle.std.specs.Prelude.{ℕ, ◌≡◌, List, [], ◌∷◌, Bool, true, false, nat_eq, nat_lt, if◌then◌else◌}
 use Rattle.sections.specs.Member.{Member}
 use Rattle.effects.specs.Accesses.{Access}
 

@@ -8,9 +8,8 @@ use Rattle.syntax.specs.declared.token.Mark.TheVariants.{LeftBrace, RightBrace, 
 use Rattle.syntax.specs.Canonical.{begins_statement, is_else}
 use Rattle.syntax.specs.Spelling.{stmt_then, block_then, procedures_then, main_tokens}
 use Rattle.syntax.specs.Token.{Token, NameToken, NumberToken, WordToken, MarkToken}
-use Rattle.syntax_tree.specs.Tree.{Stmt, Skip, Var, Assign, Store, Print, Fault, If, IfElse, While}
-use Rattle.syntax_tree.specs.Tree.{Split, Call, Async, Finish, Block, End, Then}
-use Rattle.syntax_tree.specs.Tree.{Procedure, Main, Program}
+use Rattle.syntax_tree.specs.Tree.{Stmt, Skip, Var, Assign, Store, Print, Fault, If, IfElse, While, Split}
+use Rattle.syntax_tree.specs.Tree.{Call, Async, Finish, Block, End, Then, Procedure, Main, Program}
 
 unfoldable mutual
   -- the statements inside a statement, with other tokens behind it

@@ -1,8 +1,7 @@
 -- From names to places: what is pending keeps apart from what is done later, place for place.
 use Rattle.std.specs.Prelude.{ℕ, [], map}
 use Rattle.sections.specs.Place.{Place}
-use Rattle.types.specs.Code.{Code, Do, If, While, Split, Call, Async, Finish, Codes, End, Then}
-use Rattle.types.specs.Code.{Program}
+use Rattle.types.specs.Code.{Code, Do, If, While, Split, Call, Async, Finish, Codes, End, Then, Program}
 use Rattle.types.specs.Value.{Environment}
 use Rattle.types.specs.Run.{entry, procedure_of}
 use Rattle.effects.specs.Accesses.{Access}

@@ -1,6 +1,5 @@
 -- The search for the least race among pairs of accesses.
-use Rattle.std.specs.Prelude.{ℕ, List, map, flat_map, Bool, true, ◌&&◌, if◌then◌else◌, Option}
-use Rattle.std.specs.Prelude.{None, Some}
+use Rattle.std.specs.Prelude.{ℕ, List, map, flat_map, Bool, true, ◌&&◌, if◌then◌else◌, Option, None, Some}
 use Rattle.sections.specs.Origins.{Origin}
 use Rattle.effects.specs.Accesses.{Access}
 use Rattle.race_checker.specs.Acceptance.{is_clash}

@@ -4,8 +4,7 @@ use Rattle.serde_json.specs.Data.{Data, string}
 use Rattle.syntax.specs.declared.place.Place.{Place}
 use Rattle.types.specs.Code.{Program}
 use Rattle.ways.specs.declared.step.Rule.{Rule}
-use Rattle.ways.specs.declared.step.Rule.TheVariants.{Own, Body, Other, Turn, Side, Enter}
-use Rattle.ways.specs.declared.step.Rule.TheVariants.{Begin, Await}
+use Rattle.ways.specs.declared.step.Rule.TheVariants.{Own, Body, Other, Turn, Side, Enter, Begin, Await}
 use Rattle.ways.specs.declared.step.Step.{Step}
 use Rattle.intake.specs.Failures.{kind_of, section_name, told_procedure}
 use Rattle.json_answers.specs.Pieces.{list_by, natural, object_of, or_null}

@@ -8,8 +8,7 @@ use Rattle.ways.specs.declared.step.Step.{Step}
 use Rattle.witness.specs.declared.crossing.Meeting.{Meeting}
 use Rattle.witness.specs.declared.crossing.Meeting.TheVariants.{Follows, Turns}
 use Rattle.witness.specs.declared.sharing.Sharing.{Sharing}
-use Rattle.witness.specs.declared.sharing.Sharing.TheVariants.{Same, FirstIsPart, SecondIsPart}
-use Rattle.witness.specs.declared.sharing.Sharing.TheVariants.{OfSplits}
+use Rattle.witness.specs.declared.sharing.Sharing.TheVariants.{Same, FirstIsPart, SecondIsPart, OfSplits}
 use Rattle.witness.specs.declared.witness.Witness.{Witness}
 use Rattle.intake.specs.Failures.{section_name, told_procedure}
 use Rattle.json_answers.specs.Pieces.{object_of, or_null}

@@ -7,8 +7,7 @@ ghost use Rattle.types.specs.Translation.{procedure as procedure_of, program};
 ghost use Rattle.effects.specs.Translation.{access as access_of};
 ghost use Rattle.race_checker.specs.Translation.{race as race_of};
 ghost use Rattle.json_answers.specs.Pieces.{IsReadBack, line, object_of};
-ghost use Rattle.race_objects.specs.Races.{access_json, accesses_json, race_json, race_message};
-ghost use Rattle.race_objects.specs.Races.{told_members};
+ghost use Rattle.race_objects.specs.Races.{access_json, accesses_json, race_json, race_message, told_members};
 
 use crate::found::Found;
 use crate::names::{kind_of, procedure_in, section_name};

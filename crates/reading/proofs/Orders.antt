@@ -8,8 +8,7 @@ use Rattle.std.proofs.lemmas.Slice.Eq.{bytes_eq-Decides}
 use Rattle.command_line.specs.Requests.{Asked, Asks, is_file_name}
 use Rattle.command_line.specs.declared.request.Action.TheVariants.{Answer}
 use Rattle.command_line.specs.declared.request.Command.TheVariants.{Cost}
-use Rattle.reading.specs.Orders.{Order, AsText, AsObject, Times, Tests, Orders, AsksForObject}
-use Rattle.reading.specs.Orders.{subject_of}
+use Rattle.reading.specs.Orders.{Order, AsText, AsObject, Times, Tests, Orders, AsksForObject, subject_of}
 use Rattle.reading.specs.Reading.{taken}
 use Rattle.reading.specs.declared.order.Subject.{Subject}
 use Rattle.reading.proofs.Reading.{Lacks, bench_asks_nothing, some_is_none, test_asks_nothing, asks_no_form}

@@ -9,11 +9,10 @@ use Rattle.command_line.specs.declared.request.Color.{Color}
 use Rattle.command_line.specs.declared.request.Color.TheVariants.{Auto, Always, Never}
 use Rattle.command_line.specs.declared.request.Action.{Action}
 use Rattle.command_line.specs.declared.request.Action.TheVariants.{Answer, Rewrite}
-use Rattle.command_line.specs.declared.request.Command.TheVariants.{Run, Serial, Check, Pairs}
-use Rattle.command_line.specs.declared.request.Command.TheVariants.{Explore, Listing, Chrome}
-use Rattle.command_line.specs.declared.request.Command.TheVariants.{Labels, Format, CheckFormat}
-use Rattle.command_line.specs.declared.request.Command.TheVariants.{CostByLabel, Summary}
-use Rattle.command_line.specs.declared.request.Command.TheVariants.{View, Cost, CostByProcedure, Places, Draw}
+use Rattle.command_line.specs.declared.request.Command.TheVariants.{Run, Serial, Check, Pairs, Explore}
+use Rattle.command_line.specs.declared.request.Command.TheVariants.{Listing, Chrome, Labels, Format}
+use Rattle.command_line.specs.declared.request.Command.TheVariants.{CheckFormat, CostByLabel, Summary, View}
+use Rattle.command_line.specs.declared.request.Command.TheVariants.{Cost, CostByProcedure, Places, Draw}
 use Rattle.reading.specs.declared.plain.Line.{Line as rLine}
 use Rattle.reading.specs.declared.plain.Texts.{Texts as rTexts}
 

@@ -6,9 +6,8 @@ ghost use Rattle.std.specs.Fmt.{decimal};
 ghost use Rattle.reading.specs.Reading.{texts_of};
 ghost use Rattle.command_line.specs.Requests.{AreRight, Options, is_file_name as names_file};
 ghost use Rattle.command_line.specs.Requests.{Choosing as ChoosingOf, IsRightChoosing, file_of, list_of};
-ghost use Rattle.command_line.specs.Requests.{choosing as choosing_of, seed_of};
-ghost use Rattle.command_line.specs.Requests.{settings as settings_of, settings_by, texts_by};
-ghost use Rattle.command_line.specs.Requests.{spread as spread_of};
+ghost use Rattle.command_line.specs.Requests.{choosing as choosing_of, seed_of, settings as settings_of};
+ghost use Rattle.command_line.specs.Requests.{settings_by, texts_by, spread as spread_of};
 
 use crate::plain::{Texts, is_file_name};
 use command_line::request::{Choosing, Settings, Spread};

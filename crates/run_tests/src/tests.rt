@@ -1,5 +1,7 @@
 //! What no clause says of runs, by rows: a table for each area, with the calls that its rows need.
 
+mod costs;
+mod drawn;
 mod logged_runs;
 mod numbers;
 mod outcomes_of_tasks;
@@ -8,6 +10,7 @@ mod progress_lines;
 mod runs_by_choices;
 mod settled_results;
 mod threads;
+mod trace_texts;
 mod watched_runs;
 mod worlds;
 

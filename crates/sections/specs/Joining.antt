@@ -1,6 +1,5 @@
 -- Windows in the order of their first places, and how neighbours are joined.
-use Rattle.std.specs.Prelude.{ℕ, ◌+◌, ◌-◌, max, List, [], ◌∷◌, Bool, true, ◌&&◌, ◌||◌, nat_eq}
-use Rattle.std.specs.Prelude.{nat_lt, nat_le}
+use Rattle.std.specs.Prelude.{ℕ, ◌+◌, ◌-◌, max, List, [], ◌∷◌, Bool, true, ◌&&◌, ◌||◌, nat_eq, nat_lt, nat_le}
 use Rattle.sections.specs.Covers.{has_places}
 use Rattle.sections.specs.Place.{Window}
 

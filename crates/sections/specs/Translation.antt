@@ -5,8 +5,7 @@ use Rattle.sections.specs.Place.{Place, Window}
 use Rattle.sections.specs.declared.id.ArrayId.{ArrayId}
 use Rattle.sections.specs.declared.id.SectionId.{SectionId}
 use Rattle.sections.specs.declared.origin.Origin.{Origin as rOrigin}
-use Rattle.sections.specs.declared.origin.Origin.TheVariants.{Root as rRoot, Left as rLeft}
-use Rattle.sections.specs.declared.origin.Origin.TheVariants.{Right as rRight}
+use Rattle.sections.specs.declared.origin.Origin.TheVariants.{Root as rRoot, Left as rLeft, Right as rRight}
 use Rattle.sections.specs.declared.window.Place.{Place as rPlace}
 use Rattle.sections.specs.declared.window.Window.{Window as rWindow}
 

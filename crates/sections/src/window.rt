@@ -1,7 +1,6 @@
 //! Parts of arrays.
 
-ghost use Rattle.std.specs.Prelude.{◌≡◌, ◌≤◌, ◌<◌, ◌↔◌, ◌+◌, ◌-◌, IsNone, IfSome, MatchOption};
-ghost use Rattle.std.specs.Prelude.{Some, None};
+ghost use Rattle.std.specs.Prelude.{◌≡◌, ◌≤◌, ◌<◌, ◌↔◌, ◌+◌, ◌-◌, IsNone, IfSome, MatchOption, Some, None};
 
 use crate::id::ArrayId;
 

@@ -1,6 +1,5 @@
 -- What is said of step trees.
-use Rattle.std.specs.Prelude.{ℕ, ◌+◌, ◌≡◌, ◌⊎◌, List, length, true, false, Some, None}
-use Rattle.std.specs.Prelude.{slice_get}
+use Rattle.std.specs.Prelude.{ℕ, ◌+◌, ◌≡◌, ◌⊎◌, List, length, true, false, Some, None, slice_get}
 use Rattle.sections.specs.Place.{Place}
 use Rattle.sections.specs.Member.{Member}
 use Rattle.types.specs.Code.{Procedure, Program}

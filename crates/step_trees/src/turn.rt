@@ -3,15 +3,13 @@
 ghost use Rattle.std.specs.Prelude.{◌≡◌, map, false, IfOk, OnOk};
 ghost use Rattle.sections.specs.Translation.{section as section_of};
 ghost use Rattle.types.specs.Code.{Async, Call, Do, Finish, If, Split, While};
-ghost use Rattle.types.specs.Translation.{code as code_of, codes as codes_of};
-ghost use Rattle.types.specs.Translation.{number as number_of, primitive as primitive_of};
-ghost use Rattle.types.specs.Translation.{truth as truth_of};
+ghost use Rattle.types.specs.Translation.{code as code_of, codes as codes_of, number as number_of};
+ghost use Rattle.types.specs.Translation.{primitive as primitive_of, truth as truth_of};
 ghost use Rattle.types.specs.Trees.{before_rest, done as done_leaf, failed as failed_leaf};
 ghost use Rattle.types.specs.Trees.{held_back, inside as inside_leaf, is_done};
 ghost use Rattle.types.specs.Trees.{returned as returned_leaf, single, Single};
 ghost use Rattle.step_trees.specs.Translation.{leaf_of};
-ghost use Rattle.step_trees.specs.Turns.{leaf_in, store_in, Comes, After, IsReady, Steps};
-ghost use Rattle.step_trees.specs.Turns.{MayTurn};
+ghost use Rattle.step_trees.specs.Turns.{leaf_in, store_in, Comes, After, IsReady, Steps, MayTurn};
 
 use crate::leaf::{Caller, Leaf, done, returned};
 use crate::rest::{Block, begin, block_alone, enter, next};

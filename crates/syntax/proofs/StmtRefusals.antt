@@ -1,5 +1,6 @@
 -- What the first tokens of a statement, a block or a list of arguments say of the tree that the tokens spell.
 use Rattle.std.proofs.Common.{◌≡◌, ◌≢◌, ◌<◌, ◌⊎◌, inl, inr, ℕ, List, [], ◌∷◌, refl, ap, sym, ◌∙◌, arith}
+use Rattle.std.proofs.lemmas.Bool.{eqb-false}
 use Rattle.syntax.specs.declared.cursor.Stuck.{Stuck}
 use Rattle.syntax.specs.declared.token.Word.{Word}
 use Rattle.syntax.specs.declared.token.Word.TheVariants.{As as WordAs, Async as WordAsync, At as WordAt}
@@ -15,7 +16,7 @@ use Rattle.syntax.specs.Spelling.{expr_then, more_then, exprs_then, stmt_then, b
 use Rattle.syntax.specs.Reading.{binds, list_level, or_level, else_level, IsRead, IsReadClosed, Refuses, RefusesClosed}
 use Rattle.syntax.proofs.ChainLemmas.{behind}
 use Rattle.syntax.proofs.ExprSpellings.{begins, expr_begins}
-use Rattle.syntax.proofs.StmtSpellings.{stmt_begins_with_no_brace, more_bind}
+use Rattle.syntax.proofs.StmtSpellings.{stmt_begins_with_no_brace, more_bind, kind}
 use Rattle.syntax.proofs.RefusalLemmas.{rests_equal}
 
 -- an expression, and others behind commas
@@ -55,7 +56,7 @@ pub if_opened : (s : Stmt) (ts r : List Token) → WordToken WordIf ∷ ts ≡ s
 unfolding stmt_then
 if_opened (If e b) ts r same = record { guard = e; body = b; after = r; spelled = rests_equal same; other = inl refl }
 if_opened (IfElse e b c) ts r same = record { guard = e; body = b; after = _; spelled = rests_equal same; other = inr (c, refl) }
-if_opened _ ts r same = cc
+if_opened _ ts r same = absurd (eqb-false _ _ refl (ap kind same))
 
 pub if_alone : {ts r : List Token} (c : Conditional ts r) (left : List Token)
     → ((rest : List Token) → left ≢ WordToken WordElse ∷ rest) → left ≡ c.after → left ≡ r
@@ -70,7 +71,7 @@ pub while_opened : (s : Stmt) (ts r : List Token) → WordToken WordWhile ∷ ts
     → (e : Expr) × (b : Block) × (ts ≡ expr_then e (MarkToken LeftBrace ∷ block_then b r))
 unfolding stmt_then
 while_opened (While e b) ts r same = (e, b, rests_equal same)
-while_opened _ ts r same = cc
+while_opened _ ts r same = absurd (eqb-false _ _ refl (ap kind same))
 
 -- the parts of a `split` whose first word was read
 pub record Splitting (ts r : List Token) : Type 0 where
@@ -97,7 +98,7 @@ split_opened (Split x e y z b) ts r same = record {
   ends = omega arith;
   sided = refl;
 }
-split_opened _ ts r same = cc
+split_opened _ ts r same = absurd (eqb-false _ _ refl (ap kind same))
 
 -- a block with its braces
 abbrev pub braced : Block → List Token → List Token
@@ -110,12 +111,12 @@ OpensBlock word = (s : Stmt) (ts r : List Token) → WordToken word ∷ ts ≡ s
 pub async_opened : OpensBlock WordAsync
 unfolding stmt_then
 async_opened (Async b) ts r same = (b, rests_equal same)
-async_opened _ ts r same = cc
+async_opened _ ts r same = absurd (eqb-false _ _ refl (ap kind same))
 
 pub finish_opened : OpensBlock WordFinish
 unfolding stmt_then
 finish_opened (Finish b) ts r same = (b, rests_equal same)
-finish_opened _ ts r same = cc
+finish_opened _ ts r same = absurd (eqb-false _ _ refl (ap kind same))
 
 -- a word was read, and a block behind it
 pub block_read : {tokens after left : List Token} {first word : Word} {b : Block} {s : Stmt}
@@ -139,24 +140,24 @@ block_refused {after = after} found is refused opened room t r ends same =
 pub skip_opened : (s : Stmt) (ts r : List Token) → WordToken WordSkip ∷ ts ≡ stmt_then s r → ts ≡ MarkToken Semicolon ∷ r
 unfolding stmt_then
 skip_opened Skip ts r same = rests_equal same
-skip_opened _ ts r same = cc
+skip_opened _ ts r same = absurd (eqb-false _ _ refl (ap kind same))
 
 pub var_opened : (s : Stmt) (ts r : List Token) → WordToken WordVar ∷ ts ≡ stmt_then s r
     → (x : List ℕ) × (e : Expr) × (ts ≡ NameToken x ∷ MarkToken Becomes ∷ expr_then e (MarkToken Semicolon ∷ r))
 unfolding stmt_then
 var_opened (Var x e) ts r same = (x, e, rests_equal same)
-var_opened _ ts r same = cc
+var_opened _ ts r same = absurd (eqb-false _ _ refl (ap kind same))
 
 pub print_opened : (s : Stmt) (ts r : List Token) → WordToken WordPrint ∷ ts ≡ stmt_then s r → Several ts (MarkToken Semicolon ∷ r)
 unfolding stmt_then
 print_opened (Print e es) ts r same = several_opened e es _ (omega arith) (rests_equal same)
-print_opened _ ts r same = cc
+print_opened _ ts r same = absurd (eqb-false _ _ refl (ap kind same))
 
 pub fault_opened : (s : Stmt) (ts r : List Token) → WordToken WordFault ∷ ts ≡ stmt_then s r
     → (e : Expr) × (ts ≡ expr_then e (MarkToken Semicolon ∷ r))
 unfolding stmt_then
 fault_opened (Fault e) ts r same = (e, rests_equal same)
-fault_opened _ ts r same = cc
+fault_opened _ ts r same = absurd (eqb-false _ _ refl (ap kind same))
 
 -- the parts of a store whose section and first bracket were read
 pub record Storing (ts r : List Token) : Type 0 where
@@ -178,13 +179,13 @@ store_opened (Store y i e) x ts r same = record {
   ends = omega arith;
   closed = refl;
 }
-store_opened _ x ts r same = cc
+store_opened _ x ts r same = absurd (eqb-false _ _ refl (ap kind same))
 
 pub call_opened : (s : Stmt) (x : List ℕ) (ts r : List Token) → NameToken x ∷ MarkToken LeftParen ∷ ts ≡ stmt_then s r
     → (es : List Expr) × (ts ≡ exprs_then es (MarkToken RightParen ∷ MarkToken Semicolon ∷ r))
 unfolding stmt_then
 call_opened (Call f es) x ts r same = (es, rests_equal (rests_equal same))
-call_opened _ x ts r same = cc
+call_opened _ x ts r same = absurd (eqb-false _ _ refl (ap kind same))
 
 pub assign_opened : (s : Stmt) (x : List ℕ) (ts r : List Token)
     → ((rest : List Token) → ts ≢ MarkToken LeftBracket ∷ rest)

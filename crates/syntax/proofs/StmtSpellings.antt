@@ -1,8 +1,14 @@
 -- No two statements, and no two blocks, are spelled alike, where no `else` stands behind them.
-use Rattle.std.proofs.Common.{◌≡◌, ◌≢◌, ◌<◌, List, [], ◌∷◌, refl, ap, sym, arith}
-use Rattle.syntax.specs.declared.token.Word.TheVariants.{As as WordAs, Else as WordElse}
+use Rattle.std.proofs.Common.{◌≡◌, ◌≢◌, ◌<◌, ℕ, List, [], ◌∷◌, refl, ap, sym, arith}
+use Rattle.std.proofs.lemmas.Bool.{eqb-false}
+use Rattle.syntax.specs.declared.token.Word.{Word}
+use Rattle.syntax.specs.declared.token.Word.TheVariants.{As as WordAs, Async as WordAsync, Else as WordElse}
+use Rattle.syntax.specs.declared.token.Word.TheVariants.{Fault as WordFault, Finish as WordFinish, If as WordIf}
+use Rattle.syntax.specs.declared.token.Word.TheVariants.{Print as WordPrint, Skip as WordSkip, Split as WordSplit}
+use Rattle.syntax.specs.declared.token.Word.TheVariants.{Var as WordVar, While as WordWhile}
 use Rattle.syntax.specs.declared.token.Mark.{Mark}
-use Rattle.syntax.specs.declared.token.Mark.TheVariants.{RightParen, LeftBrace, RightBrace, RightBracket, Comma, Semicolon, Becomes}
+use Rattle.syntax.specs.declared.token.Mark.TheVariants.{LeftParen, RightParen, LeftBrace, RightBrace, LeftBracket}
+use Rattle.syntax.specs.declared.token.Mark.TheVariants.{RightBracket, Comma, Semicolon, Becomes}
 use Rattle.syntax.specs.Token.{Token, NameToken, WordToken, MarkToken}
 use Rattle.syntax_tree.specs.Tree.{Expr, Stmt, Skip, Var, Assign, Store, Print, Fault, If, IfElse, While, Split, Call, Async}
 use Rattle.syntax_tree.specs.Tree.{Finish, Block, End, Then}
@@ -61,6 +67,30 @@ pub block_binds : (b : Block) (r : List Token) → binds (block_then b r) ≡ 0
 unfolding block_then
 block_binds End r = refl
 block_binds (Then s b) r = stmt_binds s (block_then b r)
+
+-- which kind of statement begins with these tokens
+abbrev pub word_kind : Word → ℕ
+word_kind WordSkip = 1
+word_kind WordVar = 2
+word_kind WordPrint = 3
+word_kind WordFault = 4
+word_kind WordIf = 5
+word_kind WordWhile = 6
+word_kind WordSplit = 7
+word_kind WordAsync = 8
+word_kind WordFinish = 9
+word_kind _ = 0
+
+abbrev pub mark_kind : Mark → ℕ
+mark_kind Becomes = 10
+mark_kind LeftBracket = 11
+mark_kind LeftParen = 12
+mark_kind _ = 0
+
+abbrev pub kind : List Token → ℕ
+kind (WordToken w ∷ _) = word_kind w
+kind (NameToken _ ∷ MarkToken m ∷ _) = mark_kind m
+kind _ = 0
 
 mutual
   unfolding stmt_then
@@ -129,7 +159,7 @@ mutual
       let body = block_one b c r s (cc) in (ap Async body.0, body.1)
   stmt_one (Finish b) (Finish c) r s ends other same =
       let body = block_one b c r s (cc) in (ap Finish body.0, body.1)
-  stmt_one _ _ r s ends other same = cc
+  stmt_one _ _ r s ends other same = absurd (eqb-false _ _ refl (ap kind same))
 
   pub block_one : (x y : Block) (r s : List Token) → block_then x r ≡ block_then y s → (x ≡ y) × (r ≡ s)
   block_one End End r s same = (refl, cc)

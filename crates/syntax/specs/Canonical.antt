@@ -1,23 +1,19 @@
 -- The canonical text of a program: its tokens laid out in lines; and its listing, with labels before the
 -- lines.
-use Rattle.std.specs.Prelude.{ℕ, ◌+◌, ◌-◌, ◌*◌, Bool, true, false, not, ◌||◌, ◌&&◌, if◌then◌else◌}
-use Rattle.std.specs.Prelude.{List, [], ◌++◌, ◌∷◌}
-use Rattle.std.specs.Prelude.{length, replicate, codes, Option, None, Some}
+use Rattle.std.specs.Prelude.{ℕ, ◌+◌, ◌-◌, ◌*◌, Bool, true, false, not, ◌||◌, ◌&&◌, if◌then◌else◌, List, []}
+use Rattle.std.specs.Prelude.{◌++◌, ◌∷◌, length, replicate, codes, Option, None, Some}
 use Rattle.std.specs.Fmt.{decimal}
 use Rattle.std.specs.Option.{option_map}
 use Rattle.syntax.specs.declared.token.Left.{Left}
 use Rattle.syntax.specs.declared.token.Left.TheVariants.{Margin, Opening, Called, Operand, Ended, Other}
 use Rattle.syntax.specs.declared.token.Word.TheVariants.{Array as WordArray, Byte as WordByte}
-use Rattle.syntax.specs.declared.token.Word.TheVariants.{Else as WordElse}
-use Rattle.syntax.specs.declared.token.Word.TheVariants.{False as WordFalse, Int as WordInt}
-use Rattle.syntax.specs.declared.token.Word.TheVariants.{Len as WordLen}
-use Rattle.syntax.specs.declared.token.Word.TheVariants.{Main as WordMain, Proc as WordProc}
+use Rattle.syntax.specs.declared.token.Word.TheVariants.{Else as WordElse, False as WordFalse, Int as WordInt}
+use Rattle.syntax.specs.declared.token.Word.TheVariants.{Len as WordLen, Main as WordMain, Proc as WordProc}
 use Rattle.syntax.specs.declared.token.Word.TheVariants.{True as WordTrue}
 use Rattle.syntax.specs.declared.token.Mark.{Mark}
-use Rattle.syntax.specs.declared.token.Mark.TheVariants.{LeftParen, RightParen, LeftBrace}
-use Rattle.syntax.specs.declared.token.Mark.TheVariants.{RightBrace, LeftBracket}
-use Rattle.syntax.specs.declared.token.Mark.TheVariants.{RightBracket, Comma, Semicolon}
-use Rattle.syntax.specs.declared.token.Mark.TheVariants.{Colon, Minus}
+use Rattle.syntax.specs.declared.token.Mark.TheVariants.{LeftParen, RightParen, LeftBrace, RightBrace}
+use Rattle.syntax.specs.declared.token.Mark.TheVariants.{LeftBracket, RightBracket, Comma, Semicolon, Colon}
+use Rattle.syntax.specs.declared.token.Mark.TheVariants.{Minus}
 use Rattle.syntax.specs.Lexical.{word_text, mark_text}
 use Rattle.syntax.specs.Spelling.{spelling}
 use Rattle.syntax.specs.Token.{Token, NameToken, NumberToken, WordToken, MarkToken}

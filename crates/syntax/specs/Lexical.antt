@@ -1,25 +1,19 @@
 -- The tokens of a text: a text is cut into pieces, each the longest that stands there, and a piece is
 -- a token, a blank or a comment.
-use Rattle.std.specs.Prelude.{◌≡◌, ◌≢◌, ◌+◌, ◌*◌, ◌<◌, ◌≤◌, ℕ, Bool, true, false, not, ◌==◌, ◌||◌}
-use Rattle.std.specs.Prelude.{◌&&◌, List, [], ◌∷◌}
-use Rattle.std.specs.Prelude.{◌++◌, codes, drop, fold, length}
+use Rattle.std.specs.Prelude.{◌≡◌, ◌≢◌, ◌+◌, ◌*◌, ◌<◌, ◌≤◌, ℕ, Bool, true, false, not, ◌==◌, ◌||◌, ◌&&◌, List}
+use Rattle.std.specs.Prelude.{[], ◌∷◌, ◌++◌, codes, drop, fold, length}
 use Rattle.std.specs.Char.{is_ascii_alphabetic, is_ascii_digit, digit_value}
 use Rattle.std.specs.List.{flat_map, list_all}
 use Rattle.syntax.specs.declared.token.Word.{Word}
-use Rattle.syntax.specs.declared.token.Word.TheVariants.{And, Array, As, Async, At, By, Byte, Else}
-use Rattle.syntax.specs.declared.token.Word.TheVariants.{False, Fault}
-use Rattle.syntax.specs.declared.token.Word.TheVariants.{Finish, If, Int, Len, Main, Mut, Not, Or}
-use Rattle.syntax.specs.declared.token.Word.TheVariants.{Parts, Print, Proc}
-use Rattle.syntax.specs.declared.token.Word.TheVariants.{Read, Rescue, Skip, Split, True}
+use Rattle.syntax.specs.declared.token.Word.TheVariants.{And, Array, As, Async, At, By, Byte, Else, False}
+use Rattle.syntax.specs.declared.token.Word.TheVariants.{Fault, Finish, If, Int, Len, Main, Mut, Not, Or}
+use Rattle.syntax.specs.declared.token.Word.TheVariants.{Parts, Print, Proc, Read, Rescue, Skip, Split, True}
 use Rattle.syntax.specs.declared.token.Word.TheVariants.{Var, While}
 use Rattle.syntax.specs.declared.token.Mark.{Mark}
-use Rattle.syntax.specs.declared.token.Mark.TheVariants.{LeftParen, RightParen, LeftBrace}
-use Rattle.syntax.specs.declared.token.Mark.TheVariants.{RightBrace, LeftBracket}
-use Rattle.syntax.specs.declared.token.Mark.TheVariants.{RightBracket, Comma, Semicolon, Colon}
-use Rattle.syntax.specs.declared.token.Mark.TheVariants.{Becomes, Plus, Minus}
-use Rattle.syntax.specs.declared.token.Mark.TheVariants.{Star, Slash, Percent, Less, AtMost}
-use Rattle.syntax.specs.declared.token.Mark.TheVariants.{Greater, AtLeast, Equal}
-use Rattle.syntax.specs.declared.token.Mark.TheVariants.{Differs}
+use Rattle.syntax.specs.declared.token.Mark.TheVariants.{LeftParen, RightParen, LeftBrace, RightBrace}
+use Rattle.syntax.specs.declared.token.Mark.TheVariants.{LeftBracket, RightBracket, Comma, Semicolon, Colon}
+use Rattle.syntax.specs.declared.token.Mark.TheVariants.{Becomes, Plus, Minus, Star, Slash, Percent, Less}
+use Rattle.syntax.specs.declared.token.Mark.TheVariants.{AtMost, Greater, AtLeast, Equal, Differs}
 use Rattle.syntax.specs.Token.{Token, NameToken, NumberToken, WordToken, MarkToken}
 
 -- the letters of a reserved word

@@ -5,8 +5,7 @@ use Rattle.syntax.specs.declared.cursor.Stuck.{Stuck}
 use Rattle.syntax.specs.declared.cursor.Stuck.TheVariants.{OutOfMemory}
 use Rattle.syntax.specs.declared.token.Spanned.{Spanned}
 use Rattle.syntax.specs.declared.token.Word.{Word}
-use Rattle.syntax.specs.declared.token.Word.TheVariants.{And as WordAnd, Array as WordArray}
-use Rattle.syntax.specs.declared.token.Word.TheVariants.{Else as WordElse}
+use Rattle.syntax.specs.declared.token.Word.TheVariants.{And as WordAnd, Array as WordArray, Else as WordElse}
 use Rattle.syntax.specs.declared.token.Word.TheVariants.{Or as WordOr, Proc as WordProc}
 use Rattle.syntax.specs.declared.token.Mark.{Mark}
 use Rattle.syntax.specs.declared.token.Mark.TheVariants.{LeftBracket, Comma, Plus, Minus, Star}

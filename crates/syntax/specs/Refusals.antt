@@ -5,8 +5,7 @@ use Rattle.std.specs.Char.{is_ascii_digit}
 use Rattle.std.specs.Str.{chars}
 use Rattle.syntax.specs.declared.error.SyntaxError.{SyntaxError}
 use Rattle.syntax.specs.declared.error.SyntaxError.TheVariants.{NotACharacter, UnexpectedToken}
-use Rattle.syntax.specs.declared.error.SyntaxError.TheVariants.{NumberTooLarge, TooDeep}
-use Rattle.syntax.specs.declared.error.SyntaxError.TheVariants.{TooLong, OutOfMemory}
+use Rattle.syntax.specs.declared.error.SyntaxError.TheVariants.{NumberTooLarge, TooDeep, TooLong, OutOfMemory}
 use Rattle.syntax.specs.declared.lexer.Unread.{Unread}
 use Rattle.syntax.specs.declared.lexer.Unread.TheVariants.{NotACharacter as Unreadable}
 use Rattle.syntax.specs.declared.lexer.Unread.TheVariants.{NumberTooLarge as OverLimit}

@@ -1,55 +1,39 @@
 -- The tokens that spell a program: for each production its tokens, with other tokens behind them.
 use Rattle.std.specs.Prelude.{List, [], ◌∷◌, Option, None, Some}
 use Rattle.syntax_tree.specs.declared.tree.ElementType.{ElementType}
-use Rattle.syntax_tree.specs.declared.tree.ElementType.TheVariants.{Int as IntElement}
-use Rattle.syntax_tree.specs.declared.tree.ElementType.TheVariants.{Byte as ByteElement}
+use Rattle.syntax_tree.specs.declared.tree.ElementType.TheVariants.{Int as IntElement, Byte as ByteElement}
 use Rattle.syntax_tree.specs.declared.tree.Relation.{Relation}
 use Rattle.syntax_tree.specs.declared.tree.Relation.TheVariants.{Less as IsLess, AtMost as IsAtMost}
-use Rattle.syntax_tree.specs.declared.tree.Relation.TheVariants.{Greater as IsGreater}
-use Rattle.syntax_tree.specs.declared.tree.Relation.TheVariants.{AtLeast as IsAtLeast, Equal as IsEqual}
-use Rattle.syntax_tree.specs.declared.tree.Relation.TheVariants.{Differs as IsOther}
+use Rattle.syntax_tree.specs.declared.tree.Relation.TheVariants.{Greater as IsGreater, AtLeast as IsAtLeast}
+use Rattle.syntax_tree.specs.declared.tree.Relation.TheVariants.{Equal as IsEqual, Differs as IsOther}
 use Rattle.syntax_tree.specs.declared.tree.Sign.{Sign}
 use Rattle.syntax_tree.specs.declared.tree.Sign.TheVariants.{Plus as PlusSign, Minus as MinusSign}
 use Rattle.syntax_tree.specs.declared.tree.Operator.{Operator}
 use Rattle.syntax_tree.specs.declared.tree.Operator.TheVariants.{Times, Over, Modulo}
 use Rattle.syntax.specs.declared.token.Word.{Word}
-use Rattle.syntax.specs.declared.token.Word.TheVariants.{And as WordAnd, Array as WordArray}
-use Rattle.syntax.specs.declared.token.Word.TheVariants.{As as WordAs}
-use Rattle.syntax.specs.declared.token.Word.TheVariants.{Async as WordAsync, At as WordAt}
-use Rattle.syntax.specs.declared.token.Word.TheVariants.{Byte as WordByte}
+use Rattle.syntax.specs.declared.token.Word.TheVariants.{And as WordAnd, Array as WordArray, As as WordAs}
+use Rattle.syntax.specs.declared.token.Word.TheVariants.{Async as WordAsync, At as WordAt, Byte as WordByte}
 use Rattle.syntax.specs.declared.token.Word.TheVariants.{Else as WordElse, False as WordFalse}
-use Rattle.syntax.specs.declared.token.Word.TheVariants.{Fault as WordFault}
-use Rattle.syntax.specs.declared.token.Word.TheVariants.{Finish as WordFinish, If as WordIf}
-use Rattle.syntax.specs.declared.token.Word.TheVariants.{Int as WordInt}
-use Rattle.syntax.specs.declared.token.Word.TheVariants.{Len as WordLen, Main as WordMain}
-use Rattle.syntax.specs.declared.token.Word.TheVariants.{Mut as WordMut}
-use Rattle.syntax.specs.declared.token.Word.TheVariants.{Not as WordNot, Or as WordOr}
-use Rattle.syntax.specs.declared.token.Word.TheVariants.{Print as WordPrint}
-use Rattle.syntax.specs.declared.token.Word.TheVariants.{Proc as WordProc, Read as WordRead}
-use Rattle.syntax.specs.declared.token.Word.TheVariants.{Skip as WordSkip}
-use Rattle.syntax.specs.declared.token.Word.TheVariants.{Split as WordSplit, True as WordTrue}
-use Rattle.syntax.specs.declared.token.Word.TheVariants.{Var as WordVar}
+use Rattle.syntax.specs.declared.token.Word.TheVariants.{Fault as WordFault, Finish as WordFinish}
+use Rattle.syntax.specs.declared.token.Word.TheVariants.{If as WordIf, Int as WordInt, Len as WordLen}
+use Rattle.syntax.specs.declared.token.Word.TheVariants.{Main as WordMain, Mut as WordMut, Not as WordNot}
+use Rattle.syntax.specs.declared.token.Word.TheVariants.{Or as WordOr, Print as WordPrint, Proc as WordProc}
+use Rattle.syntax.specs.declared.token.Word.TheVariants.{Read as WordRead, Skip as WordSkip}
+use Rattle.syntax.specs.declared.token.Word.TheVariants.{Split as WordSplit, True as WordTrue, Var as WordVar}
 use Rattle.syntax.specs.declared.token.Word.TheVariants.{While as WordWhile}
 use Rattle.syntax.specs.declared.token.Mark.{Mark}
-use Rattle.syntax.specs.declared.token.Mark.TheVariants.{LeftParen, RightParen, LeftBrace}
-use Rattle.syntax.specs.declared.token.Mark.TheVariants.{RightBrace, LeftBracket}
-use Rattle.syntax.specs.declared.token.Mark.TheVariants.{RightBracket, Comma, Semicolon, Colon}
-use Rattle.syntax.specs.declared.token.Mark.TheVariants.{Becomes, Plus, Minus}
-use Rattle.syntax.specs.declared.token.Mark.TheVariants.{Star, Slash, Percent, Less, AtMost}
-use Rattle.syntax.specs.declared.token.Mark.TheVariants.{Greater, AtLeast, Equal}
-use Rattle.syntax.specs.declared.token.Mark.TheVariants.{Differs}
+use Rattle.syntax.specs.declared.token.Mark.TheVariants.{LeftParen, RightParen, LeftBrace, RightBrace}
+use Rattle.syntax.specs.declared.token.Mark.TheVariants.{LeftBracket, RightBracket, Comma, Semicolon, Colon}
+use Rattle.syntax.specs.declared.token.Mark.TheVariants.{Becomes, Plus, Minus, Star, Slash, Percent, Less}
+use Rattle.syntax.specs.declared.token.Mark.TheVariants.{AtMost, Greater, AtLeast, Equal, Differs}
 use Rattle.syntax.specs.Token.{Token, NameToken, NumberToken, WordToken, MarkToken}
 use Rattle.syntax_tree.specs.Tree.{Expr, Or, Conjs, NoConj, OrConj, Conj, And, Negs, NoNeg, AndNeg, Neg}
-use Rattle.syntax_tree.specs.Tree.{Plainly, Not, Cmp}
-use Rattle.syntax_tree.specs.Tree.{Alone, Compare, Sum, Add, Terms, NoTerm, AddTerm, Prod, Multiply}
-use Rattle.syntax_tree.specs.Tree.{Factors, NoFactor}
-use Rattle.syntax_tree.specs.Tree.{MultiplyFactor, Unary, Positive, Negative, Atom, Number, True, False}
-use Rattle.syntax_tree.specs.Tree.{Name, Element}
-use Rattle.syntax_tree.specs.Tree.{Length, Parens, Stmt, Skip, Var, Assign, Store, Print, Fault, If}
-use Rattle.syntax_tree.specs.Tree.{IfElse, While, Split}
-use Rattle.syntax_tree.specs.Tree.{Call, Async, Finish, Block, End, Then, Array, Parameter, Written}
-use Rattle.syntax_tree.specs.Tree.{Read, Scalar, Procedure}
-use Rattle.syntax_tree.specs.Tree.{Main, Program}
+use Rattle.syntax_tree.specs.Tree.{Plainly, Not, Cmp, Alone, Compare, Sum, Add, Terms, NoTerm, AddTerm, Prod}
+use Rattle.syntax_tree.specs.Tree.{Multiply, Factors, NoFactor, MultiplyFactor, Unary, Positive, Negative}
+use Rattle.syntax_tree.specs.Tree.{Atom, Number, True, False, Name, Element, Length, Parens, Stmt, Skip, Var}
+use Rattle.syntax_tree.specs.Tree.{Assign, Store, Print, Fault, If, IfElse, While, Split, Call, Async, Finish}
+use Rattle.syntax_tree.specs.Tree.{Block, End, Then, Array, Parameter, Written, Read, Scalar, Procedure, Main}
+use Rattle.syntax_tree.specs.Tree.{Program}
 
 abbrev pub relation_mark : Relation → Mark
 relation_mark IsLess = Less

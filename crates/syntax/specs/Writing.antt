@@ -5,9 +5,8 @@ use Rattle.syntax.specs.declared.canonical.Lines.{Lines}
 use Rattle.syntax.specs.Canonical.{Place, laid}
 use Rattle.syntax.specs.declared.token.Left.{Left}
 use Rattle.syntax.specs.Token.{Token}
-use Rattle.syntax_tree.specs.Tree.{Stmt, Skip, Var, Assign, Store, Print, Fault, If, IfElse, While}
-use Rattle.syntax_tree.specs.Tree.{Split, Call, Async}
-use Rattle.syntax_tree.specs.Tree.{Finish}
+use Rattle.syntax_tree.specs.Tree.{Stmt, Skip, Var, Assign, Store, Print, Fault, If, IfElse, While, Split}
+use Rattle.syntax_tree.specs.Tree.{Call, Async, Finish}
 
 -- where the writer stands, with this to the left
 abbrev pub place : Lines → Left → Place

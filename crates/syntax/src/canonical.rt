@@ -1,32 +1,25 @@
 //! Programs as canonical text: a line for each declaration and each statement.
 
-ghost use Rattle.std.specs.Prelude.{◌≡◌, ℕ, ◌+◌, ◌-◌, [], ◌∷◌, ◌++◌, codes, if◌then◌else◌};
-ghost use Rattle.std.specs.Prelude.{List, Option};
+ghost use Rattle.std.specs.Prelude.{◌≡◌, ℕ, ◌+◌, ◌-◌, [], ◌∷◌, ◌++◌, codes, if◌then◌else◌, List, Option};
 ghost use Rattle.std.specs.Prelude.{IfOk, OnOk, IsTrue, map};
 ghost use Rattle.std.specs.Option.{option_map};
 ghost use Rattle.std.specs.Str.{chars};
 ghost use Rattle.std.specs.String.{string_bytes};
 ghost use Rattle.syntax.specs.Canonical.{canonical};
-ghost use Rattle.syntax.specs.declared.token.Left.TheVariants.{Margin, Opening, Operand};
-ghost use Rattle.syntax.specs.declared.token.Left.TheVariants.{Ended, Other};
-ghost use Rattle.syntax.specs.Canonical.{listed, in_line};
-ghost use Rattle.syntax.specs.Canonical.{indent, plain_margin, statement_margin};
+ghost use Rattle.syntax.specs.declared.token.Left.TheVariants.{Margin, Opening, Operand, Ended, Other};
+ghost use Rattle.syntax.specs.Canonical.{listed, in_line, indent, plain_margin, statement_margin};
 ghost use Rattle.syntax.specs.Lexical.{word_text, AreTokensOf};
-ghost use Rattle.syntax.specs.Spelling.{expr_then, more_then, stmt_then};
-ghost use Rattle.syntax.specs.Spelling.{block_then, parameter_then};
-ghost use Rattle.syntax.specs.Spelling.{parameters_then, arrays_then, procedures_then};
-ghost use Rattle.syntax.specs.Spelling.{main_tokens, spelling};
+ghost use Rattle.syntax.specs.Spelling.{expr_then, more_then, stmt_then, block_then, parameter_then};
+ghost use Rattle.syntax.specs.Spelling.{parameters_then, arrays_then, procedures_then, main_tokens, spelling};
 ghost use Rattle.syntax.specs.Spelling.{element_word};
 ghost use Rattle.syntax.specs.Token.{Token, NameToken, WordToken, MarkToken};
-ghost use Rattle.syntax_tree.specs.Tree.{Array as ArrayTree, Block as BlockTree};
-ghost use Rattle.syntax_tree.specs.Tree.{Procedure as ProcedureTree};
+ghost use Rattle.syntax_tree.specs.Tree.{Array as ArrayTree, Block as BlockTree, Procedure as ProcedureTree};
 ghost use Rattle.syntax_tree.specs.Tree.{Main as MainTree, expr as expr_tree, stmt as stmt_tree};
 ghost use Rattle.syntax_tree.specs.Tree.{block as block_tree, array as array_tree};
-ghost use Rattle.syntax_tree.specs.Tree.{parameter as parameter_tree};
-ghost use Rattle.syntax_tree.specs.Tree.{procedure as procedure_tree, program as program_tree};
+ghost use Rattle.syntax_tree.specs.Tree.{parameter as parameter_tree, procedure as procedure_tree};
+ghost use Rattle.syntax_tree.specs.Tree.{program as program_tree};
 ghost use Rattle.syntax.specs.Writing.{with_rest, Adds, IsCounted, is_simple};
-ghost use Rattle.syntax.specs.declared.token.Mark.TheVariants.{Becomes, Comma};
-ghost use Rattle.syntax.specs.declared.token.Mark.TheVariants.{LeftBrace, LeftBracket};
+ghost use Rattle.syntax.specs.declared.token.Mark.TheVariants.{Becomes, Comma, LeftBrace, LeftBracket};
 ghost use Rattle.syntax.specs.declared.token.Mark.TheVariants.{RightBrace, RightBracket, Semicolon};
 ghost use Rattle.syntax.specs.declared.token.Word.TheVariants.{As, At, Print, Split};
 

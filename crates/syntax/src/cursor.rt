@@ -1,7 +1,6 @@
 //! Reading what stands first among the tokens that are left.
 
-ghost use Rattle.std.specs.Prelude.{◌≡◌, ◌≢◌, ◌<◌, ℕ, List, [], ◌∷◌, length, IfOk, IfErr, IfSome};
-ghost use Rattle.std.specs.Prelude.{IfNone};
+ghost use Rattle.std.specs.Prelude.{◌≡◌, ◌≢◌, ◌<◌, ℕ, List, [], ◌∷◌, length, IfOk, IfErr, IfSome, IfNone};
 ghost use Rattle.std.specs.String.{string_bytes};
 ghost use Rattle.syntax.specs.declared.cursor.Stuck.TheVariants.{OutOfMemory};
 ghost use Rattle.syntax.specs.declared.token.Word.{Word as AnyWord};

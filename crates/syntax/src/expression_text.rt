@@ -3,15 +3,12 @@
 ghost use Rattle.std.specs.Prelude.{◌≡◌, ◌++◌, [], ◌∷◌, OnOk};
 ghost use Rattle.std.specs.String.{string_bytes};
 ghost use Rattle.syntax.specs.Canonical.{in_line};
-ghost use Rattle.syntax.specs.Spelling.{expr_then, conj_then, neg_then, cmp_then};
-ghost use Rattle.syntax.specs.Spelling.{sum_then, prod_then};
-ghost use Rattle.syntax.specs.Spelling.{unary_then, atom_then, exprs_then, more_then};
-ghost use Rattle.syntax.specs.Spelling.{relation_mark, sign_mark};
-ghost use Rattle.syntax.specs.Spelling.{operator_mark};
-ghost use Rattle.syntax_tree.specs.Tree.{expr as expr_tree, conj as conj_tree};
-ghost use Rattle.syntax_tree.specs.Tree.{neg as neg_tree, cmp as cmp_tree};
-ghost use Rattle.syntax_tree.specs.Tree.{sum as sum_tree, prod as prod_tree, unary as unary_tree};
-ghost use Rattle.syntax_tree.specs.Tree.{atom as atom_tree, exprs as expr_trees};
+ghost use Rattle.syntax.specs.Spelling.{expr_then, conj_then, neg_then, cmp_then, sum_then, prod_then};
+ghost use Rattle.syntax.specs.Spelling.{unary_then, atom_then, exprs_then, more_then, relation_mark};
+ghost use Rattle.syntax.specs.Spelling.{sign_mark, operator_mark};
+ghost use Rattle.syntax_tree.specs.Tree.{expr as expr_tree, conj as conj_tree, neg as neg_tree};
+ghost use Rattle.syntax_tree.specs.Tree.{cmp as cmp_tree, sum as sum_tree, prod as prod_tree};
+ghost use Rattle.syntax_tree.specs.Tree.{unary as unary_tree, atom as atom_tree, exprs as expr_trees};
 ghost use Rattle.syntax.specs.Lexical.{mark_text};
 
 use std::alloc::AllocError;

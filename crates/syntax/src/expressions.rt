@@ -1,25 +1,20 @@
 //! Expressions, one function for each production.
 
-ghost use Rattle.std.specs.Prelude.{◌≡◌, ◌≢◌, ◌<◌, ◌≤◌, ℕ, List, ◌∷◌, length, IfOk, IfErr};
-ghost use Rattle.std.specs.Prelude.{IfSome, IfNone};
+ghost use Rattle.std.specs.Prelude.{◌≡◌, ◌≢◌, ◌<◌, ◌≤◌, ℕ, List, ◌∷◌, length, IfOk, IfErr, IfSome, IfNone};
 ghost use Rattle.syntax.specs.declared.token.Mark.{Mark as AnyMark};
 ghost use Rattle.syntax_tree.specs.declared.tree.Relation.{Relation as AnyRelation};
 ghost use Rattle.syntax_tree.specs.declared.tree.Sign.{Sign as AnySign};
 ghost use Rattle.syntax_tree.specs.declared.tree.Operator.{Operator as AnyOperator};
-ghost use Rattle.syntax.specs.Reading.{ReadsAs, AddsExprs, Refuses, Leaves};
-ghost use Rattle.syntax.specs.Reading.{LeavesClosed, SpellsNone};
-ghost use Rattle.syntax.specs.Reading.{SpellsNoneClosed};
-ghost use Rattle.syntax.specs.Reading.{mark_binds, list_level, or_level, and_level, relation_level};
-ghost use Rattle.syntax.specs.Reading.{sign_level, operator_level, bracket_level};
-ghost use Rattle.syntax.specs.Spelling.{more_then, expr_then, conj_then, neg_then};
-ghost use Rattle.syntax.specs.Spelling.{cmp_then, sum_then};
+ghost use Rattle.syntax.specs.Reading.{ReadsAs, AddsExprs, Refuses, Leaves, LeavesClosed, SpellsNone};
+ghost use Rattle.syntax.specs.Reading.{SpellsNoneClosed, mark_binds, list_level, or_level, and_level};
+ghost use Rattle.syntax.specs.Reading.{relation_level, sign_level, operator_level, bracket_level};
+ghost use Rattle.syntax.specs.Spelling.{more_then, expr_then, conj_then, neg_then, cmp_then, sum_then};
 ghost use Rattle.syntax.specs.Spelling.{prod_then, unary_then, atom_then, relation_mark, sign_mark};
 ghost use Rattle.syntax.specs.Spelling.{operator_mark};
 ghost use Rattle.syntax.specs.Token.{Token as PlainToken, NameToken, MarkToken, plain};
-ghost use Rattle.syntax_tree.specs.Tree.{expr as expr_tree, conj as conj_tree};
-ghost use Rattle.syntax_tree.specs.Tree.{neg as neg_tree, cmp as cmp_tree};
-ghost use Rattle.syntax_tree.specs.Tree.{sum as sum_tree, prod as prod_tree, unary as unary_tree};
-ghost use Rattle.syntax_tree.specs.Tree.{atom as atom_tree};
+ghost use Rattle.syntax_tree.specs.Tree.{expr as expr_tree, conj as conj_tree, neg as neg_tree};
+ghost use Rattle.syntax_tree.specs.Tree.{cmp as cmp_tree, sum as sum_tree, prod as prod_tree};
+ghost use Rattle.syntax_tree.specs.Tree.{unary as unary_tree, atom as atom_tree};
 
 use crate::cursor::Stuck;
 use crate::token::{Mark, Spanned, Token, Word};

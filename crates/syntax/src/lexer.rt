@@ -1,14 +1,11 @@
 //! Texts as tokens.
 
-ghost use Rattle.std.specs.Prelude.{◌≡◌, ◌<◌, ◌≤◌, true, false, [], ◌∷◌, length, IfOk, IfErr};
-ghost use Rattle.std.specs.Prelude.{IfSome, IfNone};
+ghost use Rattle.std.specs.Prelude.{◌≡◌, ◌<◌, ◌≤◌, true, false, [], ◌∷◌, length, IfOk, IfErr, IfSome, IfNone};
 ghost use Rattle.std.specs.Char.{is_ascii_digit};
 ghost use Rattle.std.specs.List.{list_all, prefix_len};
 ghost use Rattle.std.specs.String.{string_bytes};
-ghost use Rattle.syntax.specs.Lexical.{begins_name, is_blank, is_in_name};
-ghost use Rattle.syntax.specs.Lexical.{is_in_line, begins_comment};
-ghost use Rattle.syntax.specs.Lexical.{number_of, starts, MarkPiece, Begins, BeginsNoMark};
-ghost use Rattle.syntax.specs.Lexical.{Reads, SpellsWord};
+ghost use Rattle.syntax.specs.Lexical.{begins_name, is_blank, is_in_name, is_in_line, begins_comment};
+ghost use Rattle.syntax.specs.Lexical.{number_of, starts, MarkPiece, Begins, BeginsNoMark, Reads, SpellsWord};
 ghost use Rattle.syntax.specs.Lexical.{AreTokensOf};
 ghost use Rattle.syntax.specs.Refusals.{ArePlaced, BeginsNoToken, TellsUnread};
 ghost use Rattle.syntax.specs.Token.{token as token_tree, plain};

@@ -1,13 +1,11 @@
 //! Texts as programs.
 
-ghost use Rattle.std.specs.Prelude.{◌≡◌, ◌≢◌, ◌↔◌, ◌<◌, ◌≤◌, ◌^◌, length, vec_len, IfOk};
-ghost use Rattle.std.specs.Prelude.{IfErr, IfNone};
+ghost use Rattle.std.specs.Prelude.{◌≡◌, ◌≢◌, ◌↔◌, ◌<◌, ◌≤◌, ◌^◌, length, vec_len, IfOk, IfErr, IfNone};
 ghost use Rattle.std.specs.Prelude.{IfSome, MatchResult};
 ghost use Rattle.std.specs.Str.{chars};
 ghost use Rattle.syntax.specs.Brackets.{AreShallow, open_behind};
 ghost use Rattle.syntax.specs.Lexical.{AreTokensOf};
-ghost use Rattle.syntax.specs.Refusals.{ArePlaced, BeginsToken, OpensTooMany, Tells};
-ghost use Rattle.syntax.specs.Refusals.{TellsOf, TellsUnread};
+ghost use Rattle.syntax.specs.Refusals.{ArePlaced, BeginsToken, OpensTooMany, Tells, TellsOf, TellsUnread};
 ghost use Rattle.syntax.specs.Spelling.{spelling};
 ghost use Rattle.syntax.specs.Token.{plain, token as token_tree};
 ghost use Rattle.syntax_tree.specs.Tree.{Program as ProgramTree, program as program_tree};

@@ -3,15 +3,12 @@
 ghost use Rattle.std.specs.Prelude.{◌≡◌, ◌≢◌, ◌<◌, ◌≤◌, ℕ, List, ◌∷◌, length, map, IfOk, IfErr};
 ghost use Rattle.std.specs.String.{string_bytes};
 ghost use Rattle.syntax_tree.specs.declared.tree.ElementType.{ElementType as AnyElement};
-ghost use Rattle.syntax.specs.Reading.{IsRead, IsReadClosed, ReadsClosed, Refuses};
-ghost use Rattle.syntax.specs.Reading.{RefusesClosed, list_level};
-ghost use Rattle.syntax.specs.Spelling.{array_then, arrays_then, block_then, element_word};
-ghost use Rattle.syntax.specs.Spelling.{parameter_then};
+ghost use Rattle.syntax.specs.Reading.{IsRead, IsReadClosed, ReadsClosed, Refuses, RefusesClosed, list_level};
+ghost use Rattle.syntax.specs.Spelling.{array_then, arrays_then, block_then, element_word, parameter_then};
 ghost use Rattle.syntax.specs.Spelling.{parameters_then, procedure_then, spelling};
 ghost use Rattle.syntax.specs.Token.{Token as PlainToken, NameToken, WordToken, MarkToken, plain};
-ghost use Rattle.syntax_tree.specs.Tree.{Main as MainTree, Program as ProgramTree};
-ghost use Rattle.syntax_tree.specs.Tree.{array as array_tree, block};
-ghost use Rattle.syntax_tree.specs.Tree.{parameter as parameter_tree, procedure as procedure_tree};
+ghost use Rattle.syntax_tree.specs.Tree.{Main as MainTree, Program as ProgramTree, array as array_tree};
+ghost use Rattle.syntax_tree.specs.Tree.{block, parameter as parameter_tree, procedure as procedure_tree};
 ghost use Rattle.syntax_tree.specs.Tree.{program as program_tree};
 
 use crate::cursor::Stuck;

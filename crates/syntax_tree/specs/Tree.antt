@@ -21,19 +21,15 @@ use Rattle.syntax_tree.specs.declared.tree.Prod.{Prod as rProd, Prod' as rMultip
 use Rattle.syntax_tree.specs.declared.tree.Prod.{end_of-Factor, more_of-Factor}
 use Rattle.syntax_tree.specs.declared.tree.Factor.{Factor as rFactor}
 use Rattle.syntax_tree.specs.declared.tree.Unary.{Unary as rUnary}
-use Rattle.syntax_tree.specs.declared.tree.Atom.{Atom as rAtom, Number as rNumber}
-use Rattle.syntax_tree.specs.declared.tree.Atom.{True as rTrue, False as rFalse}
-use Rattle.syntax_tree.specs.declared.tree.Atom.{Name as rName, Element' as rElement}
+use Rattle.syntax_tree.specs.declared.tree.Atom.{Atom as rAtom, Number as rNumber, True as rTrue}
+use Rattle.syntax_tree.specs.declared.tree.Atom.{False as rFalse, Name as rName, Element' as rElement}
 use Rattle.syntax_tree.specs.declared.tree.Atom.{Length as rLength, Parens' as rParens}
-use Rattle.syntax_tree.specs.declared.tree.Stmt.{Stmt as rStmt, Row_of-Stmt, end_of-Stmt}
-use Rattle.syntax_tree.specs.declared.tree.Stmt.{more_of-Stmt, Held-Stmt-If-2}
-use Rattle.syntax_tree.specs.declared.tree.Stmt.{None' as no_else, Some' as some_else}
-use Rattle.syntax_tree.specs.declared.tree.Stmt.{Skip as rSkip, Var as rVar}
-use Rattle.syntax_tree.specs.declared.tree.Stmt.{Assign as rAssign, Store as rStore}
-use Rattle.syntax_tree.specs.declared.tree.Stmt.{Print as rPrint, Fault as rFault}
-use Rattle.syntax_tree.specs.declared.tree.Stmt.{If' as rIf, While' as rWhile}
-use Rattle.syntax_tree.specs.declared.tree.Stmt.{Split' as rSplit, Call as rCall}
-use Rattle.syntax_tree.specs.declared.tree.Stmt.{Async' as rAsync, Finish' as rFinish}
+use Rattle.syntax_tree.specs.declared.tree.Stmt.{Stmt as rStmt, Row_of-Stmt, end_of-Stmt, more_of-Stmt}
+use Rattle.syntax_tree.specs.declared.tree.Stmt.{Held-Stmt-If-2, None' as no_else, Some' as some_else}
+use Rattle.syntax_tree.specs.declared.tree.Stmt.{Skip as rSkip, Var as rVar, Assign as rAssign}
+use Rattle.syntax_tree.specs.declared.tree.Stmt.{Store as rStore, Print as rPrint, Fault as rFault}
+use Rattle.syntax_tree.specs.declared.tree.Stmt.{If' as rIf, While' as rWhile, Split' as rSplit}
+use Rattle.syntax_tree.specs.declared.tree.Stmt.{Call as rCall, Async' as rAsync, Finish' as rFinish}
 use Rattle.syntax_tree.specs.declared.tree.Array.{Array as rArray}
 use Rattle.syntax_tree.specs.declared.tree.Parameter.{Parameter as rParameter}
 use Rattle.syntax_tree.specs.declared.tree.Parameter.TheVariants.{Written as rWritten, Read as rRead}

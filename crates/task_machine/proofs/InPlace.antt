@@ -26,9 +26,8 @@ use Rattle.task_machine.specs.Units.{held}
 use Rattle.task_machine.specs.declared.task.Body.{Body}
 use Rattle.task_machine.specs.declared.task.Task.{Task}
 use Rattle.task_machine.specs.declared.turn.Turn.{Turn}
-use Rattle.task_machine.specs.declared.turn.Turn.TheVariants.{Going, Spawns, WantsWeight}
-use Rattle.task_machine.specs.declared.turn.Turn.TheVariants.{EntersFinish, EndsFinish}
-use Rattle.task_machine.specs.declared.turn.Turn.TheVariants.{Ended, Over}
+use Rattle.task_machine.specs.declared.turn.Turn.TheVariants.{Going, Spawns, WantsWeight, EntersFinish}
+use Rattle.task_machine.specs.declared.turn.Turn.TheVariants.{EndsFinish, Ended, Over}
 use Rattle.task_machine.proofs.Staying.{child_starts, goes_far, going, over, spawning}
 
 -- ---- what was done

@@ -6,8 +6,7 @@ use Rattle.types.specs.Translation.{program}
 use Rattle.effects.specs.Rounds.{needs_of}
 use Rattle.statement_steps.specs.declared.thread.Plan.{Plan}
 use Rattle.own_run.specs.MayRun.{MayRun, MayStart}
-use Rattle.own_run.specs.OwnRun.{Own}
-use Rattle.own_run.specs.OwnRun.{Start as Given}
+use Rattle.own_run.specs.OwnRun.{Own, Start as Given}
 use Rattle.own_run.specs.Reached.{begun}
 use Rattle.own_run.specs.RunTurns.{CanTurn, GoesOn, IsTurn, NextIsOf}
 use Rattle.own_run.specs.Standings.{IsAt}

@@ -25,8 +25,7 @@ use Rattle.task_machine.specs.declared.turn.Turn.{Turn}
 use Rattle.task_machine.specs.declared.turn.Turn.TheVariants.{Going, Spawns, WantsWeight, EntersFinish}
 use Rattle.task_machine.specs.declared.turn.Turn.TheVariants.{EndsFinish, Ended, Over}
 use Rattle.task_machine.proofs.Ending.{is_result, root_ends}
-use Rattle.task_machine.proofs.Staying.{entering}
-use Rattle.task_machine.proofs.Staying.{none_held as none_open}
+use Rattle.task_machine.proofs.Staying.{entering, none_held as none_open}
 
 -- a task that began another, and that one
 pub parts_tasks : (b : Body) (u : ℕ) (s : Start) (t : Turn) → Parts b u s t → IsBody b

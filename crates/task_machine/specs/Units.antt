@@ -3,9 +3,8 @@ use Rattle.std.specs.Prelude.{ℕ, ◌+◌, List, sum_by}
 use Rattle.task_machine.specs.declared.stake.Stake.{Stake}
 use Rattle.task_machine.specs.declared.task.Task.{Task}
 use Rattle.task_machine.specs.declared.turn.Turn.{Turn}
-use Rattle.task_machine.specs.declared.turn.Turn.TheVariants.{Going, Spawns, WantsWeight}
-use Rattle.task_machine.specs.declared.turn.Turn.TheVariants.{EntersFinish, EndsFinish}
-use Rattle.task_machine.specs.declared.turn.Turn.TheVariants.{Ended, Over}
+use Rattle.task_machine.specs.declared.turn.Turn.TheVariants.{Going, Spawns, WantsWeight, EntersFinish}
+use Rattle.task_machine.specs.declared.turn.Turn.TheVariants.{EndsFinish, Ended, Over}
 
 -- in several scopes
 abbrev pub held : List Stake → ℕ

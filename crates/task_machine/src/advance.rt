@@ -7,9 +7,8 @@ ghost use Rattle.own_run.specs.declared.run.Run.{Run as AnyRun};
 ghost use Rattle.own_run.specs.declared.turn.Turn.TheVariants.{Ended};
 ghost use Rattle.gather.specs.Jobs.{program_of};
 ghost use Rattle.task_machine.specs.Tasks.{IsBody, IsTask};
-ghost use Rattle.task_machine.specs.Turns.{AreTasks, Becomes, EndsBy, GoesInPlace, HasDone};
-ghost use Rattle.task_machine.specs.Turns.{IsEndOf, Opens, Parts, RunsToEnd, TakesOneTurn, TakesTurn};
-ghost use Rattle.task_machine.specs.Turns.{TurnsInPlace, turning};
+ghost use Rattle.task_machine.specs.Turns.{AreTasks, Becomes, EndsBy, GoesInPlace, HasDone, IsEndOf, Opens};
+ghost use Rattle.task_machine.specs.Turns.{Parts, RunsToEnd, TakesOneTurn, TakesTurn, TurnsInPlace, turning};
 ghost use Rattle.task_machine.specs.Units.{held, units_after, units_of};
 
 use crate::finish::{Ending, Entering, Owner, Parked};

@@ -5,8 +5,7 @@ ghost use Rattle.std.specs.Fmt.{decimal};
 ghost use Rattle.syntax.specs.Refusals.{at_text, error_text as syntax_text};
 ghost use Rattle.types.specs.Codes.{error_text, labelled};
 ghost use Rattle.texts.specs.Appending.{Writes};
-ghost use Rattle.texts.specs.Reasons.{digit, escaped, escaped_character, input_text};
-ghost use Rattle.texts.specs.Reasons.{race_text};
+ghost use Rattle.texts.specs.Reasons.{digit, escaped, escaped_character, input_text, race_text};
 
 use crate::emit::{EmitError, append, emit_count, emit_label};
 use std::io::Write;

@@ -1,7 +1,6 @@
 -- Finish scopes: from where to where they stand.
-use Rattle.std.specs.Prelude.{ℕ, zero, suc, ◌≡◌, ◌+◌, ◌<◌, ◌≤◌, List, [], length, Bool, true, false}
-use Rattle.std.specs.Prelude.{Option, Some, None}
-use Rattle.std.specs.Prelude.{count_by, nat_eq, slice_get, slice_index_or, option_and_then, take}
+use Rattle.std.specs.Prelude.{ℕ, zero, suc, ◌≡◌, ◌+◌, ◌<◌, ◌≤◌, List, [], length, Bool, true, false, Option}
+use Rattle.std.specs.Prelude.{Some, None, count_by, nat_eq, slice_get, slice_index_or, option_and_then, take}
 use Rattle.std.specs.Cmp.Lexicographic.{pointwise}
 use Rattle.events.specs.declared.event.Event.{Event}
 use Rattle.events.specs.declared.event.Event.TheVariants.{Open}

@@ -2,8 +2,7 @@
 use Rattle.std.specs.Prelude.{◌≡◌, List, count_by}
 use Rattle.events.specs.declared.event.Event.{Event}
 use Rattle.trace_numbers.specs.Chains.{span_of}
-use Rattle.trace_numbers.specs.Counts.{deepest, is_replenishing, is_steal, most_alive, steps_in}
-use Rattle.trace_numbers.specs.Counts.{tasks_in}
+use Rattle.trace_numbers.specs.Counts.{deepest, is_replenishing, is_steal, most_alive, steps_in, tasks_in}
 use Rattle.trace_numbers.specs.Hands.{steps_by_worker}
 use Rattle.trace_numbers.specs.declared.summary.Summary.{Summary}
 

@@ -1,6 +1,5 @@
 -- What the tables stand for by which the numbers of a trace are found.
-use Rattle.std.specs.Prelude.{ℕ, ◌≡◌, ◌<◌, ◌≤◌, List, length, Option, None, Some}
-use Rattle.std.specs.Prelude.{slice_index, slice_index_or}
+use Rattle.std.specs.Prelude.{ℕ, ◌≡◌, ◌<◌, ◌≤◌, List, length, Option, None, Some, slice_index, slice_index_or}
 use Rattle.std.specs.HashMap.{HashMap, get}
 use Rattle.types.specs.Translation.{is_path}
 use Rattle.types.specs.declared.path.Path.{Path}

@@ -2,8 +2,7 @@
 use Rattle.std.proofs.Common.{◌≡◌, ℕ, true, arith, List, [], ◌∷◌, ◌++◌, Option, Some, refl, ap, sym, ◌∙◌, append-nil, codes}
 use Rattle.std.specs.Prelude.{sum, nat_eq, if◌then◌else◌}
 use Rattle.std.specs.Fmt.{decimal}
-use Rattle.events.specs.Events.{Event, Take, Steal}
-use Rattle.events.specs.Events.{Pass, Resume}
+use Rattle.events.specs.Events.{Event, Take, Steal, Pass, Resume}
 use Rattle.serde_json.specs.Written.{compact_text}
 use Rattle.trace_text.specs.Fields.{fields, steal_fields, worker_fields}
 use Rattle.trace_text.specs.Headers.{TraceHeader}
@@ -11,10 +10,9 @@ use Rattle.trace_text.specs.Kinds.{kind_name, kind_of, task_of}
 use Rattle.trace_text.specs.Lines.{event_object, header_object}
 use Rattle.trace_text.specs.Spelled.{Lacks, IsSpelled, IsTheft, IsWorkers}
 use Rattle.trace_text.specs.declared.kind.Kind.{Kind}
-use Rattle.trace_text.specs.declared.kind.Kind.TheVariants.{Take as IsTake, Steal as IsSteal}
-use Rattle.trace_text.specs.declared.kind.Kind.TheVariants.{Step as IsStep, Replenish as IsReplenish}
-use Rattle.trace_text.specs.declared.kind.Kind.TheVariants.{Spawn as IsSpawn, Open as IsOpen}
-use Rattle.trace_text.specs.declared.kind.Kind.TheVariants.{Park as IsPark, End as IsEnd}
+use Rattle.trace_text.specs.declared.kind.Kind.TheVariants.{Take as IsTake, Steal as IsSteal, Step as IsStep}
+use Rattle.trace_text.specs.declared.kind.Kind.TheVariants.{Replenish as IsReplenish, Spawn as IsSpawn}
+use Rattle.trace_text.specs.declared.kind.Kind.TheVariants.{Open as IsOpen, Park as IsPark, End as IsEnd}
 use Rattle.trace_text.specs.declared.kind.Kind.TheVariants.{Pass as IsPass, Resume as IsResume}
 use Rattle.trace_text.proofs.Marks.{above, Lacks-above}
 use Rattle.trace_text.proofs.Texts.{text_of_header, text_of_pass, text_of_steal, text_of_task, text_of_worker}

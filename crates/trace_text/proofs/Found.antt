@@ -16,8 +16,7 @@ use Rattle.serde_json.specs.Data.{Data}
 use Rattle.serde_json.specs.Written.{compact_text}
 use Rattle.trace_text.specs.Headers.{TraceHeader, IsHeader}
 use Rattle.trace_text.specs.Lines.{line, event_line, event_object, header_line, header_object}
-use Rattle.trace_text.specs.Reading.{BeginsWithEvent, BeginsWithHeader, IsBadEvent}
-use Rattle.trace_text.specs.Reading.{IsEventRefusal, IsRefusal}
+use Rattle.trace_text.specs.Reading.{BeginsWithEvent, BeginsWithHeader, IsBadEvent, IsEventRefusal, IsRefusal}
 use Rattle.trace_text.specs.declared.error.TraceError.{TraceError}
 use Rattle.trace_text.specs.declared.error.TraceError.TheVariants.{NotALine, NoMemory}
 use Rattle.trace_text.specs.Spelled.{IsCutAt, IsSpelled, Lacks}

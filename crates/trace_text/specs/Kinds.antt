@@ -3,10 +3,9 @@ use Rattle.std.specs.Prelude.{ℕ, List, codes}
 use Rattle.events.specs.Events.{Event, Take, Steal, Steps, Replenish, Spawns, Opens, Parks}
 use Rattle.events.specs.Events.{Ends, Pass, Resume}
 use Rattle.trace_text.specs.declared.kind.Kind.{Kind}
-use Rattle.trace_text.specs.declared.kind.Kind.TheVariants.{Take as IsTake, Steal as IsSteal}
-use Rattle.trace_text.specs.declared.kind.Kind.TheVariants.{Step as IsStep, Replenish as IsReplenish}
-use Rattle.trace_text.specs.declared.kind.Kind.TheVariants.{Spawn as IsSpawn, Open as IsOpen}
-use Rattle.trace_text.specs.declared.kind.Kind.TheVariants.{Park as IsPark, End as IsEnd}
+use Rattle.trace_text.specs.declared.kind.Kind.TheVariants.{Take as IsTake, Steal as IsSteal, Step as IsStep}
+use Rattle.trace_text.specs.declared.kind.Kind.TheVariants.{Replenish as IsReplenish, Spawn as IsSpawn}
+use Rattle.trace_text.specs.declared.kind.Kind.TheVariants.{Open as IsOpen, Park as IsPark, End as IsEnd}
 use Rattle.trace_text.specs.declared.kind.Kind.TheVariants.{Pass as IsPass, Resume as IsResume}
 
 -- what happens, and to which task: of `pass`, to the owner of the scope

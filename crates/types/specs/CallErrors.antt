@@ -4,12 +4,10 @@ use Rattle.std.specs.Prelude.{Some, None, if◌then◌else◌}
 use Rattle.std.specs.List.{list_any}
 use Rattle.syntax_tree.specs.declared.tree.ElementType.{ElementType}
 use Rattle.syntax_tree.specs.declared.tree.ElementType.TheVariants.{Int, Byte}
-use Rattle.syntax_tree.specs.Tree.{Expr, Atom, Number, True, False, Name, Element, Length}
-use Rattle.syntax_tree.specs.Tree.{Parens, lone_atom}
+use Rattle.syntax_tree.specs.Tree.{Expr, Atom, Number, True, False, Name, Element, Length, Parens, lone_atom}
 use Rattle.syntax_tree.specs.Tree.{Parameter as Declared, Written, Read, Scalar}
 use Rattle.types.specs.declared.error.TypeError.{TypeError}
-use Rattle.types.specs.declared.error.TypeError.TheVariants.{NotInScope, WrongArguments}
-use Rattle.types.specs.declared.error.TypeError.TheVariants.{Overlapping}
+use Rattle.types.specs.declared.error.TypeError.TheVariants.{NotInScope, WrongArguments, Overlapping}
 use Rattle.sections.specs.Origins.{Origin}
 use Rattle.types.specs.Code.{Parameter}
 use Rattle.types.specs.ExpressionErrors.{number}

@@ -3,10 +3,8 @@ use Rattle.std.specs.Prelude.{ℕ, List, ◌++◌, Option, None, Some, codes}
 use Rattle.std.specs.Fmt.{decimal}
 use Rattle.types.specs.declared.error.TypeError.{TypeError}
 use Rattle.types.specs.declared.error.TypeError.TheVariants.{NotInScope, DeclaredTwice, WrongKind}
-use Rattle.types.specs.declared.error.TypeError.TheVariants.{WrongArguments}
-use Rattle.types.specs.declared.error.TypeError.TheVariants.{AssignedOutsideAsync, ReadOnly}
-use Rattle.types.specs.declared.error.TypeError.TheVariants.{Overlapping, NoMain}
-use Rattle.types.specs.declared.error.TypeError.TheVariants.{OverLimit, OutOfMemory}
+use Rattle.types.specs.declared.error.TypeError.TheVariants.{WrongArguments, AssignedOutsideAsync, ReadOnly}
+use Rattle.types.specs.declared.error.TypeError.TheVariants.{Overlapping, NoMain, OverLimit, OutOfMemory}
 
 -- its code
 abbrev pub error_code : TypeError → List ℕ

@@ -1,7 +1,6 @@
 -- The number at each place, and the lists of numbers that show it.
-use Rattle.std.specs.Prelude.{ℕ, zero, suc, ◌+◌, ◌≡◌, List, [], ◌∷◌, length, ℤ, pos, Option, None}
-use Rattle.std.specs.Prelude.{Some, unwrap_or, slice_get}
-use Rattle.std.specs.Prelude.{slice_index_or, if◌then◌else◌}
+use Rattle.std.specs.Prelude.{ℕ, zero, suc, ◌+◌, ◌≡◌, List, [], ◌∷◌, length, ℤ, pos, Option, None, Some}
+use Rattle.std.specs.Prelude.{unwrap_or, slice_get, slice_index_or, if◌then◌else◌}
 use Rattle.types.specs.Code.{Array}
 use Rattle.sections.specs.Place.{Place, same_place}
 

@@ -3,12 +3,9 @@
 -- in it.
 use Rattle.std.specs.Prelude.{ℕ, ◌^◌, List, [], ◌∷◌, ◌++◌, nat_lt, if◌then◌else◌}
 use Rattle.syntax_tree.specs.Tree.{Expr, Or, Conjs, NoConj, OrConj, Conj, And, Negs, NoNeg, AndNeg, Neg}
-use Rattle.syntax_tree.specs.Tree.{Plainly, Not, Cmp}
-use Rattle.syntax_tree.specs.Tree.{Alone, Compare, Sum, Add, Terms, NoTerm, AddTerm, Prod, Multiply}
-use Rattle.syntax_tree.specs.Tree.{Factors, NoFactor}
-use Rattle.syntax_tree.specs.Tree.{MultiplyFactor, Unary, Positive, Negative, Atom, Number, True, False}
-use Rattle.syntax_tree.specs.Tree.{Name, Element}
-use Rattle.syntax_tree.specs.Tree.{Length, Parens}
+use Rattle.syntax_tree.specs.Tree.{Plainly, Not, Cmp, Alone, Compare, Sum, Add, Terms, NoTerm, AddTerm, Prod}
+use Rattle.syntax_tree.specs.Tree.{Multiply, Factors, NoFactor, MultiplyFactor, Unary, Positive, Negative}
+use Rattle.syntax_tree.specs.Tree.{Atom, Number, True, False, Name, Element, Length, Parens}
 use Rattle.types.specs.declared.error.TypeError.{TypeError}
 use Rattle.types.specs.declared.error.TypeError.TheVariants.{WrongKind, OverLimit}
 use Rattle.types.specs.NameErrors.{naming_section, naming_scalar}

@@ -1,8 +1,7 @@
 -- The sections whose elements an expression may read.
 use Rattle.std.specs.Prelude.{ℕ, List, [], ◌∷◌, ◌++◌}
-use Rattle.types.specs.Code.{Number, Literal, Scalar, Element, Length, Negative, Chain, Links, Done}
-use Rattle.types.specs.Code.{Link, Truth}
-use Rattle.types.specs.Code.{Constant, Compare, Not, Both, Either, Truths, NoMore, Also}
+use Rattle.types.specs.Code.{Number, Literal, Scalar, Element, Length, Negative, Chain, Links, Done, Link}
+use Rattle.types.specs.Code.{Truth, Constant, Compare, Not, Both, Either, Truths, NoMore, Also}
 
 abbrev mutual
   -- of an expression for a number

@@ -1,14 +1,11 @@
 -- What the program prints of a mistake in an input.
 use Rattle.std.specs.Prelude.{ℕ, List, ◌++◌, Option, None, Some, codes}
 use Rattle.std.specs.String.{string_bytes}
-use Rattle.types.specs.Inputs.{Mistake, NoJson, NoObject, Stranger, OtherCount}
-use Rattle.types.specs.Inputs.{OtherLength, BadElement}
+use Rattle.types.specs.Inputs.{Mistake, NoJson, NoObject, Stranger, OtherCount, OtherLength, BadElement}
 use Rattle.types.specs.declared.input_error.InputError.{InputError}
-use Rattle.types.specs.declared.input_error.InputError.TheVariants.{NotJson, NotAnObject}
-use Rattle.types.specs.declared.input_error.InputError.TheVariants.{UnknownArray}
-use Rattle.types.specs.declared.input_error.InputError.TheVariants.{WrongNumberOfLists}
-use Rattle.types.specs.declared.input_error.InputError.TheVariants.{WrongLength, WrongElement}
-use Rattle.types.specs.declared.input_error.InputError.TheVariants.{OutOfMemory}
+use Rattle.types.specs.declared.input_error.InputError.TheVariants.{NotJson, NotAnObject, UnknownArray}
+use Rattle.types.specs.declared.input_error.InputError.TheVariants.{WrongNumberOfLists, WrongLength}
+use Rattle.types.specs.declared.input_error.InputError.TheVariants.{WrongElement, OutOfMemory}
 use Rattle.types.specs.declared.input.ListFault.{ListFault}
 use Rattle.types.specs.declared.input.ListFault.TheVariants.{Length, Element}
 

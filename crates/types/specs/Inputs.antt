@@ -1,15 +1,12 @@
 -- Which inputs fit a program, what a JSON value says of its arrays, and what is wrong where it says nothing.
-use Rattle.std.specs.Prelude.{ℕ, ◌+◌, ◌≡◌, List, [], ◌∷◌, length, replicate, Bool, true, ℤ}
-use Rattle.std.specs.Prelude.{pos, nat_eq}
-use Rattle.std.specs.Prelude.{Option, Some, None, option_map, option_and_then, unwrap_or, Result}
-use Rattle.std.specs.Prelude.{Ok, Err, ok_or}
-use Rattle.std.specs.Prelude.{if◌then◌else◌}
+use Rattle.std.specs.Prelude.{ℕ, ◌+◌, ◌≡◌, List, [], ◌∷◌, length, replicate, Bool, true, ℤ, pos, nat_eq}
+use Rattle.std.specs.Prelude.{Option, Some, None, option_map, option_and_then, unwrap_or, Result, Ok, Err}
+use Rattle.std.specs.Prelude.{ok_or, if◌then◌else◌}
 use Rattle.std.specs.Str.{bytes_eq}
 use Rattle.std.specs.List.{list_all, list_any}
 use Rattle.std.specs.Ordering.{nat_cmp, match_ordering}
 use Rattle.std.specs.Cmp.Lexicographic.{slice_cmp}
-use Rattle.serde_json.specs.Data.{Data, null, boolean, number, string, array, object, Items}
-use Rattle.serde_json.specs.Data.{no_items, item}
+use Rattle.serde_json.specs.Data.{Data, null, boolean, number, string, array, object, Items, no_items, item}
 use Rattle.serde_json.specs.Data.{Members, no_members, member}
 use Rattle.serde_json.specs.Find.{as_number, as_i64, get_member}
 use Rattle.serde_json.specs.Read.{read}

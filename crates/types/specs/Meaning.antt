@@ -1,8 +1,7 @@
 -- The one-thread meaning: an async's body runs where it stands, on the same store.
 use Rattle.std.specs.Prelude.{ℕ, zero, suc, ◌+◌, List, [], ◌∷◌, ◌++◌}
 use Rattle.types.specs.Code.{Codes, Program}
-use Rattle.types.specs.Run.{Flow, On, Faulted, Stopped, Fault, State, Rules, Work, Block}
-use Rattle.types.specs.Run.{stopped, run}
+use Rattle.types.specs.Run.{Flow, On, Faulted, Stopped, Fault, State, Rules, Work, Block, stopped, run}
 
 module _ {X : Type 0} where
   -- as it stands, with nothing told

@@ -3,9 +3,8 @@ use Rattle.std.specs.Prelude.{ℕ, List, ◌++◌, codes}
 use Rattle.std.specs.List.{flat_map}
 use Rattle.std.specs.Fmt.{decimal, signed_decimal}
 use Rattle.types.specs.declared.fault.FaultKind.{FaultKind}
-use Rattle.types.specs.declared.fault.FaultKind.TheVariants.{Index, Overflow, ZeroDivisor}
-use Rattle.types.specs.declared.fault.FaultKind.TheVariants.{OutOfElement, SplitPoint}
-use Rattle.types.specs.declared.fault.FaultKind.TheVariants.{Raised}
+use Rattle.types.specs.declared.fault.FaultKind.TheVariants.{Index, Overflow, ZeroDivisor, OutOfElement}
+use Rattle.types.specs.declared.fault.FaultKind.TheVariants.{SplitPoint, Raised}
 use Rattle.types.specs.Run.{Fault}
 
 -- `0`, and the number of each child on the way to the task, each behind a dot

@@ -1,43 +1,31 @@
 -- The code of a program: what its names mean, and which label each statement has.
-use Rattle.std.specs.Prelude.{ℕ, ◌+◌, List, [], ◌∷◌, map, length, codes as ascii, true, false, pos}
-use Rattle.std.specs.Prelude.{Option, Some, None}
-use Rattle.std.specs.Prelude.{option_map, nat_eq, if◌then◌else◌}
+use Rattle.std.specs.Prelude.{ℕ, ◌+◌, List, [], ◌∷◌, map, length, codes as ascii, true, false, pos, Option}
+use Rattle.std.specs.Prelude.{Some, None, option_map, nat_eq, if◌then◌else◌}
 use Rattle.std.specs.Cmp.Lexicographic.{pointwise}
 use Rattle.syntax_tree.specs.declared.tree.Sign.{Sign}
 use Rattle.syntax_tree.specs.declared.tree.Sign.TheVariants.{Plus as SignPlus, Minus as SignMinus}
 use Rattle.syntax_tree.specs.declared.tree.Operator.{Operator as Factored}
 use Rattle.syntax_tree.specs.declared.tree.Operator.TheVariants.{Times as ByTimes, Over as ByOver}
 use Rattle.syntax_tree.specs.declared.tree.Operator.TheVariants.{Modulo as ByModulo}
-use Rattle.syntax_tree.specs.Tree.{Expr, Or, Conjs, NoConj, OrConj, Conj, And, Negs, NoNeg, AndNeg}
-use Rattle.syntax_tree.specs.Tree.{Neg, Plainly}
-use Rattle.syntax_tree.specs.Tree.{Not as Denied, Cmp, Alone, Compare as Compared, Sum, Add, Terms}
-use Rattle.syntax_tree.specs.Tree.{NoTerm, AddTerm, Prod}
-use Rattle.syntax_tree.specs.Tree.{Multiply, Factors, NoFactor, MultiplyFactor, Unary, Positive}
-use Rattle.syntax_tree.specs.Tree.{Negative as Minus_of, Atom}
-use Rattle.syntax_tree.specs.Tree.{Number as Numeral, True, False, Name, Element as Element_of}
-use Rattle.syntax_tree.specs.Tree.{Length as Length_of, Parens}
-use Rattle.syntax_tree.specs.Tree.{Stmt, Skip as Skips, Var, Assign as Assigns}
-use Rattle.syntax_tree.specs.Tree.{Store as Stores, Print as Prints}
-use Rattle.syntax_tree.specs.Tree.{Fault as Faults, If as Ifs, IfElse, While as Whiles, Split as Splits}
-use Rattle.syntax_tree.specs.Tree.{Call as Calls}
-use Rattle.syntax_tree.specs.Tree.{Async as Asyncs, Finish as Finishes, Block}
-use Rattle.syntax_tree.specs.Tree.{End as Ends, Then as Thens}
+use Rattle.syntax_tree.specs.Tree.{Expr, Or, Conjs, NoConj, OrConj, Conj, And, Negs, NoNeg, AndNeg, Neg}
+use Rattle.syntax_tree.specs.Tree.{Plainly, Not as Denied, Cmp, Alone, Compare as Compared, Sum, Add, Terms}
+use Rattle.syntax_tree.specs.Tree.{NoTerm, AddTerm, Prod, Multiply, Factors, NoFactor, MultiplyFactor, Unary}
+use Rattle.syntax_tree.specs.Tree.{Positive, Negative as Minus_of, Atom, Number as Numeral, True, False, Name}
+use Rattle.syntax_tree.specs.Tree.{Element as Element_of, Length as Length_of, Parens, Stmt, Skip as Skips}
+use Rattle.syntax_tree.specs.Tree.{Var, Assign as Assigns, Store as Stores, Print as Prints, Fault as Faults}
+use Rattle.syntax_tree.specs.Tree.{If as Ifs, IfElse, While as Whiles, Split as Splits, Call as Calls}
+use Rattle.syntax_tree.specs.Tree.{Async as Asyncs, Finish as Finishes, Block, End as Ends, Then as Thens}
 use Rattle.syntax_tree.specs.Tree.{Array as DeclaredArray, Parameter as DeclaredParameter}
-use Rattle.syntax_tree.specs.Tree.{Scalar as ScalarParameter}
-use Rattle.syntax_tree.specs.Tree.{Procedure as DeclaredProcedure, Main, Program as Text}
-use Rattle.syntax_tree.specs.Tree.{lone_atom}
+use Rattle.syntax_tree.specs.Tree.{Scalar as ScalarParameter, Procedure as DeclaredProcedure, Main}
+use Rattle.syntax_tree.specs.Tree.{Program as Text, lone_atom}
 use Rattle.types.specs.declared.code.Operator.{Operator}
 use Rattle.types.specs.declared.code.Operator.TheVariants.{Plus, Minus, Times, Over, Modulo}
-use Rattle.types.specs.Code.{Number, Literal, Scalar, Element, Length, Negative, Chain, Links, Done}
-use Rattle.types.specs.Code.{Link, Truth}
-use Rattle.types.specs.Code.{Constant, Compare, Not, Both, Either, Truths, NoMore, Also, Skip}
-use Rattle.types.specs.Code.{Assign, Store, Print}
-use Rattle.types.specs.Code.{Raise, Code, Do, If, While, Split, Call, Async, Finish, Codes, End}
-use Rattle.types.specs.Code.{Then, Array}
-use Rattle.types.specs.Code.{Procedure, Program}
-use Rattle.types.specs.Scope.{Names, Scope, section_of, slot_of, with_sides, next, inside_async}
-use Rattle.types.specs.Scope.{out_of, behind, after}
-use Rattle.types.specs.Scope.{in_procedure, in_main}
+use Rattle.types.specs.Code.{Number, Literal, Scalar, Element, Length, Negative, Chain, Links, Done, Link}
+use Rattle.types.specs.Code.{Truth, Constant, Compare, Not, Both, Either, Truths, NoMore, Also, Skip, Assign}
+use Rattle.types.specs.Code.{Store, Print, Raise, Code, Do, If, While, Split, Call, Async, Finish, Codes, End}
+use Rattle.types.specs.Code.{Then, Array, Procedure, Program}
+use Rattle.types.specs.Scope.{Names, Scope, section_of, slot_of, with_sides, next, inside_async, out_of}
+use Rattle.types.specs.Scope.{behind, after, in_procedure, in_main}
 
 abbrev pub sign : Sign → Operator
 sign SignPlus = Plus

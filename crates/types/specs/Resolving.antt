@@ -1,7 +1,6 @@
 -- What the Rust values of the type checker show: the names and the scope at a place, and what a part
 -- resolves to.
-use Rattle.std.specs.Prelude.{ℕ, ◌+◌, ◌-◌, ◌≡◌, ◌<◌, ◌≤◌, List, [], map, reverse, length, drop}
-use Rattle.std.specs.Prelude.{Some, String}
+use Rattle.std.specs.Prelude.{ℕ, ◌+◌, ◌-◌, ◌≡◌, ◌<◌, ◌≤◌, List, [], map, reverse, length, drop, Some, String}
 use Rattle.std.specs.String.{string_bytes}
 use Rattle.sections.specs.Tree.{origins_of}
 use Rattle.syntax_tree.specs.Tree.{Stmt, Procedure}
@@ -9,8 +8,7 @@ use Rattle.syntax_tree.specs.Tree as tree
 use Rattle.types.specs.declared.check.calls.Passed.{Passed as rPassed}
 use Rattle.types.specs.declared.check.procedures.Procedures.{Procedures as rProcedures}
 use Rattle.types.specs.declared.check.names.Meaning.{Meaning}
-use Rattle.types.specs.declared.check.names.Meaning.TheVariants.{Section as rSection}
-use Rattle.types.specs.declared.check.names.Meaning.TheVariants.{Scalar as rScalar}
+use Rattle.types.specs.declared.check.names.Meaning.TheVariants.{Section as rSection, Scalar as rScalar}
 use Rattle.types.specs.declared.check.names.Names.{Names as rNames}
 use Rattle.types.specs.declared.check.scope.Scope.{Scope as rScope}
 use Rattle.types.specs.CallErrors.{Passed}

@@ -4,19 +4,17 @@ use Rattle.std.specs.Prelude.{ℕ, ◌+◌, ◌≡◌, List, [], ◌∷◌, ◌+
 use Rattle.std.specs.Prelude.{nat_eq, nat_lt, if◌then◌else◌}
 use Rattle.std.specs.List.{list_any}
 use Rattle.std.specs.Cmp.Lexicographic.{pointwise}
-use Rattle.syntax_tree.specs.Tree.{Stmt, Skip, Var, Assign, Store, Print, Fault, If, IfElse, While}
-use Rattle.syntax_tree.specs.Tree.{Split, Call, Async}
-use Rattle.syntax_tree.specs.Tree.{Finish, Block, End, Then, Array, Parameter, Written, Read, Scalar}
-use Rattle.syntax_tree.specs.Tree.{Procedure, Main, Program}
+use Rattle.syntax_tree.specs.Tree.{Stmt, Skip, Var, Assign, Store, Print, Fault, If, IfElse, While, Split}
+use Rattle.syntax_tree.specs.Tree.{Call, Async, Finish, Block, End, Then, Array, Parameter, Written, Read}
+use Rattle.syntax_tree.specs.Tree.{Scalar, Procedure, Main, Program}
 use Rattle.types.specs.declared.error.TypeError.{TypeError}
 use Rattle.types.specs.declared.error.TypeError.TheVariants.{DeclaredTwice, NoMain, OverLimit}
 use Rattle.types.specs.CallErrors.{calling}
 use Rattle.types.specs.ExpressionErrors.{number, numbers, truth}
 use Rattle.types.specs.NameErrors.{declaring, naming_section, naming_written, naming_assigned}
 use Rattle.types.specs.Resolution.{procedure_of, label_behind, label_behind_all}
-use Rattle.types.specs.Scope.{ASection, meant, section_of, Scope, empty_scope, next, inside_async}
-use Rattle.types.specs.Scope.{with_sides, out_of, behind}
-use Rattle.types.specs.Scope.{after, with_parameter, with_array, in_procedure, in_main}
+use Rattle.types.specs.Scope.{ASection, meant, section_of, Scope, empty_scope, next, inside_async, with_sides}
+use Rattle.types.specs.Scope.{out_of, behind, after, with_parameter, with_array, in_procedure, in_main}
 
 -- Y9: there are more than so many
 abbrev pub limit : (most count : ℕ) → List TypeError

@@ -1,13 +1,11 @@
 -- What a task does: the one recursion over statements, by rules for what an async and a finish do.
-use Rattle.std.specs.Prelude.{ℕ, zero, suc, ◌+◌, List, [], ◌∷◌, ◌++◌, map, Bool, true, false, ℤ}
-use Rattle.std.specs.Prelude.{pos, Ok, Err, ok_or}
-use Rattle.std.specs.Prelude.{nat_eq, slice_index_or, if◌then◌else◌}
+use Rattle.std.specs.Prelude.{ℕ, zero, suc, ◌+◌, List, [], ◌∷◌, ◌++◌, map, Bool, true, false, ℤ, pos, Ok, Err}
+use Rattle.std.specs.Prelude.{ok_or, nat_eq, slice_index_or, if◌then◌else◌}
 use Rattle.syntax_tree.specs.declared.tree.ElementType.TheVariants.{Int}
 use Rattle.types.specs.declared.fault.FaultKind.{FaultKind}
 use Rattle.types.specs.declared.fault.FaultKind.TheVariants.{OutOfElement, SplitPoint, Raised}
-use Rattle.types.specs.Code.{Number, Truth, Primitive, Skip, Assign, Store, Print, Raise, Code, Do}
-use Rattle.types.specs.Code.{If, While, Split}
-use Rattle.types.specs.Code.{Call, Async, Finish, Codes, End, Then, Array, Procedure, Program}
+use Rattle.types.specs.Code.{Number, Truth, Primitive, Skip, Assign, Store, Print, Raise, Code, Do, If, While}
+use Rattle.types.specs.Code.{Split, Call, Async, Finish, Codes, End, Then, Array, Procedure, Program}
 use Rattle.sections.specs.Place.{Window, Place, nowhere, sides_of}
 use Rattle.types.specs.Contents.{Contents, read, write}
 use Rattle.types.specs.Value.{Environment, Valued, element_of, holds_number, number, numbers, truth}

@@ -1,13 +1,11 @@
 -- What is in scope at a place of a text, and how the scope goes on from statement to statement.
-use Rattle.std.specs.Prelude.{ℕ, ◌+◌, List, [], ◌∷◌, ◌++◌, length, true, false, Option}
-use Rattle.std.specs.Prelude.{Some, None}
-use Rattle.std.specs.Prelude.{nat_eq, if◌then◌else◌, slice_index_or}
+use Rattle.std.specs.Prelude.{ℕ, ◌+◌, List, [], ◌∷◌, ◌++◌, length, true, false, Option, Some, None, nat_eq}
+use Rattle.std.specs.Prelude.{if◌then◌else◌, slice_index_or}
 use Rattle.std.specs.Cmp.Lexicographic.{pointwise}
 use Rattle.syntax_tree.specs.declared.tree.ElementType.TheVariants.{Int}
-use Rattle.syntax_tree.specs.Tree.{Stmt, Skip, Var, Assign, Store, Print, Fault, If, IfElse, While}
-use Rattle.syntax_tree.specs.Tree.{Split, Call, Async}
-use Rattle.syntax_tree.specs.Tree.{Finish, Block, End, Then, Array, Parameter as Declared, Written}
-use Rattle.syntax_tree.specs.Tree.{Read, Scalar}
+use Rattle.syntax_tree.specs.Tree.{Stmt, Skip, Var, Assign, Store, Print, Fault, If, IfElse, While, Split}
+use Rattle.syntax_tree.specs.Tree.{Call, Async, Finish, Block, End, Then, Array, Parameter as Declared}
+use Rattle.syntax_tree.specs.Tree.{Written, Read, Scalar}
 use Rattle.sections.specs.Origins.{Origin, Root, Left, Right}
 use Rattle.types.specs.Code.{Parameter}
 

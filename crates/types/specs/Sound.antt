@@ -1,19 +1,16 @@
 -- What a program keeps that breaks no rule, once its names are resolved. Each line says which rule
 -- of the language gives it, or that the resolution of names does.
-use Rattle.std.specs.Prelude.{ℕ, zero, suc, ◌+◌, ◌^◌, ◌<◌, ◌≤◌, ◌≡◌, ◌≢◌, List, [], ◌∷◌, length}
-use Rattle.std.specs.Prelude.{map, Bool, true, false, ℤ, pos, negsuc, slice_get}
-use Rattle.std.specs.Prelude.{slice_index_or, Some}
+use Rattle.std.specs.Prelude.{ℕ, zero, suc, ◌+◌, ◌^◌, ◌<◌, ◌≤◌, ◌≡◌, ◌≢◌, List, [], ◌∷◌, length, map, Bool}
+use Rattle.std.specs.Prelude.{true, false, ℤ, pos, negsuc, slice_get, slice_index_or, Some}
 use Rattle.std.specs.List.{AllByRecursion, range_with_len}
 use Rattle.syntax_tree.specs.declared.tree.ElementType.TheVariants.{Int}
 use Rattle.sections.specs.Member.{Member}
 use Rattle.sections.specs.Origins.{Root, Left, Right, origin_of, IsNumbered}
 use Rattle.sections.specs.Overlap.{root_of, overlap}
-use Rattle.types.specs.Code.{Number, Literal, Scalar, Element, Length, Negative, Chain, Links, Done}
-use Rattle.types.specs.Code.{Link, Truth, Constant, Compare, Not, Both, Either, Truths, NoMore}
-use Rattle.types.specs.Code.{Also, Primitive, Skip, Assign, Store, Print, Raise, Code, Do}
-use Rattle.types.specs.Code.{If, While}
-use Rattle.types.specs.Code.{Split, Call, Async, Finish, Codes, End, Then, Array, Parameter}
-use Rattle.types.specs.Code.{Procedure, Program}
+use Rattle.types.specs.Code.{Number, Literal, Scalar, Element, Length, Negative, Chain, Links, Done, Link}
+use Rattle.types.specs.Code.{Truth, Constant, Compare, Not, Both, Either, Truths, NoMore, Also, Primitive}
+use Rattle.types.specs.Code.{Skip, Assign, Store, Print, Raise, Code, Do, If, While, Split, Call, Async}
+use Rattle.types.specs.Code.{Finish, Codes, End, Then, Array, Parameter, Procedure, Program}
 use Rattle.types.specs.Labels.{labels_of_program}
 use Rattle.types.specs.Run.{procedure_of}
 

@@ -5,36 +5,27 @@ use Rattle.std.specs.String.{string_bytes}
 use Rattle.sections.specs.Place.{nowhere}
 use Rattle.sections.specs.Translation.{section, window}
 use Rattle.sections.specs.Tree.{origins_of}
-use Rattle.types.specs.Code.{Number, Literal, Scalar, Element, Length, Negative, Chain, Links, Done}
-use Rattle.types.specs.Code.{Link, Truth}
-use Rattle.types.specs.Code.{Constant, Compare, Not, Both, Either, Truths, NoMore, Also, Primitive}
-use Rattle.types.specs.Code.{Skip, Assign, Store}
-use Rattle.types.specs.Code.{Print, Raise, Code, Do, If, While, Split, Call, Async, Finish, Codes}
-use Rattle.types.specs.Code.{End, Then}
-use Rattle.types.specs.Code.{Array, Parameter, Procedure, Program}
+use Rattle.types.specs.Code.{Number, Literal, Scalar, Element, Length, Negative, Chain, Links, Done, Link}
+use Rattle.types.specs.Code.{Truth, Constant, Compare, Not, Both, Either, Truths, NoMore, Also, Primitive}
+use Rattle.types.specs.Code.{Skip, Assign, Store, Print, Raise, Code, Do, If, While, Split, Call, Async}
+use Rattle.types.specs.Code.{Finish, Codes, End, Then, Array, Parameter, Procedure, Program}
 use Rattle.types.specs.Value.{Environment}
 use Rattle.types.specs.Run.{Fault, by_number}
 use Rattle.types.specs.Outcome.{Budget, Outcome, Ended, Stopped}
-use Rattle.types.specs.declared.code.Number.{Number as rNumber, Row_of-Link}
-use Rattle.types.specs.declared.code.Number.{end_of-Link, more_of-Link}
+use Rattle.types.specs.declared.code.Number.{Number as rNumber, Row_of-Link, end_of-Link, more_of-Link}
 use Rattle.types.specs.declared.code.Number.TheVariants.{Literal as rLiteral, Scalar as rScalar}
-use Rattle.types.specs.declared.code.Number.TheVariants.{Element' as rElement}
-use Rattle.types.specs.declared.code.Number.TheVariants.{Length as rLength, Negative' as rNegative}
-use Rattle.types.specs.declared.code.Number.TheVariants.{Chain' as rChain}
-use Rattle.types.specs.declared.code.Truth.{Truth as rTruth, Row_of-Truth}
-use Rattle.types.specs.declared.code.Truth.{end_of-Truth, more_of-Truth}
+use Rattle.types.specs.declared.code.Number.TheVariants.{Element' as rElement, Length as rLength}
+use Rattle.types.specs.declared.code.Number.TheVariants.{Negative' as rNegative, Chain' as rChain}
+use Rattle.types.specs.declared.code.Truth.{Truth as rTruth, Row_of-Truth, end_of-Truth, more_of-Truth}
 use Rattle.types.specs.declared.code.Truth.TheVariants.{Constant as rConstant, Compare as rCompare}
-use Rattle.types.specs.declared.code.Truth.TheVariants.{Not' as rNot}
-use Rattle.types.specs.declared.code.Truth.TheVariants.{Both' as rBoth, Either' as rEither}
+use Rattle.types.specs.declared.code.Truth.TheVariants.{Not' as rNot, Both' as rBoth, Either' as rEither}
 use Rattle.types.specs.declared.code.Primitive.{Primitive as rPrimitive}
-use Rattle.types.specs.declared.code.Primitive.TheVariants.{Skip as rSkip, Assign as rAssign}
-use Rattle.types.specs.declared.code.Primitive.TheVariants.{Store as rStore}
+use Rattle.types.specs.declared.code.Primitive.TheVariants.{Skip as rSkip, Assign as rAssign, Store as rStore}
 use Rattle.types.specs.declared.code.Primitive.TheVariants.{Print as rPrint, Fault as rRaise}
 use Rattle.types.specs.declared.code.Stmt.{Stmt}
 use Rattle.types.specs.declared.code.StmtKind.{StmtKind, Row_of-Stmt, end_of-Stmt, more_of-Stmt}
 use Rattle.types.specs.declared.code.StmtKind.TheVariants.{Do as rDo, If' as rIf, While' as rWhile}
-use Rattle.types.specs.declared.code.StmtKind.TheVariants.{Split' as rSplit}
-use Rattle.types.specs.declared.code.StmtKind.TheVariants.{Call as rCall, Async' as rAsync}
+use Rattle.types.specs.declared.code.StmtKind.TheVariants.{Split' as rSplit, Call as rCall, Async' as rAsync}
 use Rattle.types.specs.declared.code.StmtKind.TheVariants.{Finish' as rFinish}
 use Rattle.types.specs.declared.code.Array.{Array as rArray}
 use Rattle.types.specs.declared.code.SectionParameter.{SectionParameter}

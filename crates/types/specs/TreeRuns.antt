@@ -1,6 +1,5 @@
 -- Runs of step trees: lists of single steps, at each of which any leaf that may step does.
-use Rattle.std.specs.Prelude.{ℕ, suc, ◌+◌, ◌≡◌, List, [], ◌∷◌, ℤ, Option, Some, None}
-use Rattle.std.specs.Prelude.{if◌then◌else◌}
+use Rattle.std.specs.Prelude.{ℕ, suc, ◌+◌, ◌≡◌, List, [], ◌∷◌, ℤ, Option, Some, None, if◌then◌else◌}
 use Rattle.types.specs.Code.{Program}
 use Rattle.types.specs.Contents.{Contents, held_by, shown}
 use Rattle.types.specs.Outcome.{Ending, Outcome, Ended}

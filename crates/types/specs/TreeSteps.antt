@@ -3,12 +3,10 @@ use Rattle.std.specs.Prelude.{ℕ, ◌-◌, [], map, ℤ, Ok, Err, ok_or, nat_eq
 use Rattle.std.specs.Prelude.{Option, Some, None, if◌then◌else◌}
 use Rattle.sections.specs.Place.{Window, sides_of}
 use Rattle.types.specs.declared.fault.FaultKind.TheVariants.{SplitPoint}
-use Rattle.types.specs.Code.{Code, Do, If, While, Split, Call, Async, Finish, Codes, End, Then}
-use Rattle.types.specs.Code.{Program}
+use Rattle.types.specs.Code.{Code, Do, If, While, Split, Call, Async, Finish, Codes, End, Then, Program}
 use Rattle.types.specs.Contents.{Contents, read}
 use Rattle.types.specs.Value.{Valued, then_try, number, numbers, truth}
-use Rattle.types.specs.Run.{Flow, On, Faulted, Stopped, State, entry, with_sides, procedure_of}
-use Rattle.types.specs.Run.{primitive}
+use Rattle.types.specs.Run.{Flow, On, Faulted, Stopped, State, entry, with_sides, procedure_of, primitive}
 use Rattle.types.specs.Outcome.{whole_arrays}
 use Rattle.types.specs.Trees.{Leaf, Tree, Single, AndThen, Beside, single, done, failed}
 use Rattle.types.specs.Trees.{before_rest, called, child, parent, inside, held_back, and_then, ready}

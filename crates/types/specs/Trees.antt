@@ -1,6 +1,5 @@
 -- Step trees: all tasks of a program over one shared store, without a budget.
-use Rattle.std.specs.Prelude.{ℕ, ◌+◌, List, [], ◌∷◌, ◌++◌, Bool, true, false, ◌&&◌, ℤ}
-use Rattle.std.specs.Prelude.{if◌then◌else◌}
+use Rattle.std.specs.Prelude.{ℕ, ◌+◌, List, [], ◌∷◌, ◌++◌, Bool, true, false, ◌&&◌, ℤ, if◌then◌else◌}
 use Rattle.types.specs.declared.fault.FaultKind.{FaultKind}
 use Rattle.types.specs.Code.{Codes, End, Then, Procedure}
 use Rattle.types.specs.Value.{Environment}

@@ -15,8 +15,7 @@ ghost use Rattle.types.specs.Contents.{held_by, shown, write, FitsArrays};
 ghost use Rattle.types.specs.Value.{Environment, number, truth};
 ghost use Rattle.types.specs.Run.{Rules, State, Work, run, bind, by_number};
 ghost use Rattle.types.specs.Meaning.{one, one_rules};
-ghost use Rattle.types.specs.Outcome.{Budget, IsLarger, Ending, Ended, outcome};
-ghost use Rattle.types.specs.Outcome.{Means, whole_arrays};
+ghost use Rattle.types.specs.Outcome.{Budget, IsLarger, Ending, Ended, outcome, Means, whole_arrays};
 ghost use Rattle.types.specs.Indexed.{indexed, indexed_truth};
 ghost use Rattle.types.specs.Laws.{IsThrifty, Solves, IsOnly, IsKept, Keeps, OnlyAdds, SameOn};
 

@@ -1,6 +1,5 @@
 -- What rounds over the procedures leave, until no shorter way is found.
-use Rattle.std.specs.Prelude.{ℕ, ◌≡◌, ◌<◌, ◌≤◌, ◌+◌, ◌^◌, min, Bool, true, false}
-use Rattle.std.specs.Prelude.{List, [], ◌∷◌, length}
+use Rattle.std.specs.Prelude.{ℕ, ◌≡◌, ◌<◌, ◌≤◌, ◌+◌, ◌^◌, min, Bool, true, false, List, [], ◌∷◌, length}
 use Rattle.std.specs.Prelude.{Option, None, Some, slice_get}
 use Rattle.types.specs.Code.{Program}
 use Rattle.types.specs.Run.{procedure_of}

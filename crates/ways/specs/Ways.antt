@@ -1,14 +1,12 @@
 -- Ways: from statements down to an access that they may do, or leave pending, step by step.
 use Rattle.std.specs.Prelude.{ℕ, ◌≡◌, ◌<◌, Bool, false, List, [], ◌∷◌, length, Some, slice_get}
 use Rattle.sections.specs.Member.{Member}
-use Rattle.types.specs.Code.{Number, Truth, Code, If, While, Split, Call, Async, Finish, Codes, Then}
-use Rattle.types.specs.Code.{Program}
+use Rattle.types.specs.Code.{Number, Truth, Code, If, While, Split, Call, Async, Finish, Codes, Then, Program}
 use Rattle.types.specs.Run.{procedure_of}
 use Rattle.effects.specs.Accesses.{Access, own_accesses}
 use Rattle.effects.specs.Effects.{past_split}
 use Rattle.ways.specs.declared.step.Rule.{Rule}
-use Rattle.ways.specs.declared.step.Rule.TheVariants.{Own, Body, Other, Turn, Side, Enter}
-use Rattle.ways.specs.declared.step.Rule.TheVariants.{Begin, Await}
+use Rattle.ways.specs.declared.step.Rule.TheVariants.{Own, Body, Other, Turn, Side, Enter, Begin, Await}
 use Rattle.ways.specs.declared.step.Step.{Step}
 
 -- the step at the statement with this label, where the section has this name

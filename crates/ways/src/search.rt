@@ -3,8 +3,7 @@
 ghost use Rattle.std.specs.Prelude.{◌≡◌, ◌↔◌, if◌then◌else◌, false, length, map};
 ghost use Rattle.std.specs.Prelude.{IfOk, IfSome, IsTrue, MatchOption, None, Some};
 ghost use Rattle.sections.specs.Translation.{section as section_of};
-ghost use Rattle.types.specs.Translation.{code as plain_code, codes as codes_of};
-ghost use Rattle.types.specs.Translation.{program as program_of};
+ghost use Rattle.types.specs.Translation.{code as plain_code, codes as codes_of, program as program_of};
 ghost use Rattle.effects.specs.Effects.{past_split};
 ghost use Rattle.effects.specs.Translation.{access as access_of};
 ghost use Rattle.ways.specs.Known.{AreWays, IsFound, steps};

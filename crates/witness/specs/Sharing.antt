@@ -2,8 +2,7 @@
 use Rattle.std.specs.Prelude.{ℕ, ◌≡◌, ◌≢◌, List}
 use Rattle.sections.specs.Origins.{Origin, IsSideOf}
 use Rattle.witness.specs.declared.sharing.Sharing.{Sharing}
-use Rattle.witness.specs.declared.sharing.Sharing.TheVariants.{Same, FirstIsPart, SecondIsPart}
-use Rattle.witness.specs.declared.sharing.Sharing.TheVariants.{OfSplits}
+use Rattle.witness.specs.declared.sharing.Sharing.TheVariants.{Same, FirstIsPart, SecondIsPart, OfSplits}
 
 -- a section is another one, or a part of it
 pub data LiesIn (origins : List Origin) : (inner outer : ℕ) → Type 0 where

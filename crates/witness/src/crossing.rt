@@ -1,8 +1,7 @@
 //! Where what a statement leaves pending meets what is done behind it.
 
 ghost use Rattle.std.specs.Prelude.{◌≡◌, ◌+◌, IfOk, Some, length};
-ghost use Rattle.types.specs.Translation.{code as plain_code, codes as codes_of};
-ghost use Rattle.types.specs.Translation.{program as program_of};
+ghost use Rattle.types.specs.Translation.{code as plain_code, codes as codes_of, program as program_of};
 ghost use Rattle.effects.specs.Translation.{access as access_of};
 ghost use Rattle.witness.specs.Crossed.{ArePaired, IsAcross, IsInTurn, IsShortestOf, MeetAt};
 ghost use Rattle.witness.specs.Crossed.{MeetIn, both, crossed};

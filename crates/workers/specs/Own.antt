@@ -17,9 +17,8 @@ use Rattle.task_machine.specs.declared.task.Child.{Child}
 use Rattle.task_machine.specs.declared.task.Task.{Task}
 use Rattle.task_machine.specs.declared.turn.TaskResult.{TaskResult}
 use Rattle.task_machine.specs.declared.turn.Turn.{Turn}
-use Rattle.task_machine.specs.declared.turn.Turn.TheVariants.{Going, Spawns, WantsWeight}
-use Rattle.task_machine.specs.declared.turn.Turn.TheVariants.{EntersFinish, EndsFinish}
-use Rattle.task_machine.specs.declared.turn.Turn.TheVariants.{Ended, Over}
+use Rattle.task_machine.specs.declared.turn.Turn.TheVariants.{Going, Spawns, WantsWeight, EntersFinish}
+use Rattle.task_machine.specs.declared.turn.Turn.TheVariants.{EndsFinish, Ended, Over}
 use Rattle.task_machine.specs.declared.turn.Wanting.{Wanting}
 use Rattle.task_machine.specs.Tasks.{IsBody}
 use Rattle.workers.specs.declared.post.Next.{Next}

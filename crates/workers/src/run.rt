@@ -3,8 +3,7 @@
 ghost use Rattle.std.specs.Prelude.{◌≡◌, All, IfErr, IfOk, Option, Some};
 ghost use Rattle.types.specs.Contents.{FitsArrays};
 ghost use Rattle.types.specs.Outcome.{outcome as one_thread_outcome};
-ghost use Rattle.types.specs.Translation.{budget as budget_of, input as lists_in};
-ghost use Rattle.types.specs.Translation.{outcome as outcome_in};
+ghost use Rattle.types.specs.Translation.{budget as budget_of, input as lists_in, outcome as outcome_in};
 ghost use Rattle.types.specs.Typed.{code_of};
 ghost use Rattle.gather.specs.Jobs.{IsJob, outcome_of};
 ghost use Rattle.workers.specs.Desks.{Tells};

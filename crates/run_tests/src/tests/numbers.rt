@@ -2,14 +2,14 @@
 
 use crate::tests::worlds::{HALVES, NESTED};
 use crate::tests::{FAULTS, accepted, compare};
-use events::event::Event;
 use interleave::job::WeightedJob;
 use interleave::walk::random_walk;
+use race_checker::accepted::Accepted;
 use std::alloc::Global;
 use std::process::Abort;
 use std::sync::Wait;
 use std::thread::Threads;
-use trace_numbers::summary::summarize;
+use trace_numbers::summary::{Summary, summarize};
 use trace_numbers::text::summary_text;
 use types::budget::Budget;
 use types::input::Input;
@@ -18,7 +18,7 @@ use workers::run::run_noted;
 use workers::settings::Settings;
 
 /// Doubles each element, half by half.
-const DOUBLING: &str = "proc twice(mut s: int) {
+pub const DOUBLING: &str = "proc twice(mut s: int) {
   if len(s) <= 1 {
     if len(s) == 1 { s[0] = s[0] * 2; }
   } else {
@@ -40,7 +40,7 @@ steps of worker 0: 61
 ";
 
 /// A task whose child may end behind it, and what comes behind a finish within a finish.
-const OUTLIVED: &str = "main { finish { async { async { skip; skip; skip; } } skip; } skip; }";
+pub const OUTLIVED: &str = "main { finish { async { async { skip; skip; skip; } } skip; } skip; }";
 
 /// Programs, and the first lines of what is told of their runs.
 const ROWS: [(&str, &str); 4] = [
@@ -96,10 +96,20 @@ fn one_worker_does_all(rt: HostRuntime) {
     compare(&rt, alloc, DOUBLING, told.as_str(), DONE_BY_ONE);
 }
 
-/// The work and the span of events.
-fn work_and_span(rt: &impl Abort, alloc: Global, events: &[Event]) -> (usize, usize) {
-    let summary = summarize(alloc, events).expect(rt, "memory");
-    (summary.steps, summary.span)
+/// The numbers of a list of events that a run on zeros may have, drawn from a seed on.
+pub fn walked(
+    rt: &impl Abort,
+    alloc: Global,
+    program: &Accepted,
+    budget: Budget,
+    seed: u32,
+) -> Summary {
+    let input = Input::zeros(alloc, program.typed()).expect(rt, "memory");
+    let job = WeightedJob::new(alloc, program, &input, budget, u64::from(seed % 9 + 1));
+    let job = job.expect(rt, "a weight");
+    let workers = seed % 64 + 1;
+    let walk = random_walk(job, workers, u64::from(seed), 1_000_000).expect(rt, "memory");
+    summarize(alloc, &walk.events).expect(rt, "memory")
 }
 
 #[test]
@@ -112,17 +122,11 @@ fn walks_come_to_one_work_and_one_span(rt: HostRuntime) {
         let input = Input::zeros(alloc, program.typed()).expect(&rt, "memory");
         let noted = run_noted(&rt, alloc, &program, &input, settings, &NoGate);
         let (_, events) = noted.expect(&rt, "an outcome");
-        let want = work_and_span(&rt, alloc, &events);
+        let want = summarize(alloc, &events).expect(&rt, "memory");
         for seed in 0..50u32 {
-            let workers = seed * 9 % 64 + 1;
-            let job = WeightedJob::new(alloc, &program, &input, budget, u64::from(seed % 9 + 1));
-            let job = job.expect(&rt, "a weight");
-            let walk = random_walk(job, workers, u64::from(seed), 1_000_000).expect(&rt, "memory");
-            let told = work_and_span(&rt, alloc, &walk.events);
-            assert!(rt;
-                told == want,
-                "walk {seed} of {text}: {told:?}, and not {want:?}"
-            );
+            let told = walked(&rt, alloc, &program, budget, seed);
+            assert!(rt; told.steps == want.steps, "work of {text}, walk {seed}");
+            assert!(rt; told.span == want.span, "span of {text}, walk {seed}");
         }
     }
 }

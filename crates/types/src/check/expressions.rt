@@ -5,8 +5,7 @@
 ghost use Rattle.std.specs.Prelude.{◌≡◌, [], ◌∷◌, map, OnOk, IfOk, IfErr, Some, pos};
 ghost use Rattle.std.specs.String.{string_bytes};
 ghost use Rattle.syntax_tree.specs.Tree.{expr as expr_of, conj as conj_of, neg as neg_of, cmp as cmp_of};
-ghost use Rattle.syntax_tree.specs.Tree.{sum as sum_of, prod as prod_of};
-ghost use Rattle.syntax_tree.specs.Tree.{unary as unary_of, atom as atom_of};
+ghost use Rattle.syntax_tree.specs.Tree.{sum as sum_of, prod as prod_of, unary as unary_of, atom as atom_of};
 ghost use Rattle.types.specs.Code.{Literal};
 ghost use Rattle.types.specs.ExpressionErrors as errors;
 ghost use Rattle.types.specs.NameErrors.{naming_section, naming_scalar};

@@ -6,18 +6,14 @@ ghost use Rattle.std.specs.Prelude.{◌≡◌, [], ◌≤◌, ◌+◌, map, OnOk
 ghost use Rattle.std.specs.Prelude.{sum_by, Some, None, codes};
 ghost use Rattle.std.specs.String.{string_bytes};
 ghost use Rattle.syntax_tree.specs.Tree.{block as block_of, procedure as procedure_as};
-ghost use Rattle.syntax_tree.specs.Tree.{parameter as parameter_of};
-ghost use Rattle.syntax_tree.specs.Tree.{array as array_of, main as main_of};
+ghost use Rattle.syntax_tree.specs.Tree.{parameter as parameter_of, array as array_of, main as main_of};
 ghost use Rattle.types.specs.NameErrors.{declaring};
 ghost use Rattle.types.specs.Resolution.{array as array_at, resolved as resolved_at};
-ghost use Rattle.types.specs.Resolution.{procedures as procedures_at, label_behind};
-ghost use Rattle.types.specs.Resolution.{label_behind_all};
+ghost use Rattle.types.specs.Resolution.{procedures as procedures_at, label_behind, label_behind_all};
 ghost use Rattle.types.specs.Resolving.{scope_of, procedures_of, IsWellScoped};
-ghost use Rattle.types.specs.Rules.{errors, limit as over, parameter_errors};
-ghost use Rattle.types.specs.Rules.{array_errors, procedure_errors};
+ghost use Rattle.types.specs.Rules.{errors, limit as over, parameter_errors, array_errors, procedure_errors};
 ghost use Rattle.types.specs.Rules.{procedures_errors, main_errors, name_of};
-ghost use Rattle.types.specs.Scope.{meant, after, empty_scope, in_procedure};
-ghost use Rattle.types.specs.Scope.{in_main, with_parameter};
+ghost use Rattle.types.specs.Scope.{meant, after, empty_scope, in_procedure, in_main, with_parameter};
 ghost use Rattle.types.specs.Told.{Told};
 ghost use Rattle.types.specs.Translation.{array, procedure};
 

@@ -2,13 +2,11 @@
 
 #![tactic(auto, using(crate::proofs::Telling::telling))]
 
-ghost use Rattle.std.specs.Prelude.{◌≡◌, ◌∷◌, ◌++◌, [], ◌-◌, ◌+◌, ◌≤◌, ◌<◌, length, OnOk};
-ghost use Rattle.std.specs.Prelude.{IfOk, IfErr, Some};
+ghost use Rattle.std.specs.Prelude.{◌≡◌, ◌∷◌, ◌++◌, [], ◌-◌, ◌+◌, ◌≤◌, ◌<◌, length, OnOk, IfOk, IfErr, Some};
 ghost use Rattle.std.specs.String.{string_bytes};
 ghost use Rattle.types.specs.NameErrors.{declaring};
 ghost use Rattle.types.specs.Resolving.{scope_of, left as left_by};
-ghost use Rattle.types.specs.Scope.{ASection, meant, empty_scope, with_scalar};
-ghost use Rattle.types.specs.Scope.{with_root, with_sides};
+ghost use Rattle.types.specs.Scope.{ASection, meant, empty_scope, with_scalar, with_root, with_sides};
 ghost use Rattle.types.specs.Scope.{next as next_place, inside_async as in_async_body, kind_of};
 ghost use Rattle.types.specs.Told.{Told};
 ghost use Rattle.types.specs.Translation.{parameter};

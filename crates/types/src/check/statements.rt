@@ -4,9 +4,8 @@
 
 ghost use Rattle.std.specs.Prelude.{◌≡◌, [], ◌∷◌, ◌++◌, ◌≤◌, map, OnOk, IfOk, IfErr, Some};
 ghost use Rattle.std.specs.String.{string_bytes};
-ghost use Rattle.syntax_tree.specs.Tree.{block as block_of, stmt as stmt_of, expr as expr_of};
-ghost use Rattle.syntax_tree.specs.Tree.{Var, Assign, Store, Print, Fault, If, IfElse, While, Split};
-ghost use Rattle.syntax_tree.specs.Tree.{Call, Async, Finish};
+ghost use Rattle.syntax_tree.specs.Tree.{block as block_of, stmt as stmt_of, expr as expr_of, Var, Assign};
+ghost use Rattle.syntax_tree.specs.Tree.{Store, Print, Fault, If, IfElse, While, Split, Call, Async, Finish};
 ghost use Rattle.types.specs.Resolution.{code as code_at, codes as codes_at, number as number_at};
 ghost use Rattle.types.specs.Resolution.{truth as truth_at};
 ghost use Rattle.types.specs.ExpressionErrors.{number as number_errors, numbers as numbers_errors};

@@ -1,7 +1,6 @@
 use Rattle.std.proofs.Common.{ap, sym, ◌∙◌, rules, w64, FitsSigned}
 use Rattle.std.proofs.lemmas.Int.{to_z-of_z}
-use Rattle.types.specs.Translation.{environment}
-use Rattle.types.specs.Translation.{number as number_of}
+use Rattle.types.specs.Translation.{environment, number as number_of}
 use Rattle.types.specs.Rows.{links as links_of}
 use Rattle.types.specs.Value.{number, links, then_try}
 use Rattle.types.proofs.Chains.{number-Chain}

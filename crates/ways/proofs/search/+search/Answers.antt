@@ -15,10 +15,8 @@ use Rattle.ways.specs.Ways.{Way}
 use Rattle.ways.specs.declared.search.Sought.{Sought}
 use Rattle.ways.specs.declared.step.Step.{Step}
 use Rattle.ways.proofs.Found.{covered_less, least_end, least_front, least_own, least_on, least_if}
-use Rattle.ways.proofs.Found.{least_while, least_async}
-use Rattle.ways.proofs.Found.{least_split, least_call, stepped, at_code, behind_led, inside_ways}
-use Rattle.ways.proofs.Found.{awaited_ways}
-use Rattle.ways.proofs.Found.{side_found_in, finish_found}
+use Rattle.ways.proofs.Found.{least_while, least_async, least_split, least_call, stepped, at_code, behind_led}
+use Rattle.ways.proofs.Found.{inside_ways, awaited_ways, side_found_in, finish_found}
 use Rattle.ways.proofs.search.+search.Goals as goal
 
 pub way_in-way_of-requires : goal.way_in-way_of-requires

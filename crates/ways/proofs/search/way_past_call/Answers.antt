@@ -1,5 +1,4 @@
-use Rattle.std.proofs.Common.{refl, rules}
-use Rattle.std.proofs.Common.{◌<◌, length}
+use Rattle.std.proofs.Common.{refl, rules, ◌<◌, length}
 use Rattle.ways.proofs.Knowns.{below_none, below_more, below_all}
 use Rattle.ways.proofs.search.way_past_call.Goals as goal
 

@@ -164,30 +164,3 @@ fn only_one_spelling_is_read(rt: HostRuntime) {
         assert_eq!(rt; error, Some(TraceError::NotALine(1)), "{text}");
     }
 }
-
-/// What a text cut behind some bytes is read as.
-fn cut(rt: &impl Abort, alloc: Global, length: usize) -> String {
-    let bytes = LINES.as_bytes().get(..length).expect(rt, "within");
-    let front = std::str::from_utf8(bytes).expect(rt, "ascii");
-    told(rt, alloc, front)
-}
-
-#[test]
-fn a_text_that_is_cut_names_its_last_line(rt: HostRuntime) {
-    let alloc = rt.alloc();
-    let mut line: usize = 1;
-    let mut whole = false;
-    for (length, byte) in LINES.bytes().enumerate() {
-        let told = cut(&rt, alloc, length);
-        if whole {
-            assert_eq!(rt; told.len(), length);
-        } else {
-            let wanted = format!(in alloc; "J1 line {line}").expect(&rt, "memory");
-            assert_eq!(rt; told.as_str(), wanted.as_str());
-        }
-        whole = byte == b'\n';
-        if whole {
-            line = line.saturating_add(1);
-        }
-    }
-}

@@ -1,34 +1,15 @@
 //! What runs cost: numbers that are known from what the programs do, and those of the same programs' traces.
 
+use crate::tests::numbers::{DOUBLING, OUTLIVED, walked};
+use crate::tests::{accepted, compare};
 use cost::cost::{Costed, measure};
 use cost_text::text::cost_text;
-use interleave::job::WeightedJob;
-use interleave::walk::random_walk;
 use race_checker::accepted::Accepted;
-use race_checker::check::check;
 use std::alloc::Global;
 use std::process::Abort;
-use std::thread::Threads;
-use syntax::parse;
-use trace_numbers::summary::{Summary, summarize};
 use types::budget::Budget;
-use types::check::type_check;
 use types::input::Input;
 use types::outcome::Outcome;
-use types::typed::Typed;
-
-/// Doubles each element, half by half.
-const DOUBLING: &str = "proc twice(mut s: int) {
-  if len(s) <= 1 {
-    if len(s) == 1 { s[0] = s[0] * 2; }
-  } else {
-    split s at len(s) / 2 as l, r { async { twice(l); } twice(r); }
-  }
-}
-main { array a: int[8]; finish { twice(a); } }";
-
-/// A task whose child may end behind it, and what comes behind a finish within a finish.
-const OUTLIVED: &str = "main { finish { async { async { skip; skip; skip; } } skip; } skip; }";
 
 /// Tasks of an inner finish are waited for there, and the one of the outer finish at its end.
 const NESTED: &str = "main {
@@ -73,54 +54,19 @@ const ROWS: [(&str, &str); 6] = [
     ),
 ];
 
-/// A program.
-fn typed(rt: &impl Abort, alloc: Global, text: &str) -> Typed {
-    let program = parse(alloc, text).expect(rt, "a text of the language");
-    type_check(alloc, program).expect(rt, "a program")
-}
-
 /// A run of a program on zeros.
-fn run(rt: &impl Abort, alloc: Global, typed: &Typed, budget: Budget) -> Costed {
-    let input = Input::zeros(alloc, typed).expect(rt, "memory");
-    measure(alloc, typed, &input, budget).expect(rt, "memory")
-}
-
-/// A program without a race.
-fn accepted(rt: &(impl Abort + Threads + Sync), alloc: Global, text: &str) -> Accepted {
-    match check(rt, alloc, typed(rt, alloc, text)) {
-        Ok(accepted) => accepted,
-        Err(_) => panic!(rt; "a race in {text}"),
-    }
-}
-
-/// The numbers of a list of events that a run on zeros may have, drawn from a seed on.
-fn walked(rt: &impl Abort, alloc: Global, program: &Accepted, seed: u32) -> Summary {
+fn run(rt: &impl Abort, alloc: Global, program: &Accepted, budget: Budget) -> Costed {
     let input = Input::zeros(alloc, program.typed()).expect(rt, "memory");
-    let job = WeightedJob::new(
-        alloc,
-        program,
-        &input,
-        Budget::usual(),
-        u64::from(seed % 9 + 1),
-    );
-    let job = job.expect(rt, "a weight");
-    let workers = seed % 64 + 1;
-    let walk = random_walk(job, workers, u64::from(seed), 1_000_000).expect(rt, "memory");
-    summarize(alloc, &walk.events).expect(rt, "memory")
-}
-
-/// Compares what is said at a row with what the row wants.
-fn compare(rt: &impl Abort, row: &str, said: &str, want: &str) {
-    assert!(rt; said == want, "at {row}\nsaid: {said}\nwant: {want}");
+    measure(alloc, program.typed(), &input, budget).expect(rt, "memory")
 }
 
 #[test]
 fn runs_cost_what_their_steps_say(rt: HostRuntime) {
     let alloc = rt.alloc();
     for (text, want) in ROWS {
-        let costed = run(&rt, alloc, &typed(&rt, alloc, text), Budget::usual());
+        let costed = run(&rt, alloc, &accepted(&rt, alloc, text), Budget::usual());
         let told = cost_text(alloc, &costed.cost).expect(&rt, "memory");
-        compare(&rt, text, told.as_str(), want);
+        compare(&rt, alloc, text, told, want);
     }
 }
 
@@ -129,9 +75,9 @@ fn every_order_of_events_has_the_same_numbers(rt: HostRuntime) {
     let alloc = rt.alloc();
     for (text, _) in ROWS {
         let program = accepted(&rt, alloc, text);
-        let cost = run(&rt, alloc, program.typed(), Budget::usual()).cost;
+        let cost = run(&rt, alloc, &program, Budget::usual()).cost;
         for seed in 0..20u32 {
-            let walked = walked(&rt, alloc, &program, seed);
+            let walked = walked(&rt, alloc, &program, Budget::usual(), seed);
             assert!(&rt; walked.steps == cost.work, "work of {text}, walk {seed}");
             assert!(&rt; walked.span == cost.span, "span of {text}, walk {seed}");
             assert!(&rt; walked.tasks == cost.tasks, "tasks of {text}, walk {seed}");
@@ -146,7 +92,7 @@ fn every_order_of_events_has_the_same_numbers(rt: HostRuntime) {
 #[test]
 fn a_stopped_run_costs_what_it_did(rt: HostRuntime) {
     let alloc = rt.alloc();
-    let endless = typed(
+    let endless = accepted(
         &rt,
         alloc,
         "main { finish { async { while true { skip; } } print 1; } }",

@@ -1,6 +1,0 @@
-//! Tests of what runs cost.
-
-#![tactic(auto)]
-
-#[cfg(test)]
-mod tests;

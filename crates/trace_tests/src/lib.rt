@@ -1,8 +1,0 @@
-//! Tests of the texts and pictures of traces.
-
-#![tactic(auto)]
-
-#[cfg(test)]
-mod drawn;
-#[cfg(test)]
-mod tests;
