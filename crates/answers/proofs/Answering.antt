@@ -1,4 +1,5 @@
 -- From what a command wrote, or why it wrote nothing, to what was done.
+pub use Rattle.facts.proofs.Results.{err_passed}
 use Rattle.std.proofs.Common.{◌≡◌, ◌≢◌, ◌<◌, ◌≤◌, inl, inr, ℕ, List, Option, Some, Result, Ok, Err, ap, ◌∙◌, map, sym, subst, refl}
 use Rattle.std.proofs.KnownBytes.{Keeps-refl}
 use Rattle.std.proofs.Math.Dec.{ltb}
@@ -70,11 +71,6 @@ IsOther _ = Unit {0}
 
 pub other_failure : (f : Failure) → IsOther f → f ≢ CannotWriteOutput
 other_failure f other is = subst IsOther is other
-
-pub if_err_passed : {T : Type 0} (r : Result T Failure) (f : Failure) (Q : Failure → Type 0) → IsErrAnd r (λ y. y ≡ f)
-    → Q f → IfErr r Q
-if_err_passed (Ok x) f Q is fact = absurd is
-if_err_passed (Err y) f Q is fact = subst Q (sym is) fact
 
 module _ (Is : Answer) (Why : Failure → Type 0) where
   -- a failure that comes before anything is written

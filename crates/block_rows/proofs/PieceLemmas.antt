@@ -7,6 +7,7 @@ use Rattle.sections.specs.Covers.{is_in}
 use Rattle.sections.specs.Place.{Place, Window, first_places, places_behind}
 use Rattle.blocks.specs.Held.{Map}
 use Rattle.block_rows.specs.Pieces.{piece_length, piece, behind_piece, taking}
+use Rattle.facts.proofs.Truths.{if_false}
 
 -- ---- a window and its two parts
 
@@ -59,9 +60,6 @@ pub taking-both : {A : Type 0} (a b c : Place → Bool) (from into : Map A)
     → ((q : Place) → c q ≡ (a q || b q)) → taking b from (taking a from into) ≡ taking c from into
 taking-both a b c from into e = λ t q. taking_at (a q) (b q) (c q) (from q) (into q) (e q) t
 
-none_at : {A : Type 0} (c : Bool) (x y : Option A) → c ≡ false → (if c then x else y) ≡ y
-none_at c x y e = ap (λ k. if k then x else y) e
-
 pub taking-none : {A : Type 0} (c : Place → Bool) (from into : Map A)
     → ((q : Place) → c q ≡ false) → taking c from into ≡ into
-taking-none c from into e = λ t q. none_at (c q) (from q) (into q) (e q) t
+taking-none c from into e = λ t q. if_false (c q) (from q) (into q) (e q) t

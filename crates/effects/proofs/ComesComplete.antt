@@ -29,6 +29,7 @@ use Rattle.effects.specs.declared.visits.Standing.TheVariants.{Open, Begun, Awai
 use Rattle.effects.proofs.AccessesInScope.{origin_from_get, allowed, pending_all}
 use Rattle.effects.proofs.ComesSound.{past_root}
 use Rattle.effects.proofs.Members.{in_flat_map, in_left, in_right, numbers_from-below}
+use Rattle.facts.proofs.Lists.{get-append_last}
 
 -- a statement of a procedure, where it stands
 abbrev seen : Standing → ℕ → Code → Visit
@@ -66,10 +67,6 @@ front [] g d k h = absurd (omega (arith, h))
 front (x ∷ xs) g d zero h = refl
 front (x ∷ xs) g d (suc k) h = front xs g d k (omega (arith, h))
 
-behind : (gs : List Procedure) (g : Procedure) → slice_get (gs ++ g ∷ []) (length gs) ≡ Some g
-behind [] g = refl
-behind (x ∷ xs) g = behind xs g
-
 one_more : (gs : List Procedure) (g : Procedure) → length (gs ++ g ∷ []) ≡ length gs + 1
 one_more [] g = refl
 one_more (x ∷ xs) g = let e : length (xs ++ g ∷ []) ≡ length xs + 1 = one_more xs g in omega (arith, e)
@@ -84,7 +81,7 @@ module _ (p : Program) (sound : IsSound p) where
 
   last : Stands p (length p.procedures) p.main
   last = record {
-    at = behind p.procedures p.main;
+    at = get-append_last p.procedures p.main;
     below = (let e : length (numbered p) ≡ length p.procedures + 1 = one_more p.procedures p.main in omega (arith, e));
     sound = sound.main;
   }

@@ -30,6 +30,7 @@ use Rattle.effects.specs.declared.visits.Standing.TheVariants.{Open, Begun, Awai
 use Rattle.effects.proofs.AccessesInScope.{past_split-left, past_split-right, past_split-other, origin_from_get, allowed, pending_all}
 use Rattle.effects.proofs.Members.{in_parts, numbers_from-below}
 use Rattle.effects.proofs.VisitLemmas.{up, left_up, Leaves}
+use Rattle.facts.proofs.Truths.{if_false, if_true}
 
 -- what is in such a list comes from an element
 from_flat_map : {A B : Type 0} (f : A → List B) {y : B} (xs : List A) → Member y (flat_map f xs) → (x : A) × Member x xs × Member y (f x)
@@ -43,14 +44,6 @@ from_flat_map f (x ∷ xs) m = elim (in_parts (f x) m) [
 from_when : {A : Type 0} (b : Bool) (xs : List A) {x : A} → Member x (if b then xs else []) → (b ≡ true) × Member x xs
 from_when true xs m = (refl, m)
 from_when false xs m = elim m [ ]
-
-then_of : (b : Bool) (x y : Codes) → b ≡ true → (if b then x else y) ≡ x
-then_of true x y e = refl
-then_of false x y e = cc
-
-else_of : (b : Bool) (x y : Codes) → b ≡ false → (if b then x else y) ≡ y
-else_of true x y e = cc
-else_of false x y e = refl
 
 -- an element of a list with one more behind it
 one_of : {A : Type 0} (xs : List A) (x : A) (f : ℕ) (y : A) → slice_get (xs ++ x ∷ []) f ≡ Some y
@@ -66,13 +59,13 @@ one_of (z ∷ zs) x (suc f) y e = elim (one_of zs x f y e) [
 module _ (p : Program) where
   body_of-main : body_of p (length p.procedures) ≡ p.main.body
   body_of-main =
-      let n = length p.procedures in then_of (nat_eq n n) p.main.body (procedure_of p n).body (eq-eqb n n refl)
+      let n = length p.procedures in if_true (nat_eq n n) p.main.body (procedure_of p n).body (eq-eqb n n refl)
 
   -- a procedure that can be called isn't `main`
   pub body_of-other : (f : ℕ) → f < length p.procedures → body_of p f ≡ (procedure_of p f).body
   body_of-other f h =
       let n = length p.procedures in
-      else_of (nat_eq f n) p.main.body (procedure_of p f).body (ne_eqb f n (λ e. omega (arith, h, e)))
+      if_false (nat_eq f n) p.main.body (procedure_of p f).body (ne_eqb f n (λ e. omega (arith, h, e)))
 
   -- the procedure of a number is sound, and its body is that of the number
   numbered_body : IsSound p → (f : ℕ) (g : Procedure) → slice_get (numbered p) f ≡ Some g → IsSoundIn p g × (g.body ≡ body_of p f)

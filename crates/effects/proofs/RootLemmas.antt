@@ -3,12 +3,13 @@ use Rattle.std.proofs.Common.{◌≡◌, inl, inr, ℕ, zero, suc, ◌+◌, ◌<
 use Rattle.std.proofs.lemmas.Bool.{ltb-true, ltb-false}
 use Rattle.std.proofs.lemmas.List.{get_or_past, length-map}
 use Rattle.std.specs.Prelude.{Bool, true, false, nat_lt, slice_index_or}
-use Rattle.sections.specs.Origins.{Origin, Root, origin_of, IsNumbered, IsSideOf, left, right}
+use Rattle.sections.specs.Origins.{Origin, Root, origin_of, IsNumbered}
 use Rattle.sections.specs.Overlap.{beyond, root_of}
 use Rattle.sections.specs.Translation.{section}
 use Rattle.sections.specs.declared.id.SectionId.{SectionId}
 use Rattle.sections.proofs.Lines.{root_or_side, parent_below, root_of-root, root_of-side}
 use Rattle.effects.specs.ListedRoots.{listed_root}
+use Rattle.sections.proofs.Lines.{beyond-side}
 
 listed_before : (xs : List SectionId) (x : SectionId) (s d : ℕ) → s < length xs
     → slice_index_or (map section (xs ++ x ∷ [])) s d ≡ slice_index_or (map section xs) s d
@@ -19,11 +20,6 @@ listed_before (y ∷ ys) x (suc s) d h = listed_before ys x s d (omega (arith, h
 listed_last : (xs : List SectionId) (x : SectionId) (d : ℕ) → slice_index_or (map section (xs ++ x ∷ [])) (length xs) d ≡ x.number
 listed_last [] x d = refl
 listed_last (y ∷ ys) x d = listed_last ys x d
-
--- what a side names is its parent
-beyond_side : (origins : List Origin) (d : ℕ) (go : ℕ → ℕ) (a s : ℕ) → IsSideOf origins s a → beyond d go (origin_of origins a) ≡ go s
-beyond_side origins d go a s (left e) = ap (beyond d go) e
-beyond_side origins d go a s (right e) = ap (beyond d go) e
 
 -- past the sections each is its own root
 past_sections : (origins : List Origin) (xs : List SectionId) (s : ℕ) → length xs ≤ s → length origins ≤ s
@@ -51,7 +47,7 @@ module _ (origins : List Origin) (numbered : IsNumbered origins) where
   root_next listed n before = elim (root_or_side origins n) [
     | inl e ↦ ap (beyond n listed) e ∙ sym (root_of-root origins n e)
     | inr (s, side) ↦
-        beyond_side origins n listed n s side ∙ before s (parent_below origins numbered s n side)
+        beyond-side origins n listed n s side ∙ before s (parent_below origins numbered s n side)
         ∙ sym (root_of-side origins numbered n s side)
   ]
 

@@ -15,7 +15,7 @@ pub parts : {A P : Type 0} {x : A} (xs : List A) {ys : List A} → (Member x xs 
 parts xs f g h = elim (in_parts xs h) [ inl k ↦ f k | inr k ↦ g k ]
 
 -- the names of an `if` or a loop are those around it
-kept : (subject : Subject) (xs : List subject.Item) (x : subject.Item) → Member x xs → Member (subject.renamed (λ s. s) x) xs
+pub kept : (subject : Subject) (xs : List subject.Item) (x : subject.Item) → Member x xs → Member (subject.renamed (λ s. s) x) xs
 kept subject xs x h = subst (λ y. Member y xs) (sym (subject.kept x)) h
 
 module _ (p : Program) (subject : Subject) (table : Table subject) where

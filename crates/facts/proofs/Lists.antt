@@ -1,8 +1,9 @@
 -- Lists.
-use Rattle.std.proofs.Common.{◌≡◌, ℕ, zero, suc, List, [], ◌∷◌, ap, refl, ◌∙◌}
-use Rattle.std.specs.Prelude.{replicate}
+use Rattle.std.proofs.Common.{◌≡◌, ℕ, zero, suc, List, [], ◌∷◌, ◌++◌, length, ap, refl, ◌∙◌}
+use Rattle.std.specs.Prelude.{Some, replicate, slice_get}
 use Rattle.std.specs.List.{AllZip, repeat}
 use Rattle.std.proofs.lemmas.List.{map-id}
+use Rattle.std.proofs.lemmas.Option.{none-some}
 use Rattle.std.proofs.lemmas.Slice.Zip.{AllZip-map}
 
 -- a list whose elements are those of another one is that one
@@ -23,6 +24,16 @@ same_rest {A} e = ap rest e
     rest : List A → List A
     rest [] = []
     rest (z ∷ zs) = zs
+
+-- an element of the first of two lists, and the one behind a list
+pub get-append_left : {A : Type 0} (xs ys : List A) (k : ℕ) (x : A) → slice_get xs k ≡ Some x → slice_get (xs ++ ys) k ≡ Some x
+get-append_left [] ys k x e = absurd (none-some _ e)
+get-append_left (y ∷ xs) ys zero x e = e
+get-append_left (y ∷ xs) ys (suc k) x e = get-append_left xs ys k x e
+
+pub get-append_last : {A : Type 0} (xs : List A) (x : A) → slice_get (xs ++ x ∷ []) (length xs) ≡ Some x
+get-append_last [] x = refl
+get-append_last (y ∷ xs) x = get-append_last xs x
 
 -- a space that is repeated is a row of spaces
 pub spaces : (n : ℕ) → repeat {A = ℕ} n (32 ∷ []) ≡ replicate n 32

@@ -1,6 +1,6 @@
 -- Truth values.
-use Rattle.std.proofs.Common.{◌≡◌, ◌∙◌, sym, refl, true≢false}
-use Rattle.std.specs.Prelude.{Bool, true, false, ◌||◌}
+use Rattle.std.proofs.Common.{◌≡◌, ◌∙◌, sym, ap, refl, true≢false}
+use Rattle.std.specs.Prelude.{Bool, true, false, ◌||◌, if◌then◌else◌}
 
 -- from two that differ anything follows
 pub false_true : {A : Type 0} → false ≡ true → A
@@ -24,3 +24,15 @@ pub or_swap : (a b c : Bool) → (a || (b || c)) ≡ (b || (a || c))
 or_swap true true c = refl
 or_swap true false c = refl
 or_swap false b c = refl
+
+-- what is chosen where the test is known
+pub if_true : {A : Type 0} (b : Bool) (x y : A) → b ≡ true → (if b then x else y) ≡ x
+if_true b x y e = ap (λ (c : Bool). if c then x else y) e
+
+pub if_false : {A : Type 0} (b : Bool) (x y : A) → b ≡ false → (if b then x else y) ≡ y
+if_false b x y e = ap (λ (c : Bool). if c then x else y) e
+
+-- what holds of both holds of whichever is chosen
+pub if_either : {A : Type 0} (P : A → Type 0) (b : Bool) (x y : A) → P x → P y → P (if b then x else y)
+if_either P true x y p q = p
+if_either P false x y p q = q

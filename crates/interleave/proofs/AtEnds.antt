@@ -43,7 +43,7 @@ use Rattle.interleave.specs.declared.task.Whereabouts.{Whereabouts as rWhereabou
 use Rattle.interleave.specs.declared.task.Whereabouts.TheVariants.{Queue as rQueue, Hand as rHand, Parked as rParked}
 use Rattle.interleave.specs.declared.world.World.{World as rWorld}
 use Rattle.interleave.proofs.Came.{ends_with}
-use Rattle.interleave.proofs.InHand.{InHand, acts as goes_by, acts_nowhere, ahead_of, does_in, err_is, gives_in, in_the_hand, known_next}
+use Rattle.interleave.proofs.InHand.{InHand, acts as goes_by, acts_nowhere, ahead_of, does_in, err_passed, gives_in, in_the_hand, known_next}
 use Rattle.interleave.proofs.GoingOn.{ends_are_own}
 use Rattle.interleave.proofs.Hands.{hands_are_apart, free_without, free_parked}
 use Rattle.interleave.proofs.LateWeights.{none_is_late}
@@ -468,7 +468,7 @@ module _ {old r1 : rWorld} (known : IsWorld old) (still : WorldStays old r1) whe
   module _ {A : Type 0} (o : Result A EventError) (path : Path) (e : EventError) (is : IsErrAnd o (λ x. x ≡ e))
       (nowhere : e ≡ Illegal → (k : rTask) → get is_path old.tasks path ≡ Some k → hand_of (whereabouts k.place) ≡ None) where
     unseen_so : (event : Event) → ((w : World) → Shows old w → e ≡ Illegal → next_world old.job event w ≡ None) → IfErr o (Refuses event old r1)
-    unseen_so event none = err_is o e (Refuses event old r1) is (refuses_by old r1 event e still (λ i w h. none w h i))
+    unseen_so event none = err_passed o e (Refuses event old r1) is (refuses_by old r1 event e still (λ i w h. none w h i))
 
     pub end_unseen : IfErr o (Refuses (Ends path.turns.items) old r1)
     end_unseen =

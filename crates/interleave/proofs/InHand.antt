@@ -1,11 +1,12 @@
 -- The events of a task in a hand, as the tables in Rust show them.
+pub use Rattle.facts.proofs.Results.{err_passed}
 use Rattle.std.proofs.Common.{◌≡◌, ℕ, ◌+◌, ◌-◌, ◌*◌, ◌/◌, ◌≤◌, ◌<◌, List, [], ◌∷◌, ◌++◌, Option, Some, None, refl, sym, ap, ◌∙◌, subst, arith}
 use Rattle.std.proofs.lemmas.Bool.{and_parts, le-leb, lt-ltb, leb-true, ltb-true, eqb-true}
 use Rattle.std.proofs.lemmas.Option.{none-some, same_Some}
 use Rattle.std.specs.Prelude.{true, ◌&&◌, length, slice_index_or, not, nat_eq, nat_le, map, if◌then◌else◌}
 use Rattle.std.specs.HashMap.{get}
 use Rattle.std.specs.Prelude.{Result, Ok, Err}
-use Rattle.std.specs.Result.{IfOk, OnOk, IfErr, OnErr, IsErrAnd}
+use Rattle.std.specs.Result.{IfOk, OnOk, IfErr, OnErr}
 use Rattle.types.specs.declared.path.Path.{Path}
 use Rattle.effects.specs.Rounds.{needs_of}
 use Rattle.own_run.specs.OwnRun.{Action, Step, Spawn, EnterFinish, EndFinish, EndTask, Start, last_action}
@@ -181,11 +182,6 @@ free_same v to was (t ∷ ts) lives same =
     lives
 
 -- ---- in Rust
--- an error that `?` hands on
-pub err_is : {A E : Type 0} (r : Result A E) (e : E) (P : E → Type 0) → IsErrAnd r (λ x. x ≡ e) → P e → IfErr r P
-err_is (Ok a) e P h p = absurd h
-err_is (Err x) e P h p = subst P (sym h) p
-
 -- the first of a list is one thing
 pub one_first : {A : Type 0} (xs ys zs : List A) (x y : A) → xs ≡ x ∷ ys → xs ≡ y ∷ zs → (x ≡ y) × (ys ≡ zs)
 one_first xs ys zs x y e f = let g : x ∷ ys ≡ y ∷ zs = sym e ∙ f in (cc g, cc g)

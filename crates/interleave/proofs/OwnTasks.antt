@@ -16,7 +16,7 @@ use Rattle.own_run.specs.OwnRun.{Start, Action, Step, Spawn, EnterFinish, EndFin
 use Rattle.own_run.specs.OwnRun.{result_of, last_action, actions_of, begun_by, beginning, from_receipts, run_by}
 use Rattle.own_run.specs.Given.{filled, in_truth, own, given, IsOfOwnRun, IsOwn}
 use Rattle.own_run.proofs.SettledResults.{paths_same, IsGiven, given_last}
-use Rattle.own_run.proofs.Begun.{begun_by-append, get-append_left, never_waits, run_tells}
+use Rattle.own_run.proofs.Begun.{begun_by-append, never_waits, run_tells}
 use Rattle.own_run.proofs.Lists.{each_last, each_append}
 use Rattle.own_run.proofs.TaskRuns.{each_if_given}
 use Rattle.interleave.specs.World.{same_path, ScopeId, Stake, Live, Scope, World, Whereabouts, Queue, Hand, Parked}
@@ -33,6 +33,7 @@ use Rattle.interleave.proofs.Truth.{Rel, Behind, run_in_truth}
 use Rattle.interleave.proofs.Levels.{depth, depth-append, take_next, take-append, depth_next}
 use Rattle.interleave.proofs.Direct.{bracketed}
 use Rattle.interleave.proofs.Numbered.{given_path, begun_at}
+use Rattle.facts.proofs.Lists.{get-append_left}
 
 module _ (p : Program) (needs : Codes → Needs) (fresh w0 : ℕ) (root : Start) (nameless : root.path ≡ []) where
   -- what a task does in truth

@@ -1,7 +1,7 @@
 -- A turn that does something takes a step, and one that takes a step does something or is stopped.
 use Rattle.std.proofs.Common.{◌≡◌, ℕ, zero, suc, ◌+◌, ◌≤◌, List, [], ◌∷◌, ◌++◌, refl, sym, inl}
 use Rattle.std.proofs.Common.{inr, arith, le_refl}
-use Rattle.std.specs.Prelude.{◌⊎◌, true, false, Option}
+use Rattle.std.specs.Prelude.{◌⊎◌, false, Option}
 use Rattle.facts.proofs.Truths.{false_true}
 use Rattle.types.specs.Code.{Code, Do, If, While, Split, Call, Async, Finish, Codes, End, Then, Program}
 use Rattle.types.specs.Run.{Flow, On, Faulted, Stopped, State, counted}
@@ -11,7 +11,7 @@ use Rattle.own_run.specs.OwnRun.{Action, Step, Spawn, EnterFinish, EndFinish, En
 use Rattle.own_run.specs.Frames.{Frame, Rest, Again, AtEnd, Back, turn, paid, by_flow}
 use Rattle.own_run.specs.Frames.{done_by, done_at, done_in}
 use Rattle.own_run.specs.Stops.{is_over, is_next_over, stops}
-use Rattle.own_run.proofs.Counted.{counted_steps}
+use Rattle.types.proofs.Counted.{counted_steps}
 use Rattle.own_run.proofs.TasksEnd.{acted_less}
 use Rattle.interleave.proofs.Histories.{nil_cons}
 
@@ -83,36 +83,6 @@ module _ (p : Program) (needs : Codes → Needs) (nest : ℕ) (close : State Own
   turn_idle (Again l t b) fs st none k = flow_idle st.flow l (While t b) fs fs st none k
   turn_idle (AtEnd before) fs st none k = le_refl st.steps
   turn_idle (Back env) fs st none k = le_refl st.steps
-
-  -- over the budget nothing is done
-  over_by : (m n : ℕ) (c : Code) (st : State Own) → is_over m n c ≡ true → done_by needs m n c st ≡ []
-  over_by m zero c st k = refl
-  over_by zero (suc n) (Async b) st k = refl
-  over_by (suc m) (suc n) (Async b) st k = false_true k
-  over_by zero (suc n) (Finish b) st k = false_true k
-  over_by zero (suc n) (Do s) st k = false_true k
-  over_by zero (suc n) (If t b c) st k = false_true k
-  over_by zero (suc n) (While t b) st k = false_true k
-  over_by zero (suc n) (Split s i x y b) st k = false_true k
-  over_by zero (suc n) (Call f es ss) st k = false_true k
-  over_by (suc m) (suc n) (Finish b) st k = false_true k
-  over_by (suc m) (suc n) (Do s) st k = false_true k
-  over_by (suc m) (suc n) (If t b c) st k = false_true k
-  over_by (suc m) (suc n) (While t b) st k = false_true k
-  over_by (suc m) (suc n) (Split s i x y b) st k = false_true k
-  over_by (suc m) (suc n) (Call f es ss) st k = false_true k
-
-  over_at : (g : Flow) (c : Code) (st : State Own) → is_next_over nest g st.steps c ≡ true → done_at needs nest g c st ≡ []
-  over_at On c st k = over_by nest st.steps c st k
-  over_at Faulted c st k = refl
-  over_at Stopped c st k = refl
-
-  pub over_idle : (f : Frame Own) (st : State Own) → stops nest f st ≡ true → done_in needs nest f st ≡ []
-  over_idle (Rest End) st k = refl
-  over_idle (Rest (Then l s rest)) st k = over_at st.flow s st k
-  over_idle (Again l t b) st k = over_at st.flow (While t b) st k
-  over_idle (AtEnd before) st k = refl
-  over_idle (Back env) st k = refl
 
   -- a task that is begun has the next path
   abbrev pub Named : List ℕ → List Action → Type 0

@@ -23,10 +23,11 @@ use Rattle.own_run.specs.OwnRun.{Start, Action, EndFinish, Own, at_first, notes,
 use Rattle.own_run.specs.OwnRun.{own_rules, begun_by, beginning, from_receipts, run_by}
 use Rattle.own_run.specs.Given.{in_truth, own, IsOwn}
 use Rattle.own_run.specs.Frames.{IsBegun, HasBegun, IsGivenChild}
-use Rattle.own_run.proofs.Begun.{begun_by-append, get-append_left, Tells, tells, begin_tells, enter_tells}
+use Rattle.own_run.proofs.Begun.{begun_by-append, Tells, tells, begin_tells, enter_tells}
 use Rattle.own_run.proofs.Begun.{at_first_fine, idle_tells}
 use Rattle.own_run.proofs.Lists.{each_more}
 use Rattle.own_run.proofs.SettledResults.{gives, IsGiven, begun_is_true, part_sound}
+use Rattle.facts.proofs.Lists.{get-append_left}
 
 pub record Prefix {A : Type 0} (xs zs : List A) : Type 0 where
   pub rest : List A

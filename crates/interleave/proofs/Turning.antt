@@ -47,7 +47,8 @@ use Rattle.interleave.specs.World.{child_path}
 use Rattle.interleave.specs.declared.doing.Doing.TheVariants.{Steps, Spawns as rSpawns, Opens}
 use Rattle.interleave.specs.declared.doing.Doing.TheVariants.{AtFinish, AtEnd as rAtEnd}
 use Rattle.interleave.proofs.Histories.{nil_cons}
-use Rattle.interleave.proofs.Paying.{turn_pays, turn_idle, over_idle, turn_names, Named}
+use Rattle.interleave.proofs.Paying.{turn_pays, turn_idle, turn_names, Named}
+use Rattle.own_run.proofs.ListedTurns.{over_does_nothing}
 
 -- what a turn shows of a task that was to run, which had so many steps left
 abbrev pub IsShown : Job → Course → (before : ℕ) → Turn → Type 0
@@ -239,7 +240,7 @@ module _ (j : Job) (ok : IsJob j) where
     )
     by_turn (EntersFinish q) stay h =
         (next_is c f fs st EnterFinish come (does_so (EnterFinish ∷ []) h.1.1), opened_one q h.0 h.1.1)
-    by_turn (Over q) stay h = silent q h.0 (over_idle p (needs_of p) r.thread.nest (in_truth p (needs_of p) (budget_of j).steps) f st h.1)
+    by_turn (Over q) stay h = silent q h.0 (over_does_nothing (needs_of p) r.thread.nest f st h.1)
     by_turn (EndsFinish w x) stay h = absurd h
     by_turn (Ended x) stay h = absurd h
 

@@ -1,5 +1,4 @@
 -- What a task lists, it has begun, each under a path of its own; and where all is handed over it never waits.
-use Rattle.std.proofs.lemmas.Option.{none-some}
 use Rattle.std.proofs.Common.{◌≡◌, ℕ, zero, suc, ◌+◌, List, [], ◌∷◌, ◌++◌, length, Option, Some, None, refl, sym, ap}
 use Rattle.std.proofs.Common.{◌∙◌, subst, arith, add-one, append_assoc}
 use Rattle.std.proofs.lemmas.List.{append-nil, length_push}
@@ -16,6 +15,7 @@ use Rattle.own_run.specs.OwnRun.{begun_by, beginning}
 use Rattle.own_run.specs.Frames.{IsBegun, HasBegun}
 use Rattle.own_run.specs.Lists.{Each}
 use Rattle.own_run.proofs.Lists.{each_more, each_last}
+use Rattle.facts.proofs.Lists.{get-append_left}
 
 -- ---- lists
 pub begun_by-append : (acts bs : List Action) → begun_by (acts ++ bs) ≡ begun_by acts ++ begun_by bs
@@ -25,11 +25,6 @@ begun_by-append (Step ∷ acts) bs = begun_by-append acts bs
 begun_by-append (EnterFinish ∷ acts) bs = begun_by-append acts bs
 begun_by-append (EndFinish ∷ acts) bs = begun_by-append acts bs
 begun_by-append (EndTask ∷ acts) bs = begun_by-append acts bs
-
-pub get-append_left : {A : Type 0} (xs ys : List A) (k : ℕ) (x : A) → slice_get xs k ≡ Some x → slice_get (xs ++ ys) k ≡ Some x
-get-append_left [] ys k x e = absurd (none-some _ e)
-get-append_left (y ∷ xs) ys zero x e = e
-get-append_left (y ∷ xs) ys (suc k) x e = get-append_left xs ys k x e
 
 get_last : {A : Type 0} (xs : List A) (x : A) (k : ℕ) → length xs ≡ k → slice_get (xs ++ x ∷ []) k ≡ Some x
 get_last [] x zero e = refl

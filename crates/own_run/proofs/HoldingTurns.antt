@@ -26,7 +26,7 @@ use Rattle.own_run.specs.Frames.{Frame, Rest, Again, AtEnd, Back, paid, by_flow,
 use Rattle.own_run.specs.Holds.{having, locked_after, Stack, MayBegin, Carries, Returns, Holds, HasOwn, HasNeeds}
 use Rattle.own_run.specs.Settling.{settle, Parted}
 use Rattle.own_run.specs.Lists.{Each}
-use Rattle.own_run.proofs.Counted.{counted_is}
+use Rattle.types.proofs.Counted.{counted_is}
 use Rattle.own_run.proofs.Lists.{each_more}
 use Rattle.own_run.proofs.Windows.{named_some, not_nowhere}
 use Rattle.own_run.proofs.AccessNames.{named_all, overwrites_more}

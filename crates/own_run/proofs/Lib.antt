@@ -6,7 +6,6 @@ pub mod BelongingTasks
 pub mod Children
 pub mod ComesBack
 pub mod CompleteResults
-pub mod Counted
 pub mod ExactResults
 pub mod Examples
 pub mod GoingOn

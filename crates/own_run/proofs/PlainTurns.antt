@@ -16,7 +16,7 @@ use Rattle.own_run.specs.Results.{Settled}
 use Rattle.own_run.specs.OwnRun.{Own, own_rules}
 use Rattle.own_run.specs.Frames.{Frame, Rest, Again, Back, Standing, acted, by_flow, by_value, chosen, done_at, done_by, paid, turn}
 use Rattle.own_run.specs.Quiet.{IsLittle, Quietly, here, further}
-use Rattle.own_run.proofs.Counted.{counted_flow, counted_steps}
+use Rattle.types.proofs.Counted.{counted_flow, counted_steps}
 use Rattle.own_run.proofs.TaskTurns.{own_thrifty}
 
 -- the frame of work

@@ -17,10 +17,11 @@ use Rattle.own_run.specs.Frames.{IsBegun, HasBegun, HasBegunBelow, IsGivenChild,
 use Rattle.own_run.specs.Settling.{settle}
 use Rattle.own_run.specs.Lists.{Each}
 use Rattle.own_run.proofs.Lists.{each_more}
-use Rattle.own_run.proofs.Begun.{at_first_fine, quiet, begun_by-append, get-append_left, still_begun}
+use Rattle.own_run.proofs.Begun.{at_first_fine, quiet, begun_by-append, still_begun}
 use Rattle.own_run.proofs.SettledResults.{begun_is_true, part_sound}
 use Rattle.own_run.proofs.TurnsResume.{turn_keeps}
 use Rattle.own_run.proofs.TaskTurns.{own_thrifty, resume_grows, turn_kept}
+use Rattle.facts.proofs.Lists.{get-append_left}
 
 module _ (p : Program) (needs : Codes → Needs) (fresh : ℕ) (root : Start) where
   -- what is of a task's own run is so for whatever start its path is given

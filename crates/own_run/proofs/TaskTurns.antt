@@ -18,7 +18,7 @@ use Rattle.own_run.specs.OwnRun.{Action, Own, EndFinish, notes, is_waiting, begi
 use Rattle.own_run.specs.OwnRun.{own_rules}
 use Rattle.own_run.specs.Frames.{Frame, Rest, Again, AtEnd, Back, Standing, frame, resume, by_value, chosen, acted}
 use Rattle.own_run.specs.Frames.{paid, by_flow, turn, IsBegun, HasBegun, HasBegunBelow}
-use Rattle.own_run.proofs.Counted.{counted_is}
+use Rattle.types.proofs.Counted.{counted_is}
 use Rattle.own_run.proofs.Lists.{each_more}
 use Rattle.own_run.proofs.Begun.{Tells, tells, idle_tells, still_begun, run_tells, enter_tells, begin_tells}
 

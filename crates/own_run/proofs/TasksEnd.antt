@@ -1,14 +1,14 @@
 -- Each task that can begin comes to its end by turns, so that it has at its end what it touches; and the results of all settle.
 use Rattle.std.proofs.Common.{◌≡◌, ℕ, zero, suc, ◌+◌, ◌<◌, ◌≤◌, List, [], ◌∷◌, Option, Some, Ok, Err, refl}
 use Rattle.std.proofs.Common.{subst, arith, le_refl}
-use Rattle.std.specs.Prelude.{ℤ, Bool, true, false, flat_map, ok_or}
-use Rattle.sections.specs.Place.{Place, sides_of}
+use Rattle.std.specs.Prelude.{Bool, true, false, flat_map, ok_or}
+use Rattle.sections.specs.Place.{sides_of}
 use Rattle.types.specs.declared.fault.FaultKind.TheVariants.{SplitPoint}
-use Rattle.types.specs.Code.{Primitive, Skip, Assign, Store, Print, Raise, Code, Do, If, While, Split, Call, Async}
+use Rattle.types.specs.Code.{Code, Do, If, While, Split, Call, Async}
 use Rattle.types.specs.Code.{Finish, Codes, End, Then, Program}
-use Rattle.types.specs.Value.{Valued, element_of, holds_number}
-use Rattle.types.specs.Run.{Flow, On, Faulted, Stopped, State, Rules, with_value, assign, put, number_at, numbers_at}
-use Rattle.types.specs.Run.{truth_at, window_at, array_of, primitive, counted}
+use Rattle.types.specs.Value.{Valued}
+use Rattle.types.specs.Run.{Flow, On, Faulted, Stopped, State, Rules, number_at, numbers_at}
+use Rattle.types.specs.Run.{truth_at, window_at, counted}
 use Rattle.effects.specs.Needs.{Needs, Provides}
 use Rattle.race_checker.specs.Scope.{IsScoped}
 use Rattle.race_checker.specs.Calm.{IsCalm}
@@ -22,11 +22,12 @@ use Rattle.own_run.specs.Settling.{settle, IsParted}
 use Rattle.own_run.specs.Lists.{Each, Shuffled}
 use Rattle.own_run.proofs.Lists.{each_append}
 use Rattle.own_run.proofs.CompleteResults.{own_complete}
-use Rattle.own_run.proofs.Counted.{counted_steps}
+use Rattle.types.proofs.Counted.{counted_steps}
 use Rattle.own_run.proofs.TaskRuns.{begins_task, turns_task, handed_task}
 use Rattle.own_run.proofs.OnePath.{shuffled_each, shuffled_once, below_once}
 use Rattle.own_run.proofs.SettledResults.{lists_true}
 use Rattle.own_run.proofs.HoldingTurns.{turn_holds, handed_true, begin_holds}
+use Rattle.types.proofs.Solutions.{primitive_less}
 
 -- ---- a turn spends a step, or leaves less on the frames
 abbrev pub size : Codes → ℕ
@@ -46,24 +47,6 @@ weight (f ∷ fs) = weight_of f + weight fs
 pub data Falls (st : State Own) (w : ℕ) (t : Standing Own) : Type 0 where
   spends : t.state.steps < st.steps → Falls st w t
   sheds : t.state.steps ≤ st.steps → weight t.frames < w → Falls st w t
-
-value_less : {A : Type 0} (l : ℕ) (v : Valued A) (go : A → State Own → State Own) (st : State Own) → ((x : A) → (go x st).steps ≤ st.steps)
-    → (with_value l v go st).steps ≤ st.steps
-value_less l (Ok x) go st h = h x
-value_less l (Err f) go st h = le_refl st.steps
-
-put_less : (l : ℕ) (fits : Bool) (q : Place) (v : ℤ) (st : State Own) → (put l fits q v st).steps ≤ st.steps
-put_less l true q v st = le_refl st.steps
-put_less l false q v st = le_refl st.steps
-
-pub primitive_less : (p : Program) (l : ℕ) (s : Primitive) (st : State Own) → (primitive p l s st).steps ≤ st.steps
-primitive_less p l Skip st = le_refl st.steps
-primitive_less p l (Assign x e) st = value_less l (number_at st e) (assign x) st (λ v. le_refl st.steps)
-primitive_less p l (Store s i e) st =
-    value_less l (number_at st i) _ st (λ at. value_less l (number_at st e) _ st (λ v.
-    value_less l (element_of (window_at st s) at) _ st (λ q. put_less l (holds_number (array_of p q.array).element v) q v st)))
-primitive_less p l (Print es) st = value_less l (numbers_at st es) _ st (λ vs. le_refl st.steps)
-primitive_less p l (Raise e) st = value_less l (number_at st e) _ st (λ v. le_refl st.steps)
 
 stand_less : {A : Type 0} (l : ℕ) (v : Valued A) (go : A → Standing Own) (fs : List (Frame Own)) (st : State Own)
     → ((x : A) → (go x).state.steps ≤ st.steps) → (by_value l v go fs st).state.steps ≤ st.steps

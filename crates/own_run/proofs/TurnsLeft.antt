@@ -34,6 +34,7 @@ use Rattle.own_run.specs.declared.turn.Paused.{Paused}
 use Rattle.own_run.specs.declared.turn.Turn.{Turn}
 use Rattle.own_run.specs.declared.turn.Turn.TheVariants.{Going, Spawns, EntersFinish, EndsFinish, Ended, Over}
 use Rattle.own_run.proofs.TasksEnd.{primitive_less}
+use Rattle.std.proofs.lemmas.Nat.{mul-le}
 
 -- no async
 abbrev IsPlain : Code → Type 0
@@ -81,11 +82,6 @@ begun_left fresh (EnterFinish ∷ rest) = begun_left fresh rest
 begun_left fresh (EndFinish ∷ rest) = begun_left fresh rest
 begun_left fresh (EndTask ∷ rest) = begun_left fresh rest
 
-times : (a b c : ℕ) → a ≤ b → a * c ≤ b * c
-times zero b c le = omega arith
-times (suc a) zero c le = absurd (omega (arith, le))
-times (suc a) (suc b) c le = let h = times a b c (omega (arith, le)) in omega (arith, h)
-
 -- no step is added, and frames cost at most so much more
 record Adds (most : ℕ) (fs : List (Frame Own)) (st : State Own) (t : Standing Own) : Type 0 where
   steps : t.state.steps ≤ st.steps
@@ -117,7 +113,7 @@ added_left fresh n most m fs st t few e a =
     let j = a.frames in
     let k = stops_once t.state.flow in
     let r = some_rate fresh n in
-    let f = times t.state.steps m (rate fresh n) (omega (arith, i, e)) in
+    let f = mul-le t.state.steps (rate fresh n) m (rate fresh n) (omega (arith, i, e)) (le_refl (rate fresh n)) in
     omega (arith, few, f, j, k, r)
 
 module _ (fresh : ℕ) (p : Program) (needs : Codes → Needs) (close : State Own → Option Settled) where

@@ -12,7 +12,7 @@ use Rattle.types.specs.Laws.{IsThrifty}
 use Rattle.types.proofs.Solutions.{solves}
 use Rattle.own_run.specs.Frames.{Frame, Rest, Again, AtEnd, Back, Standing, resume, by_value, chosen, acted, paid}
 use Rattle.own_run.specs.Frames.{by_flow, turn}
-use Rattle.own_run.proofs.Counted.{counted_flow}
+use Rattle.types.proofs.Counted.{counted_flow}
 
 module _ (p : Program) {X : Type 0} (r : Rules X) (thrifty : IsThrifty r) (enters : (l : ℕ) (st : State X) → (r.enter l st).flow ≡ st.flow) where
   abbrev m : Work → State X → State X

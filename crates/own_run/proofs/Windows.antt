@@ -19,6 +19,7 @@ use Rattle.types.specs.Sound.{passed_for}
 use Rattle.effects.specs.Effects.{past_split}
 use Rattle.race_checker.specs.Scope.{Scope, Top, Inside, InScope, FitsScope, FitsTop}
 use Rattle.own_run.specs.Places.{named}
+use Rattle.race_checker.proofs.Scoping.{bit_inside}
 
 -- a section of a list whose window has the place
 pub record Names (env : Environment) (ss : List ℕ) (q : Place) : Type 0 where
@@ -119,12 +120,7 @@ bind_other {A} x v f z n = by_test (nat_eq x z) refl
 pub fits_top : (ms : List Bool) (env new : Environment) → ((s : ℕ) → s < length ms → new.windows s ≡ env.windows s) → FitsTop ms env
     → FitsTop ms new
 fits_top ms env new e h j k may lt ne q a b =
-    h j k may lt ne q (subst (λ w. In w q) (e j (below j ms may)) a) (subst (λ w. In w q) (e k lt) b)
-  where
-    below : (j : ℕ) (ms : List Bool) → slice_index_or ms j false ≡ true → j < length ms
-    below j [] h = absurd (false_true h)
-    below zero (m ∷ ms) h = omega arith
-    below (suc j) (m ∷ ms) h = let k = below j ms h in omega (arith, k)
+    h j k may lt ne q (subst (λ w. In w q) (e j (bit_inside ms j may)) a) (subst (λ w. In w q) (e k lt) b)
 
 -- what fits does so by the windows in scope alone
 pub fits_same : (sc : Scope) (env new : Environment) → ((s : ℕ) → InScope sc s → new.windows s ≡ env.windows s) → FitsScope sc env

@@ -22,6 +22,7 @@ use Rattle.parallel_relation.specs.Listing.{InList, IsUse, all_listed, pending_l
 use Rattle.parallel_relation.specs.declared.listing.Listed.{Listed}
 use Rattle.effects.proofs.ComesSound.{body_of-other}
 use Rattle.parallel_relation.proofs.SpreadLemmas.{below_next, no_body}
+use Rattle.facts.proofs.Lists.{get-append_last}
 
 -- an access more at the end of a list
 pushed_only : (xs : List rAccess) (y : rAccess) (x : Access) → InList (xs ++ y ∷ []) x → InList xs x ⊎ (x ≡ access y)
@@ -76,10 +77,6 @@ get_pushed [] y f h = absurd (omega (arith, h))
 get_pushed (x ∷ xs) y zero h = refl
 get_pushed (x ∷ xs) y (suc f) h = get_pushed xs y f (omega (arith, h))
 
-get_last : {A : Type 0} (xs : List A) (y : A) → slice_get (xs ++ y ∷ []) (length xs) ≡ Some y
-get_last [] y = refl
-get_last (x ∷ xs) y = get_last xs y
-
 both_ways : {A B C : Type 0} → A ↔ B → B ↔ C → A ↔ C
 both_ways f g = (λ a. g.0 (f.0 a), λ c. f.1 (g.1 c))
 
@@ -108,7 +105,7 @@ module _ (p : Program) where
 
       got : slice_get those n ≡ Some y
       got = ap (λ (xs : List Listed). slice_get xs n) is
-          ∙ subst (λ k. slice_get (these ++ y ∷ []) k ≡ Some y) number (get_last these y)
+          ∙ subst (λ k. slice_get (these ++ y ∷ []) k ≡ Some y) number (get-append_last these y)
 
       last : IsListedAt p those n
       last = record {

@@ -12,7 +12,7 @@ use Rattle.effects.specs.Effects.{past_split, Inner, Subject, AllOf, All, Pendin
 use Rattle.effects.specs.Tables.{Table, all_inside, all_in, left_by, left_in, alls_after, IsDerivedPending}
 use Rattle.parallel_relation.proofs.LeastNumbers.{Passing, some_passes}
 use Rattle.effects.proofs.Members.{in_left, in_right, in_map}
-use Rattle.effects.proofs.StableTables.{parts, listed, left, alls_derived}
+use Rattle.effects.proofs.StableTables.{parts, kept, listed, left, alls_derived}
 
 module _ (p : Program) (subject : Subject) where
   abbrev alls : ℕ → Table subject
@@ -23,10 +23,6 @@ module _ (p : Program) (subject : Subject) where
   pendings zero f = []
   pendings (suc k) f = left_in subject (alls k) (pendings k) (procedure_of p f).body
 
-  -- the names of an `if` or a loop are those around it
-  same_names : (xs : List subject.Item) (x : subject.Item) → Member x xs → Member (subject.renamed (λ s. s) x) xs
-  same_names xs x h = subst (λ y. Member y xs) (sym (subject.kept x)) h
-
   -- ---- All
   abbrev AllReached : Codes → subject.Item → Type 0
   AllReached b x = (k : ℕ) × Member x (all_in subject (alls k) b)
@@ -34,10 +30,10 @@ module _ (p : Program) (subject : Subject) where
   inner_reached : {s : Code} {b : Codes} {out : ℕ → ℕ} → Inner p s b out → (x : subject.Item) (k : ℕ) → Member x (all_in subject (alls k) b)
       → (n : ℕ) × Member (subject.renamed out x) (all_inside subject (alls n) s)
   inner_reached (Inner.if_body {b = b} {c = c}) x k h =
-      (k, same_names (all_in subject (alls k) b ++ all_in subject (alls k) c) x (in_left (all_in subject (alls k) c) h))
+      (k, kept subject (all_in subject (alls k) b ++ all_in subject (alls k) c) x (in_left (all_in subject (alls k) c) h))
   inner_reached (Inner.if_other {b = b} {c = c}) x k h =
-      (k, same_names (all_in subject (alls k) b ++ all_in subject (alls k) c) x (in_right (all_in subject (alls k) b) h))
-  inner_reached (Inner.while {b = b}) x k h = (k, same_names (all_in subject (alls k) b) x h)
+      (k, kept subject (all_in subject (alls k) b ++ all_in subject (alls k) c) x (in_right (all_in subject (alls k) b) h))
+  inner_reached (Inner.while {b = b}) x k h = (k, kept subject (all_in subject (alls k) b) x h)
   inner_reached (Inner.split {s = s} {l = l} {r = r}) x k h = (k, in_map (subject.renamed (past_split s l r)) h)
   inner_reached (Inner.call {f = f} {ss = ss}) x k h = (suc k, in_map (subject.renamed (passed_for ss)) h)
 
@@ -70,11 +66,11 @@ module _ (p : Program) (subject : Subject) where
       → (n : ℕ) × Member (subject.renamed out x) (left_by subject (alls n) (pendings n) s)
   inner_left (Inner.if_body {b = b} {c = c}) x k h =
       let other = left_in subject (alls k) (pendings k) c in
-      (k, same_names (left_in subject (alls k) (pendings k) b ++ other) x (in_left other h))
+      (k, kept subject (left_in subject (alls k) (pendings k) b ++ other) x (in_left other h))
   inner_left (Inner.if_other {b = b} {c = c}) x k h =
       let one = left_in subject (alls k) (pendings k) b in
-      (k, same_names (one ++ left_in subject (alls k) (pendings k) c) x (in_right one h))
-  inner_left (Inner.while {b = b}) x k h = (k, same_names (left_in subject (alls k) (pendings k) b) x h)
+      (k, kept subject (one ++ left_in subject (alls k) (pendings k) c) x (in_right one h))
+  inner_left (Inner.while {b = b}) x k h = (k, kept subject (left_in subject (alls k) (pendings k) b) x h)
   inner_left (Inner.split {s = s} {l = l} {r = r}) x k h = (k, in_map (subject.renamed (past_split s l r)) h)
   inner_left (Inner.call {f = f} {ss = ss}) x k h = (suc k, in_map (subject.renamed (passed_for ss)) h)
 

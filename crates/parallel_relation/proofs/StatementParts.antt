@@ -1,15 +1,12 @@
 -- The labels of a statement, and their pairs, are those of its parts.
 use Rattle.std.proofs.Common.{◌≡◌, ◌⊎◌, inl, inr, ℕ, refl, sym, subst, [], ◌∷◌}
-use Rattle.sections.specs.Member.{Member, first, next}
+use Rattle.sections.specs.Member.{Member, first}
 use Rattle.types.specs.Code.{Code, Do, If, While, Split, Call, Async, Finish, Codes, End, Then, Program}
 use Rattle.types.specs.Run.{procedure_of}
 use Rattle.effects.specs.Effects.{labels, Inner, AllOf, All, PendingOf, Pending}
 use Rattle.parallel_relation.specs.Together.{Block, Together}
 use Rattle.parallel_relation.specs.Around.{both, at, one, BlockMeets, CallMeets, InsideMeets}
-
-only_one : (l x : ℕ) → Member x (l ∷ []) → x ≡ l
-only_one l x first = refl
-only_one l x (next h) = elim h [ ]
+use Rattle.effects.proofs.StatementLemmas.{of_one}
 
 module _ (p : Program) where
   -- what the blocks of a statement have, and the procedure of its call
@@ -48,7 +45,7 @@ module _ (p : Program) where
   left_within Inner.call x h = h
 
   pub done_of : {l : ℕ} {s : Code} {x : ℕ} → AllOf p labels l s x → (x ≡ l) ⊎ Done s x
-  done_of (AllOf.own_access {l = l} {x = x} m) = inl (only_one l x m)
+  done_of (AllOf.own_access {l = l} {x = x} m) = inl (of_one m)
   done_of (AllOf.inner {x = x} {y = y} i h e) = inr (within_inner (All p labels) i x y h e)
   done_of (AllOf.async h) = inr h
   done_of (AllOf.finish h) = inr h

@@ -1,6 +1,6 @@
 -- What a walk tests, and what is reached.
 use Rattle.std.proofs.Common.{◌≡◌, ◌⊎◌, ℕ, List, refl, inl, inr}
-use Rattle.std.proofs.lemmas.Bool.{false≢true, true≢false}
+use Rattle.std.proofs.lemmas.Bool.{and_parts, false≢true, true≢false}
 use Rattle.std.specs.Prelude.{◌↔◌, Bool, true, false, ◌&&◌}
 use Rattle.types.specs.Code.{Code, Do, If, While, Split, Call, Async, Finish, Codes, End, Then, Program}
 use Rattle.types.specs.Run.{procedure_of}
@@ -9,16 +9,7 @@ use Rattle.plain_code.specs.Calm.{AreCalm, AreMarked, are_plain_by, calm_at, is_
 use Rattle.plain_code.specs.Plain.{ArePlain, IsPlain, Reaches}
 use Rattle.plain_code.proofs.Reaching.{reaches_behind, reaches_inside}
 
--- two tests that hold
-pub first_holds : (a b : Bool) → a && b ≡ true → a ≡ true
-first_holds true b h = refl
-first_holds false b h = absurd (false≢true h)
-
-pub second_holds : (a b : Bool) → a && b ≡ true → b ≡ true
-second_holds true b h = h
-second_holds false b h = absurd (false≢true h)
-
--- and two of which one doesn't
+-- two tests of which one fails
 one_fails : (a b : Bool) → a && b ≡ false → (a ≡ false) ⊎ (b ≡ false)
 one_fails true b h = inr h
 one_fails false b h = inl refl
@@ -39,19 +30,19 @@ module _ (calm : List Bool) where
   Plains b = are_plain_by calm b ≡ true
 
   block_plain : {s : Code} {b : Codes} → Block s b → Plain s → Plains b
-  block_plain (Block.if_body {t} {b} {c}) h = first_holds (are_plain_by calm b) (are_plain_by calm c) h
-  block_plain (Block.if_other {t} {b} {c}) h = second_holds (are_plain_by calm b) (are_plain_by calm c) h
+  block_plain (Block.if_body {t} {b} {c}) h = (and_parts (are_plain_by calm b) (are_plain_by calm c) h).0
+  block_plain (Block.if_other {t} {b} {c}) h = (and_parts (are_plain_by calm b) (are_plain_by calm c) h).1
   block_plain Block.while h = h
   block_plain Block.split h = h
   block_plain Block.async h = absurd (false≢true h)
   block_plain Block.finish h = absurd (false≢true h)
 
   stands_plain : {b : Codes} {l : ℕ} {s : Code} → Stands b l s → Plains b → Plain s
-  stands_plain (Stands.here {l} {s} {rest}) h = first_holds (is_plain_by calm s) (are_plain_by calm rest) h
+  stands_plain (Stands.here {l} {s} {rest}) h = (and_parts (is_plain_by calm s) (are_plain_by calm rest) h).0
   stands_plain (Stands.inside {l} {m} {s} {t} {b} {rest} k at) h =
-      stands_plain at (block_plain k (first_holds (is_plain_by calm s) (are_plain_by calm rest) h))
+      stands_plain at (block_plain k ((and_parts (is_plain_by calm s) (are_plain_by calm rest) h).0))
   stands_plain (Stands.later {l} {m} {s} {t} {rest} at) h =
-      stands_plain at (second_holds (is_plain_by calm s) (are_plain_by calm rest) h)
+      stands_plain at ((and_parts (is_plain_by calm s) (are_plain_by calm rest) h).1)
 
   module _ (p : Program) where
     -- the walk finds nothing in the bodies of calm procedures

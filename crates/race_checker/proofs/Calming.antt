@@ -86,7 +86,7 @@ module _ (p : Program) (sound : IsSound p) (g : Procedure) (numbered : IsNumbere
           omega (arith, lt, e, m)
 
       inside_i : i < length ss
-      inside_i = is_argument i (bit_inside p g (may_writes f) i may)
+      inside_i = is_argument i (bit_inside (may_writes f) i may)
 
       inside_j : j < length ss
       inside_j = is_argument j lt

@@ -28,6 +28,12 @@ length_may_writes g = each g.parameters
     each [] = refl
     each (x ∷ xs) = ap suc (each xs)
 
+-- where a list of truths has one that is true
+pub bit_inside : (ms : List Bool) (k : ℕ) → slice_index_or ms k false ≡ true → k < length ms
+bit_inside [] k h = false_true h
+bit_inside (m ∷ ms) zero h = omega arith
+bit_inside (m ∷ ms) (suc k) h = let lt = bit_inside ms k h in omega (arith, lt)
+
 module _ (p : Program) (g : Procedure) where
   -- a scope and its list have the same names
   pub named : {sc : Scope} {scope : List ℕ} → Lists g sc scope → (s : ℕ) → InScope sc s → Member s scope
@@ -50,11 +56,6 @@ module _ (p : Program) (g : Procedure) where
   bits [] k = refl
   bits (x ∷ xs) zero = refl
   bits (x ∷ xs) (suc k) = bits xs k
-
-  pub bit_inside : (ms : List Bool) (k : ℕ) → slice_index_or ms k false ≡ true → k < length ms
-  bit_inside [] k h = false_true h
-  bit_inside (m ∷ ms) zero h = omega arith
-  bit_inside (m ∷ ms) (suc k) h = let lt = bit_inside ms k h in omega (arith, lt)
 
   module _ (firsts : (k : ℕ) → k < length g.parameters → slice_get g.sections k ≡ Some Root) where
     -- a parameter is a root

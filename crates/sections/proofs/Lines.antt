@@ -14,7 +14,7 @@ module _ (origins : List Origin) where
       go (Left s) e = inr (s, left e)
       go (Right s) e = inr (s, right e)
 
-  beyond-side : {A : Type 0} (d : A) (go : ℕ → A) (a s : ℕ) → IsSideOf origins s a → beyond d go (origin_of origins a) ≡ go s
+  pub beyond-side : {A : Type 0} (d : A) (go : ℕ → A) (a s : ℕ) → IsSideOf origins s a → beyond d go (origin_of origins a) ≡ go s
   beyond-side d go a s (left e) = ap (beyond d go) e
   beyond-side d go a s (right e) = ap (beyond d go) e
 

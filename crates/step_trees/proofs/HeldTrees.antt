@@ -1,8 +1,8 @@
 -- Trees as they are held: the numbers in them, and their ends.
 use Rattle.std.proofs.Common.{◌≡◌, ℕ, suc, ◌+◌, List, [], ◌∷◌, ◌++◌, length, refl, sym, ap, ◌∙◌, arith}
 use Rattle.std.proofs.lemmas.List.{append_assoc}
-use Rattle.std.proofs.lemmas.Bool.{and_from}
-use Rattle.std.specs.Prelude.{ℤ, Bool, true, false, ◌&&◌, nat_eq, map, if◌then◌else◌, Box}
+use Rattle.std.proofs.lemmas.Bool.{and_from, and_parts}
+use Rattle.std.specs.Prelude.{ℤ, Bool, true, false, nat_eq, map, if◌then◌else◌, Box}
 use Rattle.std.specs.Global.{Global}
 use Rattle.types.specs.declared.fault.Fault.{Fault as rFault}
 use Rattle.types.specs.Run.{Fault}
@@ -72,28 +72,20 @@ pub rightmost-beside : (bs : List (Box rTree Global)) (t u : Tree)
 rightmost-beside [] t u = refl
 rightmost-beside (x ∷ bs) t u = refl
 
-first_of : (a b : Bool) → (a && b) ≡ true → a ≡ true
-first_of true b e = refl
-first_of false b e = absurd (let bad : ⊥ = cc in bad)
-
-second_of : (a b : Bool) → (a && b) ≡ true → b ≡ true
-second_of true b e = e
-second_of false b e = absurd (let bad : ⊥ = cc in bad)
-
 -- where all is done, so is the first
 pub done-first : (bs : List (Box rTree Global)) (t : Tree) → all_done (with_rights bs t) ≡ true → all_done t ≡ true
 done-first [] t e = e
-done-first (x ∷ bs) t e = done-first bs t (first_of (all_done (with_rights bs t)) (all_done (tree_of x.value)) e)
+done-first (x ∷ bs) t e = done-first bs t (and_parts (all_done (with_rights bs t)) (all_done (tree_of x.value)) e).0
 
 pub no_then : (bs : List (Box rTree Global)) (t : Tree) (k : Leaf) → all_done (with_rights bs (AndThen t k)) ≡ true → ⊥
 no_then bs t k e = let bad : false ≡ true = done-first bs (AndThen t k) e in cc
 
 -- and what stands right of it
 pub done-rights : (bs : List (Box rTree Global)) (t u : Tree) → all_done (with_rights bs (Beside t u)) ≡ true → all_done (with_rights bs u) ≡ true
-done-rights [] t u e = second_of (all_done t) (all_done u) e
+done-rights [] t u e = (and_parts (all_done t) (all_done u) e).1
 done-rights (x ∷ bs) t u e =
     let c = all_done (with_rights bs (Beside t u)) in let d = all_done (tree_of x.value) in
-    and_from (all_done (with_rights bs u)) d (done-rights bs t u (first_of c d e)) (second_of c d e)
+    and_from (all_done (with_rights bs u)) d (done-rights bs t u (and_parts c d e).0) (and_parts c d e).1
 
 -- what waited for the end of a tree of which this is left
 module _ (t : Tree) (k : Leaf) (r : Remains) (left : IsLeftOf t r) where

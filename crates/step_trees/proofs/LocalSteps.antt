@@ -1,7 +1,7 @@
 -- A step depends only on what its leaf may touch, and changes at most one place that it may write.
-use Rattle.std.proofs.Common.{◌≡◌, inl, ℕ, zero, suc, ◌<◌, List, [], ◌∷◌, ◌++◌, length, map, Option, Some, None, refl, sym, ap, ◌∙◌, subst, arith}
+use Rattle.std.proofs.Common.{◌≡◌, inl, ℕ, List, [], ◌∷◌, ◌++◌, map, Option, Some, None, refl, sym, ap, ◌∙◌, subst}
 use Rattle.std.proofs.lemmas.List.Elements.{Contains-append_left, Contains-append_right}
-use Rattle.std.specs.Prelude.{ℤ, pos, Bool, true, false, Ok, Err, ok_or, unwrap_or, flat_map, slice_index_or, if◌then◌else◌}
+use Rattle.std.specs.Prelude.{ℤ, pos, Bool, true, false, Ok, Err, ok_or, unwrap_or, flat_map, if◌then◌else◌}
 use Rattle.types.proofs.Bindings.{element_in}
 use Rattle.sections.specs.Place.{Place, sides_of}
 use Rattle.sections.specs.Member.{Member, first, next}
@@ -23,6 +23,7 @@ use Rattle.step_trees.specs.Still.{still, left_of}
 use Rattle.step_trees.proofs.Footprints.{Within, first_within, second_within}
 use Rattle.step_trees.proofs.Steps.{Step}
 use Rattle.step_trees.proofs.Deeds.{Deed, Nothing, Assigns, Writes, Prints, Fails, by_value, stores, deed, did, primitive-did}
+use Rattle.effects.proofs.OwnAccesses.{contained}
 
 -- a number that is written to a place, if any
 abbrev pub Update : Type 0
@@ -47,12 +48,6 @@ update_of (Writes q v) = Some (q, v)
 update_of (Prints vs) = None
 update_of (Fails f) = None
 
-contains_member : {A : Type 0} (xs : List A) (x : A) → (k : ℕ) → k < length xs → slice_index_or xs k x ≡ x
-    → Member x xs
-contains_member [] x k h e = absurd (omega arith)
-contains_member (y ∷ ys) x zero h e = subst (λ z. Member x (z ∷ ys)) (sym e) first
-contains_member (y ∷ ys) x (suc k) h e = next (contains_member ys x k (omega arith) e)
-
 module _ (env : Environment) (a c : Contents) where
   -- the same at each place that these accesses name
   abbrev Agrees : List Access → Type 0
@@ -64,7 +59,7 @@ module _ (env : Environment) (a c : Contents) where
   same_on : (l : ℕ) (ss : List ℕ) → Agrees (reads l ss) → SameOn env ss (read a) (read c)
   same_on l ss h s m q i = ap (λ o. unwrap_or o (pos 0)) (h q (record {
     access = record { label = l; section = s; write = false };
-    among = in_map (λ s. record { label = l; section = s; write = false }) (contains_member ss s m.0 m.1 m.2);
+    among = in_map (λ s. record { label = l; section = s; write = false }) (contained s ss m);
     place = i;
   }))
 

@@ -21,6 +21,7 @@ use Rattle.types.specs.TreeRuns.{tree_ending}
 use Rattle.step_trees.proofs.Steps.{Step}
 use Rattle.step_trees.proofs.Deeds.{Deed, Nothing, Assigns, Writes, Prints, Fails, deed, did, primitive-did}
 use Rattle.step_trees.proofs.FirstLeaves.{LeftRun, ended, goes, stuck, Halves, halves, Finished, finished}
+use Rattle.types.proofs.Solutions.{value_twice}
 
 abbrev S : Type 0
 S = State (Unit {0})
@@ -55,11 +56,6 @@ go_on_twice st f g h same = by st.flow refl
     by On e = same e
     by Faulted e = sym (ap (λ x. flow_goes x st g) e)
     by Stopped e = sym (ap (λ x. flow_goes x st g) e)
-
-try_twice : {A B : Type 0} (l : ℕ) (r : Valued A) (f : A → Valued B) (go : B → S → S) (st : S)
-    → with_value l (then_try r f) go st ≡ with_value l r (λ v. with_value l (f v) go) st
-try_twice l (Ok v) f go st = refl
-try_twice l (Err x) f go st = refl
 
 -- A task's state, as a leaf has it, and at the end of a tree
 
@@ -282,7 +278,7 @@ module _ (p : Program) (fresh : ℕ) where
         → LeftRun p n (tree_after p l (Split s e x y b) k a) a t z
         → Comes (doing nest l (Split s e x y b) (state_of k a steps))
     split_comes s e x y b a r =
-        subst Comes (try_twice l (number k.environment (read a) e) (λ v. ok_or (sides_of (k.environment.windows s) v) SplitPoint)
+        subst Comes (value_twice l (number k.environment (read a) e) (λ v. ok_or (sides_of (k.environment.windows s) v) SplitPoint)
         (λ ws st. blk nest b (record st { environment = with_sides x y ws st.environment })) (state_of k a steps))
         (value_comes (then_try (number k.environment (read a) e) (λ v. ok_or (sides_of (k.environment.windows s) v) SplitPoint))
         (λ ws st. blk nest b (record st { environment = with_sides x y ws st.environment }))

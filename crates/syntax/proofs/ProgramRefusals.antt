@@ -13,7 +13,7 @@ use Rattle.syntax.specs.Spelling.{element_word, block_then, arrays_then, paramet
 use Rattle.syntax.specs.Spelling.{parameters_then, procedures_then, main_tokens}
 use Rattle.syntax.specs.Reading.{binds, list_level}
 use Rattle.syntax.proofs.SpellingLemmas.{paren_begins_no_parameter}
-use Rattle.syntax.proofs.RefusalLemmas.{rests_equal}
+use Rattle.syntax.proofs.RefusalLemmas.{same_rest}
 
 pub none_plain : (ts : List Spanned) → plain ts ≡ [] → length ts ≡ 0
 none_plain [] none = refl
@@ -41,13 +41,13 @@ arrays_closed (a ∷ more) ts r none same = absurd (none _ same)
 pub mut_opened : (p : Parameter) (ts r : List Token) → WordToken WordMut ∷ ts ≡ parameter_then p r
     → (x : List ℕ) × (e : ElementType) × (ts ≡ NameToken x ∷ MarkToken Colon ∷ WordToken (element_word e) ∷ r)
 unfolding parameter_then
-mut_opened (Written x e) ts r same = (x, e, rests_equal same)
+mut_opened (Written x e) ts r same = (x, e, same_rest same)
 mut_opened _ ts r same = cc
 
 pub read_opened : (p : Parameter) (ts r : List Token) → WordToken WordRead ∷ ts ≡ parameter_then p r
     → (x : List ℕ) × (e : ElementType) × (ts ≡ NameToken x ∷ MarkToken Colon ∷ WordToken (element_word e) ∷ r)
 unfolding parameter_then
-read_opened (Read x e) ts r same = (x, e, rests_equal same)
+read_opened (Read x e) ts r same = (x, e, same_rest same)
 read_opened _ ts r same = cc
 
 pub scalar_opened : (p : Parameter) (ts r : List Token) → ((rest : List Token) → ts ≢ WordToken WordMut ∷ rest)
@@ -61,7 +61,7 @@ scalar_opened (Scalar x) ts r mut read same = (x, same)
 pub parameters_closed : (all : List Parameter) (ts r : List Token)
     → MarkToken RightParen ∷ ts ≡ parameters_then all (MarkToken RightParen ∷ r) → ts ≡ r
 unfolding parameters_then
-parameters_closed [] ts r same = rests_equal same
+parameters_closed [] ts r same = same_rest same
 parameters_closed (p ∷ more) ts r same = absurd (paren_begins_no_parameter p _ _ same)
 
 pub parameters_opened : (all : List Parameter) (ts r : List Token)
@@ -78,7 +78,7 @@ pub more_parameters_opened : (all : List Parameter) (ts r : List Token)
     × (ts ≡ parameter_then p (more_parameters_then more (MarkToken RightParen ∷ r)))
 unfolding more_parameters_then
 more_parameters_opened [] ts r same = cc
-more_parameters_opened (p ∷ more) ts r same = (p, more, rests_equal same)
+more_parameters_opened (p ∷ more) ts r same = (p, more, same_rest same)
 
 pub more_parameters_closed : (all : List Parameter) (ts r : List Token)
     → ((rest : List Token) → ts ≢ MarkToken Comma ∷ rest) → ts ≡ more_parameters_then all r → ts ≡ r

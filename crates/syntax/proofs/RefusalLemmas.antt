@@ -1,4 +1,5 @@
 -- A refusal that is passed on, and what the first token says of the tree that the tokens spell.
+pub use Rattle.facts.proofs.Lists.{same_rest}
 use Rattle.std.proofs.Common.{◌≡◌, ◌≢◌, ◌<◌, ◌⊎◌, inl, inr, ℕ, List, [], ◌∷◌, Result, refl, ap, ◌∙◌, arith}
 use Rattle.std.specs.Result.{IsErrAnd, IfErr}
 use Rattle.std.proofs.lemmas.Result.{err_from_is_err_and}
@@ -36,10 +37,6 @@ passed_on r e failed refusal =
     let exit = err_from_is_err_and r failed in
     rw exit.1 (λ room. refusal (λ is. room (exit.2 ∙ is)))
 
--- tokens that are equal are equal behind their first ones
-pub rests_equal : {t u : Token} {ts us : List Token} → t ∷ ts ≡ u ∷ us → ts ≡ us
-rests_equal same = cc
-
 -- What follows the token that an atom begins with.
 
 pub true_atom : (a : Atom) (ts r : List Token) → WordToken WordTrue ∷ ts ≡ atom_then a r → ts ≡ r
@@ -67,15 +64,15 @@ pub name_alone : (a : Atom) (x : List ℕ) (ts r : List Token) → ((rest : List
     → NameToken x ∷ ts ≡ atom_then a r → ts ≡ r
 unfolding atom_then
 name_alone (Name y) x ts r none same = cc
-name_alone (Element y e) x ts r none same = absurd (none _ (rests_equal same))
+name_alone (Element y e) x ts r none same = absurd (none _ (same_rest same))
 name_alone _ x ts r none same = cc
 
 pub name_indexed : (a : Atom) (x : List ℕ) (ts r : List Token) → binds r < bracket_level
     → NameToken x ∷ MarkToken LeftBracket ∷ ts ≡ atom_then a r
     → (e : Expr) × (ts ≡ expr_then e (MarkToken RightBracket ∷ r))
 unfolding atom_then
-name_indexed (Name y) x ts r ends same = absurd (omega (arith, ap binds (rests_equal same)))
-name_indexed (Element y e) x ts r ends same = (e, rests_equal (rests_equal same))
+name_indexed (Name y) x ts r ends same = absurd (omega (arith, ap binds (same_rest same)))
+name_indexed (Element y e) x ts r ends same = (e, same_rest (same_rest same))
 name_indexed _ x ts r ends same = cc
 
 pub marked_atom : (a : Atom) (m : Mark) (ts r : List Token) → MarkToken m ∷ ts ≡ atom_then a r
@@ -113,7 +110,7 @@ pub conjs_opened : (cs : Conjs) (ts r : List Token) → binds r < or_level → W
     → (d : Conj) × (ds : Conjs) × (ts ≡ conj_then d (conjs_then ds r))
 unfolding conjs_then
 conjs_opened NoConj ts r ends same = absurd (omega (arith, ap binds same))
-conjs_opened (OrConj d ds) ts r ends same = (d, ds, rests_equal same)
+conjs_opened (OrConj d ds) ts r ends same = (d, ds, same_rest same)
 
 pub conjs_closed : (cs : Conjs) (ts r : List Token) → ((rest : List Token) → ts ≢ WordToken WordOr ∷ rest) → ts ≡ conjs_then cs r → ts ≡ r
 unfolding conjs_then
@@ -128,7 +125,7 @@ pub negs_opened : (ns : Negs) (ts r : List Token) → binds r < and_level → Wo
     → (m : Neg) × (ms : Negs) × (ts ≡ neg_then m (negs_then ms r))
 unfolding negs_then
 negs_opened NoNeg ts r ends same = absurd (omega (arith, ap binds same))
-negs_opened (AndNeg m ms) ts r ends same = (m, ms, rests_equal same)
+negs_opened (AndNeg m ms) ts r ends same = (m, ms, same_rest same)
 
 pub negs_closed : (ns : Negs) (ts r : List Token) → ((rest : List Token) → ts ≢ WordToken WordAnd ∷ rest) → ts ≡ negs_then ns r → ts ≡ r
 unfolding negs_then
@@ -144,7 +141,7 @@ neg_plain (Not c) ts r none same = absurd (none _ same)
 pub neg_denied : (n : Neg) (ts r : List Token) → WordToken WordNot ∷ ts ≡ neg_then n r → (c : Cmp) × (ts ≡ cmp_then c r)
 unfolding neg_then
 neg_denied (Plainly c) ts r same = absurd (omega (arith, ap begins same, cmp_begins c r))
-neg_denied (Not c) ts r same = (c, rests_equal same)
+neg_denied (Not c) ts r same = (c, same_rest same)
 
 -- what stands behind the left side of a comparison, or behind a sum alone
 pub record Compared (ts r : List Token) : Type 0 where
@@ -172,7 +169,7 @@ cmp_alone c left none same = elim c.right [ inl e ↦ same ∙ e | inr w ↦ abs
 pub cmp_compared_to : {ts r : List Token} (c : Compared ts r) (o : Relation) (left : List Token)
     → binds r < relation_level → MarkToken (relation_mark o) ∷ left ≡ c.after → (t : Sum) × (left ≡ sum_then t r)
 cmp_compared_to c o left ends same =
-    elim c.right [ inl e ↦ absurd (omega (arith, relation_binds o left, ap binds (same ∙ e))) | inr w ↦ (w.1, rests_equal (same ∙ w.2)) ]
+    elim c.right [ inl e ↦ absurd (omega (arith, relation_binds o left, ap binds (same ∙ e))) | inr w ↦ (w.1, same_rest (same ∙ w.2)) ]
 
 pub sum_opened : (s : Sum) (ts r : List Token) → ts ≡ sum_then s r → (p : Prod) × (us : Terms) × (ts ≡ prod_then p (terms_then us r))
 unfolding sum_then
@@ -182,7 +179,7 @@ pub terms_opened : (us : Terms) (o : Sign) (ts r : List Token) → binds r < sig
     → MarkToken (sign_mark o) ∷ ts ≡ terms_then us r → (p : Prod) × (vs : Terms) × (ts ≡ prod_then p (terms_then vs r))
 unfolding terms_then
 terms_opened NoTerm o ts r ends same = absurd (omega (arith, ap binds same, sign_binds o ts))
-terms_opened (AddTerm t p vs) o ts r ends same = (p, vs, rests_equal same)
+terms_opened (AddTerm t p vs) o ts r ends same = (p, vs, same_rest same)
 
 pub terms_closed : (us : Terms) (ts r : List Token)
     → ((o : Sign) (rest : List Token) → ts ≢ MarkToken (sign_mark o) ∷ rest) → ts ≡ terms_then us r → ts ≡ r
@@ -200,7 +197,7 @@ pub factors_opened : (fs : Factors) (o : Operator) (ts r : List Token) → binds
     → (u : Unary) × (gs : Factors) × (ts ≡ unary_then u (factors_then gs r))
 unfolding factors_then
 factors_opened NoFactor o ts r ends same = absurd (omega (arith, ap binds same, operator_binds o ts))
-factors_opened (MultiplyFactor t u gs) o ts r ends same = (u, gs, rests_equal same)
+factors_opened (MultiplyFactor t u gs) o ts r ends same = (u, gs, same_rest same)
 
 pub factors_closed : (fs : Factors) (ts r : List Token)
     → ((o : Operator) (rest : List Token) → ts ≢ MarkToken (operator_mark o) ∷ rest) → ts ≡ factors_then fs r → ts ≡ r
@@ -217,13 +214,13 @@ unary_plain (Negative a) ts r none same = absurd (none _ same)
 pub unary_signed : (u : Unary) (ts r : List Token) → MarkToken Minus ∷ ts ≡ unary_then u r → (a : Atom) × (ts ≡ atom_then a r)
 unfolding unary_then
 unary_signed (Positive a) ts r same = absurd (omega (arith, ap begins same, atom_begins a r))
-unary_signed (Negative a) ts r same = (a, rests_equal same)
+unary_signed (Negative a) ts r same = (a, same_rest same)
 
 pub more_opened : (es : List Expr) (ts r : List Token) → binds r < list_level → MarkToken Comma ∷ ts ≡ more_then es r
     → (e : Expr) × (fs : List Expr) × (ts ≡ expr_then e (more_then fs r))
 unfolding more_then
 more_opened [] ts r ends same = absurd (omega (arith, ap binds same))
-more_opened (e ∷ fs) ts r ends same = (e, fs, rests_equal same)
+more_opened (e ∷ fs) ts r ends same = (e, fs, same_rest same)
 
 pub more_closed : (es : List Expr) (ts r : List Token) → ((rest : List Token) → ts ≢ MarkToken Comma ∷ rest) → ts ≡ more_then es r → ts ≡ r
 unfolding more_then

@@ -17,7 +17,7 @@ use Rattle.syntax.specs.Reading.{binds, list_level, or_level, else_level, IsRead
 use Rattle.syntax.proofs.ChainLemmas.{behind}
 use Rattle.syntax.proofs.ExprSpellings.{begins, expr_begins}
 use Rattle.syntax.proofs.StmtSpellings.{stmt_begins_with_no_brace, more_bind, kind}
-use Rattle.syntax.proofs.RefusalLemmas.{rests_equal}
+use Rattle.syntax.proofs.RefusalLemmas.{same_rest}
 
 -- an expression, and others behind commas
 pub record Several (ts r : List Token) : Type 0 where
@@ -35,7 +35,7 @@ several_opened e es r ends same =
 
 pub block_closed : (b : Block) (ts r : List Token) → MarkToken RightBrace ∷ ts ≡ block_then b r → ts ≡ r
 unfolding block_then
-block_closed End ts r same = rests_equal same
+block_closed End ts r same = same_rest same
 block_closed (Then s b) ts r same = absurd (stmt_begins_with_no_brace s _ same)
 
 pub block_opened : (b : Block) (ts r : List Token) → ((rest : List Token) → ts ≢ MarkToken RightBrace ∷ rest)
@@ -54,8 +54,8 @@ pub record Conditional (ts r : List Token) : Type 0 where
 
 pub if_opened : (s : Stmt) (ts r : List Token) → WordToken WordIf ∷ ts ≡ stmt_then s r → Conditional ts r
 unfolding stmt_then
-if_opened (If e b) ts r same = record { guard = e; body = b; after = r; spelled = rests_equal same; other = inl refl }
-if_opened (IfElse e b c) ts r same = record { guard = e; body = b; after = _; spelled = rests_equal same; other = inr (c, refl) }
+if_opened (If e b) ts r same = record { guard = e; body = b; after = r; spelled = same_rest same; other = inl refl }
+if_opened (IfElse e b c) ts r same = record { guard = e; body = b; after = _; spelled = same_rest same; other = inr (c, refl) }
 if_opened _ ts r same = absurd (eqb-false _ _ refl (ap kind same))
 
 pub if_alone : {ts r : List Token} (c : Conditional ts r) (left : List Token)
@@ -65,12 +65,12 @@ if_alone c left none same = elim c.other [ inl e ↦ same ∙ e | inr w ↦ absu
 pub if_otherwise : {ts r : List Token} (c : Conditional ts r) (left : List Token) → binds r < else_level
     → WordToken WordElse ∷ left ≡ c.after → (d : Block) × (left ≡ MarkToken LeftBrace ∷ block_then d r)
 if_otherwise c left ends same =
-    elim c.other [ inl e ↦ absurd (omega (arith, ends, ap binds (same ∙ e))) | inr w ↦ (w.0, rests_equal (same ∙ w.1)) ]
+    elim c.other [ inl e ↦ absurd (omega (arith, ends, ap binds (same ∙ e))) | inr w ↦ (w.0, same_rest (same ∙ w.1)) ]
 
 pub while_opened : (s : Stmt) (ts r : List Token) → WordToken WordWhile ∷ ts ≡ stmt_then s r
     → (e : Expr) × (b : Block) × (ts ≡ expr_then e (MarkToken LeftBrace ∷ block_then b r))
 unfolding stmt_then
-while_opened (While e b) ts r same = (e, b, rests_equal same)
+while_opened (While e b) ts r same = (e, b, same_rest same)
 while_opened _ ts r same = absurd (eqb-false _ _ refl (ap kind same))
 
 -- the parts of a `split` whose first word was read
@@ -94,7 +94,7 @@ split_opened (Split x e y z b) ts r same = record {
   left = y;
   right = z;
   body = b;
-  spelled = rests_equal same;
+  spelled = same_rest same;
   ends = omega arith;
   sided = refl;
 }
@@ -110,12 +110,12 @@ OpensBlock word = (s : Stmt) (ts r : List Token) → WordToken word ∷ ts ≡ s
 
 pub async_opened : OpensBlock WordAsync
 unfolding stmt_then
-async_opened (Async b) ts r same = (b, rests_equal same)
+async_opened (Async b) ts r same = (b, same_rest same)
 async_opened _ ts r same = absurd (eqb-false _ _ refl (ap kind same))
 
 pub finish_opened : OpensBlock WordFinish
 unfolding stmt_then
-finish_opened (Finish b) ts r same = (b, rests_equal same)
+finish_opened (Finish b) ts r same = (b, same_rest same)
 finish_opened _ ts r same = absurd (eqb-false _ _ refl (ap kind same))
 
 -- a word was read, and a block behind it
@@ -139,24 +139,24 @@ block_refused {after = after} found is refused opened room t r ends same =
 
 pub skip_opened : (s : Stmt) (ts r : List Token) → WordToken WordSkip ∷ ts ≡ stmt_then s r → ts ≡ MarkToken Semicolon ∷ r
 unfolding stmt_then
-skip_opened Skip ts r same = rests_equal same
+skip_opened Skip ts r same = same_rest same
 skip_opened _ ts r same = absurd (eqb-false _ _ refl (ap kind same))
 
 pub var_opened : (s : Stmt) (ts r : List Token) → WordToken WordVar ∷ ts ≡ stmt_then s r
     → (x : List ℕ) × (e : Expr) × (ts ≡ NameToken x ∷ MarkToken Becomes ∷ expr_then e (MarkToken Semicolon ∷ r))
 unfolding stmt_then
-var_opened (Var x e) ts r same = (x, e, rests_equal same)
+var_opened (Var x e) ts r same = (x, e, same_rest same)
 var_opened _ ts r same = absurd (eqb-false _ _ refl (ap kind same))
 
 pub print_opened : (s : Stmt) (ts r : List Token) → WordToken WordPrint ∷ ts ≡ stmt_then s r → Several ts (MarkToken Semicolon ∷ r)
 unfolding stmt_then
-print_opened (Print e es) ts r same = several_opened e es _ (omega arith) (rests_equal same)
+print_opened (Print e es) ts r same = several_opened e es _ (omega arith) (same_rest same)
 print_opened _ ts r same = absurd (eqb-false _ _ refl (ap kind same))
 
 pub fault_opened : (s : Stmt) (ts r : List Token) → WordToken WordFault ∷ ts ≡ stmt_then s r
     → (e : Expr) × (ts ≡ expr_then e (MarkToken Semicolon ∷ r))
 unfolding stmt_then
-fault_opened (Fault e) ts r same = (e, rests_equal same)
+fault_opened (Fault e) ts r same = (e, same_rest same)
 fault_opened _ ts r same = absurd (eqb-false _ _ refl (ap kind same))
 
 -- the parts of a store whose section and first bracket were read
@@ -175,7 +175,7 @@ store_opened (Store y i e) x ts r same = record {
   index = i;
   value = e;
   after = MarkToken RightBracket ∷ MarkToken Becomes ∷ expr_then e (MarkToken Semicolon ∷ r);
-  spelled = rests_equal (rests_equal same);
+  spelled = same_rest (same_rest same);
   ends = omega arith;
   closed = refl;
 }
@@ -184,7 +184,7 @@ store_opened _ x ts r same = absurd (eqb-false _ _ refl (ap kind same))
 pub call_opened : (s : Stmt) (x : List ℕ) (ts r : List Token) → NameToken x ∷ MarkToken LeftParen ∷ ts ≡ stmt_then s r
     → (es : List Expr) × (ts ≡ exprs_then es (MarkToken RightParen ∷ MarkToken Semicolon ∷ r))
 unfolding stmt_then
-call_opened (Call f es) x ts r same = (es, rests_equal (rests_equal same))
+call_opened (Call f es) x ts r same = (es, same_rest (same_rest same))
 call_opened _ x ts r same = absurd (eqb-false _ _ refl (ap kind same))
 
 pub assign_opened : (s : Stmt) (x : List ℕ) (ts r : List Token)
@@ -192,9 +192,9 @@ pub assign_opened : (s : Stmt) (x : List ℕ) (ts r : List Token)
     → ((rest : List Token) → ts ≢ MarkToken LeftParen ∷ rest) → NameToken x ∷ ts ≡ stmt_then s r
     → (e : Expr) × (ts ≡ MarkToken Becomes ∷ expr_then e (MarkToken Semicolon ∷ r))
 unfolding stmt_then
-assign_opened (Assign y e) x ts r bracket paren same = (e, rests_equal same)
-assign_opened (Store y i e) x ts r bracket paren same = absurd (bracket _ (rests_equal same))
-assign_opened (Call f es) x ts r bracket paren same = absurd (paren _ (rests_equal same))
+assign_opened (Assign y e) x ts r bracket paren same = (e, same_rest same)
+assign_opened (Store y i e) x ts r bracket paren same = absurd (bracket _ (same_rest same))
+assign_opened (Call f es) x ts r bracket paren same = absurd (paren _ (same_rest same))
 assign_opened _ x ts r bracket paren same = cc
 
 -- where neither a word nor a name stands
@@ -246,7 +246,7 @@ no_simple ts none _ r same = cc (none.first)
 
 pub exprs_closed : (es : List Expr) (ts r : List Token) → MarkToken RightParen ∷ ts ≡ exprs_then es (MarkToken RightParen ∷ r) → ts ≡ r
 unfolding exprs_then
-exprs_closed [] ts r same = rests_equal same
+exprs_closed [] ts r same = same_rest same
 exprs_closed (e ∷ es) ts r same = absurd (omega (arith, ap begins same, expr_begins e (more_then es (MarkToken RightParen ∷ r))))
 
 pub exprs_opened : (es : List Expr) (ts r : List Token) → ((rest : List Token) → ts ≢ MarkToken RightParen ∷ rest)

@@ -1,6 +1,5 @@
 -- Logs stay clean.
 use Rattle.std.proofs.Common.{◌≡◌, ℕ, List, [], ◌∷◌, ◌++◌, sym, subst}
-use Rattle.std.specs.Prelude.{Result, Ok, Err, IfErr, IsErrAnd}
 use Rattle.interleave.specs.Jobs.{IsWeightedJob}
 use Rattle.interleave.specs.Replay.{IllegalAt as IsIllegalAt}
 use Rattle.interleave.specs.Replaying.{IsRefused, IsReplayed, comes, event}
@@ -48,11 +47,6 @@ clean_still old new es clean stays =
         job = stays.job;
       });
     }
-
--- what holds of an error where more follows from it
-pub if_error_then : {T E : Type 0} {P Q : E → Type 0} (r : Result T E) → IsErrAnd r P → ((e : E) → P e → Q e) → IfErr r Q
-if_error_then (Ok v) p f = tt
-if_error_then (Err e) p f = f e p
 
 -- events that were refused
 pub refused_by : (j k : WeightedJob) (es fs : List Event) (x : ReplayError) (n : ℕ) → IsRefused j es x → x ≡ IllegalAt n → j ≡ k

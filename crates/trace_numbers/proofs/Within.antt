@@ -1,6 +1,6 @@
 -- No number is larger than there were events, and whatever scope is named is there.
-use Rattle.std.proofs.Common.{ℕ, ◌+◌, ◌<◌, ◌≤◌, List, [], ◌∷◌, ◌++◌, Bool, true, false, arith, nat_eq}
-use Rattle.std.specs.Prelude.{max, if◌then◌else◌}
+use Rattle.std.proofs.Common.{ℕ, ◌+◌, ◌<◌, ◌≤◌, List, [], ◌∷◌, ◌++◌, arith, nat_eq}
+use Rattle.std.specs.Prelude.{max}
 use Rattle.std.specs.Cmp.Lexicographic.{pointwise}
 use Rattle.events.specs.declared.event.Event.{Event}
 use Rattle.events.specs.declared.event.Event.TheVariants.{Take, Steal, Step, Replenish, Spawn}
@@ -8,18 +8,14 @@ use Rattle.events.specs.declared.event.Event.TheVariants.{Open, Park, End, Pass,
 use Rattle.trace_numbers.specs.Chains.{Chains, at_number, at_path, begin_child, begin_finish, chained, come_back}
 use Rattle.trace_numbers.specs.Chains.{leave, one_more}
 use Rattle.trace_numbers.specs.Tables.{AreWithin}
-
--- what holds of both holds of whichever is picked
-picked : (P : ℕ → Type 0) (b : Bool) (n old : ℕ) → P n → P old → P (if b then n else old)
-picked P true n old new was = new
-picked P false n old new was = was
+use Rattle.facts.proofs.Truths.{if_either}
 
 at_path-all : (P : ℕ → Type 0) (path : List ℕ) (n : ℕ) (f : List ℕ → ℕ) → P n → ((other : List ℕ) → P (f other))
     → (other : List ℕ) → P (at_path path n f other)
-at_path-all P path n f new was other = picked P (pointwise nat_eq path other) n (f other) new (was other)
+at_path-all P path n f new was other = if_either P (pointwise nat_eq path other) n (f other) new (was other)
 
 at_number-all : (P : ℕ → Type 0) (k n : ℕ) (f : ℕ → ℕ) → P n → ((other : ℕ) → P (f other)) → (other : ℕ) → P (at_number k n f other)
-at_number-all P k n f new was other = picked P (nat_eq k other) n (f other) new (was other)
+at_number-all P k n f new was other = if_either P (nat_eq k other) n (f other) new (was other)
 
 module _ (count : ℕ) (c : Chains) (h : AreWithin count c) where
   -- one event more

@@ -7,8 +7,7 @@ use Rattle.std.proofs.lemmas.List.Concat.{flat_map-append}
 use Rattle.std.proofs.lemmas.List.Elements.{All-push}
 use Rattle.std.proofs.lemmas.Slice.Eq.{bytes_eq-Decides}
 use Rattle.std.specs.Str.{bytes_eq}
-use Rattle.std.specs.Prelude.{Bool, true, false, IsTrue, IfErr, IfNone, Result, Ok, Err}
-use Rattle.std.specs.Result.{IsErrAnd}
+use Rattle.std.specs.Prelude.{Bool, true, false, IsTrue, IfNone}
 use Rattle.std.specs.Bool.{then_some}
 use Rattle.events.specs.Events.{Event, event}
 use Rattle.events.specs.declared.event.Event.{Event as rEvent}
@@ -118,11 +117,6 @@ cut_some text before behind cut none =
 
 pub long_some : (text : List ℕ) → 0 < length text → text ≢ []
 long_some text long none = absurd (omega (arith, ap length none))
-
--- what is known of an error where more follows from it
-pub if_err_then : {T E : Type 0} (r : Result T E) (P Q : E → Type 0) → IsErrAnd r P → ((e : E) → P e → Q e) → IfErr r Q
-if_err_then (Ok v) P Q h f = tt
-if_err_then (Err e) P Q h f = f e h
 
 -- what is wrong behind a header's line is wrong in the whole
 pub refused_behind : (text rest : List ℕ) (h : TraceHeader) (e : TraceError) → IsHeader h → text ≡ header_line h ++ rest

@@ -1,6 +1,7 @@
 pub mod Programs
 pub mod Examples
 pub mod TreeExamples
+pub mod Counted
 pub mod Solutions
 pub mod Views
 pub mod Keeps

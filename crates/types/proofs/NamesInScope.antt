@@ -15,6 +15,7 @@ use Rattle.types.specs.declared.error.TypeError.TheVariants.{DeclaredTwice}
 use Rattle.types.specs.Scope.{Meant, Names, meant}
 use Rattle.types.specs.Resolving.{meant_by, entry}
 use Rattle.types.specs.declared.check.names.Meaning.{Meaning}
+use Rattle.std.proofs.lemmas.List.{drop_at}
 
 -- what a name means among some names, or else among others
 abbrev or_else : Option Meant → Option Meant → Option Meant
@@ -37,10 +38,6 @@ found_by : (b : Bool) (m : Meaning) (o : Option Meaning) → (b ≡ true → o �
 found_by true m o none = ap (λ o. or_else (option_map meant_by o) (Some (meant_by m))) (none refl)
 found_by false m None none = refl
 found_by false m (Some n) none = refl
-
-drop_front : {A : Type 0} (xs ys : List A) → drop (length xs) (xs ++ ys) ≡ ys
-drop_front [] ys = refl
-drop_front (x ∷ xs) ys = drop_front xs ys
 
 module _ {Z : Type 0} where
   abbrev pub names_in : List (String Z × Meaning) → Names
@@ -83,7 +80,7 @@ module _ {Z : Type 0} where
       let whole : length (names_in es) ≡ length es = length-reverse (map entry es) ∙ length-map es entry in
       let part : length later ≡ length es - n = length-reverse (map entry (drop n es)) ∙ length-map (drop n es) entry ∙ length-drop n es in
       let count : length later ≡ length (names_in es) - n = omega (arith, whole, part) in
-      sym (ap (λ k. drop k (names_in es)) (sym count) ∙ ap (drop (length later)) all ∙ drop_front later (names_in (take n es)))
+      sym (ap (λ k. drop k (names_in es)) (sym count) ∙ ap (drop (length later)) all ∙ drop_at later (names_in (take n es)) (length later) refl)
 
 -- ---- a declaration, by whether the name is there
 is_some_found : (o : Option Meaning) (m : Option Meant) → m ≡ option_map meant_by o → is_some m ≡ is_some o

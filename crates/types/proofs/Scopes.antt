@@ -12,6 +12,7 @@ use Rattle.types.specs.Scope.{Meant, ASection, AScalar, Names, meant, section_of
 use Rattle.types.specs.Scope.{with_sides, next, inside_async, out_of, behind, after, with_parameter, with_parameters, with_array}
 use Rattle.types.specs.Scope.{with_arrays, empty_scope}
 use Rattle.types.specs.Resolving.{left, IsWellScoped}
+use Rattle.std.proofs.lemmas.List.{drop_at}
 
 -- ---- the names of before stay
 
@@ -56,11 +57,7 @@ grown_after (Then s rest) here =
 drop_more : (more ns : Names) → drop (length (more ++ ns) - length ns) (more ++ ns) ≡ ns
 drop_more more ns =
     let n : length (more ++ ns) - length ns ≡ length more = omega (arith, length-append more ns) in
-    ap (λ k. drop k (more ++ ns)) n ∙ drop_front more ns
-  where
-    drop_front : (more ns : Names) → drop (length more) (more ++ ns) ≡ ns
-    drop_front [] ns = refl
-    drop_front (m ∷ more) ns = drop_front more ns
+    ap (λ k. drop k (more ++ ns)) n ∙ drop_at more ns (length more) refl
 
 dropped : (old new : Names) → Grown old new → drop (length new - length old) new ≡ old
 dropped old new g = ap (λ ns. drop (length ns - length old) ns) g.is ∙ drop_more g.more old

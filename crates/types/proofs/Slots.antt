@@ -9,7 +9,7 @@ use Rattle.types.proofs.Lists.{by_number-append-replicate}
 pub by_number-filled : {A : Type 0} (d : A) (xs ys : List A) → ys ≡ xs ++ d ∷ [] → by_number d ys ≡ by_number d xs
 by_number-filled d xs ys e = ap (by_number d) e ∙ by_number-append-replicate d xs 1
 
-slice_index_or-push_last : {A : Type 0} (d v : A) (xs : List A) → slice_index_or (xs ++ v ∷ []) (length xs) d ≡ v
+pub slice_index_or-push_last : {A : Type 0} (d v : A) (xs : List A) → slice_index_or (xs ++ v ∷ []) (length xs) d ≡ v
 slice_index_or-push_last d v [] = refl
 slice_index_or-push_last d v (x ∷ xs) = slice_index_or-push_last d v xs
 

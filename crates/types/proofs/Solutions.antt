@@ -5,12 +5,13 @@ use Rattle.types.specs.declared.fault.FaultKind.TheVariants.{SplitPoint}
 use Rattle.types.specs.Code.{Primitive, Skip, Assign, Store, Print, Raise, Code, Do, If, While, Split, Call, Async}
 use Rattle.types.specs.Code.{Finish, Codes, End, Then, Program}
 use Rattle.sections.specs.Place.{Place, sides_of}
-use Rattle.types.specs.Value.{Valued, element_of, holds_number}
+use Rattle.types.specs.Value.{Valued, element_of, holds_number, then_try}
 use Rattle.types.specs.Run.{Flow, On, Faulted, Stopped, State, Work, Block, Turn, at_flow, go_on, spend, with_step}
 use Rattle.types.specs.Run.{with_value, number_at, numbers_at, truth_at, window_at, assign, print, put, choose, entry}
 use Rattle.types.specs.Run.{with_sides, array_of, procedure_of, Rules, primitive, counted, act, block, work, within}
 use Rattle.types.specs.Run.{run}
 use Rattle.types.specs.Laws.{IsThrifty, Solves, IsOnly}
+use Rattle.types.proofs.Counted.{counted_steps}
 
 module _ {X : Type 0} where
   -- it gives no step back
@@ -26,12 +27,12 @@ module _ {X : Type 0} where
   spend_less zero st go e h = le_refl st.steps
   spend_less (suc n) st go e h = let k = h (record st { steps = n }) in omega (arith, e, k)
 
-  value_less : {A : Type 0} (l : ℕ) (v : Valued A) (go : A → State X → State X) (st : State X)
+  pub value_less : {A : Type 0} (l : ℕ) (v : Valued A) (go : A → State X → State X) (st : State X)
       → ((x : A) → (go x st).steps ≤ st.steps) → (with_value l v go st).steps ≤ st.steps
   value_less l (Ok x) go st h = h x
   value_less l (Err f) go st h = le_refl st.steps
 
-  put_less : (l : ℕ) (fits : Bool) (q : Place) (v : ℤ) → Less (put l fits q v)
+  pub put_less : (l : ℕ) (fits : Bool) (q : Place) (v : ℤ) → Less (put l fits q v)
   put_less l true q v st = le_refl st.steps
   put_less l false q v st = le_refl st.steps
 
@@ -42,7 +43,7 @@ module _ {X : Type 0} where
   choose_less true body other h k = h
   choose_less false body other h k = k
 
-  flow_agree : (f : Flow) (st : State X) (go to : State X → State X) → go st ≡ to st → at_flow f st go ≡ at_flow f st to
+  pub flow_agree : (f : Flow) (st : State X) (go to : State X → State X) → go st ≡ to st → at_flow f st go ≡ at_flow f st to
   flow_agree On st go to h = h
   flow_agree Faulted st go to h = refl
   flow_agree Stopped st go to h = refl
@@ -55,6 +56,12 @@ module _ {X : Type 0} where
   value_agree l (Ok x) go to st h = h x
   value_agree l (Err f) go to st h = refl
 
+  -- one value, then another by it
+  pub value_twice : {A B : Type 0} (l : ℕ) (v : Valued A) (f : A → Valued B) (go : B → State X → State X) (st : State X)
+      → with_value l (then_try v f) go st ≡ with_value l v (λ x. with_value l (f x) go) st
+  value_twice l (Ok x) f go st = refl
+  value_twice l (Err e) f go st = refl
+
   choose_agree : (b : Bool) (f g other : State X → State X) (st : State X) (h : State X → State X) → f st ≡ g st → other st ≡ h st
       → choose f other b st ≡ choose g h b st
   choose_agree true f g other st h e d = e
@@ -65,8 +72,8 @@ module _ {X : Type 0} where
   spend_agree m zero st go to e le h = refl
   spend_agree m (suc n) st go to e le h = h (record st { steps = n }) (omega (arith, e, le))
 
-module _ (p : Program) {X : Type 0} (r : Rules X) where
-  primitive_less : (l : ℕ) (s : Primitive) → Less {X = X} (primitive p l s)
+module _ (p : Program) {X : Type 0} where
+  pub primitive_less : (l : ℕ) (s : Primitive) → Less {X = X} (primitive p l s)
   primitive_less l Skip st = le_refl st.steps
   primitive_less l (Assign x e) st = value_less l (number_at st e) (assign x) st (λ v. le_refl st.steps)
   primitive_less l (Store s i e) st =
@@ -75,20 +82,16 @@ module _ (p : Program) {X : Type 0} (r : Rules X) where
   primitive_less l (Print es) st = value_less l (numbers_at st es) print st (λ vs. le_refl st.steps)
   primitive_less l (Raise e) st = value_less l (number_at st e) _ st (λ v. le_refl st.steps)
 
-  counted_less : (l : ℕ) (s : Code) (st : State X) → (counted r l s st).steps ≡ st.steps
-  counted_less l (Async b) st = refl
-  counted_less l (Finish b) st = refl
-  counted_less l s st = refl
-
+module _ (p : Program) {X : Type 0} (r : Rules X) where
   counted_act_less : (d : Work → State X → State X) (l : ℕ) (s : Code) → Less (act p r d l s) → Less (λ st. act p r d l s (counted r l s st))
-  counted_act_less d l s h st = let i = h (counted r l s st) in let j = counted_less l s st in omega (arith, i, j)
+  counted_act_less d l s h st = let i = h (counted r l s st) in let j = counted_steps r l st s in omega (arith, i, j)
 
   step_agree : (m : ℕ) (d e : Work → State X → State X) (l : ℕ) (s : Code)
       → ((st : State X) → st.steps < m → act p r d l s st ≡ act p r e l s st) → (st : State X) → st.steps ≤ m
       → with_step (λ st. act p r d l s (counted r l s st)) st ≡ with_step (λ st. act p r e l s (counted r l s st)) st
   step_agree m d e l s h st le =
       spend_agree m st.steps st (λ st. act p r d l s (counted r l s st)) (λ st. act p r e l s (counted r l s st)) refl le
-      (λ x lt. h (counted r l s x) (let j = counted_less l s x in omega (arith, j, lt)))
+      (λ x lt. h (counted r l s x) (let j = counted_steps r l x s in omega (arith, j, lt)))
 
 module _ (p : Program) {X : Type 0} (r : Rules X) (thrifty : IsThrifty r) where
   abbrev Deeper : Type 0
@@ -100,7 +103,7 @@ module _ (p : Program) {X : Type 0} (r : Rules X) (thrifty : IsThrifty r) where
   module _ (d : Deeper) (h : LessIn d) where
     mutual
       act_less : (s : Code) (l : ℕ) → Less (act p r d l s)
-      act_less (Do s) l st = primitive_less p r l s st
+      act_less (Do s) l st = primitive_less p l s st
       act_less (If t b c) l st =
           value_less l (truth_at st t) _ st (λ v. choose_less v (block p r d b) (block p r d c) (block_less b) (block_less c) st)
       act_less (While t b) l st =

@@ -1,5 +1,5 @@
 -- What is told of a part is told of the whole, and a whole whose parts have no errors has none.
-use Rattle.std.proofs.Common.{◌≡◌, ℕ, ◌⊎◌, List, [], ◌∷◌, ◌++◌, Result, Ok, Err, OnOk, IfOk, IfErr, refl, sym, ap, ◌∙◌, subst, inl, inr}
+use Rattle.std.proofs.Common.{◌≡◌, ℕ, ◌⊎◌, List, [], ◌∷◌, ◌++◌, Result, OnOk, IfOk, IfErr, refl, sym, ap, ◌∙◌, subst, inl, inr}
 use Rattle.std.proofs.Common.{◌+◌, ◌<◌, drop, length}
 use Rattle.std.proofs.lemmas.List.{at_drop_more}
 use Rattle.std.specs.Prelude.{slice_index_or}
@@ -9,6 +9,7 @@ use Rattle.types.specs.declared.error.TypeError.{TypeError}
 use Rattle.types.specs.declared.error.TypeError.TheVariants.{OutOfMemory, WrongKind}
 use Rattle.types.specs.ExpressionErrors.{wrong_kind}
 use Rattle.types.specs.Scope.{Names}
+use Rattle.facts.proofs.Results.{err_passed}
 
 pub none_both : (xs ys : List TypeError) → xs ≡ [] → ys ≡ [] → xs ++ ys ≡ []
 none_both xs ys e f = ap (λ l. l ++ ys) e ∙ f
@@ -39,8 +40,7 @@ pub ruleset telling = (told_left, told_right, told_memory, told_alone, none_both
 
 -- at an exit by `?`, whose error is that of the part
 pub at_exit : {X : Type 0} (P : TypeError → Type 0) (r : Result X TypeError) (e : TypeError) → IsErrAnd r (λ y. y ≡ e) → P e → IfErr r P
-at_exit P (Ok x) e passed h = tt
-at_exit P (Err y) e passed h = subst P (sym passed) h
+at_exit P r e passed h = err_passed r e P passed h
 
 -- at an exit by `?`, whose error is that of the first part of the whole
 pub exit_left : {X : Type 0} (r : Result X TypeError) (e : TypeError) → IsErrAnd r (λ y. y ≡ e)

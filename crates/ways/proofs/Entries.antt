@@ -2,7 +2,7 @@
 use Rattle.std.proofs.Common.{◌≡◌, inl, inr, ℕ, zero, suc, ◌+◌, ◌-◌, ◌≤◌, ◌<◌, List, [], ◌∷◌, ◌++◌, length, map, refl, sym, ap, subst, arith}
 use Rattle.std.proofs.lemmas.Bool.{cases_lt}
 use Rattle.std.proofs.lemmas.List.{length-map}
-use Rattle.std.specs.Prelude.{Bool, true, false, None, Some, slice_get, slice_index_or}
+use Rattle.std.specs.Prelude.{Bool, true, false, slice_index_or}
 use Rattle.types.specs.Code.{Procedure}
 use Rattle.types.specs.Run.{procedure_of, no_procedure}
 use Rattle.types.specs.Translation.{parameter, procedure, program}
@@ -11,24 +11,13 @@ use Rattle.types.specs.declared.code.Program.{Program as rProgram}
 use Rattle.ways.specs.Known.{entry}
 use Rattle.ways.specs.Settled.{AreAdded, Lists, ListsAll}
 use Rattle.ways.specs.declared.known.Entry.{Entry}
-
-get_front : (xs ys : List Entry) (i : ℕ) (x : Entry) → slice_get xs i ≡ Some x → slice_get (xs ++ ys) i ≡ Some x
-get_front [] ys i x h = absurd (none h)
-  where
-    none : None ≡ Some x → ⊥
-    none q = cc
-get_front (z ∷ xs) ys zero x h = h
-get_front (z ∷ xs) ys (suc i) x h = get_front xs ys i x h
-
-get_last : (xs : List Entry) (y : Entry) → slice_get (xs ++ y ∷ []) (length xs) ≡ Some y
-get_last [] y = refl
-get_last (z ∷ xs) y = get_last xs y
+use Rattle.facts.proofs.Lists.{get-append_last, get-append_left}
 
 pushed_kept : (xs : List Entry) (y e : Entry) → Lists xs e → Lists (xs ++ y ∷ []) e
-pushed_kept xs y e h = record { place = h.place; there = get_front xs (y ∷ []) h.place e h.there }
+pushed_kept xs y e h = record { place = h.place; there = get-append_left xs (y ∷ []) h.place e h.there }
 
 pushed_last : (xs : List Entry) (y : Entry) → Lists (xs ++ y ∷ []) y
-pushed_last xs y = record { place = length xs; there = get_last xs y }
+pushed_last xs y = record { place = length xs; there = get-append_last xs y }
 
 -- both entries of a parameter
 pub added_none : (f : ℕ) (xs : List Entry) → AreAdded f 0 xs xs

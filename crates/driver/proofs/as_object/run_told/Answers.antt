@@ -5,7 +5,7 @@ use Rattle.types.specs.Translation.{array, budget, outcome as outcome_of}
 use Rattle.types.specs.Typed.{code_of}
 use Rattle.command_line.specs.Requests.{settings}
 use Rattle.command_line.specs.declared.request.Command.TheVariants.{Run}
-use Rattle.answers.proofs.Answering.{declared_by, if_err_passed, is_explored}
+use Rattle.answers.proofs.Answering.{declared_by, err_passed, is_explored}
 use Rattle.objects.specs.Objects.{FailsEarly}
 use Rattle.objects.proofs.Failures.{memory_passed}
 use Rattle.driver.specs.Traced.{IsTraceOfText}
@@ -17,7 +17,7 @@ use Rattle.driver.proofs.as_object.run_told.Goals as goal
 pub returns-in_err-ran-clause-why : goal.returns-in_err-ran-clause-why
 returns-in_err-ran-clause-why g c =
     let s = settings c.args.question.settings in let held = g.F.FileSource.held c.args.files.now in
-    if_err_passed c.from_residual.result _ (FailsEarly Run s held c.args.question.text.now) c.from_residual.ensures.1
+    err_passed c.from_residual.result _ (FailsEarly Run s held c.args.question.text.now) c.from_residual.ensures.1
     c.in_err-ran.ensures.why
 
 pub returns-in_err-ran-clause-trace : goal.returns-in_err-ran-clause-trace

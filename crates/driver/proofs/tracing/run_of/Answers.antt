@@ -5,7 +5,7 @@ use Rattle.types.specs.Typed.{code_of}
 use Rattle.types.specs.declared.outcome.Outcome.{Outcome}
 use Rattle.command_line.specs.Requests.{settings}
 use Rattle.command_line.specs.declared.request.Command.TheVariants.{Run}
-use Rattle.answers.proofs.Answering.{begun_so, if_err_passed}
+use Rattle.answers.proofs.Answering.{begun_so, err_passed}
 use Rattle.objects.specs.Objects.{FailsEarly}
 use Rattle.objects.proofs.Failures.{not_begun_early}
 use Rattle.driver.specs.Traced.{IsTraceOf, IsTraceOfText}
@@ -18,7 +18,7 @@ pub returns-in_err-given-clause-why : goal.returns-in_err-given-clause-why
 returns-in_err-given-clause-why g c =
     let s = settings c.args.question.settings in let held = g.F.FileSource.held c.args.files.now in
     let text = c.args.question.text.now in
-    if_err_passed c.from_residual.result _ (FailsEarly Run s held text) c.from_residual.ensures.1
+    err_passed c.from_residual.result _ (FailsEarly Run s held text) c.from_residual.ensures.1
     (not_begun_early Run s held text tt (λ code accepted. accepted) _ c.in_err-given.ensures.why)
 
 pub returns-in_err-given-clause-trace : goal.returns-in_err-given-clause-trace
@@ -36,7 +36,7 @@ pub returns-in_err-outcome-clause-why : goal.returns-in_err-outcome-clause-why
 returns-in_err-outcome-clause-why g c =
     let s = settings c.args.question.settings in let held = g.F.FileSource.held c.args.files.now in
     let text = c.args.question.text.now in
-    if_err_passed c.from_residual-in_err-outcome.result _ (FailsEarly Run s held text)
+    err_passed c.from_residual-in_err-outcome.result _ (FailsEarly Run s held text)
     c.from_residual-in_err-outcome.ensures.1
     (no_run_early s held text (begun_so s held text c.in_ok-given.given c.in_ok-given.ensures.given) _
     c.in_err-outcome.ensures.why)

@@ -5,16 +5,16 @@ use Rattle.types.specs.Typed.{code_of}
 use Rattle.types.specs.declared.budget.Budget.{Budget}
 use Rattle.gather.specs.Jobs.{outcome_of}
 use Rattle.interleave.specs.declared.job.WeightedJob.{WeightedJob}
-use Rattle.trace.proofs.LogLemmas.{if_error_then}
 use Rattle.logged_run.specs.Ending.{LeadsToOutcome}
 use Rattle.logged_run.specs.Errors.{IsCauseOrUnlogged}
 use Rattle.logged_run.proofs.Ended.{any_cause}
 use Rattle.logged_run.proofs.run.run_logged.Goals as goal
+use Rattle.facts.proofs.Results.{if_err_then}
 
 pub returns-in_err-log-clause-cause : goal.returns-in_err-log-clause-cause
 returns-in_err-log-clause-cause g c =
     let tasks = c.args.settings.tasks in
-    if_error_then c.from_residual-in_err-log.result c.from_residual-in_err-log.ensures.1
+    if_err_then c.from_residual-in_err-log.result c.from_residual-in_err-log.ensures.1
     (λ e same. subst (IsCauseOrUnlogged tasks) (sym same) (any_cause tasks c.in_err-log.field-0.0))
 
 pub returns-then-has_ended-clause-told : goal.returns-then-has_ended-clause-told

@@ -7,7 +7,7 @@ use Rattle.syntax.proofs.ChainLemmas.{behind, expr_then_built, conj_then_built, 
 use Rattle.syntax.proofs.ChainLemmas.{cmp_then_alone, cmp_then_compared, sum_then_built, prod_then_built, conjs_read}
 use Rattle.syntax.proofs.ChainLemmas.{negs_read, terms_read, factors_read}
 use Rattle.syntax.proofs.ExprSpellings.{conjs_bind, negs_bind, terms_bind, factors_bind}
-use Rattle.syntax.proofs.RefusalLemmas.{passed_on, rests_equal, name_alone, name_indexed, marked_atom, expr_opened}
+use Rattle.syntax.proofs.RefusalLemmas.{passed_on, same_rest, name_alone, name_indexed, marked_atom, expr_opened}
 use Rattle.syntax.proofs.RefusalLemmas.{conjs_opened, conjs_closed, conj_opened, negs_opened, negs_closed, neg_plain}
 use Rattle.syntax.proofs.RefusalLemmas.{neg_denied, cmp_opened, cmp_alone, cmp_compared_to, sum_opened, terms_opened}
 use Rattle.syntax.proofs.RefusalLemmas.{terms_closed, prod_opened, factors_opened, factors_closed, unary_plain}
@@ -20,7 +20,7 @@ atom-returns-in_ok-inner-in-Some-Mark-clause-read t c = record {
   spelled = c.in_ok-after-in-Some-Mark.ensures.found ∙ behind c.in_ok-inner-in-Some-Mark.ensures.spelled;
   whole = λ x r ends spelled.
       let inner = marked_atom x _ _ r (sym c.in_ok-after-in-Some-Mark.ensures.found ∙ spelled) in
-      c.in_ok-inner-in-Some-Mark.ensures.whole (omega arith) inner.0 r (rests_equal inner.1);
+      c.in_ok-inner-in-Some-Mark.ensures.whole (omega arith) inner.0 r (same_rest inner.1);
 }
 
 pub named-returns-in-None-clause-read : goal.named-returns-in-None-clause-read
@@ -331,4 +331,4 @@ pub atom-returns-in_err-inner-in-Some-Mark-clause-refused : goal.atom-returns-in
 atom-returns-in_err-inner-in-Some-Mark-clause-refused t c =
     passed_on _ _ c.from_residual-in_err-inner-in-Some-Mark.ensures.1 (λ room x r ends spelled.
     let inner = marked_atom x _ _ r (sym c.in_ok-after-in-Some-Mark.ensures.found ∙ spelled) in
-    c.in_err-inner-in-Some-Mark.ensures.refused room (omega arith) inner.0 r (rests_equal inner.1))
+    c.in_err-inner-in-Some-Mark.ensures.refused room (omega arith) inner.0 r (same_rest inner.1))

@@ -3,7 +3,7 @@ use Rattle.syntax.specs.Spelling.{atom_then}
 use Rattle.syntax.specs.Token.{plain}
 use Rattle.syntax_tree.specs.Tree.{atom}
 use Rattle.syntax.proofs.ChainLemmas.{behind}
-use Rattle.syntax.proofs.RefusalLemmas.{passed_on, rests_equal, true_atom, false_atom, number_atom, length_atom, BeginsNoAtom, no_atom}
+use Rattle.syntax.proofs.RefusalLemmas.{passed_on, same_rest, true_atom, false_atom, number_atom, length_atom, BeginsNoAtom, no_atom}
 use Rattle.syntax.proofs.expressions.constant.Goals as goal
 
 pub returns-in-Some-clause-read : goal.returns-in-Some-clause-read
@@ -27,8 +27,8 @@ returns-in-Some-after_word-2-clause-read c = record {
       ∙ behind (c.in_ok-rest.ensures.found ∙ behind (c.in_ok-name.ensures.found ∙ behind c.in_ok-rest-2.ensures.found));
   whole = λ a r ends spelled.
       let section = length_atom a _ r (sym c.in-Some-after_word-2.ensures.found ∙ spelled) in
-      let paren = rests_equal (sym c.in_ok-name.ensures.found ∙ rests_equal (sym c.in_ok-rest.ensures.found ∙ section.1)) in
-      rests_equal (sym c.in_ok-rest-2.ensures.found ∙ paren);
+      let paren = same_rest (sym c.in_ok-name.ensures.found ∙ same_rest (sym c.in_ok-rest.ensures.found ∙ section.1)) in
+      same_rest (sym c.in_ok-rest-2.ensures.found ∙ paren);
 }
 
 pub returns-clause-read : goal.returns-clause-read
@@ -48,13 +48,13 @@ pub returns-in_err-name-clause-refused : goal.returns-in_err-name-clause-refused
 returns-in_err-name-clause-refused c =
     passed_on _ _ c.from_residual-in_err-name.ensures.1 (λ room no_name no_mark a r ends spelled.
     let section = length_atom a _ r (sym c.in-Some-after_word-2.ensures.found ∙ spelled) in
-    c.in_err-name.ensures.refused room _ _ (rests_equal (sym c.in_ok-rest.ensures.found ∙ section.1)))
+    c.in_err-name.ensures.refused room _ _ (same_rest (sym c.in_ok-rest.ensures.found ∙ section.1)))
 
 pub returns-in_err-rest-2-clause-refused : goal.returns-in_err-rest-2-clause-refused
 returns-in_err-rest-2-clause-refused c =
     passed_on _ _ c.from_residual-in_err-rest-2.ensures.1 (λ room no_name no_mark a r ends spelled.
     let section = length_atom a _ r (sym c.in-Some-after_word-2.ensures.found ∙ spelled) in
-    c.in_err-rest-2.ensures.refused _ (rests_equal (sym c.in_ok-name.ensures.found ∙ rests_equal (sym c.in_ok-rest.ensures.found ∙ section.1))))
+    c.in_err-rest-2.ensures.refused _ (same_rest (sym c.in_ok-name.ensures.found ∙ same_rest (sym c.in_ok-rest.ensures.found ∙ section.1))))
 
 pub returns-in_err-value-clause-refused : goal.returns-in_err-value-clause-refused
 returns-in_err-value-clause-refused c =

@@ -1,5 +1,5 @@
 use Rattle.std.proofs.Common.{rules, sym, ◌∙◌}
-use Rattle.syntax.proofs.RefusalLemmas.{passed_on, rests_equal}
+use Rattle.syntax.proofs.RefusalLemmas.{passed_on, same_rest}
 use Rattle.syntax.proofs.ProgramRefusals.{no_element}
 use Rattle.syntax.proofs.programs.element_type.Goals as goal
 
@@ -7,7 +7,7 @@ pub returns-in-Some-clause-read : goal.returns-in-Some-clause-read
 returns-in-Some-clause-read c = record {
   spelled = search rules;
   whole = λ e r spelled.
-      rests_equal (sym c.in-Some.ensures.found ∙ spelled);
+      same_rest (sym c.in-Some.ensures.found ∙ spelled);
 }
 
 pub returns-in_err-rest-clause-refused : goal.returns-in_err-rest-clause-refused
@@ -19,5 +19,5 @@ pub returns-clause-read : goal.returns-clause-read
 returns-clause-read c = record {
   spelled = search rules;
   whole = λ e r spelled.
-      rests_equal (sym c.in_ok-rest.ensures.found ∙ spelled);
+      same_rest (sym c.in_ok-rest.ensures.found ∙ spelled);
 }

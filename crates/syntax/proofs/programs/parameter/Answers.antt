@@ -1,7 +1,7 @@
 use Rattle.std.proofs.Common.{sym, ◌∙◌}
 use Rattle.syntax.specs.Spelling.{parameter_then}
 use Rattle.syntax.proofs.ChainLemmas.{behind}
-use Rattle.syntax.proofs.RefusalLemmas.{passed_on, rests_equal}
+use Rattle.syntax.proofs.RefusalLemmas.{passed_on, same_rest}
 use Rattle.syntax.proofs.ProgramRefusals.{mut_opened, read_opened, scalar_opened}
 use Rattle.syntax.proofs.programs.parameter.Goals as goal
 
@@ -29,9 +29,9 @@ returns-clause-read c = record {
   spelled = c.in_ok-name-3.ensures.found ∙ behind (c.in_ok-rest.ensures.found ∙ behind c.in_ok-rest-2.ensures.found);
   whole = λ p r spelled.
       let parts = scalar_opened p _ r c.in_default.ensures.absent c.in_default-after_word.ensures.absent spelled in
-      let colon = rests_equal (sym c.in_ok-name-3.ensures.found ∙ parts.1) in
-      let word = rests_equal (sym c.in_ok-rest.ensures.found ∙ colon) in
-      rests_equal (sym c.in_ok-rest-2.ensures.found ∙ word);
+      let colon = same_rest (sym c.in_ok-name-3.ensures.found ∙ parts.1) in
+      let word = same_rest (sym c.in_ok-rest.ensures.found ∙ colon) in
+      same_rest (sym c.in_ok-rest-2.ensures.found ∙ word);
 }
 
 pub returns-in_err-name-clause-refused : goal.returns-in_err-name-clause-refused
@@ -56,13 +56,13 @@ pub returns-in_err-rest-clause-refused : goal.returns-in_err-rest-clause-refused
 returns-in_err-rest-clause-refused c =
     passed_on _ _ c.from_residual-in_err-rest.ensures.1 (λ room p r spelled.
     let parts = scalar_opened p _ r c.in_default.ensures.absent c.in_default-after_word.ensures.absent spelled in
-    let colon = rests_equal (sym c.in_ok-name-3.ensures.found ∙ parts.1) in
+    let colon = same_rest (sym c.in_ok-name-3.ensures.found ∙ parts.1) in
     c.in_err-rest.ensures.refused _ colon)
 
 pub returns-in_err-rest-2-clause-refused : goal.returns-in_err-rest-2-clause-refused
 returns-in_err-rest-2-clause-refused c =
     passed_on _ _ c.from_residual-in_err-rest-2.ensures.1 (λ room p r spelled.
     let parts = scalar_opened p _ r c.in_default.ensures.absent c.in_default-after_word.ensures.absent spelled in
-    let colon = rests_equal (sym c.in_ok-name-3.ensures.found ∙ parts.1) in
-    let word = rests_equal (sym c.in_ok-rest.ensures.found ∙ colon) in
+    let colon = same_rest (sym c.in_ok-name-3.ensures.found ∙ parts.1) in
+    let word = same_rest (sym c.in_ok-rest.ensures.found ∙ colon) in
     c.in_err-rest-2.ensures.refused _ word)

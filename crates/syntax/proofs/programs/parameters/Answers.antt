@@ -4,7 +4,7 @@ use Rattle.syntax.specs.Spelling.{parameters_then, more_parameters_then}
 use Rattle.syntax.specs.Token.{MarkToken, plain}
 use Rattle.syntax_tree.specs.Tree.{parameter}
 use Rattle.syntax.proofs.ProgramLemmas.{parameters_read, parameters_then-one}
-use Rattle.syntax.proofs.RefusalLemmas.{passed_on, rests_equal}
+use Rattle.syntax.proofs.RefusalLemmas.{passed_on, same_rest}
 use Rattle.syntax.proofs.ProgramRefusals.{parameters_opened, parameters_closed, more_parameters_opened, more_parameters_closed}
 use Rattle.syntax.proofs.programs.parameters.Goals as goal
 
@@ -49,7 +49,7 @@ returns-clause-read c = record {
   whole = λ all r spelled.
       let end = c.loop-after.invariant.whole all r spelled in
       let paren = more_parameters_closed end.0 _ (MarkToken RightParen ∷ r) c.in_default-after_mark.ensures.absent end.1 in
-      rests_equal (sym c.in_ok-rest.ensures.found ∙ paren);
+      same_rest (sym c.in_ok-rest.ensures.found ∙ paren);
 }
 
 pub returns-in_err-first-clause-refused : goal.returns-in_err-first-clause-refused

@@ -6,7 +6,7 @@ use Rattle.syntax_tree.specs.Tree.{expr, block}
 use Rattle.syntax.proofs.ChainLemmas.{behind}
 use Rattle.syntax.proofs.BlockLemmas.{stmts_then, stmts_read, block_then-block, stmt_then_If, stmt_then_IfElse}
 use Rattle.syntax.proofs.BlockLemmas.{stmt_then_While, stmt_then_Split, stmt_then_Async, stmt_then_Finish}
-use Rattle.syntax.proofs.RefusalLemmas.{passed_on, rests_equal}
+use Rattle.syntax.proofs.RefusalLemmas.{passed_on, same_rest}
 use Rattle.syntax.proofs.StmtRefusals.{block_closed, block_opened, if_opened, if_alone, if_otherwise, while_opened}
 use Rattle.syntax.proofs.StmtRefusals.{split_opened, async_opened, finish_opened, block_read, block_refused}
 use Rattle.syntax.proofs.StmtSpellings.{block_binds}
@@ -54,13 +54,13 @@ split-returns-clause-read t c = record {
       behind (c.in_ok-section.ensures.found ∙ behind (c.in_ok-rest.ensures.found ∙ behind at)) ∙ stmt_then_Split _ _ _ _ _ _;
   whole = λ s r ends spelled.
       let parts = split_opened s _ r spelled in
-      let at_word = rests_equal (sym c.in_ok-section.ensures.found ∙ parts.spelled) in
-      let place = rests_equal (sym c.in_ok-rest.ensures.found ∙ at_word) in
+      let at_word = same_rest (sym c.in_ok-section.ensures.found ∙ parts.spelled) in
+      let place = same_rest (sym c.in_ok-rest.ensures.found ∙ at_word) in
       let as_word = c.in_ok-at.ensures.read.whole parts.at parts.sides parts.ends place ∙ parts.sided in
-      let left = rests_equal (sym c.in_ok-rest-2.ensures.found ∙ as_word) in
-      let comma = rests_equal (sym c.in_ok-left.ensures.found ∙ left) in
-      let right = rests_equal (sym c.in_ok-rest-3.ensures.found ∙ comma) in
-      let body = rests_equal (sym c.in_ok-right.ensures.found ∙ right) in
+      let left = same_rest (sym c.in_ok-rest-2.ensures.found ∙ as_word) in
+      let comma = same_rest (sym c.in_ok-left.ensures.found ∙ left) in
+      let right = same_rest (sym c.in_ok-rest-3.ensures.found ∙ comma) in
+      let body = same_rest (sym c.in_ok-right.ensures.found ∙ right) in
       c.in_ok-body.ensures.read.whole parts.body r body;
 }
 
@@ -157,23 +157,23 @@ pub split-returns-in_err-rest-clause-refused : goal.split-returns-in_err-rest-cl
 split-returns-in_err-rest-clause-refused t c =
     passed_on _ _ c.from_residual-in_err-rest.ensures.1 (λ room s r ends spelled.
     let parts = split_opened s _ r spelled in
-    let at_word = rests_equal (sym c.in_ok-section.ensures.found ∙ parts.spelled) in
+    let at_word = same_rest (sym c.in_ok-section.ensures.found ∙ parts.spelled) in
     c.in_err-rest.ensures.refused _ at_word)
 
 pub split-returns-in_err-at-clause-refused : goal.split-returns-in_err-at-clause-refused
 split-returns-in_err-at-clause-refused t c =
     passed_on _ _ c.from_residual-in_err-at.ensures.1 (λ room s r ends spelled.
     let parts = split_opened s _ r spelled in
-    let at_word = rests_equal (sym c.in_ok-section.ensures.found ∙ parts.spelled) in
-    let place = rests_equal (sym c.in_ok-rest.ensures.found ∙ at_word) in
+    let at_word = same_rest (sym c.in_ok-section.ensures.found ∙ parts.spelled) in
+    let place = same_rest (sym c.in_ok-rest.ensures.found ∙ at_word) in
     c.in_err-at.ensures.refused room parts.at parts.sides parts.ends place)
 
 pub split-returns-in_err-rest-2-clause-refused : goal.split-returns-in_err-rest-2-clause-refused
 split-returns-in_err-rest-2-clause-refused t c =
     passed_on _ _ c.from_residual-in_err-rest-2.ensures.1 (λ room s r ends spelled.
     let parts = split_opened s _ r spelled in
-    let at_word = rests_equal (sym c.in_ok-section.ensures.found ∙ parts.spelled) in
-    let place = rests_equal (sym c.in_ok-rest.ensures.found ∙ at_word) in
+    let at_word = same_rest (sym c.in_ok-section.ensures.found ∙ parts.spelled) in
+    let place = same_rest (sym c.in_ok-rest.ensures.found ∙ at_word) in
     let as_word = c.in_ok-at.ensures.read.whole parts.at parts.sides parts.ends place ∙ parts.sided in
     c.in_err-rest-2.ensures.refused _ as_word)
 
@@ -181,46 +181,46 @@ pub split-returns-in_err-left-clause-refused : goal.split-returns-in_err-left-cl
 split-returns-in_err-left-clause-refused t c =
     passed_on _ _ c.from_residual-in_err-left.ensures.1 (λ room s r ends spelled.
     let parts = split_opened s _ r spelled in
-    let at_word = rests_equal (sym c.in_ok-section.ensures.found ∙ parts.spelled) in
-    let place = rests_equal (sym c.in_ok-rest.ensures.found ∙ at_word) in
+    let at_word = same_rest (sym c.in_ok-section.ensures.found ∙ parts.spelled) in
+    let place = same_rest (sym c.in_ok-rest.ensures.found ∙ at_word) in
     let as_word = c.in_ok-at.ensures.read.whole parts.at parts.sides parts.ends place ∙ parts.sided in
-    let left = rests_equal (sym c.in_ok-rest-2.ensures.found ∙ as_word) in
+    let left = same_rest (sym c.in_ok-rest-2.ensures.found ∙ as_word) in
     c.in_err-left.ensures.refused room _ _ left)
 
 pub split-returns-in_err-rest-3-clause-refused : goal.split-returns-in_err-rest-3-clause-refused
 split-returns-in_err-rest-3-clause-refused t c =
     passed_on _ _ c.from_residual-in_err-rest-3.ensures.1 (λ room s r ends spelled.
     let parts = split_opened s _ r spelled in
-    let at_word = rests_equal (sym c.in_ok-section.ensures.found ∙ parts.spelled) in
-    let place = rests_equal (sym c.in_ok-rest.ensures.found ∙ at_word) in
+    let at_word = same_rest (sym c.in_ok-section.ensures.found ∙ parts.spelled) in
+    let place = same_rest (sym c.in_ok-rest.ensures.found ∙ at_word) in
     let as_word = c.in_ok-at.ensures.read.whole parts.at parts.sides parts.ends place ∙ parts.sided in
-    let left = rests_equal (sym c.in_ok-rest-2.ensures.found ∙ as_word) in
-    let comma = rests_equal (sym c.in_ok-left.ensures.found ∙ left) in
+    let left = same_rest (sym c.in_ok-rest-2.ensures.found ∙ as_word) in
+    let comma = same_rest (sym c.in_ok-left.ensures.found ∙ left) in
     c.in_err-rest-3.ensures.refused _ comma)
 
 pub split-returns-in_err-right-clause-refused : goal.split-returns-in_err-right-clause-refused
 split-returns-in_err-right-clause-refused t c =
     passed_on _ _ c.from_residual-in_err-right.ensures.1 (λ room s r ends spelled.
     let parts = split_opened s _ r spelled in
-    let at_word = rests_equal (sym c.in_ok-section.ensures.found ∙ parts.spelled) in
-    let place = rests_equal (sym c.in_ok-rest.ensures.found ∙ at_word) in
+    let at_word = same_rest (sym c.in_ok-section.ensures.found ∙ parts.spelled) in
+    let place = same_rest (sym c.in_ok-rest.ensures.found ∙ at_word) in
     let as_word = c.in_ok-at.ensures.read.whole parts.at parts.sides parts.ends place ∙ parts.sided in
-    let left = rests_equal (sym c.in_ok-rest-2.ensures.found ∙ as_word) in
-    let comma = rests_equal (sym c.in_ok-left.ensures.found ∙ left) in
-    let right = rests_equal (sym c.in_ok-rest-3.ensures.found ∙ comma) in
+    let left = same_rest (sym c.in_ok-rest-2.ensures.found ∙ as_word) in
+    let comma = same_rest (sym c.in_ok-left.ensures.found ∙ left) in
+    let right = same_rest (sym c.in_ok-rest-3.ensures.found ∙ comma) in
     c.in_err-right.ensures.refused room _ _ right)
 
 pub split-returns-in_err-body-clause-refused : goal.split-returns-in_err-body-clause-refused
 split-returns-in_err-body-clause-refused t c =
     passed_on _ _ c.from_residual-in_err-body.ensures.1 (λ room s r ends spelled.
     let parts = split_opened s _ r spelled in
-    let at_word = rests_equal (sym c.in_ok-section.ensures.found ∙ parts.spelled) in
-    let place = rests_equal (sym c.in_ok-rest.ensures.found ∙ at_word) in
+    let at_word = same_rest (sym c.in_ok-section.ensures.found ∙ parts.spelled) in
+    let place = same_rest (sym c.in_ok-rest.ensures.found ∙ at_word) in
     let as_word = c.in_ok-at.ensures.read.whole parts.at parts.sides parts.ends place ∙ parts.sided in
-    let left = rests_equal (sym c.in_ok-rest-2.ensures.found ∙ as_word) in
-    let comma = rests_equal (sym c.in_ok-left.ensures.found ∙ left) in
-    let right = rests_equal (sym c.in_ok-rest-3.ensures.found ∙ comma) in
-    let body = rests_equal (sym c.in_ok-right.ensures.found ∙ right) in
+    let left = same_rest (sym c.in_ok-rest-2.ensures.found ∙ as_word) in
+    let comma = same_rest (sym c.in_ok-left.ensures.found ∙ left) in
+    let right = same_rest (sym c.in_ok-rest-3.ensures.found ∙ comma) in
+    let body = same_rest (sym c.in_ok-right.ensures.found ∙ right) in
     c.in_err-body.ensures.refused room parts.body r body)
 
 pub statement-returns-in_err-body-in-Async-clause-refused : goal.statement-returns-in_err-body-in-Async-clause-refused

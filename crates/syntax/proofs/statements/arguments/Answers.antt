@@ -4,7 +4,7 @@ use Rattle.syntax.specs.Spelling.{exprs_then}
 use Rattle.syntax.specs.Token.{MarkToken, plain}
 use Rattle.syntax_tree.specs.Tree.{exprs}
 use Rattle.syntax.proofs.ChainLemmas.{adds_to_one}
-use Rattle.syntax.proofs.RefusalLemmas.{passed_on, rests_equal}
+use Rattle.syntax.proofs.RefusalLemmas.{passed_on, same_rest}
 use Rattle.syntax.proofs.StmtRefusals.{exprs_closed, exprs_opened}
 use Rattle.syntax.proofs.statements.arguments.Goals as goal
 
@@ -26,7 +26,7 @@ returns-clause-read c = record {
       let parts = exprs_opened all _ r c.in_default.ensures.absent spelled in
       let others = c.in_ok-first.ensures.read.whole parts.first parts.after parts.ends parts.spelled ∙ parts.more in
       let mark = c.in_ok-arguments.ensures.whole parts.others (MarkToken RightParen ∷ r) (omega arith) others in
-      rests_equal (sym c.in_ok-rest.ensures.found ∙ mark);
+      same_rest (sym c.in_ok-rest.ensures.found ∙ mark);
 }
 
 pub returns-in_err-first-clause-refused : goal.returns-in_err-first-clause-refused

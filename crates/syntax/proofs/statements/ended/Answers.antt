@@ -1,7 +1,7 @@
 use Rattle.std.proofs.Common.{rules, ◌∷◌, sym, ◌∙◌, arith}
 use Rattle.syntax.specs.declared.token.Mark.TheVariants.{Semicolon}
 use Rattle.syntax.specs.Token.{MarkToken}
-use Rattle.syntax.proofs.RefusalLemmas.{passed_on, rests_equal}
+use Rattle.syntax.proofs.RefusalLemmas.{passed_on, same_rest}
 use Rattle.syntax.proofs.statements.ended.Goals as goal
 
 pub returns-in_err-value-clause-refused : goal.returns-in_err-value-clause-refused
@@ -18,5 +18,5 @@ pub returns-clause-read : goal.returns-clause-read
 returns-clause-read c = record {
   spelled = search rules;
   whole = λ e r spelled.
-      rests_equal (sym c.in_ok-rest.ensures.found ∙ c.in_ok-value.ensures.read.whole e (MarkToken Semicolon ∷ r) (omega arith) spelled);
+      same_rest (sym c.in_ok-rest.ensures.found ∙ c.in_ok-value.ensures.read.whole e (MarkToken Semicolon ∷ r) (omega arith) spelled);
 }

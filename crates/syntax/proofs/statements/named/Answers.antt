@@ -4,7 +4,7 @@ use Rattle.syntax_tree.specs.Tree.{expr, exprs, stmt}
 use Rattle.syntax.proofs.ChainLemmas.{behind, behind_first}
 use Rattle.syntax.specs.declared.token.Mark.TheVariants.{Semicolon}
 use Rattle.syntax.specs.Token.{MarkToken}
-use Rattle.syntax.proofs.RefusalLemmas.{passed_on, rests_equal}
+use Rattle.syntax.proofs.RefusalLemmas.{passed_on, same_rest}
 use Rattle.syntax.proofs.StmtRefusals.{no_statement, store_opened, call_opened, assign_opened}
 use Rattle.syntax.proofs.statements.named.Goals as goal
 
@@ -33,7 +33,7 @@ returns-in-Some-after_mark-clause-read c = record {
   whole = λ s r ends spelled.
       let parts = call_opened s _ _ r (sym (c.in_ok-name.ensures.found ∙ behind c.in-Some-after_mark.ensures.found) ∙ spelled) in
       let mark = c.in_ok-arguments.ensures.read.whole parts.0 (MarkToken Semicolon ∷ r) parts.1 in
-      rests_equal (sym c.in_ok-rest-3.ensures.found ∙ mark);
+      same_rest (sym c.in_ok-rest-3.ensures.found ∙ mark);
 }
 
 pub returns-clause-read : goal.returns-clause-read
@@ -43,7 +43,7 @@ returns-clause-read c = record {
   whole = λ s r ends spelled.
       let parts = assign_opened s _ _ r c.in_default.ensures.absent c.in_default-after_mark.ensures.absent
       (sym c.in_ok-name.ensures.found ∙ spelled) in
-      let value = rests_equal (sym c.in_ok-rest-4.ensures.found ∙ parts.1) in
+      let value = same_rest (sym c.in_ok-rest-4.ensures.found ∙ parts.1) in
       c.in_ok-value-2.ensures.read.whole parts.0 r value;
 }
 
@@ -105,5 +105,5 @@ returns-in_err-value-2-clause-refused c =
     passed_on _ _ c.from_residual-in_err-value-2.ensures.1 (λ room no_word s r ends spelled.
     let parts = assign_opened s _ _ r c.in_default.ensures.absent c.in_default-after_mark.ensures.absent
     (sym c.in_ok-name.ensures.found ∙ spelled) in
-    let value = rests_equal (sym c.in_ok-rest-4.ensures.found ∙ parts.1) in
+    let value = same_rest (sym c.in_ok-rest-4.ensures.found ∙ parts.1) in
     c.in_err-value-2.ensures.refused room parts.0 r value)

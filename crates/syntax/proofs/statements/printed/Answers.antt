@@ -4,7 +4,7 @@ use Rattle.syntax_tree.specs.Tree.{expr, exprs, stmt}
 use Rattle.syntax.proofs.ChainLemmas.{behind, adds_to_none}
 use Rattle.syntax.specs.declared.token.Mark.TheVariants.{Semicolon}
 use Rattle.syntax.specs.Token.{MarkToken}
-use Rattle.syntax.proofs.RefusalLemmas.{passed_on, rests_equal}
+use Rattle.syntax.proofs.RefusalLemmas.{passed_on, same_rest}
 use Rattle.syntax.proofs.StmtRefusals.{print_opened}
 use Rattle.syntax.proofs.statements.printed.Goals as goal
 
@@ -19,7 +19,7 @@ returns-clause-read c = record {
       let parts = print_opened s _ r spelled in
       let others = c.in_ok-first.ensures.read.whole parts.first parts.after parts.ends parts.spelled ∙ parts.more in
       let mark = c.in_ok-others.ensures.whole parts.others (MarkToken Semicolon ∷ r) (omega arith) others in
-      rests_equal (sym c.in_ok-rest.ensures.found ∙ mark);
+      same_rest (sym c.in_ok-rest.ensures.found ∙ mark);
 }
 
 pub returns-in_err-first-clause-refused : goal.returns-in_err-first-clause-refused

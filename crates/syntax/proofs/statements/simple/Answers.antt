@@ -3,7 +3,7 @@ use Rattle.syntax.specs.Spelling.{stmt_then}
 use Rattle.syntax.specs.Token.{plain}
 use Rattle.syntax_tree.specs.Tree.{stmt}
 use Rattle.syntax.proofs.ChainLemmas.{behind}
-use Rattle.syntax.proofs.RefusalLemmas.{passed_on, rests_equal}
+use Rattle.syntax.proofs.RefusalLemmas.{passed_on, same_rest}
 use Rattle.syntax.proofs.StmtRefusals.{BeginsNoStatement, no_simple, skip_opened, fault_opened}
 use Rattle.syntax.proofs.statements.simple.Goals as goal
 
@@ -13,7 +13,7 @@ returns-in-Some-clause-read c = record {
   spelled = c.in-Some.ensures.found ∙ behind c.in_ok-rest.ensures.found;
   whole = λ s r ends spelled.
       let mark = skip_opened s _ r (sym c.in-Some.ensures.found ∙ spelled) in
-      rests_equal (sym c.in_ok-rest.ensures.found ∙ mark);
+      same_rest (sym c.in_ok-rest.ensures.found ∙ mark);
 }
 
 pub returns-clause-read : goal.returns-clause-read

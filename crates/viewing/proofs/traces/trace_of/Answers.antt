@@ -1,5 +1,5 @@
 use Rattle.command_line.specs.Requests.{settings}
-use Rattle.answers.proofs.Answering.{begun_so, if_err_passed}
+use Rattle.answers.proofs.Answering.{begun_so, err_passed}
 use Rattle.viewing.specs.Views.{TellsNoTrace}
 use Rattle.viewing.proofs.Viewing.{holds_so, not_begun, not_legal}
 use Rattle.viewing.proofs.traces.trace_of.Goals as goal
@@ -8,13 +8,13 @@ pub returns-in_err-given-clause-why : goal.returns-in_err-given-clause-why
 returns-in_err-given-clause-why g c =
     let s = settings c.args.question.settings in let held = g.F.FileSource.held c.args.files.now in
     let text = c.args.question.text.now in
-    if_err_passed _ _ (TellsNoTrace s held text) c.from_residual.ensures.1 (not_begun s held text _ c.in_err-given.ensures.why)
+    err_passed _ _ (TellsNoTrace s held text) c.from_residual.ensures.1 (not_begun s held text _ c.in_err-given.ensures.why)
 
 pub returns-in_err-judge-clause-why : goal.returns-in_err-judge-clause-why
 returns-in_err-judge-clause-why g c =
     let s = settings c.args.question.settings in let held = g.F.FileSource.held c.args.files.now in
     let text = c.args.question.text.now in let trace = c.in_ok-trace.trace in
-    if_err_passed _ _ (TellsNoTrace s held text) c.from_residual-in_err-judge.ensures.1
+    err_passed _ _ (TellsNoTrace s held text) c.from_residual-in_err-judge.ensures.1
     (not_legal s held text (begun_so s held text c.in_ok-given.given c.in_ok-given.ensures.given) trace.header trace.events.items
     (holds_so _ _ c.in_ok-given.ensures.keeps _ _ c.trace_name.ensures _ _ c.in_ok-trace.ensures.holds) _
     c.in_err-judge.ensures.why)

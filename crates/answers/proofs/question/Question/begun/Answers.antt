@@ -10,13 +10,13 @@ use Rattle.types.specs.declared.typed.Typed.{Typed}
 use Rattle.command_line.specs.Requests.{settings}
 use Rattle.intake.specs.Held.{BeginsWith}
 use Rattle.answers.specs.Answers.{TellsNotBegun}
-use Rattle.answers.proofs.Answering.{code_of_text, if_err_passed}
+use Rattle.answers.proofs.Answering.{code_of_text, err_passed}
 use Rattle.answers.proofs.question.Question.begun.Goals as goal
 
 pub returns-in_err-accepted-clause-why : goal.returns-in_err-accepted-clause-why
 returns-in_err-accepted-clause-why g c =
     let s = settings c.args.self.settings in let held = g.F.FileSource.held c.args.files.now in
-    if_err_passed c.from_residual.result _ (TellsNotBegun s held c.args.self.text.now) c.from_residual.ensures.1
+    err_passed c.from_residual.result _ (TellsNotBegun s held c.args.self.text.now) c.from_residual.ensures.1
     (inl c.in_err-accepted.ensures.why)
 
 pub returns-in_err-input-clause-why : goal.returns-in_err-input-clause-why
@@ -24,7 +24,7 @@ returns-in_err-input-clause-why g c =
     let s = settings c.args.self.settings in let held = g.F.FileSource.held c.args.files.now in
     let text = c.args.self.text.now in
     let typed = c.typed.result.now in
-    if_err_passed c.from_residual-in_err-input.result _ (TellsNotBegun s held text) c.from_residual-in_err-input.ensures.1
+    err_passed c.from_residual-in_err-input.result _ (TellsNotBegun s held text) c.from_residual-in_err-input.ensures.1
     (inr (record {
       code = code_of typed;
       is_code = code_of_text text typed (subst (λ (t : Typed). AreTokensOf (chars text) (spelling (program_of t)))

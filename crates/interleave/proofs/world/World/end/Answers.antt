@@ -6,7 +6,7 @@ use Rattle.interleave.specs.Shown.{Refuses}
 use Rattle.interleave.specs.declared.error.EventError.TheVariants.{NoMemory}
 use Rattle.interleave.specs.declared.world.World.{World as rWorld}
 use Rattle.interleave.proofs.AtEnds.{end_done, end_refused, end_roomless, end_unseen, has_made, seen_by, stands_there}
-use Rattle.interleave.proofs.InHand.{err_is}
+use Rattle.interleave.proofs.InHand.{err_passed}
 use Rattle.interleave.proofs.world.World.end.Goals as goal
 
 pub returns-in_err-worker-clause-refused : goal.returns-in_err-worker-clause-refused
@@ -28,7 +28,7 @@ made-requires c =
 pub returns-in_err-made-clause-refused : goal.returns-in_err-made-clause-refused
 returns-in_err-made-clause-refused c =
     let old = c.args.self.now in
-    err_is c.from_residual-in_err-made.result NoMemory (Refuses (Ends c.args.path.now.turns.items) old c.look_at.new.self)
+    err_passed c.from_residual-in_err-made.result NoMemory (Refuses (Ends c.args.path.now.turns.items) old c.look_at.new.self)
     c.from_residual-in_err-made.ensures.1 c.look_at.ensures.stays
 
 pub hand_on-requires : goal.hand_on-requires
@@ -44,7 +44,7 @@ returns-in_err-hand_on-clause-refused c =
     let seen = seen_by c.look_at.new.self path c.in_ok-worker.worker c.in_ok-worker.ensures.ready in
     let a = (stands_there c.requires l.stays c.in_ok-worker.ensures.ready).0 in
     let refused = c.in_err-hand_on.ensures.refused in
-    err_is c.from_residual-in_err-hand_on.result c.in_err-hand_on.field-0.0 (Refuses (Ends path.turns.items) old c.hand_on.new.self)
+    err_passed c.from_residual-in_err-hand_on.result c.in_err-hand_on.field-0.0 (Refuses (Ends path.turns.items) old c.hand_on.new.self)
     c.from_residual-in_err-hand_on.ensures.1
     (subst (Refuses (Ends path.turns.items) old c.hand_on.new.self) (sym refused.0)
     (end_roomless old c.requires.job path c.look_at.new.self l.others l.stays c.in_ok-worker.worker seen a

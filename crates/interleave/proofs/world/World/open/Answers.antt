@@ -4,14 +4,14 @@ use Rattle.interleave.specs.Events.{Opens}
 use Rattle.interleave.specs.Shown.{Refuses, is_scope}
 use Rattle.interleave.specs.declared.error.EventError.TheVariants.{NoMemory}
 use Rattle.interleave.specs.declared.world.World.{World as rWorld}
-use Rattle.interleave.proofs.InHand.{err_is, opened_few, opens, opens_not}
+use Rattle.interleave.proofs.InHand.{err_passed, opened_few, opens, opens_not}
 use Rattle.interleave.proofs.Staying.{stays_on, stays_scopes, stays_shown}
 use Rattle.interleave.proofs.world.World.open.Goals as goal
 
 pub returns-in_err-reserve-clause-refused : goal.returns-in_err-reserve-clause-refused
 returns-in_err-reserve-clause-refused c =
     let mid : rWorld = c.look_at.new.self in
-    err_is c.from_residual-in_err-reserve.result NoMemory _ c.from_residual-in_err-reserve.ensures.1
+    err_passed c.from_residual-in_err-reserve.result NoMemory _ c.from_residual-in_err-reserve.ensures.1
     (stays_on c.args.self.now mid _ c.look_at.ensures.stays (stays_scopes mid c.reserve.new.self c.reserve.ensures.entries.2))
 
 pub open-requires : goal.open-requires
@@ -30,7 +30,7 @@ returns-in_err-scope-clause-refused c =
     let path = c.args.path.now in
     let new = c.open.new.self in
     let next : rWorld = record mid { tasks = c.get_mut.follows.lender new; scopes = c.reserve.new.self } in
-    err_is c.from_residual-in_err-scope.result c.in_err-scope.field-0.0 (Refuses (Opens path.turns.items) old next)
+    err_passed c.from_residual-in_err-scope.result c.in_err-scope.field-0.0 (Refuses (Opens path.turns.items) old next)
     c.from_residual-in_err-scope.ensures.1
     (opens_not old mid path c.in_ok-look_at.field-0 c.in_ok-look_at.ensures.ready
     (ap (λ (r : rWorld). r.job) c.look_at.ensures.others) c.look_at.ensures.stays c.in-Some.task.now

@@ -2,7 +2,7 @@ use Rattle.std.proofs.Common.{◌∙◌, sym, subst}
 use Rattle.interleave.specs.Events.{Resume}
 use Rattle.interleave.specs.Shown.{Refuses}
 use Rattle.interleave.specs.declared.world.World.{World as rWorld}
-use Rattle.interleave.proofs.InHand.{err_is}
+use Rattle.interleave.proofs.InHand.{err_passed}
 use Rattle.interleave.proofs.Behind.{behind_by, may_go, results_of, resumed, roomy_stands, roomy_stays, same_at}
 use Rattle.interleave.proofs.Staying.{stays_self}
 use Rattle.interleave.proofs.world.World.resume.Goals as goal
@@ -31,7 +31,7 @@ returns-in_err-run-clause-refused c =
     let path = c.args.path.now in
     let m = c.if-not-may_leave.ensures.may in
     let hs : rWorld = record old { hands = c.reserve.new.self } in
-    err_is c.from_residual-in_err-run.result c.in_err-run.field-0.0 (Refuses (Resume c.args.worker path.turns.items) old hs)
+    err_passed c.from_residual-in_err-run.result c.in_err-run.field-0.0 (Refuses (Resume c.args.worker path.turns.items) old hs)
     c.from_residual-in_err-run.ensures.1
     (subst (Refuses (Resume c.args.worker path.turns.items) old hs) (sym c.in_err-run.ensures.refused)
     (roomy_stays old c.requires.job path m hs c.reserve.ensures.keys.2))

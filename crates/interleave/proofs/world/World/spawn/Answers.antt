@@ -6,14 +6,14 @@ use Rattle.interleave.specs.Shown.{Refuses}
 use Rattle.interleave.specs.declared.error.EventError.TheVariants.{NoMemory}
 use Rattle.interleave.specs.declared.job.WeightedJob.{WeightedJob}
 use Rattle.interleave.specs.declared.world.World.{World as rWorld}
-use Rattle.interleave.proofs.InHand.{err_is, spawns, spawns_not}
+use Rattle.interleave.proofs.InHand.{err_passed, spawns, spawns_not}
 use Rattle.interleave.proofs.Staying.{stays_on, stays_tasks}
 use Rattle.interleave.proofs.world.World.spawn.Goals as goal
 
 pub returns-in_err-reserve-clause-refused : goal.returns-in_err-reserve-clause-refused
 returns-in_err-reserve-clause-refused c =
     let mid : rWorld = c.look_at.new.self in
-    err_is c.from_residual-in_err-reserve.result NoMemory _ c.from_residual-in_err-reserve.ensures.1
+    err_passed c.from_residual-in_err-reserve.result NoMemory _ c.from_residual-in_err-reserve.ensures.1
     (stays_on c.args.self.now mid _ c.look_at.ensures.stays (stays_tasks mid c.reserve.new.self c.reserve.ensures.entries.2))
 
 pub returns-in_err-child-clause-refused : goal.returns-in_err-child-clause-refused
@@ -25,7 +25,7 @@ returns-in_err-child-clause-refused c =
     let new = c.spawn.new.self in
     let next : rWorld = record mid { tasks = c.get_mut.follows.lender new } in
     let job = ap (λ (r : rWorld). r.job) c.look_at.ensures.others in
-    err_is c.from_residual-in_err-child.result c.in_err-child.field-0.0 (Refuses (Spawns path.turns.items) old next)
+    err_passed c.from_residual-in_err-child.result c.in_err-child.field-0.0 (Refuses (Spawns path.turns.items) old next)
     c.from_residual-in_err-child.ensures.1
     (spawns_not old mid path c.in_ok-worker.worker c.in_ok-worker.ensures.ready job c.look_at.ensures.stays
     (subst (λ (j : WeightedJob). 1 ≤ j.w0) (sym job) c.requires.job.least) k

@@ -3,8 +3,9 @@ use Rattle.events.specs.declared.event.Event.{Event}
 use Rattle.interleave.specs.Replaying.{event as event_of}
 use Rattle.interleave.specs.Shown.{Becomes}
 use Rattle.trace.specs.Logs.{IsClean, Leaves, Recorded}
-use Rattle.trace.proofs.LogLemmas.{clean_more, clean_still, if_error_then, recorded, stayed_by}
+use Rattle.trace.proofs.LogLemmas.{clean_more, clean_still, recorded, stayed_by}
 use Rattle.trace.proofs.log.Log.record.Goals as goal
+use Rattle.facts.proofs.Results.{if_err_then}
 
 pub invariant_of-self-in_err-event : goal.invariant_of-self-in_err-event
 invariant_of-self-in_err-event c =
@@ -18,7 +19,7 @@ pub returns-in_err-event-clause-refused : goal.returns-in_err-event-clause-refus
 returns-in_err-event-clause-refused c =
     let old = c.self.inside in
     let new = recorded c.event.new.self c.reserve.new.self.items in
-    if_error_then c.from_residual-in_err-event.result c.from_residual-in_err-event.ensures.1
+    if_err_then c.from_residual-in_err-event.result c.from_residual-in_err-event.ensures.1
     (λ x same. subst (λ (l : Recorded). Leaves c.args.event l new x) c.self.view_is
     (subst (Leaves c.args.event (recorded old.world old.events.items) new) (sym same)
     (record { events = c.in_ok-reserve.ensures.items; world = c.in_err-event.ensures.refused })))

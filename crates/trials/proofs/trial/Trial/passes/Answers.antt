@@ -4,7 +4,7 @@ use Rattle.std.specs.Prelude.{IfOk, IfErr}
 use Rattle.std.specs.Str.{IsUtf8}
 use Rattle.intake.specs.Held.{Held, IsGiven}
 use Rattle.intake.proofs.Programs.{no_program_text}
-use Rattle.answers.proofs.Answering.{if_err_passed}
+use Rattle.answers.proofs.Answering.{err_passed}
 use Rattle.trials.specs.Trials.{IsCompared, IsUncompared, file, trial, without_text}
 use Rattle.trials.proofs.Trying.{memory_uncompared, no_program_at}
 use Rattle.trials.proofs.trial.Trial.passes.Goals as goal
@@ -13,14 +13,14 @@ pub returns-in_err-name-clause-why : goal.returns-in_err-name-clause-why
 returns-in_err-name-clause-why g c =
     let held = g.F.FileSource.held c.args.files.now in
     let t = trial c.args.self.now in
-    if_err_passed c.from_residual.result _ (IsUncompared held t) c.from_residual.ensures.1
+    err_passed c.from_residual.result _ (IsUncompared held t) c.from_residual.ensures.1
     (memory_uncompared held t _ c.in_err-name.ensures.why)
 
 pub returns-in_err-bytes-clause-why : goal.returns-in_err-bytes-clause-why
 returns-in_err-bytes-clause-why g c =
     let held = g.F.FileSource.held c.args.files.now in
     let t = trial c.args.self.now in
-    if_err_passed c.from_residual-in_err-bytes.result _ (IsUncompared held t) c.from_residual-in_err-bytes.ensures.1
+    err_passed c.from_residual-in_err-bytes.result _ (IsUncompared held t) c.from_residual-in_err-bytes.ensures.1
     (without_text (no_program_at held _ _ _ (c.as_str.ensures.value ∙ c.in_ok-name.ensures.name) c.in_err-bytes.ensures.why))
 
 pub tells_as_wanted-requires : goal.tells_as_wanted-requires

@@ -12,7 +12,7 @@ use Rattle.types.proofs.InputLemmas.{FitsArrays-from_IsInput}
 use Rattle.command_line.specs.Requests.{usual}
 use Rattle.command_line.specs.declared.request.Command.TheVariants.{Run}
 use Rattle.intake.specs.Held.{Held, BeginsWith, IsGiven}
-use Rattle.answers.proofs.Answering.{code_of_text, if_err_passed, is_explored, no_input_explained, no_input_other}
+use Rattle.answers.proofs.Answering.{code_of_text, err_passed, is_explored, no_input_explained, no_input_other}
 use Rattle.answers.proofs.Answering.{not_accepted_explained, not_accepted_other, other_failure}
 use Rattle.trials.specs.Trials.{IsUncompared, file, input_file, settings_of, trial, without_answer, without_output}
 use Rattle.trials.proofs.RunCauses.{no_run_explained, no_run_other, same_tasks}
@@ -23,7 +23,7 @@ pub returns-in_err-accepted-clause-why : goal.returns-in_err-accepted-clause-why
 returns-in_err-accepted-clause-why g c =
     let held = g.F.FileSource.held c.args.files.now in
     let t = trial c.args.self.now in
-    if_err_passed c.from_residual.result _ (IsUncompared held t) c.from_residual.ensures.1
+    err_passed c.from_residual.result _ (IsUncompared held t) c.from_residual.ensures.1
     (without_answer c.args.text.now c.requires
     (not_accepted_explained Run tt (settings_of t) held c.args.text.now None _ c.in_err-accepted.ensures.why)
     (other_failure _ (not_accepted_other Run tt (settings_of t) held c.args.text.now None _ c.in_err-accepted.ensures.why)))
@@ -37,7 +37,7 @@ returns-in_err-input-clause-why g c =
     let is_code = code_of_text text typed (subst (λ (t : Typed). AreTokensOf (chars text) (spelling (program_of t)))
     (sym c.typed.ensures.field) c.in_ok-accepted.ensures.spelled) in
     let why = c.in_err-input.ensures.why in
-    if_err_passed c.from_residual-in_err-input.result _ (IsUncompared held t) c.from_residual-in_err-input.ensures.1
+    err_passed c.from_residual-in_err-input.result _ (IsUncompared held t) c.from_residual-in_err-input.ensures.1
     (without_answer text c.requires
     (no_input_explained Run (settings_of t) held text None (code_of typed) is_code c.typed.ensures.no_clash _ why)
     (other_failure _ (no_input_other Run (settings_of t) held text None (code_of typed) is_code c.typed.ensures.no_clash _ why)))
@@ -46,7 +46,7 @@ pub returns-in_err-wanted-clause-why : goal.returns-in_err-wanted-clause-why
 returns-in_err-wanted-clause-why g c =
     let held = g.F.FileSource.held c.args.files.now in
     let t = trial c.args.self.now in
-    if_err_passed c.from_residual-in_err-wanted.result _ (IsUncompared held t) c.from_residual-in_err-wanted.ensures.1
+    err_passed c.from_residual-in_err-wanted.result _ (IsUncompared held t) c.from_residual-in_err-wanted.ensures.1
     (without_output (no_text_kept _ held (file t (codes ".out")) _ c.in_ok-input.ensures.keeps c.in_err-wanted.ensures.why))
 
 pub tells-requires : goal.tells-requires
