@@ -80,6 +80,7 @@ const PLAIN: &[(Plain, &str)] = &[
     (Plain::StrangeEvents, "E5"),
     (Plain::ChoicesNotUnderstood, "choices not understood"),
     (Plain::NoLeaf(5), "no leaf at choice 5"),
+    (Plain::NotLaidOut, "not laid out"),
     (Plain::CannotWriteOutput, "cannot write output"),
     (Plain::NoMemory, "no memory"),
 ];
@@ -95,6 +96,7 @@ enum Plain {
     StrangeEvents,
     ChoicesNotUnderstood,
     NoLeaf(usize),
+    NotLaidOut,
     CannotWriteOutput,
     NoMemory,
 }
@@ -110,6 +112,7 @@ fn failure_of(failure: Plain) -> Failure {
         Plain::StrangeEvents => Failure::StrangeEvents,
         Plain::ChoicesNotUnderstood => Failure::ChoicesNotUnderstood,
         Plain::NoLeaf(choice) => Failure::NoLeaf(choice),
+        Plain::NotLaidOut => Failure::NotLaidOut,
         Plain::CannotWriteOutput => Failure::CannotWriteOutput,
         Plain::NoMemory => Failure::NoMemory,
     }
