@@ -25,7 +25,7 @@ const END: &str = "\x1b[0m";
 /// What stands before a line of a program's text that is shown.
 const BAR: &str = " | ";
 
-/// How many characters stand before a bar.
+/// How many characters stand before a bar at least.
 const MARGIN: usize = 6;
 
 const MEND: &str = "To mend it:";

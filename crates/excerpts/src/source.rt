@@ -8,6 +8,9 @@ use syntax::token::Spanned;
 /// The most characters of a line that are shown before a caret, and as many from it on.
 const SHOWN: usize = 50;
 
+/// The numbers from which on one takes a seventh digit, and an eighth, and so on.
+const WIDER: [u32; 4] = [1_000_000, 10_000_000, 100_000_000, 1_000_000_000];
+
 /// A text that has tokens.
 #[derive(Drop)]
 pub struct Source {
@@ -82,9 +85,21 @@ pub fn push_line(told: &mut String, text: &str, place: Place) -> Result<(), Allo
     let line = line_of(text, place);
     write!(told, "{number:>6} | ")?;
     push_part(told, line, place)?;
-    told.push_str("\n       | ")?;
+    told.push('\n')?;
+    push_margin(told, number)?;
     push_indent(told, line, place)?;
     told.push_str("^\n")
+}
+
+/// Adds blanks as wide as the number of a line, and the mark behind it.
+fn push_margin(told: &mut String, number: u32) -> Result<(), AllocError> {
+    told.push_str("      ")?;
+    for power in WIDER {
+        if number >= power {
+            told.push(' ')?;
+        }
+    }
+    told.push_str(" | ")
 }
 
 /// The line of a place, or nothing behind the last.

@@ -60,8 +60,8 @@ are counted from 0 too.",
     page! {
         name: "F6",
         about: "a `fault` statement",
-        rule: "The number after the kind is that of the statement. A fault ends the statements of its task up to the end
-of the nearest finish there; other tasks go on.",
+        rule: "The number after the kind is the value of its expression. A fault ends the statements of its task up to the
+end of the nearest finish there; other tasks go on.",
         program: ["main {", "  fault 7;", "}"],
         tells: "serial program.afx" => "fault 0 at 1: F6 7",
         mend: "It is what the program says. After `fault` stand the path of the task and the label of the statement.",

@@ -26,7 +26,8 @@ labels before the statements. The check sees whole sections, whatever the indice
             "}",
         ],
         tells: "check program.afx" => "C1 race in main: 2 write a, 3 read a",
-        mend: "Put the task of the first access into a finish, or the call that begins it: `finish { async { a[0] = 7; } }`.
+        mend: "Put the task of the access that was begun before the other into a finish, or the call that begins it:
+`finish { async { a[0] = 7; } }`.
 Or give each task a part of its own: `afx explain parallel_loop`.",
     },
     page! {

@@ -12,8 +12,9 @@ const PAGES: &[Page] = &[
     page! {
         name: "E1",
         about: "no memory for a run as tasks",
-        rule: "Or a thread could not be started. The status is 4.",
-        mend: "Take fewer workers, fewer tasks that read a large section, or `serial`.",
+        rule: "Or a thread could not be started, or a scope would issue weight for more than the 2^31-th time. The status
+is 4.",
+        mend: "Take fewer workers, fewer tasks that read a large section, or `serial`; for weight a larger `--w0`.",
     },
     page! {
         name: "E2",

@@ -8,19 +8,19 @@ use std::alloc::AllocError;
 use types::code::Program;
 use witness::crossing::Meeting;
 use witness::sharing::Sharing;
-use witness::step::Step;
+use witness::step::{Rule, Step};
 use witness::witness::Witness;
 
 /// Adds that no finish waits for the task.
 pub fn push_unfinished(told: &mut String, witness: &Witness) -> Result<(), AllocError> {
+    let begun = begun_label(&witness.pending);
     match witness.meeting {
-        Meeting::Turns => told.push_str("  No finish closes inside the loop.\n"),
+        Meeting::Turns => write!(told, "  No finish inside the loop is around {begun}.\n"),
         Meeting::Follows => {
-            let first = first_label(&witness.pending);
             let second = first_label(&witness.later);
             write!(
                 told,
-                "  No finish closes between {first} and {second}, so that task may still run.\n"
+                "  No finish around {begun} closes before {second}, so that task may still run.\n"
             )
         }
     }
@@ -88,6 +88,16 @@ pub fn push_mend(
 const LOOP: &str =
     "To mend it: give each task a part of its own by split, half by half; or put the loop's body into a finish: then its
 turns come one after another.\n";
+
+/// The label of the first async on a way, or of its first step.
+fn begun_label(way: &[Step]) -> u32 {
+    for step in way {
+        if matches!(step.rule, Rule::Begin) {
+            return step.label;
+        }
+    }
+    first_label(way)
+}
 
 /// The label of a way's first step.
 fn first_label(way: &[Step]) -> u32 {

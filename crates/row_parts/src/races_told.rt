@@ -12,7 +12,7 @@ pub fn is_explained(alloc: Global, race: &Value, explained: &str) -> Result<bool
     let mut wanted = told.lines();
     let mut is_way = false;
     for line in explained.lines() {
-        if line.starts_with("  No finish closes ") {
+        if line.starts_with("  No finish ") {
             is_way = false;
         }
         if is_way {

@@ -62,13 +62,7 @@ pub fn push_cause(
             operator,
             right,
             ..
-        } => {
-            let sign = sign_of(operator);
-            write!(
-                told,
-                "What {left} {sign} {right} gives doesn't fit in an int.\n"
-            )
-        }
+        } => push_overflow(told, left, operator, right),
         Cause::Negative { .. } => told.push_str("9223372036854775808 doesn't fit in an int.\n"),
         Cause::ZeroDivisor { left, operator, .. } => {
             let sign = sign_of(operator);
@@ -86,6 +80,27 @@ pub fn push_cause(
             )
         }
     }
+}
+
+/// Adds why an operator has no result for two numbers. Of `%` it is refused where `/` has none, though it
+/// would be 0.
+fn push_overflow(
+    told: &mut String,
+    left: i64,
+    operator: Operator,
+    right: i64,
+) -> Result<(), AllocError> {
+    if operator == Operator::Modulo {
+        return write!(
+            told,
+            "{left} % {right}: the least int by -1 is refused by `%` as by `/`, whose result wouldn't fit.\n"
+        );
+    }
+    let sign = sign_of(operator);
+    write!(
+        told,
+        "What {left} {sign} {right} gives doesn't fit in an int.\n"
+    )
 }
 
 /// Adds an index that is no element's.
@@ -138,6 +153,10 @@ pub fn push_mend(told: &mut String, spot: Spot<'_>, cause: Cause) -> Result<(), 
             told,
             "test the index before, as `if 0 <= i and i < len({name}) {{ .. }}`, or give the array more elements.\n"
         ),
+        Cause::Overflow {
+            operator: Operator::Modulo,
+            ..
+        } => told.push_str("test the divisor before, as `if d != -1 { .. }`.\n"),
         Cause::Overflow { .. } | Cause::Negative { .. } => told.push_str(SMALLER),
         Cause::ZeroDivisor { .. } => {
             told.push_str("test the divisor before, as `if d != 0 { .. }`.\n")

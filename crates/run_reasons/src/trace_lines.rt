@@ -20,11 +20,12 @@ pub fn push_line_form(told: &mut String, line: &str, number: usize) -> Result<()
     match kind_in(line) {
         None => told.push_str(KINDS),
         Some(kind) => {
+            let article = article_of(kind);
             let name = kind.name();
             let form = form_of(kind);
             write!(
                 told,
-                "A {name} is written so, with no blank, and no zero before a number:\n  {form}\n"
+                "{article} {name} is written so, with no blank, and no zero before a number:\n  {form}\n"
             )
         }
     }
@@ -34,6 +35,14 @@ pub fn push_line_form(told: &mut String, line: &str, number: usize) -> Result<()
 fn kind_in(line: &str) -> Option<Kind> {
     let (name, _) = line.strip_prefix("{\"e\":\"")?.split_once('"')?;
     Kind::named(name)
+}
+
+/// What stands before the name of a kind.
+fn article_of(kind: Kind) -> &'static str {
+    match kind {
+        Kind::Open | Kind::End => "An",
+        _ => "A",
+    }
 }
 
 /// An event of a kind.

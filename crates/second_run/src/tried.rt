@@ -107,16 +107,62 @@ impl<'e> Tried<'e> {
         }
     }
 
-    /// Whether one of several is this value; the first that is ends it, and the value of all is that of
-    /// the last.
+    /// This value where one of several has it, and else the other. Those behind the first that has it are
+    /// only counted.
     #[cycle(truth)]
     fn up_to(&mut self, operands: &[Truth], end: bool) -> Result<bool, Cause> {
+        let mut value = !end;
         for operand in operands {
-            if self.truth(operand)? == end {
-                return Ok(end);
+            if value == end {
+                self.pass_truth(operand);
+            } else {
+                value = self.truth(operand)?;
             }
         }
-        Ok(!end)
+        Ok(value)
+    }
+
+    // ---- what is left out
+
+    /// Counts the elements and operators of a truth expression that isn't evaluated.
+    #[cycle(pass_truth)]
+    fn pass_truth(&mut self, truth: &Truth) {
+        match truth {
+            Truth::Constant(_) => {}
+            Truth::Compare { left, right, .. } => {
+                self.pass_number(left);
+                self.pass_number(right);
+            }
+            Truth::Not(operand) => self.pass_truth(operand),
+            Truth::Both(operands) | Truth::Either(operands) => {
+                for operand in operands {
+                    self.pass_truth(operand);
+                }
+            }
+        }
+    }
+
+    /// Counts the elements and operators of a number expression that isn't evaluated.
+    #[cycle(pass_number)]
+    fn pass_number(&mut self, number: &Number) {
+        match number {
+            Number::Literal(_) | Number::Scalar { .. } | Number::Length { .. } => {}
+            Number::Element { index, .. } => {
+                let _ = self.next_element();
+                self.pass_number(index);
+            }
+            Number::Negative(operand) => {
+                let _ = self.next_operator();
+                self.pass_number(operand);
+            }
+            Number::Chain { first, rest } => {
+                self.pass_number(first);
+                for link in rest {
+                    let _ = self.next_operator();
+                    self.pass_number(&link.operand);
+                }
+            }
+        }
     }
 }
 
