@@ -20,10 +20,10 @@ const OFFERS: Wording = Wording {
     program: " -k -a '(__fish_complete_suffix .afx)'",
     input: " -k -a '(__fish_complete_suffix .json)'",
     file: " -F",
-    folder: " -a '(__fish_complete_directories)'",
-    open: " -a '",
+    folder: " -f -a '(__fish_complete_directories)'",
+    open: " -f -a '",
     close: "'",
-    nothing: "",
+    nothing: " -f",
 };
 
 /// The script by which fish completes the words of a program with these commands.
@@ -67,6 +67,8 @@ fn push_argument(
             text.push_str(" -r")?;
         }
     }
-    OFFERS.push(alloc, text, arg)?;
+    if takes_value(arg) {
+        OFFERS.push(alloc, text, arg)?;
+    }
     text.push('\n')
 }

@@ -46,7 +46,7 @@ impl Front {
     }
 
     /// Whether a program can go on with a name behind them.
-    pub fn takes_name(&mut self) -> Result<bool, AllocError> {
+    fn takes_name(&mut self) -> Result<bool, AllocError> {
         let name = String::from_str(self.alloc, "x")?;
         self.takes(Token::Name(name))
     }
@@ -56,9 +56,21 @@ impl Front {
         self.takes(Token::Mark(mark))
     }
 
-    /// Whether a statement may begin behind them.
-    pub fn takes_statement(&mut self) -> Result<bool, AllocError> {
-        self.takes(Token::Word(Word::Skip))
+    /// Whether a name must stand behind them, and no value, no statement and no parameter may.
+    pub fn wants_name(&mut self) -> Result<bool, AllocError> {
+        let takes_others = self.takes(Token::Number(0))?
+            || self.takes(Token::Word(Word::Skip))?
+            || self.takes(Token::Word(Word::Mut))?;
+        Ok(self.takes_name()? && !takes_others)
+    }
+
+    /// Whether they end with a name as a value, as in `print x`.
+    pub fn ends_with_value(&mut self) -> Result<bool, AllocError> {
+        let is_name = match self.tokens.last() {
+            Some(last) => matches!(&last.token, Token::Name(_)),
+            None => false,
+        };
+        Ok(is_name && self.takes_mark(Mark::Plus)?)
     }
 
     /// Adds what may stand behind them.

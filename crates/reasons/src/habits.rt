@@ -1,11 +1,13 @@
 //! What those write who come from other languages, and what would be right.
 
-use excerpts::named::is_operator;
+use excerpts::named::{begins_with, is_operator};
 use syntax::token::{Mark, Spanned, Token, Word};
 
 const ELSE_IF: &str = "there is no `else if`: write `else { if .. { .. } }`";
 
 const BLOCK: &str = "begin the block with `{`";
+
+const FOR: &str = "there is no `for`: write `var i = 0; while i < n { .. i = i + 1; }`";
 
 /// What would be right in place of a character that begins no token.
 pub fn mend_of_character(character: Option<char>) -> &'static str {
@@ -21,9 +23,10 @@ pub fn mend_of_character(character: Option<char>) -> &'static str {
     }
 }
 
-/// The tokens around the place at which a text goes wrong: two before it, and two from it on.
+/// The tokens around the place at which a text goes wrong: three before it, and two from it on.
 #[derive(Clone, Copy)]
 pub struct Around<'t> {
+    last_but_two: Option<&'t Token>,
     last_but_one: Option<&'t Token>,
     last: Option<&'t Token>,
     first: Option<&'t Token>,
@@ -34,6 +37,10 @@ impl<'t> Around<'t> {
     /// Those between the tokens before and behind the place.
     pub fn of(before: &'t [Spanned], behind: &'t [Spanned]) -> Around<'t> {
         Around {
+            last_but_two: before
+                .len()
+                .checked_sub(3)
+                .and_then(|at| token_at(before, at)),
             last_but_one: before
                 .len()
                 .checked_sub(2)
@@ -52,14 +59,37 @@ impl<'t> Around<'t> {
         if let Some(mend) = mend_of_name(self.last) {
             return Some(mend);
         }
+        if self.begins_for() {
+            return Some(FOR);
+        }
         match self.first {
             Some(Token::Name(name)) if is_before_block(name) => Some(BLOCK),
             Some(Token::Mark(mark)) => self.mend_of_mark(*mark),
             Some(Token::Word(Word::Array)) => {
                 Some("arrays are declared in main alone, before its first statement")
             }
-            Some(Token::Word(Word::Int)) | Some(Token::Word(Word::Byte)) => {
-                Some("declare a variable as in `var x = 1;`")
+            Some(Token::Word(Word::Int)) | Some(Token::Word(Word::Byte)) => self.mend_of_type(),
+            Some(Token::Word(Word::Mut)) | Some(Token::Word(Word::Read)) => self.mend_of_passed(),
+            _ => self.mend_behind(),
+        }
+    }
+
+    /// Where a type stands that may not.
+    fn mend_of_type(self) -> Option<&'static str> {
+        if self.is_ended() {
+            Some("declare a variable as in `var x = 1;`")
+        } else if self.is_parameter() {
+            Some("write the type behind the name, as in `n: int` or `mut s: int`")
+        } else {
+            self.mend_behind()
+        }
+    }
+
+    /// Where `mut` or `read` stands that may not.
+    fn mend_of_passed(self) -> Option<&'static str> {
+        match self.last {
+            Some(Token::Mark(Mark::LeftParen)) | Some(Token::Mark(Mark::Comma)) => {
+                Some("write the name alone, as in `f(a);`: the parameter tells `mut` or `read`")
             }
             _ => self.mend_behind(),
         }
@@ -141,20 +171,43 @@ impl<'t> Around<'t> {
         }
     }
 
-    /// Whether a statement has just ended, or none has begun.
-    fn is_ended(self) -> bool {
-        match self.last {
-            Some(Token::Mark(mark)) => {
-                *mark == Mark::Semicolon || *mark == Mark::LeftBrace || *mark == Mark::RightBrace
+    /// Whether a parameter begins here: behind `proc f(`, or behind the type of another and a comma.
+    fn is_parameter(self) -> bool {
+        match (self.last_but_two, self.last_but_one, self.last) {
+            (Some(Token::Word(Word::Proc)), _, Some(Token::Mark(Mark::LeftParen))) => true,
+            (_, Some(Token::Word(word)), Some(Token::Mark(Mark::Comma))) => {
+                *word == Word::Int || *word == Word::Byte
             }
             _ => false,
         }
+    }
+
+    /// Whether `for` stands before a parenthesis that has just been opened, as in `for (i = 0;`.
+    fn begins_for(self) -> bool {
+        match (self.last_but_one, self.last) {
+            (Some(called), Some(Token::Mark(Mark::LeftParen))) => is_for(called),
+            (Some(Token::Mark(Mark::LeftParen)), _) => self.last_but_two.is_some_and(is_for),
+            _ => false,
+        }
+    }
+
+    /// Whether a statement has just ended, or none has begun.
+    fn is_ended(self) -> bool {
+        self.last.is_some_and(ends_statement)
     }
 }
 
 /// Whether a name is a word that stands before a block in other languages.
 fn is_before_block(name: &str) -> bool {
     matches!(name, "then" | "do")
+}
+
+/// Whether a token is the name by which loops begin in other languages.
+fn is_for(token: &Token) -> bool {
+    match token {
+        Token::Name(name) => matches!(name.as_str(), "for" | "foreach"),
+        _ => false,
+    }
 }
 
 /// A token by its number, where there are so many.
@@ -168,9 +221,7 @@ fn mend_of_name(token: Option<&Token>) -> Option<&'static str> {
         return None;
     };
     match name.as_str() {
-        "for" | "foreach" | "loop" => {
-            Some("there is no `for`: write `var i = 0; while i < n { .. i = i + 1; }`")
-        }
+        "for" | "foreach" | "loop" => Some(FOR),
         "let" | "const" => Some("declare a variable as in `var x = 1;`"),
         "fn" | "func" | "function" | "def" | "void" => {
             Some("begin a procedure with `proc`, as in `proc f(mut s: int) { .. }`")
@@ -182,5 +233,45 @@ fn mend_of_name(token: Option<&Token>) -> Option<&'static str> {
             Some("begin a task by `async { .. }`, and wait for tasks by `finish { .. }`")
         }
         _ => None,
+    }
+}
+
+/// What would be right where a statement could end, and goes on with a second assignment, or with a
+/// second variable.
+pub fn mend_of_second(before: &[Spanned], behind: &[Spanned]) -> Option<&'static str> {
+    match first_of_statement(before) {
+        Some(Token::Word(Word::Var)) | Some(Token::Name(_)) => {
+            if begins_with(behind, Mark::Becomes) {
+                Some("write a statement for each assignment, as in `y = 1; x = y;`")
+            } else if begins_with(behind, Mark::Comma) {
+                Some("write a statement for each variable, as in `var x = 1; var y = 2;`")
+            } else {
+                None
+            }
+        }
+        _ => None,
+    }
+}
+
+/// The first token of the statement in which the last one stands.
+fn first_of_statement(tokens: &[Spanned]) -> Option<&Token> {
+    let mut first = None;
+    let mut is_new = true;
+    for spanned in tokens {
+        if is_new {
+            first = Some(&spanned.token);
+        }
+        is_new = ends_statement(&spanned.token);
+    }
+    first
+}
+
+/// Whether a statement has ended with a token, or none has begun.
+fn ends_statement(token: &Token) -> bool {
+    match token {
+        Token::Mark(mark) => {
+            *mark == Mark::Semicolon || *mark == Mark::LeftBrace || *mark == Mark::RightBrace
+        }
+        _ => false,
     }
 }

@@ -2,7 +2,7 @@
 
 use excerpts::escaped::Escaped;
 use excerpts::nouns::noun;
-use excerpts::source::push_excerpt;
+use excerpts::source::{line_of, push_excerpt};
 use serde_json::Value;
 use std::alloc::{AllocError, Global};
 use syntax::Place;
@@ -44,20 +44,33 @@ The input must be one object with a list of numbers for each array that doesn't 
 To mend it: write {\"a\": [1, 2]}, with the names of arrays for a.
 ";
 
-/// Adds where a text is no JSON.
+/// Adds where a text is no JSON: the column counts bytes.
 fn push_no_json(
     told: &mut String,
     text: &str,
     line: usize,
     column: usize,
 ) -> Result<(), AllocError> {
-    let place = Place {
+    let mut place = Place {
         line: u32::try_from(line).unwrap_or(1),
-        column: u32::try_from(column).unwrap_or(1),
+        column: 1,
     };
+    let characters = characters_of(line_of(text, place), column);
+    place.column = u32::try_from(characters).unwrap_or(1);
     push_excerpt(told, text, place)?;
     told.push_str("The input goes wrong as JSON here.\n")?;
     told.push_str("To mend it: write {\"a\": [1, 2]}, with the names of arrays for a.\n")
+}
+
+/// How many characters begin in the first bytes of a line; each byte behind its end is one.
+fn characters_of(line: &str, bytes: usize) -> usize {
+    let mut many = bytes.saturating_sub(line.len());
+    for (at, _) in line.char_indices() {
+        if at < bytes {
+            many = many.saturating_add(1);
+        }
+    }
+    many
 }
 
 /// Adds which arrays a program has.
@@ -150,17 +163,37 @@ fn push_element(
     };
     for (number, element) in list.iter().enumerate() {
         if !fits(array.element, element) {
-            let text = element.to_string(alloc)?;
-            write!(told, "\nElement {number} of `{name}`, from 0, is {text}.\n")?;
+            write!(told, "\nElement {number} of `{name}`, from 0, is ")?;
+            push_value(alloc, told, element)?;
             break;
         }
     }
     told.push_str(match array.element {
         ElementType::Int =>
-            "An int is a whole number from -9223372036854775808 to 9223372036854775807.\n",
-        ElementType::Byte => "A byte is a whole number from 0 to 255.\n",
+            "An int is a whole number from -9223372036854775808 to 9223372036854775807",
+        ElementType::Byte => "A byte is a whole number from 0 to 255",
     })?;
+    told.push_str(", written without a point or an exponent.\n")?;
     told.push_str("To mend it: give a number that the array holds.\n")
+}
+
+/// The most characters of an element that are shown.
+const SHOWN: usize = 60;
+
+/// Adds an element as JSON writes it, with `..` for what is left out, and the end of the line.
+fn push_value(alloc: Global, told: &mut String, value: &Value) -> Result<(), AllocError> {
+    let text = value.to_string(alloc)?;
+    let mut begin = String::new(alloc);
+    for character in text.chars().take(SHOWN) {
+        begin.push(character)?;
+    }
+    let shown = Escaped(begin.as_str());
+    write!(told, "{shown}")?;
+    told.push_str(if begin.len() < text.len() {
+        "..\n"
+    } else {
+        ".\n"
+    })
 }
 
 /// Whether a value is a number that an array with such elements holds.

@@ -1,7 +1,7 @@
 //! Texts that spell no program.
 
 use crate::expected::{Front, WORDS, mark_text, word_text};
-use crate::habits::{Around, mend_of_character};
+use crate::habits::{Around, mend_of_character, mend_of_second};
 use excerpts::named::begins_with;
 use excerpts::source::{line_of, push_excerpt};
 use std::alloc::{AllocError, Global};
@@ -49,6 +49,9 @@ A text has at most 1048576 bytes.
 To mend it: shorten it; numbers are read from a file by --input.
 ";
 
+const NO_VALUE: &str =
+    "a procedure gives no value: call it as a statement, as in `f(a);`, and let it write into a section";
+
 /// Adds that no token begins with the character at a place.
 fn push_no_token(told: &mut String, text: &str, place: Place) -> Result<(), AllocError> {
     let before = usize::try_from(place.column).unwrap_or(1).saturating_sub(1);
@@ -81,7 +84,7 @@ fn push_unexpected(alloc: Global, told: &mut String, text: &str) -> Result<(), A
     if at > MOST_TOKENS {
         return told.push_str("To mend it: look at what stands before it.\n");
     }
-    if is_word(&behind) && front.takes_name()? && !front.takes_statement()? {
+    if is_word(&behind) && front.wants_name()? {
         return push_reserved(told);
     }
     front.push_expected(told)?;
@@ -157,10 +160,19 @@ fn push_mend(told: &mut String, front: &mut Front, behind: &[Spanned]) -> Result
 
 /// What would be right as far as what may stand here tells it.
 fn usual_mend(front: &mut Front, behind: &[Spanned]) -> Result<&'static str, AllocError> {
+    let may_end = front.takes_mark(Mark::Semicolon)?;
+    if may_end && front.takes_mark(Mark::Plus)? {
+        if let Some(mend) = mend_of_second(front.tokens(), behind) {
+            return Ok(mend);
+        }
+    }
     if begins_with(behind, Mark::Becomes) && front.takes_mark(Mark::Equal)? {
         return Ok("equal is ==");
     }
-    if front.takes_mark(Mark::Semicolon)? {
+    if begins_with(behind, Mark::LeftParen) && front.ends_with_value()? {
+        return Ok(NO_VALUE);
+    }
+    if may_end {
         return Ok("a statement ends with `;`: write it before this");
     }
     if behind.is_empty() && front.takes_mark(Mark::RightBrace)? {

@@ -11,7 +11,7 @@ use scopes::declared::{Declared, Scope, find};
 use scopes::expressions::{Part, Value, parts_of, wrong_part};
 use std::alloc::{AllocError, Global};
 use syntax::Place;
-use syntax::token::Spanned;
+use syntax::token::{Spanned, Token, Word};
 use types::error::TypeError;
 
 /// What stands behind the line of a rule that a text's program breaks: where, why, and what would
@@ -146,9 +146,29 @@ impl<'t> Broken<'t> {
         }
         told.push('\n')?;
         self.push_scope(told)?;
-        told.push_str(
-            "To mend it: declare it before, in this block or in one around it; or take a name that is in scope.\n",
-        )
+        let is_section = wants_section(named.role) || self.is_section_argument(named)?;
+        told.push_str("To mend it: ")?;
+        told.push_str(if !is_section {
+            "declare it before, in this block or in one around it"
+        } else if self.is_in_main() {
+            "declare an array of that name at the beginning of main"
+        } else {
+            "a procedure takes sections as parameters: declare it as one"
+        })?;
+        told.push_str("; or take a name that is in scope.\n")
+    }
+
+    /// Whether the statement stands in main.
+    fn is_in_main(&self) -> bool {
+        let Some(begin) = self.head.first() else {
+            return false;
+        };
+        for spanned in &self.source.tokens {
+            if matches!(&spanned.token, Token::Word(Word::Main)) {
+                return spanned.at < begin.at;
+            }
+        }
+        false
     }
 
     /// Adds the names that are in scope.
@@ -305,11 +325,7 @@ impl<'t> Broken<'t> {
             );
         }
         if named.role == Role::Assigned {
-            told.push_str("only a variable takes a number so.\n")?;
-            return write!(
-                told,
-                "To mend it: store it in an element, as `{name}[0] = ..;`, or name a variable.\n"
-            );
+            return push_no_variable(told, declared);
         }
         told.push_str("a number must stand here.\n")?;
         write!(
@@ -570,6 +586,19 @@ impl<'t> Broken<'t> {
             None => Ok(None),
         }
     }
+}
+
+/// Adds that a section is no variable, to which a number is assigned.
+fn push_no_variable(told: &mut String, section: Declared<'_>) -> Result<(), AllocError> {
+    told.push_str("only a variable takes a number so.\n")?;
+    if section.kind.is_read() {
+        return told.push_str("To mend it: name a variable; a `read` section is never written.\n");
+    }
+    let name = section.name;
+    write!(
+        told,
+        "To mend it: store it in an element, as `{name}[0] = ..;`, or name a variable.\n"
+    )
 }
 
 /// Whether a section must stand where a name does this.
