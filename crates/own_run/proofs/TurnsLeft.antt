@@ -33,8 +33,8 @@ use Rattle.own_run.specs.declared.run.Run.{Run}
 use Rattle.own_run.specs.declared.turn.Paused.{Paused}
 use Rattle.own_run.specs.declared.turn.Turn.{Turn}
 use Rattle.own_run.specs.declared.turn.Turn.TheVariants.{Going, Spawns, EntersFinish, EndsFinish, Ended, Over}
-use Rattle.own_run.proofs.TasksEnd.{primitive_less}
 use Rattle.std.proofs.lemmas.Nat.{mul-le}
+use Rattle.types.proofs.Solutions.{primitive_less}
 
 -- no async
 abbrev IsPlain : Code → Type 0

@@ -60,7 +60,7 @@ module _ (p : Program) (g : Procedure) (is_sound : IsSoundIn p g) where
   pub fits_scope : {sc : Scope} {scope : List ℕ} → Lists g sc scope → (env : Environment)
       → Placed (names_in g scope) env.windows → FitsScope sc env
   fits_scope Lists.top env placed = λ j k may lt ne.
-      let a = named p g Lists.top j (bit_inside p g (may_writes g) j may) in
+      let a = named p g Lists.top j (bit_inside (may_writes g) j may) in
       let b = named p g Lists.top k lt in
       placed.apart j k ne a b (is_root p g is_sound.first j a) (is_root p g is_sound.first k b) (sym (bits p g g.parameters j) ∙ may)
   fits_scope (Lists.inside {s = s} {l = l} {r = r} k deeper) env placed =

@@ -26,9 +26,9 @@ use Rattle.own_run.specs.declared.turn.Paused.{Paused}
 use Rattle.own_run.specs.declared.turn.Turn.{Turn}
 use Rattle.own_run.specs.declared.turn.Turn.TheVariants.{Going, Spawns, EntersFinish, EndsFinish, Ended, Over}
 use Rattle.own_run.proofs.ListedTurns.{over_does_nothing}
-use Rattle.own_run.proofs.TasksEnd.{primitive_less}
 use Rattle.own_run.proofs.TurnsLeft.{totals_same}
 use Rattle.task_machine.specs.Finishes.{ends_finish, open_finishes}
+use Rattle.types.proofs.Solutions.{primitive_less}
 
 -- ---- the same of frames as they are defined
 abbrev ends : Frame Own → ℕ
