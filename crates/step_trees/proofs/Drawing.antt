@@ -12,7 +12,9 @@ use Rattle.types.specs.TreeRuns.{Ends, Open, NoSuchChoice, told, explored_from, 
 use Rattle.types.specs.TreeSteps.{step, first_tree}
 use Rattle.effects.specs.Sound.{IsSound}
 use Rattle.race_checker.specs.Clash.{IsAccepted}
+use Rattle.step_trees.specs.Alike.{AreAlike}
 use Rattle.step_trees.specs.Drawing.{next_number, picked, behind, drawn, drawn_choices}
+use Rattle.step_trees.proofs.AlikeTrees.{alike-ready, alike-comes, alike-explored}
 use Rattle.step_trees.proofs.ChosenRuns.{choices_end, told_misses, told_open}
 use Rattle.step_trees.proofs.Exploring.{goes-on}
 use Rattle.step_trees.proofs.NoDeadlock.{Awake, awake_step, first_awake, ready_if}
@@ -49,6 +51,30 @@ module _ (p : Program) where
       drawn-some m n t a some
       ∙ ap (λ x. x ∷ behind (drawn p m (next_number n)) (step p x t a)) (sym e)
       ∙ ap (λ o. c ∷ behind (drawn p m (next_number n)) o) s
+
+  -- the same is drawn of trees that are alike
+  alike-drawn : (m n : ℕ) (t u : Tree) (a : Contents) → AreAlike t u → drawn p m n t a ≡ drawn p m n u a
+  alike-drawn zero n t u a g = drawn-over n t a ∙ sym (drawn-over n u a)
+  alike-drawn (suc m) n t u a g = by (ready t) refl (alike-drawn m (next_number n))
+    where
+      by : (r : ℕ) → ready t ≡ r
+          → ((v w : Tree) (b : Contents) → AreAlike v w → drawn p m (next_number n) v b ≡ drawn p m (next_number n) w b)
+          → drawn p (suc m) n t a ≡ drawn p (suc m) n u a
+      by zero e more = drawn-none (suc m) n t a e ∙ sym (drawn-none (suc m) n u a (sym (alike-ready g) ∙ e))
+      by (suc r) e more =
+          let some : 0 < ready t = omega (arith, e) in let same = alike-ready g in
+          let c = picked (next_number n) (ready t) in
+          let s = ready_steps p c t a (picked-below (next_number n) (ready t) some) in
+          let q = alike-comes p c a g s.step in
+          drawn-step m n c t s.tree a s.store some refl s.step
+          ∙ ap (λ l. c ∷ l) (more s.tree q.tree s.store q.alike)
+          ∙ sym (drawn-step m n c u q.tree a s.store (omega (arith, some, same)) (ap (picked (next_number n)) same) q.step)
+
+  -- and told of it
+  pub drawn-alike : (i m n : ℕ) (t u : Tree) (a : Contents) → AreAlike t u
+      → explored_from p i (drawn p m n t a) t a ≡ explored_from p i (drawn p m n u a) u a
+  drawn-alike i m n t u a g =
+      alike-explored p i (drawn p m n t a) t u a g ∙ ap (λ l. explored_from p i l u a) (alike-drawn m n t u a g)
 
   -- what is told where no more is drawn
   pub told-over : (i n : ℕ) (t : Tree) (a : Contents) → explored_from p i (drawn p zero n t a) t a ≡ told p t a

@@ -1,3 +1,4 @@
+pub mod AlikeTrees
 pub mod ChosenRuns
 pub mod CommutingSteps
 pub mod Deeds

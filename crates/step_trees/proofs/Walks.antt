@@ -13,8 +13,10 @@ use Rattle.step_trees.specs.declared.tree.Tree.TheVariants.{AndThen' as rAndThen
 use Rattle.step_trees.specs.declared.tree.Around.{Around}
 use Rattle.step_trees.specs.declared.tree.Around.TheVariants.{Behind, Left, Right}
 use Rattle.step_trees.specs.declared.tree.Round.{Round}
+use Rattle.step_trees.specs.Alike.{AreAlike}
 use Rattle.step_trees.specs.Held.{tree_of, within, inside, IsCounted, IsCountedRound, AreCounted}
 use Rattle.step_trees.specs.Places.{IsRound}
+use Rattle.step_trees.proofs.AlikeTrees.{alike-inside}
 
 -- the nearest is last
 pub inside-push : (xs : List Around) (x : Around) (t : Tree) → inside (xs ++ x ∷ []) t ≡ inside xs (within x t)
@@ -129,6 +131,12 @@ pub record IsInside (whole : Tree) (r : Round) (t : rTree) : Type 0 where
   pub tree : IsCounted t
   pub same : inside r.around.items (tree_of t) ≡ whole
 
+-- or it is like the whole
+pub record IsLike (whole : Tree) (r : Round) (t : rTree) : Type 0 where
+  pub round : IsRound r
+  pub tree : IsCounted t
+  pub same : AreAlike (inside r.around.items (tree_of t)) whole
+
 -- back up by one
 pub up-by : (whole : Tree) (r s : Round) (x : Around) (t u : rTree) → r.around.items ≡ s.around.items ++ x ∷ [] → IsRound s
     → IsCounted u → tree_of u ≡ within x (tree_of t) → IsInside whole r t → IsInside whole s u
@@ -138,4 +146,18 @@ up-by whole r s x t u e round tree g h = record {
   same =
       ap (inside s.around.items) g ∙ sym (inside-push s.around.items x (tree_of t))
       ∙ sym (ap (λ xs. inside xs (tree_of t)) e) ∙ h.same;
+}
+
+-- or by two
+pub up-by-two : (whole : Tree) (r s : Round) (xs : List Around) (near far : Around) (t u : rTree)
+    → r.around.items ≡ xs ++ near ∷ [] → xs ≡ s.around.items ++ far ∷ [] → IsRound s
+    → IsCounted u → AreAlike (tree_of u) (within far (within near (tree_of t))) → IsLike whole r t → IsLike whole s u
+up-by-two whole r s xs near far t u e f round tree g h = record {
+  round = round;
+  tree = tree;
+  same =
+      AreAlike.through (alike-inside s.around.items g)
+      (subst (λ v. AreAlike v whole)
+      (ap (λ ys. inside ys (tree_of t)) e ∙ inside-push xs near (tree_of t)
+      ∙ ap (λ ys. inside ys (within near (tree_of t))) f ∙ inside-push s.around.items far (within near (tree_of t))) h.same);
 }

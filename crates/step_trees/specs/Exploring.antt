@@ -4,6 +4,7 @@ use Rattle.types.specs.Code.{Program}
 use Rattle.types.specs.Contents.{FitsArrays, held_by}
 use Rattle.types.specs.Translation.{program, outcome}
 use Rattle.types.specs.TreeRuns.{Explored, Ends, Open, NoSuchChoice}
+use Rattle.types.specs.Trees.{Tree}
 use Rattle.types.specs.TreeSteps.{step, first_tree}
 use Rattle.statement_steps.specs.declared.thread.Plan.{Plan}
 use Rattle.statement_steps.specs.Lists.{lists_of, contents_of}
@@ -11,6 +12,7 @@ use Rattle.step_trees.specs.declared.explore.Explored.{Explored as rExplored}
 use Rattle.step_trees.specs.declared.explore.Explored.TheVariants.{Ended as rEnded, Open as rOpen}
 use Rattle.step_trees.specs.declared.explore.Explored.TheVariants.{NoSuchChoice as rNoSuchChoice}
 use Rattle.step_trees.specs.declared.explore.Course.{Course}
+use Rattle.step_trees.specs.Alike.{AreAlike}
 use Rattle.step_trees.specs.Places.{whole, IsPlace}
 use Rattle.step_trees.specs.Windows.{TreeLies}
 
@@ -28,10 +30,12 @@ pub record Begins (p : Program) (input : List (List ℤ)) (r : Plan × Course) :
   pub tree : whole r.1.place ≡ first_tree p
   pub store : contents_of r.1.store ≡ held_by input
 
--- the step of the n-th leaf that may step, after which a run is held as before
+-- the step of the n-th leaf that may step, to a tree like the one that is held, and a run is held as before
 pub record StepsTree (plan : Plan) (c : Course) (n : ℕ) (next : Course) : Type 0 where
+  pub tree : Tree
+  pub alike : AreAlike (whole next.place) tree
   pub step : step (program plan.program.now) n (whole c.place) (contents_of c.store)
-      ≡ Some (whole next.place, contents_of next.store)
+      ≡ Some (tree, contents_of next.store)
   pub held : IsHeld plan next
 
 -- what is told

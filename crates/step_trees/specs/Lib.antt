@@ -1,3 +1,4 @@
+pub mod Alike
 pub mod Drawing
 pub mod Exploring
 pub mod Found

@@ -6,6 +6,7 @@ use Rattle.step_trees.specs.declared.tree.Around.{Around}
 use Rattle.step_trees.specs.declared.tree.Around.TheVariants.{Behind, Left, Right}
 use Rattle.step_trees.specs.declared.walk.Place.{Place}
 use Rattle.step_trees.specs.declared.tree.Round.{Round}
+use Rattle.step_trees.specs.Alike.{AreAlike}
 use Rattle.step_trees.specs.Held.{tree_of, inside, IsCounted, IsCountedRound, AreCounted}
 
 -- how many leaves may step left of a place, of what stands round it
@@ -51,10 +52,10 @@ pub record IsPlace (c : Place) : Type 0 where
   pub settled : all_done (tree_of c.tree) ≡ true → c.round.around.items ≡ []
   pub ready : c.ready ≡ ready (whole c)
 
--- the n-th leaf of t that may step is inside of a tree with this round it
+-- the n-th leaf of t that may step is inside of a tree with this round it, in one that is alike
 pub record IsRaised (t : Tree) (n : ℕ) (r : Round × rTree) : Type 0 where
   pub round : IsRound r.0
   pub tree : IsCounted r.1
-  pub same : inside r.0.around.items (tree_of r.1) ≡ t
+  pub same : AreAlike (inside r.0.around.items (tree_of r.1)) t
   pub from : lefts r.0.around.items ≤ n
   pub below : n < lefts r.0.around.items + ready (tree_of r.1)

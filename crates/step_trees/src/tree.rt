@@ -3,6 +3,7 @@
 ghost use Rattle.std.specs.Prelude.{◌≡◌, ◌<◌, ◌+◌, ◌++◌, ◌∷◌, [], IfOk, OnOk, true};
 ghost use Rattle.types.specs.Trees.{all_done, ready as ready_leaves, and_then as then_tree};
 ghost use Rattle.types.specs.Trees.{closed as closed_leaf, Beside};
+ghost use Rattle.step_trees.specs.Alike.{AreAlike};
 ghost use Rattle.step_trees.specs.Found.{IsFound};
 ghost use Rattle.step_trees.specs.Held.{tree_of, inside, within as within_round, IsCounted};
 ghost use Rattle.step_trees.specs.Held.{IsCountedRound, IsLeftOf};
@@ -233,6 +234,38 @@ impl<'p> Tree<'p> {
             }
         }
     }
+
+    /// Stands between two others, of which each gets a side where there are sides.
+    pub fn between(
+        self,
+        alloc: Global,
+        left: Box<Tree<'p>>,
+        right: Box<Tree<'p>>,
+    ) -> Result<Tree<'p>, AllocError>
+        requires between { IsCounted self }
+        requires left { IsCounted left.value }
+        requires right { IsCounted right.value }
+        ensures tree { IfOk result (λ t. AreAlike (tree_of t) (Beside (tree_of left.entry.value)
+            (Beside (tree_of self.entry) (tree_of right.entry.value)))) }
+        ensures counted { IfOk result IsCounted }
+    {
+        match self {
+            Tree::Beside {
+                left: first,
+                right: second,
+                ready: _,
+                done: _,
+            } => {
+                let lefts = together(alloc, left, first)?;
+                let rights = together(alloc, second, right)?;
+                beside(lefts, rights)
+            }
+            tree => {
+                let tree = Box::new(alloc, tree)?;
+                beside(left, together(alloc, tree, right)?)
+            }
+        }
+    }
 }
 
 impl<'p> Around<'p> {
@@ -343,6 +376,22 @@ pub fn beside<'p>(left: Box<Tree<'p>>, right: Box<Tree<'p>>) -> Result<Tree<'p>,
         ready,
         done,
     })
+}
+
+/// Two trees as one that others may hold.
+pub fn together<'p>(
+    alloc: Global,
+    left: Box<Tree<'p>>,
+    right: Box<Tree<'p>>,
+) -> Result<Box<Tree<'p>>, AllocError>
+    requires left { IsCounted left.value }
+    requires right { IsCounted right.value }
+    ensures tree { IfOk result (λ t. tree_of t.value
+        ≡ Beside (tree_of left.entry.value) (tree_of right.entry.value)) }
+    ensures counted { IfOk result (λ t. IsCounted t.value) }
+{
+    let both = beside(left, right)?;
+    Ok(Box::new(alloc, both)?)
 }
 
 /// A tree and what waits for its end, which goes on at once where all leaves are done.

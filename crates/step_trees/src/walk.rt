@@ -2,12 +2,13 @@
 
 ghost use Rattle.std.specs.Prelude.{◌≡◌, ◌<◌, ◌+◌, [], IfOk, true, false};
 ghost use Rattle.types.specs.Trees.{all_done, ready as ready_leaves};
-ghost use Rattle.step_trees.specs.Found.{IsFound};
-ghost use Rattle.step_trees.specs.Held.{tree_of, inside, IsCounted};
+ghost use Rattle.step_trees.specs.Alike.{AreAlike};
+ghost use Rattle.step_trees.specs.Found.{IsFoundAlike};
+ghost use Rattle.step_trees.specs.Held.{tree_of, inside, within, IsCounted, IsCountedRound};
 ghost use Rattle.step_trees.specs.Places.{whole, IsPlace, IsRaised, IsRound};
 
 use crate::leaf::Leaf;
-use crate::tree::{Round, Tree};
+use crate::tree::{Around, Round, Tree, and_then, together};
 use std::alloc::{AllocError, Global};
 
 /// A tree within another, where the last step was. It isn't done, unless it is the whole.
@@ -27,7 +28,7 @@ pub fn found<'p>(
 ) -> Result<(Round<'p>, Leaf<'p>), AllocError>
     requires place { IsPlace place }
     requires choice { choice < ready_leaves (whole place) }
-    ensures { IfOk result (IsFound (whole place.entry) choice) }
+    ensures { IfOk result (IsFoundAlike (whole place.entry) choice) }
 {
     let Place {
         round,
@@ -39,7 +40,8 @@ pub fn found<'p>(
     tree.leaf(round, inside)
 }
 
-/// Goes up to where the leaf with a number is inside.
+/// Goes up to where the leaf with a number is inside, two levels at a time, by which the way to what is
+/// deep there gets half as long.
 fn raised<'p>(
     alloc: Global,
     round: Round<'p>,
@@ -60,8 +62,49 @@ fn raised<'p>(
         }
         match round.pop() {
             None => return Ok((round, tree)),
-            Some(around) => tree = around.within(alloc, tree)?,
+            Some(near) => match round.pop() {
+                None => tree = near.within(alloc, tree)?,
+                Some(far) => tree = turned(alloc, far, near, tree)?,
+            },
         }
+    }
+}
+
+/// A tree with two that stand round it, which are taken together where both stand on one side.
+fn turned<'p>(
+    alloc: Global,
+    far: Around<'p>,
+    near: Around<'p>,
+    tree: Tree<'p>,
+) -> Result<Tree<'p>, AllocError>
+    requires far { IsCountedRound far }
+    requires near { IsCountedRound near }
+    requires tree { IsCounted tree }
+    ensures tree { IfOk result (λ t. AreAlike (tree_of t)
+        (within far.entry (within near.entry (tree_of tree.entry)))) }
+    ensures counted { IfOk result IsCounted }
+{
+    match far {
+        Around::Behind(leaf) => {
+            let first = near.within(alloc, tree)?;
+            and_then(alloc, first, leaf)
+        }
+        Around::Left(far) => match near {
+            Around::Behind(leaf) => {
+                let right = and_then(alloc, tree, leaf)?;
+                Around::Left(far).within(alloc, right)
+            }
+            Around::Left(near) => Around::Left(together(alloc, far, near)?).within(alloc, tree),
+            Around::Right(near) => tree.between(alloc, far, near),
+        },
+        Around::Right(far) => match near {
+            Around::Behind(leaf) => {
+                let left = and_then(alloc, tree, leaf)?;
+                Around::Right(far).within(alloc, left)
+            }
+            Around::Left(near) => tree.between(alloc, near, far),
+            Around::Right(near) => Around::Right(together(alloc, near, far)?).within(alloc, tree),
+        },
     }
 }
 

@@ -6,6 +6,7 @@ use Rattle.types.specs.TreeRuns.{explored_from}
 use Rattle.types.specs.Trees.{ready}
 use Rattle.statement_steps.specs.Lists.{contents_of}
 use Rattle.step_trees.specs.Places.{whole}
+use Rattle.step_trees.proofs.AlikeTrees.{alike-explored}
 use Rattle.step_trees.proofs.Exploring.{misses, goes-on}
 use Rattle.step_trees.proofs.explore.by_choices.Goals as goal
 
@@ -47,7 +48,8 @@ choices-preserved c =
       short = omega (arith, one, short);
       same =
           ap (λ m. explored_from p m c.in-Some.later.now u b) count
-          ∙ sym (goes-on p t a n c.in-Some.choice.now c.in-Some.later.now u b c.in_ok-course.ensures.step)
+          ∙ alike-explored p (n + 1) c.in-Some.later.now u c.in_ok-course.ensures.tree b c.in_ok-course.ensures.alike
+          ∙ sym (goes-on p t a n c.in-Some.choice.now c.in-Some.later.now c.in_ok-course.ensures.tree b c.in_ok-course.ensures.step)
           ∙ ap (λ l. explored_from p n l t a) (sym split)
           ∙ c.choices.invariant.same;
     }

@@ -6,7 +6,7 @@ use Rattle.types.specs.Trees.{ready}
 use Rattle.statement_steps.specs.Lists.{contents_of}
 use Rattle.step_trees.specs.Drawing.{drawn, next_number, picked}
 use Rattle.step_trees.specs.Places.{whole}
-use Rattle.step_trees.proofs.Drawing.{drawn-goes, told-none, told-over}
+use Rattle.step_trees.proofs.Drawing.{drawn-alike, drawn-goes, told-none, told-over}
 use Rattle.step_trees.proofs.explore.by_draws.Goals as goal
 
 pub choices-init : goal.choices-init
@@ -44,7 +44,8 @@ choices-preserved c =
       same =
           ap (λ m. explored_from p m (drawn p later c.next_number-number.result u b) u b) count
           ∙ ap (λ x. explored_from p (k + 1) (drawn p later x u b) u b) behind
-          ∙ sym (drawn-goes p k later n c.picked.result t u a b some choice c.in_ok-course.ensures.step)
+          ∙ drawn-alike p (k + 1) later (next_number n) u c.in_ok-course.ensures.tree b c.in_ok-course.ensures.alike
+          ∙ sym (drawn-goes p k later n c.picked.result t c.in_ok-course.ensures.tree a b some choice c.in_ok-course.ensures.step)
           ∙ ap (λ l. explored_from p k (drawn p l n t a) t a) (sym one)
           ∙ c.choices.invariant.same;
     }

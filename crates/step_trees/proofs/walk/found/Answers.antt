@@ -2,6 +2,7 @@ use Rattle.std.proofs.Common.{◌≡◌, ◌+◌, ◌-◌, ◌<◌, subst, arith
 use Rattle.std.proofs.lemmas.Result.{IfOk-weaker}
 use Rattle.types.specs.Trees.{ready}
 use Rattle.step_trees.specs.Found.{IsFound}
+use Rattle.step_trees.specs.Held.{tree_of, inside}
 use Rattle.step_trees.specs.Places.{lefts, whole}
 use Rattle.step_trees.proofs.Places.{place_going}
 use Rattle.step_trees.proofs.walk.found.Goals as goal
@@ -24,8 +25,8 @@ leaf-requires-clause-choice c =
 pub returns : goal.returns
 returns c =
     let r = c.in_ok-round.ensures in let left = r.round.left in let from = r.from in
-    let n = c.args.choice in let xs = c.in_ok-round.round.around.items in
+    let n = c.args.choice in let xs = c.in_ok-round.round.around.items in let t = tree_of c.in_ok-round.tree in
     let is : lefts xs + (n - c.in_ok-round.round.left) ≡ n = omega (arith, left, from) in
     IfOk-weaker c.leaf.result _ _
-    (λ x h. subst (λ m. IsFound (whole c.args.place) m x) is (subst (λ t. IsFound t (lefts xs + (n - c.in_ok-round.round.left)) x) r.same h))
+    (λ x h. record { tree = inside xs t; alike = r.same; found = subst (λ m. IsFound (inside xs t) m x) is h })
     c.leaf.ensures

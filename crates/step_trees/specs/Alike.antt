@@ -1,0 +1,11 @@
+-- Trees with the same leaves in the same order, of which some are put together otherwise.
+use Rattle.types.specs.Trees.{Leaf, Tree, AndThen, Beside}
+
+-- `(t par u) par v` is like `t par (u par v)`, wherever it stands
+pub data AreAlike : Tree → Tree → Type 0 where
+  same : {t : Tree} → AreAlike t t
+  left_first : {t u v : Tree} → AreAlike (Beside (Beside t u) v) (Beside t (Beside u v))
+  right_first : {t u v : Tree} → AreAlike (Beside t (Beside u v)) (Beside (Beside t u) v)
+  sides : {t u v w : Tree} → AreAlike t u → AreAlike v w → AreAlike (Beside t v) (Beside u w)
+  waits : {t u : Tree} {k : Leaf} → AreAlike t u → AreAlike (AndThen t k) (AndThen u k)
+  through : {t u v : Tree} → AreAlike t u → AreAlike u v → AreAlike t v
