@@ -54,8 +54,8 @@ To mend it: give one number for each element; an array that is left out begins w
 {"q": [1, 2]}
 END
 
-# The leftmost leaf always, the owner always, which leaves a tree of 50,000 levels, to and fro between the first and the
-# last of 20,000 tasks, and 20,000 tasks in one finish, with little of a stack.
+# The leftmost leaf always, the owner always, to and fro between the first and the last of 20,000 tasks, and 20,000 tasks
+# in one finish, with little of a stack.
 echo 'main { while true { async { skip; } } }' >"$room/deep.afx"
 yes 0 | head -100000 >"$room/zeros"
 awk 'BEGIN { for (i = 0; i < 100000; i++) print int(i / 2) }' >"$room/owner"

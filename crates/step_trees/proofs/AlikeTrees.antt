@@ -108,13 +108,6 @@ pub alike-inside : (xs : List Around) {t u : Tree} → AreAlike t u → AreAlike
 alike-inside [] g = g
 alike-inside (x ∷ xs) g = alike-within x (alike-inside xs g)
 
--- of two that stand round a tree
-pub alike-held : (far near : Around) {x y : Around} (t : Tree) {u : Tree} → far ≡ x → near ≡ y → AreAlike u (within x (within y t))
-    → AreAlike u (within far (within near t))
-alike-held far near {x} t {u} e f g =
-    subst (λ far. AreAlike u (within far (within near t))) (sym e)
-    (subst (λ near. AreAlike u (within x (within near t))) (sym f) g)
-
 -- a tree of two sides, of which each is put to what stands beside it
 pub alike-parted : {t u l r v w f s : Tree} → t ≡ Beside v w → v ≡ Beside l f → w ≡ Beside s r → u ≡ Beside f s
     → AreAlike t (Beside l (Beside u r))

@@ -9,13 +9,13 @@ use Rattle.step_trees.specs.declared.tree.Tree.TheVariants.{Single, AndThen', Be
 abbrev pub turns : Tree → ℕ
 turns (Single k) = 1
 turns (AndThen' p t k n) = suc (turns t)
-turns (Beside' p t q u n d) = suc (suc (turns t + turns u))
+turns (Beside' p t q u n d s) = suc (suc (turns t + turns u))
 
 -- and one where it hangs right of all
 abbrev pub turns_last : Tree → ℕ
 turns_last (Single k) = 1
 turns_last (AndThen' p t k n) = suc (turns_last t)
-turns_last (Beside' p t q u n d) = suc (turns t + turns_last u)
+turns_last (Beside' p t q u n d s) = suc (turns t + turns_last u)
 
 -- of a tree and of what is left besides
 abbrev pub turns_both : Tree → Option (Box Tree Global) → ℕ

@@ -28,7 +28,7 @@ ready_by k b e = ap (λ (z : Bool). let n : ℕ = if z then 0 else 1 in n) (done
 abbrev pub weight : rTree → ℕ
 weight (rSingle k) = 1
 weight (rAndThen p t k n) = suc (weight t)
-weight (rBeside p t q u n d) = suc (weight t + weight u)
+weight (rBeside p t q u n d s) = suc (weight t + weight u)
 
 abbrev pub weights : List (Box rTree Global) → ℕ
 weights [] = 0

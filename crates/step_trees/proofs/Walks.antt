@@ -97,9 +97,9 @@ module _ (n : ℕ) (whole : Tree) (xs : List Around) (m : ℕ) where
     steps = λ p a. w.steps p a ∙ in_tree-push xs (Behind k) (step p m (tree_of f) a);
   }
 
-  pub way-left : (p : _) (f : rTree) (q : _) (b : Box rTree Global) (r : ℕ) (d : Bool) → m < ready (tree_of f)
-      → Way n whole xs m (rBeside p f q b.value r d) → Way n whole (xs ++ Right b ∷ []) m f
-  way-left p f q b r d h w =
+  pub way-left : (p : _) (f : rTree) (q : _) (b : Box rTree Global) (r : ℕ) (d : Bool) (s : ℕ) → m < ready (tree_of f)
+      → Way n whole xs m (rBeside p f q b.value r d s) → Way n whole (xs ++ Right b ∷ []) m f
+  way-left p f q b r d s h w =
       let e = lt-ltb m (ready (tree_of f)) h in
       record {
         counted = w.counted.0;
@@ -110,10 +110,10 @@ module _ (n : ℕ) (whole : Tree) (xs : List Around) (m : ℕ) where
             ∙ in_tree-push xs (Right b) (step p m (tree_of f) a);
       }
 
-  pub way-right : (p : _) (b : Box rTree Global) (q : _) (g : rTree) (r : ℕ) (d : Bool) (k : ℕ) → ready (tree_of b.value) ≤ m
+  pub way-right : (p : _) (b : Box rTree Global) (q : _) (g : rTree) (r : ℕ) (d : Bool) (s k : ℕ) → ready (tree_of b.value) ≤ m
       → m - ready (tree_of b.value) ≡ k
-      → Way n whole xs m (rBeside p b.value q g r d) → Way n whole (xs ++ Left b ∷ []) k g
-  way-right p b q g r d k h is w =
+      → Way n whole xs m (rBeside p b.value q g r d s) → Way n whole (xs ++ Left b ∷ []) k g
+  way-right p b q g r d s k h is w =
       let e = le-ltb m (ready (tree_of b.value)) h in
       let all : m < ready (tree_of b.value) + ready (tree_of g) = w.below in
       record {
@@ -125,13 +125,7 @@ module _ (n : ℕ) (whole : Tree) (xs : List Around) (m : ℕ) where
             ∙ in_tree-push xs (Left b) (step p k (tree_of g) a);
       }
 
--- on the way up: inside of what stands round it, a tree is the whole
-pub record IsInside (whole : Tree) (r : Round) (t : rTree) : Type 0 where
-  pub round : IsRound r
-  pub tree : IsCounted t
-  pub same : inside r.around.items (tree_of t) ≡ whole
-
--- or it is like the whole
+-- on the way up: inside of what stands round it, a tree is like the whole
 pub record IsLike (whole : Tree) (r : Round) (t : rTree) : Type 0 where
   pub round : IsRound r
   pub tree : IsCounted t
@@ -139,25 +133,12 @@ pub record IsLike (whole : Tree) (r : Round) (t : rTree) : Type 0 where
 
 -- back up by one
 pub up-by : (whole : Tree) (r s : Round) (x : Around) (t u : rTree) → r.around.items ≡ s.around.items ++ x ∷ [] → IsRound s
-    → IsCounted u → tree_of u ≡ within x (tree_of t) → IsInside whole r t → IsInside whole s u
+    → IsCounted u → AreAlike (tree_of u) (within x (tree_of t)) → IsLike whole r t → IsLike whole s u
 up-by whole r s x t u e round tree g h = record {
-  round = round;
-  tree = tree;
-  same =
-      ap (inside s.around.items) g ∙ sym (inside-push s.around.items x (tree_of t))
-      ∙ sym (ap (λ xs. inside xs (tree_of t)) e) ∙ h.same;
-}
-
--- or by two
-pub up-by-two : (whole : Tree) (r s : Round) (xs : List Around) (near far : Around) (t u : rTree)
-    → r.around.items ≡ xs ++ near ∷ [] → xs ≡ s.around.items ++ far ∷ [] → IsRound s
-    → IsCounted u → AreAlike (tree_of u) (within far (within near (tree_of t))) → IsLike whole r t → IsLike whole s u
-up-by-two whole r s xs near far t u e f round tree g h = record {
   round = round;
   tree = tree;
   same =
       AreAlike.through (alike-inside s.around.items g)
       (subst (λ v. AreAlike v whole)
-      (ap (λ ys. inside ys (tree_of t)) e ∙ inside-push xs near (tree_of t)
-      ∙ ap (λ ys. inside ys (within near (tree_of t))) f ∙ inside-push s.around.items far (within near (tree_of t))) h.same);
+      (ap (λ ys. inside ys (tree_of t)) e ∙ inside-push s.around.items x (tree_of t)) h.same);
 }

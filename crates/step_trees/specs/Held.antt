@@ -15,13 +15,13 @@ use Rattle.step_trees.specs.Translation.{leaf_of}
 abbrev pub tree_of : rTree → Tree
 tree_of (rSingle k) = Single (leaf_of k)
 tree_of (rAndThen p t k n) = AndThen (tree_of t) (leaf_of k)
-tree_of (rBeside p t q u n d) = Beside (tree_of t) (tree_of u)
+tree_of (rBeside p t q u n d s) = Beside (tree_of t) (tree_of u)
 
 -- what is held of how many leaves may step, and of whether all are done, is so
 abbrev pub IsCounted : rTree → Type 0
 IsCounted (rSingle k) = Unit {0}
 IsCounted (rAndThen p t k n) = IsCounted t × (n ≡ ready (tree_of t))
-IsCounted (rBeside p t q u n d) =
+IsCounted (rBeside p t q u n d s) =
     IsCounted t × IsCounted u × (n ≡ ready (tree_of t) + ready (tree_of u))
     × (d ≡ (all_done (tree_of t) && all_done (tree_of u)))
 

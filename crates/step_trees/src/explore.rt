@@ -22,7 +22,7 @@ use crate::leaf::{Leaf, returned};
 use crate::rest::block_alone;
 use crate::tree::{Round, Tree, and_then, beside};
 use crate::turn::{Becomes, step as leaf_turn};
-use crate::walk::{Place, found, settled};
+use crate::walk::{Place, found, placed, settled};
 use race_checker::accepted::Accepted;
 use statement_steps::store::Store;
 use statement_steps::thread::{Plan, main_environment};
@@ -192,7 +192,7 @@ fn start<'p>(plan: Plan<'p>) -> Result<Place<'p>, AllocError>
     ensures place { IfOk result IsPlace }
 {
     let tree = first(plan)?;
-    settled(plan.alloc, Round::nothing(plan.alloc), tree)
+    placed(Round::nothing(plan.alloc), tree)
 }
 
 /// `main` at its beginning.

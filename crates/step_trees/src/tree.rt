@@ -34,6 +34,8 @@ pub enum Tree<'p> {
         ready: u32,
         /// Whether all are done.
         done: bool,
+        /// How many leaves it keeps, done or not, where the body of a finish counts as one.
+        size: u32,
     },
 }
 
@@ -94,6 +96,7 @@ impl Drop for Tree<'_> {
                     right,
                     ready: _,
                     done: _,
+                    size: _,
                 } => match others {
                     None => {
                         self = Box::into_inner(left);
@@ -105,6 +108,7 @@ impl Drop for Tree<'_> {
                             right: more,
                             ready: 0,
                             done: false,
+                            size: 0,
                         };
                         self = std::mem::replace(&mut *left, both);
                         others = Some(left);
@@ -140,6 +144,15 @@ impl<'p> Tree<'p> {
         }
     }
 
+    /// How many leaves it keeps, where the body of a finish counts as one.
+    fn size(&self) -> u32 {
+        match self {
+            Tree::Single(_) => 1,
+            Tree::AndThen { .. } => 1,
+            Tree::Beside { size, .. } => *size,
+        }
+    }
+
     /// Goes down to the leaf with a number, from the left and from 0, of those that may step.
     pub fn leaf(
         mut self,
@@ -170,6 +183,7 @@ impl<'p> Tree<'p> {
                     right,
                     ready: _,
                     done: _,
+                    size: _,
                 } => {
                     let before = left.ready();
                     if choice < before {
@@ -200,6 +214,7 @@ impl<'p> Tree<'p> {
                     right,
                     ready: _,
                     done: _,
+                    size: _,
                 } => {
                     rights.push(right)?;
                     self = Box::into_inner(left);
@@ -235,8 +250,60 @@ impl<'p> Tree<'p> {
         }
     }
 
+    /// Beside a smaller tree at its left, to which it gives its left side, or half of that.
+    fn giving_left(self, alloc: Global, smaller: Box<Tree<'p>>) -> Result<Tree<'p>, AllocError>
+        requires tree { IsCounted self }
+        requires smaller { IsCounted smaller.value }
+        ensures tree { IfOk result (λ t. AreAlike (tree_of t)
+            (Beside (tree_of smaller.entry.value) (tree_of self.entry))) }
+        ensures counted { IfOk result IsCounted }
+    {
+        match self {
+            Tree::Beside {
+                left: near,
+                right: far,
+                ready: _,
+                done: _,
+                size: _,
+            } => {
+                if u64::from(near.size()) < 2 * u64::from(far.size()) {
+                    beside(together(alloc, smaller, near)?, far)
+                } else {
+                    Box::into_inner(near).between(alloc, smaller, far)
+                }
+            }
+            tree => beside(smaller, Box::new(alloc, tree)?),
+        }
+    }
+
+    /// Beside a smaller tree at its right, to which it gives its right side, or half of that.
+    fn giving_right(self, alloc: Global, smaller: Box<Tree<'p>>) -> Result<Tree<'p>, AllocError>
+        requires tree { IsCounted self }
+        requires smaller { IsCounted smaller.value }
+        ensures tree { IfOk result (λ t. AreAlike (tree_of t)
+            (Beside (tree_of self.entry) (tree_of smaller.entry.value))) }
+        ensures counted { IfOk result IsCounted }
+    {
+        match self {
+            Tree::Beside {
+                left: far,
+                right: near,
+                ready: _,
+                done: _,
+                size: _,
+            } => {
+                if u64::from(near.size()) < 2 * u64::from(far.size()) {
+                    beside(far, together(alloc, near, smaller)?)
+                } else {
+                    Box::into_inner(near).between(alloc, far, smaller)
+                }
+            }
+            tree => beside(Box::new(alloc, tree)?, smaller),
+        }
+    }
+
     /// Stands between two others, of which each gets a side where there are sides.
-    pub fn between(
+    fn between(
         self,
         alloc: Global,
         left: Box<Tree<'p>>,
@@ -255,6 +322,7 @@ impl<'p> Tree<'p> {
                 right: second,
                 ready: _,
                 done: _,
+                size: _,
             } => {
                 let lefts = together(alloc, left, first)?;
                 let rights = together(alloc, second, right)?;
@@ -273,13 +341,14 @@ impl<'p> Around<'p> {
     pub fn within(self, alloc: Global, tree: Tree<'p>) -> Result<Tree<'p>, AllocError>
         requires around { IsCountedRound self }
         requires tree { IsCounted tree }
-        ensures tree { IfOk result (λ t. tree_of t ≡ within_round self.entry (tree_of tree.entry)) }
+        ensures tree { IfOk result (λ t. AreAlike (tree_of t)
+            (within_round self.entry (tree_of tree.entry))) }
         ensures counted { IfOk result IsCounted }
     {
         match self {
             Around::Behind(leaf) => and_then(alloc, tree, leaf),
-            Around::Right(right) => beside(Box::new(alloc, tree)?, right),
-            Around::Left(left) => beside(left, Box::new(alloc, tree)?),
+            Around::Right(right) => balanced(alloc, Box::new(alloc, tree)?, right),
+            Around::Left(left) => balanced(alloc, left, Box::new(alloc, tree)?),
         }
     }
 
@@ -341,6 +410,16 @@ impl<'p> Round<'p> {
         Ok(())
     }
 
+    /// Whether what stands nearest waits for the end of a finish.
+    pub fn waits(&self) -> bool {
+        match self.around.last() {
+            Some(Around::Behind(_)) => true,
+            Some(Around::Right(_)) => false,
+            Some(Around::Left(_)) => false,
+            None => false,
+        }
+    }
+
     /// Takes off what stands nearest.
     pub fn pop(&mut self) -> Option<Around<'p>>
         requires { IsRound self.old }
@@ -358,6 +437,30 @@ impl<'p> Round<'p> {
     }
 }
 
+/// Two trees beside each other, of which one with more than three times the other's leaves gives some to it: so no way
+/// down is longer than a few times the logarithm of how many leaves there are, if they come one by one.
+fn balanced<'p>(
+    alloc: Global,
+    left: Box<Tree<'p>>,
+    right: Box<Tree<'p>>,
+) -> Result<Tree<'p>, AllocError>
+    requires left { IsCounted left.value }
+    requires right { IsCounted right.value }
+    ensures tree { IfOk result (λ t. AreAlike (tree_of t)
+        (Beside (tree_of left.entry.value) (tree_of right.entry.value))) }
+    ensures counted { IfOk result IsCounted }
+{
+    let lefts = u64::from(left.size());
+    let rights = u64::from(right.size());
+    if lefts > 3 * rights {
+        return Box::into_inner(left).giving_right(alloc, right);
+    }
+    if rights > 3 * lefts {
+        return Box::into_inner(right).giving_left(alloc, left);
+    }
+    beside(left, right)
+}
+
 /// Two trees beside each other.
 pub fn beside<'p>(left: Box<Tree<'p>>, right: Box<Tree<'p>>) -> Result<Tree<'p>, AllocError>
     requires left { IsCounted left.value }
@@ -370,16 +473,18 @@ pub fn beside<'p>(left: Box<Tree<'p>>, right: Box<Tree<'p>>) -> Result<Tree<'p>,
         return Err(AllocError);
     };
     let done = left.is_done() && right.is_done();
+    let size = left.size().saturating_add(right.size());
     Ok(Tree::Beside {
         left,
         right,
         ready,
         done,
+        size,
     })
 }
 
 /// Two trees as one that others may hold.
-pub fn together<'p>(
+fn together<'p>(
     alloc: Global,
     left: Box<Tree<'p>>,
     right: Box<Tree<'p>>,

@@ -4,14 +4,15 @@ ghost use Rattle.std.specs.Prelude.{◌≡◌, ◌<◌, ◌+◌, [], IfOk, true,
 ghost use Rattle.types.specs.Trees.{all_done, ready as ready_leaves};
 ghost use Rattle.step_trees.specs.Alike.{AreAlike};
 ghost use Rattle.step_trees.specs.Found.{IsFoundAlike};
-ghost use Rattle.step_trees.specs.Held.{tree_of, inside, within, IsCounted, IsCountedRound};
+ghost use Rattle.step_trees.specs.Held.{tree_of, inside, IsCounted};
 ghost use Rattle.step_trees.specs.Places.{whole, IsPlace, IsRaised, IsRound};
 
 use crate::leaf::Leaf;
-use crate::tree::{Around, Round, Tree, and_then, together};
+use crate::tree::{Round, Tree};
 use std::alloc::{AllocError, Global};
 
-/// A tree within another, where the last step was. It isn't done, unless it is the whole.
+/// All tasks of one finish, or of the run, within the whole tree: those among which the last step was. They aren't all
+/// done, unless they are the whole.
 #[derive(Drop)]
 pub struct Place<'p> {
     pub round: Round<'p>,
@@ -40,8 +41,7 @@ pub fn found<'p>(
     tree.leaf(round, inside)
 }
 
-/// Goes up to where the leaf with a number is inside, two levels at a time, by which the way to what is
-/// deep there gets half as long.
+/// Goes up to where the leaf with a number is inside.
 fn raised<'p>(
     alloc: Global,
     round: Round<'p>,
@@ -62,64 +62,24 @@ fn raised<'p>(
         }
         match round.pop() {
             None => return Ok((round, tree)),
-            Some(near) => match round.pop() {
-                None => tree = near.within(alloc, tree)?,
-                Some(far) => tree = turned(alloc, far, near, tree)?,
-            },
+            Some(around) => tree = around.within(alloc, tree)?,
         }
     }
 }
 
-/// A tree with two that stand round it, which are taken together where both stand on one side.
-fn turned<'p>(
-    alloc: Global,
-    far: Around<'p>,
-    near: Around<'p>,
-    tree: Tree<'p>,
-) -> Result<Tree<'p>, AllocError>
-    requires far { IsCountedRound far }
-    requires near { IsCountedRound near }
-    requires tree { IsCounted tree }
-    ensures tree { IfOk result (λ t. AreAlike (tree_of t)
-        (within far.entry (within near.entry (tree_of tree.entry)))) }
-    ensures counted { IfOk result IsCounted }
-{
-    match far {
-        Around::Behind(leaf) => {
-            let first = near.within(alloc, tree)?;
-            and_then(alloc, first, leaf)
-        }
-        Around::Left(far) => match near {
-            Around::Behind(leaf) => {
-                let right = and_then(alloc, tree, leaf)?;
-                Around::Left(far).within(alloc, right)
-            }
-            Around::Left(near) => Around::Left(together(alloc, far, near)?).within(alloc, tree),
-            Around::Right(near) => tree.between(alloc, far, near),
-        },
-        Around::Right(far) => match near {
-            Around::Behind(leaf) => {
-                let left = and_then(alloc, tree, leaf)?;
-                Around::Right(far).within(alloc, left)
-            }
-            Around::Left(near) => tree.between(alloc, near, far),
-            Around::Right(near) => Around::Right(together(alloc, near, far)?).within(alloc, tree),
-        },
-    }
-}
-
-/// Goes up while all leaves are done, so that what waits for their end goes on.
+/// Goes up to all tasks of the finish in which a step was, and further up while all leaves are done, so that
+/// what waits for their end goes on.
 pub fn settled<'p>(alloc: Global, round: Round<'p>, tree: Tree<'p>) -> Result<Place<'p>, AllocError>
     requires round { IsRound round }
     requires tree { IsCounted tree }
-    ensures whole { IfOk result (λ c. whole c
-        ≡ inside round.entry.around.items (tree_of tree.entry)) }
+    ensures whole { IfOk result (λ c. AreAlike (whole c)
+        (inside round.entry.around.items (tree_of tree.entry))) }
     ensures place { IfOk result IsPlace }
 {
     let mut round = round;
     let mut tree = tree;
     'up: loop {
-        if !tree.is_done() {
+        if round.waits() && !tree.is_done() {
             return placed(round, tree);
         }
         match round.pop() {
@@ -130,7 +90,7 @@ pub fn settled<'p>(alloc: Global, round: Round<'p>, tree: Tree<'p>) -> Result<Pl
 }
 
 /// A place, with how many leaves may step.
-fn placed<'p>(round: Round<'p>, tree: Tree<'p>) -> Result<Place<'p>, AllocError>
+pub fn placed<'p>(round: Round<'p>, tree: Tree<'p>) -> Result<Place<'p>, AllocError>
     requires round { IsRound round }
     requires tree { IsCounted tree }
     requires settled { all_done (tree_of tree) ≡ true → round.around.items ≡ [] }

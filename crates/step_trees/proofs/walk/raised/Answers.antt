@@ -1,11 +1,11 @@
 use Rattle.std.proofs.Common.{◌≡◌, [], sym, ap, ◌∙◌, subst, arith}
 use Rattle.types.specs.Trees.{ready}
 use Rattle.step_trees.specs.Alike.{AreAlike}
-use Rattle.step_trees.specs.Held.{tree_of, within, inside}
+use Rattle.step_trees.specs.Held.{tree_of, inside}
 use Rattle.step_trees.specs.Places.{lefts}
 use Rattle.step_trees.proofs.AlikeTrees.{alike-done, alike-ready}
 use Rattle.step_trees.proofs.Places.{within_going}
-use Rattle.step_trees.proofs.Walks.{up-by-two}
+use Rattle.step_trees.proofs.Walks.{up-by}
 use Rattle.step_trees.proofs.walk.raised.Goals as goal
 
 pub up-init : goal.up-init
@@ -34,12 +34,11 @@ returns-in-None c =
 
 pub up-preserved : goal.up-preserved
 up-preserved c =
-    let next = c.in_ok-tree-in-Some-pop.ensures in
-    let near = c.in-Some.near in let far = c.in-Some-pop.far in let t = tree_of c.up.tree in
+    let next = c.in_ok-tree-in-Some.ensures in
+    let around = c.in-Some.around in let t = tree_of c.up.tree in
     record {
       up =
-          up-by-two _ c.up.round c.pop-in-Some.new.self c.pop.new.self.around.items near far c.up.tree _
-          c.in-Some.ensures.popped.0 c.in-Some-pop.ensures.popped.0 c.pop-in-Some.ensures.round next.counted next.tree
+          up-by _ c.up.round c.pop.new.self around c.up.tree _ c.in-Some.ensures.popped.0 c.pop.ensures.round next.counted next.tree
           c.up.invariant.up;
-      going = alike-done next.tree ∙ within_going far (within near t) (within_going near t c.up.invariant.going);
+      going = alike-done next.tree ∙ within_going around t c.up.invariant.going;
     }

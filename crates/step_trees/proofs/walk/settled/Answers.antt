@@ -1,5 +1,9 @@
+use Rattle.step_trees.specs.Alike.{AreAlike}
 use Rattle.step_trees.proofs.Walks.{up-by}
 use Rattle.step_trees.proofs.walk.settled.Goals as goal
+
+pub up-init : goal.up-init
+up-init c = record { round = c.requires.round; tree = c.requires.tree; same = AreAlike.same }
 
 pub up-preserved : goal.up-preserved
 up-preserved c =

@@ -53,7 +53,7 @@ down-preserved-then-choice-before c =
       round = c.in_ok-push-in-Beside.ensures.round;
       way =
           way-as _ _ _ _ (sym c.in_ok-push-in-Beside.ensures.items) refl (sym c.into_inner-self-then-choice-before.ensures)
-          (way-left _ _ xs m _ left _ c.in-Beside.right c.in-Beside.ready c.in-Beside.done (omega (arith, less, before))
+          (way-left _ _ xs m _ left _ c.in-Beside.right c.in-Beside.ready c.in-Beside.done c.in-Beside.size (omega (arith, less, before))
           (subst (Way _ _ xs m) c.in-Beside.is c.down.invariant.way));
     }
 
@@ -68,7 +68,7 @@ down-preserved c =
       round = c.in_ok-push-in-Beside-2.ensures.round;
       way =
           way-as _ _ _ _ (sym c.in_ok-push-in-Beside-2.ensures.items) refl (sym c.into_inner-self-else-choice-before.ensures)
-          (way-right _ _ xs m _ c.in-Beside.left _ c.in-Beside.right.value c.in-Beside.ready c.in-Beside.done
+          (way-right _ _ xs m _ c.in-Beside.left _ c.in-Beside.right.value c.in-Beside.ready c.in-Beside.done c.in-Beside.size
           (m - c.ready-before.result) (omega (arith, more, before)) (ap (λ x. m - x) (sym before))
           (subst (Way _ _ xs m) c.in-Beside.is c.down.invariant.way));
     }
