@@ -6,18 +6,44 @@ use clap::{ArgMatches, Error};
 use command_line::request::{Action, Choosing, Color, Command, Request, Settings, Spread, Telling};
 use options::reply::{self, Reply};
 use options::table::{CLOSING, commands};
-use std::alloc::Global;
+use std::alloc::{AllocError, Global};
 use types::budget::Budget;
 
 /// The order that `clap` finds in the words, or the reply to them.
 pub fn order_by_clap<'w>(alloc: Global, words: &'w [String]) -> Result<Order<'w>, Reply> {
     let matches = reply::matched(alloc, words)?;
-    match matches.subcommand() {
-        Some(("explain", given)) => Err(reply::explained(alloc, given)?),
-        Some(("completions", given)) => {
-            Err(reply::completions(alloc, given, &commands(alloc)?)?)
-        }
-        Some(("man", _)) => Err(reply::manual(alloc, &commands(alloc)?, CLOSING)?),
+    let asked = matches.subcommand();
+    match replied(alloc, asked)? {
+        Some(reply) => Err(reply),
+        None => Ok(ordered(alloc, asked)?),
+    }
+}
+
+/// The reply to a command that asks nothing of a program, if this is one.
+fn replied(
+    alloc: Global,
+    asked: Option<(&str, &ArgMatches<'_>)>,
+) -> Result<Option<Reply>, AllocError> {
+    match asked {
+        Some(("explain", given)) => Ok(Some(reply::explained(alloc, given)?)),
+        Some(("completions", given)) => Ok(Some(described(alloc, Some(given))?)),
+        Some(("man", _)) => Ok(Some(described(alloc, None)?)),
+        _ => Ok(None),
+    }
+}
+
+/// What is written of all commands: the completions of the shell that is given, or the manual.
+fn described(alloc: Global, given: Option<&ArgMatches<'_>>) -> Result<Reply, AllocError> {
+    let program = commands(alloc)?;
+    match given {
+        Some(given) => reply::completions(alloc, given, &program),
+        None => reply::manual(alloc, &program, CLOSING),
+    }
+}
+
+/// The order of another command.
+fn ordered<'w>(alloc: Global, asked: Option<(&str, &ArgMatches<'w>)>) -> Result<Order<'w>, Error> {
+    match asked {
         Some(("bench", given)) => Ok(Order::Times(request(alloc, Command::Cost, given)?)),
         Some(("test", given)) => Ok(Order::Tests(given.get_str("FOLDER").unwrap_or("-"))),
         asked => Ok(told(asked, request_asked(alloc, asked)?)),
@@ -41,23 +67,46 @@ fn request_asked<'w>(
     alloc: Global,
     asked: Option<(&str, &ArgMatches<'w>)>,
 ) -> Result<Request<'w>, Error> {
-    match asked {
-        Some(("run", given)) => request(alloc, Command::Run, given),
-        Some(("serial", given)) => request(alloc, Command::Serial, given),
-        Some(("check", given)) if given.get_flag("list") => {
-            request(alloc, Command::Listing, given)
-        }
-        Some(("check", given)) => request(alloc, Command::Check, given),
-        Some(("list", given)) if given.get_flag("lines") => {
-            request(alloc, Command::Places, given)
-        }
-        Some(("list", given)) => request(alloc, Command::Labels, given),
-        Some(("fmt", given)) => asking(alloc, formatting(given), given),
-        Some(("mhp", given)) => request(alloc, Command::Pairs, given),
-        Some(("cost", given)) => request(alloc, costing(given), given),
-        Some(("explore", given)) => request(alloc, Command::Explore, given),
-        Some(("view", given)) => request(alloc, viewing(given), given),
-        _ => Err(commands(alloc)?.error(ErrorKind::MissingSubcommand, "no command")?),
+    let Some((word, given)) = asked else {
+        return Err(mistake(alloc, ErrorKind::MissingSubcommand, "no command")?);
+    };
+    match action_asked(word, given) {
+        Some(action) => asking(alloc, action, given),
+        None => Err(mistake(alloc, ErrorKind::MissingSubcommand, "no command")?),
+    }
+}
+
+/// What a command asks to be done with a program, if this is one.
+fn action_asked(word: &str, given: &ArgMatches<'_>) -> Option<Action> {
+    Some(match word {
+        "fmt" => formatting(given),
+        "run" => Action::Answer(Command::Run),
+        "serial" => Action::Answer(Command::Serial),
+        "check" => Action::Answer(checking(given)),
+        "list" => Action::Answer(listing(given)),
+        "mhp" => Action::Answer(Command::Pairs),
+        "cost" => Action::Answer(costing(given)),
+        "explore" => Action::Answer(Command::Explore),
+        "view" => Action::Answer(viewing(given)),
+        _ => return None,
+    })
+}
+
+/// What `check` tells.
+fn checking(given: &ArgMatches<'_>) -> Command {
+    if given.get_flag("list") {
+        Command::Listing
+    } else {
+        Command::Check
+    }
+}
+
+/// What `list` writes before each label.
+fn listing(given: &ArgMatches<'_>) -> Command {
+    if given.get_flag("lines") {
+        Command::Places
+    } else {
+        Command::Labels
     }
 }
 
@@ -170,7 +219,7 @@ fn budget(alloc: Global, given: &ArgMatches<'_>) -> Result<Budget, Error> {
     let nest = given.get_one("nest").unwrap_or(u64::from(usual.nest));
     match Budget::new(steps, nest) {
         Some(budget) => Ok(budget),
-        None => Err(commands(alloc)?.error(ErrorKind::ValueValidation, "no budget")?),
+        None => Err(mistake(alloc, ErrorKind::ValueValidation, "no budget")?),
     }
 }
 
@@ -182,6 +231,11 @@ fn spread(alloc: Global, given: &ArgMatches<'_>) -> Result<Spread, Error> {
     let workers = given.get_one("workers").unwrap_or(usual.workers);
     match Spread::new(tasks, w0, workers) {
         Some(spread) => Ok(spread),
-        None => Err(commands(alloc)?.error(ErrorKind::ValueValidation, "no workers")?),
+        None => Err(mistake(alloc, ErrorKind::ValueValidation, "no workers")?),
     }
+}
+
+/// A mistake in the words.
+fn mistake(alloc: Global, kind: ErrorKind, text: &'static str) -> Result<Error, AllocError> {
+    commands(alloc)?.error(kind, text)
 }
