@@ -2,7 +2,7 @@
 # Runs the built program `afx` once for each exit status from 0 to 4, and compares its status, its standard output and its
 # standard error with what docs/FORMATS.md says of them: no clause says with which status `main` ends, and the gate runs
 # no program but those that end with 0. (No words are known that come to 5.) And once for what is explained of an input on
-# the standard input, which rows have not, and four times for step trees that are deep or wide, with little of a stack. `./afx`
+# the standard input, which rows have not, and five times for step trees that are deep or wide, with little of a stack. `./afx`
 # proves and builds first where a source is newer. A line tells of each run that went wrong; the last line is `N passed, M
 # failed`, and the status is 1 where one did. No part of the gate.
 #     sh tests/program.sh      AFX='./afx' names another program
@@ -54,20 +54,22 @@ To mend it: give one number for each element; an array that is left out begins w
 {"q": [1, 2]}
 END
 
-# The leftmost leaf always, the owner always, to and fro between the first and the last of 20,000 tasks, and 20,000 tasks
-# in one finish, with little of a stack.
+# The leftmost leaf always, the owner always, to and fro between the first and the last of 20,000 tasks, 20,000 tasks in
+# one finish, and finishes inside one another, with little of a stack.
 echo 'main { while true { async { skip; } } }' >"$room/deep.afx"
 yes 0 | head -100000 >"$room/zeros"
 awk 'BEGIN { for (i = 0; i < 100000; i++) print int(i / 2) }' >"$room/owner"
 echo 'main { var k = 0; finish { while k < 20000 { async { skip; } k = k + 1; } } print k; }' >"$room/wide.afx"
 printf 'ulimit -s 512\nexec "$@"\n' >"$room/small"
 echo 'main { while true { async { while true { skip; } } } }' >"$room/ends.afx"
+echo 'proc down() { finish { down(); } } main { down(); }' >"$room/nest.afx"
 awk 'BEGIN { for (i = 0; i < 40000; i++) print int(i / 2); for (i = 0; i < 30000; i++) { print 0; print 20000 } }' >"$room/fro"
 afx="sh $room/small $afx"
 expect 3 'open 1' '' explore "$room/deep.afx" --choices-from "$room/zeros"
 expect 3 'open 50001' '' explore "$room/deep.afx" --choices-from "$room/owner"
 expect 3 'open 20002' '' explore "$room/ends.afx" --choices-from "$room/fro"
 expect 0 '20000' '' explore "$room/wide.afx" --random 1
+expect 3 'open 1' '' explore "$room/nest.afx" --choices-from "$room/zeros"
 
 echo "$passed passed, $failed failed"
 [ "$failed" -eq 0 ]
