@@ -2,9 +2,9 @@
 # Runs the built program `afx` once for each exit status from 0 to 4, and compares its status, its standard output and its
 # standard error with what docs/FORMATS.md says of them: no clause says with which status `main` ends, and the gate runs
 # no program but those that end with 0. (No words are known that come to 5.) And once for what is explained of an input on
-# the standard input, which rows have not, and five times for step trees that are deep or wide, with little of a stack. `./afx`
-# proves and builds first where a source is newer. A line tells of each run that went wrong; the last line is `N passed, M
-# failed`, and the status is 1 where one did. No part of the gate.
+# the standard input, which rows have not, and five times for step trees that are deep or wide, with little of a stack.
+# `./afx` proves and builds first where a source is newer. A line tells of each run that went wrong; the last line is
+# `N passed, M failed`, and the status is 1 where one did. No part of the gate.
 #     sh tests/program.sh      AFX='./afx' names another program
 set -eu
 cd "$(dirname "$0")/.."
