@@ -145,7 +145,7 @@ impl<'p> Tree<'p> {
     }
 
     /// How many leaves it keeps, where the body of a finish counts as one.
-    fn size(&self) -> u32 {
+    pub fn size(&self) -> u32 {
         match self {
             Tree::Single(_) => 1,
             Tree::AndThen { .. } => 1,
@@ -437,8 +437,8 @@ impl<'p> Round<'p> {
     }
 }
 
-/// Two trees beside each other, of which one with more than three times the other's leaves gives some to it: so no way
-/// down is longer than a few times the logarithm of how many leaves there are, if they come one by one.
+/// Two trees beside each other, of which one with more than three times the other's leaves gives some to
+/// it: so a way down is as long as a logarithm of how many leaves there are, where they come one by one.
 fn balanced<'p>(
     alloc: Global,
     left: Box<Tree<'p>>,

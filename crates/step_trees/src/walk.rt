@@ -11,8 +11,7 @@ use crate::leaf::Leaf;
 use crate::tree::{Round, Tree};
 use std::alloc::{AllocError, Global};
 
-/// All tasks of one finish, or of the run, within the whole tree: those among which the last step was. They aren't all
-/// done, unless they are the whole.
+/// A tree within another, where the last step was. It isn't done, unless it is the whole.
 #[derive(Drop)]
 pub struct Place<'p> {
     pub round: Round<'p>,
@@ -67,8 +66,8 @@ fn raised<'p>(
     }
 }
 
-/// Goes up to all tasks of the finish in which a step was, and further up while all leaves are done, so that
-/// what waits for their end goes on.
+/// Goes up while all leaves are done, so that what waits for their end goes on; and behind a spawn to all
+/// tasks of its finish, so that they stay balanced.
 pub fn settled<'p>(alloc: Global, round: Round<'p>, tree: Tree<'p>) -> Result<Place<'p>, AllocError>
     requires round { IsRound round }
     requires tree { IsCounted tree }
@@ -76,10 +75,11 @@ pub fn settled<'p>(alloc: Global, round: Round<'p>, tree: Tree<'p>) -> Result<Pl
         (inside round.entry.around.items (tree_of tree.entry))) }
     ensures place { IfOk result IsPlace }
 {
+    let spawned = tree.size() > 1;
     let mut round = round;
     let mut tree = tree;
     'up: loop {
-        if round.waits() && !tree.is_done() {
+        if !tree.is_done() && (!spawned || round.waits()) {
             return placed(round, tree);
         }
         match round.pop() {
