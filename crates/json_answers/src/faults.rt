@@ -21,14 +21,13 @@ pub(crate) fn fault_value(
     ensures { IfOk result (λ v. view v ≡ fault_json places.now (fault_of fault.now)) }
 {
     let place = place_at(places, fault.label);
-    let path = format!(in alloc; "{}", fault.path)?;
     json!(in alloc; {
         "column": column_in(place),
         "kind": code_of(&fault.kind),
         "label": fault.label,
         "line": line_in(place),
         "number": number_of(&fault.kind),
-        "path": path,
+        "path": format!(in alloc; "{}", fault.path)?,
     })
 }
 

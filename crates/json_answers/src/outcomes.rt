@@ -53,19 +53,13 @@ fn outcome_value(
             arrays,
             lines,
             faults,
-        } => {
-            let arrays = arrays_value(alloc, declared, arrays)?;
-            let lines = lines_value(alloc, lines)?;
-            let status = status_of(faults);
-            let faults = faults_value(alloc, places, faults)?;
-            json!(in alloc; {
-                "arrays": arrays,
-                "faults": faults,
-                "lines": lines,
-                "status": status,
-                "stopped": false,
-            })
-        }
+        } => json!(in alloc; {
+            "arrays": arrays_value(alloc, declared, arrays)?,
+            "faults": faults_value(alloc, places, faults)?,
+            "lines": lines_value(alloc, lines)?,
+            "status": status_of(faults),
+            "stopped": false,
+        }),
     }
 }
 

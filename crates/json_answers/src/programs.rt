@@ -55,8 +55,7 @@ pub fn pairs_object(alloc: Global, pairs: PairList<'_>) -> Result<String, AllocE
 fn pairs_value(alloc: Global, pairs: PairList<'_>) -> Result<Value, AllocError>
     ensures { IfOk result (λ v. view v ≡ pairs_json (pairs_left pairs.entry)) }
 {
-    let list = list_value(alloc, pairs)?;
-    json!(in alloc; {"pairs": list, "status": 0u8})
+    json!(in alloc; {"pairs": list_value(alloc, pairs)?, "status": 0u8})
 }
 
 /// `[[3,4],[3,6]]`

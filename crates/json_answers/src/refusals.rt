@@ -42,7 +42,6 @@ fn refusal_value(
     ensures { IfOk result (λ v. view v ≡ refusal_json file.now places.now failure.now) }
 {
     let place = place_of(failure, places);
-    let message = message_of(alloc, failure)?;
     json!(in alloc; {
         "array": text_or_null(alloc, array_of(failure))?,
         "code": text_or_null(alloc, code_of(failure))?,
@@ -50,7 +49,7 @@ fn refusal_value(
         "file": file,
         "label": label_of(failure),
         "line": line_in(place),
-        "message": message,
+        "message": message_of(alloc, failure)?,
         "status": failure.status(),
     })
 }

@@ -79,14 +79,11 @@ fn accesses_value(alloc: Global, found: Found<'_>) -> Result<Value, AllocError>
 {
     let Found { places, race, .. } = found;
     let procedure = procedure_in(found.code, race.procedure);
-    let first = access_value(alloc, places, procedure, race.first)?;
-    let second = access_value(alloc, places, procedure, race.second)?;
-    let witness = witness_value(alloc, found)?;
     json!(in alloc; {
-        "first": first,
+        "first": access_value(alloc, places, procedure, race.first)?,
         "procedure": procedure.name.as_str(),
-        "second": second,
-        "witness": witness,
+        "second": access_value(alloc, places, procedure, race.second)?,
+        "witness": witness_value(alloc, found)?,
     })
 }
 

@@ -32,29 +32,12 @@ pub(crate) fn witness_value(alloc: Global, found: Found<'_>) -> Result<Value, Al
         witness,
     } = found;
     let (to_first, to_second) = ways_of(witness);
-    let first = way_value(
-        alloc,
-        places,
-        code,
-        race.procedure,
-        race.first.write,
-        to_first,
-    )?;
-    let second = way_value(
-        alloc,
-        places,
-        code,
-        race.procedure,
-        race.second.write,
-        to_second,
-    )?;
-    let sharing = sharing_value(alloc, procedure_in(code, race.procedure), witness.sharing)?;
     json!(in alloc; {
-        "first": first,
+        "first": way_value(alloc, places, code, race.procedure, race.first.write, to_first)?,
         "meeting": word_of_meeting(witness.meeting),
         "pending": pending(witness.first_pends),
-        "second": second,
-        "sharing": sharing,
+        "second": way_value(alloc, places, code, race.procedure, race.second.write, to_second)?,
+        "sharing": sharing_value(alloc, procedure_in(code, race.procedure), witness.sharing)?,
     })
 }
 
