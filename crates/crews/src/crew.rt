@@ -30,9 +30,11 @@ pub trait Crew: Sync {
 /// Why a crew has no reports, of `work_together(rt, alloc, &crew, own, kits)` with one kit.
 #[derive(Clone, Copy, PartialEq, Eq, Debug)]
 pub enum Refusal {
-    /// There was no memory for the thread's handle, or for a report: so with one kit, and an allocator that has nothing left.
+    /// There was no memory for the thread's handle, or for a report: so with one kit, and an allocator
+    /// that has nothing left.
     OutOfMemory,
-    /// The thread of the kit couldn't be started: so with one kit, where the system gives no further thread.
+    /// The thread of the kit couldn't be started: so with one kit, where the system gives no further
+    /// thread.
     NoThread,
 }
 

@@ -1,3 +1,4 @@
-//! Facts of truths, numbers, lists and results that the proofs of several crates use, and the library has not.
+//! Facts of truths, numbers, lists and results that the proofs of several crates use, and the library
+//! has not.
 
 #![tactic(auto)]

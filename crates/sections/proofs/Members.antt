@@ -1,7 +1,7 @@
 -- Tests of lists, and what stands in them.
 use Rattle.std.proofs.Common.{◌≡◌, inl, inr, List, [], ◌∷◌}
 use Rattle.std.proofs.lemmas.Bool.{or_cases, or_left, or_right, false≢true}
-use Rattle.std.specs.Prelude.{Bool, true, false}
+use Rattle.std.specs.Prelude.{Bool, true}
 use Rattle.std.specs.List.{list_any}
 use Rattle.sections.specs.Member.{Member, first, next}
 

@@ -112,7 +112,8 @@ pub record IsRead {Tree : Type 0} (spell : Spells Tree) (level : ℕ) (tokens : 
   pub whole : Leaves spell level tokens left
 
 -- what was read of these tokens, with those that are left, is this of a tree
-abbrev pub ReadsAs : {T Tree : Type 0} → (T → Tree) → Spells Tree → ℕ → List Token → T × Bor (List Spanned) → Type 0
+abbrev pub ReadsAs : {T Tree : Type 0} → (T → Tree) → Spells Tree → ℕ → List Token
+    → T × Bor (List Spanned) → Type 0
 ReadsAs tree spell level tokens read = IsRead spell level tokens (tree read.0) (plain read.1.now)
 
 -- tokens are refused only where they spell no tree, memory aside
@@ -133,7 +134,8 @@ pub record IsReadClosed {Tree : Type 0} (spell : Spells Tree) (tokens : List Tok
   pub spelled : tokens ≡ spell tree left
   pub whole : LeavesClosed spell tokens left
 
-abbrev pub ReadsClosed : {T Tree : Type 0} → (T → Tree) → Spells Tree → List Token → T × Bor (List Spanned) → Type 0
+abbrev pub ReadsClosed : {T Tree : Type 0} → (T → Tree) → Spells Tree → List Token
+    → T × Bor (List Spanned) → Type 0
 ReadsClosed tree spell tokens read = IsReadClosed spell tokens (tree read.0) (plain read.1.now)
 
 abbrev pub RefusesClosed : {Tree : Type 0} → Spells Tree → List Token → Stuck → Type 0
