@@ -106,8 +106,8 @@ pub record Shows (arrays : Bool) (o : Outcome) (code : Program) (told : List ℕ
   pub status_is : status ≡ status_of o
 
 -- what is told of the text's program and of the input that was given
-pub record TellsOfRun (s : Settings) (held : Held) (text : List ℕ) (Tells : Program → (input : List (List ℤ)) → Type 0)
-    : Type 0 where
+pub record TellsOfRun (s : Settings) (held : Held) (text : List ℕ)
+    (Tells : Program → (input : List (List ℤ)) → Type 0) : Type 0 where
   pub code : Program
   pub input : List (List ℤ)
   pub given : HasInput s held text code input
@@ -157,7 +157,8 @@ pub data TellsCost (code : Program) (o : Outcome) (cost told : List ℕ) (status
 abbrev pub AnswersCost : Shares → Settings → Held → (text told : List ℕ) → (status : ℕ) → Type 0
 AnswersCost shares s held text told status =
     TellsOfRun s held text
-    (λ code input. TellsCost code (outcome code input s.budget) (lines_in shares code input s.budget) told status)
+    (λ code input. TellsCost code (outcome code input s.budget)
+    (lines_in shares code input s.budget) told status)
 
 -- `run`: the text's program has no race; the same outcome
 pub record AnswersRun (s : Settings) (held : Held) (text told : List ℕ) (status : ℕ) : Type 0 where
@@ -165,8 +166,8 @@ pub record AnswersRun (s : Settings) (held : Held) (text told : List ℕ) (statu
   pub shows : Shows s.arrays (outcome run.code run.input s.budget) run.code told status
 
 -- the text's program has no race, and this is told of it
-pub record TellsAccepted (text : List ℕ) (text_of : Program → tree.Program → List ℕ) (told : List ℕ) (status : ℕ)
-    : Type 0 where
+pub record TellsAccepted (text : List ℕ) (text_of : Program → tree.Program → List ℕ)
+    (told : List ℕ) (status : ℕ) : Type 0 where
   pub code : Program
   pub is_code : IsCodeOf text code
   pub accepted : IsAccepted code
@@ -184,7 +185,8 @@ command_about Counts = Check
 command_about Lines = Listing
 
 -- the pairs of labels of the text's program that may run together, ascending, as this text tells them
-pub record TellsPairs (text : List ℕ) (text_of : List (ℕ × ℕ) → List ℕ) (told : List ℕ) (status : ℕ) : Type 0 where
+pub record TellsPairs (text : List ℕ) (text_of : List (ℕ × ℕ) → List ℕ) (told : List ℕ) (status : ℕ)
+    : Type 0 where
   pub code : Program
   pub is_code : IsCodeOf text code
   pub pairs : List (ℕ × ℕ)
@@ -381,7 +383,8 @@ pub record NeedsLayout (text : List ℕ) : Type 0 where
   pub not_laid : ¬ IsLaidOut (chars text) (chars text)
 
 -- the text's program has no race, and is run as tasks on its input, without an outcome that is told; and why
-pub record FailsAsTasks (c : Command) (s : Settings) (held : Held) (text : List ℕ) (Why : Type 0) : Type 0 where
+pub record FailsAsTasks (c : Command) (s : Settings) (held : Held) (text : List ℕ) (Why : Type 0)
+    : Type 0 where
   pub as_tasks : c ≡ Run
   pub run : IsExplored s held text
   pub why : Why

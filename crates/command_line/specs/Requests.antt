@@ -261,7 +261,8 @@ choosing_words_of t =
 -- those of a run that is measured, in this order: `--input FILE --steps N --nest N`, and others behind them
 abbrev pub measured_words_behind : Texts → (behind : List (List ℕ)) → List (List ℕ)
 measured_words_behind t behind =
-    valued (codes "--input") t.input (valued (codes "--steps") t.steps (valued (codes "--nest") t.nest behind))
+    valued (codes "--input") t.input
+    (valued (codes "--steps") t.steps (valued (codes "--nest") t.nest behind))
 
 abbrev pub measured_words_of : Texts → List (List ℕ)
 measured_words_of t = measured_words_behind t []

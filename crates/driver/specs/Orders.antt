@@ -20,7 +20,8 @@ use Rattle.trials.specs.Folders.{Folders}
 abbrev pub DoesWith : Doing → Asked → (text : List ℕ) → (held later : Held) → (old new : Option (List ℕ))
     → Result ℕ Failure → Type 0
 DoesWith Answering a text held later old new r = Performs a.action a.file a.settings text held later old new r
-DoesWith (Describing x) a text held later old new r = TellsObject x a.file a.settings text held later old new r
+DoesWith (Describing x) a text held later old new r =
+    TellsObject x a.file a.settings text held later old new r
 DoesWith Timing a text held later old new r = TimesRuns a.settings text held later old new r
 
 -- the same of a request and the text of its file
@@ -36,20 +37,21 @@ TellsUnread Answering file old new f = Keeps old new
 TellsUnread Timing file old new f = Keeps old new
 
 -- the failure says why a file has no text of a program, and so it was told
-pub record HasNone (d : Doing) (held : Held) (file : List ℕ) (old new : Option (List ℕ)) (f : Failure) : Type 0 where
+pub record HasNone (d : Doing) (held : Held) (file : List ℕ) (old new : Option (List ℕ))
+    (f : Failure) : Type 0 where
   pub why : TellsNoProgram held file f
   pub told : TellsUnread d file old new f
 
 -- the file has a text of at most 1,048,576 bytes, and this was done with it; or it has none
-pub data ReadsAnd (d : Doing) (a : Asked) (held later : Held) (old new : Option (List ℕ)) (r : Result ℕ Failure)
-    : Type 0 where
+pub data ReadsAnd (d : Doing) (a : Asked) (held later : Held) (old new : Option (List ℕ))
+    (r : Result ℕ Failure) : Type 0 where
   on_text : (text : List ℕ) → HasText held a.file text → length text ≤ 1048576
       → DoesWith d a text held later old new r → ReadsAnd d a held later old new r
   without_text : IsErrAnd r (HasNone d held a.file old new) → later ≡ held → ReadsAnd d a held later old new r
 
 -- this was done, with a result that was reported
-pub record ActsBy (Does : Result ℕ Failure → Type 0) (explain : Bool) (err_old err_new : Option (List ℕ)) (status : ℕ)
-    : Type 0 where
+pub record ActsBy (Does : Result ℕ Failure → Type 0) (explain : Bool)
+    (err_old err_new : Option (List ℕ)) (status : ℕ) : Type 0 where
   pub result : Result ℕ Failure
   pub does : Does result
   pub reports : Reports explain err_old err_new result status
@@ -63,7 +65,8 @@ ActsWith d a held later old new err_old err_new status =
 -- what is asked was done, and reported
 abbrev pub Acts : (a : Asked) → (held later : Held) → (old new : Option (List ℕ))
     → (err_old err_new : Option (List ℕ)) → (status : ℕ) → Type 0
-Acts a held later old new err_old err_new status = ActsWith Answering a held later old new err_old err_new status
+Acts a held later old new err_old err_new status =
+    ActsWith Answering a held later old new err_old err_new status
 
 -- what is asked was told as one object, and reported
 abbrev pub TellsAs : (x : Subject) → (a : Asked) → (held later : Held) → (old new : Option (List ℕ))
@@ -74,7 +77,8 @@ TellsAs x a held later old new err_old err_new status =
 -- the runs of a program were timed, and that reported
 abbrev pub TimesAs : (a : Asked) → (held later : Held) → (old new : Option (List ℕ))
     → (err_old err_new : Option (List ℕ)) → (status : ℕ) → Type 0
-TimesAs a held later old new err_old err_new status = ActsWith Timing a held later old new err_old err_new status
+TimesAs a held later old new err_old err_new status =
+    ActsWith Timing a held later old new err_old err_new status
 
 -- the programs of a folder were tested, and that reported
 abbrev pub TestsAs : (folder : List ℕ) → Folders → (held later : Held) → (old new : Option (List ℕ))
@@ -85,9 +89,11 @@ TestsAs folder named held later old new err_old err_new status =
 -- an order was carried out
 abbrev pub ActsOn : Order → Folders → (held later : Held) → (old new : Option (List ℕ))
     → (err_old err_new : Option (List ℕ)) → (status : ℕ) → Type 0
-ActsOn (AsText a) named held later old new err_old err_new status = Acts a held later old new err_old err_new status
+ActsOn (AsText a) named held later old new err_old err_new status =
+    Acts a held later old new err_old err_new status
 ActsOn (AsObject x a) named held later old new err_old err_new status =
     TellsAs x a held later old new err_old err_new status
-ActsOn (Times a) named held later old new err_old err_new status = TimesAs a held later old new err_old err_new status
+ActsOn (Times a) named held later old new err_old err_new status =
+    TimesAs a held later old new err_old err_new status
 ActsOn (Tests folder) named held later old new err_old err_new status =
     TestsAs folder named held later old new err_old err_new status

@@ -10,8 +10,8 @@ use Rattle.trials.specs.Times.{AnswersTimes}
 use Rattle.trials.specs.Trials.{AnswersTest, ExplainsTest}
 
 -- the runs of a text's program were timed, or why not is why it isn't run; files hold what they held
-pub record TimesRuns (s : Settings) (text : List ℕ) (held later : Held) (old new : Option (List ℕ)) (r : Result ℕ Failure)
-    : Type 0 where
+pub record TimesRuns (s : Settings) (text : List ℕ) (held later : Held)
+    (old new : Option (List ℕ)) (r : Result ℕ Failure) : Type 0 where
   pub done : Done (AnswersTimes s held text) (Explains Run s held text) old new r
   pub keeps : later ≡ held
 

@@ -78,8 +78,8 @@ fn object_of<R: Threads + Wait + Sync, F: FileSource, W: Watch>(
         (F.held files.old) question.entry.text.now) }
     ensures leaves { Leaves (command_of subject) (settings_of question.entry.settings)
         question.entry.text.now (F.held files.old) (F.held files.new) (status_in result) }
-    ensures watched { Watches W.Told (is_watched (command_of subject) (settings_of question.entry.settings)) result
-        watch.old watch.new }
+    ensures watched { Watches W.Told (is_watched (command_of subject)
+        (settings_of question.entry.settings)) result watch.old watch.new }
 {
     match subject {
         Subject::Run => run_told(rt, alloc, question, files),

@@ -38,7 +38,8 @@ pub fn perform<R: Threads + Wait + Sync, F: FileSource, O: Write, W: Watch>(
 ) -> Result<u8, Failure>
     ensures done { DoesWithLoaded Answering loaded.entry (F.held files.old) (F.held files.new)
         (O.contents out.old) (O.contents out.new) result }
-    ensures watched { WatchesDoing W.Told Answering (asked_of loaded.entry.request) result watch.old watch.new }
+    ensures watched { WatchesDoing W.Told Answering (asked_of loaded.entry.request)
+        result watch.old watch.new }
 {
     let Loaded {
         alloc,

@@ -58,8 +58,8 @@ pub fn read_and_do<R: Threads + Wait + Sync, F: FileSource, O: Write, T: Termina
         (F.held files.old) (F.held files.new)
         (O.contents out.old) (O.contents out.new) (in_short result) }
     ensures said { IsSaid ordered.entry.request.telling.explain result }
-    ensures watched { WatchesDoing T.Told ordered.entry.doing (asked_of ordered.entry.request) (in_short result)
-        terminal.old terminal.new }
+    ensures watched { WatchesDoing T.Told ordered.entry.doing (asked_of ordered.entry.request)
+        (in_short result) terminal.old terminal.new }
 {
     let Ordered { doing, request } = ordered;
     let source = match source_of(alloc, files, request, terminal) {
@@ -108,7 +108,8 @@ fn do_with<R: Threads + Wait + Sync, F: FileSource, O: Write, T: Terminal>(
 ) -> Result<u8, Failure>
     ensures done { DoesWithLoaded doing loaded.entry (F.held files.old) (F.held files.new)
         (O.contents out.old) (O.contents out.new) result }
-    ensures watched { WatchesDoing T.Told doing (asked_of loaded.entry.request) result terminal.old terminal.new }
+    ensures watched { WatchesDoing T.Told doing (asked_of loaded.entry.request)
+        result terminal.old terminal.new }
 {
     match doing {
         Doing::Answering => {

@@ -114,7 +114,8 @@ PutsTask old new path to =
 -- the same of the scope of a name
 abbrev pub PutsScope : (old new : rWorld) → rScopeId → rScope → Type 0
 PutsScope old new id to =
-    (q : rScopeId) → get is_scope new.scopes q ≡ (if is_scope id q then Some to else get is_scope old.scopes q)
+    (q : rScopeId)
+    → get is_scope new.scopes q ≡ (if is_scope id q then Some to else get is_scope old.scopes q)
 
 -- ---- worlds
 -- each live task has a path that a table can be asked for

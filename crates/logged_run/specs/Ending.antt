@@ -13,4 +13,5 @@ use Rattle.trace.specs.Logs.{Recorded}
 pub record LeadsToOutcome (l : Recorded) (told : Outcome) : Type 0 where
   pub world : World
   pub legal : comes l.world.job l.events ≡ Legal world
-  pub is_told : outcome_of (program_of l.world.job.job) l.world.job.w0 (budget_of l.world.job.job) world ≡ Some told
+  pub is_told : outcome_of (program_of l.world.job.job) l.world.job.w0
+      (budget_of l.world.job.job) world ≡ Some told

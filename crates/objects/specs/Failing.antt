@@ -16,8 +16,8 @@ use Rattle.answers.specs.Answers.{Answer, Began, IsCodeOf}
 use Rattle.objects.specs.Objects.{ArePlaces}
 
 -- a race of a program, and why it is one: a witness of it, than which none has fewer steps
-pub record ShowsRace (file : List ℕ) (places : List Place) (code : Program) (race : ProgramRace) (told : List ℕ)
-    : Type 0 where
+pub record ShowsRace (file : List ℕ) (places : List Place) (code : Program)
+    (race : ProgramRace) (told : List ℕ) : Type 0 where
   pub witness : Witness
   pub is_witness : IsWitness code race witness
   pub shortest : IsShortest code race witness

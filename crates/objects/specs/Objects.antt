@@ -42,7 +42,8 @@ pub record TellsOutcome (declared : List Array) (o : Outcome) (text told : List 
 -- `serial`: the one-thread outcome of the text's program, of the input and under the budget given
 abbrev pub ObjectOfSerial : Settings → Held → (text told : List ℕ) → (status : ℕ) → Type 0
 ObjectOfSerial s held text told status =
-    TellsOfRun s held text (λ code input. TellsOutcome code.arrays (outcome code input s.budget) text told status)
+    TellsOfRun s held text
+    (λ code input. TellsOutcome code.arrays (outcome code input s.budget) text told status)
 
 -- `run`: the text's program has no race; the same outcome
 pub record ObjectOfRun (s : Settings) (held : Held) (text told : List ℕ) (status : ℕ) : Type 0 where
@@ -50,7 +51,8 @@ pub record ObjectOfRun (s : Settings) (held : Held) (text told : List ℕ) (stat
   pub tells : TellsOutcome run.code.arrays (outcome run.code run.input s.budget) text told status
 
 -- what is told of a run that ended without faults is what it cost; of any other its outcome
-pub data TellsNumbers (code : Program) (o : Outcome) (c : Numbers) (text told : List ℕ) (status : ℕ) : Type 0 where
+pub data TellsNumbers (code : Program) (o : Outcome) (c : Numbers) (text told : List ℕ) (status : ℕ)
+    : Type 0 where
   numbers : status_of o ≡ 0 → told ≡ line (cost_json c) → status ≡ 0 → TellsNumbers code o c text told status
   not_ended : status_of o ≢ 0 → TellsOutcome code.arrays o text told status
       → TellsNumbers code o c text told status

@@ -21,8 +21,8 @@ pub enum Reply {
     Said(Error),
     /// A text that was asked for, for the standard output, as by `afx explain Y5`.
     Page(String),
-    /// Lines for the standard error: no page is asked for by these words, as by `afx explain Y99`, or a program stands in a
-    /// command's place, as in `afx a.afx`.
+    /// Lines for the standard error: no page is asked for by these words, as by `afx explain Y99`,
+    /// or a program stands in a command's place, as in `afx a.afx`.
     NoPage(String),
 }
 

@@ -1,5 +1,5 @@
-//! The commands and what may stand behind them: the one table from which words are read, and from which help, completions
-//! and the manual page are.
+//! The commands and what may stand behind them: the one table from which words are read, and from
+//! which help, completions and the manual page are.
 
 use clap::{Arg, ArgAction, Command, value_parser};
 use pages::manual::Closing;

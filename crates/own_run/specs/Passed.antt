@@ -50,4 +50,5 @@ pub record IsPassed (c : ProgramCode) (number : ℕ) (rest : Bor (List Stmt)) (o
       → new.frames.items ≡ below ++ rRest rest ∷ []
   pub state : (b : Codes) (f : Flat) → code_at c number f → IsCodeOf (program old.plan.program.now) b f
       → state_of new.thread
-      ≡ one (program old.plan.program.now) old.plan.budget.steps old.thread.nest (Block b) (state_of old.thread)
+      ≡ one (program old.plan.program.now) old.plan.budget.steps old.thread.nest (Block b)
+      (state_of old.thread)

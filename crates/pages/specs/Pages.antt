@@ -12,7 +12,8 @@ use Rattle.pages.specs.declared.page.Example.TheVariants.{Nothing, Program, With
 
 -- a page has this word, as its name or as one of the others
 abbrev pub answers_to : Page → (word : List ℕ) → Bool
-answers_to page word = bytes_eq page.name.now word || list_any (λ other. bytes_eq other.now word) page.others.now
+answers_to page word =
+    bytes_eq page.name.now word || list_any (λ other. bytes_eq other.now word) page.others.now
 
 -- `NAME: ABOUT`
 abbrev pub head_text : Page → List ℕ

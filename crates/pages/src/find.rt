@@ -9,8 +9,8 @@ use crate::page::{Page, push_all};
 use crate::{faults, files, idioms, inputs, races, rules, runs, texts, traces, words};
 use std::alloc::{AllocError, Global};
 
-/// All pages, topic by topic. (Each topic by a call: what constants in one body cost the prover goes up with the
-/// square of their length.)
+/// All pages, topic by topic. (Each topic by a call: what constants in one body cost the prover
+/// goes up with the square of their length.)
 pub fn tables() -> [&'static [Page]; 10] {
     [
         texts::pages(),

@@ -60,7 +60,8 @@ told_members file place label message accesses =
 
 abbrev pub race_members : (file : List ℕ) → List Place → Program → Race → Witness → List (List ℕ × Data)
 race_members file places p r w =
-    told_members file (place_at places r.first.label) r.first.label (race_message p r) (accesses_json places p r w)
+    told_members file (place_at places r.first.label) r.first.label (race_message p r)
+    (accesses_json places p r w)
 
 abbrev pub race_json : (file : List ℕ) → List Place → Program → Race → Witness → Data
 race_json file places p r w = object_of (race_members file places p r w)

@@ -232,12 +232,16 @@ read_cost file words =
 abbrev pub read_behind : (command file : List ℕ) → (behind : List (List ℕ)) → Option Line
 read_behind command file behind =
     if bytes_eq command (codes "run") then read_optioned (Answer Run) file (read_texts behind) else
-    (if bytes_eq command (codes "serial") then read_optioned (Answer Serial) file (read_serial_texts behind) else
-    (if bytes_eq command (codes "check") then read_flaggable (Answer Check) (codes "--list") (Answer Listing) file behind else
-    (if bytes_eq command (codes "list") then read_flaggable (Answer Labels) (codes "--lines") (Answer Places) file behind else
+    (if bytes_eq command (codes "serial")
+    then read_optioned (Answer Serial) file (read_serial_texts behind) else
+    (if bytes_eq command (codes "check")
+    then read_flaggable (Answer Check) (codes "--list") (Answer Listing) file behind else
+    (if bytes_eq command (codes "list")
+    then read_flaggable (Answer Labels) (codes "--lines") (Answer Places) file behind else
     (if bytes_eq command (codes "mhp") then read_alone (Answer Pairs) file behind else
     (if bytes_eq command (codes "fmt") then read_format file behind else
-    (if bytes_eq command (codes "explore") then read_optioned (Answer Explore) file (read_choosing behind) else
+    (if bytes_eq command (codes "explore")
+    then read_optioned (Answer Explore) file (read_choosing behind) else
     (if bytes_eq command (codes "view") then read_view file behind else
     (if bytes_eq command (codes "cost") then read_cost file behind else None))))))))
 

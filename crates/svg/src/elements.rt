@@ -133,7 +133,8 @@ pub fn push_words(
     text.push_str("</text>\n")
 }
 
-/// An element of a class without its end: `<line class="steal" x1="14.5" y1="12.6"` of two lengths in tenths of a pixel.
+/// An element of a class without its end: `<line class="steal" x1="14.5" y1="12.6"`
+/// of two lengths in tenths of a pixel.
 fn push_open(
     text: &mut String,
     element: &str,

@@ -47,7 +47,8 @@ pub record IsFinish (es : List Event) (k : ℕ) (f : Finish) : Type 0 where
 
 -- of those behind the root's, each is opened by an event of its own, the earlier first
 abbrev pub AreOpenedInOrder : List Finish → Type 0
-AreOpenedInOrder fs = (i j : ℕ) (d : Finish) → 0 < i → i < j → j < length fs → (slice_index_or fs i d).first < (slice_index_or fs j d).first
+AreOpenedInOrder fs = (i j : ℕ) (d : Finish) → 0 < i → i < j → j < length fs
+    → (slice_index_or fs i d).first < (slice_index_or fs j d).first
 
 -- all scopes of a list of events: the root's, and one for each that was opened
 pub record AreFinishes (es : List Event) (r : Finishes) : Type 0 where

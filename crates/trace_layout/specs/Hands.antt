@@ -32,7 +32,8 @@ pub record IsOfWorker (ss : List Spell) (worker k : ℕ) : Type 0 where
   pub same : (d : Spell) → (slice_index_or ss k d).worker ≡ worker
 
 -- one that goes on is in its worker's hand, where each worker's latest is named
-pub record AreSpellsSoFar (es : List Event) (n last : ℕ) (workers : List (Option ℕ)) (ss : List Spell) : Type 0 where
+pub record AreSpellsSoFar (es : List Event) (n last : ℕ) (workers : List (Option ℕ))
+    (ss : List Spell) : Type 0 where
   pub each : All (IsSpellSoFar es n last) ss
   pub order : AreInOrder ss
   pub apart : AreApart ss

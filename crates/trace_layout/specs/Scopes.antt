@@ -23,10 +23,13 @@ pub record AreScopes (es : List Event) (n : ℕ) (s : Scopes) : Type 0 where
   pub order : AreOpenedInOrder s.all.items
   pub count : length s.all.items ≡ count_by is_opening (take n es) + 1
   -- how many each task has opened
-  pub opened : (path : Path) → unwrap_or (get is_path s.opened path) 0 ≡ count_by (opens path.turns.items) (take n es)
+  pub opened : (path : Path) → unwrap_or (get is_path s.opened path) 0
+      ≡ count_by (opens path.turns.items) (take n es)
 
 -- a scope of this name is there from an event on
 pub record IsAdded (number : ℕ) (name : ScopeId) (old new : Scopes) : Type 0 where
-  pub all : new.all.items ≡ old.all.items ++ record { name = name; first = number; last = old.last; is_passed = false; parked = None } ∷ []
+  pub all : new.all.items ≡ old.all.items
+      ++ record { name = name; first = number; last = old.last; is_passed = false; parked = None }
+      ∷ []
   pub last : new.last ≡ old.last
   pub opened : new.opened ≡ old.opened

@@ -144,7 +144,8 @@ impl Hands {
     /// The number of a task's spell, where that goes on.
     fn going(&self, path: &Path) -> Option<usize>
         ensures none { IfNone result ((k : ℕ) (d : AnySpell) → get is_path self.now.tasks path.now ≡ Some k
-            → k < length self.now.spells.items → (slice_index_or self.now.spells.items k d).ending ≡ Ending.Going → ⊥) }
+            → k < length self.now.spells.items
+            → (slice_index_or self.now.spells.items k d).ending ≡ Ending.Going → ⊥) }
         ensures found { IfSome result (λ k. get is_path self.now.tasks path.now ≡ Some k) }
         ensures there { IfSome result (λ k. k < length self.now.spells.items) }
         ensures going { IfSome result (λ k. (d : AnySpell)

@@ -21,6 +21,7 @@ AreGiven (Some known) given = given ≢ Err NoMemoryInFile → given ≡ known
 
 -- the failure says why a folder of this name gives no names, if there is memory to say so
 abbrev pub TellsNoFolder : Folders → (name : List ℕ) → Failure → Type 0
-TellsNoFolder folders name (CannotRead told) = (string_bytes told ≡ name) × AreGiven (folders name) (Err Unread)
+TellsNoFolder folders name (CannotRead told) =
+    (string_bytes told ≡ name) × AreGiven (folders name) (Err Unread)
 TellsNoFolder folders name NoMemory = Unit {0}
 TellsNoFolder folders name _ = ⊥

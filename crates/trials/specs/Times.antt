@@ -31,7 +31,8 @@ pub record AreAllOfFive (t : Timed) : Type 0 where
 -- the line of a run: `serial: least 803 us, median 820 us`
 abbrev pub times_line : (run : List ℕ) → Times → List ℕ
 times_line run t =
-    run ++ (codes ": least " ++ (decimal t.least ++ (codes " us, median " ++ (decimal t.median ++ codes " us\n"))))
+    run ++ (codes ": least " ++ (decimal t.least ++ (codes " us, median "
+    ++ (decimal t.median ++ codes " us\n"))))
 
 -- how many tasks there were, and how many places are copied for them
 abbrev pub counts : Numbers → List ℕ

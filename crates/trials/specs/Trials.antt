@@ -116,7 +116,8 @@ HasLine held t line = MatchOption line (IsCompared held t true) (λ l. IsLine he
 -- ---- all of them
 
 -- of these programs of a folder so many passed, and so many failed, of which these lines tell
-pub data AreTested (held : Held) (f : Folder) : (stems : List (List ℕ)) → (lines : List ℕ) → (passed failed : ℕ) → Type 0 where
+pub data AreTested (held : Held) (f : Folder)
+    : (stems : List (List ℕ)) → (lines : List ℕ) → (passed failed : ℕ) → Type 0 where
   none : AreTested held f [] [] 0 0
   pass : (ss : List (List ℕ)) (s lines : List ℕ) (n m : ℕ) → AreTested held f ss lines n m
       → IsCompared held (record { folder = f; stem = s }) true
@@ -128,7 +129,8 @@ pub data AreTested (held : Held) (f : Folder) : (stems : List (List ℕ)) → (l
 -- one more is counted, which passed
 abbrev pub AddsPassed : (old new : Found) → Type 0
 AddsPassed old new =
-    (string_bytes new.lines ≡ string_bytes old.lines) × (new.passed ≡ old.passed + 1) × (new.failed ≡ old.failed)
+    (string_bytes new.lines ≡ string_bytes old.lines) × (new.passed ≡ old.passed + 1)
+    × (new.failed ≡ old.failed)
 
 -- one more is counted, which failed, and its line stands behind the others
 abbrev pub AddsFailed : (line : String Global) → (old new : Found) → Type 0
@@ -155,7 +157,8 @@ pub record AnswersTest (named : Folders) (held : Held) (name told : List ℕ) (s
   pub lines : List ℕ
   pub passed : ℕ
   pub failed : ℕ
-  pub tested : AreTested held (record { name = name; names = names }) (map string_bytes programs) lines passed failed
+  pub tested : AreTested held (record { name = name; names = names })
+      (map string_bytes programs) lines passed failed
   pub told_is : told ≡ lines ++ closing passed failed
   pub status_is : status ≡ tested_status failed
 

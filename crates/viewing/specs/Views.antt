@@ -96,7 +96,8 @@ TellsTrace CostByLabel h es told = ⊥
 TellsTrace CostByProcedure h es told = ⊥
 
 -- the text told, with its status, answers what is asked of a trace
-pub record AnswersTrace (c : Command) (s : Settings) (held : Held) (text told : List ℕ) (status : ℕ) : Type 0 where
+pub record AnswersTrace (c : Command) (s : Settings) (held : Held) (text told : List ℕ) (status : ℕ)
+    : Type 0 where
   pub header : Header
   pub events : List Event
   pub trace : HasTrace s held text header events
