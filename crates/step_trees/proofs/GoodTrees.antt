@@ -23,10 +23,10 @@ use Rattle.race_checker.specs.Calm.{Calm, IsCalm}
 use Rattle.race_checker.specs.Scope.{Top, Inside, Lists, may_writes}
 use Rattle.race_checker.proofs.Calming.{is_calm}
 use Rattle.race_checker.proofs.Scoping.{arrays_written}
+use Rattle.leaf_steps.proofs.Deeds.{primitive_windows}
 use Rattle.step_trees.proofs.Scopes.{fits_scope}
 use Rattle.step_trees.specs.Still.{Footprint, both, foot, Separate, all, waiting, left_of, still}
 use Rattle.step_trees.proofs.Steps.{Step, step_from}
-use Rattle.step_trees.proofs.Deeds.{primitive_windows}
 use Rattle.step_trees.proofs.Footprints.{Within, within_itself, within_trans, first_within, second_within, both_within, beside_within, nothing_within, separate_within, separate_both, separate_nothing, among, append_all, append_pending, statement_all, rest_all, statement_pending, rest_pending, cons_all, separate_from}
 use Rattle.step_trees.proofs.PlacedStatements.{Among, pending, IsPlaced, Focus, focus, keep_below, end_within, end_placed, same_placed, same_all, same_pending, rest_placed, focused, rest_apart, FitsIn, fits_there, prefixed, alone}
 

@@ -7,13 +7,13 @@ use Rattle.types.specs.Code.{Program}
 use Rattle.types.specs.Contents.{Contents}
 use Rattle.types.specs.Trees.{Leaf, Tree, Single, AndThen, Beside, all_done, ready, closed, and_then}
 use Rattle.types.specs.TreeSteps.{in_tree, step, leaf_at}
+use Rattle.leaf_steps.specs.Translation.{leaf_of}
 use Rattle.step_trees.specs.declared.tree.Around.{Around}
 use Rattle.step_trees.specs.declared.tree.Around.TheVariants.{Behind, Left, Right}
 use Rattle.step_trees.specs.Held.{tree_of, within, inside}
 use Rattle.step_trees.specs.declared.tree.Round.{Round}
 use Rattle.step_trees.specs.declared.walk.Place.{Place}
 use Rattle.step_trees.specs.Places.{ready_left, ready_right, lefts, rights, whole, IsPlace, IsRound}
-use Rattle.step_trees.specs.Translation.{leaf_of}
 use Rattle.step_trees.proofs.Walks.{step-left, step-right, leaf-left, leaf-right}
 
 pub lefts-push : (xs : List Around) (x : Around) → lefts (xs ++ x ∷ []) ≡ lefts xs + ready_left x

@@ -30,16 +30,6 @@ abbrev pub store_or : Contents → Option (Tree × Contents) → Contents
 store_or d None = d
 store_or d (Some x) = x.1
 
-abbrev pub some_of : Tree → Contents → Option (Tree × Contents)
-some_of t a = Some (t, a)
-
-pub same_pair : {t u : Tree} {a b : Contents} → t ≡ u → a ≡ b → some_of t a ≡ some_of u b
-same_pair {u = u} {a = a} e f = ap (λ x. some_of x a) e ∙ ap (some_of u) f
-
-pub step_here : (p : Program) (c : Codes) (k : Leaf) (a : Contents) {l : ℕ} {s : Code} {rest : Codes} → c ≡ Then l s rest
-    → leaf_step p c k a ≡ Some (tree_after p l s (record k { rest = rest }) a, store_after p l s (record k { rest = rest }) a)
-step_here p c k a e = ap (λ c. leaf_step p c k a) e
-
 -- what a step inside a tree comes from
 taken : (f : Tree → Tree) (o : Option (Tree × Contents)) (u : Tree) (b : Contents) → in_tree f o ≡ Some (u, b)
     → (v : Tree) × (o ≡ Some (v, b)) × (u ≡ f v)

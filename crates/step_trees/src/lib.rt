@@ -4,8 +4,5 @@
 
 pub mod explore;
 pub mod laws;
-pub mod leaf;
-pub mod rest;
 pub mod tree;
-pub mod turn;
 pub mod walk;

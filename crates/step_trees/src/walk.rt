@@ -7,8 +7,8 @@ ghost use Rattle.step_trees.specs.Found.{IsFoundAlike};
 ghost use Rattle.step_trees.specs.Held.{tree_of, inside, IsCounted};
 ghost use Rattle.step_trees.specs.Places.{whole, IsPlace, IsRaised, IsRound};
 
-use crate::leaf::Leaf;
 use crate::tree::{Round, Tree};
+use leaf_steps::leaf::Leaf;
 use std::alloc::{AllocError, Global};
 
 /// A tree within another, where the last step was. It isn't done, unless it is the whole.

@@ -4,13 +4,13 @@ use Rattle.types.specs.Trees.{Tree}
 use Rattle.types.specs.TreeSteps.{step, in_tree}
 use Rattle.statement_steps.specs.Lists.{lists_of, contents_of}
 use Rattle.statement_steps.proofs.Ends.{fits_too}
+use Rattle.leaf_steps.specs.Translation.{leaf_of}
+use Rattle.leaf_steps.proofs.Turns.{some_of}
 use Rattle.step_trees.specs.Alike.{AreAlike}
 use Rattle.step_trees.specs.Held.{tree_of, inside}
 use Rattle.step_trees.specs.Places.{whole}
-use Rattle.step_trees.specs.Translation.{leaf_of}
 use Rattle.step_trees.proofs.AlikeTrees.{alike-back, alike-comes, alike-lies}
 use Rattle.step_trees.proofs.LyingTrees.{leaf-lies, step-lies}
-use Rattle.step_trees.proofs.Steps.{some_of}
 use Rattle.step_trees.proofs.explore.step.Goals as goal
 
 pub step-requires-clause-bounds : goal.step-requires-clause-bounds

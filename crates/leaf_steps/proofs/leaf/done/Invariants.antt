@@ -1,0 +1,11 @@
+use Rattle.std.proofs.Common.{◌≡◌, vec_len}
+use Rattle.types.specs.Trees.{done}
+use Rattle.leaf_steps.specs.Translation.{leaf_of}
+use Rattle.leaf_steps.proofs.leaf.done.Given as goal
+
+-- the leaf that is done is the same
+abbrev pub invariant-calls : goal.invariant-calls
+invariant-calls l = done (leaf_of l.leaf) ≡ done (leaf_of l.fn.leaf)
+
+abbrev pub decreases-calls : goal.decreases-calls
+decreases-calls l = vec_len l.leaf.callers

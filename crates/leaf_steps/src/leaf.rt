@@ -1,0 +1,81 @@
+//! A leaf of a step tree.
+
+ghost use Rattle.std.specs.Prelude.{◌≡◌};
+ghost use Rattle.types.specs.Trees.{returned as returned_leaf, done as done_leaf};
+ghost use Rattle.leaf_steps.specs.Translation.{leaf_of};
+
+use crate::rest::Block;
+use std::alloc::Global;
+use types::fault::Fault;
+use types::path::Path;
+use types::value::Environment;
+
+/// What waits for a call to end.
+#[derive(Drop)]
+pub struct Caller<'p> {
+    pub environment: Environment,
+    pub rest: Vec<Block<'p>>,
+}
+
+/// A task as it stands.
+#[derive(Drop)]
+pub struct Leaf<'p> {
+    // What it has left.
+    pub environment: Environment,
+    pub rest: Vec<Block<'p>>,
+    /// The calls that it is in, the innermost last.
+    pub callers: Vec<Caller<'p>>,
+
+    // Its name.
+    pub path: Path,
+    /// How many children it has begun.
+    pub spawned: u32,
+
+    // What it told.
+    pub lines: Vec<Vec<i64>>,
+    pub faults: Vec<Fault>,
+}
+
+/// At the end of a call's body a leaf is back at its caller, behind the call.
+pub fn returned<'p>(leaf: Leaf<'p>) -> Leaf<'p>
+    ensures { leaf_of result ≡ returned_leaf (leaf_of leaf.entry) }
+{
+    let Leaf {
+        mut environment,
+        mut rest,
+        mut callers,
+        path,
+        spawned,
+        lines,
+        faults,
+    } = leaf;
+    'calls: while rest.is_empty() {
+        match callers.pop() {
+            None => break,
+            Some(caller) => {
+                environment = caller.environment;
+                rest = caller.rest;
+            }
+        }
+    }
+    Leaf {
+        environment,
+        rest,
+        callers,
+        path,
+        spawned,
+        lines,
+        faults,
+    }
+}
+
+/// A leaf that drops what it has left.
+pub fn done<'p>(alloc: Global, mut leaf: Leaf<'p>) -> Leaf<'p>
+    ensures { leaf_of result ≡ done_leaf (leaf_of leaf.entry) }
+{
+    'calls: while let Some(caller) = leaf.callers.pop() {
+        leaf.environment = caller.environment;
+    }
+    leaf.rest = Vec::new(alloc);
+    leaf
+}

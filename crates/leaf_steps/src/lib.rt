@@ -1,0 +1,7 @@
+//! One step of a task over a shared store: of a leaf of a step tree.
+
+#![tactic(auto)]
+
+pub mod leaf;
+pub mod rest;
+pub mod turn;

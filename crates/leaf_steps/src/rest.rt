@@ -1,0 +1,63 @@
+//! The statements that a leaf has left: blocks that are done one behind the other, the next one last.
+
+ghost use Rattle.std.specs.Prelude.{◌≡◌, IfOk, OnOk};
+ghost use Rattle.types.specs.Code.{Then};
+ghost use Rattle.types.specs.Translation.{code as code_of, codes as codes_of};
+ghost use Rattle.types.specs.Trees.{append};
+ghost use Rattle.leaf_steps.specs.Translation.{blocks as statements_of, Takes};
+
+use std::alloc::{AllocError, Global};
+use types::code::Stmt;
+
+/// A block that has a statement.
+#[derive(Clone, Copy)]
+pub struct Block<'p> {
+    pub first: &'p Stmt,
+    pub others: &'p [Stmt],
+}
+
+/// A block and nothing behind it.
+pub fn block_alone<'p>(alloc: Global, block: &'p [Stmt]) -> Result<Vec<Block<'p>>, AllocError>
+    ensures { IfOk result (λ rest. statements_of rest.items ≡ codes_of block.entry.now) }
+{
+    let mut rest = Vec::new(alloc);
+    enter(&mut rest, block)?;
+    Ok(rest)
+}
+
+/// A block that is done first.
+pub fn enter<'p>(rest: &mut Vec<Block<'p>>, block: &'p [Stmt]) -> Result<(), AllocError>
+    ensures { OnOk result (statements_of rest.new.items
+        ≡ append (codes_of block.entry.now) (statements_of rest.old.items)) }
+{
+    if let Some((first, others)) = block.split_first() {
+        rest.push(Block { first, others })?;
+    }
+    Ok(())
+}
+
+/// A statement that is done first.
+pub fn begin<'p>(rest: &mut Vec<Block<'p>>, stmt: &'p Stmt) -> Result<(), AllocError>
+    ensures { OnOk result (statements_of rest.new.items
+        ≡ Then stmt.entry.now.label (code_of stmt.entry.now.kind) (statements_of rest.old.items)) }
+{
+    rest.push(Block {
+        first: stmt,
+        others: &[],
+    })?;
+    Ok(())
+}
+
+/// Takes the next statement off.
+pub fn next<'p>(rest: &mut Vec<Block<'p>>) -> Result<Option<&'p Stmt>, AllocError>
+    ensures { IfOk result (λ stmt. Takes stmt (statements_of rest.old.items)
+        (statements_of rest.new.items)) }
+{
+    match rest.pop() {
+        None => Ok(None),
+        Some(Block { first, others }) => {
+            enter(rest, others)?;
+            Ok(Some(first))
+        }
+    }
+}
