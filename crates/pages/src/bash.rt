@@ -46,16 +46,9 @@ const OFFERS: Wording = Wording {
 pub fn script(alloc: Global, program: &Command<'_>) -> Result<String, AllocError> {
     let mut text = String::from_str(alloc, HEAD)?;
     push_first(&mut text, program)?;
-    text.push_str("    case $command in\n")?;
-    for command in program.get_subcommands() {
-        push_command(alloc, &mut text, command)?;
-    }
-    text.push_str("    help) offer=words words=$commands ;;\n    esac\n")?;
-    text.push_str("    case \"$command $before\" in\n")?;
-    for command in program.get_subcommands() {
-        push_values(alloc, &mut text, command)?;
-    }
-    push_all(&mut text, &["    esac\n", TAIL])?;
+    push_commands(alloc, &mut text, program)?;
+    push_behind_options(alloc, &mut text, program)?;
+    text.push_str(TAIL)?;
     Ok(text)
 }
 
@@ -72,21 +65,52 @@ fn push_first(text: &mut String, program: &Command<'_>) -> Result<(), AllocError
     text.push_str("        return\n    fi\n")
 }
 
+/// What each command may have behind it.
+fn push_commands(
+    alloc: Global,
+    text: &mut String,
+    program: &Command<'_>,
+) -> Result<(), AllocError> {
+    text.push_str("    case $command in\n")?;
+    for command in program.get_subcommands() {
+        push_command(alloc, text, command)?;
+    }
+    text.push_str("    help) offer=words words=$commands ;;\n    esac\n")
+}
+
+/// What may stand behind the options of each command.
+fn push_behind_options(
+    alloc: Global,
+    text: &mut String,
+    program: &Command<'_>,
+) -> Result<(), AllocError> {
+    text.push_str("    case \"$command $before\" in\n")?;
+    for command in program.get_subcommands() {
+        push_values(alloc, text, command)?;
+    }
+    text.push_str("    esac\n")
+}
+
 /// The options of a command, and what its argument may be: `list) options="--lines --help" offer=afx ;;`
 fn push_command(alloc: Global, text: &mut String, command: &Command<'_>) -> Result<(), AllocError> {
-    push_all(text, &["    ", command.get_name(), ") options=\""])?;
-    for arg in command.get_arguments() {
-        if let Some(long) = arg.get_long() {
-            push_all(text, &["--", long, " "])?;
-        }
-    }
-    text.push_str("--help\"")?;
+    push_options(text, command)?;
     for arg in command.get_arguments() {
         if arg.is_positional() {
             OFFERS.push(alloc, text, arg)?;
         }
     }
     text.push_str(" ;;\n")
+}
+
+/// The options of a command: `list) options="--lines --help"`
+fn push_options(text: &mut String, command: &Command<'_>) -> Result<(), AllocError> {
+    push_all(text, &["    ", command.get_name(), ") options=\""])?;
+    for arg in command.get_arguments() {
+        if let Some(long) = arg.get_long() {
+            push_all(text, &["--", long, " "])?;
+        }
+    }
+    text.push_str("--help\"")
 }
 
 /// What may stand behind options of a command: `"run --input") offer=json ;;`

@@ -29,20 +29,31 @@ const OFFERS: Wording = Wording {
 /// The script by which fish completes the words of a program with these commands.
 pub fn script(alloc: Global, program: &Command<'_>) -> Result<String, AllocError> {
     let mut text = String::from_str(alloc, HEAD)?;
+    push_names(&mut text, program)?;
     for command in program.get_subcommands() {
-        let line = "complete -c afx -n __fish_use_subcommand -a ";
-        push_all(&mut text, &[line, command.get_name(), " -d '"])?;
-        Quoting::Fish.push(&mut text, command.get_about().unwrap_or(""))?;
-        text.push_str("'\n")?;
-    }
-    for command in program.get_subcommands() {
-        for arg in command.get_arguments() {
-            push_argument(alloc, &mut text, command.get_name(), arg)?;
-        }
-        push_begin(&mut text, command.get_name())?;
-        text.push_str(" -l help -d 'Prints help'\n")?;
+        push_command(alloc, &mut text, command)?;
     }
     Ok(text)
+}
+
+/// The commands, with what each does.
+fn push_names(text: &mut String, program: &Command<'_>) -> Result<(), AllocError> {
+    for command in program.get_subcommands() {
+        let line = "complete -c afx -n __fish_use_subcommand -a ";
+        push_all(text, &[line, command.get_name(), " -d '"])?;
+        Quoting::Fish.push(text, command.get_about().unwrap_or(""))?;
+        text.push_str("'\n")?;
+    }
+    Ok(())
+}
+
+/// The arguments of a command.
+fn push_command(alloc: Global, text: &mut String, command: &Command<'_>) -> Result<(), AllocError> {
+    for arg in command.get_arguments() {
+        push_argument(alloc, text, command.get_name(), arg)?;
+    }
+    push_begin(text, command.get_name())?;
+    text.push_str(" -l help -d 'Prints help'\n")
 }
 
 /// What each line of a command begins with.

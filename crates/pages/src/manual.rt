@@ -26,20 +26,31 @@ pub fn page(
 ) -> Result<String, AllocError> {
     let mut text = String::new(alloc);
     push_title(&mut text, program)?;
-    text.push_str(".SH DESCRIPTION\n")?;
-    push_paragraph(&mut text, closing.notes)?;
-    text.push_str(".SH COMMANDS\n")?;
-    let mut examples = closing.examples.iter();
-    for command in program.get_subcommands() {
-        push_command(alloc, &mut text, command)?;
-        if let Some(behind) = examples.next() {
-            push_paragraph(&mut text, *behind)?;
-        }
-    }
+    push_commands(alloc, &mut text, program, closing)?;
     push_statuses(&mut text, closing.notes)?;
     push_messages(&mut text)?;
     push_examples(&mut text, closing.examples)?;
     Ok(text)
+}
+
+/// What the program does at length, and each command.
+fn push_commands(
+    alloc: Global,
+    text: &mut String,
+    program: &Command<'_>,
+    closing: Closing<'_>,
+) -> Result<(), AllocError> {
+    text.push_str(".SH DESCRIPTION\n")?;
+    push_paragraph(text, closing.notes)?;
+    text.push_str(".SH COMMANDS\n")?;
+    let mut examples = closing.examples.iter();
+    for command in program.get_subcommands() {
+        push_command(alloc, text, command)?;
+        if let Some(behind) = examples.next() {
+            push_paragraph(text, *behind)?;
+        }
+    }
+    Ok(())
 }
 
 /// What each page is about.
@@ -102,11 +113,7 @@ fn push_positional(alloc: Global, text: &mut String, arg: &Arg<'_>) -> Result<()
 /// An argument, and what it says.
 fn push_argument(alloc: Global, text: &mut String, arg: &Arg<'_>) -> Result<(), AllocError> {
     text.push_str(".TP\n")?;
-    if let Some(long) = arg.get_long() {
-        text.push_str("\\fB\\-\\-")?;
-        Quoting::Roff.push(text, long)?;
-        text.push_str("\\fR ")?;
-    }
+    push_option(text, arg)?;
     if takes_value(arg) {
         let name = value_name(alloc, arg)?;
         push_all(text, &["\\fI", name.as_str(), "\\fR"])?;
@@ -114,6 +121,16 @@ fn push_argument(alloc: Global, text: &mut String, arg: &Arg<'_>) -> Result<(), 
     text.push('\n')?;
     push_line(text, arg.get_help().unwrap_or(""))?;
     push_values(text, arg)
+}
+
+/// The option of an argument, where it has one: `--input`, in bold letters.
+fn push_option(text: &mut String, arg: &Arg<'_>) -> Result<(), AllocError> {
+    if let Some(long) = arg.get_long() {
+        text.push_str("\\fB\\-\\-")?;
+        Quoting::Roff.push(text, long)?;
+        text.push_str("\\fR ")?;
+    }
+    Ok(())
 }
 
 /// The words of which an argument takes one, where it does: `(one of: text, json)`

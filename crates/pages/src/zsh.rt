@@ -47,17 +47,31 @@ const OFFERS: Wording = Wording {
 /// The script by which zsh completes the words of a program with these commands.
 pub fn script(alloc: Global, program: &Command<'_>) -> Result<String, AllocError> {
     let mut text = String::from_str(alloc, HEAD)?;
+    push_names(&mut text, program)?;
+    push_commands(alloc, &mut text, program)?;
+    Ok(text)
+}
+
+/// The commands, with what each does.
+fn push_names(text: &mut String, program: &Command<'_>) -> Result<(), AllocError> {
     for command in program.get_subcommands() {
-        push_all(&mut text, &["        '", command.get_name(), ":"])?;
-        Quoting::Zsh.push(&mut text, command.get_about().unwrap_or(""))?;
+        push_all(text, &["        '", command.get_name(), ":"])?;
+        Quoting::Zsh.push(text, command.get_about().unwrap_or(""))?;
         text.push_str("'\n")?;
     }
-    text.push_str(MIDDLE)?;
+    text.push_str(MIDDLE)
+}
+
+/// The arguments of each.
+fn push_commands(
+    alloc: Global,
+    text: &mut String,
+    program: &Command<'_>,
+) -> Result<(), AllocError> {
     for command in program.get_subcommands() {
-        push_command(alloc, &mut text, command)?;
+        push_command(alloc, text, command)?;
     }
-    text.push_str(TAIL)?;
-    Ok(text)
+    text.push_str(TAIL)
 }
 
 /// The arguments of a command: `list) _arguments '--lines[..]' '--help[..]' ':FILE:_files -g "*.afx"' ;;`
