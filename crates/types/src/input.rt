@@ -9,8 +9,8 @@ ghost use Rattle.serde_json.specs.Find.{get};
 ghost use Rattle.serde_json.specs.View.{items_view, view};
 ghost use Rattle.types.specs.Contents.{FitsArrays};
 ghost use Rattle.types.specs.InputErrors.{mistake_in, told};
-ghost use Rattle.types.specs.Inputs.{BadElement, IsInput, data_says, members_say, numbers_in};
-ghost use Rattle.types.specs.Inputs.{text_says, value_says, wrong_input, wrong_row};
+ghost use Rattle.types.specs.Inputs.{BadElement, IsInput, data_says, member_says, members_say};
+ghost use Rattle.types.specs.Inputs.{numbers_in, text_says, value_says, wrong_input, wrong_row};
 ghost use Rattle.types.specs.InputNames.{is_array};
 ghost use Rattle.types.specs.Translation.{array as array_of};
 ghost use Rattle.types.specs.Typed.{code_of};
@@ -186,13 +186,22 @@ fn lists_of(alloc: Global, arrays: &[Array], object: &Value) -> Result<Vec<Vec<i
 {
     let mut lists = Vec::new(alloc);
     for array in arrays {
-        let list = match object.get(array.name.as_str()) {
-            None => vec![in alloc; 0; array.length]?,
-            Some(value) => list_of(alloc, array, value)?,
-        };
-        lists.push(list)?;
+        lists.push(member_of(alloc, array, object)?)?;
     }
     Ok(lists)
+}
+
+/// What its member of a JSON object says of an array, which begins with zeros where it has none.
+fn member_of(alloc: Global, array: &Array, object: &Value) -> Result<Vec<i64>, InputError>
+    ensures says { IfOk result (λ v. member_says (array_of array.now)
+        (get (string_bytes array.now.name) (view object.now)) ≡ Ok v.items) }
+    ensures error { IfErr result (λ e. IfSome (told e) (λ m. member_says (array_of array.now)
+        (get (string_bytes array.now.name) (view object.now)) ≡ Err m)) }
+{
+    match object.get(array.name.as_str()) {
+        None => Ok(vec![in alloc; 0; array.length]?),
+        Some(value) => list_of(alloc, array, value),
+    }
 }
 
 /// What a JSON value says of an array.
