@@ -1,6 +1,6 @@
 //! What commands answer as JSON.
 
-use crate::tests::typed;
+use crate::tests::{lists_of, typed};
 use effects::summaries::summarize;
 use intake::failure::Failure;
 use json_answers::outcomes::outcome_object;
@@ -15,7 +15,6 @@ use serde_json::Value;
 use std::alloc::Global;
 use std::process::Abort;
 use std::rt::HostRuntime;
-use std::test::Fail;
 use syntax::Place;
 use types::check::type_check;
 use types::child_number::ChildNumber;
@@ -57,9 +56,10 @@ fn places_of(rt: &impl Abort, alloc: Global, text: &str) -> Vec<Place> {
 }
 
 /// The least and the largest number, a byte, two lines, and two faults.
-fn ended(alloc: Global) -> Result<Outcome, Fail> {
+fn ended(rt: &impl Abort, alloc: Global) -> Outcome {
+    let child = Path::root(alloc).child(ChildNumber::after(0));
     let first = Fault {
-        path: Path::root(alloc).child(ChildNumber::after(0))?,
+        path: child.expect(rt, "memory"),
         label: 3,
         kind: FaultKind::Raised(-7),
     };
@@ -68,13 +68,11 @@ fn ended(alloc: Global) -> Result<Outcome, Fail> {
         label: 4,
         kind: FaultKind::OutOfElement,
     };
-    let ints = vec![in alloc; i64::MIN, i64::MAX]?;
-    let bytes = vec![in alloc; 255]?;
-    Ok(Outcome::Ended {
-        arrays: vec![in alloc; ints, bytes]?,
-        lines: vec![in alloc; vec![in alloc; 1, -2]?, Vec::new(alloc)]?,
-        faults: vec![in alloc; first, second]?,
-    })
+    Outcome::Ended {
+        arrays: lists_of(rt, alloc, &[&[i64::MIN, i64::MAX], &[255]]),
+        lines: lists_of(rt, alloc, &[&[1, -2], &[]]),
+        faults: vec![in alloc; first, second].expect(rt, "memory"),
+    }
 }
 
 /// Compares how an outcome of a program is told with what is wanted.
@@ -85,14 +83,13 @@ fn compare_outcome(
     places: &[Place],
     outcome: &Outcome,
     want: &str,
-) -> Result<(), Fail> {
-    let told = outcome_object(alloc, &typed.code().arrays, places, outcome)?;
-    assert_eq!(rt; told.as_str(), want);
-    Ok(())
+) {
+    let told = outcome_object(alloc, &typed.code().arrays, places, outcome);
+    assert_eq!(rt; told.expect(rt, "memory").as_str(), want);
 }
 
 #[test]
-fn outcomes_are_told(rt: HostRuntime) -> Result<(), Fail> {
+fn outcomes_are_told(rt: HostRuntime) {
     let alloc = rt.alloc();
     let typed = typed(&rt, alloc, PROGRAM);
     let places = places_of(&rt, alloc, PROGRAM);
@@ -100,58 +97,59 @@ fn outcomes_are_told(rt: HostRuntime) -> Result<(), Fail> {
         \"faults\":[{\"column\":11,\"kind\":\"F6\",\"label\":3,\"line\":5,\"number\":-7,\"path\":\"0.1\"},\
         {\"column\":3,\"kind\":\"F4\",\"label\":4,\"line\":6,\"number\":null,\"path\":\"0\"}],\
         \"lines\":[[1,-2],[]],\"status\":2,\"stopped\":false}\n";
-    compare_outcome(&rt, alloc, &typed, &places, &ended(alloc)?, wanted)?;
+    let outcome = ended(&rt, alloc);
+    compare_outcome(&rt, alloc, &typed, &places, &outcome, wanted);
     let wanted = "{\"status\":3,\"stopped\":true}\n";
-    compare_outcome(&rt, alloc, &typed, &places, &Outcome::Stopped, wanted)
+    compare_outcome(&rt, alloc, &typed, &places, &Outcome::Stopped, wanted);
 }
 
 #[test]
-fn told_arrays_are_an_input(rt: HostRuntime) -> Result<(), Fail> {
+fn told_arrays_are_an_input(rt: HostRuntime) {
     let alloc = rt.alloc();
     let typed = typed(&rt, alloc, PROGRAM);
-    let outcome = ended(alloc)?;
-    let told = outcome_object(alloc, &typed.code().arrays, &[], &outcome)?;
+    let outcome = ended(&rt, alloc);
+    let told = outcome_object(alloc, &typed.code().arrays, &[], &outcome).expect(&rt, "memory");
     let object = Value::from_str(alloc, told.as_str()).expect(&rt, "an object");
-    let arrays = object.get("arrays").expect(&rt, "arrays").to_string(alloc)?;
+    let arrays = object.get("arrays").expect(&rt, "arrays").to_string(alloc);
+    let arrays = arrays.expect(&rt, "memory");
     let input = Input::from_json(alloc, &typed, arrays.as_str()).expect(&rt, "an input");
     match &outcome {
         Outcome::Ended { arrays, .. } => assert!(rt; input.arrays == *arrays),
         Outcome::Stopped => assert!(rt; false),
     }
-    Ok(())
 }
 
 #[test]
-fn programs_are_told(rt: HostRuntime) -> Result<(), Fail> {
+fn programs_are_told(rt: HostRuntime) {
     let alloc = rt.alloc();
     let typed = typed(&rt, alloc, RACY);
-    let told = accepted_object(alloc, typed.code())?;
+    let told = accepted_object(alloc, typed.code()).expect(&rt, "memory");
     let wanted = "{\"accepted\":true,\"labels\":4,\"procedures\":1,\"status\":0}\n";
     assert_eq!(rt; told.as_str(), wanted);
     typed_programs_are_sound(&typed);
-    let summaries = summarize(alloc, &typed)?;
-    let pairs = may_run_together(alloc, &typed, &summaries)?;
-    let told = pairs_object(alloc, pairs.list())?;
+    let summaries = summarize(alloc, &typed).expect(&rt, "memory");
+    let pairs = may_run_together(alloc, &typed, &summaries).expect(&rt, "memory");
+    let told = pairs_object(alloc, pairs.list()).expect(&rt, "memory");
     assert_eq!(rt; told.as_str(), "{\"pairs\":[[1,4],[3,4]],\"status\":0}\n");
-    Ok(())
 }
 
 #[test]
-fn races_are_told(rt: HostRuntime) -> Result<(), Fail> {
+fn races_are_told(rt: HostRuntime) {
     let alloc = rt.alloc();
     let typed = typed(&rt, alloc, RACY);
     typed_programs_are_sound(&typed);
     let places = places_of(&rt, alloc, RACY);
     match check(&rt, alloc, typed) {
         Err(Refused::Race { race, typed }) => {
-            let witness = witness_of(alloc, &typed, race)?.expect(&rt, "a witness");
+            let witness = witness_of(alloc, &typed, race).expect(&rt, "memory");
+            let witness = witness.expect(&rt, "a witness");
             let found = Found {
                 places: &places,
                 code: typed.code(),
                 race,
                 witness: &witness,
             };
-            let told = race_object(alloc, "r.afx", found)?;
+            let told = race_object(alloc, "r.afx", found).expect(&rt, "memory");
             let wanted = "{\"code\":\"C1\",\"column\":3,\"file\":\"r.afx\",\
                 \"label\":1,\"line\":2,\"message\":\"C1 race in main: 1 write a, 4 write a\",\
                 \"race\":{\"first\":{\"column\":3,\"kind\":\"write\",\"label\":1,\"line\":2,\
@@ -173,57 +171,62 @@ fn races_are_told(rt: HostRuntime) -> Result<(), Fail> {
         Err(_other) => assert!(rt; false),
         Ok(_accepted) => assert!(rt; false),
     }
-    Ok(())
+}
+
+/// Compares how a failure is told with what is wanted.
+fn compare_told(
+    rt: &impl Abort,
+    alloc: Global,
+    file: &str,
+    places: &[Place],
+    failure: &Failure,
+    want: &str,
+) {
+    let told = refusal_object(alloc, file, places, failure).expect(rt, "memory");
+    assert_eq!(rt; told.as_str(), want);
 }
 
 #[test]
-fn refusals_are_told(rt: HostRuntime) -> Result<(), Fail> {
+fn refusals_are_told(rt: HostRuntime) {
     let alloc = rt.alloc();
     let text = "main { var x = 1; async { x = 2; } }";
     let places = places_of(&rt, alloc, text);
     let program = syntax::parse(alloc, text).expect(&rt, "a program");
     match type_check(alloc, program) {
         Err(error) => {
-            let told = refusal_object(alloc, "d.afx", &places, &Failure::Types(error))?;
             let wanted = "{\"array\":null,\"code\":\"Y5\",\"column\":27,\"file\":\"d.afx\",\
                 \"label\":3,\"line\":1,\"message\":\"Y5 at label 3\",\"status\":1}\n";
-            assert_eq!(rt; told.as_str(), wanted);
+            let failure = Failure::Types(error);
+            compare_told(&rt, alloc, "d.afx", &places, &failure, wanted);
         }
         Ok(_) => assert!(rt; false),
     }
-    let told = refusal_object(
-        alloc,
-        "a\"b.afx",
-        &[],
-        &Failure::cannot_read(alloc, "a\"b.afx"),
-    )?;
     let wanted = "{\"array\":null,\"code\":null,\"column\":null,\"file\":\"a\\\"b.afx\",\
         \"label\":null,\"line\":null,\"message\":\"cannot read a\\\"b.afx\",\"status\":1}\n";
-    assert_eq!(rt; told.as_str(), wanted);
-    Ok(())
+    let failure = Failure::cannot_read(alloc, "a\"b.afx");
+    compare_told(&rt, alloc, "a\"b.afx", &[], &failure, wanted);
 }
 
 #[test]
-fn errors_of_texts_and_inputs_are_told(rt: HostRuntime) -> Result<(), Fail> {
+fn errors_of_texts_and_inputs_are_told(rt: HostRuntime) {
     let alloc = rt.alloc();
     match syntax::parse(alloc, "main { skip }") {
         Err(error) => {
-            let told = refusal_object(alloc, "-", &[], &Failure::Syntax(error))?;
             let wanted = "{\"array\":null,\"code\":\"S2\",\"column\":13,\"file\":\"-\",\
                 \"label\":null,\"line\":1,\"message\":\"S2 at 1:13\",\"status\":1}\n";
-            assert_eq!(rt; told.as_str(), wanted);
+            let failure = Failure::Syntax(error);
+            compare_told(&rt, alloc, "-", &[], &failure, wanted);
         }
         Ok(_) => assert!(rt; false),
     }
     let typed = typed(&rt, alloc, PROGRAM);
     match Input::from_json(alloc, &typed, "{\"q\": []}") {
         Err(error) => {
-            let told = refusal_object(alloc, "p.afx", &[], &Failure::Input(error))?;
             let wanted = "{\"array\":\"q\",\"code\":\"N3\",\"column\":null,\"file\":\"p.afx\",\
                 \"label\":null,\"line\":null,\"message\":\"N3 q\",\"status\":1}\n";
-            assert_eq!(rt; told.as_str(), wanted);
+            let failure = Failure::Input(error);
+            compare_told(&rt, alloc, "p.afx", &[], &failure, wanted);
         }
         Ok(_) => assert!(rt; false),
     }
-    Ok(())
 }

@@ -1,79 +1,64 @@
 //! Results put together by path, also where one is missing or too many come, or owns other places than are
 //! listed for it.
 
-use crate::tests::{accepted, compare};
+use crate::tests::{accepted, compare, path};
 use gather::settle::settle;
-use holdings::error::HoldError;
 use holdings::holdings::Holdings;
 use own_run::result::{Listed, TaskResult};
 use sections::id::ArrayId;
 use sections::window::Window;
-use std::alloc::{AllocError, Global};
+use std::alloc::Global;
 use std::process::Abort;
-use std::test::Fail;
 use std::thread::Threads;
-use types::child_number::ChildNumber;
 use types::code::Label;
 use types::fault::{Fault, FaultKind};
 use types::input::Input;
-use types::path::Path;
 
 /// A task of a program with no array: its path, and the paths of those that it began. It ends with a
 /// fault, whose number is that of its label.
 type Task = (&'static [u32], Label, &'static [&'static [u32]]);
 
-/// A path.
-fn path(alloc: Global, turns: &[u32]) -> Result<Path, AllocError> {
-    let mut path = Path::root(alloc);
-    for turn in turns {
-        let Some(number) = ChildNumber::new(*turn) else {
-            return Err(AllocError);
-        };
-        path.turns.push(number)?;
-    }
-    Ok(path)
-}
-
 /// What its parent knows of a task that told nothing before it.
-fn listed(alloc: Global, turns: &[u32], windows: Vec<Window>) -> Result<Listed, AllocError> {
-    Ok(Listed {
-        path: path(alloc, turns)?,
+fn listed(rt: &impl Abort, alloc: Global, turns: &[u32], windows: Vec<Window>) -> Listed {
+    Listed {
+        path: path(rt, alloc, turns),
         windows,
         lines: Vec::new(alloc),
         faults: Vec::new(alloc),
-    })
+    }
 }
 
 /// What such a task hands on.
-fn result_of(alloc: Global, task: Task) -> Result<TaskResult, AllocError> {
+fn result_of(rt: &impl Abort, alloc: Global, task: Task) -> TaskResult {
     let (turns, label, begun) = task;
     let mut children = Vec::new(alloc);
     for child in begun {
-        children.push(listed(alloc, child, Vec::new(alloc))?)?;
+        let child = listed(rt, alloc, child, Vec::new(alloc));
+        children.push(child).expect(rt, "memory");
     }
-    let mut faults = Vec::new(alloc);
-    faults.push(Fault {
-        path: path(alloc, turns)?,
+    let fault = Fault {
+        path: path(rt, alloc, turns),
         label,
         kind: FaultKind::Raised(0),
-    })?;
-    Ok(TaskResult {
-        path: path(alloc, turns)?,
+    };
+    TaskResult {
+        path: path(rt, alloc, turns),
         stopped: false,
         holdings: Holdings::none(alloc),
         lines: Vec::new(alloc),
-        faults,
+        faults: vec![in alloc; fault].expect(rt, "memory"),
         children,
-    })
+    }
 }
 
 /// What such tasks hand on.
-fn results_of(alloc: Global, tasks: &[Task]) -> Result<Vec<TaskResult>, AllocError> {
+fn results_of(rt: &impl Abort, alloc: Global, tasks: &[Task]) -> Vec<TaskResult> {
     let mut results = Vec::new(alloc);
     for task in tasks {
-        results.push(result_of(alloc, *task)?)?;
+        let result = result_of(rt, alloc, *task);
+        results.push(result).expect(rt, "memory");
     }
-    Ok(results)
+    results
 }
 
 /// The labels of faults.
@@ -127,11 +112,11 @@ const ROWS: &[(&str, &[Task], &str)] = &[
 ];
 
 #[test]
-fn results_settle_by_path(rt: HostRuntime) -> Result<(), Fail> {
+fn results_settle_by_path(rt: HostRuntime) {
     let alloc = rt.alloc();
     for (name, tasks, want) in ROWS {
-        let root = result_of(alloc, ROOT)?;
-        let results = results_of(alloc, tasks)?;
+        let root = result_of(&rt, alloc, ROOT);
+        let results = results_of(&rt, alloc, tasks);
         match settle(alloc, root, results) {
             Ok(settled) => {
                 let labels = labels_of(&rt, alloc, &settled.faults);
@@ -140,7 +125,6 @@ fn results_settle_by_path(rt: HostRuntime) -> Result<(), Fail> {
             Err(error) => compare(&rt, alloc, *name, error, want),
         }
     }
-    Ok(())
 }
 
 /// Elements of an array of four: from which on, and how many.
@@ -176,18 +160,14 @@ fn windows(rt: &impl Abort, alloc: Global, places: &[(usize, usize)]) -> Vec<Win
 }
 
 /// All elements, with a number at each.
-fn all_elements(
-    rt: &(impl Abort + Threads + Sync),
-    alloc: Global,
-    number: i64,
-) -> Result<Holdings, HoldError> {
+fn all_elements(rt: &(impl Abort + Threads + Sync), alloc: Global, number: i64) -> Holdings {
     let program = accepted(rt, alloc, "main { array a: int[4]; }");
     let input = Input::zeros(alloc, program.typed()).expect(rt, "memory");
     let mut all = Holdings::of_input(alloc, program.typed(), &input).expect(rt, "memory");
     for index in 0..4 {
-        all.write(ARRAY, index, number)?;
+        all.write(ARRAY, index, number).expect(rt, "memory");
     }
-    Ok(all)
+    all
 }
 
 /// A number at elements that are owned, and at others of which there are copies.
@@ -197,35 +177,32 @@ fn holdings_of(
     number: i64,
     owned: Places,
     copied: Places,
-) -> Result<Holdings, HoldError> {
-    let mut all = all_elements(rt, alloc, number)?;
-    let mut holdings = all.share(alloc, &windows(rt, alloc, copied))?;
-    let own = all.carve(alloc, &windows(rt, alloc, owned))?;
-    match holdings.paste(alloc, own) {
-        Ok(()) => Ok(holdings),
-        Err((error, _)) => Err(error),
-    }
+) -> Holdings {
+    let mut all = all_elements(rt, alloc, number);
+    let copies = all.share(alloc, &windows(rt, alloc, copied));
+    let own = all.carve(alloc, &windows(rt, alloc, owned));
+    let mut holdings = copies.expect(rt, "memory");
+    let pasted = holdings.paste(alloc, own.expect(rt, "memory"));
+    assert!(rt; pasted.is_ok());
+    holdings
 }
 
 /// What such a task hands on.
-fn held_result(
-    rt: &(impl Abort + Threads + Sync),
-    alloc: Global,
-    holder: Holder,
-) -> Result<TaskResult, HoldError> {
+fn held_result(rt: &(impl Abort + Threads + Sync), alloc: Global, holder: Holder) -> TaskResult {
     let (turns, number, owned, copied, begun) = holder;
     let mut children = Vec::new(alloc);
     for (child, places) in begun {
-        children.push(listed(alloc, child, windows(rt, alloc, places))?)?;
+        let child = listed(rt, alloc, child, windows(rt, alloc, places));
+        children.push(child).expect(rt, "memory");
     }
-    Ok(TaskResult {
-        path: path(alloc, turns)?,
+    TaskResult {
+        path: path(rt, alloc, turns),
         stopped: false,
-        holdings: holdings_of(rt, alloc, number, owned, copied)?,
+        holdings: holdings_of(rt, alloc, number, owned, copied),
         lines: Vec::new(alloc),
         faults: Vec::new(alloc),
         children,
-    })
+    }
 }
 
 /// What such tasks hand on.
@@ -233,12 +210,13 @@ fn held_results(
     rt: &(impl Abort + Threads + Sync),
     alloc: Global,
     holders: &[Holder],
-) -> Result<Vec<TaskResult>, HoldError> {
+) -> Vec<TaskResult> {
     let mut results = Vec::new(alloc);
     for holder in holders {
-        results.push(held_result(rt, alloc, *holder)?)?;
+        let result = held_result(rt, alloc, *holder);
+        results.push(result).expect(rt, "memory");
     }
-    Ok(results)
+    results
 }
 
 /// The root owns the last element, and has copies of the others. It began 0.1 with the first two.
@@ -368,18 +346,17 @@ const HELD_ROWS: &[HeldRow] = &[
 ];
 
 #[test]
-fn listed_places_come_back(rt: HostRuntime) -> Result<(), Fail> {
+fn listed_places_come_back(rt: HostRuntime) {
     let alloc = rt.alloc();
     for (name, root, holders, want) in HELD_ROWS {
-        let root = held_result(&rt, alloc, *root)?;
-        let results = held_results(&rt, alloc, holders)?;
+        let root = held_result(&rt, alloc, *root);
+        let results = held_results(&rt, alloc, holders);
         match settle(alloc, root, results) {
             Ok(settled) => {
-                let elements = settled.holdings.row(alloc, ARRAY, 4)?;
+                let elements = settled.holdings.row(alloc, ARRAY, 4).expect(&rt, "memory");
                 compare(&rt, alloc, *name, format_args!("{elements:?}"), want);
             }
             Err(error) => compare(&rt, alloc, *name, error, want),
         }
     }
-    Ok(())
 }

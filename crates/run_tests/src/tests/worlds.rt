@@ -8,7 +8,6 @@ use interleave::replay::replay;
 use interleave::walk::random_walk;
 use std::alloc::Global;
 use std::process::Abort;
-use std::test::Fail;
 use std::thread::Threads;
 use types::budget::Budget;
 use types::input::Input;
@@ -228,15 +227,15 @@ const ROWS: &[Row] = &[
 ];
 
 /// What is told behind the events of a row: the book of the root's first finish, and the printed lines.
-fn told(rt: &(impl Abort + Threads + Sync), alloc: Global, row: Row) -> Result<String, Fail> {
+fn told(rt: &(impl Abort + Threads + Sync), alloc: Global, row: Row) -> String {
     let (text, w0, pieces, _) = row;
     let program = accepted(rt, alloc, text);
-    let input = Input::zeros(alloc, program.typed())?;
+    let input = Input::zeros(alloc, program.typed()).expect(rt, "memory");
     let job = WeightedJob::new(alloc, &program, &input, Budget::usual(), w0).expect(rt, "a weight");
     let events = events(rt, alloc, pieces);
     let world = match replay(job, &events) {
         Ok(world) => world,
-        Err(error) => return Ok(format!(in alloc; "{error:?}")?),
+        Err(error) => return format!(in alloc; "{error:?}").expect(rt, "memory"),
     };
     let finish = ScopeId {
         owner: path(rt, alloc, ROOT),
@@ -244,22 +243,22 @@ fn told(rt: &(impl Abort + Threads + Sync), alloc: Global, row: Row) -> Result<S
     };
     let (issued, returned) = world.book(&finish).expect(rt, "a finish");
     let lines = match world.outcome() {
-        Some(Outcome::Ended { lines, .. }) => format!(in alloc; "{lines:?}")?,
-        Some(Outcome::Stopped) => format!(in alloc; "stopped")?,
-        None => format!(in alloc; "none")?,
+        Some(Outcome::Ended { lines, .. }) => format!(in alloc; "{lines:?}"),
+        Some(Outcome::Stopped) => String::from_str(alloc, "stopped"),
+        None => String::from_str(alloc, "none"),
     };
-    Ok(format!(in alloc; "{issued} {returned} {lines}")?)
+    let lines = lines.expect(rt, "memory");
+    format!(in alloc; "{issued} {returned} {lines}").expect(rt, "memory")
 }
 
 #[test]
-fn events_are_legal_or_the_first_that_is_not_is_told(rt: HostRuntime) -> Result<(), Fail> {
+fn events_are_legal_or_the_first_that_is_not_is_told(rt: HostRuntime) {
     let alloc = rt.alloc();
     for row in ROWS {
         let (text, _, _, want) = *row;
-        let told = told(&rt, alloc, *row)?;
+        let told = told(&rt, alloc, *row);
         compare(&rt, alloc, text, told.as_str(), want);
     }
-    Ok(())
 }
 
 #[test]
