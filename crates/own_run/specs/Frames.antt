@@ -39,7 +39,7 @@ module _ {X : Type 0} where
   by_value l (Ok x) go fs st = go x
   by_value l (Err f) go fs st = record { frames = fs; state = fault l f st }
 
-  -- a guard was evaluated
+  -- a condition was evaluated
   abbrev pub chosen : Bool → (body other : List (Frame X)) → State X → Standing X
   chosen true body other st = record { frames = body; state = st }
   chosen false body other st = record { frames = other; state = st }
