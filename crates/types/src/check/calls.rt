@@ -78,7 +78,7 @@ struct Given {
     passed: Vec<Passed>,
 }
 
-/// Returns the arguments for these parameters, if their numbers are equal.
+/// Resolves the arguments of a call. There must be as many as parameters.
 fn gathered(
     alloc: Global,
     scope: &Scope,
