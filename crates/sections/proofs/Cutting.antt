@@ -16,7 +16,7 @@ use Rattle.sections.specs.Translation.{window}
 use Rattle.sections.specs.declared.window.Window.{Window as rWindow}
 use Rattle.sections.proofs.Covering.{in_window, is_in-from, begins-at, ends_cases, ends-array, ends-at, ends-begins, cover_from}
 
--- ---- before and behind, by the arrays of the two windows
+-- ---- before and after, by the arrays of the two windows
 
 before-same : (w v : Window) → w.array ≡ v.array → before w v ≡ record w { length = min w.length (v.at - w.at) }
 before-same w v e = ap (λ b. if b then record w { length = min w.length (v.at - w.at) }

@@ -10,7 +10,7 @@ use Rattle.syntax.specs.Lexical.{begins_comment, mark_text, starts, IsMark}
 abbrev pub IsNeither : List ℕ → Type 0
 IsNeither cs = (starts (λ c. c == 61) cs ≡ false) × (starts (λ c. c == 47) cs ≡ false)
 
--- a text as one number, to tell texts apart
+-- a text as one number, to distinguish texts
 abbrev key : List ℕ → ℕ
 key cs = fold (λ k c. k * 1000 + c) 0 cs
 
