@@ -283,7 +283,7 @@ fn enters<'p>(mut turn: Turn<'p>, block: &'p [Stmt]) -> Result<(Becomes<'p>, Sto
     Ok(going(turn))
 }
 
-/// Continues.
+/// Returns the leaf, which continues, and the store.
 fn going<'p>(turn: Turn<'p>) -> (Becomes<'p>, Store)
     ensures { Comes (single (leaf_in turn.entry)) (store_in turn.entry) turn.entry result }
 {
@@ -291,7 +291,7 @@ fn going<'p>(turn: Turn<'p>) -> (Becomes<'p>, Store)
     (Becomes::Single(returned(leaf)), store)
 }
 
-/// Ends the leaf.
+/// Returns the leaf, which is done now, and the store.
 fn ended<'p>(turn: Turn<'p>) -> (Becomes<'p>, Store)
     ensures { Comes (Single (done_leaf (leaf_in turn.entry))) (store_in turn.entry) turn.entry result }
 {

@@ -7,7 +7,7 @@ pub trait Watch {
     /// Calls with these counts, in order, change the first state into the second.
     ghost Told: { List ℕ → Self → Self → Type 0 };
 
-    /// Called when all tasks together have executed this number of steps.
+    /// Receives the number of steps that all tasks together have executed.
     fn look(&mut self, steps: u64)
         ensures { Told (steps ∷ []) self.old self.new };
 

@@ -128,7 +128,7 @@ error_code (TooDeep place) = codes "S4"
 error_code TooLong = codes "S5"
 error_code OutOfMemory = codes "S6"
 
--- the place that an error names
+-- the position that an error names
 abbrev pub place_of : SyntaxError → Option Place
 place_of (NotACharacter place) = Some place
 place_of (UnexpectedToken place) = Some place
@@ -136,7 +136,7 @@ place_of (NumberTooLarge place) = Some place
 place_of (TooDeep place) = Some place
 place_of _ = None
 
--- `at` and the place, if there is one
+-- `at` and the position, if there is one
 abbrev pub at_text : Option Place → List ℕ
 at_text None = []
 at_text (Some place) = codes " at " ++ place_text place

@@ -69,7 +69,7 @@ get_other (x ∷ xs) zero (suc k) v ne = refl
 get_other (x ∷ xs) (suc i) zero v ne = refl
 get_other (x ∷ xs) (suc i) (suc k) v ne = get_other xs i k v (λ e. ne (ap suc e))
 
--- an array that has an element is there
+-- an array that has an element exists
 array_is_there : (lists : List (List ℤ)) (a i : ℕ) → i < length (slice_index_or lists a []) → a < length lists
 array_is_there [] a i lt = absurd (omega (arith, lt))
 array_is_there (l ∷ ls) zero i lt = omega arith

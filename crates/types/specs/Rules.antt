@@ -120,6 +120,6 @@ errors_of p =
     ++ (procedures_errors p.procedures 1 p.procedures
     ++ main_errors p.procedures (label_behind_all 1 p.procedures) p.main))
 
--- it has none
+-- a program has no errors
 abbrev pub BreaksNoRule : Program → Type 0
 BreaksNoRule p = errors_of p ≡ []

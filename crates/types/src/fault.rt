@@ -11,9 +11,9 @@ use std::fmt;
 /// A fault of a task. It ended the statements of the task up to the nearest finish.
 #[derive(Clone, PartialEq, Eq, Debug, Drop)]
 pub struct Fault {
-    /// The task.
+    /// The task that faulted.
     pub path: Path,
-    /// The statement.
+    /// The statement that faulted.
     pub label: Label,
     pub kind: FaultKind,
 }
