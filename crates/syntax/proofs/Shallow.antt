@@ -29,7 +29,7 @@ pub shallow_up_to : (n : ℕ) (ts : List Token) (t : Token) (us : List Token) �
 shallow_up_to n [] t us shallow = (shallow.0, tt)
 shallow_up_to n (u ∷ ts) t us shallow = (shallow.0, shallow_up_to (open_behind n u) ts t us shallow.1)
 
--- if a token opens too many, the tokens aren't shallow
+-- if too many brackets are open at a token, the tokens aren't shallow
 pub opens_too_many : (text : List ℕ) (found : List Spanned) (at : ℕ) → AreTokensOf text (plain found)
     → ArePlaced text found → OpensTooMany found at → IsTooDeep text at
 opens_too_many text found at read placed opens =

@@ -65,7 +65,7 @@ ArePlaced text found =
     (before : List Spanned) (s : Spanned) (after : List Spanned) → found ≡ before ++ s ∷ after
     → StandsAt text (plain before) (token s.token) s.at
 
--- the token that starts at this character is the first that opens more than 100 brackets
+-- the token that starts at this character is the first by which more than 100 brackets are open
 pub record OpensTooMany (found : List Spanned) (at : ℕ) : Type 0 where
   pub before : List Spanned
   pub last : Spanned
@@ -75,8 +75,8 @@ pub record OpensTooMany (found : List Spanned) (at : ℕ) : Type 0 where
   pub deep : AreShallow 0 (plain before ++ token last.token ∷ []) → ⊥
   pub there : at ≡ last.at
 
--- S4: a text has tokens, and the one at this character is the first that opens more than 100
--- brackets
+-- S4: a text has tokens, and the one at this character is the first by which more than 100 brackets
+-- are open
 pub record IsTooDeep (text : List ℕ) (at : ℕ) : Type 0 where
   pub tokens : List Token
   pub read : AreTokensOf text tokens
@@ -87,7 +87,7 @@ pub record IsTooDeep (text : List ℕ) (at : ℕ) : Type 0 where
   pub deep : AreShallow 0 (before ++ last ∷ []) → ⊥
   pub all_deep : AreShallow 0 tokens → ⊥
 
--- S2: a text has tokens that open at most 100 brackets, and they spell no program
+-- S2: a text has tokens by which at most 100 brackets are open, and they spell no program
 pub record SpellsNoProgram (text : List ℕ) (at : ℕ) : Type 0 where
   pub tokens : List Token
   pub read : AreTokensOf text tokens

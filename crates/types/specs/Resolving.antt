@@ -50,8 +50,8 @@ left n k there = record there { names = drop (length there.names - n) there.name
 abbrev pub passed_by : rPassed → Passed
 passed_by p = (p.section.number, p.may_write)
 
--- the sections in scope have numbers of sections, each of which has its kind; and the next slot is at
--- most 16 more than the next label
+-- the sections in scope have numbers of sections, each of which has its kind; and the next slot is
+-- at most 16 more than the next label
 pub record IsWellScoped (here : Scope) : Type 0 where
   pub known : (x : List ℕ) (s : ℕ) → meant x here.names ≡ Some (ASection s) → s < length here.sections
   pub kinds : length here.kinds ≡ length here.sections

@@ -105,8 +105,8 @@ module _ (all : List Procedure) where
   procedures_errors label [] = []
   procedures_errors label (f ∷ fs) = procedure_errors label f ++ procedures_errors (label_behind label f) fs
 
-  -- `main`, whose first statement has the label; Y8: there is none; Y9: more than 32 arrays, or more
-  -- than 4,194,304 elements of all arrays together
+  -- `main`, whose first statement has the label; Y8: there is none; Y9: more than 32 arrays, or
+  -- more than 4,194,304 elements of all arrays together
   abbrev pub main_errors : (label : ℕ) → Option Main → List TypeError
   main_errors label None = NoMain ∷ []
   main_errors label (Some m) =
