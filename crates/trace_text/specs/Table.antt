@@ -38,8 +38,7 @@ column (Some worker) = right_in 2 (decimal worker) ++ codes " "
 abbrev pub deed : Event → List ℕ
 deed e = column (worker_of e) ++ (column (from_of e) ++ (whose e ++ codes "\n"))
 
--- the number right-aligned in eight columns, the kind left-aligned in nine, the worker, from whom, and the
--- task or scope
+-- the number right-aligned in eight columns, the kind left-aligned in nine, workers, and the task or scope
 abbrev pub table_line : ℕ → Event → List ℕ
 table_line n e =
     right_in 8 (decimal n)
