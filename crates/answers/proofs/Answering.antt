@@ -216,7 +216,7 @@ module _ (text told : List ℕ) (kept typed : Typed) (same : typed ≡ kept)
   spelled_so : AreTokensOf (chars text) (spelling (program_of typed))
   spelled_so = subst (λ (t : Typed). AreTokensOf (chars text) (spelling (program_of t))) (sym same) spelled
 
-  -- what is told of an accepted program
+  -- what is reported for an accepted program
   pub accepted_answers : (about : About) → told ≡ accepted_told about (code_of typed) (program_of typed)
       → TellsAccepted text (accepted_told about) told 0
   accepted_answers about is = record {

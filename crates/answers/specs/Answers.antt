@@ -382,8 +382,7 @@ pub record NeedsLayout (text : List ℕ) : Type 0 where
   pub spelled : AreTokensOf (chars text) (spelling program)
   pub not_laid : ¬ IsLaidOut (chars text) (chars text)
 
--- the text's program has no race, and runs in parallel on its input, but no outcome is reported, for this
--- reason
+-- the text's program has no race and runs in parallel on its input, but has no outcome, for this reason
 pub record FailsAsTasks (c : Command) (s : Settings) (held : Held) (text : List ℕ) (Why : Type 0)
     : Type 0 where
   pub as_tasks : c ≡ Run

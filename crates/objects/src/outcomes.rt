@@ -41,8 +41,8 @@ pub fn outcome_told(
     }
 }
 
-/// Returns where the statements of a text's program start. A longer text spells no program, and
-/// gets an empty list.
+/// Returns where the statements of a text's program start. A longer text spells no program: it is an
+/// error.
 pub(crate) fn places_in(alloc: Global, text: &str) -> Result<Vec<Place>, AllocError>
     ensures { IfOk result (λ places. ArePlaces text.now places.items) }
 {
