@@ -30,8 +30,7 @@ abbrev pub DoesWithLoaded : Doing → Loaded → (held later : Held) → (old ne
     → Type 0
 DoesWithLoaded d l held later old new r = DoesWith d (asked_of l.request) l.text.now held later old new r
 
--- the reason why a file has no text of a program was written as one object if the order is for one; else
--- nothing was written
+-- why a file has no text of a program was written as one object if that was ordered; else nothing was
 abbrev pub TellsUnread : Doing → (file : List ℕ) → (old new : Option (List ℕ)) → Failure → Type 0
 TellsUnread (Describing x) file old new f = IsToldAsObject (TellsFailure file [] f) old new
 TellsUnread Answering file old new f = Keeps old new
