@@ -30,11 +30,11 @@ use std::thread::Threads;
 /// An order for the text of a program.
 #[derive(Clone, Copy)]
 pub enum Doing {
-    /// Answer the command as text.
+    /// The command is answered as text.
     Answering,
-    /// Answer as one object.
+    /// It is answered as one object.
     Describing(Subject),
-    /// Time the runs of the program.
+    /// The runs of the program are timed.
     Timing,
 }
 

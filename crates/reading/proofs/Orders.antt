@@ -73,7 +73,7 @@ object_asked command behind rest x a is p =
 
 -- ---- no arguments
 
--- arguments with a request order only that
+-- the order is the request of these arguments, answered as text
 pub record IsAsked (words : List (List ℕ)) (o : Order) : Type 0 where
   pub a : Asked
   pub is : o ≡ AsText a

@@ -10,13 +10,13 @@ use command_line::request::{Action, Command, Request};
 /// The order that the arguments of a command line give.
 #[derive(Clone, Copy, PartialEq, Eq, Debug)]
 pub enum Order<'w> {
-    /// Answer the request as lines of text.
+    /// A request, answered as lines of text.
     AsText(Request<'w>),
-    /// `--format json`: answer it as one object.
+    /// `--format json`: a request, answered as one object.
     AsObject(Subject, Request<'w>),
-    /// `bench`: time the runs of a program.
+    /// `bench`: a program whose runs are timed.
     Times(Request<'w>),
-    /// `test`: run the programs of this folder, and compare their results with the expected ones.
+    /// `test`: a folder whose programs are run; their results are compared with the expected ones.
     Tests(&'w str),
 }
 
