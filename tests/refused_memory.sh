@@ -3,11 +3,12 @@
 # tasks, and the doubling by halves with an input. Each run must print the whole right output with status 0, or end with
 # one of the refusals below; anything else is a wrong answer.
 #
-#   tests/refused_memory.sh            the proved program, with `malloc` replaced (seconds)
+#   tests/refused_memory.sh            the built program, with `malloc` replaced (seconds)
 #   tests/refused_memory.sh try [N]    the unproved build of `rt try --fail-alloc n`, from n = N on (half a minute for
 #                                      each n, and there are more than a hundred)
 #
-# RT names another rt, CC another C compiler than the kit's.
+# AFX names another program, RT another rt, CC another C compiler than the kit's or `cc`. The last line is
+# `N passed, M failed`, where a run with one refused allocation counts as one.
 set -u
 top=$(CDPATH= cd -- "$(dirname -- "$0")/.." && pwd)
 rt=${RT:-rt}

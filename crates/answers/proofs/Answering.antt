@@ -1,4 +1,4 @@
--- From what a command wrote, or why it wrote nothing, to what was done.
+-- From what a command wrote, or why it wrote nothing, to what it has done.
 pub use Rattle.facts.proofs.Results.{err_passed}
 use Rattle.std.proofs.Common.{◌≡◌, ◌≢◌, ◌<◌, ◌≤◌, inl, inr, ℕ, List, Option, Some, Result, Ok, Err, ap, ◌∙◌, map, sym, subst, refl}
 use Rattle.std.proofs.KnownBytes.{Keeps-refl}
@@ -73,7 +73,7 @@ pub other_failure : (f : Failure) → IsOther f → f ≢ CannotWriteOutput
 other_failure f other is = subst IsOther is other
 
 module _ (Is : Answer) (Why : Failure → Type 0) where
-  -- a failure that comes before anything is written
+  -- a failure before anything is written
   pub refused : (b : Option (List ℕ)) (f : Failure) → Why f → f ≢ CannotWriteOutput → Failed Is Why b b f
   refused b f why other = record { why = why; silent = λ _. Keeps-refl b; begun = λ is. absurd (other is) }
 
@@ -83,7 +83,7 @@ module _ (Is : Answer) (Why : Failure → Type 0) where
   passed_on b (Ok x) f is why other = absurd is
   passed_on b (Err y) f is why other = subst (Failed Is Why b b) (sym is) (refused b f why other)
 
-  -- what was shown is the answer, or a beginning of it
+  -- what was shown is the answer, or a prefix of it
   pub answered : (old new : Option (List ℕ)) (r : Result ℕ Failure) (told : List ℕ) (status : ℕ) → Why CannotWriteOutput
       → Is told status → Writes old new r told → IfOk r (λ x. x ≡ status) → IfErr r (λ f. f ≡ CannotWriteOutput)
       → Done Is Why old new r
@@ -99,7 +99,7 @@ module _ (Is : Answer) (Why : Failure → Type 0) where
   }
 
 module _ (c : Command) (s : Settings) (held : Held) (text : List ℕ) (b : Option (List ℕ)) where
-  -- a failure of a command that comes before anything is written
+  -- a failure of a command before anything is written
   pub refuses : (f : Failure) → Explains c s held text f → f ≢ CannotWriteOutput
       → Failed (Answers c s held text) (Explains c s held text) b b f
   refuses f why other = refused (Answers c s held text) (Explains c s held text) b f why other
@@ -134,7 +134,7 @@ module _ (c : Command) (s : Settings) (held : Held) (text : List ℕ) (b : Optio
     no_input_other CannotWriteOutput told = told
     no_input_other _ told = tt
 
-  -- of a command that runs whatever program another runs
+  -- for a command that runs every program that another runs
   module _ (d : Command) (runs : (code : Program) → IsRunBy d code → IsRunBy c code) where
     pub lack_explained : (f : Failure) → LacksInput d s held text f → Explains c s held text f
     lack_explained f lack = no_input_explained lack.code lack.is_code (runs lack.code lack.is_run) f lack.why
@@ -216,7 +216,7 @@ module _ (text told : List ℕ) (kept typed : Typed) (same : typed ≡ kept)
   spelled_so : AreTokensOf (chars text) (spelling (program_of typed))
   spelled_so = subst (λ (t : Typed). AreTokensOf (chars text) (spelling (program_of t))) (sym same) spelled
 
-  -- what is told of an accepted program
+  -- what is reported for an accepted program
   pub accepted_answers : (about : About) → told ≡ accepted_told about (code_of typed) (program_of typed)
       → TellsAccepted text (accepted_told about) told 0
   accepted_answers about is = record {
@@ -227,14 +227,14 @@ module _ (text told : List ℕ) (kept typed : Typed) (same : typed ≡ kept)
     status_is = refl;
   }
 
--- ---- what is told of an accepted program
+-- ---- what is reported for an accepted program
 
--- the commands that ask for it look for races
+-- the commands that request it look for races
 pub checks_look : (about : About) → LooksForRaces (command_about about)
 checks_look Counts = tt
 checks_look Lines = tt
 
--- and what they answer is that
+-- and their answer is that text
 pub check_answers : (about : About) (s : Settings) (held : Held) (text told : List ℕ) (status : ℕ)
     → TellsAccepted text (accepted_told about) told status → Answers (command_about about) s held text told status
 check_answers Counts s held text told status answers = answers
@@ -257,7 +257,7 @@ pub labels_answer : (text told : List ℕ) (program : tree.Program) → AreToken
     → told ≡ listed program → AnswersLabels text told 0
 labels_answer text told program spelled is = record { program = program; spelled = spelled; told_is = is; status_is = refl }
 
--- the same with places
+-- the listing with places
 pub places_answer : (text told listing : List ℕ) (program : tree.Program) (places : List Place)
     → AreTokensOf (chars text) (spelling program) → AreBegun (chars text) (starts program) places
     → told ≡ placed_lines places (lines listing) → listing ≡ listed program → AnswersPlaces text told 0
@@ -270,14 +270,14 @@ places_answer text told listing program places spelled begun is of = record {
   status_is = refl;
 }
 
--- the text laid out
+-- the text in the canonical layout
 pub is_layout : (text laid : List ℕ) (program : tree.Program) → AreTokensOf (chars text) (spelling program) → IsUtf8 laid
     → IsLaidOut (chars text) (chars laid) → KeepsAll (chars text) (chars laid) → HaveSameTokens (chars text) (chars laid)
     → IsLayoutOf text program laid
 is_layout text laid program spelled utf8 laid_out kept same =
     record { is_text = utf8; is_laid = laid_out; kept = kept; same = same (spelling program) spelled }
 
--- and told
+-- and written
 pub format_answer : (text laid told : List ℕ) (program : tree.Program) → AreTokensOf (chars text) (spelling program)
     → told ≡ laid → IsLayoutOf text program laid → AnswersFormat text told 0
 format_answer text laid told program spelled is layout = record {
@@ -292,7 +292,7 @@ pub differ : (equal : Bool) (told laid text : List ℕ) → told ≡ laid → eq
 differ equal told laid text of is none same =
     false_true (sym none ∙ is ∙ (bytes_eq-Decides told text).1 (of ∙ same))
 
--- a text that isn't: its layout is another
+-- a text that is not formatted: its layout is another text
 pub needs_layout : (text laid : List ℕ) (program : tree.Program) → AreTokensOf (chars text) (spelling program)
     → IsUtf8 text → IsUtf8 laid → laid ≢ text → IsLaidOut (chars text) (chars laid) → NeedsLayout text
 needs_layout text laid program spelled utf8 laid_utf8 other laid_out = record {
@@ -303,7 +303,7 @@ needs_layout text laid program spelled utf8 laid_utf8 other laid_out = record {
       other (sym (encodes-chars laid laid_utf8) ∙ ap encodes same ∙ encodes-chars text utf8);
 }
 
--- pairs as they are kept are listed as those of the program
+-- pairs as they are stored are listed as those of the program
 pub listed_as : (has meets : ℕ → ℕ → Type 0) → ((x y : ℕ) → has x y ↔ meets x y) → (pairs : List (ℕ × ℕ))
     → AreListed has pairs → AreListed meets pairs
 listed_as has meets same pairs listed = record {
@@ -325,7 +325,7 @@ pairs_answer text code kept list is_code are listed = record {
   status_is = refl;
 }
 
--- what was shown is the answer, or a beginning of it
+-- what was shown is the answer, or a prefix of it
 pub shown : (c : Command) (s : Settings) (held : Held) (text : List ℕ) (old new : Option (List ℕ)) (r : Result ℕ Failure)
     (told : List ℕ) (status : ℕ) → Answers c s held text told status → Writes old new r told → IfOk r (λ x. x ≡ status)
     → IfErr r (λ f. f ≡ CannotWriteOutput) → Does c s held text old new r
@@ -334,7 +334,7 @@ shown c s held text old new r told status answers written is only =
 
 -- ---- costs
 
--- the commands that tell them test the rules of types, and run the program
+-- the commands that report them test the rules of types, and run the program
 pub costs_test_rules : (shares : Shares) → TestsRules (command_of shares)
 costs_test_rules Untold = tt
 costs_test_rules ByLabel = tt
@@ -345,7 +345,7 @@ costs_are_run Untold code = tt
 costs_are_run ByLabel code = tt
 costs_are_run ByProcedure code = tt
 
--- what they answer is a cost with shares
+-- their answer is a cost with shares
 pub cost_answers : (shares : Shares) (s : Settings) (held : Held) (text told : List ℕ) (status : ℕ)
     → AnswersCost shares s held text told status → Answers (command_of shares) s held text told status
 cost_answers Untold s held text told status answers = answers
@@ -375,7 +375,7 @@ outcome_shown arrays code o p declared same are = record {
 ends_not_open : (o : Outcome) (leaves : ℕ) → Ends o ≡ Open leaves → ⊥
 ends_not_open o leaves is = cc
 
--- the outcome to which it comes
+-- the outcome that it leads to
 pub outcome_explored : (s : Settings) (held : Held) (text : List ℕ) (o : Outcome) (declared : List Array)
     (by : Explores s held text (Ends o)) → declared ≡ by.run.code.arrays
     → AnswersExplore s held text (outcome_text declared s.arrays o) (status_of o)
@@ -387,7 +387,7 @@ outcome_explored s held text o declared by are = record {
   status_is = refl;
 }
 
--- the leaves that may step
+-- the leaves that can step
 pub open_explored : (s : Settings) (held : Held) (text : List ℕ) (leaves : ℕ) (by : Explores s held text (Open leaves))
     → ((n : ℕ) → Open leaves ≡ Open n → 0 < n) → AnswersExplore s held text (open_text leaves) 3
 open_explored s held text leaves by some =
@@ -424,7 +424,7 @@ abbrev pub is_explored : (s : Settings) (held : Held) (text : List ℕ) (code : 
 is_explored s held text code accepted input given =
     record { code = code; accepted = accepted; input = input; given = given }
 
--- what was begun
+-- a program without a race, and its input
 module _ (s : Settings) (held : Held) (text : List ℕ) (b : Begun)
     (given : HasInput s held text (code_of b.accepted.typed) (lists_of b.input)) where
   abbrev pub begun_so : IsExplored s held text

@@ -1,4 +1,4 @@
--- Nothing is told of a run where the command fails before it.
+-- The watch isn't notified if the command fails before its run.
 use Rattle.std.proofs.Common.{ℕ, List, [], Bool, Result, Ok, Err}
 use Rattle.std.specs.Prelude.{IsErrAnd}
 use Rattle.statement_steps.specs.Watched.{Watches}

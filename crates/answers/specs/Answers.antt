@@ -1,4 +1,4 @@
--- What a command answers to the text of a program, and why it fails.
+-- The answers of commands to the text of a program, and the reasons for failures.
 use Rattle.std.specs.Prelude.{ℕ, ℤ, ◌≡◌, ◌≢◌, ◌⊎◌, ◌+◌, ◌++◌, List, [], Bool, false, IsTrue}
 use Rattle.std.specs.Prelude.{Option, Some, is_some, Result, MatchResult}
 use Rattle.std.specs.Io.KnownBytes.{Appends, Keeps}
@@ -77,7 +77,7 @@ pub record IsExplored (s : Settings) (held : Held) (text : List ℕ) : Type 0 wh
   pub input : List (List ℤ)
   pub given : HasInput s held text code input
 
--- the command runs the program; here and below each command has a row, so that a new one wants one
+-- the command runs the program; each command has a row here and below, and a new command needs new rows
 abbrev pub IsRunBy : Command → Program → Type 0
 IsRunBy Run code = IsAccepted code
 IsRunBy Explore code = IsAccepted code
@@ -99,13 +99,13 @@ IsRunBy CheckFormat code = ⊥
 
 -- ---- answers
 
--- the text of an outcome, with the arrays if they are asked for, and its status
+-- the text of an outcome, with the arrays if they are requested, and its status
 pub record Shows (arrays : Bool) (o : Outcome) (code : Program) (told : List ℕ) (status : ℕ)
     : Type 0 where
   pub told_is : told ≡ outcome_text code.arrays arrays o
   pub status_is : status ≡ status_of o
 
--- what is told of the text's program and of the input that was given
+-- what is reported for the text's program and the input that was given
 pub record TellsOfRun (s : Settings) (held : Held) (text : List ℕ)
     (Tells : Program → (input : List (List ℤ)) → Type 0) : Type 0 where
   pub code : Program
@@ -118,14 +118,14 @@ abbrev pub AnswersSerial : Settings → Held → (text told : List ℕ) → (sta
 AnswersSerial s held text told status =
     TellsOfRun s held text (λ code input. Shows s.arrays (outcome code input s.budget) code told status)
 
--- the lines of a cost, and behind them those of the shares of each label, or of each procedure, of which
--- these are the rows
+-- the lines of a cost, followed by those of the shares of each label, or of each procedure; these are their
+-- rows
 abbrev pub cost_lines : Shares → Numbers → (work span : List ℕ) → Program → List ℕ
 cost_lines Untold c work span code = cost_text c
 cost_lines ByLabel c work span code = cost_text c ++ labels_text work span
 cost_lines ByProcedure c work span code = cost_text c ++ procedures_text work span code
 
--- how many rows there are for them: one for each label of the program, and for 0
+-- the number of their rows: one for each label of the program, and one for 0
 abbrev pub rows_in : Shares → Program → ℕ
 rows_in Untold code = 0
 rows_in ByLabel code = labels_in code + 1
@@ -135,25 +135,25 @@ rows_in ByProcedure code = labels_in code + 1
 abbrev pub account_in : Shares → Program → (input : List (List ℤ)) → Budget → Account
 account_in shares code input b = account_of code (rows_in shares code) input b
 
--- the lines of what it cost
+-- the lines of its cost
 abbrev pub lines_in : Shares → Program → (input : List (List ℤ)) → Budget → List ℕ
 lines_in shares code input b =
     let a = account_in shares code input b in
     cost_lines shares (cost_of (tally_of code input b)) a.work (span_by_label a) code
 
--- the command that asks for them
+-- the command that requests them
 abbrev pub command_of : Shares → Command
 command_of Untold = Cost
 command_of ByLabel = CostByLabel
 command_of ByProcedure = CostByProcedure
 
--- what is told of a run that ended without faults is what it cost; of any other its outcome
+-- if a run ended without faults its cost is reported, else its outcome
 pub data TellsCost (code : Program) (o : Outcome) (cost told : List ℕ) (status : ℕ) : Type 0 where
   numbers : status_of o ≡ 0 → told ≡ cost → status ≡ 0 → TellsCost code o cost told status
   not_ended : status_of o ≢ 0 → Shows false o code told status → TellsCost code o cost told status
 
--- `cost`: what the run on one thread cost, of the text's program on the input and under the budget given;
--- with `--by-line` and `--by-procedure` behind it shares
+-- `cost`: the cost of the one-thread run of the text's program on the input and under the budget given;
+-- with `--by-line` and `--by-procedure` shares follow
 abbrev pub AnswersCost : Shares → Settings → Held → (text told : List ℕ) → (status : ℕ) → Type 0
 AnswersCost shares s held text told status =
     TellsOfRun s held text
@@ -165,7 +165,7 @@ pub record AnswersRun (s : Settings) (held : Held) (text told : List ℕ) (statu
   pub run : IsExplored s held text
   pub shows : Shows s.arrays (outcome run.code run.input s.budget) run.code told status
 
--- the text's program has no race, and this is told of it
+-- the text's program has no race, and this is reported for it
 pub record TellsAccepted (text : List ℕ) (text_of : Program → tree.Program → List ℕ)
     (told : List ℕ) (status : ℕ) : Type 0 where
   pub code : Program
@@ -174,17 +174,17 @@ pub record TellsAccepted (text : List ℕ) (text_of : Program → tree.Program �
   pub told_is : told ≡ text_of code is_code.program
   pub status_is : status ≡ 0
 
--- what is told of it: how many procedures and labels it has, or its listing
+-- the text for it: the numbers of procedures and labels, or the listing
 abbrev pub accepted_told : About → Program → tree.Program → List ℕ
 accepted_told Counts code program = accepted_text code
 accepted_told Lines code program = listed program
 
--- the command that asks for it: `check`, or `check --list`
+-- the command that requests it: `check`, or `check --list`
 abbrev pub command_about : About → Command
 command_about Counts = Check
 command_about Lines = Listing
 
--- the pairs of labels of the text's program that may run together, ascending, as this text tells them
+-- the pairs of labels of the text's program that may run together, ascending, in the form of this text
 pub record TellsPairs (text : List ℕ) (text_of : List (ℕ × ℕ) → List ℕ) (told : List ℕ) (status : ℕ)
     : Type 0 where
   pub code : Program
@@ -198,14 +198,14 @@ pub record TellsPairs (text : List ℕ) (text_of : List (ℕ × ℕ) → List �
 abbrev pub AnswersPairs : (text told : List ℕ) → (status : ℕ) → Type 0
 AnswersPairs text = TellsPairs text (flat_map pair_text)
 
--- `list`: the listing of the text's program, whatever rules it breaks
+-- `list`: the listing of the text's program, even if it breaks rules
 pub record AnswersLabels (text told : List ℕ) (status : ℕ) : Type 0 where
   pub program : tree.Program
   pub spelled : AreTokensOf (chars text) (spelling program)
   pub told_is : told ≡ listed program
   pub status_is : status ≡ 0
 
--- `list --lines`: the same, with the place of each statement's first token
+-- `list --lines`: the listing, with the place of each statement's first token
 pub record AnswersPlaces (text told : List ℕ) (status : ℕ) : Type 0 where
   pub program : tree.Program
   pub spelled : AreTokensOf (chars text) (spelling program)
@@ -221,14 +221,14 @@ pub record IsLayoutOf (text : List ℕ) (program : tree.Program) (laid : List �
   pub kept : KeepsAll (chars text) (chars laid)
   pub same : AreTokensOf (chars laid) (spelling program)
 
--- `fmt`: the text is told so
+-- `fmt`: the text is written in that layout
 pub record AnswersFormat (text told : List ℕ) (status : ℕ) : Type 0 where
   pub program : tree.Program
   pub spelled : AreTokensOf (chars text) (spelling program)
   pub layout : IsLayoutOf text program told
   pub status_is : status ≡ 0
 
--- `fmt --check`: the text is so laid out, and nothing is written
+-- `fmt --check`: the text has that layout, and nothing is written
 pub record AnswersCheckFormat (text told : List ℕ) (status : ℕ) : Type 0 where
   pub program : tree.Program
   pub spelled : AreTokensOf (chars text) (spelling program)
@@ -236,12 +236,12 @@ pub record AnswersCheckFormat (text told : List ℕ) (status : ℕ) : Type 0 whe
   pub told_is : told ≡ []
   pub status_is : status ≡ 0
 
--- what its run comes to by the choices that are given
+-- the result of its run by the choices that are given
 pub record Explores (s : Settings) (held : Held) (text : List ℕ) (e : Explored) : Type 0 where
   pub run : IsExplored s held text
   pub by_choices : ComesTo s.choices held run.code run.input e
 
--- `explore`: the text of what the run by choices comes to; where it is open, a leaf may step
+-- `explore`: the text of the result of the run by choices; if it is open, a leaf can step
 pub record AnswersExplore (s : Settings) (held : Held) (text told : List ℕ) (status : ℕ)
     : Type 0 where
   pub comes_to : Explored
@@ -250,8 +250,8 @@ pub record AnswersExplore (s : Settings) (held : Held) (text told : List ℕ) (s
   pub told_is : explored_text explores.run.code.arrays s.arrays comes_to ≡ Some told
   pub status_is : status ≡ explored_status comes_to
 
--- the text told, with its status, answers what is asked of a program's text; what is answered of a trace
--- stands in `viewing`
+-- the text written, with its status, answers the command for a program's text; answers for a trace are in
+-- `viewing`
 abbrev pub Answers : Command → Settings → Held → (text told : List ℕ) → (status : ℕ) → Type 0
 Answers Run s held text told status = AnswersRun s held text told status
 Answers Serial s held text told status = AnswersSerial s held text told status
@@ -273,7 +273,7 @@ Answers Chrome s held text told status = ⊥
 
 -- ---- failures
 
--- the text spells a program, and the error is one of it, or want of memory
+-- the text spells a program that breaks this rule, or memory ran out
 pub record BreaksRule (text : List ℕ) (e : TypeError) : Type 0 where
   pub program : tree.Program
   pub spelled : AreTokensOf (chars text) (spelling program)
@@ -299,18 +299,18 @@ TestsRules Summary = Unit {0}
 TestsRules Draw = Unit {0}
 TestsRules Chrome = Unit {0}
 
--- why a text has no code, memory aside: it spells no program, or one that breaks a rule
+-- why a text has no code, unless memory runs out: it spells no program, or one that breaks a rule
 abbrev pub TellsNoCode : (text : List ℕ) → Failure → Type 0
 TellsNoCode text (Syntax e) = IsErrorOfText text e
 TellsNoCode text (Types e) = BreaksRule text e
 TellsNoCode text _ = ⊥
 
--- why a text spells no program, memory aside
+-- why a text spells no program, unless memory runs out
 abbrev pub TellsUnspelled : (text : List ℕ) → Failure → Type 0
 TellsUnspelled text (Syntax e) = IsErrorOfText text e
 TellsUnspelled text _ = ⊥
 
--- C1: the text's program has a race, and the least one is told
+-- C1: the text's program has a race, and the least one is reported
 pub record HasRace (text procedure first second : List ℕ) : Type 0 where
   pub code : Program
   pub is_code : IsCodeOf text code
@@ -338,7 +338,7 @@ LooksForRaces Cost = ⊥
 LooksForRaces CostByLabel = ⊥
 LooksForRaces CostByProcedure = ⊥
 
--- why a text has no accepted program, memory aside
+-- why a text has no accepted program, unless memory runs out
 abbrev pub TellsNotAccepted : (text : List ℕ) → Failure → Type 0
 TellsNotAccepted text (Syntax e) = TellsNoCode text (Syntax e)
 TellsNotAccepted text (Types e) = TellsNoCode text (Types e)
@@ -347,7 +347,7 @@ TellsNotAccepted text (Race procedure first second) =
 TellsNotAccepted text NoMemoryInCheck = Unit {0}
 TellsNotAccepted text _ = ⊥
 
--- the text's program is run, but there is no input, as the failure says
+-- the text's program is run, but there is no input, for the reason in the failure
 pub record LacksInput (c : Command) (s : Settings) (held : Held) (text : List ℕ) (f : Failure)
     : Type 0 where
   pub code : Program
@@ -355,15 +355,15 @@ pub record LacksInput (c : Command) (s : Settings) (held : Held) (text : List �
   pub is_run : IsRunBy c code
   pub why : TellsNoInput s.input held code.arrays f
 
--- why a text has no code, or its program no input, memory aside
+-- why a text has no code, or its program no input, unless memory runs out
 abbrev pub TellsNotGiven : Settings → Held → (text : List ℕ) → Failure → Type 0
 TellsNotGiven s held text f = TellsNoCode text f ⊎ LacksInput Serial s held text f
 
--- why a text has no accepted program, or that program no input, memory aside
+-- why a text has no accepted program, or that program no input, unless memory runs out
 abbrev pub TellsNotBegun : Settings → Held → (text : List ℕ) → Failure → Type 0
 TellsNotBegun s held text f = TellsNotAccepted text f ⊎ LacksInput Run s held text f
 
--- the text's program is run by choices, but there are none, as the failure says
+-- the text's program is run by choices, but there are none, for the reason in the failure
 pub record LacksChoices (c : Command) (s : Settings) (held : Held) (text : List ℕ) (f : Failure)
     : Type 0 where
   pub by_choices : c ≡ Explore
@@ -376,13 +376,13 @@ pub record LacksLeaf (c : Command) (s : Settings) (held : Held) (text : List ℕ
   pub by_choices : c ≡ Explore
   pub explores : Explores s held text (NoSuchChoice n)
 
--- the text spells a program, and is not laid out
+-- the text spells a program, and is not formatted
 pub record NeedsLayout (text : List ℕ) : Type 0 where
   pub program : tree.Program
   pub spelled : AreTokensOf (chars text) (spelling program)
   pub not_laid : ¬ IsLaidOut (chars text) (chars text)
 
--- the text's program has no race, and is run as tasks on its input, without an outcome that is told; and why
+-- the text's program has no race and runs in parallel on its input, but has no outcome, for this reason
 pub record FailsAsTasks (c : Command) (s : Settings) (held : Held) (text : List ℕ) (Why : Type 0)
     : Type 0 where
   pub as_tasks : c ≡ Run
@@ -393,8 +393,8 @@ pub record FailsAsTasks (c : Command) (s : Settings) (held : Held) (text : List 
 abbrev pub IsTraced : Settings → Type 0
 IsTraced s = IsTrue (is_some s.trace)
 
--- a failure is one of the text, for what was asked; only want of memory is free, and which file can't be
--- written
+-- a failure is one of the text, for this command; only out of memory, and a failure to write the output,
+-- are reported without a condition
 abbrev pub Explains : Command → Settings → Held → (text : List ℕ) → Failure → Type 0
 Explains c s held text (CannotRead name) =
     (LacksInput c s held text (CannotRead name)) ⊎ (LacksChoices c s held text (CannotRead name))
@@ -418,31 +418,31 @@ Explains c s held text NoMemory = Unit {0}
 
 -- ---- what was done
 
--- which text is an answer, with which status
+-- the texts and statuses that are answers
 abbrev pub Answer : Type 1
 Answer = (told : List ℕ) → (status : ℕ) → Type 0
 
--- an answer was written whole, and its status given
+-- an answer was written completely, and its status returned
 pub record Wrote (Is : Answer) (old new : Option (List ℕ)) (status : ℕ) : Type 0 where
   pub told : List ℕ
   pub answers : Is told status
   pub written : Appends old new told
 
--- an answer was begun
+-- a prefix of an answer was written
 pub record Began (Is : Answer) (old new : Option (List ℕ)) : Type 0 where
   pub told : List ℕ
   pub status : ℕ
   pub answers : Is told status
   pub begun : AppendsBeginning old new told
 
--- there is a reason; nothing was written, or, where writing failed, a beginning of the answer
+-- there is a reason; nothing was written, or, if writing failed, a prefix of the answer
 pub record Failed (Is : Answer) (Why : Failure → Type 0) (old new : Option (List ℕ)) (f : Failure)
     : Type 0 where
   pub why : Why f
   pub silent : f ≢ CannotWriteOutput → Keeps old new
   pub begun : f ≡ CannotWriteOutput → Began Is old new
 
--- what is asked was done
+-- the command was done
 abbrev pub Done : Answer → (Why : Failure → Type 0) → (old new : Option (List ℕ)) → Result ℕ Failure
     → Type 0
 Done Is Why old new r = MatchResult r (Wrote Is old new) (Failed Is Why old new)
@@ -452,6 +452,6 @@ abbrev pub Does : Command → Settings → Held → (text : List ℕ) → (old n
     → Result ℕ Failure → Type 0
 Does c s held text = Done (Answers c s held text) (Explains c s held text)
 
--- it was done with the text alone, whatever settings there are and whatever files hold
+-- it was done with the text alone, independent of settings and files
 abbrev pub DoesAlone : Command → (text : List ℕ) → (old new : Option (List ℕ)) → Result ℕ Failure → Type 0
 DoesAlone c text old new r = (s : Settings) (held : Held) → Does c s held text old new r

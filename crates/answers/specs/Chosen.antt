@@ -1,4 +1,4 @@
--- By which choices a program is run, and what that comes to.
+-- The choices that a program is run by, and the result of that run.
 use Rattle.std.specs.Prelude.{ℕ, ℤ, ◌≡◌, ◌<◌, List, [], Option, None, Some}
 use Rattle.types.specs.Code.{Program}
 use Rattle.types.specs.TreeRuns.{Explored, Open, explored}
@@ -16,13 +16,13 @@ AreChosen (Some (Listed text)) held p input choices = said_by text ≡ Some choi
 AreChosen (Some (InFile name)) held p input choices = SaysChoices held name (Some choices)
 AreChosen (Some (Random seed)) held p input choices = choices ≡ drawn_choices p input seed
 
--- what the run of a program on an input comes to by the choices that are given
+-- the result of the run of a program on an input by the choices that are given
 pub record ComesTo (c : Option Choosing) (held : Held) (p : Program) (input : List (List ℤ))
     (e : Explored) : Type 0 where
   pub choices : List ℕ
   pub given : AreChosen c held p input choices
   pub comes_to : e ≡ explored p input choices
 
--- what is open has a leaf that may step
+-- an open result has a leaf that can step
 abbrev pub HasLeaves : Explored → Type 0
 HasLeaves e = (leaves : ℕ) → e ≡ Open leaves → 0 < leaves

@@ -1,4 +1,4 @@
--- What a program is run on, and what it comes to, as values of Rust say it.
+-- The input and the outcome of a program, for values of Rust.
 use Rattle.std.specs.Prelude.{◌≡◌}
 use Rattle.types.specs.Contents.{FitsArrays}
 use Rattle.types.specs.Outcome.{outcome}

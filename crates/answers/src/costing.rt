@@ -1,4 +1,4 @@
-//! `cost`: what a run on one thread costs.
+//! `cost`: the cost of a run on one thread.
 
 ghost use Rattle.std.specs.Prelude.{◌≡◌, ◌+◌, ◌++◌, IfErr, IfOk};
 ghost use Rattle.std.specs.String.{string_bytes};
@@ -20,20 +20,20 @@ use std::io::Write;
 use texts::labels::labels;
 use types::typed::Typed;
 
-/// What has shares of a cost, that are told behind it.
+/// The shares of a cost that are shown after it.
 #[derive(Clone, Copy)]
 pub enum Shares {
-    /// Nothing: `cost`.
+    /// No shares: `cost`.
     Untold,
-    /// Each label: `cost --by-line`.
+    /// A share for each label: `cost --by-line`.
     ByLabel,
-    /// Each procedure, and `main`: `cost --by-procedure`.
+    /// A share for each procedure, and for `main`: `cost --by-procedure`.
     ByProcedure,
 }
 
-/// Runs the program on one thread, and writes what that costs: work, span and other numbers, and behind
-/// them these shares of them. Of a run that has faults or is stopped its outcome is written in their
-/// place; gives the exit status.
+/// Runs the program on one thread, and writes the cost of that: work, span and other numbers, and
+/// then these shares of them. If the run has faults or is stopped, writes its outcome instead.
+/// Returns the exit status.
 pub fn tell_cost<F: FileSource, O: Write>(
     alloc: Global,
     shares: Shares,
@@ -58,7 +58,7 @@ pub fn tell_cost<F: FileSource, O: Write>(
     }
 }
 
-/// How many rows there are for these shares of a program's cost.
+/// Returns the number of rows for these shares of a program's cost.
 fn rows_of(shares: Shares, typed: &Typed) -> Result<usize, Failure>
     ensures rows { IfOk result (λ rows. rows ≡ rows_in shares (code_of typed.now)) }
     ensures why { IfErr result (λ failure. failure ≡ Failure.NoMemory) }
@@ -70,7 +70,7 @@ fn rows_of(shares: Shares, typed: &Typed) -> Result<usize, Failure>
     }
 }
 
-/// A row for each label of a program, and for 0.
+/// Returns the number of rows by label: one for each label of a program, and one for 0.
 fn label_rows(typed: &Typed) -> Result<usize, Failure>
     ensures rows { IfOk result (λ rows. rows ≡ labels_in (code_of typed.now) + 1) }
     ensures why { IfErr result (λ failure. failure ≡ Failure.NoMemory) }
@@ -84,7 +84,7 @@ fn label_rows(typed: &Typed) -> Result<usize, Failure>
     }
 }
 
-/// The lines of a cost, and behind them those of its shares.
+/// Returns the lines of a cost, followed by those of its shares.
 fn lines_of(
     alloc: Global,
     shares: Shares,
@@ -108,7 +108,7 @@ fn lines_of(
     }
 }
 
-/// The lines of the shares of procedures.
+/// Returns the lines of the shares of procedures.
 fn lines_of_procedures(
     alloc: Global,
     typed: &Typed,
@@ -120,7 +120,7 @@ fn lines_of_procedures(
     procedures_text(alloc, typed.code(), &cost.work, &cost.span)
 }
 
-/// A text and another behind it.
+/// Returns a text followed by another.
 fn joined(first: String, second: &String) -> Result<String, AllocError>
     ensures { IfOk result
         (λ text. string_bytes text ≡ string_bytes first ++ string_bytes second.now) }

@@ -1,4 +1,4 @@
-//! `--explain`: what is said behind the line of a failure, and behind an outcome.
+//! `--explain`: the text after the line of a failure, and after an outcome.
 
 ghost use Rattle.std.specs.Prelude.{◌≡◌, ◌≤◌, [], IfOk};
 ghost use Rattle.std.specs.String.{string_bytes};
@@ -29,9 +29,9 @@ use types::budget::{Budget, MOST_NEST, MOST_STEPS};
 use types::input_error::InputError;
 use witness::witness::witness_of;
 
-/// What went wrong, why, and what would be right: in the text of a program, in the file of its input or in
-/// that of a trace, in its choices, or in its layout. Nothing where more can't be said than the failure's
-/// line does.
+/// Returns what went wrong, why, and what would be right: in the text of a program, in the file of
+/// its input or of a trace, in its choices, or in its formatting. Returns an empty text if there is
+/// no more to say than the failure's line.
 pub fn explanation<R: Threads + Sync, F: FileSource>(
     rt: &R,
     alloc: Global,
@@ -64,7 +64,8 @@ pub fn explanation<R: Threads + Sync, F: FileSource>(
     }
 }
 
-/// What is wrong with a file that a command names beside that of the program. Nothing of any other failure.
+/// Explains what is wrong with a file that a command names in addition to that of the program.
+/// Returns an empty text for any other failure.
 fn file_explained<F: FileSource>(
     alloc: Global,
     files: &mut F,
@@ -80,7 +81,7 @@ fn file_explained<F: FileSource>(
     }
 }
 
-/// Why the least race of a program is one, which is looked for again.
+/// Explains why the least race of a program is one. It looks for the race again.
 fn race_explained<R: Threads + Sync>(
     rt: &R,
     alloc: Global,
@@ -100,7 +101,7 @@ fn race_explained<R: Threads + Sync>(
     }
 }
 
-/// What is wrong with the file of an input, which is read again.
+/// Explains what is wrong with the file of an input. It reads the file again.
 fn input_explained<F: FileSource>(
     alloc: Global,
     files: &mut F,
@@ -122,7 +123,7 @@ fn input_explained<F: FileSource>(
     explained_input(alloc, &typed.code().arrays, input, error)
 }
 
-/// What is wrong with the file of a trace, which is read again.
+/// Explains what is wrong with the file of a trace. It reads the file again.
 fn trace_explained<F: FileSource>(
     alloc: Global,
     files: &mut F,
@@ -143,9 +144,9 @@ fn trace_explained<F: FileSource>(
     }
 }
 
-/// What made the faults of a run, or which task was over its budget, behind an outcome with this status.
-/// The program is run once more, on one thread; files are read again. Nothing behind any other answer, and
-/// where files can't be had again.
+/// Explains the faults of a run, or which task was over its budget, after an outcome with this
+/// status. It runs the program again on one thread, and reads files again. Returns an empty text
+/// after any other answer, and if files can't be read again.
 pub fn run_explanation<F: FileSource>(
     alloc: Global,
     files: &mut F,
@@ -165,7 +166,7 @@ pub fn run_explanation<F: FileSource>(
     }
 }
 
-/// What explains an answer behind which no run is done again: a run by choices that is open.
+/// Explains an answer that needs no further run: a run by choices that is open.
 fn without_run(alloc: Global, command: Command, status: u8) -> Result<String, AllocError> {
     match command {
         Command::Explore if status == 3 => open_explained(alloc),
@@ -173,8 +174,8 @@ fn without_run(alloc: Global, command: Command, status: u8) -> Result<String, Al
     }
 }
 
-/// What a run of a command that ended with this status may spend; None where no run has ended. A run by
-/// choices has no budget, and with status 3 it is open.
+/// Returns the budget of a run of a command that finished with this status, or None if no run has
+/// finished. A run by choices has no budget, and with status 3 it is open.
 fn budget_of(command: Command, settings: Settings<'_>, status: u8) -> Option<Budget> {
     match command {
         Command::Run => Some(settings.budget),
@@ -186,7 +187,7 @@ fn budget_of(command: Command, settings: Settings<'_>, status: u8) -> Option<Bud
     }
 }
 
-/// What is seen of a run under a budget, said at length.
+/// Runs the program again under a budget, and explains what happens.
 fn run_again<F: FileSource>(
     alloc: Global,
     files: &mut F,

@@ -1,4 +1,4 @@
-//! Runs by choices, however these are given.
+//! Runs by choices, from any source of choices.
 
 ghost use Rattle.std.specs.Prelude.{◌≡◌, IfErr, IfOk, option_map};
 ghost use Rattle.types.specs.Translation.{input as lists_in};
@@ -19,7 +19,7 @@ use std::alloc::Global;
 use step_trees::explore::{Explored, explore, explore_random};
 use types::input::Input;
 
-/// The run of an accepted program by the choices that are asked for.
+/// Runs an accepted program by the requested choices.
 pub fn explored_by<F: FileSource>(
     alloc: Global,
     files: &mut F,

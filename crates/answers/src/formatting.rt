@@ -11,7 +11,7 @@ use layout::laid_out;
 use std::alloc::Global;
 use std::io::Write;
 
-/// `fmt`: writes the text of a program in the canonical layout, whatever rules it breaks.
+/// `fmt`: writes the text of a program in the canonical layout, even if it breaks rules.
 pub fn format<O: Write>(alloc: Global, text: &str, out: &mut O) -> Result<u8, Failure>
     ensures { DoesAlone Command.Format text.now (O.contents out.old) (O.contents out.new) result }
 {
@@ -20,7 +20,8 @@ pub fn format<O: Write>(alloc: Global, text: &str, out: &mut O) -> Result<u8, Fa
     answer(out, laid.as_str())
 }
 
-/// `fmt --check`: writes nothing where the text of a program is so laid out, and fails elsewhere.
+/// `fmt --check`: writes nothing if the text of a program has the canonical layout, and fails
+/// otherwise.
 pub fn check_format<O: Write>(alloc: Global, text: &str, out: &mut O) -> Result<u8, Failure>
     ensures { DoesAlone Command.CheckFormat text.now
         (O.contents out.old) (O.contents out.new) result }

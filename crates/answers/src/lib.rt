@@ -1,4 +1,4 @@
-//! What each command answers to the text of a program, but for a run as tasks.
+//! The answers of commands to the text of a program, except a parallel run.
 
 #![tactic(auto)]
 

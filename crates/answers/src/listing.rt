@@ -11,7 +11,7 @@ use places::{placed_listing, statement_places};
 use std::alloc::Global;
 use std::io::Write;
 
-/// `list`: writes the listing of a program, whatever rules it breaks.
+/// `list`: writes the listing of a program, even if it breaks rules.
 pub fn list_labels<O: Write>(alloc: Global, text: &str, out: &mut O) -> Result<u8, Failure>
     ensures { DoesAlone Command.Labels text.now (O.contents out.old) (O.contents out.new) result }
 {
@@ -20,7 +20,7 @@ pub fn list_labels<O: Write>(alloc: Global, text: &str, out: &mut O) -> Result<u
     answer(out, listing.as_str())
 }
 
-/// `list --lines`: the same, with the line and the column at which each statement begins.
+/// `list --lines`: writes the listing with the line and the column at which each statement starts.
 pub fn list_places<O: Write>(alloc: Global, text: &str, out: &mut O) -> Result<u8, Failure>
     ensures { DoesAlone Command.Places text.now (O.contents out.old) (O.contents out.new) result }
 {

@@ -1,10 +1,10 @@
-//! Want of memory, in place of what a library says of it.
+//! Out of memory, in place of a library's error.
 
 ghost use Rattle.std.specs.Prelude.{◌≡◌, IfErr, IfOk, Ok};
 
 use intake::failure::Failure;
 
-/// What was made; or want of memory, whatever error tells it.
+/// Returns the value, or out of memory in place of any error.
 pub fn or_no_memory<T: Drop, E: Drop>(made: Result<T, E>) -> Result<T, Failure>
     ensures value { IfOk result (λ value. made ≡ Ok value) }
     ensures why { IfErr result (λ failure. failure ≡ Failure.NoMemory) }

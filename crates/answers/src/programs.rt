@@ -18,7 +18,7 @@ use types::check::type_check;
 use types::laws::typed_programs_are_sound;
 use types::typed::Typed;
 
-/// The program of a text, where it breaks no rule and has no race.
+/// Returns the program of a text, if it breaks no rule and has no race.
 pub fn accepted_of<R: Threads + Sync>(
     rt: &R,
     alloc: Global,
@@ -36,7 +36,7 @@ pub fn accepted_of<R: Threads + Sync>(
     }
 }
 
-/// The program that a text spells, where it breaks no rule.
+/// Returns the program that a text spells, if it breaks no rule.
 pub fn typed_of(alloc: Global, text: &str) -> Result<Typed, Failure>
     ensures spelled { IfOk result (λ t. AreTokensOf (chars text.now) (spelling (program_in t))) }
     ensures code { IfOk result (λ t. IsCodeOf text.now (code_of t)) }
@@ -49,7 +49,7 @@ pub fn typed_of(alloc: Global, text: &str) -> Result<Typed, Failure>
     }
 }
 
-/// The program that a text spells, whatever rules it breaks.
+/// Returns the program that a text spells, even if it breaks rules.
 pub fn program_of(alloc: Global, text: &str) -> Result<Program, Failure>
     ensures spelled { IfOk result (λ p. AreTokensOf (chars text.now) (spelling (tree_of p))) }
     ensures short { IfOk result (λ _. length text.now ≤ 1048576) }

@@ -1,5 +1,5 @@
-//! What is asked of a program, and what is had for it: the program of its text, and what its arrays hold
-//! at first.
+//! The text and the settings of a command, with the program of that text and the initial contents
+//! of its arrays.
 
 ghost use Rattle.std.specs.Prelude.{◌≡◌, IfErr, IfOk};
 ghost use Rattle.types.specs.Translation.{input as lists_in};
@@ -19,7 +19,7 @@ use std::thread::Threads;
 use types::input::Input;
 use types::typed::Typed;
 
-/// The text of a program, and how it is to be run.
+/// The text of a program, and the settings of its run.
 #[derive(Clone, Copy)]
 pub struct Question<'q> {
     pub text: &'q str,
@@ -41,7 +41,7 @@ pub struct Begun {
 }
 
 impl Question<'_> {
-    /// The program of the text, and the input that was given.
+    /// Returns the program of the text, and the input that was given.
     pub fn given<F: FileSource>(self, alloc: Global, files: &mut F) -> Result<Given, Failure>
         ensures given { IfOk result (λ g. HasInput (settings_of self.entry.settings) (F.held files.old)
             self.entry.text.now (code_of g.typed) (lists_in g.input)) }
@@ -55,7 +55,7 @@ impl Question<'_> {
         Ok(Given { typed, input })
     }
 
-    /// The same of a program without a race.
+    /// Returns the program of the text, if it has no race, and the input that was given.
     pub fn begun<R: Threads + Sync, F: FileSource>(
         self,
         rt: &R,

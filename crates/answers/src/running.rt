@@ -1,4 +1,4 @@
-//! The commands that run a program, but for `run`.
+//! The commands that run a program, except `run`.
 
 ghost use Rattle.std.specs.Prelude.{◌≡◌, IfOk};
 ghost use Rattle.command_line.specs.Requests.{settings as settings_of};
@@ -23,7 +23,7 @@ use types::input::Input;
 use types::outcome::Outcome;
 use types::typed::Typed;
 
-/// `serial`: runs the program on one thread, and writes its outcome; gives the exit status.
+/// `serial`: runs the program on one thread, and writes its outcome. Returns the exit status.
 pub fn run_serially<F: FileSource, O: Write, W: Watch>(
     alloc: Global,
     question: Question<'_>,
@@ -43,7 +43,7 @@ pub fn run_serially<F: FileSource, O: Write, W: Watch>(
     show(out, &given.typed.code().arrays, &outcome, settings.arrays)
 }
 
-/// The run on one thread. Where that is asked for, `watch` is told how far it has come, and at its end.
+/// Runs the program on one thread. If requested, notifies `watch` of the progress, and at the end.
 pub fn on_one_thread<W: Watch>(
     alloc: Global,
     typed: &Typed,
@@ -62,7 +62,7 @@ pub fn on_one_thread<W: Watch>(
     }
 }
 
-/// `explore`: runs the program by choices, and writes what it comes to; gives the exit status.
+/// `explore`: runs the program by choices, and writes the result. Returns the exit status.
 pub fn run_by_choices<R: Threads + Sync, F: FileSource, O: Write>(
     rt: &R,
     alloc: Global,

@@ -1,4 +1,4 @@
-//! An answer written, and its exit status.
+//! Answers that are written, and their exit status.
 
 ghost use Rattle.std.specs.Prelude.{◌≡◌, map, IfOk, IfErr};
 ghost use Rattle.std.specs.List.{flat_map};
@@ -16,8 +16,8 @@ use texts::emit::{append, emit, emit_open, emit_pairs};
 use types::code::Array;
 use types::outcome::Outcome;
 
-/// Writes an outcome, with the arrays if they are asked for, and gives its exit status: 0 ended, 2 ended with
-/// faults, 3 stopped.
+/// Writes an outcome, with the arrays if they are requested, and returns its exit status: 0 ended,
+/// 2 ended with faults, 3 stopped.
 pub fn show<O: Write>(
     out: &mut O,
     declared: &[Array],
@@ -35,7 +35,7 @@ pub fn show<O: Write>(
     Ok(status(outcome))
 }
 
-/// The exit status of an outcome: 0 ended, 2 ended with faults, 3 stopped.
+/// Returns the exit status of an outcome: 0 ended, 2 ended with faults, 3 stopped.
 pub fn status(outcome: &Outcome) -> u8
     ensures { result ≡ status_of (outcome_of outcome.now) }
 {
@@ -45,7 +45,7 @@ pub fn status(outcome: &Outcome) -> u8
     }
 }
 
-/// Writes how many leaves may step; the status is 3.
+/// Writes the number of leaves that can step, and returns status 3.
 pub fn show_open<O: Write>(out: &mut O, leaves: u32) -> Result<u8, Failure>
     ensures text { Writes (O.contents out.old) (O.contents out.new) result (open_text leaves) }
     ensures status { IfOk result (λ status. status ≡ 3) }
@@ -57,7 +57,7 @@ pub fn show_open<O: Write>(out: &mut O, leaves: u32) -> Result<u8, Failure>
     }
 }
 
-/// Writes an answer whose status is 0.
+/// Writes an answer, and returns status 0.
 pub fn answer<O: Write>(out: &mut O, text: &str) -> Result<u8, Failure>
     ensures text { Writes (O.contents out.old) (O.contents out.new) result text.now }
     ensures status { IfOk result (λ status. status ≡ 0) }
@@ -69,7 +69,7 @@ pub fn answer<O: Write>(out: &mut O, text: &str) -> Result<u8, Failure>
     }
 }
 
-/// Writes pairs of labels, a line each; the status is 0.
+/// Writes pairs of labels, one per line, and returns status 0.
 pub fn answer_pairs<O: Write>(out: &mut O, pairs: PairList<'_>) -> Result<u8, Failure>
     ensures text { Writes (O.contents out.old) (O.contents out.new) result
         (flat_map pair_text (pairs_left pairs.entry)) }

@@ -1,4 +1,4 @@
-//! The commands that tell of a program without a run.
+//! The commands that report on a program without a run.
 
 ghost use Rattle.std.specs.Prelude.{◌≡◌, IfOk};
 ghost use Rattle.std.specs.String.{string_bytes};
@@ -21,16 +21,16 @@ use texts::labels::accepted_line;
 use types::laws::typed_programs_are_sound;
 use types::typed::Typed;
 
-/// What is told of a program that has no race.
+/// The part of an answer about a program that has no race.
 #[derive(Clone, Copy)]
 pub enum About {
-    /// How many procedures and labels it has: `check`.
+    /// The numbers of its procedures and labels: `check`.
     Counts,
     /// Its listing: `check --list`.
     Lines,
 }
 
-/// Writes this of an accepted program.
+/// Writes this part for an accepted program.
 pub fn check<R: Threads + Sync, O: Write>(
     rt: &R,
     alloc: Global,
@@ -46,7 +46,7 @@ pub fn check<R: Threads + Sync, O: Write>(
     answer(out, told.as_str())
 }
 
-/// The text of this.
+/// Returns the text of this part.
 fn told_of(alloc: Global, about: About, typed: &Typed) -> Result<String, AllocError>
     ensures { IfOk result (λ told. string_bytes told
         ≡ accepted_told about (code_of typed.now) (program_in typed.now)) }
@@ -66,7 +66,7 @@ pub fn pairs<O: Write>(alloc: Global, text: &str, out: &mut O) -> Result<u8, Fai
     answer_pairs(out, pairs.list())
 }
 
-/// The pairs of labels of a program that may run together.
+/// Returns the pairs of labels of a program that may run together.
 pub fn pairs_of(alloc: Global, typed: &Typed) -> Result<Pairs, AllocError>
     ensures { IfOk result (ArePairs (code_of typed.now)) }
 {

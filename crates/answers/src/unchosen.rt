@@ -1,4 +1,4 @@
-//! Choices that are none, or name no task, said at length.
+//! Explanations for choices that don't parse, or that name no task.
 
 ghost use Rattle.std.specs.Prelude.{◌≡◌};
 
@@ -8,7 +8,7 @@ use excerpts::source::push_line;
 use intake::files::FileSource;
 use std::alloc::{AllocError, Global};
 
-/// The most bytes of a file of choices.
+/// The maximum number of bytes of a file of choices.
 const MOST_BYTES: usize = 16_777_216;
 
 const TOO_LONG: &str = "
@@ -33,7 +33,7 @@ To mend it: choose on, by one choice more, or let `--random 1` choose to the end
 More: `afx explain open`.
 ";
 
-/// Which entry of a list or of a file is no choice, and what one is.
+/// Explains which entry of a list or of a file is not a choice, and what a choice is.
 pub fn choices_explained<F: FileSource>(
     alloc: Global,
     files: &mut F,
@@ -51,7 +51,7 @@ pub fn choices_explained<F: FileSource>(
     }
 }
 
-/// Which entry of a file is no choice, or that it is too long.
+/// Explains which entry of a file is not a choice, or that the file is too long.
 fn filed_explained(alloc: Global, bytes: &[u8]) -> Result<String, AllocError> {
     if bytes.len() > MOST_BYTES {
         return String::from_str(alloc, TOO_LONG);
@@ -65,7 +65,7 @@ fn filed_explained(alloc: Global, bytes: &[u8]) -> Result<String, AllocError> {
     entry_explained(alloc, text, wrong_in_file(text).or(behind), FILED)
 }
 
-/// Where the entry stands that is no choice, and how choices are written.
+/// Explains where the entry is that is not a choice, and how to write choices.
 fn entry_explained(
     alloc: Global,
     text: &str,
@@ -85,7 +85,7 @@ fn entry_explained(
     Ok(told)
 }
 
-/// Where the first entry of a list begins that is no choice, in bytes.
+/// Returns the start of the first entry of a list that is not a choice, in bytes.
 fn wrong_in_list(list: &str) -> Option<usize> {
     let mut at: usize = 0;
     for entry in list.split(',') {
@@ -97,7 +97,7 @@ fn wrong_in_list(list: &str) -> Option<usize> {
     None
 }
 
-/// Whether an entry has what may stand between those of a file.
+/// Returns whether an entry contains a separator of files.
 fn has_blank(entry: &str) -> bool {
     for byte in entry.as_bytes() {
         if separates(*byte) {
@@ -107,7 +107,7 @@ fn has_blank(entry: &str) -> bool {
     false
 }
 
-/// Where the first entry of a file begins that is no choice, in bytes.
+/// Returns the start of the first entry of a file that is not a choice, in bytes.
 fn wrong_in_file(text: &str) -> Option<usize> {
     let mut begun: usize = 0;
     let mut value: u64 = 0;
@@ -128,12 +128,12 @@ fn wrong_in_file(text: &str) -> Option<usize> {
     None
 }
 
-/// Whether a byte may stand between two numbers of a file.
+/// Returns whether a byte can separate two numbers of a file.
 fn separates(byte: u8) -> bool {
     byte == b'\t' || byte == b'\n' || byte == b'\r' || byte == b' ' || byte == b','
 }
 
-/// Why a choice names no task.
+/// Explains why a choice names no task.
 pub fn no_leaf_explained(alloc: Global, choice: usize) -> Result<String, AllocError> {
     let mut told = String::new(alloc);
     write!(
@@ -144,7 +144,7 @@ pub fn no_leaf_explained(alloc: Global, choice: usize) -> Result<String, AllocEr
     Ok(told)
 }
 
-/// Why a run by choices is open.
+/// Explains why a run by choices is open.
 pub fn open_explained(alloc: Global) -> Result<String, AllocError> {
     String::from_str(alloc, OPEN)
 }

@@ -1,4 +1,4 @@
-//! Texts that aren't their own layout, said at length.
+//! Explanations for texts that aren't formatted.
 
 use crate::programs::program_of;
 use crate::unread::place_behind;
@@ -6,7 +6,7 @@ use excerpts::source::push_excerpt;
 use layout::laid_out;
 use std::alloc::{AllocError, Global};
 
-/// Where a text goes another way than its layout, and what lays it out.
+/// Explains where a text differs from its canonical layout, and how to format it.
 pub fn layout_explained(alloc: Global, text: &str) -> Result<String, AllocError> {
     let Ok(_program) = program_of(alloc, text) else {
         return Ok(String::new(alloc));
@@ -23,7 +23,7 @@ pub fn layout_explained(alloc: Global, text: &str) -> Result<String, AllocError>
     Ok(told)
 }
 
-/// How many bytes at the beginning of two texts are alike, in whole characters.
+/// Returns the length in bytes of the common prefix of two texts, in whole characters.
 fn alike(text: &str, laid: &str) -> usize {
     let mut at: usize = 0;
     for (stands, wanted) in text.chars().zip(laid.chars()) {
@@ -35,7 +35,7 @@ fn alike(text: &str, laid: &str) -> usize {
     at
 }
 
-/// Adds what the first character of a text is called, or that there is none.
+/// Appends the name of the first character of a text, or that there is none.
 fn push_first(told: &mut String, text: &str) -> Result<(), AllocError> {
     match text.chars().next() {
         None => told.push_str("the end"),

@@ -1,4 +1,4 @@
-//! Files that can't be had, or are no text, said at length.
+//! Explanations for files that can't be read, or are not text.
 
 ghost use Rattle.std.specs.Prelude.{◌≡◌};
 
@@ -9,10 +9,10 @@ use std::alloc::{AllocError, Global};
 use syntax::Place;
 use syntax::error::SyntaxError;
 
-/// The most bytes of a program's text.
+/// The maximum number of bytes of a program's text.
 const MOST_BYTES: usize = 1_048_576;
 
-/// The most bytes that are read of a text that is too long, to tell how many it has.
+/// The maximum number of bytes that are read of a text that is too long, to count its bytes.
 const MOST_COUNTED: usize = 16_777_216;
 
 const UNREAD: &str = "
@@ -35,8 +35,8 @@ Programs, inputs and traces are UTF-8.
 To mend it: write the file anew in UTF-8; outside of comments a program has ASCII alone.
 ";
 
-/// Why the file of a program gives no text, and what would be right. Nothing where more can't be said than
-/// the failure's line does.
+/// Explains why the file of a program gives no text, and what would be right. Returns an empty text
+/// if there is no more to say than the failure's line.
 pub fn unread_explanation<F: FileSource>(
     alloc: Global,
     files: &mut F,
@@ -56,7 +56,8 @@ pub fn unread_explanation<F: FileSource>(
     }
 }
 
-/// The first bytes of a file, where they can be had again: the standard input gives them once.
+/// Returns the first bytes of a file, if they can be read again: the standard input gives them
+/// once.
 pub fn first_of<F: FileSource>(files: &mut F, name: &str, most: usize) -> Option<Vec<u8>>
     ensures { F.held files.new ≡ F.held files.old }
 {
@@ -66,7 +67,7 @@ pub fn first_of<F: FileSource>(files: &mut F, name: &str, most: usize) -> Option
     files.read_first(name, most).ok()
 }
 
-/// How many bytes a file has, up to so many; none where they can't be counted.
+/// Returns the number of bytes of a file, up to a maximum; 0 if they can't be counted.
 fn bytes_of<F: FileSource>(files: &mut F, name: &str) -> usize
     ensures { F.held files.new ≡ F.held files.old }
 {
@@ -76,7 +77,7 @@ fn bytes_of<F: FileSource>(files: &mut F, name: &str) -> usize
     }
 }
 
-/// How many bytes the text of a program has that is too long.
+/// Explains how many bytes a program's text has that is too long.
 fn too_long_explained(alloc: Global, many: usize) -> Result<String, AllocError> {
     let mut told = String::new(alloc);
     told.push_str("\nA text has at most 1048576 bytes, and this one has ")?;
@@ -91,7 +92,7 @@ fn too_long_explained(alloc: Global, many: usize) -> Result<String, AllocError> 
     Ok(told)
 }
 
-/// Which byte of a file that was read again is no UTF-8.
+/// Explains which byte of a file that was read again is not UTF-8.
 pub fn reread_explained<F: FileSource>(
     alloc: Global,
     files: &mut F,
@@ -105,7 +106,7 @@ pub fn reread_explained<F: FileSource>(
     }
 }
 
-/// Where bytes are no UTF-8.
+/// Explains where bytes are not UTF-8.
 fn no_text_explained(alloc: Global, bytes: &[u8]) -> Result<String, AllocError> {
     let front = text_before(bytes);
     let at = front.len();
@@ -124,7 +125,7 @@ fn no_text_explained(alloc: Global, bytes: &[u8]) -> Result<String, AllocError> 
     Ok(told)
 }
 
-/// The bytes before the first that are no UTF-8, as text.
+/// Returns the bytes before the first that are not UTF-8, as text.
 pub fn text_before(bytes: &[u8]) -> &str {
     match std::str::from_utf8(bytes) {
         Ok(text) => text,
@@ -135,7 +136,7 @@ pub fn text_before(bytes: &[u8]) -> &str {
     }
 }
 
-/// The line and the column behind a text.
+/// Returns the line and the column right after a text.
 pub fn place_behind(text: &str) -> Place {
     let mut line: u32 = 1;
     let mut column: u32 = 1;
@@ -150,12 +151,12 @@ pub fn place_behind(text: &str) -> Place {
     Place { line, column }
 }
 
-/// Why a file can't be read.
+/// Explains why a file can't be read.
 pub fn unreadable_explained(alloc: Global) -> Result<String, AllocError> {
     String::from_str(alloc, UNREAD)
 }
 
-/// Why a file can't be written.
+/// Explains why a file can't be written.
 pub fn unwritten_explained(alloc: Global, name: &str) -> Result<String, AllocError> {
     if name == "-" {
         String::from_str(alloc, NEVER_WRITTEN)

@@ -1,4 +1,4 @@
--- Rows of elements behind an offset.
+-- Rows of elements that start at an offset.
 use Rattle.std.proofs.Common.{◌≡◌, ℕ, ◌+◌, ◌-◌, ◌<◌, ◌≤◌, List, [], ◌∷◌, ◌++◌, length, get_or, set}
 use Rattle.std.proofs.Common.{Option, Some, None, Bool, true, false, refl, sym, ap, ◌∙◌, arith, rules, ◌⊎◌, inl, inr}
 use Rattle.std.proofs.lemmas.Bool.{eqb-true, eqb-false, leb-true, leb-false, ltb-true, le-leb, lt-leb}
@@ -17,11 +17,11 @@ row_from-in first xs k d low high =
     let lt : k - first < length xs = omega arith in
     ap (λ b. if b then slice_get xs (k - first) else None) (le-leb first k low) ∙ slice_get-get_or xs (k - first) d lt
 
--- one before it
+-- an offset before the row
 pub row_from-before : {A : Type 0} (first : ℕ) (xs : List A) (k : ℕ) → k < first → row_from first xs k ≡ None
 row_from-before first xs k lt = ap (λ b. if b then slice_get xs (k - first) else None) (lt-leb first k lt)
 
--- one behind it
+-- an offset after the row
 pub row_from-behind : {A : Type 0} (first : ℕ) (xs : List A) (k : ℕ) → first + length xs ≤ k → row_from first xs k ≡ None
 row_from-behind first xs k le =
     either (nat_le first k) _ (slice_get_past xs (k - first) (omega arith))
@@ -30,7 +30,7 @@ row_from-behind first xs k le =
     either true x e = e
     either false x e = refl
 
--- where a row has something
+-- the offsets at which a row has something
 pub row_from-there : {A : Type 0} (first : ℕ) (xs : List A) (k : ℕ) → (row_from first xs k ≡ None → ⊥)
     → (first ≤ k) × (k < first + length xs)
 row_from-there first xs k some = (by_first (nat_le first k) refl, by_end (nat_lt k (first + length xs)) refl)
@@ -43,7 +43,7 @@ row_from-there first xs k some = (by_first (nat_le first k) refl, by_end (nat_lt
     by_first true e = leb-true _ _ e
     by_first false e = absurd (some (row_from-before first xs k (leb-false _ _ e)))
 
--- an offset of a row, or none
+-- an offset is in the row, or has no element
 pub row_from-cases : {A : Type 0} (first : ℕ) (xs : List A) (k : ℕ) (d : A)
     → ((first ≤ k) × (k < first + length xs) × (row_from first xs k ≡ Some (get_or xs (k - first) d)))
     ⊎ (((k < first) ⊎ (first + length xs ≤ k)) × (row_from first xs k ≡ None))
@@ -86,7 +86,7 @@ row_from-set first xs o v low high k = by_eq (nat_eq o k) refl
           ]
         ]
 
--- one element more
+-- one element added
 pub row_from-push : {A : Type 0} (first : ℕ) (xs : List A) (x : A) (o : ℕ) → first + length xs ≡ o → (k : ℕ)
     → row_from first (xs ++ x ∷ []) k ≡ (if nat_eq o k then Some x else row_from first xs k)
 row_from-push first xs x o at k = by_eq (nat_eq o k) refl

@@ -48,7 +48,7 @@ so_far-before i new old k lt = ap (λ b. if b then new k else old k) (lt-ltb k i
 pub so_far-behind : {A : Type 0} (i : ℕ) (new old : Offsets A) (k : ℕ) → i ≤ k → so_far i new old k ≡ old k
 so_far-behind i new old k le = ap (λ b. if b then new k else old k) (le-ltb k i le)
 
--- nothing is to be done before an offset
+-- nothing has to be done before an offset
 pub so_far-begun : {A : Type 0} (i : ℕ) (new old : Offsets A) → ((k : ℕ) → k < i → new k ≡ old k) → Agree old (so_far i new old)
 so_far-begun i new old same = λ k. by_test k (nat_lt k i) refl
   where
@@ -56,7 +56,7 @@ so_far-begun i new old same = λ k. by_test k (nat_lt k i) refl
     by_test k true e = sym (same k (ltb-true _ _ e))
     by_test k false e = refl
 
--- nothing is left to do from an offset on
+-- nothing remains to be done from an offset on
 pub so_far-done : {A : Type 0} (i : ℕ) (new old s : Offsets A) → ((k : ℕ) → i ≤ k → new k ≡ old k)
     → Agree s (so_far i new old) → Agree s new
 so_far-done i new old s same h = λ k. h k ∙ by_test k (nat_lt k i) refl
@@ -65,7 +65,7 @@ so_far-done i new old s same h = λ k. h k ∙ by_test k (nat_lt k i) refl
     by_test k true e = refl
     by_test k false e = let le : i ≤ k = search rules in sym (same k le)
 
--- one offset more, where something is written
+-- one more offset, at which something is written
 pub so_far-more : {A : Type 0} (i : ℕ) (new old s t : Offsets A) (x : Option A) → new i ≡ x → Agree s (so_far i new old)
     → Agree t (λ k. if nat_eq i k then x else s k) → Agree t (so_far (i + 1) new old)
 so_far-more i new old s t x is h step = λ k. step k ∙ by_eq k (nat_eq i k) refl
@@ -84,7 +84,7 @@ so_far-more i new old s t x is h step = λ k. step k ∙ by_eq k (nat_eq i k) re
         sym is ∙ ap new same ∙ sym (so_far-before (i + 1) new old k (omega arith))
     by_eq k false e = h k ∙ by_lt k (eqb-false _ _ e) (nat_lt k i) refl
 
--- one offset more, where nothing is to be done
+-- one more offset, at which nothing has to be done
 pub so_far-kept : {A : Type 0} (i : ℕ) (new old s : Offsets A) → new i ≡ old i → Agree s (so_far i new old)
     → Agree s (so_far (i + 1) new old)
 so_far-kept i new old s same h =

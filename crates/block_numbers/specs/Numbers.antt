@@ -3,7 +3,7 @@ use Rattle.std.specs.Prelude.{ℕ, ◌+◌, ◌-◌, ◌≤◌, ◌≡◌, ℤ, 
 use Rattle.block_numbers.specs.Offsets.{Offsets}
 use Rattle.block_numbers.specs.declared.numbers.Numbers.{Numbers}
 
--- the elements of a list at neighbouring offsets, the first of them at `first`
+-- the elements of a list at neighbouring offsets, with the first element at `first`
 abbrev pub row_from : {A : Type 0} → (first : ℕ) → List A → Offsets A
 row_from first xs k = if nat_le first k then slice_get xs (k - first) else None
 
@@ -11,12 +11,12 @@ row_from first xs k = if nat_le first k then slice_get xs (k - first) else None
 abbrev pub number_in : Numbers → Offsets ℤ
 number_in n k = row_from n.first n.list.items k
 
--- some numbers reach over a range of offsets
+-- some numbers cover a range of offsets
 pub record ReachOver (n : Numbers) (from to : ℕ) : Type 0 where
   pub low : n.first ≤ from
   pub high : to ≤ n.first + length n.list.items
 
--- some numbers have the offsets of others
+-- some numbers have the same offsets as others
 pub record IsAsWide (n m : Numbers) : Type 0 where
   pub first : n.first ≡ m.first
   pub length : length n.list.items ≡ length m.list.items

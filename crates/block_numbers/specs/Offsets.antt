@@ -1,4 +1,5 @@
--- Partial maps from the offsets of a block: what stands so far behind its first place.
+-- Partial maps from the offsets of a block. The offset of a place is its distance from the block's
+-- first place.
 use Rattle.std.specs.Prelude.{ℕ, ◌≡◌, Bool, true, false, ◌&&◌, nat_eq, nat_le, nat_lt}
 use Rattle.std.specs.Prelude.{Option, Some, None, if◌then◌else◌}
 
@@ -6,15 +7,15 @@ use Rattle.std.specs.Prelude.{Option, Some, None, if◌then◌else◌}
 abbrev pub Offsets : Type 0 → Type 0
 Offsets A = ℕ → Option A
 
--- whether an offset is one of a range
+-- whether an offset is in a range
 abbrev pub in_range : (from to : ℕ) → ℕ → Bool
 in_range from to k = nat_le from k && nat_lt k to
 
--- a map at the offsets of a range
+-- a map restricted to the offsets of a range
 abbrev pub inside : {A : Type 0} → (from to : ℕ) → Offsets A → Offsets A
 inside from to m k = if in_range from to k then m k else None
 
--- a map at all other offsets
+-- a map restricted to the offsets outside a range
 abbrev pub outside : {A : Type 0} → (from to : ℕ) → Offsets A → Offsets A
 outside from to m k = if in_range from to k then None else m k
 
@@ -22,11 +23,11 @@ outside from to m k = if in_range from to k then None else m k
 abbrev pub put_at : {A : Type 0} → ℕ → A → Offsets A → Offsets A
 put_at i x m k = if nat_eq i k then Some x else m k
 
--- a map without what it has at the offset i
+-- a map without its entry at the offset i
 abbrev pub without_at : {A : Type 0} → ℕ → Offsets A → Offsets A
 without_at i m k = if nat_eq i k then None else m k
 
--- two maps are the same at each offset
+-- two maps are equal at each offset
 abbrev pub Agree : {A : Type 0} → Offsets A → Offsets A → Type 0
 Agree m n = (k : ℕ) → m k ≡ n k
 
@@ -34,7 +35,7 @@ Agree m n = (k : ℕ) → m k ≡ n k
 abbrev pub HasAll : {A : Type 0} → (from to : ℕ) → Offsets A → Type 0
 HasAll from to m = (k : ℕ) → in_range from to k ≡ true → m k ≡ None → ⊥
 
--- there is nothing but at the offsets of a range
+-- there is nothing at any offset outside a range
 abbrev pub HasOnly : {A : Type 0} → (from to : ℕ) → Offsets A → Type 0
 HasOnly from to m = (k : ℕ) → in_range from to k ≡ false → m k ≡ None
 
@@ -42,6 +43,6 @@ HasOnly from to m = (k : ℕ) → in_range from to k ≡ false → m k ≡ None
 abbrev pub StandApart : {A B : Type 0} → Offsets A → Offsets B → Type 0
 StandApart m n = (k : ℕ) → (m k ≡ None → ⊥) → n k ≡ None
 
--- where the first map has something, the second has too
+-- wherever the first map has something, the second does too
 abbrev pub IsWithin : {A B : Type 0} → Offsets A → Offsets B → Type 0
 IsWithin m n = (k : ℕ) → (m k ≡ None → ⊥) → n k ≡ None → ⊥

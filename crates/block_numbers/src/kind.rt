@@ -4,10 +4,10 @@
 #[repr(u8)]
 #[derive(Clone, Copy, PartialEq, Eq, Debug)]
 pub enum Kind {
-    /// It isn't: the number that stands there means nothing.
+    /// It isn't held. A number stored there has no meaning.
     Absent,
-    /// As the holder's own.
+    /// It is the holder's own.
     Own,
-    /// As a copy.
+    /// It is a copy.
     Copied,
 }

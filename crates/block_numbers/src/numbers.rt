@@ -4,10 +4,10 @@ ghost use Rattle.std.specs.Prelude.{◌+◌, ◌≤◌, length};
 
 use std::alloc::{AllocError, Global};
 
-/// How many places a block has at most.
+/// The maximum number of places in a block.
 pub const PLACES: usize = 256;
 
-/// The numbers of neighbouring offsets, from the offset `first` on.
+/// The numbers of neighbouring offsets, starting at the offset `first`.
 #[derive(Drop)]
 pub struct Numbers {
     pub first: usize,
@@ -20,7 +20,7 @@ impl Numbers {
     ghost use Rattle.block_numbers.specs.Numbers.{ReachOver, number_in};
     ghost use Rattle.block_numbers.specs.Offsets.{Agree, HasAll, inside, put_at};
 
-    /// No numbers.
+    /// Returns no numbers.
     pub fn none(alloc: Global) -> Numbers
         ensures first { result.first ≡ 0 }
         ensures list { result.list.items ≡ [] }
@@ -31,7 +31,7 @@ impl Numbers {
         }
     }
 
-    /// The offset behind the last one.
+    /// Returns the offset after the last one.
     #[inline(always)]
     pub fn end(&self) -> usize
         ensures { result ≡ self.now.first + length self.now.list.items }
@@ -39,8 +39,8 @@ impl Numbers {
         self.first + self.list.len()
     }
 
-    /// Whether an offset has a number, in one test: one before the first is far behind the last, as
-    /// the difference wraps.
+    /// Returns whether an offset has a number, with a single test: for an offset before the first,
+    /// the difference wraps to a value far past the end.
     #[inline(always)]
     pub fn reaches(&self, offset: usize) -> bool
         ensures { IsTrue result ↔ (self.now.first ≤ offset
@@ -49,7 +49,7 @@ impl Numbers {
         offset.wrapping_sub(self.first) < self.list.len()
     }
 
-    /// The number at an offset.
+    /// Returns the number at an offset.
     #[inline(always)]
     pub fn number(&self, offset: usize) -> Option<i64>
         ensures { result ≡ number_in self.now offset }
@@ -60,15 +60,15 @@ impl Numbers {
         Some(self.list[offset - self.first])
     }
 
-    /// Whether the offsets of a range have numbers; of one without offsets, whether it stands among
-    /// them.
+    /// Returns whether all offsets of a range have numbers. For an empty range, returns whether the
+    /// range lies among the offsets that have numbers.
     pub fn reach_over(&self, from: usize, to: usize) -> bool
         ensures { IsTrue result ↔ ReachOver self.now from to }
     {
         self.first <= from && to <= self.end()
     }
 
-    /// Writes the number at an offset that has one.
+    /// Writes the number at an offset, if the offset has one.
     #[inline(always)]
     pub fn write(&mut self, offset: usize, value: i64) -> bool
         ensures found { result ≡ is_some (number_in self.old offset) }
@@ -83,7 +83,7 @@ impl Numbers {
         true
     }
 
-    /// The same numbers in memory of their own.
+    /// Copies the numbers into separate memory.
     pub fn copied(&self, alloc: Global) -> Result<Numbers, AllocError>
         ensures { IfOk result (λ n. (n.first ≡ self.now.first)
             × (n.list.items ≡ self.now.list.items)) }
@@ -95,7 +95,7 @@ impl Numbers {
         })
     }
 
-    /// Copies of the numbers of a range, and how many were copied. This loop alone copies what is
+    /// Copies the numbers of a range, and counts the copies. No other loop copies numbers that are
     /// carved out.
     pub fn part(&self, alloc: Global, from: usize, to: usize) -> Result<(Numbers, u64), AllocError>
         requires range { from < to }

@@ -13,7 +13,7 @@ use Rattle.block_rows.specs.declared.carving.Carving.{Carving}
 use Rattle.block_rows.specs.declared.row.Row.{Row}
 use Rattle.block_rows.proofs.CutListLemmas.{before_last, cut-less, cut-push, last_item, left-more, taken-more}
 
--- what has moved of all that was cut out, where some of it is left
+-- what has already moved out of all that was cut out
 pub record CarveSoFar (first into : Map Held) (all : List Carving) (own others : List Row) (cs : List Carving) : Type 0 where
   pub cut : IsCut own others cs
   pub left : without (cut_places cs) (held_in_list own) ≡ without (cut_places all) first

@@ -94,7 +94,7 @@ held-left w r s old new fits is rep left = λ t q. at_place q (in_block w.array 
         held-elsewhere w.array (w.at / 256) s old new rep q e
         ∙ ap (λ c. if c then None else held_in_list old q) (sym (is_in-elsewhere w q fits e))
 
--- the piece has come to others, who held nothing of its block
+-- others have received the piece, and they held nothing of its block before
 pub held-taken : (w : Window) (r s : Block) (own old new : List Row) → w.at % 256 + w.length ≤ 256 → block_of own w.array (w.at / 256) ≡ Some r
     → Replaces w.array (w.at / 256) s old new → Agree (held_at s) (inside (w.at % 256) (w.at % 256 + w.length) (held_at r))
     → ((q : Place) → in_block w.array (w.at / 256) q ≡ true → held_in_list old q ≡ None)
@@ -112,7 +112,7 @@ held-taken w r s own old new fits is rep taken alone = λ t q. at_place q (in_bl
         held-elsewhere w.array (w.at / 256) s old new rep q e
         ∙ ap (λ c. if c then held_in_list own q else held_in_list old q) (sym (is_in-elsewhere w q fits e))
 
--- ---- pieces of one block that stand clear of each other
+-- ---- pieces of one block that are disjoint
 
 -- an offset of one piece is none of the other
 pub clear-offsets : (v w : Window) → v.at % 256 + v.length ≤ 256 → v.array ≡ w.array → v.at / 256 ≡ w.at / 256 → StandClear v w → (k : ℕ)
@@ -151,7 +151,7 @@ can_move-kept own new a b r s v c is rep keeps can = by_here (nat_eq v.array a &
     by_here false e =
         record { mine = can.mine; there = replaced-there a b s own new rep v.array (v.at / 256) e ∙ can.there; ready = can.ready }
 
--- the block of what moves as it stands holds nothing else
+-- a block that moves unchanged holds nothing else
 pub whole-only : (own others : List Row) (c : Carving) (m : IsMovable own others c) → moves c ≡ true
     → HasOnly ((piece_of c).at % 256) ((piece_of c).at % 256 + (piece_of c).length) (held_at m.ready.mine)
 whole-only own others c m moved =
@@ -189,7 +189,7 @@ both_blocks v w q e f =
       sym (eqb-true _ _ p.1) ∙ eqb-true _ _ o.1,
     )
 
--- of two clear pieces of one block neither moves as it stands
+-- if two pieces of one block are disjoint, and one is owned, the other doesn't move the block unchanged
 whole-clash : (own others : List Row) (c : Carving) (m : IsMovable own others c) → moves c ≡ true → (v : Window) → IsPiece v → (r : Block)
     → block_of own v.array (v.at / 256) ≡ Some r → v.array ≡ (piece_of c).array → v.at / 256 ≡ (piece_of c).at / 256
     → StandClear v (piece_of c) → HasAll (v.at % 256) (v.at % 256 + v.length) (owned_at r) → ⊥
@@ -211,7 +211,7 @@ pub record Changes (own others own' others' : List Row) (w : Window) (r s : Bloc
   pub keeps : (v : Window) (c : Cut) → IsPiece v → v.array ≡ w.array → v.at / 256 ≡ w.at / 256 → StandClear v w
       → IsReady r (v.at % 256) (v.at % 256 + v.length) c → IsReady s (v.at % 256) (v.at % 256 + v.length) c
 
--- nothing else of the block moves as it stands, since this piece of it was owned
+-- no other piece moves the block unchanged, since this piece of it was owned
 pub still_movable : (own others own' others' : List Row) (w : Window) (r s : Block) → Changes own others own' others' w r s → IsPiece w
     → HasAll (w.at % 256) (w.at % 256 + w.length) (owned_at r) → (d : Carving) → StandClear (piece_of d) w → IsMovable own others d
     → IsMovable own' others' d
@@ -233,7 +233,7 @@ still_movable own others own' others' w r s ch piece owned d clear n =
         absurd (whole-clash own others d n moved w piece r ch.there both.0 both.1 (clear-sym (piece_of d) w clear) owned)
     by_block moved q e false f = ch.held q f ∙ n.alone moved q e
 
--- ---- what a cut tells
+-- ---- the result of a cut
 
 -- a piece of which something is owned has a block
 pub piece_block : (rs : List Row) (w : Window) → IsPiece w → IsThere (is_in w) (owned (held_in_list rs)) → IsSome (block_of rs w.array (w.at / 256))
@@ -247,7 +247,7 @@ pub piece_owned : (rs : List Row) (w : Window) (r : Block) → IsPiece w → IsT
     → block_of rs w.array (w.at / 256) ≡ Some r → HasAll (w.at % 256) (w.at % 256 + w.length) (owned_at r)
 piece_owned rs w r piece there is = block-there rs w r owned_number piece.block is there
 
--- where a piece is all that its block holds
+-- the case of a piece that is all that its block holds
 pub whole_only : (rs : List Row) (w : Window) (r : Block) → block_of rs w.array (w.at / 256) ≡ Some r → IsWhole (held_in_list rs) w
     → HasOnly (w.at % 256) (w.at % 256 + w.length) (held_at r)
 whole_only rs w r is whole k out = by_place (nat_lt k 256) refl
@@ -271,7 +271,7 @@ whole_only rs w r is whole k out = by_place (nat_lt k 256) refl
     by_place true e = here (ltb-true _ _ e)
     by_place false e = let le : 256 ≤ k = search rules in held_at-behind r k le
 
--- where none or all of them are counted, at most all are
+-- if none or all of them are counted, the count is at most all of them
 pub at_most : (only : Type 0) (n length : ℕ) → (only → n ≡ 0) → ((only → ⊥) → n ≡ length) → n ≤ length
 at_most only n length moved counted = by_test (nat_le n length) refl
   where
@@ -281,7 +281,7 @@ at_most only n length moved counted = by_test (nat_le n length) refl
         let lt : length < n = search rules in
         omega (arith, counted (λ o. absurd (omega (arith, moved o, lt))), lt)
 
--- the copies have come to others
+-- others have received the copies
 pub held-copied : (w : Window) (r : Block) (n : Numbers) (own old new : List Row) → w.at % 256 + w.length ≤ 256
     → block_of own w.array (w.at / 256) ≡ Some r → HasAll (w.at % 256) (w.at % 256 + w.length) (owned_at r)
     → Agree (λ k. option_map Owned (number_in n k)) (inside (w.at % 256) (w.at % 256 + w.length) (held_at r))
@@ -414,7 +414,7 @@ copies_taken (Some m) b a n old new owns says = λ q.
 
 -- ---- a piece was cut out
 
--- others after a cut: rooms stay, and they hold copies where there are any
+-- others after a cut: room is kept, and the copies are held if there are any
 pub record HasCopies (others others' : List Row) (w : Window) (c : Cut) : Type 0 where
   pub rooms : (i j : ℕ) → IsSome (block_of others i j) → IsSome (block_of others' i j)
   pub room : IsSome (block_of others' w.array (w.at / 256))

@@ -68,7 +68,7 @@ row_to-here : (r : Row) (n k : ℕ) → k / 256 ≡ r.first + n → row_to r (n 
 row_to-here r n k at =
     let lt : k / 256 < r.first + (n + 1) = omega (arith, at) in ap (λ b. if b then in_row r k else None) (lt-ltb _ _ lt)
 
--- so far the numbers stand in the list, and elsewhere those of another
+-- the numbers so far are in the list, and the rest of it is unchanged
 abbrev pub IsCopied : Row → ℕ → (first now : List ℤ) → Type 0
 IsCopied r n first now = (k : ℕ) → k < length first
     → get_or now k (pos 0) ≡ unwrap_or (option_map number_of (row_to r n k)) (get_or first k (pos 0))

@@ -1,4 +1,4 @@
--- How many places of windows lie in blocks that aren't wholly inside them.
+-- The number of places of windows in blocks that aren't wholly inside the windows.
 use Rattle.std.proofs.Common.{◌≡◌, ℕ, zero, suc, ◌+◌, ◌-◌, ◌*◌, ◌/◌, ◌%◌, ◌<◌, ◌≤◌, min, List, ◌∷◌, ◌++◌, length}
 use Rattle.std.proofs.Common.{Bool, inl, inr, true, false, refl, ap, ◌∙◌, arith, subst, cond}
 use Rattle.std.proofs.lemmas.Bool.{eqb-true, leb-true, and_parts}
@@ -34,7 +34,7 @@ pub count_range-split : (p : ℕ → Bool) (a m n : ℕ)
     → count_by p (range_with_len a (m + n)) ≡ count_by p (range_with_len a m) + count_by p (range_with_len (a + m) n)
 count_range-split p a m n = ap (count_by p) (range-append a m n) ∙ count-append p (range_with_len a m) (range_with_len (a + m) n)
 
--- where all pass
+-- if all places pass
 pub count_range-all : (p : ℕ → Bool) (a n : ℕ) → ((i : ℕ) → a ≤ i → i < a + n → p i ≡ true) → count_by p (range_with_len a n) ≡ n
 count_range-all p a zero all = refl
 count_range-all p a (suc n) all =
@@ -44,7 +44,7 @@ count_range-all p a (suc n) all =
 
 -- ---- what is left of a window
 
--- how many places of one window lie in blocks that aren't wholly inside another
+-- the number of places of one window in blocks that aren't wholly inside another
 abbrev pub split_from : (lengths : ℕ → ℕ) → (w v : Window) → ℕ
 split_from lengths w v =
     count_by (λ i. not (has_block (lengths w.array) w (i / 256))) (range_with_len v.at v.length)
@@ -59,7 +59,7 @@ split_from-cut lengths w v =
 same_block : (v : Window) (i : ℕ) → v.at ≤ i → i < v.at + piece_length v → i / 256 ≡ v.at / 256
 same_block v i low high = omega arith
 
--- a piece costs nothing where its block is wholly inside, and no more than its places in any case
+-- a piece costs nothing if its block is wholly inside, and in any case at most its places
 pub split_from-piece : (lengths : ℕ → ℕ) (w v : Window) (n : ℕ) → n ≤ (piece v).length
     → (has_block (lengths w.array) w (v.at / 256) ≡ true → n ≡ 0) → n ≤ split_from lengths w (piece v)
 split_from-piece lengths w v n most free = by_block (has_block (lengths w.array) w (v.at / 256)) refl
@@ -75,7 +75,7 @@ split_from-piece lengths w v n most free = by_block (has_block (lengths w.array)
 pub record IsRest (w v : Window) : Type 0 where
   pub array : v.array ≡ w.array
   pub end : v.at + v.length ≡ w.at + w.length
-  -- it begins where the window does, or with a block
+  -- it starts where the window does, or at the start of a block
   pub at : 0 < v.length → (v.at ≡ w.at) ⊎ (v.at % 256 ≡ 0)
 
 pub rest-whole : (w : Window) → IsRest w w
@@ -96,7 +96,7 @@ whole_piece length w v r some has i same inside =
     let high = leb-true (min length (256 * (v.at / 256) + 256)) (w.at + w.length) (and_parts _ _ has).1 in
     let at = r.at some in (omega (arith, low, high, r.end, at), omega (arith, low, high, r.end, at))
 
--- where an array's block is wholly inside a window, its piece is all that is held of the block
+-- if a block of an array is wholly inside a window, its piece is all that is held of the block
 pub rest-whole_piece : (m : Map Held) (lengths : ℕ → ℕ) (w v : Window) → IsRest w v → 0 < v.length → LiesWithin lengths m
     → has_block (lengths w.array) w (v.at / 256) ≡ true → IsWhole m (piece v)
 rest-whole_piece m lengths w v r some within has q block held =

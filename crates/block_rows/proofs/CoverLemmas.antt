@@ -1,4 +1,4 @@
--- Windows of covers stand clear of each other, and what they cost.
+-- Windows of covers are disjoint, and their costs.
 use Rattle.std.proofs.Common.{◌≡◌, ℕ, zero, suc, ◌+◌, ◌<◌, ◌≤◌, List, [], ◌∷◌, ◌++◌, length, get_or, map, take}
 use Rattle.std.proofs.Common.{Bool, true, false, inl, inr, refl, sym, ap, ◌∙◌, arith}
 use Rattle.std.proofs.lemmas.Bool.{and_parts, false≢true, or_cases}
@@ -76,7 +76,7 @@ copies-split m ws n cover most lengths vs within of =
     let e : split_in lengths (map window_of ws) ≡ split_in lengths vs = ap (split_in lengths) same in
     omega (arith, most lengths within, e)
 
--- what was copied beside what was before, for the same places
+-- what was copied, added to what was before, for the same places
 pub copies-from : {A : Type 0} (m : Map A) (set other : Place → Bool) (n old new : ℕ) → ((q : Place) → set q ≡ other q)
     → CopiesSplit m set 0 n → new ≤ old + n → CopiesSplit m other old new
 copies-from m set other n old new same copies less lengths ws within of =

@@ -1,4 +1,4 @@
--- Lists of what was cut out, which grow and shrink at the end.
+-- Lists of what was cut out. They grow and shrink at the end.
 use Rattle.std.proofs.Common.{◌≡◌, ℕ, zero, suc, ◌<◌, List, [], ◌∷◌, ◌++◌, length, get_or}
 use Rattle.std.proofs.Common.{Option, None, Bool, true, false, inl, inr, refl, sym, ap, ◌∙◌, arith, subst, ◌⊎◌}
 use Rattle.std.proofs.Math.Bool.{or_assoc, or-false}

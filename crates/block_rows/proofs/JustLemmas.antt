@@ -113,7 +113,7 @@ stands-none set a j k some = absurd (some refl)
 
 -- ---- rows of all arrays
 module _ (rs : List Row) (set : Place → Bool) where
-  -- what an array's blocks own stands at places of the set
+  -- what the blocks of an array own is at places of the set
   abbrev pub RowStandsIn : ℕ → Type 0
   RowStandsIn i = (j : ℕ) → StandsIn set i j (owned_of (block_of rs i j))
 

@@ -357,7 +357,7 @@ pub rows-cost : (first : Map Held) (own others : List Row) (n : ℕ) → RowsSoF
 rows-cost first own others n p lengths ws within of =
     omega (arith, p.costs lengths ws within of, split-all (λ q. nat_le 0 q.array) lengths ws)
 
--- ---- what the loops ask for
+-- ---- what the loops require
 
 pub paste-room : (first : Map Held) (start own : List Row) (a : ℕ) (r : Row) (xs : List Block) (b : Block) (n : ℕ)
     → PasteSoFar first start own a r (xs ++ b ∷ []) n → HasRoom own a (r.first + length xs) b

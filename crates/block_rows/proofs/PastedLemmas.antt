@@ -1,4 +1,4 @@
--- How many places a paste copies, block after block.
+-- The number of places that a paste copies, block by block.
 use Rattle.std.proofs.Common.{◌≡◌, ℕ, zero, suc, ◌+◌, ◌*◌, ◌/◌, ◌%◌, ◌<◌, ◌≤◌, List, [], ◌∷◌, Option, Some, None}
 use Rattle.std.proofs.Common.{Bool, inl, inr, true, false, refl, sym, ap, ◌∙◌, arith, cond}
 use Rattle.std.proofs.lemmas.Bool.{and_parts, and_from, cases_eq, eq-eqb, eqb-true, false≢true, leb-true, lt-ltb, ltb-true, or_cases, or_left, or_parts, or_right}
@@ -56,7 +56,7 @@ sum-less : (f h : Window → ℕ) (ws : List Window) → ((w : Window) → f w �
 sum-less f h [] le = omega arith
 sum-less f h (w ∷ ws) le = omega (arith, sum_by-cons f w ws, sum_by-cons h w ws, le w, sum-less f h ws le)
 
--- how many places of windows pass a test
+-- the number of places of windows that pass a test
 abbrev pub passing_in : (test : Place → Bool) → Window → ℕ
 passing_in test w = count_by (λ i. test (record { array = w.array; index = i })) (range_with_len w.at w.length)
 
@@ -179,7 +179,7 @@ any-has n a (w ∷ ws) b is q at lt =
         let inside : In w q = record { array = array; low = omega (arith, low, block); high = omega (arith, high, block, lt) } in
         or_left (is_in w q) (has ws q) (is_in-from w q inside)
 
--- where none has, each place of the block that they have is counted
+-- if no window has all of a block, each of its places that the windows have is counted
 pub none-has : (lengths : ℕ → ℕ) (a : ℕ) (ws : List Window) (b : ℕ) → any_has (lengths a) a ws b ≡ false
     → passing (in_block a b) ws ≤ split_where (in_block a b) lengths ws
 none-has lengths a [] b none = omega arith
@@ -257,7 +257,8 @@ one_left true true = omega arith
 one_left true false = omega arith
 one_left false c = omega arith
 
--- a block that comes in costs nothing where it is wholly inside the windows, and as many places as it owns elsewhere
+-- a block that comes in costs nothing if it is wholly inside the windows, else the number of places
+-- that it owns
 pub block-costs : (lengths : ℕ → ℕ) (a b : ℕ) (m : Offsets ℤ) (ws : List Window) (n : ℕ) → n ≤ how_many m 256
     → ((k : ℕ) → k < 256 → (m k ≡ None → ⊥) → has ws (record { array = a; index = 256 * b + k }) ≡ true)
     → (any_has (lengths a) a ws b ≡ true → n ≡ 0) → n ≤ split_where (in_block a b) lengths ws

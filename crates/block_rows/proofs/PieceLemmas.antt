@@ -1,4 +1,4 @@
--- Windows cut at the ends of blocks, and maps that take places from others.
+-- Windows cut at the ends of blocks, and maps that take places from other maps.
 use Rattle.std.proofs.Common.{◌≡◌, ℕ, ◌+◌, ◌-◌, ◌%◌, ◌<◌, ◌≤◌}
 use Rattle.std.proofs.Common.{Option, Bool, true, false, refl, sym, ap, ◌∙◌, arith}
 use Rattle.std.proofs.lemmas.Bool.Decides.{nat_tests}

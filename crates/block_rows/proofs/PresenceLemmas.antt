@@ -42,7 +42,7 @@ there-empty w m e q is none = absurd (false≢true (sym (is_in-empty w q e) ∙ 
 
 -- ---- a piece of one block
 
--- what is asked of places, by what is held there
+-- what a test sees of places, given what is held there
 abbrev pub seen : (Option Held → Option ℤ) → Map Held → Map ℤ
 seen f m q = f (m q)
 
@@ -69,7 +69,7 @@ block-there rs w b f fits is there k here none =
     let held = held_of-piece rs w q e ∙ ap (λ o. held_of o (i % 256)) is ∙ ap (held_at b) off in
     there q yes (ap f held ∙ none)
 
--- where no block is, nothing is
+-- nothing is held if there is no block
 pub no_block-there : (rs : List Row) (w : Window) (f : Option Held → Option ℤ) → f None ≡ None → w.at % 256 + w.length ≤ 256
     → block_of rs w.array (w.at / 256) ≡ None → IsThere (is_in w) (seen f (held_in_list rs)) → w.length ≡ 0
 no_block-there rs w f none fits is there = by_length (w.length) refl
@@ -83,14 +83,14 @@ no_block-there rs w f none fits is there = by_length (w.length) refl
         let held = held_of-piece rs w q (in_its_block w q fits yes) ∙ ap (λ o. held_of o (w.at % 256)) is in
         absurd (there q yes (ap f held ∙ none))
 
--- ---- as it is wanted
+-- ---- both requirements
 
 pub piece-none : (rs : List Row) (w : Window) (want : Wanted) → w.at % 256 + w.length ≤ 256 → block_of rs w.array (w.at / 256) ≡ None
     → IsThere (is_in w) (wanted want (held_in_list rs)) → w.length ≡ 0
 piece-none rs w AsOwned fits is there = no_block-there rs w owned_number refl fits is there
 piece-none rs w AsHeld fits is there = no_block-there rs w (option_map number_of) refl fits is there
 
--- what is told of a block's offsets is told of the piece of a window that the block has
+-- a fact about the offsets of a block is a fact about the piece of a window in that block
 module _ (rs : List Row) (w : Window) (b : Block) (n from to : ℕ) (fits : w.at % 256 + w.length ≤ 256)
     (number : n ≡ w.at / 256)
     (found : Some b ≡ block_of rs w.array n) (begins : from ≡ w.at % 256) (ends : to ≡ w.at % 256 + w.length)

@@ -1,4 +1,4 @@
--- Rooms for what comes in, and what stands apart.
+-- Room for what comes in, and disjointness.
 use Rattle.std.proofs.Common.{◌≡◌, ℕ, ◌+◌, ◌-◌, ◌*◌, ◌/◌, ◌%◌, ◌<◌, ◌≤◌, List, length, get_or, IsSome, is_some}
 use Rattle.std.proofs.Common.{Option, Some, None, Bool, true, false, inl, inr, refl, sym, ap, ◌∙◌, arith, rules, subst, ◌⊎◌}
 use Rattle.std.proofs.Math.Bool.{and-false}
@@ -80,7 +80,7 @@ row_room-done own a r n all before j theirs there = by_test (nat_lt j (r.first +
         let ge : r.first + n ≤ j = search rules in
         absurd (let f = sym (row_from-behind r.first r.blocks.items j (omega (arith, ge, all))) ∙ there in cc)
 
--- ---- what holds of each number so far, and of the next
+-- ---- a fact about each number so far and about the next one
 pub so_far-more : (P : ℕ → Type 0) (n : ℕ) → ((i : ℕ) → i < n → P i) → P n → (i : ℕ) → i < n + 1 → P i
 so_far-more P n before here i lt = by_eq (cases_eq i n)
   where
@@ -88,7 +88,7 @@ so_far-more P n before here i lt = by_eq (cases_eq i n)
     by_eq (inl e) = subst P (sym e) here
     by_eq (inr ne) = before i (omega (arith, lt, ne))
 
--- ---- what holds of each block of a row
+-- ---- a fact about each block of a row
 module _ (P : ℕ → Option Block → Type 0) (none : (j : ℕ) → P j None) (r : Row) where
   pub each_block-begun : (j : ℕ) → j < r.first + 0 → P j (block_in r j)
   each_block-begun j lt = subst (P j) (sym (row_from-before r.first r.blocks.items j (omega (arith, lt)))) (none j)
@@ -116,9 +116,9 @@ module _ (P : ℕ → Option Block → Type 0) (none : (j : ℕ) → P j None) (
           let ge : r.first + n ≤ j = search rules in
           subst (P j) (sym (row_from-behind r.first r.blocks.items j (omega (arith, ge, all)))) (none j)
 
--- ---- what stands apart
+-- ---- disjointness
 
--- what a block that there may be owns stands apart from what another of its number owns
+-- what an optional block owns is disjoint from what another block with its number owns
 abbrev pub IsApartAt : (own : List Row) (a j : ℕ) → Option Block → Type 0
 IsApartAt own a j o = StandApart (λ k. owned_number (held_of o k)) (λ k. owned_number (held_of (block_of own a j) k))
 

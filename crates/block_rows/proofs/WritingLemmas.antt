@@ -62,7 +62,7 @@ held-alike first xs n old new low high is w b k = held-set first xs n new low hi
     by_eq true e = w k ∙ sym (ap (λ z. held_of z k) (ap (row_from first xs) (eqb-true b n e) ∙ is))
     by_eq false e = refl
 
--- ---- a block of a row that stands there
+-- ---- an existing block of a row
 
 module _ (s : Row) (n : ℕ) (x : Block) (low : s.first ≤ n) (high : n < s.first + length s.blocks.items)
     (is : x ≡ get_or s.blocks.items (n - s.first) x) where
@@ -80,12 +80,12 @@ module _ (s : Row) (n : ℕ) (x : Block) (low : s.first ≤ n) (high : n < s.fir
       ∙ ap (λ (z : ℤ). if nat_eq b n && nat_eq o k then Some (Owned z) else held_of (block_in s b) k)
       (to_z-of_z w64 v fits)
 
-  -- a block that holds the same in its place
+  -- replacing a block by one that holds the same
   pub row-alike : (new : Block) → Agree (held_at new) (held_at x) → (b k : ℕ)
       → held_of (row_from s.first (set s.blocks.items (n - s.first) new) b) k ≡ held_of (block_in s b) k
   row-alike new w b k = held-alike s.first s.blocks.items n x new low high block_in-item w b k
 
--- ---- the item of a list at which a loop stands
+-- ---- the current item of a loop over a list
 
 pub item_at : {A : Type 0} {xs ys : List A} {n : ℕ} {x : A} → ys ≡ xs → n < length ys → x ≡ get_or ys n x
     → (n < length xs) × (x ≡ get_or xs n x)

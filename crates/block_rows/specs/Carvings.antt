@@ -1,4 +1,4 @@
--- What is to move out, and what can move without memory.
+-- What will move out, and what can move without memory.
 use Rattle.std.specs.Prelude.{ℕ, ◌+◌, ◌/◌, ◌%◌, ◌<◌, ◌≤◌, ◌≡◌, nat_eq, not, Bool, true, false}
 use Rattle.std.specs.Prelude.{List, [], ◌∷◌, ◌&&◌, ◌||◌, length, Some, None, IsSome, get_or}
 use Rattle.sections.specs.Covers.{is_in}
@@ -12,17 +12,17 @@ use Rattle.block_rows.specs.Rows.{block_of, held_in_list, in_block}
 use Rattle.block_rows.specs.declared.carving.Carving.{Carving}
 use Rattle.block_rows.specs.declared.row.Row.{Row}
 
--- a window lies in one block, and has a place
+-- a window lies in one block, and has at least one place
 pub record IsPiece (w : Window) : Type 0 where
   pub some : 0 < w.length
   pub block : w.at % 256 + w.length ≤ 256
 
--- all that is held of a piece's block are places of the piece
+-- all places that are held of a piece's block are places of the piece
 abbrev pub IsWhole : Map Held → (piece : Window) → Type 0
 IsWhole m w = (q : Place) → in_block w.array (w.at / 256) q ≡ true → (m q ≡ None → ⊥)
     → is_in w q ≡ true
 
--- two windows have no place together
+-- two windows have no place in common
 abbrev pub StandClear : (v w : Window) → Type 0
 StandClear v w = (q : Place) → is_in v q ≡ true → is_in w q ≡ false
 
@@ -32,16 +32,16 @@ pub record CanMove (rs : List Row) (w : Window) (c : Cut) : Type 0 where
   pub there : block_of rs w.array (w.at / 256) ≡ Some mine
   pub ready : IsReady mine (w.at % 256) (w.at % 256 + w.length) c
 
--- the window of what is to move out
+-- the window of what will move out
 abbrev pub piece_of : Carving → Window
 piece_of c = window_of c.piece
 
--- whether its block moves as it stands: nothing was copied then
+-- whether its block moves unchanged: in this case nothing was copied
 abbrev pub moves : Carving → Bool
 moves c = nat_eq c.cut.copied 0
 
--- what was cut out can move without memory to rows that have room for it: where its block moves as
--- it stands, these hold nothing of the block
+-- what was cut out can move without memory to rows that have room for it. If its block moves
+-- unchanged, these rows hold nothing of the block.
 pub record IsMovable (own others : List Row) (c : Carving) : Type 0 where
   pub piece : IsPiece (piece_of c)
   pub ready : CanMove own (piece_of c) c.cut
@@ -50,21 +50,21 @@ pub record IsMovable (own others : List Row) (c : Carving) : Type 0 where
   pub alone : moves c ≡ true → (q : Place)
       → in_block (piece_of c).array ((piece_of c).at / 256) q ≡ true → held_in_list others q ≡ None
 
--- the places of what moves as it stands
+-- the places of all blocks that move unchanged
 abbrev pub moved_places : List Carving → Place → Bool
 moved_places [] q = false
 moved_places (c ∷ cs) q = (moves c && is_in (piece_of c) q) || moved_places cs q
 
--- the places of what was copied
+-- the places that were copied
 abbrev pub copied_places : List Carving → Place → Bool
 copied_places [] q = false
 copied_places (c ∷ cs) q = (not (moves c) && is_in (piece_of c) q) || copied_places cs q
 
--- the places of both
+-- the places that move, unchanged or copied
 abbrev pub cut_places : List Carving → Place → Bool
 cut_places cs q = moved_places cs q || copied_places cs q
 
--- all that was cut out can move, and no two parts of it have a place together
+-- all that was cut out can move, and no two parts of it have a place in common
 pub record IsCut (own others : List Row) (cs : List Carving) : Type 0 where
   pub each : (i : ℕ) (c : Carving) → i < length cs → c ≡ get_or cs i c → IsMovable own others c
   pub clear : (i j : ℕ) (c d : Carving) → i < j → j < length cs → c ≡ get_or cs i c

@@ -1,13 +1,13 @@
--- Windows cut at the ends of blocks, and places that come from elsewhere.
+-- Windows cut at the ends of blocks, and maps that take places from other maps.
 use Rattle.std.specs.Prelude.{ℕ, ◌-◌, ◌%◌, min, Bool, if◌then◌else◌}
 use Rattle.sections.specs.Place.{Place, Window, first_places, places_behind}
 use Rattle.blocks.specs.Held.{Map}
 
--- how many places of a window lie in the block of its first place
+-- the number of places of a window that lie in the block of its first place
 abbrev pub piece_length : Window → ℕ
 piece_length w = min w.length (256 - w.at % 256)
 
--- these places, and those behind them
+-- the window of these places, and the window of the places after them
 abbrev pub piece : Window → Window
 piece w = first_places (piece_length w) w
 

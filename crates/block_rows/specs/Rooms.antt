@@ -12,18 +12,18 @@ pub record TakesIn (rs : List Row) (a b : ℕ) (theirs : Block) : Type 0 where
   pub there : block_of rs a b ≡ Some mine
   pub room : CanTake mine theirs
 
--- rows have room for what a block owns, which would have this number
+-- rows have room for what a block with this number owns
 abbrev pub HasRoom : List Row → (array block : ℕ) → (theirs : Block) → Type 0
 HasRoom rs a b Empty = ⊤
 HasRoom rs a b (Shared n) = ⊤
 HasRoom rs a b (Owned n) = TakesIn rs a b (Owned n)
 HasRoom rs a b (Mixed m) = TakesIn rs a b (Mixed m)
 
--- rows have room for all that others own
+-- rows have room for all that other rows own
 abbrev pub HasAllRoom : (own others : List Row) → Type 0
 HasAllRoom own others = (i j : ℕ) (theirs : Block) → block_of others i j ≡ Some theirs
     → HasRoom own i j theirs
 
--- rows have room for all that a row of others owns
+-- rows have room for all that one row of other rows owns
 abbrev pub HasRowRoom : List Row → (array : ℕ) → (theirs : Row) → Type 0
 HasRowRoom rs a r = (j : ℕ) (theirs : Block) → block_in r j ≡ Some theirs → HasRoom rs a j theirs

@@ -9,11 +9,11 @@ use Rattle.blocks.specs.declared.block.Block.{Block}
 use Rattle.block_rows.specs.declared.row.Row.{Row}
 use Rattle.block_rows.specs.declared.rows.Rows.{Rows}
 
--- the block with a number, where a row has it
+-- the block with a number, if a row has it
 abbrev pub block_in : Row → ℕ → Option Block
 block_in r b = if nat_le r.first b then slice_get r.blocks.items (b - r.first) else None
 
--- the block of an array with a number, where rows have it
+-- the block of an array with a number, if rows have it
 abbrev pub block_of : List Row → (array block : ℕ) → Option Block
 block_of rs a b = option_and_then (λ r. block_in r b) (slice_get rs a)
 
@@ -22,7 +22,7 @@ abbrev pub held_of : Option Block → ℕ → Option Held
 held_of None k = None
 held_of (Some b) k = held_at b k
 
--- a block is what it was, or one that holds nothing stands where none was
+-- a block is unchanged, or is a new block that holds nothing
 abbrev pub IsAsBefore : (old new : Option Block) → Type 0
 IsAsBefore old new = (new ≡ old) ⊎ ((old ≡ None) × ((k : ℕ) → held_of new k ≡ None))
 
@@ -30,7 +30,7 @@ IsAsBefore old new = (new ≡ old) ⊎ ((old ≡ None) × ((k : ℕ) → held_of
 abbrev pub in_row : Row → ℕ → Option Held
 in_row r i = held_of (block_in r (i / 256)) (i % 256)
 
--- what rows hold, one for each array
+-- what rows hold, with one row for each array
 abbrev pub held_in_list : List Row → Map Held
 held_in_list rs q = held_of (block_of rs q.array (q.index / 256)) (q.index % 256)
 
@@ -45,15 +45,15 @@ in_block a b q = nat_eq q.array a && nat_eq (q.index / 256) b
 abbrev pub place_at : (array block offset : ℕ) → Place
 place_at a b k = record { array = a; index = 256 * b + k }
 
--- what the offsets of a block have stands at places of a set
+-- what a block has at its offsets is at places of a set
 abbrev pub StandsIn : {A : Type 0} → (Place → Bool) → (array block : ℕ) → Offsets A → Type 0
 StandsIn set a b m = (k : ℕ) → (m k ≡ None → ⊥) → set (place_at a b k) ≡ true
 
--- one block stands in the place of another
+-- a block replaces another, and all other blocks are unchanged
 abbrev pub Replaces : (array block : ℕ) → Block → (old new : List Row) → Type 0
 Replaces a b x old new = (i j : ℕ) → block_of new i j
     ≡ (if nat_eq i a && nat_eq j b then Some x else block_of old i j)
 
--- more blocks are there, which hold nothing
+-- the new rows may have more blocks, which hold nothing
 abbrev pub Widens : (old new : List Row) → Type 0
 Widens old new = (i j : ℕ) → IsAsBefore (block_of old i j) (block_of new i j)

@@ -19,14 +19,14 @@ use blocks::cut::Cut;
 use sections::window::Window;
 use std::alloc::AllocError;
 
-/// What is to move out of one block.
+/// What will move out of one block.
 #[derive(Drop)]
 pub struct Carving {
     pub(crate) piece: Window,
     pub(crate) cut: Cut,
 }
 
-/// What is to move out, piece by piece, and how many places were copied for it.
+/// What will move out, piece by piece, and how many places were copied for it.
 #[derive(Drop)]
 pub struct Carvings {
     pub(crate) list: Vec<Carving>,
@@ -42,8 +42,8 @@ impl Rows {
     ghost use Rattle.block_rows.specs.Rows.{block_of, held_in, in_block};
     ghost use Rattle.block_rows.specs.declared.carving.Carving.{Carving as CarvingOf};
 
-    /// Cuts the places of the windows of a cover out, all of which are owned, so that no memory is
-    /// wanted to move them. Others have those places then of which the numbers were copied.
+    /// Cuts out the places of the windows of a cover, which must all be owned, so moving them needs
+    /// no memory. Places whose numbers were copied are then in `others`.
     pub fn cut_all(&mut self, others: &mut Rows, windows: &[Window]) -> Result<Carvings, AllocError>
         requires cover { is_cover (map window_of windows.now) ≡ true }
         requires owned { IsThere (has (map window_of windows.now)) (owned (held_in self.old)) }
@@ -68,7 +68,7 @@ impl Rows {
         Ok(carvings)
     }
 
-    /// The same of one window.
+    /// Cuts out the places of one window.
     fn cut_window(
         &mut self,
         others: &mut Rows,
@@ -102,7 +102,8 @@ impl Rows {
         Ok(())
     }
 
-    /// The same of a piece of one block; others hold nothing of it, and elsewhere what these hold.
+    /// Cuts out a piece of one block. `others` must hold nothing of the piece, and elsewhere only
+    /// places that these rows hold too.
     fn cut_piece(&mut self, others: &mut Rows, piece: Window) -> Result<Cut, AllocError>
         requires piece { IsPiece (window_of piece) }
         requires owned { IsThere (is_in (window_of piece)) (owned (held_in self.old)) }
@@ -169,7 +170,7 @@ impl Rows {
         Ok(())
     }
 
-    /// Moves what was cut out to others, which have room for it.
+    /// Moves what was cut out to others. They must have room for it.
     pub fn carve_all(&mut self, others: &mut Rows, carvings: Carvings)
         requires { IsCut self.old.list.items others.old.list.items carvings.list.items }
         ensures left { held_in self.new ≡ without (cut_places carvings.list.items)
@@ -183,7 +184,7 @@ impl Rows {
         }
     }
 
-    /// The same of what was cut out of one block.
+    /// Moves what was cut out of one block.
     fn carve_piece(&mut self, others: &mut Rows, carving: Carving)
         requires { IsMovable self.old.list.items others.old.list.items carving }
         ensures left { held_in self.new ≡ without (is_in (piece_of carving)) (held_in self.old) }

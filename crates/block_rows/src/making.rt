@@ -14,7 +14,7 @@ use blocks::block::Block;
 use std::alloc::{AllocError, Global};
 
 impl Rows {
-    /// All numbers of lists, owned.
+    /// Returns rows that own all numbers of the lists.
     pub fn of_lists(alloc: Global, lists: &[Vec<i64>]) -> Result<Rows, AllocError>
         requires { All (λ v. length v.items ≤ 4194304) lists.now }
         ensures { IfOk result (λ r. held_in r
@@ -40,7 +40,7 @@ impl Rows {
 }
 
 impl Row {
-    /// All numbers of a list, owned.
+    /// Returns a row that owns all numbers of a list.
     fn of_numbers(alloc: Global, numbers: &[i64]) -> Result<Row, AllocError>
         requires { length numbers.now ≤ 4194304 }
         ensures { IfOk result (λ r. (k : ℕ) → in_row r k

@@ -1,4 +1,4 @@
-//! Owned places that come in.
+//! Owned places taken in.
 
 ghost use Rattle.std.specs.Prelude.{◌≡◌, ◌↔◌, IsTrue, OnOk, is_some};
 ghost use Rattle.blocks.specs.Held.{AreApart, as_owned, over, owned};
@@ -25,7 +25,7 @@ impl Rows {
     ghost use Rattle.block_rows.specs.Rooms.{HasRowRoom};
     ghost use Rattle.block_rows.specs.Rows.{block_in, block_of, held_of, in_block, in_row};
 
-    /// Whether no place is owned by these and by others.
+    /// Returns whether no place is owned both by these rows and by others.
     pub fn are_apart(&self, others: &Rows) -> bool
         ensures { IsTrue result ↔ AreApart (owned (held_in others.now)) (owned (held_in self.now)) }
     {
@@ -37,7 +37,7 @@ impl Rows {
         true
     }
 
-    /// The same of a row of others.
+    /// Returns whether no place is owned both by these rows and by a row of others.
     fn is_apart(&self, array: usize, row: &Row) -> bool
         ensures { IsTrue result ↔ ((j : ℕ) → StandApart
             (λ k. owned_number (held_of (block_in row.now j) k))
@@ -51,13 +51,13 @@ impl Rows {
         true
     }
 
-    /// The same of a block of others.
+    /// Returns whether no place is owned both by these rows and by a block of others.
     fn is_free(&self, array: usize, number: usize, theirs: &Block) -> bool
         ensures { IsTrue result ↔ StandApart (owned_at theirs.now)
             (λ k. owned_number (held_of (block_of self.now.list.items array number) k)) }
     {
         match theirs {
-            // What is a copy is dropped.
+            // Copies will be dropped.
             Block::Empty | Block::Shared(_) => true,
             Block::Owned(_) | Block::Mixed(_) => match self.block(array, number) {
                 None => true,
@@ -66,7 +66,7 @@ impl Rows {
         }
     }
 
-    /// Makes room for what others own, so that no memory is wanted to paste it.
+    /// Makes room for what others own, so pasting it needs no memory.
     pub fn make_room_for(&mut self, others: &Rows) -> Result<(), AllocError>
         ensures same { held_in self.new ≡ held_in self.old }
         ensures room { OnOk result (HasAllRoom self.new.list.items others.now.list.items) }
@@ -77,7 +77,7 @@ impl Rows {
         Ok(())
     }
 
-    /// The same of a row of others.
+    /// Makes room for what a row of others owns.
     fn make_room_row(&mut self, array: usize, row: &Row) -> Result<(), AllocError>
         ensures same { held_in self.new ≡ held_in self.old }
         ensures room { OnOk result (HasRowRoom self.new.list.items array row.now) }
@@ -90,7 +90,7 @@ impl Rows {
         Ok(())
     }
 
-    /// The same of a block of others.
+    /// Makes room for what a block of others owns.
     fn make_room_in(
         &mut self,
         array: usize,
@@ -115,7 +115,8 @@ impl Rows {
         }
     }
 
-    /// Takes what others own in, for which there is room, and tells how many places were copied.
+    /// Takes in what others own, and returns how many places were copied. There must be room for
+    /// it.
     pub fn paste_all(&mut self, others: Rows) -> u64
         requires { HasAllRoom self.old.list.items others.list.items }
         ensures pasted { held_in self.new
@@ -131,7 +132,7 @@ impl Rows {
         copied
     }
 
-    /// The same of a row of others.
+    /// Takes in what a row of others owns, and returns how many places were copied.
     fn paste_row(&mut self, array: usize, row: Row) -> u64
         requires { HasRowRoom self.old.list.items array row }
         ensures pasted { (q : Place) → held_in self.new q ≡ (if nat_eq q.array array
@@ -157,7 +158,7 @@ impl Rows {
         copied
     }
 
-    /// The same of a block of others.
+    /// Takes in what a block of others owns, and returns how many places were copied.
     fn paste_in(&mut self, array: usize, number: usize, theirs: Block) -> u64
         requires { HasRoom self.old.list.items array number theirs }
         ensures pasted { (q : Place) → held_in self.new q ≡ (if in_block array number q

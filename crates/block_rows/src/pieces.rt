@@ -6,10 +6,10 @@ ghost use Rattle.block_rows.specs.Pieces.{behind_piece, piece};
 
 use sections::window::Window;
 
-/// How many places a block has.
+/// The number of places of a block.
 pub const PLACES: usize = 256;
 
-/// The places of a window that lie in the block of its first one, and those behind them.
+/// Splits a window into its places in the block of its first place, and the places after them.
 pub fn cut(window: Window) -> (Window, Window)
     ensures first { window_of result.0 ≡ piece (window_of window) }
     ensures rest { window_of result.1 ≡ behind_piece (window_of window) }
@@ -28,14 +28,14 @@ pub fn cut(window: Window) -> (Window, Window)
     (first, rest)
 }
 
-/// The number of the block in which a window begins.
+/// Returns the number of the block in which a window starts.
 pub fn block_number(window: Window) -> usize
     ensures { result ≡ window.at / 256 }
 {
     window.at / PLACES
 }
 
-/// The offsets of a piece in its block: the first, and the one behind the last.
+/// Returns the offsets of a piece in its block: the first one, and the one after the last.
 pub fn offsets(piece: Window) -> (usize, usize)
     ensures from { result.0 ≡ piece.at % 256 }
     ensures to { result.1 ≡ piece.at % 256 + piece.len }

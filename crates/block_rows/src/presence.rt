@@ -16,17 +16,17 @@ use crate::rows::Rows;
 use blocks::block::Block;
 use sections::window::{Place, Window};
 
-/// What is wanted of places.
+/// What a test requires of places.
 #[derive(Clone, Copy, PartialEq, Eq, Debug)]
 pub enum Wanted {
-    /// That they are owned.
+    /// They are owned.
     Owned,
-    /// That they are held.
+    /// They are held.
     Held,
 }
 
 impl Rows {
-    /// Whether all places of windows are as they are wanted.
+    /// Returns whether all places of windows meet a requirement.
     pub fn has_all(&self, windows: &[Window], want: Wanted) -> bool
         ensures { IsTrue result ↔ IsThere (has (map window_of windows.now))
             (wanted want (held_in self.now)) }
@@ -39,7 +39,7 @@ impl Rows {
         true
     }
 
-    /// Whether all places of a window are.
+    /// Returns whether all places of a window meet a requirement.
     fn has_window(&self, window: Window, want: Wanted) -> bool
         ensures { IsTrue result
             ↔ IsThere (is_in (window_of window)) (wanted want (held_in self.now)) }
@@ -55,7 +55,7 @@ impl Rows {
         true
     }
 
-    /// Whether all places of a piece of one block are.
+    /// Returns whether all places of a piece of one block meet a requirement.
     fn has_piece(&self, piece: Window, want: Wanted) -> bool
         requires { piece.at % 256 + piece.len ≤ 256 }
         ensures { IsTrue result
@@ -70,7 +70,7 @@ impl Rows {
             },
         }
     }
-    /// Whether a place is owned.
+    /// Returns whether a place is owned.
     pub fn owns(&self, place: Place) -> bool
         ensures { result ≡ is_some (owned (held_in self.now) (place_of place)) }
     {
@@ -80,7 +80,7 @@ impl Rows {
         }
     }
 
-    /// Whether the places of windows are owned, and no others.
+    /// Returns whether the places of windows are owned, and no others.
     pub fn owns_just(&self, windows: &[Window]) -> bool
         ensures { IsTrue result
             ↔ IsJustAt (has (map window_of windows.now)) (owned (held_in self.now)) }
@@ -88,7 +88,7 @@ impl Rows {
         self.has_all(windows, Wanted::Owned) && self.owns_only(windows)
     }
 
-    /// Whether no places are owned but those of windows.
+    /// Returns whether no places are owned except those of windows.
     fn owns_only(&self, windows: &[Window]) -> bool
         ensures { IsTrue result
             ↔ IsOnlyAt (has (map window_of windows.now)) (owned (held_in self.now)) }
@@ -103,7 +103,7 @@ impl Rows {
 }
 
 impl Row {
-    /// The same of the blocks of an array.
+    /// Returns whether the blocks of an array own only places of windows.
     fn owns_only(&self, array: usize, windows: &[Window]) -> bool
         ensures { IsTrue result ↔ ((j : ℕ) → StandsIn (has (map window_of windows.now)) array j
             (λ k. owned_number (held_of (block_in self.now j) k))) }
@@ -117,7 +117,7 @@ impl Row {
     }
 }
 
-/// The same of a block of an array.
+/// Returns whether a block of an array owns only places of windows.
 fn owns_only(array: usize, number: usize, block: &Block, windows: &[Window]) -> bool
     requires { number < 16384 }
     ensures { IsTrue result
@@ -129,7 +129,8 @@ fn owns_only(array: usize, number: usize, block: &Block, windows: &[Window]) -> 
     }
 }
 
-/// The same of a block that may own something: as a rule one window has all of it.
+/// Does the same as `owns_only` for a block that may own something. Usually one window has all of
+/// it.
 fn owns_only_in(array: usize, number: usize, block: &Block, windows: &[Window]) -> bool
     requires { number < 16384 }
     ensures { IsTrue result
@@ -149,7 +150,7 @@ fn owns_only_in(array: usize, number: usize, block: &Block, windows: &[Window]) 
     true
 }
 
-/// Whether one of some windows has all places of an array from one on, and to before another.
+/// Returns whether one of some windows has all places of an array from `from` to before `to`.
 fn have(windows: &[Window], array: usize, from: usize, to: usize) -> bool
     ensures { result ≡ list_any (λ w. nat_eq w.array.number array
         && (nat_le w.at from && nat_le to (w.at + w.len))) windows.now }

@@ -11,8 +11,8 @@ use sections::window::{Place, Window};
 use std::alloc::AllocError;
 
 impl Rows {
-    /// Writes the numbers that others hold at places of windows: an owned place stays owned, and at
-    /// any other the number is a copy.
+    /// Writes the numbers that others hold at places of windows. An owned number stays owned, and
+    /// at any other place the number is a copy.
     pub fn put_all(&mut self, windows: &[Window], others: &Rows) -> Result<(), AllocError>
         ensures { OnOk result (held_in self.new
             ≡ put_all (only (has (map window_of windows.now)) (numbers (held_in others.now)))
@@ -24,7 +24,7 @@ impl Rows {
         Ok(())
     }
 
-    /// The same of one window.
+    /// Writes the numbers that others hold at places of one window.
     fn put_window(&mut self, window: Window, others: &Rows) -> Result<(), AllocError>
         ensures { OnOk result (held_in self.new
             ≡ put_all (only (is_in (window_of window)) (numbers (held_in others.now)))

@@ -6,7 +6,7 @@ use blocks::block::Block;
 use std::alloc::{AllocError, Global};
 use std::mem;
 
-/// Blocks of an array, one behind the other, from the block with the number `first` on.
+/// The blocks of an array, in order, from the block with the number `first` on.
 #[derive(Drop)]
 pub struct Row {
     pub(crate) first: usize,
@@ -21,7 +21,7 @@ impl Row {
     ghost use Rattle.blocks.specs.Held.{Owned, in_place_of, owned_number};
     ghost use Rattle.block_rows.specs.Rows.{block_in, held_of, IsAsBefore};
 
-    /// No blocks.
+    /// Returns a row without blocks.
     pub fn new(alloc: Global) -> Row
         ensures { (b : ℕ) → block_in result b ≡ None }
     {
@@ -31,8 +31,8 @@ impl Row {
         }
     }
 
-    /// Whether there is a block with a number, in one test: one before the first is far behind the
-    /// last, as the difference wraps.
+    /// Returns whether there is a block with a number, with a single test: for a number before the
+    /// first, the difference wraps to a value far past the end.
     #[inline(always)]
     fn reaches(&self, number: usize) -> bool
         ensures { IsTrue result ↔ (self.now.first ≤ number
@@ -41,7 +41,7 @@ impl Row {
         number.wrapping_sub(self.first) < self.blocks.len()
     }
 
-    /// The block with a number.
+    /// Returns the block with a number.
     #[inline(always)]
     pub fn block(&self, number: usize) -> Option<&Block>
         ensures { option_copied result ≡ block_in self.now number }
@@ -52,7 +52,7 @@ impl Row {
         self.blocks.get(number - self.first)
     }
 
-    /// Puts a block in the place of the one with its number, which is answered.
+    /// Replaces the block with a number, and returns the old one.
     pub fn swap(&mut self, number: usize, block: Block) -> Block
         requires { IsSome (block_in self.old number) }
         ensures old { block_in self.old number ≡ Some result }
@@ -63,7 +63,7 @@ impl Row {
         mem::replace(place, block)
     }
 
-    /// Makes sure that there is a block with a number.
+    /// Ensures that there is a block with a number.
     pub fn make_room(&mut self, alloc: Global, number: usize) -> Result<(), AllocError>
         requires { number < 16384 }
         ensures room { OnOk result (IsSome (block_in self.new number)) }
@@ -83,7 +83,7 @@ impl Row {
         Ok(())
     }
 
-    /// Puts empty blocks before the first one, from the block with a number on.
+    /// Adds empty blocks before the first one, from the block with a number on.
     fn widen(&mut self, alloc: Global, number: usize) -> Result<(), AllocError>
         requires low { number < self.old.first }
         requires some { 0 < length self.old.blocks.items }
@@ -99,7 +99,7 @@ impl Row {
         Ok(())
     }
 
-    /// Writes the number at an owned offset of a block, and tells whether it is one.
+    /// Writes the number at an owned offset of a block, and returns whether the offset is owned.
     pub fn write(
         &mut self,
         alloc: Global,
@@ -126,7 +126,7 @@ impl Row {
         block.write(alloc, offset, value)
     }
 
-    /// Writes the number at an owned offset of a block where that needs no memory, and tells whether
+    /// Writes the number at an owned offset of a block if that needs no memory, and returns whether
     /// it did.
     #[inline(always)]
     pub fn set(&mut self, number: usize, offset: usize, value: i64) -> bool
@@ -145,8 +145,8 @@ impl Row {
         block.set(offset, value)
     }
 
-    /// Writes the number at any offset of a block: an owned one stays owned, and at any other the
-    /// number is a copy.
+    /// Writes the number at any offset of a block. An owned number stays owned, and at any other
+    /// offset the number is a copy.
     pub fn put(
         &mut self,
         alloc: Global,
@@ -167,7 +167,7 @@ impl Row {
         block.put(alloc, offset, value)
     }
 
-    /// Blocks that hold nothing.
+    /// Returns blocks that hold nothing.
     fn empty(alloc: Global, count: usize) -> Result<Vec<Block>, AllocError>
         ensures long { IfOk result (λ v. length v.items ≡ count) }
         ensures empty { IfOk result (λ v. (i k : ℕ) → held_of (slice_get v.items i) k ≡ None) }

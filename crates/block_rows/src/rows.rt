@@ -6,7 +6,7 @@ use blocks::block::Block;
 use sections::window::Place;
 use std::alloc::{AllocError, Global};
 
-/// A row of blocks for each array: what there is of a place is found by its array and its block.
+/// A row of blocks for each array. A place is found by its array and its block.
 #[derive(Drop)]
 pub struct Rows {
     pub(crate) alloc: Global,
@@ -22,7 +22,7 @@ impl Rows {
     ghost use Rattle.blocks.specs.Held.{Owned, in_place_of, numbers, owned, put};
     ghost use Rattle.block_rows.specs.Rows.{Replaces, Widens, block_of, held_in};
 
-    /// No blocks.
+    /// Returns rows without blocks.
     pub fn new(alloc: Global) -> Rows
         ensures none { (i j : ℕ) → block_of result.list.items i j ≡ None }
         ensures holds { (q : PlainPlace) → held_in result q ≡ None }
@@ -33,7 +33,7 @@ impl Rows {
         }
     }
 
-    /// The block of an array with a number.
+    /// Returns the block of an array with a number.
     #[inline(always)]
     pub fn block(&self, array: usize, number: usize) -> Option<&Block>
         ensures { option_copied result ≡ block_of self.now.list.items array number }
@@ -44,7 +44,7 @@ impl Rows {
         }
     }
 
-    /// Puts a block in the place of another, which is answered.
+    /// Replaces a block, and returns the old one.
     pub fn swap(&mut self, array: usize, number: usize, block: Block) -> Block
         requires { IsSome (block_of self.old.list.items array number) }
         ensures old { block_of self.old.list.items array number ≡ Some result }
@@ -54,7 +54,7 @@ impl Rows {
         row.swap(number, block)
     }
 
-    /// Makes sure that there is a block with a number.
+    /// Ensures that there is a block with a number.
     pub fn make_room(&mut self, array: usize, number: usize) -> Result<(), AllocError>
         requires { number < 16384 }
         ensures room { OnOk result (IsSome (block_of self.new.list.items array number)) }
@@ -67,7 +67,7 @@ impl Rows {
         row.make_room(self.alloc, number)
     }
 
-    /// The number at a place, where it is held.
+    /// Returns the number at a place, if it is held.
     #[inline(always)]
     pub fn number(&self, place: Place) -> Option<i64>
         ensures { result ≡ numbers (held_in self.now) (place_of place) }
@@ -78,7 +78,7 @@ impl Rows {
         }
     }
 
-    /// Writes the number at an owned place, and tells whether it is one.
+    /// Writes the number at an owned place, and returns whether the place is owned.
     pub fn write(&mut self, place: Place, value: i64) -> Result<bool, AllocError>
         ensures found { IfOk result (λ f. f ≡ is_some (owned (held_in self.old) (place_of place))) }
         ensures written { IfOk result (λ f. IsTrue f → held_in self.new
@@ -95,7 +95,7 @@ impl Rows {
         row.write(self.alloc, number, place.index % PLACES, value)
     }
 
-    /// Writes the number at an owned place where that needs no memory, and tells whether it did.
+    /// Writes the number at an owned place if that needs no memory, and returns whether it did.
     #[inline(always)]
     pub fn set(&mut self, place: Place, value: i64) -> bool
         ensures written { OnTrue result
@@ -111,8 +111,8 @@ impl Rows {
         row.set(number, place.index % PLACES, value)
     }
 
-    /// Writes the number at any place: an owned one stays owned, and at any other the number is a
-    /// copy.
+    /// Writes the number at any place. An owned number stays owned, and at any other place the
+    /// number is a copy.
     pub fn put(&mut self, place: Place, value: i64) -> Result<(), AllocError>
         requires { place.index < 4194304 }
         ensures written { OnOk result (held_in self.new ≡ put (place_of place)

@@ -14,7 +14,7 @@ use sections::window::Window;
 use std::alloc::AllocError;
 
 impl Rows {
-    /// Takes copies of the places of windows in, all of which are held by others.
+    /// Takes in copies of the places of windows, which must all be held by others.
     pub fn share_all(&mut self, source: &Rows, windows: &[Window]) -> Result<(), AllocError>
         requires { IsThere (has (map window_of windows.now)) (numbers (held_in source.now)) }
         ensures { OnOk result (held_in self.new ≡ taking (has (map window_of windows.now))
@@ -26,7 +26,7 @@ impl Rows {
         Ok(())
     }
 
-    /// The same of one window.
+    /// Takes in copies of the places of one window.
     fn share_window(&mut self, source: &Rows, window: Window) -> Result<(), AllocError>
         requires { IsThere (is_in (window_of window)) (numbers (held_in source.now)) }
         ensures { OnOk result (held_in self.new ≡ taking (is_in (window_of window))
@@ -41,7 +41,7 @@ impl Rows {
         Ok(())
     }
 
-    /// The same of a piece of one block.
+    /// Takes in copies of a piece of one block.
     fn share_piece(&mut self, source: &Rows, piece: Window) -> Result<(), AllocError>
         requires some { 0 < piece.len }
         requires block { piece.at % 256 + piece.len ≤ 256 }

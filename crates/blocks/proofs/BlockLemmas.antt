@@ -23,7 +23,7 @@ use Rattle.block_numbers.proofs.RowLemmas.{row_from-behind, row_from-in, row_fro
 use Rattle.blocks.proofs.KindLemmas.{held_row-none}
 use Rattle.block_numbers.proofs.WalkLemmas.{how_many-none, in_range-true, in_range-low, in_range-high}
 
--- ---- what a test tells
+-- ---- the result of a test
 
 pub some_there : {A : Type 0} (o : Option A) → is_some o ≡ true → o ≡ None → ⊥
 some_there None e n = cc
@@ -51,7 +51,7 @@ held_by_kind None = refl
 held_by_kind (Some (Owned v)) = refl
 held_by_kind (Some (Shared v)) = refl
 
--- what comes in where nothing is owned
+-- what comes in if nothing is owned
 pub first_of-unowned : (h old : Option Held) → h ≡ None → first_of (option_map Owned (owned_number h)) old ≡ old
 first_of-unowned h old e = ap (λ (o : Option Held). first_of (option_map Owned (owned_number o)) old) e
 
@@ -134,7 +134,7 @@ reach-mixed b m x from to lt e is all =
     all k t (ap (λ c. held_at c k) is ∙ held_row-none (box_value x).numbers.first (box_value x).kinds.items (box_value x).numbers.list.items k none)) in
     subst (λ (y : Mixed). ReachOver y.numbers from to) (sym e) reach
 
--- without room nothing is owned by what can be taken in
+-- nothing that can be taken in owns an offset without room
 pub none_without_room : (b other : Block) → IsWithin (owned_at other) (room_at b) → ((k : ℕ) → room_at b k ≡ None) → 0 ≡ how_many (owned_at other) 256
 none_without_room b other within none =
     sym (how_many-none (owned_at other) 256 (λ k lt. by_owned k (owned_at other k) refl))
@@ -185,7 +185,7 @@ IsReady-along b c f t cut same room ready = record {
     by_cut None only = λ k e. same k ∙ only k e
     by_cut (Some n) w = (λ k e. room k (w.0 k e), λ k. w.1 k ∙ ap (λ (h : Option Held). if in_range f t k then h else None) (sym (same k)))
 
--- ---- nothing is held behind the last offset
+-- ---- nothing is held after the last offset
 
 numbers-behind : (n : Numbers) (k : ℕ) → 256 ≤ k → number_in n k ≡ None
 numbers-behind n k le = row_from-behind n.first n.list.items k (omega (arith, n.within, le))

@@ -25,7 +25,7 @@ held_as-none Absent = refl
 held_as-none Own = refl
 held_as-none Copied = refl
 
--- where there is no element nothing is held
+-- nothing is held where there is no element
 pub held_row-none : (first : ℕ) (kinds : List Kind) (xs : List ℤ) (k : ℕ) → row_from first xs k ≡ None → held_row first kinds xs k ≡ None
 held_row-none first kinds xs k e =
     ap (held_as (get_or kinds (k - first) Absent)) e ∙ held_as-none (get_or kinds (k - first) Absent)
@@ -81,7 +81,7 @@ held_row-put first kinds xs o kind v same there fits k =
     ap (λ x. held_row first (set kinds (o - first) kind) (set xs (o - first) x) k) (to_z-of_z w64 v fits)
     ∙ held_row-written first kinds xs o kind v same w.0 w.1 k
 
--- one number more, and its kind
+-- one more number and its kind
 pub held_row-push : (first : ℕ) (kinds : List Kind) (xs : List ℤ) (kind : Kind) (v : ℤ) (o : ℕ) → length kinds ≡ length xs
     → first + length xs ≡ o → (k : ℕ)
     → held_row first (kinds ++ kind ∷ []) (xs ++ v ∷ []) k ≡ (if nat_eq o k then held_as kind (Some v) else held_row first kinds xs k)

@@ -12,7 +12,7 @@ use Rattle.block_numbers.specs.declared.kind.Kind.{Kind}
 use Rattle.block_numbers.specs.declared.kind.Kind.TheVariants.{Absent, Own, Copied}
 use Rattle.blocks.specs.declared.mixed.Mixed.{Mixed}
 
--- a number as what is held of it
+-- a number together with the kind in which it is held
 abbrev pub held_as : Kind → Option ℤ → Option Held
 held_as Absent v = None
 held_as Own v = option_map Owned v
@@ -24,7 +24,7 @@ kind_of None = Absent
 kind_of (Some (Owned v)) = Own
 kind_of (Some (Shared v)) = Copied
 
--- what is held where each offset has a kind of its own
+-- what is held if each offset has its own kind
 abbrev pub held_in : Mixed → Offsets Held
 held_in m k = held_as (get_or m.kinds.items (k - m.numbers.first) Absent) (number_in m.numbers k)
 
@@ -39,6 +39,6 @@ held_at (InParts m) k = held_in (box_value m) k
 abbrev pub owned_at : Block → Offsets ℤ
 owned_at b k = owned_number (held_at b k)
 
--- the numbers that it holds, owned or not
+-- the numbers that a block holds, owned or not
 abbrev pub number_at : Block → Offsets ℤ
 number_at b k = option_map number_of (held_at b k)

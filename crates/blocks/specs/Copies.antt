@@ -1,4 +1,4 @@
--- Blocks of what was copied.
+-- Blocks made of the numbers that a cut copied.
 use Rattle.std.specs.Prelude.{Option, Some, None, option_map}
 use Rattle.std.specs.Arc.{arc_value}
 use Rattle.std.specs.declared.alloc.Global.{Global}
@@ -11,11 +11,11 @@ use Rattle.blocks.specs.declared.block.Block.{Block}
 use Rattle.blocks.specs.declared.cut.Cut.{Cut}
 use Rattle.block_numbers.specs.declared.numbers.Numbers.{Numbers}
 
--- a block owns the copies, which there are
+-- there are copies, and a block owns exactly them
 abbrev pub OwnsCopies : Option (Arc Numbers Global) → Block → Type 0
 OwnsCopies None b = ⊥
 OwnsCopies (Some n) b = Agree (held_at b) (λ k. option_map Owned (number_in (arc_value n) k))
 
--- a block owns what was copied for a cut
+-- a block owns the numbers that were copied for a cut
 abbrev pub IsCopy : Cut → Block → Type 0
 IsCopy c b = OwnsCopies c.numbers b

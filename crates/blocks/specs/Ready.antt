@@ -14,25 +14,27 @@ use Rattle.blocks.specs.declared.block.Block.TheVariants.{Owned as AllOwned, Sha
 use Rattle.blocks.specs.declared.cut.Cut.{Cut}
 use Rattle.block_numbers.specs.declared.numbers.Numbers.{Numbers}
 
--- where a block has room of its own for numbers, held or not
+-- where a block has its own room for numbers, held or not
 abbrev pub room_at : Block → Offsets ℤ
 room_at Empty k = None
 room_at (AllOwned n) k = None
 room_at (AllShared n) k = None
 room_at (InParts m) k = number_in (box_value m).numbers k
 
--- a block and what was cut out of it: all that it holds, or a copy where the block has room
+-- a block and what was cut out of it: either all that the block holds, or a copy if the block has
+-- room
 abbrev pub IsCutOut : Block → (from to : ℕ) → Option (Arc Numbers Global) → Type 0
 IsCutOut b from to None = HasOnly from to (held_at b)
 IsCutOut b from to (Some n) = HasAll from to (room_at b)
     × Agree (λ k. option_map Owned (number_in (arc_value n) k)) (inside from to (held_at b))
 
--- a cut of a range of a block can be carved out without memory
+-- a cut of a range can be carved out of a block without memory
 pub record IsReady (b : Block) (from to : ℕ) (c : Cut) : Type 0 where
   pub owned : HasAll from to (owned_at b)
   pub cut : IsCutOut b from to c.numbers
 
--- a block can take in what another owns without memory: it holds nothing else, or has room for it
+-- a block can take in what another owns without memory: either the other owns all that is held, or
+-- there is room
 abbrev pub CanTake : (b other : Block) → Type 0
 CanTake b other =
     IsWithin (held_at b) (owned_at other) ⊎ IsWithin (owned_at other) (room_at b)

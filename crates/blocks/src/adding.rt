@@ -1,4 +1,4 @@
-//! Copies that come into blocks.
+//! Copies taken into blocks.
 
 use crate::block::Block;
 use crate::cut::Cut;
@@ -13,8 +13,8 @@ impl Block {
     ghost use Rattle.blocks.specs.Held.{Shared};
     ghost use Rattle.block_numbers.specs.Offsets.{Agree, HasAll, in_range};
 
-    /// Takes copies of a range of another block in, all of which is held there, in the place of what
-    /// is held.
+    /// Takes in copies of a range of another block, which must hold the whole range. They replace
+    /// what is held there.
     pub fn add_copies(
         &mut self,
         alloc: Global,
@@ -58,7 +58,7 @@ impl Mixed {
         self.kinds[at] = Kind::Copied;
     }
 
-    /// Takes copies of a range of a block in, for which there is room.
+    /// Takes in copies of a range of a block. There must be room for them.
     fn take_copies(&mut self, other: &Block, from: usize, to: usize)
         requires range { from < to }
         requires room { HasAll from to (number_in self.old.numbers) }
@@ -78,7 +78,7 @@ impl Cut {
     ghost use Rattle.std.specs.Prelude.{◌≡◌, IfOk, MatchOption, None};
     ghost use Rattle.blocks.specs.Copies.{IsCopy};
 
-    /// What was copied, as a block; None where the block moves as it stands.
+    /// Returns the copied numbers as a block, or None if the block moves unchanged.
     pub fn block(&self) -> Result<Option<Block>, AllocError>
         ensures { IfOk result (λ o. MatchOption o (self.now.numbers ≡ None) (IsCopy self.now)) }
     {

@@ -11,17 +11,17 @@ use block_numbers::numbers::{Numbers, PLACES};
 use std::alloc::{AllocError, Global};
 use std::sync::Arc;
 
-/// What is held of up to 256 neighbouring places of an array, each told by its offset from the
-/// first of them.
+/// What is held of up to 256 neighbouring places of an array. Each place is named by its offset
+/// from the first one.
 #[derive(Drop)]
 pub enum Block {
     /// Nothing.
     Empty,
-    /// Numbers, all owned. Copies of them may have the same memory.
+    /// Numbers that are all owned. Copies of them may share the memory.
     Owned(Arc<Numbers>),
     /// Copies.
     Shared(Arc<Numbers>),
-    /// Some offsets of one kind and some of another.
+    /// Different kinds at different offsets.
     Mixed(Box<Mixed>),
 }
 
@@ -35,7 +35,7 @@ impl Block {
     ghost use Rattle.block_numbers.specs.Offsets.{inside, put_at};
     ghost use Rattle.blocks.specs.Ready.{room_at};
 
-    /// Owned numbers, from the first offset on.
+    /// Returns a block that owns the numbers, from the first offset on.
     pub fn of_numbers(alloc: Global, numbers: &[i64]) -> Result<Block, AllocError>
         requires { length numbers.now ≤ 256 }
         ensures { IfOk result (λ b.
@@ -46,7 +46,7 @@ impl Block {
         Ok(Block::Owned(numbers))
     }
 
-    /// The number at an offset, where it is held.
+    /// Returns the number at an offset, if it is held.
     #[inline(always)]
     pub fn number(&self, offset: usize) -> Option<i64>
         ensures { result ≡ number_at self.now offset }
@@ -58,8 +58,8 @@ impl Block {
         }
     }
 
-    /// Writes the number at an owned offset, and tells whether it is one. Where copies have the same
-    /// memory all numbers are copied before.
+    /// Writes the number at an owned offset, and returns whether the offset is owned. If copies
+    /// share the memory, all numbers are copied first.
     pub fn write(&mut self, alloc: Global, offset: usize, value: i64) -> Result<bool, AllocError>
         ensures found { IfOk result (λ f. f ≡ is_some (owned_at self.old offset)) }
         ensures written { IfOk result (λ f. IsTrue f
@@ -75,7 +75,7 @@ impl Block {
         }
     }
 
-    /// Whether all offsets of a range are owned.
+    /// Returns whether all offsets of a range are owned.
     pub fn owns_all(&self, from: usize, to: usize) -> bool
         ensures { IsTrue result ↔ HasAll from to (owned_at self.now) }
     {
@@ -90,7 +90,7 @@ impl Block {
         true
     }
 
-    /// Whether all offsets of a range are held.
+    /// Returns whether all offsets of a range are held.
     pub fn holds_all(&self, from: usize, to: usize) -> bool
         ensures { IsTrue result ↔ HasAll from to (held_at self.now) }
     {
@@ -105,7 +105,7 @@ impl Block {
         true
     }
 
-    /// Whether no offset is owned here and in another block.
+    /// Returns whether no offset is owned both here and in another block.
     pub fn is_apart(&self, other: &Block) -> bool
         ensures { IsTrue result ↔ StandApart (owned_at other.now) (owned_at self.now) }
     {
@@ -119,7 +119,7 @@ impl Block {
         true
     }
 
-    /// Copies the numbers to their offsets in a list, and leaves what stands at the others.
+    /// Copies the numbers to their offsets in a list, and leaves its other elements unchanged.
     pub fn copy_to(&self, numbers: &mut [i64])
         ensures { (k : ℕ) → k < length numbers.old → get_or numbers.new k (pos 0)
             ≡ unwrap_or (number_at self.now k) (get_or numbers.old k (pos 0)) }
@@ -131,7 +131,7 @@ impl Block {
         }
     }
 
-    /// The same once more.
+    /// Returns a second block that holds the same numbers in the same kinds.
     pub fn again(&self, alloc: Global) -> Result<Block, AllocError>
         ensures { IfOk result (λ b. Agree (held_at b) (held_at self.now)) }
     {
@@ -146,8 +146,8 @@ impl Block {
         }
     }
 
-    /// Copies of the offsets of a range, all of which are held. They have the same memory where the
-    /// range has all offsets.
+    /// Returns copies of the offsets of a range, which must all be held. The copies share the
+    /// memory if the range has all offsets.
     pub fn share(&self, alloc: Global, from: usize, to: usize) -> Result<Block, AllocError>
         requires range { from < to }
         requires held { HasAll from to (held_at self.now) }
@@ -164,7 +164,7 @@ impl Block {
         Ok(Block::Shared(Arc::new(alloc, numbers)?))
     }
 
-    /// How an offset is held.
+    /// Returns how an offset is held.
     pub(crate) fn kind(&self, offset: usize) -> Kind
         ensures { result ≡ kind_of (held_at self.now offset) }
     {
@@ -182,7 +182,7 @@ impl Block {
         }
     }
 
-    /// Whether an offset is held.
+    /// Returns whether an offset is held.
     pub(crate) fn holds(&self, offset: usize) -> bool
         ensures { result ≡ is_some (held_at self.now offset) }
     {
@@ -192,7 +192,7 @@ impl Block {
         }
     }
 
-    /// Whether an offset is owned.
+    /// Returns whether an offset is owned.
     pub fn owns(&self, offset: usize) -> bool
         ensures { result ≡ is_some (owned_at self.now offset) }
     {
@@ -202,7 +202,7 @@ impl Block {
         }
     }
 
-    /// The number at an owned offset.
+    /// Returns the number at an owned offset.
     pub(crate) fn owned(&self, offset: usize) -> Option<i64>
         ensures { result ≡ owned_at self.now offset }
     {
@@ -212,7 +212,7 @@ impl Block {
         }
     }
 
-    /// The first offset that may be held; 256 in a block without numbers.
+    /// Returns the first offset that may be held, or 256 for a block without numbers.
     pub fn start(&self) -> usize
         ensures before { (k : ℕ) → k < result → held_at self.now k ≡ None }
         ensures room { (k : ℕ) → k < result → room_at self.now k ≡ None }
@@ -225,7 +225,7 @@ impl Block {
         }
     }
 
-    /// The offset behind the last one that may be held; 0 in a block without numbers.
+    /// Returns the offset after the last one that may be held, or 0 for a block without numbers.
     pub fn end(&self) -> usize
         ensures behind { (k : ℕ) → result ≤ k → held_at self.now k ≡ None }
         ensures room { (k : ℕ) → result ≤ k → room_at self.now k ≡ None }
@@ -238,7 +238,7 @@ impl Block {
         }
     }
 
-    /// Whether nothing is held but at the offsets of a range.
+    /// Returns whether nothing is held outside the offsets of a range.
     pub(crate) fn holds_only(&self, from: usize, to: usize) -> bool
         ensures { IsTrue result ↔ HasOnly from to (held_at self.now) }
     {
@@ -255,7 +255,7 @@ impl Block {
         true
     }
 
-    /// Copies of the numbers of a range, all of which are held, and how many were copied.
+    /// Copies the numbers of a range, which must all be held, and returns how many were copied.
     pub(crate) fn part(
         &self,
         alloc: Global,
@@ -276,7 +276,7 @@ impl Block {
     }
 }
 
-/// Writes the number at an offset; where others have the numbers too, into a copy of them.
+/// Writes the number at an offset. If others share the numbers, they are copied first.
 fn write_in(
     alloc: Global,
     shared: &mut Arc<Numbers>,

@@ -3,11 +3,11 @@
 use block_numbers::numbers::Numbers;
 use std::sync::Arc;
 
-/// What a block is to lose: all that it holds, or copies of some of its numbers.
+/// What a block will lose: all that it holds, or copies of some of its numbers.
 #[derive(Drop)]
 pub struct Cut {
-    /// The copies; None where the block moves as it stands.
+    /// The copies, or None if the block moves unchanged.
     pub(crate) numbers: Option<Arc<Numbers>>,
-    /// How many numbers were copied.
+    /// The number of numbers that were copied.
     pub copied: u64,
 }

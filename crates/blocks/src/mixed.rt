@@ -1,4 +1,4 @@
-//! Numbers each of which has a kind of its own.
+//! Numbers that each have their own kind.
 
 ghost use Rattle.std.specs.Prelude.{◌≡◌, length};
 
@@ -6,8 +6,8 @@ use block_numbers::kind::Kind;
 use block_numbers::numbers::Numbers;
 use std::alloc::{AllocError, Global};
 
-/// Numbers each of which has a kind of its own. No other holder has them, so that they can be
-/// written without memory.
+/// Numbers that each have their own kind. No other holder shares them, so they can be written
+/// without memory.
 #[derive(Drop)]
 pub struct Mixed {
     pub(crate) numbers: Numbers,
@@ -22,7 +22,7 @@ impl Mixed {
     ghost use Rattle.blocks.specs.Held.{Owned, number_of, owned_number};
     ghost use Rattle.block_numbers.specs.Offsets.{Agree, outside, put_at, without_at};
 
-    /// Nothing.
+    /// Returns a `Mixed` that holds nothing.
     pub(crate) fn nothing(alloc: Global) -> Mixed {
         Mixed {
             numbers: Numbers::none(alloc),
@@ -30,7 +30,7 @@ impl Mixed {
         }
     }
 
-    /// How an offset is held.
+    /// Returns how an offset is held.
     #[inline(always)]
     pub(crate) fn kind(&self, offset: usize) -> Kind
         ensures { result ≡ kind_of (held_in self.now offset) }
@@ -41,7 +41,7 @@ impl Mixed {
         self.kinds[offset - self.numbers.first]
     }
 
-    /// The number at an offset, where it is held.
+    /// Returns the number at an offset, if it is held.
     #[inline(never)]
     pub(crate) fn number(&self, offset: usize) -> Option<i64>
         ensures { result ≡ option_map number_of (held_in self.now offset) }
@@ -63,7 +63,7 @@ impl Mixed {
         self.kinds[at] = Kind::Own;
     }
 
-    /// Holds nothing any more at an offset with room.
+    /// Stops holding an offset that has room.
     fn forget(&mut self, offset: usize)
         requires { number_in self.old.numbers offset ≡ None → ⊥ }
         ensures held { Agree (held_in self.new) (without_at offset (held_in self.old)) }
@@ -89,7 +89,7 @@ impl Mixed {
         }
     }
 
-    /// Holds nothing any more at the offsets of a range.
+    /// Stops holding the offsets of a range.
     pub(crate) fn clear(&mut self, from: usize, to: usize)
         ensures held { Agree (held_in self.new) (outside from to (held_in self.old)) }
         ensures numbers { self.new.numbers ≡ self.old.numbers }
@@ -101,7 +101,7 @@ impl Mixed {
         }
     }
 
-    /// The same once more.
+    /// Returns a second `Mixed` with the same numbers and kinds.
     pub(crate) fn again(&self, alloc: Global) -> Result<Mixed, AllocError>
         ensures { IfOk result (λ m. Agree (held_in m) (held_in self.now)) }
     {
@@ -110,7 +110,7 @@ impl Mixed {
         Ok(Mixed { numbers, kinds })
     }
 
-    /// Holds no copies any more.
+    /// Stops holding all copies.
     pub(crate) fn drop_copies(&mut self)
         ensures { Agree (held_in self.new)
             (λ k. option_map Owned (owned_number (held_in self.old k))) }
@@ -125,7 +125,7 @@ impl Mixed {
         }
     }
 
-    /// Whether each number is owned.
+    /// Returns whether each number is owned.
     pub(crate) fn owns_everything(&self) -> bool
         ensures { IsTrue result → Agree (held_in self.now)
             (λ k. option_map Owned (number_in self.now.numbers k)) }

@@ -18,9 +18,9 @@ impl Block {
     ghost use Rattle.blocks.specs.Ready.{IsReady, room_at};
     ghost use Rattle.blocks.specs.declared.cut.Cut.{Cut as CutOf};
 
-    /// Cuts a range out, all of which is owned: copies its numbers and makes room, so that no memory
-    /// is wanted to carve it out. Where nothing else is held there is nothing to do. What is held
-    /// stays.
+    /// Cuts out a range, which must be owned: copies its numbers and makes room, so carving it out
+    /// needs no memory. If nothing else is held, there is nothing to do. What is held doesn't
+    /// change.
     pub fn cut(&mut self, alloc: Global, from: usize, to: usize) -> Result<Cut, AllocError>
         requires range { from < to }
         requires places { to ≤ 256 }
@@ -45,7 +45,7 @@ impl Block {
         Ok(Cut { numbers, copied })
     }
 
-    /// Moves the offsets of a range out, which was cut.
+    /// Moves out the offsets of a range that was cut.
     pub fn carve(&mut self, cut: Cut, from: usize, to: usize) -> Block
         requires { IsReady self.old from to cut }
         ensures taken { Agree (held_at result) (inside from to (held_at self.old)) }
@@ -63,7 +63,7 @@ impl Block {
         }
     }
 
-    /// Holds nothing any more at the offsets of a range, for which there is room.
+    /// Stops holding the offsets of a range for which there is room.
     fn clear(&mut self, from: usize, to: usize)
         requires { HasAll from to (room_at self.old) }
         ensures held { Agree (held_at self.new) (outside from to (held_at self.old)) }
@@ -74,7 +74,8 @@ impl Block {
         }
     }
 
-    /// Makes room for the numbers of a range. What is held stays, and so does room that is there.
+    /// Makes room for the numbers of a range. What is held doesn't change, and existing room
+    /// remains.
     pub(crate) fn open(&mut self, alloc: Global, from: usize, to: usize) -> Result<(), AllocError>
         requires range { from ≤ to }
         requires places { to ≤ 256 }
@@ -87,14 +88,15 @@ impl Block {
         {
             return Ok(());
         }
-        // Its memory comes first: nothing has changed where it is missing.
+        // Allocate first, so nothing has changed if memory runs out.
         let mut room = Box::new(alloc, Mixed::nothing(alloc))?;
         *room = self.opened(alloc, from, to)?;
         *self = Block::Mixed(room);
         Ok(())
     }
 
-    /// What is held, with numbers of its own that reach over a range. It isn't held here any more.
+    /// Returns what is held, with its own numbers, which reach over a range. The block itself no
+    /// longer holds it.
     fn opened(&mut self, alloc: Global, from: usize, to: usize) -> Result<Mixed, AllocError>
         requires range { from ≤ to }
         requires places { to ≤ 256 }
@@ -109,8 +111,8 @@ impl Block {
         }
     }
 
-    /// Takes the numbers out of their memory, where they are owned, reach over a range, and no other
-    /// has them.
+    /// Takes the numbers out of their memory if they are owned, reach over a range, and no other
+    /// holder has them.
     fn take_out(
         &mut self,
         alloc: Global,
@@ -139,8 +141,8 @@ impl Block {
         }
     }
 
-    /// What is held, with numbers of its own from the lowest offset that is held or in a range to
-    /// the highest.
+    /// Returns what is held, with its own numbers. They reach from the lowest offset that is held
+    /// or in the range to the highest.
     fn spread(&self, alloc: Global, from: usize, to: usize) -> Result<Mixed, AllocError>
         requires range { from ≤ to }
         requires places { to ≤ 256 }

@@ -1,4 +1,4 @@
-//! Owned offsets that come into blocks.
+//! Owned offsets taken into blocks.
 
 use crate::block::Block;
 use crate::mixed::Mixed;
@@ -14,8 +14,8 @@ impl Block {
     ghost use Rattle.block_numbers.specs.Offsets.{Agree, IsWithin};
     ghost use Rattle.blocks.specs.Ready.{CanTake, room_at};
 
-    /// Makes room for what another block owns, so that no memory is wanted to paste it. What is held
-    /// stays.
+    /// Makes room for what another block owns, so pasting it needs no memory. What is held doesn't
+    /// change.
     pub fn make_room(&mut self, alloc: Global, other: &Block) -> Result<(), AllocError>
         ensures same { Agree (held_at self.new) (held_at self.old) }
         ensures room { OnOk result (CanTake self.new other.now) }
@@ -32,8 +32,8 @@ impl Block {
         }
     }
 
-    /// Takes in what another block owns, for which there is room, and tells how many numbers were
-    /// copied. The copies that the other holds are dropped.
+    /// Takes in what another block owns, and returns how many numbers were copied. There must be
+    /// room. The copies that the other block holds are dropped.
     pub fn paste(&mut self, alloc: Global, other: Block) -> u64
         requires { CanTake self.old other }
         ensures pasted { Agree (held_at self.new)
@@ -52,7 +52,7 @@ impl Block {
         copied
     }
 
-    /// The same, where there is room for all that the other owns.
+    /// Takes in what another block owns, if there is room for all of it.
     fn take(&mut self, other: &Block) -> u64
         requires { IsWithin (owned_at other.now) (room_at self.old) }
         ensures held { Agree (held_at self.new)
@@ -65,7 +65,7 @@ impl Block {
         }
     }
 
-    /// Whether another block owns all that is held.
+    /// Returns whether another block owns all that is held here.
     fn is_within(&self, other: &Block) -> bool
         ensures { IsTrue result ↔ IsWithin (held_at self.now) (owned_at other.now) }
     {
@@ -79,7 +79,7 @@ impl Block {
         true
     }
 
-    /// What is owned, without the copies.
+    /// Returns what is owned, without the copies.
     fn owned_part(self) -> Block
         ensures { Agree (held_at result) (λ k. option_map Owned (owned_at self k)) }
     {
@@ -93,8 +93,8 @@ impl Block {
         }
     }
 
-    /// Where all is owned, the numbers can be shared again; where memory is missing for that, they
-    /// stay as they are. What is held stays.
+    /// If all is owned, puts the numbers into memory that can be shared again. If memory runs out,
+    /// the numbers stay as they are. What is held doesn't change.
     fn close(&mut self, alloc: Global)
         ensures { Agree (held_at self.new) (held_at self.old) }
     {
@@ -123,8 +123,8 @@ impl Mixed {
     ghost use Rattle.blocks.specs.Held.{Owned, first_of};
     ghost use Rattle.block_numbers.specs.Offsets.{Agree, IsWithin};
 
-    /// Takes in what a block owns, for which there is room, and tells how many numbers were copied.
-    /// This loop alone copies what is pasted.
+    /// Takes in what a block owns, and returns how many numbers were copied. There must be room. No
+    /// other loop copies numbers that are pasted.
     fn take(&mut self, other: &Block) -> u64
         requires { IsWithin (owned_at other.now) (number_in self.old.numbers) }
         ensures held { Agree (held_in self.new)

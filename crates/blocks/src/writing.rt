@@ -11,8 +11,8 @@ impl Block {
     ghost use Rattle.blocks.specs.Blocks.{held_at, owned_at};
     ghost use Rattle.blocks.specs.Held.{Owned, in_place_of};
 
-    /// Writes the number at an owned offset where that needs no memory, and tells whether it did.
-    /// Where copies may have the same memory nothing is written.
+    /// Writes the number at an owned offset if that needs no memory, and returns whether it did.
+    /// Writes nothing if copies may share the memory.
     #[inline(always)]
     pub fn set(&mut self, offset: usize, value: i64) -> bool
         ensures written { OnTrue result
@@ -29,7 +29,7 @@ impl Block {
         self.set_apart(offset, value)
     }
 
-    /// The same, out of the way of numbers that are all owned.
+    /// Does the same as `set`, kept out of the fast path for numbers that are all owned.
     #[inline(never)]
     fn set_apart(&mut self, offset: usize, value: i64) -> bool
         ensures written { OnTrue result
@@ -43,8 +43,8 @@ impl Block {
         }
     }
 
-    /// Writes the number at any offset: an owned one stays owned, and at any other the number is a
-    /// copy. Where copies have the same memory all numbers are copied before.
+    /// Writes the number at any offset. An owned number stays owned, and at any other offset the
+    /// number is a copy. If copies share the memory, all numbers are copied first.
     pub fn put(&mut self, alloc: Global, offset: usize, value: i64) -> Result<(), AllocError>
         requires { offset < 256 }
         ensures written { OnOk result (Agree (held_at self.new) (put_at offset

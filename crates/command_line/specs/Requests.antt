@@ -1,4 +1,4 @@
--- What the words of a command line ask.
+-- Requests: what the arguments of a command line ask for.
 use Rattle.std.specs.Prelude.{ℕ, ◌≡◌, ◌<◌, ◌≤◌, ◌^◌, List, [], ◌∷◌, codes, Bool, true, false, not, Option}
 use Rattle.std.specs.Prelude.{None, Some, nat_eq, IsTrue, IfSome, option_map, unwrap_or}
 use Rattle.std.specs.Fmt.{decimal}
@@ -22,8 +22,8 @@ use Rattle.command_line.specs.declared.request.Settings.{Settings as rSettings}
 use Rattle.command_line.specs.declared.request.Request.{Request}
 use Rattle.command_line.specs.declared.request.Spread.{Spread as rSpread}
 
--- how the leaves that step are chosen: by the text of a list, by a file of this name, or by a
--- generator from this number on
+-- how the leaves that step are chosen: by the text of a list, by a file with this name, or by a generator
+-- with this seed
 pub data Choosing : Type 0 where
   Listed : (text : List ℕ) → Choosing
   InFile : (name : List ℕ) → Choosing
@@ -34,8 +34,8 @@ choosing (rListed text) = Listed text.now
 choosing (rInFile name) = InFile name.now
 choosing (rRandom seed) = Random seed
 
--- how a run goes on worker threads: how many tasks it may have, how much weight a scope issues at a
--- time, and how many workers there are
+-- how a run uses worker threads: its maximum of tasks, the weight that a scope issues at a time, and its
+-- number of workers
 pub record Spread : Type 0 where
   pub tasks : ℕ
   pub w0 : ℕ
@@ -44,10 +44,10 @@ pub record Spread : Type 0 where
 abbrev pub spread : rSpread → Spread
 spread s = record { tasks = s.tasks; w0 = s.w0; workers = s.workers }
 
--- how a program is to be run: the file of what its arrays hold at first, where one is named; its
--- budget; how it goes on worker threads; how its choices are given, where they are; the file of its
--- trace, that is written or looked at, and that of a picture of it, where they are named; whether the
--- arrays are shown; whether it is told how far the run has come
+-- the settings of a run: the file of the initial contents of its arrays, if one is named; its budget; its
+-- worker threads; the source of its choices, if there is one; the file of its trace, to be written or
+-- shown, and that of a picture of it, if they are named; whether the arrays are shown; whether its progress
+-- is reported
 pub record Settings : Type 0 where
   pub input : Option (List ℕ)
   pub budget : Budget
@@ -58,7 +58,7 @@ pub record Settings : Type 0 where
   pub arrays : Bool
   pub progress : Bool
 
--- what is to be done with the program of a file, and how it is told
+-- what to do with the program of a file, and how to report
 pub record Asked : Type 0 where
   pub action : Action
   pub file : List ℕ
@@ -77,7 +77,7 @@ settings s = record {
   progress = s.progress;
 }
 
--- what a request asks
+-- the meaning of a request
 abbrev pub asked_of : Request → Asked
 asked_of r = record {
   action = r.action;
@@ -86,15 +86,15 @@ asked_of r = record {
   telling = r.telling;
 }
 
--- the budget of a run that names none
+-- the default budget of a run
 abbrev pub usual_budget : Budget
 usual_budget = record { steps = 1000000; nest = 100 }
 
--- the tasks, the weight and the workers of a run that names none
+-- the default tasks, weight and workers of a run
 abbrev pub usual_spread : Spread
 usual_spread = record { tasks = 65536; w0 = 1048576; workers = 4 }
 
--- the settings of a command line that names none
+-- the default settings of a command line
 abbrev pub usual : Settings
 usual = record {
   input = None;
@@ -107,19 +107,19 @@ usual = record {
   progress = false;
 }
 
--- how a command line tells that says nothing of it
+-- how a command line reports by default
 abbrev pub usual_telling : Telling
 usual_telling = record { explain = false; color = Auto }
 
--- ---- words
+-- ---- arguments
 
--- a file's name begins with no `-`, or it is `-` alone, the standard input
+-- a file's name doesn't start with `-`, or it is `-` alone, the standard input
 abbrev pub is_file_name : List ℕ → Bool
 is_file_name [] = true
 is_file_name (c ∷ []) = true
 is_file_name (c ∷ d ∷ rest) = not (nat_eq c 45)
 
--- what may stand behind the file of a program: the options of a run, and the file of its trace
+-- what can follow the file of a program: the options of a run, and the file of its trace
 pub record Options : Type 0 where
   pub input : Option (List ℕ)
   pub steps : Option ℕ
@@ -159,7 +159,7 @@ IsRightChoosing (Random seed) = seed < 2 ^ 64
 abbrev pub IsRightFile : Option (List ℕ) → Type 0
 IsRightFile file = IfSome file (λ name. IsTrue (is_file_name name))
 
--- files have files' names, and numbers are in their ranges
+-- files have file names, and numbers are in range
 pub record AreRight (o : Options) : Type 0 where
   pub input : IsRightFile o.input
   pub steps : IfSome o.steps (λ n. (1 ≤ n) × (n ≤ 1000000000))
@@ -171,7 +171,7 @@ pub record AreRight (o : Options) : Type 0 where
   pub trace : IsRightFile o.trace
   pub picture : IsRightFile o.picture
 
--- the texts that stand behind options
+-- the values of options as texts
 pub record Texts : Type 0 where
   pub input : Option (List ℕ)
   pub steps : Option (List ℕ)
@@ -187,7 +187,7 @@ pub record Texts : Type 0 where
   pub arrays : Bool
   pub progress : Bool
 
--- the list, the file or the seed by which is chosen
+-- the list, the file or the seed that choices come from
 abbrev pub list_of : Option Choosing → Option (List ℕ)
 list_of None = None
 list_of (Some (Listed text)) = Some text
@@ -234,7 +234,7 @@ abbrev pub flagged : (option : List ℕ) → Bool → (behind : List (List ℕ))
 flagged option true behind = option ∷ behind
 flagged option false behind = behind
 
--- the words of options of a run as tasks, in this order:
+-- the arguments for the options of a parallel run, in this order:
 -- `--input FILE --steps N --nest N --tasks N --w0 N --workers N --trace FILE --arrays`
 abbrev pub words_of : Texts → List (List ℕ)
 words_of t =
@@ -258,7 +258,7 @@ choosing_words_of t =
     (valued (codes "--choices") t.choices (valued (codes "--choices-from") t.choices_from
     (valued (codes "--random") t.random (flagged (codes "--arrays") t.arrays []))))
 
--- those of a run that is measured, in this order: `--input FILE --steps N --nest N`, and others behind them
+-- those of a run that is measured, in this order: `--input FILE --steps N --nest N`, and others after them
 abbrev pub measured_words_behind : Texts → (behind : List (List ℕ)) → List (List ℕ)
 measured_words_behind t behind =
     valued (codes "--input") t.input
@@ -272,32 +272,33 @@ pub record HasNoBudget (o : Options) : Type 0 where
   pub steps : o.steps ≡ None
   pub nest : o.nest ≡ None
 
--- it doesn't go on worker threads
+-- it has no options for worker threads
 pub record HasNoSpread (o : Options) : Type 0 where
   pub tasks : o.tasks ≡ None
   pub w0 : o.w0 ≡ None
   pub workers : o.workers ≡ None
 
--- no trace of it is written or looked at
+-- no trace of it is written or shown
 pub record HasNoTrace (o : Options) : Type 0 where
   pub trace : o.trace ≡ None
   pub picture : o.picture ≡ None
 
--- options of a run as tasks: it isn't by choices, nobody looks at it, and no picture is drawn of it
+-- options of a parallel run: it isn't by choices, its progress isn't reported, and no picture is drawn of
+-- it
 pub record AreForRun (o : Options) : Type 0 where
   pub right : AreRight o
   pub choices : o.choices ≡ None
   pub picture : o.picture ≡ None
   pub progress : o.progress ≡ false
 
--- of a run on one thread: it goes on no worker threads, not by choices, and has no trace
+-- of a one-thread run: it has no worker threads, isn't by choices, and has no trace
 pub record AreForSerial (o : Options) : Type 0 where
   pub right : AreRight o
   pub spread : HasNoSpread o
   pub choices : o.choices ≡ None
   pub trace : HasNoTrace o
 
--- of a run by choices: it has no budget, goes on no worker threads, has no trace, and nobody looks at it
+-- of a run by choices: it has no budget, no worker threads, no trace, and no progress reports
 pub record AreForExplore (o : Options) : Type 0 where
   pub right : AreRight o
   pub budget : HasNoBudget o
@@ -305,8 +306,8 @@ pub record AreForExplore (o : Options) : Type 0 where
   pub trace : HasNoTrace o
   pub progress : o.progress ≡ false
 
--- of a run that is measured: it goes on no worker threads, not by choices, has no trace, shows no arrays, and
--- nobody looks at it
+-- of a run that is measured: it has no worker threads, isn't by choices, has no trace, shows no arrays, and
+-- has no progress reports
 pub record AreForMeasuring (o : Options) : Type 0 where
   pub right : AreRight o
   pub spread : HasNoSpread o
@@ -315,7 +316,7 @@ pub record AreForMeasuring (o : Options) : Type 0 where
   pub arrays : o.arrays ≡ false
   pub progress : o.progress ≡ false
 
--- what they set; what isn't named is as usual
+-- the settings that they specify; the default is used for all others
 abbrev pub settings_by : Options → Settings
 settings_by o = record {
   input = o.input;
@@ -332,7 +333,7 @@ settings_by o = record {
   progress = o.progress;
 }
 
--- ---- a trace that is looked at
+-- ---- a trace that is shown
 
 -- how it is shown: as a table, by its numbers, as a picture in a file, or in a file for a trace viewer
 pub data Showing : Type 0 where
@@ -341,7 +342,7 @@ pub data Showing : Type 0 where
   AsPicture : (out : List ℕ) → Showing
   ForViewer : (out : List ℕ) → Showing
 
--- the words that ask for it, at most one option
+-- the arguments for it, at most one option
 abbrev pub showing_words : Showing → List (List ℕ)
 showing_words AsTable = []
 showing_words ByNumbers = codes "--summary" ∷ []
@@ -354,36 +355,36 @@ command_for ByNumbers = Summary
 command_for (AsPicture out) = Draw
 command_for (ForViewer out) = Chrome
 
--- the file in which it is drawn
+-- the file of the picture
 abbrev pub picture_of : Showing → Option (List ℕ)
 picture_of AsTable = None
 picture_of ByNumbers = None
 picture_of (AsPicture out) = Some out
 picture_of (ForViewer out) = Some out
 
--- the file of the trace, that of what the arrays held at first, where one is named, and how it is shown
+-- the file of the trace, that of the initial contents of the arrays, if one is named, and how it is shown
 pub record Viewing : Type 0 where
   pub trace : List ℕ
   pub input : Option (List ℕ)
   pub shown : Showing
 
--- the words behind the file of its program: `TRACE --input FILE`, and how it is shown
+-- the arguments after the file of its program: `TRACE --input FILE`, and how it is shown
 abbrev pub viewing_words : Viewing → List (List ℕ)
 viewing_words v = v.trace ∷ valued (codes "--input") v.input (showing_words v.shown)
 
--- what they set
+-- the options that they specify
 abbrev pub viewing_options : Viewing → Options
 viewing_options v =
     record no_options { input = v.input; trace = Some v.trace; picture = picture_of v.shown }
 
--- ---- the parts of a run that is measured
+-- ---- the shares of a run that is measured
 
--- what share is told behind the cost of all: that of each label, or of each procedure
+-- which shares follow the total cost: those of each label, or of each procedure
 pub data Parts : Type 0 where
   ByLabel : Parts
   ByProcedure : Parts
 
--- the word that asks for it
+-- the argument for it
 abbrev pub parts_word : Parts → List ℕ
 parts_word ByLabel = codes "--by-line"
 parts_word ByProcedure = codes "--by-procedure"
@@ -392,26 +393,26 @@ abbrev pub command_by : Parts → Command
 command_by ByLabel = CostByLabel
 command_by ByProcedure = CostByProcedure
 
--- ---- what is asked
+-- ---- requests
 
--- something is done with a file, by options
+-- something is done with a file, with options
 abbrev pub acting : Action → (file : List ℕ) → Options → Asked
 acting action file o =
     record { action = action; file = file; settings = settings_by o; telling = usual_telling }
 
--- a command with a file alone
+-- a command with only a file
 abbrev pub plain : Command → (file : List ℕ) → Asked
 plain command file = acting (Answer command) file no_options
 
--- a command with a file and options behind it
+-- a command with a file and options after it
 abbrev pub optioned : Command → (file : List ℕ) → Options → Asked
 optioned command file o = acting (Answer command) file o
 
--- a text is laid out in its file
+-- a text is formatted in its file
 abbrev pub rewriting : (file : List ℕ) → Asked
 rewriting file = acting Rewrite file no_options
 
--- the words ask this, in this order, and say nothing of how it is told
+-- the arguments request this, in this order, without reporting options
 pub data AsksPlainly (words : List (List ℕ)) (a : Asked) : Type 0 where
   to_run : (file : List ℕ) (o : Options) → IsTrue (is_file_name file) → AreForRun o
       → words ≡ codes "run" ∷ file ∷ words_of (texts_by o) → a ≡ optioned Run file o → AsksPlainly words a
@@ -455,32 +456,32 @@ pub data AsksPlainly (words : List (List ℕ)) (a : Asked) : Type 0 where
       → words ≡ codes "view" ∷ file ∷ viewing_words v
       → a ≡ optioned (command_for v.shown) file (viewing_options v) → AsksPlainly words a
 
--- ---- how it is told
+-- ---- reporting options
 
 abbrev pub color_word : Color → List ℕ
 color_word Auto = codes "auto"
 color_word Always = codes "always"
 color_word Never = codes "never"
 
--- nothing is said of it
+-- no reporting options
 abbrev pub no_manner : Manner
 no_manner = record { explain = false; color = None }
 
--- the words that say it, in this order: `--explain --color WHEN`, and others behind them
+-- the arguments for them, in this order: `--explain --color WHEN`, and others after them
 abbrev pub manner_words : Manner → (behind : List (List ℕ)) → List (List ℕ)
 manner_words m behind =
     flagged (codes "--explain") m.explain
     (valued (codes "--color") (option_map color_word m.color) behind)
 
--- what they set; what isn't named is as usual
+-- how to report with these options; the default is used for all others
 abbrev pub telling_by : Manner → Telling
 telling_by m = record { explain = m.explain; color = unwrap_or m.color Auto }
 
--- the same, told so
+-- the request with these reporting options
 abbrev pub told_so : Manner → Asked → Asked
 told_so m a = record a { telling = telling_by m }
 
--- the words ask this; behind the command stands how it is told. No word is `run -`
+-- the arguments request this; reporting options can follow the command. No arguments mean `run -`
 pub data Asks (words : List (List ℕ)) (a : Asked) : Type 0 where
   by_no_word : words ≡ [] → a ≡ plain Run (codes "-") → Asks words a
   by_command : (command : List ℕ) (m : Manner) (behind : List (List ℕ)) (b : Asked)

@@ -1,4 +1,4 @@
-//! What the words of a command line ask.
+//! Requests: what the arguments of a command line ask for.
 
 #![tactic(auto)]
 

@@ -1,11 +1,11 @@
-//! What words behind a command say of how it is to tell what it has to tell.
+//! The reporting options, which follow a command.
 
 ghost use Rattle.std.specs.Prelude.{◌≡◌};
 ghost use Rattle.command_line.specs.Requests.{no_manner, telling_by};
 
 use crate::request::{Color, Telling};
 
-/// What is said of how a command tells.
+/// The reporting options that are given.
 #[derive(Clone, Copy, PartialEq, Eq, Debug)]
 pub struct Manner {
     /// `--explain`
@@ -15,7 +15,7 @@ pub struct Manner {
 }
 
 impl Manner {
-    /// That nothing is said.
+    /// Returns no options.
     pub fn none() -> Manner
         ensures { result ≡ no_manner }
     {
@@ -25,7 +25,7 @@ impl Manner {
         }
     }
 
-    /// What it sets; what isn't said is as usual.
+    /// Returns how to report with these options, and by default without them.
     pub fn telling(self) -> Telling
         ensures { result ≡ telling_by self }
     {

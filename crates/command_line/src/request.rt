@@ -1,23 +1,23 @@
-//! What a command line asks.
+//! Requests of a command line.
 
 ghost use Rattle.std.specs.Prelude.{◌≡◌, ◌<◌, ◌≤◌, ◌⊎◌, ◌↔◌, IfSome, IsNone};
 
 use types::budget::Budget;
 
-/// What is to be told of a program, or drawn.
+/// What to report or draw for a program.
 #[derive(Clone, Copy, PartialEq, Eq, Debug)]
 pub enum Command {
-    /// `run`: run it as tasks.
+    /// `run`: run it in parallel.
     Run,
     /// `serial`: run it on one thread.
     Serial,
-    /// `check`: tell whether it is accepted.
+    /// `check`: report whether it is accepted.
     Check,
     /// `check --list`: write its listing.
     Listing,
     /// `list`: write the listing of any program.
     Labels,
-    /// `list --lines`: the same, with the places of its statements.
+    /// `list --lines`: write the listing, with the positions of its statements.
     Places,
     /// `mhp`: write the pairs of its labels that may run together.
     Pairs,
@@ -25,13 +25,13 @@ pub enum Command {
     Explore,
     /// `fmt`: write its text in the canonical layout, with its comments.
     Format,
-    /// `fmt --check`: tell whether its text is so laid out.
+    /// `fmt --check`: report whether its text has the canonical layout.
     CheckFormat,
-    /// `cost`: tell work, span and parallelism of its run.
+    /// `cost`: report work, span and parallelism of its run.
     Cost,
-    /// `cost --by-line`: tell also what share of it each label has.
+    /// `cost --by-line`: report also each label's share of the cost.
     CostByLabel,
-    /// `cost --by-procedure`: tell also what share of it each procedure has.
+    /// `cost --by-procedure`: report also each procedure's share of the cost.
     CostByProcedure,
     /// `view`: write the events of a trace as a table.
     View,
@@ -43,7 +43,7 @@ pub enum Command {
     Chrome,
 }
 
-/// When what explains a refusal has colours.
+/// When explanations have colors.
 #[derive(Clone, Copy, PartialEq, Eq, Debug)]
 pub enum Color {
     /// `--color auto`: at a terminal, unless `NO_COLOR` is set.
@@ -54,10 +54,10 @@ pub enum Color {
     Never,
 }
 
-/// How a command tells what it has to tell.
+/// How a command reports.
 #[derive(Clone, Copy, PartialEq, Eq, Debug)]
 pub struct Telling {
-    /// `--explain`: behind the line of a refusal it is said where and why.
+    /// `--explain`: the line of a failure is followed by where and why it occurred.
     pub explain: bool,
     /// `--color WHEN`
     pub color: Color,
@@ -66,7 +66,7 @@ pub struct Telling {
 impl Telling {
     ghost use Rattle.command_line.specs.Requests.{usual_telling};
 
-    /// That of a command line that says nothing of it: nothing is explained, and colours at a terminal.
+    /// Returns the default: no explanations, and colors at a terminal.
     pub fn usual() -> Telling
         ensures { result ≡ usual_telling }
     {
@@ -77,34 +77,34 @@ impl Telling {
     }
 }
 
-/// What is to be done with the file of a program.
+/// What to do with the file of a program.
 #[derive(Clone, Copy, PartialEq, Eq, Debug)]
 pub enum Action {
     /// A command answers for its program.
     Answer(Command),
-    /// `fmt --write`: its text is laid out in it.
+    /// `fmt --write`: its text is formatted in the file.
     Rewrite,
 }
 
-/// How the leaves that step are chosen.
+/// The source of choices: which leaves step.
 #[derive(Clone, Copy, PartialEq, Eq, Debug)]
 pub enum Choosing<'w> {
     /// `--choices LIST`: their numbers, joined by commas.
     Listed(&'w str),
-    /// `--choices-from FILE`: the same in a file, with commas or white space between them.
+    /// `--choices-from FILE`: their numbers in a file, with commas or white space between them.
     InFile(&'w str),
-    /// `--random SEED`: a generator draws them, from this number on.
+    /// `--random SEED`: a generator with this seed draws them.
     Random(u64),
 }
 
-/// How a run goes on worker threads.
+/// How a run uses worker threads.
 #[derive(Clone, Copy, PartialEq, Eq, Debug)]
 pub struct Spread {
-    /// How many tasks it may have, the root among them, 1 to 1,048,576.
+    /// The maximum number of tasks, including the root, 1 to 1,048,576.
     pub tasks: u64,
-    /// How much weight a scope issues at a time, 1 to 4,294,967,296.
+    /// The amount of weight that a scope issues at a time, 1 to 4,294,967,296.
     pub w0: u64,
-    /// How many workers there are, 1 to 64.
+    /// The number of workers, 1 to 64.
     pub workers: u64,
     ghost tasks_in_range: { (1 ≤ tasks) × (tasks ≤ 1048576) },
     ghost w0_in_range: { (1 ≤ w0) × (w0 ≤ 4294967296) },
@@ -114,7 +114,7 @@ pub struct Spread {
 impl Spread {
     ghost use Rattle.command_line.specs.Requests.{spread, usual_spread};
 
-    /// The one of these numbers, or None where one of them is out of its range.
+    /// Returns these numbers as one value, or None if one of them is out of range.
     pub fn new(tasks: u64, w0: u64, workers: u64) -> Option<Spread>
         ensures none { IsNone result ↔ ((tasks < 1) ⊎ (1048576 < tasks) ⊎ (w0 < 1)
             ⊎ (4294967296 < w0) ⊎ (workers < 1) ⊎ (64 < workers)) }
@@ -130,7 +130,7 @@ impl Spread {
         Some(Spread { tasks, w0, workers })
     }
 
-    /// That of a command line that names none: 65,536 tasks, a weight of 1,048,576, 4 workers.
+    /// Returns the default: 65,536 tasks, a weight of 1,048,576, 4 workers.
     pub fn usual() -> Spread
         ensures { spread result ≡ usual_spread }
     {
@@ -142,41 +142,43 @@ impl Spread {
     }
 }
 
-/// How many tasks a run has, at most.
+/// The maximum of the number of tasks.
 const MOST_TASKS: u64 = 1_048_576;
 
-/// How much weight a scope issues at a time, at most.
+/// The maximum of the weight that a scope issues at a time.
 const MOST_WEIGHT: u64 = 4_294_967_296;
 
-/// How many workers there are, at most.
+/// The maximum of the number of workers.
 const MOST_WORKERS: u64 = 64;
 
-/// How a program is to be run.
+/// The settings of a run.
 #[derive(Clone, Copy, PartialEq, Eq, Debug)]
 pub struct Settings<'w> {
-    /// `--input FILE`: the JSON text of what the arrays hold at first. Without it they hold zeros.
+    /// `--input FILE`: the JSON text of the initial contents of the arrays. Without it they are
+    /// zeros.
     pub input: Option<&'w str>,
     /// `--steps N` and `--nest N`
     pub budget: Budget,
     /// `--tasks N`, `--w0 N` and `--workers N`
     pub spread: Spread,
-    /// `--choices LIST`, `--choices-from FILE` or `--random SEED`. Without any of them none steps.
+    /// `--choices LIST`, `--choices-from FILE` or `--random SEED`. Without any of them no leaf
+    /// steps.
     pub choices: Option<Choosing<'w>>,
-    /// `--trace FILE` of `run`: the file that the run's trace is written to. `TRACE` of `view`: the file that
-    /// holds it, which these words always name.
+    /// `--trace FILE` of `run`: the file that the run's trace is written to. `TRACE` of `view`: the
+    /// file that contains it, which these arguments always name.
     pub trace: Option<&'w str>,
     /// `--svg OUT` or `--chrome OUT`: the file that the picture is written to.
     pub picture: Option<&'w str>,
-    /// `--arrays`: the arrays are shown behind the outcome.
+    /// `--arrays`: the arrays are shown after the outcome.
     pub arrays: bool,
-    /// `--progress`: how far a run on one thread has come is told while it runs.
+    /// `--progress`: the progress of a one-thread run is reported while it runs.
     pub progress: bool,
 }
 
 impl<'w> Settings<'w> {
     ghost use Rattle.command_line.specs.Requests.{settings, usual};
 
-    /// Those of a command line that names none: zeros, the usual budget, 4 workers, and no arrays.
+    /// Returns the default: zeros, the default budget, 4 workers, and no arrays.
     pub fn usual() -> Settings<'w>
         ensures { settings result ≡ usual }
     {
@@ -193,7 +195,7 @@ impl<'w> Settings<'w> {
     }
 }
 
-/// What a command line asks.
+/// A request of a command line.
 #[derive(Clone, Copy, PartialEq, Eq, Debug)]
 pub struct Request<'w> {
     pub action: Action,

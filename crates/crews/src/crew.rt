@@ -1,44 +1,44 @@
-//! Who works, and what each worker promises.
+//! Crews of workers, and what each worker promises.
 
 use std::snapshot::Snapshot;
 use std::sync::Wait;
 use std::thread::Promise;
 
-/// What the workers of a crew share, and what each of them does.
+/// The data that the workers of a crew share, and what each of them does.
 pub trait Crew: Sync {
-    /// What one worker owns.
+    /// The data that one worker owns.
     type Kit: Send + Drop;
 
-    /// What it brings back.
+    /// The result of one worker.
     type Report: Send + Drop;
 
-    /// A kit fits the crew.
+    /// Whether a kit fits the crew.
     ghost fits: { Self → Self.Kit → Type 0 };
 
-    /// A report is one of this crew.
+    /// Whether a report is one of this crew.
     ghost told: { Self → Self.Report → Type 0 };
 
-    /// What a worker does with its kit, on a thread of its own.
+    /// Does a worker's work with its kit, on its own thread.
     fn work<R: Wait>(&self, rt: &R, kit: Self::Kit) -> Self::Report
         requires { fits self.now kit }
         ensures { told self.now result };
 
-    /// A worker couldn't be started: whoever works is to stop soon.
+    /// Stops the crew because a worker couldn't be started: all workers should stop soon.
     fn call_off(&self);
 }
 
-/// Why a crew has no reports, of `work_together(rt, alloc, &crew, own, kits)` with one kit.
+/// The reason why a crew has no reports. The examples call `work_together` with one kit.
 #[derive(Clone, Copy, PartialEq, Eq, Debug)]
 pub enum Refusal {
-    /// There was no memory for the thread's handle, or for a report: so with one kit, and an allocator
-    /// that has nothing left.
+    /// There was no memory for the thread's handle, or for a report. Example: one kit, and an
+    /// allocator that has nothing left.
     OutOfMemory,
-    /// The thread of the kit couldn't be started: so with one kit, where the system gives no further
-    /// thread.
+    /// The thread for the kit couldn't be started. Example: one kit, and a system that has no more
+    /// threads.
     NoThread,
 }
 
-/// What a thread of a crew promises: its report is one of this crew.
+/// A thread's promise: its report is one of this crew.
 #[derive(Drop)]
 pub struct Told<C: Crew>(pub(crate) Snapshot<C>);
 

@@ -1,4 +1,4 @@
-//! Worker threads that borrow what they share, each with a promised report.
+//! Worker threads that borrow shared data, each with a promised report.
 
 #![tactic(auto)]
 

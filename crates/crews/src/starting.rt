@@ -9,9 +9,9 @@ use std::sync::Wait;
 use std::thread;
 use std::thread::{PromisedHandle, Scope, Threads};
 
-/// Starts a worker for each kit, works with the kit `own` on this thread, and joins all. Their
-/// reports are those of this crew. With no kits no thread is started. Where one couldn't be, the crew
-/// is called off, so that those that were started come to an end.
+/// Starts a worker for each kit, works with the kit `own` on this thread, and joins all threads.
+/// Returns their reports, which are those of this crew. Without kits it starts no thread. If a
+/// thread can't be started, the crew is called off, so the started threads stop.
 pub fn work_together<C: Crew, R: Threads + Wait + Sync>(
     rt: &R,
     alloc: Global,
@@ -35,7 +35,7 @@ pub fn work_together<C: Crew, R: Threads + Wait + Sync>(
     )
 }
 
-/// The same, in a scope of threads.
+/// Does the work of `work_together` in a scope of threads.
 fn work_in<'s, E, C: Crew, R: Threads + Wait + Sync>(
     rt: &'s R,
     alloc: Global,
@@ -65,7 +65,7 @@ fn work_in<'s, E, C: Crew, R: Threads + Wait + Sync>(
     }
 }
 
-/// Starts a worker for each kit. It stops at the first that is refused.
+/// Starts a worker for each kit. It stops at the first one that can't be started.
 fn start_all<'s, E, C: Crew, R: Threads + Wait + Sync>(
     rt: &'s R,
     scope: &Scope<'s, E>,
@@ -84,7 +84,7 @@ fn start_all<'s, E, C: Crew, R: Threads + Wait + Sync>(
     Ok(())
 }
 
-/// Starts one worker more, where there is memory for its handle.
+/// Starts one more worker, if there is memory for its handle.
 fn add<'s, E, C: Crew, R: Threads + Wait + Sync>(
     rt: &'s R,
     scope: &Scope<'s, E>,
@@ -128,7 +128,7 @@ fn start<'s, E, C: Crew, R: Threads + Wait + Sync>(
     }
 }
 
-/// Joins all, whether there is memory for their reports or not.
+/// Joins all workers, even if there is no memory for their reports.
 fn join_all<C: Crew, R: Threads>(
     rt: &R,
     handles: Vec<PromisedHandle<C::Report, Told<C>>>,
@@ -149,7 +149,7 @@ fn join_all<C: Crew, R: Threads>(
     joined
 }
 
-/// Joins one, and keeps its report where there is memory.
+/// Joins one worker, and keeps its report if there is memory.
 fn keep<C: Crew, R: Threads>(
     rt: &R,
     handle: PromisedHandle<C::Report, Told<C>>,

@@ -27,7 +27,7 @@ use Rattle.command_line.specs.declared.request.Command.TheVariants.{Run, View, S
 use Rattle.intake.specs.declared.failure.Failure.{Failure}
 use Rattle.intake.specs.declared.failure.Failure.TheVariants.{CannotWriteOutput}
 
--- what was answered is handed on: whole, or a writer that fails has a beginning of it
+-- the answer is flushed: it is complete, or a writer that fails has a prefix of it
 answered_on : (Is : Answer) (Why : Failure → Type 0) → Why CannotWriteOutput → (old mid new : Option (List ℕ)) (status : ℕ)
     (r : Result ℕ Failure) → Wrote Is old mid status → Keeps mid new → IfOk r (λ n. n ≡ status)
     → IfErr r (λ f. f ≡ CannotWriteOutput) → Done Is Why old new r
@@ -53,7 +53,7 @@ answered_on Is Why why old mid new status (Err f) wrote keeps _ is = record {
   };
 }
 
--- any command may fail by its output
+-- every command may fail because of its output
 may_fail : (c : Command) (s : Settings) (held : Held) (text : List ℕ) → ExplainsAny c s held text CannotWriteOutput
 may_fail View s held text = tt
 may_fail Summary s held text = tt
@@ -61,7 +61,7 @@ may_fail Draw s held text = tt
 may_fail Chrome s held text = tt
 may_fail _ s held text = tt
 
--- files aren't touched then
+-- files are unchanged then
 pub leaves_on : (c : Command) (s : Settings) (text : List ℕ) (held later : Held) (status : ℕ) (r : Result ℕ Failure)
     → IfErr r (λ f. f ≡ CannotWriteOutput) → Leaves c s text held later (Ok status) → Leaves c s text held later r
 leaves_on Run s text held later status r only w =
@@ -88,7 +88,7 @@ leaves_to : (x : Action) (file : List ℕ) (s : Settings) (text : List ℕ) (hel
 leaves_to (AnswerBy c) file s text held later status r only w = leaves_on c s text held later status r only w
 leaves_to Rewrite file s text held later status r only w = rewritten_on file text held later r only w
 
--- what was done is handed on
+-- what was done is flushed
 pub done_on : (Is : Answer) (Why : Failure → Type 0) → Why CannotWriteOutput → (old mid new : Option (List ℕ))
     (done r : Result ℕ Failure) → Done Is Why old mid done → IsHandedOn done mid new r → Done Is Why old new r
 done_on Is Why why old mid new (Ok status) r did on = answered_on Is Why why old mid new status r did on.0 on.1.0 on.1.1
@@ -112,21 +112,21 @@ handed_over x file s text held later old mid new done r performs on = record {
   leaves = left_on x file s text held later mid new done r performs.leaves on;
 }
 
--- a refusal that was told
+-- a refusal that was reported
 pub reported : (explain : Bool) (old new : Option (List ℕ)) (r : Refusal) (status : ℕ)
     → (explain ≡ false → string_bytes r.more ≡ []) → status ≡ failure_status r.failure
     → AppendsBeginning old new ((failure_text r.failure ++ codes "\n") ++ string_bytes r.more)
     → Reports explain old new (Err r.failure) status
 reported explain old new r status bare is told = (is, record { more = string_bytes r.more; bare = bare; told = told })
 
--- an answer, and what was said behind it
+-- an answer, and its explanation
 pub followed : (explain : Bool) (old new : Option (List ℕ)) (a : Answered) (status : ℕ)
     → (explain ≡ false → string_bytes a.more ≡ []) → (a.status ≤ 1 → string_bytes a.more ≡ []) → status ≡ a.status
     → AppendsBeginning old new (string_bytes a.more) → Reports explain old new (Ok a.status) status
 followed explain old new a status bare calm is told =
     (is, record { more = string_bytes a.more; bare = bare; calm = calm; told = told })
 
--- what is reported of a result is reported of the same
+-- what is reported for a result is reported for an equal one
 pub reported_by : (explain : Bool) (old new : Option (List ℕ)) (r s : Result Answered Refusal) (status : ℕ) → r ≡ s
     → Reports explain old new (in_short s) status → Reports explain old new (in_short r) status
 reported_by explain old new r s status same reports =

@@ -1,4 +1,4 @@
--- What files hold behind a run as tasks.
+-- The contents of files after a parallel run.
 use Rattle.std.proofs.Common.{◌≡◌, inl, inr, ℕ, List, Option, Some, None, Result, Ok, Err, refl, subst, sym}
 use Rattle.std.specs.Prelude.{IfErr, IsErrAnd}
 use Rattle.types.specs.Code.{Array}
@@ -31,7 +31,7 @@ no_run_other s _ told = tt
 
 -- ---- what is written
 
--- a failure that comes before anything is written
+-- a failure before anything is written
 abbrev pub IsEarly : Failure → Type 0
 IsEarly CannotWriteOutput = ⊥
 IsEarly (CannotWrite told) = ⊥

@@ -1,4 +1,4 @@
--- From a file and a command to the object that the program told.
+-- From a file and a command to the object that the program wrote.
 use Rattle.std.proofs.Common.{◌≡◌, ℕ, List, Option, Some, None, Result, Ok, Err, IfOk, IfErr, sym, subst}
 use Rattle.std.specs.Prelude.{IsErrAnd}
 use Rattle.std.specs.String.{string_bytes}
@@ -24,7 +24,7 @@ use Rattle.driver.specs.Traced.{TellsNoRun, WritesTrace}
 use Rattle.driver.proofs.Leaving.{no_run_explained, no_run_other}
 
 module _ (x : Subject) (file : List ℕ) (s : Settings) (text : List ℕ) (held later : Held) (old new : Option (List ℕ)) where
-  -- a failure whose object was told
+  -- a failure whose object was written
   pub refusal_told : (f : Failure) → FailsEarly (command_of x) s held text f → IsToldAsObject (TellsFailure file text f) old new
       → Leaves (command_of x) s text held later (Err f) → TellsObject x file s text held later old new (Err f)
   refusal_told f fails is_told leaves = record {
@@ -58,7 +58,7 @@ pub no_run_early : (s : Settings) (held : Held) (text : List ℕ) → IsExplored
 no_run_early s held text run f why =
     record { why = no_run_explained s held text run f why; early = other_failure f (no_run_other s f why) }
 
--- ---- the trace of a run whose object is told
+-- ---- the trace of a run with an object
 
 module _ (T : Type 0) (P Q : (bytes : List ℕ) → Type 0) (held later : Held) (so : (bytes : List ℕ) → P bytes → Q bytes) where
   wrote_so : (name : List ℕ) → Wrote name P held later → Wrote name Q held later
@@ -70,7 +70,7 @@ module _ (T : Type 0) (P Q : (bytes : List ℕ) → Type 0) (held later : Held) 
   written_behind name (Err f) w only =
       subst (λ (g : Failure). WritesTo {T = ℕ} name Q held later (Err g)) (sym only) w.others
 
-  -- it stands whether or not there was memory for the object
+  -- it is the same whether or not there was memory for the object
   pub traced_behind : (file : Option (List ℕ)) (x : T) (r : Result Told Failure) → WritesTrace file P held later (Ok x)
       → IfErr r (λ f. f ≡ NoMemory) → WritesTrace file Q held later (status_in r)
   traced_behind None x r w only = w

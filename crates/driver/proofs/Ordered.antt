@@ -21,7 +21,7 @@ pub unread_so : (d e : Doing) → d ≡ e → (file : List ℕ) (old new : Optio
 unread_so d e same file old new f told = subst (λ (x : Doing). TellsUnread x file old new f) (sym same) told
 
 module _ (d : Doing) (a : Asked) (held : Held) (old new : Option (List ℕ)) where
-  -- files were read before, and are read behind it, and the result is the same
+  -- files were read before, and are read after it, and the result is the same
   pub read_on_text : (mid later last : Held) → mid ≡ held → last ≡ later → (r s : Result ℕ Failure) → r ≡ s
       → (text : List ℕ) → HasText held a.file text → length text ≤ 1048576 → DoesWith d a text mid later old new s
       → ReadsAnd d a held last old new r

@@ -28,7 +28,7 @@ header_is h s budget_is w0_is workers_is =
     ap (λ (b : rBudget). header_with b h.w0 h.workers) budget_is ∙ ap (λ (w : ℕ). header_with s.budget w h.workers) w0_is
     ∙ ap (header_with s.budget s.spread.w0) workers_is
 
--- events lead to a world that tells this
+-- events lead to a world with this outcome
 record Leads (p : Program) (input : List (List ℤ)) (es : List Event) (w : World) (o : Outcome) (w0 : ℕ) (b : Budget)
     : Type 0 where
   legal : replayed p w0 input b es ≡ Legal w

@@ -12,7 +12,7 @@ use Rattle.driver.specs.Acts.{IsHandedOn}
 use Rattle.driver.specs.Trying.{TestsFolder, TimesRuns}
 use Rattle.driver.proofs.Acting.{done_on}
 
--- what was told of times is handed on
+-- the report on times is flushed
 pub times_on : (s : Settings) (text : List ℕ) (held later : Held) (old mid new : Option (List ℕ)) (done r : Result ℕ Failure)
     → TimesRuns s text held later old mid done → IsHandedOn done mid new r → TimesRuns s text held later old new r
 times_on s text held later old mid new done r times on = record {
@@ -20,7 +20,7 @@ times_on s text held later old mid new done r times on = record {
   keeps = times.keeps;
 }
 
--- and what was told of a folder
+-- and the report on a folder
 pub tests_on : (named : Folders) (held later : Held) (folder : List ℕ) (old mid new : Option (List ℕ))
     (done r : Result ℕ Failure) → Done (AnswersTest named held folder) (ExplainsTest named folder) old mid done → later ≡ held
     → IsHandedOn done mid new r → TestsFolder named held later folder old new r
@@ -29,7 +29,7 @@ tests_on named held later folder old mid new done r tests same on = record {
   keeps = same;
 }
 
--- a failure that is told as another was, which it is
+-- a failure that is reported as another one is equal to it
 pub failed_so : (named : Folders) (held later : Held) (folder : List ℕ) (old new : Option (List ℕ)) (e f : Failure) → e ≡ f
     → TestsFolder named held later folder old new (Err f) → TestsFolder named held later folder old new (Err e)
 failed_so named held later folder old new e f same tests =

@@ -1,4 +1,4 @@
--- What one is told of a run stays so behind it.
+-- The notifications for a run are unchanged after it.
 use Rattle.std.proofs.Common.{◌≡◌, ℕ, ◌≤◌, List, [], Bool, true, false, Option, Result, Ok, Err, sym, ◌∙◌, refl, subst, inr, arith}
 use Rattle.std.specs.Prelude.{◌≢◌}
 use Rattle.statement_steps.specs.Watched.{Watches}
@@ -35,7 +35,7 @@ of_failure StrangeEvents other small = omega (arith, small)
 of_failure _ other small = other refl
 
 module _ {W : Type 0} (Told : List ℕ → W → W → Type 0) (old new : W) where
-  -- what was done is handed on, and reported
+  -- what was done is flushed, and reported
   pub handed_watched : (asked : Bool) (written later : Option (List ℕ)) (done r : Result ℕ Failure)
       → IsHandedOn done written later r → Watches Told asked done old new → Watches Told asked r old new
   handed_watched asked written later (Ok status) r on told = behind_end Told Failure asked status r old new told
@@ -61,7 +61,7 @@ module _ {W : Type 0} (Told : List ℕ → W → W → Type 0) (old new : W) whe
       → WatchesOrder Told p status old new
   watched_as o p same status told = subst (λ (q : Order). WatchesOrder Told q status old new) same told
 
--- a file that has no text of a program tells nothing
+-- a file that has no text of a program causes no notification
 pub unread_watched : {W E : Type 0} (A : Type 0) (Told : List ℕ → W → W → Type 0) (w : W) → Told [] w w → (d : Doing) (a : Asked)
     (e : E) → WatchesDoing Told {A = A} d a (Err e) w w
 unread_watched A Told w nothing Answering a e = not_begun Told A _ e w nothing

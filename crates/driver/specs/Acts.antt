@@ -1,4 +1,4 @@
--- What the program does with the files that its words name, and how it reports.
+-- What the program does with the files that its arguments name, and how it reports that.
 use Rattle.std.specs.Prelude.{ℕ, ◌≡◌, ◌≤◌, List, [], ◌++◌, Option, Result, Ok, Err, codes, IfOk, IfErr}
 use Rattle.std.specs.Prelude.{Bool, false}
 use Rattle.std.specs.String.{string_bytes}
@@ -25,7 +25,7 @@ use Rattle.driver.specs.Traced.{TracesRun}
 use Rattle.driver.specs.declared.answered.Answered.{Answered}
 use Rattle.driver.specs.declared.refusal.Refusal.{Refusal}
 
--- the text told, with its status, answers what is asked of a program's text, or of a trace of its run
+-- the text written, with its status, answers the command for a program's text, or for a trace of its run
 abbrev pub AnswersAny : Command → Settings → Held → (text : List ℕ) → Answer
 AnswersAny View s held text = AnswersTrace View s held text
 AnswersAny Summary s held text = AnswersTrace Summary s held text
@@ -33,7 +33,7 @@ AnswersAny Draw s held text = AnswersTrace Draw s held text
 AnswersAny Chrome s held text = AnswersTrace Chrome s held text
 AnswersAny c s held text = Answers c s held text
 
--- a failure is one of what is asked so
+-- a failure is one of this command
 abbrev pub ExplainsAny : Command → Settings → Held → (text : List ℕ) → Failure → Type 0
 ExplainsAny View s held text = ExplainsTrace View s held text
 ExplainsAny Summary s held text = ExplainsTrace Summary s held text
@@ -41,8 +41,8 @@ ExplainsAny Draw s held text = ExplainsTrace Draw s held text
 ExplainsAny Chrome s held text = ExplainsTrace Chrome s held text
 ExplainsAny c s held text = Explains c s held text
 
--- what files hold behind a command: the trace of a run in the file that was named for it, a picture in its
--- file; and whatever else they held
+-- the contents of files after a command: the trace of a run in the file that was named for it, a picture in
+-- its file; all other contents are unchanged
 abbrev pub Leaves : Command → Settings → (text : List ℕ) → (held later : Held) → Result ℕ Failure → Type 0
 Leaves Run s text held later r = TracesRun s text held later r
 Leaves Draw s text held later r = WritesTo (picture_name s) (IsDrawn s held text) held later r
@@ -64,71 +64,71 @@ Leaves Summary s text held later r = later ≡ held
 
 -- ---- what is done with a file
 
--- the text told, with its status, answers what is asked of the text of a program: that of a command, or
--- nothing of one that is laid out in its file
+-- the text written, with its status, answers the action for the text of a program: that of a command, or
+-- nothing if the text is formatted in its file
 abbrev pub AnswersTo : Action → Settings → Held → (text : List ℕ) → Answer
 AnswersTo (AnswerBy c) s held text = AnswersAny c s held text
 AnswersTo Rewrite s held text = AnswersRewrite text
 
--- a failure is one of what is asked so
+-- a failure is one of this action
 abbrev pub ExplainsTo : Action → (file : List ℕ) → Settings → Held → (text : List ℕ) → Failure → Type 0
 ExplainsTo (AnswerBy c) file s held text = ExplainsAny c s held text
 ExplainsTo Rewrite file s held text = ExplainsRewrite file text
 
--- what files hold behind it
+-- the contents of files after it
 abbrev pub LeavesTo : Action → (file : List ℕ) → Settings → (text : List ℕ) → (held later : Held)
     → Result ℕ Failure
     → Type 0
 LeavesTo (AnswerBy c) file s text held later r = Leaves c s text held later r
 LeavesTo Rewrite file s text held later r = LeavesRewritten file text held later r
 
--- what is asked was done, and files hold what they should
+-- the request was carried out, and the contents of files are right
 pub record Performs (x : Action) (file : List ℕ) (s : Settings) (text : List ℕ) (held later : Held)
     (old new : Option (List ℕ)) (r : Result ℕ Failure) : Type 0 where
   pub done : Done (AnswersTo x s held text) (ExplainsTo x file s held text) old new r
   pub leaves : LeavesTo x file s text held later r
 
--- the line of a failure was appended as far as it was taken; where that is asked for, more stands behind it
+-- the line of a failure was appended as far as it was accepted; an explanation follows if that is requested
 pub record IsTold (explain : Bool) (old new : Option (List ℕ)) (f : Failure) : Type 0 where
   pub more : List ℕ
   pub bare : explain ≡ false → more ≡ []
   pub told : AppendsBeginning old new ((failure_text f ++ codes "\n") ++ more)
 
--- behind an answer nothing is said, unless that is asked for, and a run ended with faults or was stopped:
--- then what explains its outcome was appended, as far as it was taken
+-- nothing is written after an answer, unless an explanation is requested and a run ended with faults or was
+-- stopped: then the explanation of its outcome was appended, as far as it was accepted
 pub record IsFollowed (explain : Bool) (answered : ℕ) (old new : Option (List ℕ)) : Type 0 where
   pub more : List ℕ
   pub bare : explain ≡ false → more ≡ []
   pub calm : answered ≤ 1 → more ≡ []
   pub told : AppendsBeginning old new more
 
--- the status of what was answered; or that of a failure, which is told
+-- the status of an answer; or that of a failure, which is reported
 abbrev pub Reports : (explain : Bool) → (old new : Option (List ℕ)) → Result ℕ Failure → (status : ℕ)
     → Type 0
 Reports explain old new (Ok answered) status = (status ≡ answered) × IsFollowed explain answered old new
 Reports explain old new (Err f) status = (status ≡ failure_status f) × IsTold explain old new f
 
--- a mistake in the words was told with status 1: a text of it was appended to the error output as far as
--- it was taken, and the other output is as it was
+-- a mistake in the arguments was reported with status 1: a text was appended to the error output as far as
+-- it was accepted, and the other output is unchanged
 pub record TellsMistake (old new err_old err_new : Option (List ℕ)) (status : ℕ) : Type 0 where
   pub text : List ℕ
   pub told : AppendsBeginning err_old err_new text
   pub silent : new ≡ old
   pub refused : status ≡ 1
 
--- a status, or a refusal's failure, without what explains it
+-- a status, or a refusal's failure, without its explanation
 abbrev pub in_short : Result Answered Refusal → Result ℕ Failure
 in_short (Ok answered) = Ok answered.status
 in_short (Err refusal) = Err refusal.failure
 
--- behind an answer a writer handed on what it kept back, or failed; behind a failure it is as it was
+-- after an answer the writer was flushed, or failed; after a failure it is unchanged
 abbrev pub IsHandedOn : (done : Result ℕ Failure) → (old new : Option (List ℕ)) → Result ℕ Failure → Type 0
 IsHandedOn (Ok status) old new r =
     Keeps old new × (IfOk r (λ n. n ≡ status) × IfErr r (λ f. f ≡ CannotWriteOutput))
 IsHandedOn (Err f) old new r = (new ≡ old) × (r ≡ Err f)
 
--- behind the line of a refusal, and behind an answer, more is said only where that is asked for; behind an
--- answer with status 0 or 1 nothing is
+-- a refusal and an answer are explained only if that is requested; an answer with status 0 or 1 is never
+-- explained
 pub record IsSaid (explain : Bool) (r : Result Answered Refusal) : Type 0 where
   pub bare : IfErr r (λ refusal. explain ≡ false → string_bytes refusal.more ≡ [])
   pub quiet : IfOk r (λ answered. explain ≡ false → string_bytes answered.more ≡ [])

@@ -1,4 +1,4 @@
--- What is asked, told as one object.
+-- Answers as one object.
 use Rattle.std.specs.Prelude.{ℕ, List, Option, Result, Ok, Err, MatchResult}
 use Rattle.command_line.specs.Requests.{Settings}
 use Rattle.intake.specs.Held.{Held}
@@ -11,7 +11,7 @@ use Rattle.reading.specs.Orders.{command_of}
 use Rattle.reading.specs.declared.order.Subject.{Subject}
 use Rattle.driver.specs.Acts.{Leaves}
 
--- the object of the answer was written; or there is a reason why there is none, and its object was told
+-- the object of the answer was written; or there is a reason why there is none, and its object was written
 pub record TellsObject (x : Subject) (file : List ℕ) (s : Settings) (text : List ℕ) (held later : Held)
     (old new : Option (List ℕ)) (r : Result ℕ Failure) : Type 0 where
   pub done : MatchResult r (Wrote (ObjectOf (command_of x) s held text) old new)

@@ -1,4 +1,4 @@
--- What words order was done, and reported.
+-- Orders that were carried out, and reported.
 use Rattle.std.specs.Prelude.{ℕ, ◌≤◌, Bool, false, List, [], length, Option, Result, IsErrAnd, ◌≡◌}
 use Rattle.std.specs.Io.KnownBytes.{Keeps}
 use Rattle.command_line.specs.Requests.{Asked, asked_of}
@@ -15,8 +15,8 @@ use Rattle.driver.specs.declared.doing.Doing.TheVariants.{Answering, Describing,
 use Rattle.driver.specs.declared.loaded.Loaded.{Loaded}
 use Rattle.trials.specs.Folders.{Folders}
 
--- this was done with the text of a program: what is asked of it, or it was told as one object, or its runs
--- were timed
+-- this was done with the text of a program: the command was answered, or it was answered as one object, or
+-- its runs were timed
 abbrev pub DoesWith : Doing → Asked → (text : List ℕ) → (held later : Held) → (old new : Option (List ℕ))
     → Result ℕ Failure → Type 0
 DoesWith Answering a text held later old new r = Performs a.action a.file a.settings text held later old new r
@@ -24,19 +24,19 @@ DoesWith (Describing x) a text held later old new r =
     TellsObject x a.file a.settings text held later old new r
 DoesWith Timing a text held later old new r = TimesRuns a.settings text held later old new r
 
--- the same of a request and the text of its file
+-- the order for a request and the text of its file
 abbrev pub DoesWithLoaded : Doing → Loaded → (held later : Held) → (old new : Option (List ℕ))
     → Result ℕ Failure
     → Type 0
 DoesWithLoaded d l held later old new r = DoesWith d (asked_of l.request) l.text.now held later old new r
 
--- why a file has no text of a program was told as one object where that is done; else nothing was written
+-- why a file has no text of a program was written as one object if that was ordered; else nothing was
 abbrev pub TellsUnread : Doing → (file : List ℕ) → (old new : Option (List ℕ)) → Failure → Type 0
 TellsUnread (Describing x) file old new f = IsToldAsObject (TellsFailure file [] f) old new
 TellsUnread Answering file old new f = Keeps old new
 TellsUnread Timing file old new f = Keeps old new
 
--- the failure says why a file has no text of a program, and so it was told
+-- the failure states why a file has no text of a program, and is reported in this way
 pub record HasNone (d : Doing) (held : Held) (file : List ℕ) (old new : Option (List ℕ))
     (f : Failure) : Type 0 where
   pub why : TellsNoProgram held file f
@@ -62,25 +62,25 @@ abbrev pub ActsWith : Doing → (a : Asked) → (held later : Held) → (old new
 ActsWith d a held later old new err_old err_new status =
     ActsBy (ReadsAnd d a held later old new) a.telling.explain err_old err_new status
 
--- what is asked was done, and reported
+-- the request was carried out, and reported
 abbrev pub Acts : (a : Asked) → (held later : Held) → (old new : Option (List ℕ))
     → (err_old err_new : Option (List ℕ)) → (status : ℕ) → Type 0
 Acts a held later old new err_old err_new status =
     ActsWith Answering a held later old new err_old err_new status
 
--- what is asked was told as one object, and reported
+-- the request was answered as one object, and reported
 abbrev pub TellsAs : (x : Subject) → (a : Asked) → (held later : Held) → (old new : Option (List ℕ))
     → (err_old err_new : Option (List ℕ)) → (status : ℕ) → Type 0
 TellsAs x a held later old new err_old err_new status =
     ActsWith (Describing x) a held later old new err_old err_new status
 
--- the runs of a program were timed, and that reported
+-- the runs of a program were timed, and that was reported
 abbrev pub TimesAs : (a : Asked) → (held later : Held) → (old new : Option (List ℕ))
     → (err_old err_new : Option (List ℕ)) → (status : ℕ) → Type 0
 TimesAs a held later old new err_old err_new status =
     ActsWith Timing a held later old new err_old err_new status
 
--- the programs of a folder were tested, and that reported
+-- the programs of a folder were tested, and that was reported
 abbrev pub TestsAs : (folder : List ℕ) → Folders → (held later : Held) → (old new : Option (List ℕ))
     → (err_old err_new : Option (List ℕ)) → (status : ℕ) → Type 0
 TestsAs folder named held later old new err_old err_new status =

@@ -1,4 +1,4 @@
--- The trace of a run as tasks, in the file that was named for it.
+-- The trace of a parallel run, in the file that was named for it.
 use Rattle.std.specs.Prelude.{ℕ, ℤ, ◌≡◌, List, Option, Some, None, Result}
 use Rattle.std.specs.String.{string_bytes}
 use Rattle.types.specs.Code.{Program}
@@ -22,7 +22,7 @@ use Rattle.answers.specs.declared.question.Begun.{Begun}
 use Rattle.viewing.specs.Files.{WritesTo}
 use Rattle.driver.specs.declared.tracing.Ran.{Ran}
 
--- what a run is asked for
+-- the settings of a run
 abbrev pub header_of : Settings → TraceHeader
 header_of s = record {
   steps = s.budget.steps;
@@ -31,8 +31,8 @@ header_of s = record {
   workers = s.spread.workers;
 }
 
--- the lines of a run of a program on an input: its events are legal from the start, one behind the other,
--- and the world that they lead to has passed its root's scope, and tells the one-thread outcome
+-- the lines of a run of a program on an input: its events are legal in order from the start, and lead to a
+-- world that has passed its root's scope and has the one-thread outcome
 pub record IsTraceOf (p : Program) (input : List (List ℤ)) (s : Settings) (bytes : List ℕ) : Type 0 where
   pub events : List Event
   pub lines : bytes ≡ trace_text (header_of s) events
@@ -40,13 +40,12 @@ pub record IsTraceOf (p : Program) (input : List (List ℤ)) (s : Settings) (byt
   pub legal : LeadsTo p s.spread.w0 input s.budget events world
   pub told : outcome_of p s.spread.w0 s.budget world ≡ Some (outcome p input s.budget)
 
--- the same, of the program of a text and the input that was given
+-- the trace of the program of a text and the input that was given
 pub record IsTraceOfText (s : Settings) (held : Held) (text bytes : List ℕ) : Type 0 where
   pub run : IsExplored s held text
   pub trace : IsTraceOf run.code run.input s bytes
 
--- the program of a text, which has this code, has no race, and came to this outcome on the input that was
--- given
+-- the program of a text, which has this code, has no race, and had this outcome on the input that was given
 pub record HasRun (s : Settings) (held : Held) (text : List ℕ) (code : Program) (o : Outcome) : Type 0 where
   pub accepted : IsAccepted code
   pub input : List (List ℤ)
@@ -57,30 +56,30 @@ pub record HasRun (s : Settings) (held : Held) (text : List ℕ) (code : Program
 abbrev pub IsRunOf : Settings → Held → (text : List ℕ) → Ran → Type 0
 IsRunOf s held text r = HasRun s held text (code_of r.given.accepted.typed) (outcome_in r.outcome)
 
--- where a file is named the right bytes are written to it, and to no other; else to none
+-- if a file is named, the right bytes are written to it, and to no other; else to none
 abbrev pub WritesTrace : {T : Type 0} → (file : Option (List ℕ)) → (AreRight : (bytes : List ℕ) → Type 0)
     → (held later : Held) → Result T Failure → Type 0
 WritesTrace None AreRight held later r = later ≡ held
 WritesTrace (Some name) AreRight held later r = WritesTo name AreRight held later r
 
--- so the trace of a run of a text's program is written
+-- the trace of a run of a text's program is written in this way
 abbrev pub TracesRun : {T : Type 0} → Settings → (text : List ℕ) → (held later : Held) → Result T Failure
     → Type 0
 TracesRun s text held later r = WritesTrace s.trace (IsTraceOfText s held text) held later r
 
--- so is that of a program that was had, on its input
+-- the trace of a program without a race, on its input, is written in this way
 abbrev pub TracesBegun : {T : Type 0} → Settings → Begun → (held later : Held) → Result T Failure → Type 0
 TracesBegun s given held later r =
     WritesTrace s.trace (IsTraceOf (code_of given.accepted.typed) (lists_in given.input) s) held later r
 
--- why a run has no outcome; only want of memory is free
+-- why a run has no outcome; only out of memory needs no reason
 abbrev pub TellsNoOutcome : Settings → Failure → Type 0
 TellsNoOutcome s (RunFailed e) = IsCause s.spread.tasks e
 TellsNoOutcome s StrangeEvents = IsTraced s
 TellsNoOutcome s NoMemory = Unit {0}
 TellsNoOutcome s _ = ⊥
 
--- the same, or why its trace wasn't written
+-- why a run has no outcome, or why its trace wasn't written
 abbrev pub TellsNoRun : Settings → Failure → Type 0
 TellsNoRun s (CannotWrite told) = s.trace ≡ Some (string_bytes told)
 TellsNoRun s f = TellsNoOutcome s f

@@ -9,13 +9,13 @@ use Rattle.trials.specs.Folders.{Folders}
 use Rattle.trials.specs.Times.{AnswersTimes}
 use Rattle.trials.specs.Trials.{AnswersTest, ExplainsTest}
 
--- the runs of a text's program were timed, or why not is why it isn't run; files hold what they held
+-- the runs of a text's program were timed, or there is a reason why it isn't run; files are unchanged
 pub record TimesRuns (s : Settings) (text : List ℕ) (held later : Held)
     (old new : Option (List ℕ)) (r : Result ℕ Failure) : Type 0 where
   pub done : Done (AnswersTimes s held text) (Explains Run s held text) old new r
   pub keeps : later ≡ held
 
--- the programs of the folder were tested, or there is a reason why not; files hold what they held
+-- the programs of the folder were tested, or there is a reason why not; files are unchanged
 pub record TestsFolder (named : Folders) (held later : Held) (folder : List ℕ) (old new : Option (List ℕ))
     (r : Result ℕ Failure) : Type 0 where
   pub done : Done (AnswersTest named held folder) (ExplainsTest named folder) old new r

@@ -1,4 +1,4 @@
--- What somebody is told who looks at the program.
+-- The notifications of a user who watches the program.
 use Rattle.std.specs.Prelude.{ℕ, ◌≡◌, ◌≢◌, ◌⊎◌, ◌≤◌, List, Bool, true, false, Result}
 use Rattle.statement_steps.specs.Watched.{IsTold, IsToldOfEnd, Watches}
 use Rattle.command_line.specs.Requests.{Asked, Settings}
@@ -13,7 +13,7 @@ use Rattle.reading.specs.Orders.{Order, AsText, AsObject, Times, Tests, command_
 use Rattle.driver.specs.declared.doing.Doing.{Doing}
 use Rattle.driver.specs.declared.doing.Doing.TheVariants.{Answering, Describing, Timing}
 
--- how far a run on one thread has come is told where that is asked for, and of no other command
+-- the progress of a run on one thread is reported on request, and for no other command
 abbrev pub is_watched : Command → Settings → Bool
 is_watched Serial s = s.progress
 is_watched Run s = false
@@ -38,20 +38,20 @@ is_watched_by (AnswerBy c) s = is_watched c s
 is_watched_by Rewrite s = false
 
 module _ {W : Type 0} (Told : List ℕ → W → W → Type 0) where
-  -- what one is told while this is done with a text; one who times runs has the time read
+  -- the notifications while this is done with a text; timing runs reads the clock
   abbrev pub WatchesDoing : {A E : Type 0} → Doing → Asked → Result A E → (old new : W) → Type 0
   WatchesDoing Answering a r old new = Watches Told (is_watched_by a.action a.settings) r old new
   WatchesDoing (Describing x) a r old new = Watches Told (is_watched (command_of x) a.settings) r old new
   WatchesDoing Timing a r old new = Unit {0}
 
-  -- where that is asked for one is told how far the run has come, and to its end if the status is that of
-  -- an outcome: a failure has 1, 4 or 5
+  -- on request the progress of the run is reported, up to its end if the status is that of an outcome: a
+  -- failure has 1, 4 or 5
   abbrev pub WatchesTo : (asked : Bool) → (status : ℕ) → (old new : W) → Type 0
   WatchesTo false status old new = new ≡ old
   WatchesTo true status old new =
       (IsTold Told old new ⊎ IsToldOfEnd Told old new) × (status ≢ 1 → status ≤ 3 → IsToldOfEnd Told old new)
 
-  -- the same of an order
+  -- the notifications for an order
   abbrev pub WatchesOrder : Order → (status : ℕ) → (old new : W) → Type 0
   WatchesOrder (AsText a) status old new = WatchesTo (is_watched_by a.action a.settings) status old new
   WatchesOrder (AsObject x a) status old new = WatchesTo (is_watched (command_of x) a.settings) status old new

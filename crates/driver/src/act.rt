@@ -1,4 +1,4 @@
-//! The whole program, over files and writers that it is lent.
+//! The whole program, over borrowed files and writers.
 
 ghost use Rattle.std.specs.Prelude.{ℕ, ◌≡◌, ◌≤◌, ◌⊎◌, List, codes, true, false, map, Err};
 ghost use Rattle.std.specs.String.{string_bytes};
@@ -32,9 +32,9 @@ use std::thread::Threads;
 use texts::emit::append;
 use trials::folders::FolderSource;
 
-/// Does what the words behind the program's name order, and answers the exit status. Words that give the
-/// same name to two files are a mistake: nothing is read and written by one name. `--progress` has
-/// `terminal` told how far a run has come, and `bench` has the time from it.
+/// Carries out the arguments after the program's name, and returns the exit status. It is a mistake
+/// if they give the same name to two files: no file is both read and written. `--progress` reports
+/// the progress of a run to `terminal`, and `bench` reads the time from it.
 pub fn act<R: Threads + Wait + Sync, F: FolderSource, O: Write, E: Write, T: Terminal>(
     rt: &R,
     alloc: Global,
@@ -72,7 +72,7 @@ pub fn act<R: Threads + Wait + Sync, F: FolderSource, O: Write, E: Write, T: Ter
     }
 }
 
-/// Does what was ordered, and answers the exit status.
+/// Carries out an order, and returns the exit status.
 fn carry_out<R: Threads + Wait + Sync, F: FolderSource, O: Write, E: Write, T: Terminal>(
     rt: &R,
     alloc: Global,
@@ -110,8 +110,8 @@ fn carry_out<R: Threads + Wait + Sync, F: FolderSource, O: Write, E: Write, T: T
     }
 }
 
-/// Says on the standard error what stands behind an answer, or why there is none; `explain` says whether
-/// more was asked.
+/// Writes the explanation of an answer, or of a failure, to the standard error. `explain` is
+/// whether an explanation was requested.
 fn report<E: Write>(done: Result<Answered, Refusal>, explain: bool, err: &mut E) -> u8
     requires said { IsSaid explain done }
     ensures { Reports explain (E.contents err.old) (E.contents err.new) (in_short done) result }
@@ -122,7 +122,8 @@ fn report<E: Write>(done: Result<Answered, Refusal>, explain: bool, err: &mut E)
     }
 }
 
-/// Tells why the words behind the program's name can't be had: one of them is no text, or memory ran out.
+/// Reports why the arguments after the program's name can't be read: one of them isn't text, or
+/// memory ran out.
 pub fn refuse_words<E: Write>(alloc: Global, error: &io::Error, err: &mut E) -> u8
     ensures { (f : FailureOf) × TellsNotUtf8 (codes "command line") f
         × Reports false (E.contents err.old) (E.contents err.new) (Err f) result }
@@ -134,8 +135,8 @@ pub fn refuse_words<E: Write>(alloc: Global, error: &io::Error, err: &mut E) -> 
     Refusal::bare(alloc, failure).tell(err)
 }
 
-/// Prints the reply to words that ask nothing of a program: help and pages on the output with status 0, a
-/// mistake on the other with 1.
+/// Prints the reply to arguments without an order: help and pages to the output with status 0, a
+/// mistake to the error output with status 1.
 fn tell_command_line<O: Write, E: Write>(
     alloc: Global,
     reply: &Reply,
@@ -168,7 +169,7 @@ fn hand_out<O: Write, E: Write>(out: &mut O, err: &mut E, text: &str) -> u8
     }
 }
 
-/// Writes a mistake in the words to the other output, as far as it is taken.
+/// Writes a mistake in the arguments to the error output, as far as it is accepted.
 fn refuse<E: Write>(err: &mut E, line: &str) -> u8
     ensures status { result ≡ 1 }
     ensures told { AppendsBeginning (E.contents err.old) (E.contents err.new) line.now }

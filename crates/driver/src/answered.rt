@@ -1,4 +1,4 @@
-//! A status, with what explains the outcome that was written.
+//! A status, with the explanation of the outcome that was written.
 
 ghost use Rattle.std.specs.Prelude.{◌≡◌, ◌≤◌, [], false};
 ghost use Rattle.std.specs.String.{string_bytes};
@@ -14,7 +14,7 @@ use std::alloc::{AllocError, Global};
 use std::io::Write;
 use texts::emit::append;
 
-/// The status of an answer that was written, and what is said behind it on the standard error.
+/// The status of an answer that was written, and the explanation after it on the standard error.
 #[derive(Drop)]
 pub struct Answered {
     pub status: u8,
@@ -22,8 +22,8 @@ pub struct Answered {
 }
 
 impl Answered {
-    /// A run that ended with faults or was stopped is explained, so coloured, where that is asked for and
-    /// memory is there.
+    /// Explains a run that ended with faults or was stopped, in these colors, if that is requested
+    /// and there is memory for it.
     pub fn explained<F: FileSource>(
         alloc: Global,
         files: &mut F,
@@ -49,7 +49,7 @@ impl Answered {
         }
     }
 
-    /// Writes what is said behind the answer, as far as it is taken, and answers the status.
+    /// Writes the explanation of the answer, as far as it is accepted, and returns the status.
     pub fn follow<E: Write>(&self, err: &mut E) -> u8
         ensures status { result ≡ self.now.status }
         ensures told { AppendsBeginning (E.contents err.old) (E.contents err.new)
@@ -60,7 +60,7 @@ impl Answered {
     }
 }
 
-/// What explains an outcome.
+/// Returns the explanation of an outcome.
 fn outcome_explained<F: FileSource>(
     alloc: Global,
     files: &mut F,

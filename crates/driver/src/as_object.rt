@@ -1,4 +1,4 @@
-//! What is asked, told as one object.
+//! Answers as one object.
 
 ghost use Rattle.std.specs.Prelude.{IfErr, IfOk};
 ghost use Rattle.std.specs.String.{string_bytes};
@@ -31,7 +31,7 @@ use std::io::Write;
 use std::sync::Wait;
 use std::thread::Threads;
 
-/// Tells what is asked of a text as one object, or why there is no answer.
+/// Writes the answer for a text as one object, or the reason why there is none.
 pub(crate) fn told<R: Threads + Wait + Sync, F: FileSource, O: Write, W: Watch>(
     rt: &R,
     subject: Subject,
@@ -63,7 +63,7 @@ pub(crate) fn told<R: Threads + Wait + Sync, F: FileSource, O: Write, W: Watch>(
     }
 }
 
-/// The answer to what is asked of a text.
+/// Returns the object of the answer for a text.
 fn object_of<R: Threads + Wait + Sync, F: FileSource, W: Watch>(
     rt: &R,
     alloc: Global,
@@ -90,7 +90,7 @@ fn object_of<R: Threads + Wait + Sync, F: FileSource, W: Watch>(
     }
 }
 
-/// `run`: the outcome of the run as tasks, behind its trace where that is asked for.
+/// `run`: returns the outcome of the parallel run, after writing its trace if that is requested.
 fn run_told<R: Threads + Wait + Sync, F: FileSource>(
     rt: &R,
     alloc: Global,

@@ -1,4 +1,4 @@
-//! What each command does with the text of its file.
+//! The functions of the commands.
 
 ghost use Rattle.answers.specs.Answers.{Does};
 ghost use Rattle.command_line.specs.Requests.{asked_of, settings as settings_of};
@@ -28,7 +28,7 @@ use std::thread::Threads;
 use viewing::drawing::{Form, draw};
 use viewing::tables::{Look, view};
 
-/// What is asked of the text of a program.
+/// Carries out a command on the text of a program.
 pub fn perform<R: Threads + Wait + Sync, F: FileSource, O: Write, W: Watch>(
     rt: &R,
     loaded: Loaded<'_>,
@@ -74,8 +74,8 @@ pub fn perform<R: Threads + Wait + Sync, F: FileSource, O: Write, W: Watch>(
     }
 }
 
-/// `run`: runs the program as tasks, and writes its outcome, behind its trace where that is asked for;
-/// gives the exit status.
+/// `run`: runs the program in parallel, and writes its outcome, after its trace if that is
+/// requested. Returns the exit status.
 fn run_as_tasks<R: Threads + Wait + Sync, F: FileSource, O: Write>(
     rt: &R,
     alloc: Global,

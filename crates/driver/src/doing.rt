@@ -1,4 +1,4 @@
-//! What is done with the file of a program.
+//! Carrying out orders on the file of a program.
 
 ghost use Rattle.std.specs.Prelude.{◌≡◌};
 ghost use Rattle.command_line.specs.Requests.{asked_of};
@@ -27,25 +27,25 @@ use std::io::Write;
 use std::sync::Wait;
 use std::thread::Threads;
 
-/// What is done with the text of a program.
+/// An order for the text of a program.
 #[derive(Clone, Copy)]
 pub enum Doing {
-    /// What is asked of it is done, and answered as text.
+    /// The command is answered as text.
     Answering,
-    /// It is told as one object.
+    /// It is answered as one object.
     Describing(Subject),
-    /// Its runs are timed.
+    /// The runs of the program are timed.
     Timing,
 }
 
-/// What is done with the text of a program, and what is asked of it.
+/// An order for the text of a program, and its request.
 #[derive(Clone, Copy)]
 pub struct Ordered<'o> {
     pub doing: Doing,
     pub request: Request<'o>,
 }
 
-/// Reads a program, and does this with its text.
+/// Reads a program, and carries out the order on its text.
 pub fn read_and_do<R: Threads + Wait + Sync, F: FileSource, O: Write, T: Terminal>(
     rt: &R,
     alloc: Global,
@@ -79,7 +79,7 @@ pub fn read_and_do<R: Threads + Wait + Sync, F: FileSource, O: Write, T: Termina
     explained(rt, alloc, files, request, &source, done)
 }
 
-/// Tells why the file of a program gives no text, where that is to be an object.
+/// Reports why the file of a program gives no text, if the answer should be an object.
 fn tell_unread<R: Threads + Sync, O: Write>(
     rt: &R,
     alloc: Global,
@@ -97,7 +97,7 @@ fn tell_unread<R: Threads + Sync, O: Write>(
     }
 }
 
-/// Does this with a text.
+/// Carries out an order on a text.
 fn do_with<R: Threads + Wait + Sync, F: FileSource, O: Write, T: Terminal>(
     rt: &R,
     doing: Doing,
@@ -128,7 +128,7 @@ fn do_with<R: Threads + Wait + Sync, F: FileSource, O: Write, T: Terminal>(
     }
 }
 
-/// What was done with a text, and what explains it.
+/// Adds the explanation to a result.
 fn explained<R: Threads + Sync, F: FileSource>(
     rt: &R,
     alloc: Global,

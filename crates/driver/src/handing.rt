@@ -1,11 +1,11 @@
-//! What a writer keeps back of an answer.
+//! Flushing an answer.
 
 ghost use Rattle.driver.specs.Acts.{IsHandedOn};
 
 use intake::failure::Failure;
 use std::io::Write;
 
-/// Hands on what a writer keeps back of an answer, where there is one.
+/// Flushes the writer of an answer, if there is an answer.
 pub(crate) fn handed_on<O: Write>(out: &mut O, done: Result<u8, Failure>) -> Result<u8, Failure>
     ensures { IsHandedOn done (O.contents out.old) (O.contents out.new) result }
 {

@@ -1,4 +1,4 @@
-//! The whole program `afx`, over files and writers that it is lent.
+//! The whole program `afx`, over borrowed files and writers.
 
 #![tactic(auto)]
 

@@ -1,4 +1,4 @@
-//! A request whose file is read.
+//! Requests whose file is read.
 
 use command_line::request::Request;
 use std::alloc::Global;

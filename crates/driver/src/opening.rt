@@ -1,4 +1,4 @@
-//! The text of a program's file, which is opened and read.
+//! The text of a program's file.
 
 ghost use Rattle.std.specs.Prelude.{◌≡◌, ◌≤◌, [], length, false, IfErr, IfOk};
 ghost use Rattle.std.specs.String.{string_bytes};
@@ -15,7 +15,8 @@ use intake::failure::Failure;
 use intake::files::{FileSource, read_program};
 use std::alloc::Global;
 
-/// The text of the file that a request names; or, explained where that is asked for, why it has none.
+/// Returns the text of the file that a request names; or the reason why it has none, explained if
+/// that is requested.
 pub(crate) fn source_of<F: FileSource, T: Terminal>(
     alloc: Global,
     files: &mut F,
@@ -38,7 +39,7 @@ pub(crate) fn source_of<F: FileSource, T: Terminal>(
     }
 }
 
-/// The text that the file of a program holds.
+/// Returns the text in the file of a program.
 fn text_in<F: FileSource>(alloc: Global, files: &mut F, name: &str) -> Result<String, Failure>
     ensures text { IfOk result (λ text. HasText (F.held files.old) name.now (string_bytes text)) }
     ensures short { IfOk result (λ text. length (string_bytes text) ≤ 1048576) }
@@ -52,7 +53,7 @@ fn text_in<F: FileSource>(alloc: Global, files: &mut F, name: &str) -> Result<St
     }
 }
 
-/// Whether what explains a refusal is coloured.
+/// Returns whether the explanation of a refusal is colored.
 fn paint_of<T: Terminal>(telling: Telling, terminal: &T) -> Paint
     ensures always { telling.color ≡ Always → result ≡ Coloured }
     ensures never { telling.color ≡ Never → result ≡ Plain }

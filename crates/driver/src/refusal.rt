@@ -1,4 +1,4 @@
-//! A refusal, with what explains it.
+//! A failure with its explanation.
 
 ghost use Rattle.std.specs.Prelude.{◌≡◌, ◌++◌, [], codes, false};
 ghost use Rattle.std.specs.String.{string_bytes};
@@ -21,7 +21,7 @@ use std::io::Write;
 use std::thread::Threads;
 use texts::emit::append;
 
-/// Why a command ended without its answer, and what is said behind the line that tells it.
+/// The reason why a command failed, and the explanation after its line.
 #[derive(Drop)]
 pub struct Refusal {
     pub failure: Failure,
@@ -29,7 +29,7 @@ pub struct Refusal {
 }
 
 impl Refusal {
-    /// Nothing is said behind the line.
+    /// Returns a failure without an explanation.
     pub fn bare(alloc: Global, failure: Failure) -> Refusal
         ensures failure { result.failure ≡ failure }
         ensures more { string_bytes result.more ≡ [] }
@@ -40,7 +40,7 @@ impl Refusal {
         }
     }
 
-    /// It is explained, so coloured, where that is asked for and memory is there.
+    /// Explains a failure, in these colors, if that is requested and there is memory for it.
     pub fn explained<R: Threads + Sync, F: FileSource>(
         rt: &R,
         alloc: Global,
@@ -67,7 +67,7 @@ impl Refusal {
         }
     }
 
-    /// It is explained so where the file of a program gave no text.
+    /// Explains why the file of a program gave no text.
     pub fn unread<F: FileSource>(
         alloc: Global,
         files: &mut F,
@@ -89,7 +89,7 @@ impl Refusal {
         }
     }
 
-    /// Writes the line and what is said behind it, as far as they are taken, and answers the status.
+    /// Writes the line and the explanation, as far as they are accepted, and returns the status.
     pub fn tell<E: Write>(&self, err: &mut E) -> u8
         ensures status { result ≡ failure_status self.now.failure }
         ensures told { AppendsBeginning (E.contents err.old) (E.contents err.new)

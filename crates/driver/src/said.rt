@@ -1,9 +1,9 @@
-//! What is said at length behind a line or an answer.
+//! The explanation after a line or an answer.
 
 use excerpts::paint::{Paint, painted};
 use std::alloc::{AllocError, Global};
 
-/// What explains it, so coloured; nothing for want of memory.
+/// Returns the explanation in these colors, or an empty text if memory runs out.
 pub(crate) fn said(alloc: Global, more: Result<String, AllocError>, paint: Paint) -> String {
     let Ok(more) = more else {
         return String::new(alloc);

@@ -1,8 +1,8 @@
-//! The text of a program, and how it is told of.
+//! The text of a program, and the colors of its explanations.
 
 use excerpts::paint::Paint;
 
-/// The text of a program, and whether what is said of it is coloured.
+/// The text of a program, and whether its explanations are colored.
 #[derive(Drop)]
 pub struct Source {
     pub text: String,

@@ -1,4 +1,4 @@
-//! Where a user looks at a run, and reads why a command failed.
+//! The terminal at which a user watches a run, and reads explanations.
 
 ghost use Rattle.std.specs.Prelude.{◌≡◌};
 
@@ -6,21 +6,21 @@ use statement_steps::watch::{Unwatched, Watch};
 use std::time::Clock;
 use trials::clock::Stopwatch;
 
-/// Is told how far a run has come, and knows whether what is read there may have colours, and how much
-/// time goes by.
+/// A watch for the progress of runs, with a clock. It also knows whether explanations may be
+/// colored.
 pub trait Terminal: Watch + Stopwatch {
-    /// Whether it may.
+    /// Returns whether explanations may be colored.
     fn has_colours(&self) -> bool;
 }
 
-/// Nobody looks, and nobody sees a colour.
+/// A terminal without a user and without colors.
 impl Terminal for Unwatched {
     fn has_colours(&self) -> bool {
         false
     }
 }
 
-/// One who looks at a run, where there may be colours or not, with a clock.
+/// A terminal with a user, with or without colors, and with a clock.
 #[derive(Drop)]
 pub struct Seen<W: Watch, C: Clock> {
     watch: W,
@@ -29,7 +29,7 @@ pub struct Seen<W: Watch, C: Clock> {
 }
 
 impl<W: Watch + Drop, C: Clock + Drop> Seen<W, C> {
-    /// One who sees colours, where there may be some.
+    /// Returns a terminal, which has colors if `has_colours`.
     pub fn new(watch: W, has_colours: bool, clock: C) -> Seen<W, C>
         ensures colours { result.has_colours ≡ has_colours }
     {

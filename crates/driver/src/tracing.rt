@@ -1,4 +1,4 @@
-//! The run as tasks, whose trace is written where a file is named for it.
+//! Parallel runs, whose trace is written if a file is named for it.
 
 ghost use Rattle.std.specs.Prelude.{◌≡◌, ◌<◌, IfErr, IfOk};
 ghost use Rattle.std.specs.String.{string_bytes};
@@ -25,14 +25,14 @@ use workers::gate::NoGate;
 use workers::run::run;
 use workers::settings::Settings as RunSettings;
 
-/// A program that was run as tasks, and what it came to.
+/// A program that was run in parallel, and its outcome.
 #[derive(Drop)]
 pub struct Ran {
     pub given: Begun,
     pub outcome: Outcome,
 }
 
-/// Runs the program of a text as tasks, on the input that was given.
+/// Runs the program of a text in parallel, on the input that was given.
 pub fn run_of<R: Threads + Wait + Sync, F: FileSource>(
     rt: &R,
     alloc: Global,
@@ -51,8 +51,8 @@ pub fn run_of<R: Threads + Wait + Sync, F: FileSource>(
     Ok(Ran { given, outcome })
 }
 
-/// The outcome of a run as tasks. Where a file is named for its trace, that is written before the outcome
-/// is told.
+/// Returns the outcome of a parallel run. If a file is named for its trace, the trace is written
+/// before the outcome is returned.
 fn outcome_of<R: Threads + Wait + Sync, F: FileSource>(
     rt: &R,
     alloc: Global,
@@ -77,7 +77,7 @@ fn outcome_of<R: Threads + Wait + Sync, F: FileSource>(
     }
 }
 
-/// The outcome of a run of which nothing is noted.
+/// Returns the outcome of a run that isn't recorded.
 fn untraced<R: Threads + Wait + Sync>(
     rt: &R,
     alloc: Global,
@@ -102,7 +102,7 @@ fn untraced<R: Threads + Wait + Sync>(
     }
 }
 
-/// The outcome of a run, and the lines of its trace.
+/// Returns the outcome of a run, and the lines of its trace.
 fn traced<R: Threads + Wait + Sync>(
     rt: &R,
     alloc: Global,
@@ -129,7 +129,7 @@ fn traced<R: Threads + Wait + Sync>(
     }
 }
 
-/// What a run may spend, and on how many workers it goes, as it was asked.
+/// Returns the limits of a run and its number of workers, as requested.
 pub(crate) fn run_settings(settings: Settings<'_>) -> RunSettings
     ensures budget { result.budget ≡ settings.entry.budget }
     ensures tasks { result.tasks ≡ settings.entry.spread.tasks }

@@ -28,7 +28,7 @@ use types::outcome::Outcome;
 use workers::gate::NoGate;
 use workers::run::run;
 
-/// Runs as tasks on worker threads.
+/// Parallel runs on worker threads.
 #[derive(Clone, Copy)]
 struct OnThreads;
 

@@ -1,4 +1,4 @@
--- What a sound program does is in scope, and is written only where that is allowed.
+-- What a sound program accesses is in scope, and is written only if that is allowed.
 use Rattle.std.proofs.Common.{◌≡◌, ◌≢◌, ℕ, zero, suc, ◌+◌, ◌<◌, List, [], ◌∷◌, length, refl, sym, ap, ◌∙◌, subst}
 use Rattle.std.proofs.Common.{arith}
 use Rattle.std.proofs.lemmas.Bool.{eq-eqb, ne_eqb}
@@ -107,7 +107,7 @@ module _ (p : Program) where
         past_call_allowed g scope f ss callee k.passes x (deeper (procedure_of p f) (parameters_of (procedure_of p f)) callee.numbered callee.body)
 
     mutual
-      -- what a statement may do is in scope, and is written only where that is allowed
+      -- what a statement may access is in scope, and is written only if that is allowed
       pub allowed_of : {l : ℕ} {s : Code} {x : Access} → AllOf p accesses l s x
           → (g : Procedure) (scope : List ℕ) → IsNumbered g.sections
           → ((y : Access) → Member y (own_accesses l s) → Allowed g scope y) → FollowsOf p g scope s → Allowed g scope x

@@ -197,6 +197,6 @@ body_at fs gs i x same h is =
 pub is_seen : (xs ys : List Visit) (l : ℕ) (b : Codes) → ys ≡ xs → IsVisited ys l (Async b) → IsSeen xs l b
 is_seen xs ys l b e v = record { seen = v.visit; among = subst (Member v.visit) e v.among; label = v.label; async = v.code }
 
--- the firsts of what a block may do tell what it needs
+-- the firsts of what a block may do determine what it needs
 pub needs_found : (p : Program) → IsSound p → (b : Codes) (xs : List Access) → AreFirsts (All p accesses b) xs → needs_by xs ≡ needs_of p b
 needs_found p sound = needs_of_firsts p (summaries p) (summaries_derived p) (summaries_stable p sound)

@@ -34,7 +34,7 @@ rows_set (x ∷ xs) (suc i) y more h both (suc f) r l =
       λ k. deeper.1 (elim k [ inl a ↦ inl a | inr b ↦ inr (let e : suc f ≡ suc i = b.0 in omega arith, b.1) ]),
     )
 
--- what a table has where a summary stands
+-- what a table contains if it has a summary
 pub has_some : (o : Option Summary) (x : Summary) (r : Row) (l : ℕ) → o ≡ Some x → HasRow x r l ↔ HasSome o r l
 has_some o x r l e = (λ h. subst (λ (p : Option Summary). HasSome p r l) (sym e) h, λ h. subst (λ (p : Option Summary). HasSome p r l) e h)
 
@@ -86,7 +86,7 @@ brings_reached flows before table x m n reached f r l b =
     (subst (λ (q : Row). Reached flows before x.caller.number q l) (sym b.to)
     (flow x m (omega (arith, b.there, n)) (reached x.callee.number x.from l b.label)))
 
--- what is read of a list stands there
+-- what is read from a list is in the list
 pub got : {X : Type 0} (xs ys : List X) (s : ℕ) (x : X) → xs ≡ ys → s < length xs → x ≡ get_or xs s x → slice_get ys s ≡ Some x
 got {X} xs ys s x e h at = ap (λ (zs : List X). slice_get zs s) (sym e) ∙ slice_get_read xs (length xs) s x refl h at
 
@@ -95,7 +95,7 @@ got_member [] k x e = cc
 got_member {X} (y ∷ ys) zero x e = let same : y ≡ x = cc in subst (λ z. Member z (y ∷ ys)) same first
 got_member (y ∷ ys) (suc k) x e = next (got_member ys k x e)
 
--- one more element of a list is the one that stands there
+-- the next element of a list is the element at that index
 pub taken : {X : Type 0} (xs : List X) (k : ℕ) (x y : X) → slice_get xs k ≡ Some x → Member y (take (suc k) xs)
     → Member y (take k xs) ⊎ (y ≡ x)
 taken [] k x y e m = cc

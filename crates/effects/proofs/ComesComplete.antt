@@ -31,18 +31,18 @@ use Rattle.effects.proofs.ComesSound.{past_root}
 use Rattle.effects.proofs.Members.{in_flat_map, in_left, in_right, numbers_from-below}
 use Rattle.facts.proofs.Lists.{get-append_last}
 
--- a statement of a procedure, where it stands
+-- a statement of a procedure and its position
 abbrev seen : Standing → ℕ → Code → Visit
 seen w l s = record { standing = w; label = l; code = s }
 
--- the procedure of a number, where `main` is numbered behind the others
+-- the procedure with this number, where `main` is numbered after the others
 record Stands (p : Program) (f : ℕ) (g : Procedure) : Type 0 where
   at : slice_get (numbered p) f ≡ Some g
   below : f < length (numbered p)
   sound : IsSoundIn p g
 
--- what is kept of each procedure, among all or among what is pending, has what its statements do
--- and what its calls bring
+-- the row of each procedure, for all or for pending, has what its statements do and what its calls
+-- bring
 record Brings (p : Program) (subject : Subject) (to : (pending : Bool) → ℕ → subject.Item → Type 0) : Type 0 where
   own : (c : Bool) (f : ℕ) (g : Procedure) → Stands p f g → (w : Standing) → (c ≡ true → w ≡ Begun) → (l : ℕ) (s : Code)
       → Member (seen w l s) (visits_of g) → (x : subject.Item) → Member x (subject.own l s)
@@ -97,7 +97,7 @@ module _ (p : Program) (sound : IsSound p) where
     same_item c f g {x} e h =
         subst (λ (z : subject.Item). to c f (subject.renamed (root_of g.sections) z)) (sym (e ∙ subject.kept x)) h
 
-    -- what statements that stand so may do; those of a body that was begun leave it pending
+    -- what statements in this position may do; those of a spawned body leave it pending
     mutual
       down : (c : Bool) (f : ℕ) (g : Procedure) → Stands p f g → (w : Standing) → (c ≡ true → w ≡ Begun) → (b : Codes)
           → (scope : List ℕ) → Follows p g scope b → Part g (visits_in w b)
@@ -178,7 +178,7 @@ module _ (p : Program) (sound : IsSound p) where
         (left_down f g st g.body (parameters_of g) st.sound.body (λ v m. m) a)
 
 module _ (p : Program) where
-  -- what a statement of a procedure puts in a row comes there
+  -- what a statement of a procedure puts in a row arrives there
   started : (f : ℕ) (g : Procedure) → Stands p f g → (r : Row) (l : ℕ) (v : Visit) → Member v (visits_of g)
       → Member (record { row = r; label = l }) (starts_of (root_of g.sections) v) → Comes p f r l
   started f g st r l v m h =
@@ -198,7 +198,7 @@ module _ (p : Program) where
   flows_at n j (suc i) k (x ∷ xs) g y at e m =
       in_right (flows_in n (record { number = j }) x) (flows_at n (j + 1) i k xs g y at (omega (arith, e)) m)
 
-  -- what a call of a procedure brings into a row comes there
+  -- what a call of a procedure brings into a row arrives there
   brought : (f : ℕ) (g : Procedure) → Stands p f g → (k : ℕ) → k < length p.procedures → (from into : Row) (l : ℕ)
       → (w : Standing) (label : ℕ) (es : List Number) (ss : List ℕ) → Member (seen w label (Call k es ss)) (visits_of g)
       → (let y : Flow = flow (record { number = f }) (record { number = k }) from into in

@@ -40,12 +40,12 @@ from_flat_map f (x ∷ xs) m = elim (in_parts (f x) m) [
   | inr k ↦ let r = from_flat_map f xs k in (r.0, next r.1, r.2)
 ]
 
--- what is in a list that is there if so
+-- what is in a list that exists only if a condition is true
 from_when : {A : Type 0} (b : Bool) (xs : List A) {x : A} → Member x (if b then xs else []) → (b ≡ true) × Member x xs
 from_when true xs m = (refl, m)
 from_when false xs m = elim m [ ]
 
--- an element of a list with one more behind it
+-- an element of a list with one more element at its end
 one_of : {A : Type 0} (xs : List A) (x : A) (f : ℕ) (y : A) → slice_get (xs ++ x ∷ []) f ≡ Some y
     → ((f ≡ length xs) × (x ≡ y)) ⊎ ((f < length xs) × (slice_get xs f ≡ Some y))
 one_of [] x zero y e = let same : x ≡ y = cc in inl (refl, same)
@@ -165,7 +165,7 @@ module _ (p : Program) (sound : IsSound p) (g : Procedure) (here : IsSoundIn p g
       → Leaves p labels g (root_of g.sections) (λ scope s l r well x. refl) v.standing v x → Pending p labels g.body x
   labels_left = body_leaves p labels g (root_of g.sections) (labels_at_root p g) here
 
-  -- what a statement does by itself
+  -- what a statement does without its call
   label_starts : (w : Standing) (l : ℕ) (c : Code) → Member (visit_at w l c) (visits_of g) → {y : Start}
       → Member y (starts_of_label w l) → Derived p g.body y.row y.label
   label_starts Open l c m first = labels_may (visit_at Open l c) m l (AllOf.own_access first)
@@ -318,7 +318,7 @@ from_flows n k (g ∷ gs) {x} m = elim (in_parts (flows_in n (record { number = 
       (suc r.0, r.1, r.2, subst (λ (i : ℕ). Member x (flows_in n (record { number = i }) r.1)) e r.3)
 ]
 
--- who starts something is there
+-- the procedure that starts something exists
 from_start : (o : Option Procedure) (r : Row) (l : ℕ) → StartsIn o r l
     → (g : Procedure) × (o ≡ Some g) × (let y : Start = record { row = r; label = l } in Member y (starts_in g))
 from_start None r l h = elim h [ ]

@@ -32,7 +32,7 @@ module _ (p : Program) (flows : List Flow) (table : List Summary) (rows : (f : �
       → HasIn closed f r l ↔ Comes p f r l
   comes_exactly closed exact f r l = (λ h. reached_comes ((exact f r l).0 h), λ h. (exact f r l).1 (comes_reached h))
 
--- what stands in a list, put behind it once more
+-- what is in a list, added once more at its end
 pub pushed_again : (xs : List Flow) (k : ℕ) (v : Flow) → k < length xs → v ≡ get_or xs k v → (x : Flow)
     → Member x (xs ++ v ∷ []) ↔ Member x xs
 pushed_again xs k v h at x = (

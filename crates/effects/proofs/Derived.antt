@@ -1,4 +1,4 @@
--- What the rows of a body stand for: what it may do, and what it leaves pending.
+-- What the rows of a body represent: what it may do, and what it leaves pending.
 use Rattle.std.specs.Prelude.{ℕ}
 use Rattle.types.specs.Code.{Codes, Program}
 use Rattle.effects.specs.Effects.{accesses, labels as by_label, All as AllIn, Pending as PendingIn}

@@ -1,4 +1,4 @@
--- Environments that fit stay so: at the start, in the block of a split and behind it, and in a call.
+-- Environments continue to fit: at the start, in the block of a split and after it, and in a call.
 use Rattle.std.proofs.Common.{◌≡◌, ◌≢◌, inl, ℕ, zero, suc, ◌+◌, ◌<◌, ◌≤◌, List, [], ◌∷◌, length, map, Option, Some, ℤ}
 use Rattle.std.proofs.Common.{refl, sym, ap, ◌∙◌, subst, arith}
 use Rattle.std.specs.Prelude.{true, slice_get, slice_index_or}
@@ -20,7 +20,7 @@ use Rattle.effects.specs.Fits.{LiesInArray, Fits, names_in}
 use Rattle.effects.proofs.Members.{numbers_from-below}
 use Rattle.effects.proofs.AccessesInScope.{origin_from_get}
 
--- Origins are told apart
+-- Origins are distinguished
 
 abbrev kind : Origin → ℕ
 kind Root = 0
@@ -42,7 +42,7 @@ one_left e f = ap (λ o. beyond 0 (λ p. p) o) (sym e ∙ f)
 pub one_right : {o : Origin} {s t : ℕ} → o ≡ Right s → o ≡ Right t → s ≡ t
 one_right e f = ap (λ o. beyond 0 (λ p. p) o) (sym e ∙ f)
 
--- A cut, where windows are known by other names
+-- A cut, where windows have other names
 
 abbrev both : Window → Window → Option (Window × Window)
 both a b = Some (a, b)
@@ -114,7 +114,8 @@ module _ (g : Procedure) (scope : List ℕ) (env : Environment) (t a b : ℕ) (s
       let k = outer.right s r m e in
       record { left = k.left; turn = k.turn; in_scope = next (next k.in_scope); origin = k.origin }
 
-  -- inside a split the windows stand as the origins say, where the sides are those of its section
+  -- inside a split the windows are related as the origins say, if the sides are those of its
+  -- section
   pub placed_inside : Placed (names_in g (a ∷ b ∷ scope)) env.windows
   placed_inside = record {
     apart = λ r s ne m n e f w. outer.apart r s ne (old_root r m e) (old_root s n f) e f w;
@@ -139,7 +140,7 @@ module _ (p : Program) (g : Procedure) (scope : List ℕ) (env : Environment)
       let n : r ≡ l + 1 = splits.next in
       sym (bind_other l x ws.0 (bind r ws.1 env.windows) (omega arith) ∙ bind_other r x ws.1 env.windows (omega arith))
 
-  -- behind a split, its sides are out of scope
+  -- after a split, its sides are out of scope
   pub fits_past_split : Fits p g scope env → Fits p g scope new
   fits_past_split fits = fits_same p g scope env new fits at_other
 

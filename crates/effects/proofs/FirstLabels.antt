@@ -43,7 +43,7 @@ firsts_same those these xs out back h = record {
   first = λ x k. h.first x (back x k);
 }
 
--- where there are none, none are the firsts
+-- if there are no accesses, an empty list keeps their firsts
 pub firsts_of_none : (those : Access → Type 0) (xs : List Access) → xs ≡ [] → ((x : Access) → those x → ⊥) → AreFirsts those xs
 firsts_of_none those xs e none =
     subst (AreFirsts those) (sym e) (record { among = λ x m. elim m [ ]; first = λ x h. absurd (none x h) })
@@ -56,7 +56,7 @@ firsts_of_firsts those ys xs h k = record {
   first = λ x m. as_early_through x xs ys (h.first x m) k.first;
 }
 
--- an early item stands in a longer list too
+-- an early item is also in a longer list
 early_among : {x : Access} {xs zs : List Access} → HasAsEarly xs x
     → ((y : Access) → Member y xs → Member y zs) → HasAsEarly zs x
 early_among h among = record {
@@ -96,7 +96,7 @@ firsts_renamed p out those xs h = record {
       };
 }
 
--- an item whose label becomes the least of two stands for both
+-- an item whose label becomes the smaller of two represents both
 lesser_of : (m n : ℕ) → (min m n ≡ m) ⊎ (min m n ≡ n)
 lesser_of m n = grind arith
 
@@ -225,7 +225,7 @@ firsts_of_more f xs i old now new d a h e all one =
     with_it : AreFirstsIn (a ∷ (map f (take i xs) ++ old)) (a ∷ now)
     with_it = record { among = among; first = kept }
 
--- so it is where nothing was kept before
+-- this is so if nothing was kept before
 pub firsts_of_longer : (f : rAccess → Access) (xs : List rAccess) (i : ℕ) (now new : List Access) (d : rAccess) (a : Access)
     → i < length xs → a ≡ f (get_or xs i d) → AreFirstsIn (map f (take i xs)) now → AreFirstsIn (a ∷ now) new
     → AreFirstsIn (map f (take (i + 1) xs)) new
@@ -365,7 +365,7 @@ all_passed those ss n xs h g all =
     })
     all
 
--- a fact that follows, where a call succeeds
+-- a fact that follows if a call succeeds
 pub on_ok_from : {A E : Type 0} (P Q : Type 0) (r : Result A E) → (P → Q) → OnOk r P → OnOk r Q
 on_ok_from P Q (Ok x) f h = f h
 on_ok_from P Q (Err e) f h = tt

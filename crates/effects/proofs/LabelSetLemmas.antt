@@ -54,7 +54,7 @@ united_case words k w l true e =
 united_case words k w l false e =
     (λ h. inl h, λ h. elim h [ inl a ↦ a | inr b ↦ absurd (eqb-false k (l / 64) e (sym b.0)) ])
 
--- the labels where a word is put to another
+-- the labels after a word is united with another
 pub united : (words : ℕ → ℕ) (k w l : ℕ)
     → HasBit (bind k (bit_or (words k) w) words) l ↔ (HasBit words l ⊎ ((l / 64 ≡ k) × (bit_at w (l % 64) ≡ 1)))
 united words k w l = united_case words k w l (nat_eq k (l / 64)) refl
@@ -63,7 +63,7 @@ united words k w l = united_case words k w l (nat_eq k (l / 64)) refl
 same_label : (l k : ℕ) → l / 64 ≡ k / 64 → l % 64 ≡ k % 64 → l ≡ k
 same_label l k h e = omega arith
 
--- the labels where a label's bit is put in
+-- the labels after a label's bit is set
 pub inserted : (words new : ℕ → ℕ) (k w : ℕ) → w ≡ 2 ^ (k % 64) → new ≡ bind (k / 64) (bit_or (words (k / 64)) w) words
     → (l : ℕ) → HasBit new l ↔ (HasBit words l ⊎ (l ≡ k))
 inserted words new k w w_is e l =
@@ -124,7 +124,7 @@ unchanged_case now new k w e same i true j =
     at_word new now k (bit_or (now k) w) i e i_is ∙ same ∙ ap now (sym i_is)
 unchanged_case now new k w e same i false j = beside_word new now k (bit_or (now k) w) i e (eqb-false i k j)
 
--- where nothing is new the words are as they were
+-- if nothing is new, the words are unchanged
 pub unchanged : (now new : ℕ → ℕ) (k w : ℕ) → new ≡ bind k (bit_or (now k) w) now → bit_or (now k) w ≡ now k
     → (i : ℕ) → new i ≡ now i
 unchanged now new k w e same i = unchanged_case now new k w e same i (nat_eq i k) refl
@@ -168,7 +168,7 @@ not_less words k w e low none zeros m h false c = ltb-false m (k * 64 + trailing
 not_less words k w e low none zeros m h true c =
     absurd (nothing_below words k w e low none zeros m h (ltb-true m (k * 64 + trailing_zeros w64 w) c) (nat_lt (m / 64) k) refl)
 
--- the least label is the lowest bit of the first word that isn't zero
+-- the smallest label is the lowest bit of the first word that isn't zero
 pub least_bit : (words : ℕ → ℕ) (k w : ℕ) → words k ≡ w → (w ≡ 0 → ⊥) → w < 2 ^ 64 → ((i : ℕ) → i < k → words i ≡ 0)
     → IsLeast (HasBit words) (Some (k * 64 + trailing_zeros w64 w))
 least_bit words k w e positive fits zeros =
@@ -181,7 +181,7 @@ least_bit words k w e positive fits zeros =
       λ m h. not_less words k w e low t.2 zeros m h (nat_lt m (k * 64 + trailing_zeros w64 w)) refl,
     )
 
--- zeros behind the words change nothing
+-- zeros after the words change nothing
 pub filled : (xs ys : List ℕ) (n m : ℕ) → length xs ≤ n → ys ≡ take n xs ++ replicate m 0 → by_number 0 ys ≡ by_number 0 xs
 filled xs ys n m h e = ap (by_number 0) (e ∙ ap (λ (zs : List ℕ). zs ++ replicate m 0) (take_all n xs h)) ∙ by_number-append-replicate 0 xs m
 
@@ -190,22 +190,22 @@ no_label_case : (words : ℕ → ℕ) (k : ℕ) → ((i : ℕ) → i < k → wor
 no_label_case words k below above l h true e = no_bit (l % 64) (subst (λ n. bit_at n (l % 64) ≡ 1) (below (l / 64) (ltb-true (l / 64) k e)) h)
 no_label_case words k below above l h false e = no_bit (l % 64) (subst (λ n. bit_at n (l % 64) ≡ 1) (above (l / 64) (ltb-false (l / 64) k e)) h)
 
--- a set without bits has no least label
+-- a set without bits has no smallest label
 pub no_label : (words : ℕ → ℕ) (k : ℕ) → ((i : ℕ) → i < k → words i ≡ 0) → ((i : ℕ) → k ≤ i → words i ≡ 0) → (l : ℕ) → HasBit words l → ⊥
 no_label words k below above l h = no_label_case words k below above l h (nat_lt (l / 64) k) refl
 
--- past the end of a list stand zeros
+-- there are zeros past the end of a list
 pub zeros_behind : (xs : List ℕ) (i : ℕ) → length xs ≤ i → by_number 0 xs i ≡ 0
 zeros_behind xs i h = get_or_past xs i 0 h
 
--- nothing was new up to here, nor is here
+-- nothing was new up to here, and nothing is new here
 pub still_unchanged : (init now new : ℕ → ℕ) (k w : ℕ) (grown here : Bool) → new ≡ bind k (bit_or (now k) w) now
     → (here ≡ false → bit_or (now k) w ≡ now k) → (grown ≡ false → (i : ℕ) → now i ≡ init i)
     → (grown || here) ≡ false → (i : ℕ) → new i ≡ init i
 still_unchanged init now new k w true here e same so_far h i = absurd (true≢false h)
 still_unchanged init now new k w false here e same so_far h i = unchanged now new k w e (same h) i ∙ so_far refl i
 
--- labels end where the words do
+-- there are no labels after the last word
 pub bits_end : (xs : List ℕ) (l : ℕ) → HasBit (by_number 0 xs) l → l < length xs * 64
 bits_end xs l h = elim (cases_lt (l / 64) (length xs)) [
   | inl less ↦ omega arith

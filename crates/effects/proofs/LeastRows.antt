@@ -96,7 +96,7 @@ module _ (p : Program) (subject : Subject) where
       least_of (AllOf.async {l = l} {b = b} {x = x} h) rest = solves.async l b rest x (least h)
       least_of (AllOf.finish {l = l} {b = b} {x = x} h) rest = solves.finish l b rest x (least h)
 
-      -- every solution has all of All
+      -- every solution contains all of All
       pub least : {b : Codes} {x : subject.Item} → All p subject b x → has b x ≡ true
       least (All.here {rest = rest} h) = least_of h rest
       least (All.later {l = l} {s = s} {rest = rest} {x = x} h) = solves.later l s rest x (least h)

@@ -1,4 +1,4 @@
--- Truth values, and elements of lists.
+-- Booleans, and elements of lists.
 use Rattle.std.proofs.Common.{◌≡◌, ◌⊎◌, inl, inr, List, [], ◌∷◌, ◌++◌, map, refl}
 use Rattle.std.specs.Prelude.{flat_map}
 use Rattle.sections.specs.Member.{Member, first, next}

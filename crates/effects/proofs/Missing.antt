@@ -4,7 +4,7 @@ use Rattle.std.specs.Prelude.{Bool, true, false, if◌then◌else◌}
 use Rattle.sections.specs.Member.{Member, first, next}
 use Rattle.effects.specs.Accesses.{Access}
 
--- how many of these a table doesn't have
+-- the number of these that a table doesn't have
 abbrev pub missing : (has : Access → Bool) → (possible : List Access) → ℕ
 missing has [] = 0
 missing has (x ∷ xs) = if has x then missing has xs else 1 + missing has xs

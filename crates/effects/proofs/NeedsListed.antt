@@ -138,7 +138,7 @@ others_step ws xs n d b h g e =
 pub nothing_left : (xs : List rAccess) → map access (drop (length xs) xs) ≡ []
 nothing_left xs = ap (map access) (drop_all (length xs) xs (omega arith))
 
--- a section that stands in its place already, and one that is put there
+-- a section that is already at its position, and one that is inserted there
 module _ (s : SectionId) where
   pub also_there : (xs : List SectionId) (k : ℕ)
       → ((i : ℕ) → i < k → (slice_index_or xs i s).number < s.number) → k < length xs
@@ -179,7 +179,7 @@ module _ (s : SectionId) where
   get_any (x ∷ xs) zero d e h = refl
   get_any (x ∷ xs) (suc k) d e h = get_any xs k d e (omega arith)
 
-  -- where the list was read twice
+  -- if the list was read twice
   module _ (xs ys zs : List SectionId) (same : ys ≡ xs) (too : zs ≡ xs) (k : ℕ)
       (below : (i : ℕ) → i < k → (slice_index_or ys i s).number < s.number) where
     below_it : (i : ℕ) → i < k → (slice_index_or xs i s).number < s.number

@@ -204,7 +204,7 @@ module _ (p : Program) (table : Table accesses) (is_derived : IsDerived p access
   pub provides : Provides p (needs_in table)
   provides = record { main = provides_in p.main.body; procedures = λ f. provides_in (procedure_of p f).body }
 
-  -- the firsts of what a block may do tell what it needs
+  -- the firsts of what a block may do determine what it needs
   pub needs_of_firsts : (b : Codes) (xs : List Access) → AreFirsts (All p accesses b) xs → needs_by xs ≡ needs_in table b
   needs_of_firsts b xs h = same_needs xs (all_in accesses table b) out back
     where

@@ -41,6 +41,6 @@ module _ (k : StmtKind) (v : Vec Stmt Global) where
     of_list (inl h) loop split async finish = of_same (inl h) loop async finish
     of_list (inr h) loop split async finish = of_block h split async finish
 
-  -- it holds as many as its list
+  -- it contains as many statements as its list
   pub size_of_list : (b : List Stmt) → b ≡ v.items → HasList → size_in (code k) ≡ size (codes b)
   size_of_list b e h = of_list (λ j. size_in j ≡ size (codes b)) b e h (λ t. refl) (λ s n l r. refl) refl refl

@@ -29,7 +29,7 @@ visited {block = block} taken added none same =
     none
     ∙ ap (λ b. visits_in Open (codes b)) same
 
--- what holds anyway holds where there is a value
+-- a fact that is true anyway is true if there is a value
 pub ok_anyway : {T E P : Type 0} (r : Result T E) → P → OnOk r P
 ok_anyway (Ok x) p = p
 ok_anyway (Err e) p = tt
@@ -70,7 +70,7 @@ pub collected_all : (starts : List Start) (k : ℕ) (x : Summary) → length sta
 collected_all starts k x h so_far r l =
     subst (λ (xs : List Start). HasRow x r l ↔ Member (record { row = r; label = l }) xs) (take_all k starts h) (so_far r l)
 
--- one more summary beside one more procedure
+-- one more summary for one more procedure
 pub rows_pushed : (table : List Summary) (gs : List Procedure) (x : Summary) (g : Procedure) → length table ≡ length gs
     → ((f : ℕ) (r : Row) (l : ℕ) → HasIn table f r l ↔ StartsAt gs f r l)
     → ((r : Row) (l : ℕ) → HasRow x r l ↔ Member (record { row = r; label = l }) (starts_in g)) → (f : ℕ) (r : Row) (l : ℕ)
@@ -101,7 +101,7 @@ outlined_more xs k x table new s at n e so_far here f r l =
     (sym (ap (λ (m : ℕ). map procedure (take m xs)) (add-one k) ∙ plain_taken xs k x at))
     (rows_pushed table (map procedure (take k xs)) s (procedure x) n so_far here f r l))
 
--- the flows of the procedures that are left begin with those of the first
+-- the flows of the remaining procedures start with those of the first
 pub flows_from : (n i : ℕ) (xs : List rProcedure) (k : ℕ) (x : rProcedure) → slice_get xs k ≡ Some x
     → flows_in_all n i (map procedure (drop k xs))
     ≡ flows_in n (record { number = i }) (procedure x) ++ flows_in_all n (i + 1) (map procedure (drop (k + 1) xs))
@@ -116,7 +116,7 @@ flows_from n i (y ∷ ys) (suc k) x e =
     dropped : (y : rProcedure) (ys : List rProcedure) (k : ℕ) → drop (k + 1) ys ≡ drop (suc k + 1) (y ∷ ys)
     dropped y ys k = let e : suc k + 1 ≡ suc (k + 1) = omega arith in sym (ap (λ (m : ℕ). drop m (y ∷ ys)) e)
 
--- flows of procedures, and of one more behind them
+-- flows of procedures, and of one more after them
 pub flows_behind : (n k : ℕ) (gs : List Procedure) (g : Procedure)
     → flows_in_all n k (gs ++ g ∷ []) ≡ flows_in_all n k gs ++ (flows_in n (record { number = k + length gs }) g ++ [])
 flows_behind n k [] g = let e : k ≡ k + 0 = omega arith in ap (λ (m : ℕ). flows_in n (record { number = m }) g ++ []) e

@@ -1,4 +1,4 @@
--- A statement of one step reads and writes places of its own accesses alone.
+-- A statement of one step reads and writes only places of its own accesses.
 use Rattle.std.proofs.Common.{◌≡◌, ℕ, zero, suc, ◌+◌, ◌<◌, List, [], ◌∷◌, length, Some, None, Ok, Err, ℤ, pos, negsuc}
 use Rattle.std.proofs.Common.{refl, sym, subst, arith}
 use Rattle.std.specs.Prelude.{Bool, true, false, Contains, slice_index_or, nat_lt, if◌then◌else◌, ok_or}
@@ -80,7 +80,7 @@ module _ (p : Program) {X : Type 0} (l : ℕ) (q : Place) where
   put_stays true r v st h = write-other r q v st.store h
   put_stays false r v st h = refl
 
-  -- a statement of one step writes no place but those of its own writes
+  -- a statement of one step writes only places of its own writes
   pub primitive_stays : (s : Primitive) (st : State X) → (Overwrites st.environment (λ x. Member x (own_accesses l (Do s))) q → ⊥)
       → Stays st (primitive p l s st)
   primitive_stays Skip st h = refl

@@ -1,4 +1,4 @@
--- Rounds that only add come to a stable table, where what they may add is listed.
+-- Rounds that only add reach a stable table, if what they may add is listed.
 use Rattle.std.proofs.Common.{◌≡◌, ℕ, zero, suc, ◌+◌, ◌-◌, ◌<◌, ◌≤◌, List, [], ◌∷◌, length, refl, sym, ap, ◌∙◌, subst}
 use Rattle.std.proofs.Common.{arith, true≢false}
 use Rattle.std.proofs.lemmas.Bool.{and_from, eqb-true, eq-eqb, ltb-true, ltb-false, and_parts}
@@ -193,7 +193,7 @@ module _ (round : Table accesses → Table accesses) (count : ℕ)
       let i = h f in
       omega (arith, a, b, i)
 
-  -- with as many rounds as there are possible accesses it is stable
+  -- after as many rounds as there are possible accesses, the table is stable
   pub becomes_stable : (most : ℕ → ℕ) → most 0 ≡ 0 → ((f : ℕ) → most (suc f) ≡ length (possible f) + most f)
       → LiesIn (round (first_stable round count (most count) 0)) (first_stable round count (most count) 0)
   becomes_stable most e h = comes_stable (most count) 0 (lacking_most most e h 0 count)

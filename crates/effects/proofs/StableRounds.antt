@@ -1,4 +1,4 @@
--- The rounds of a sound program come to a stable table.
+-- The rounds of a sound program reach a stable table.
 use Rattle.std.proofs.Common.{◌≡◌, ◌⊎◌, ℕ, zero, suc, ◌+◌, ◌-◌, ◌<◌, ◌≤◌, List, [], ◌∷◌, ◌++◌, length, map, refl, sym}
 use Rattle.std.proofs.Common.{ap, ◌∙◌, subst, inl, inr, arith}
 use Rattle.std.proofs.lemmas.Bool.{ltb-true, ltb-false}
@@ -70,7 +70,7 @@ module _ (alls table more : Table accesses) (grows : (f : ℕ) (x : Access) → 
         parts (left_by accesses alls table s) (λ k. in_left (left_in accesses alls more rest) (by_more s x k))
         (λ k. in_right (left_by accesses alls more s) (left_more rest x k)) m
 
--- ---- procedures that aren't there
+-- ---- procedures that don't exist
 pub past_end : (xs : List Procedure) (f : ℕ) → length xs ≤ f → slice_index_or xs f no_procedure ≡ no_procedure
 past_end [] f h = refl
 past_end (x ∷ xs) zero h = absurd (omega (arith, h))
@@ -86,7 +86,7 @@ module _ (p : Program) where
   nothing_pending alls table f x h m =
       elim (subst (λ (g : Procedure). Member x (left_in accesses alls table g.body)) (past_end p.procedures f h) m) [ ]
 
-  -- ---- an access has the label and the kind of one that stands in a procedure
+  -- ---- an access has the label and the kind of one that occurs in a procedure
   record Stands (xs : List Access) (x : Access) : Type 0 where
     access : Access
     among : Member access xs

@@ -77,7 +77,7 @@ module _ (p : Program) where
   pub part_of_main : (b : Codes) → b ≡ p.main.body → IsPartOf p b
   part_of_main b e = λ l s h. HasStatement.in_main (subst (λ (c : Codes). Stands c l s) e h)
 
--- ---- the rules where a statement stands
+-- ---- the rules at a statement's position
 record FollowsThere (p : Program) (g : Procedure) (s : Code) : Type 0 where
   scope : List ℕ
   follows : FollowsOf p g scope s
@@ -101,7 +101,7 @@ module _ (p : Program) (g : Procedure) where
       let deeper = block_follows k scope h.0 in follows_there g deeper.scope deeper.follows
   follows_there (Stands.later g) scope h = follows_there g scope h.1
 
--- a call is of a procedure, and passes as many sections as that has parameters
+-- a call of a procedure passes as many sections as the procedure has parameters
 pub record IsCall (p : Program) (f : ℕ) (ss : List ℕ) : Type 0 where
   pub there : f < length p.procedures
   pub number : length ss ≡ length (procedure_of p f).parameters
@@ -254,7 +254,7 @@ mutual
   visited_inside w (Async b) v m = record { block = b; inside = Block.async; stands = visited (in_async w) b v m }
   visited_inside w (Finish b) v m = record { block = b; inside = Block.finish; stands = visited (in_finish w) b v m }
 
-  -- what a visit finds stands there
+  -- what a visit finds is in the block
   pub visited : (w : Standing) (b : Codes) (v : Visit) → Member v (visits_in w b) → Stands b v.label v.code
   visited w End v m = elim m [ ]
   visited w (Then l s rest) v m = elim (first_or_next m) [
@@ -265,7 +265,7 @@ mutual
     ]
   ]
 
--- and what stands there is found
+-- and what is in the block is found
 pub record IsVisited (vs : List Visit) (l : ℕ) (s : Code) : Type 0 where
   pub visit : Visit
   pub among : Member visit vs

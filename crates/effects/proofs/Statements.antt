@@ -1,4 +1,4 @@
--- Statements as their Rust types have them, and how much they hold.
+-- Statements as their Rust types represent them, and their number.
 use Rattle.std.proofs.Common.{◌≡◌, ℕ, zero, suc, ◌+◌, ◌-◌, ◌<◌, ◌≤◌, arith, List, [], ◌∷◌, drop, length, Vec, Global, sym, ap, ◌∙◌, add-one}
 use Rattle.std.proofs.Math.Seq.{drop-cons}
 use Rattle.std.specs.Prelude.{slice_index_or}
@@ -31,14 +31,14 @@ is_Async k v b is e = ap code is ∙ code_Async v ∙ ap (λ b. Async (codes b))
 pub is_Finish : (k : StmtKind) (v : Vec Stmt Global) (b : List Stmt) → k ≡ rFinish v → b ≡ v.items → code k ≡ Finish (codes b)
 is_Finish k v b is e = ap code is ∙ code_Finish v ∙ ap (λ b. Finish (codes b)) (sym e)
 
--- a statement of a list and those behind it
+-- a statement of a list and those after it
 pub codes_at : (xs : List Stmt) (i : ℕ) (x : Stmt) → i < length xs → x ≡ slice_index_or xs i x
     → codes (drop i xs) ≡ Then x.label (code x.kind) (codes (drop (i + 1) xs))
 codes_at xs i x within is = ap codes (drop-cons xs i x within) ∙ ap (λ y. codes (y ∷ drop (suc i) xs)) (sym is)
     ∙ ap (λ n. codes (x ∷ drop n xs)) (sym (add-one i))
 
 abbrev mutual
-  -- how many statements there are inside a statement, and in a list
+  -- the number of statements inside a statement, and in a list
   pub size_in : Code → ℕ
   size_in (Do s) = 0
   size_in (If t b c) = size b + size c
@@ -52,7 +52,7 @@ abbrev mutual
   size End = 0
   size (Then l s rest) = size_in s + size rest + 1
 
--- so counted from behind
+-- the same, counted from the end
 pub codes_before : (xs : List Stmt) (k : ℕ) (x : Stmt) → 0 < k → k ≤ length xs → x ≡ slice_index_or xs (k - 1) x
     → codes (drop (k - 1) xs) ≡ Then x.label (code x.kind) (codes (drop k xs))
 codes_before xs k x some within is =

@@ -1,4 +1,4 @@
--- How many labels the flows may still bring: each round that brings something brings one less.
+-- The number of labels that the flows may still bring: a round that brings some reduces it.
 use Rattle.std.proofs.Common.{◌≡◌, inl, inr, ℕ, zero, suc, ◌+◌, ◌^◌, ◌<◌, ◌≤◌, List, [], ◌∷◌, refl, sym, ap, ◌∙◌, arith, true≢false}
 use Rattle.std.proofs.lemmas.Bool.{cases_lt}
 use Rattle.std.specs.Prelude.{Bool, true, false, if◌then◌else◌, Option, Some, None, slice_get}
@@ -17,7 +17,7 @@ use Rattle.effects.specs.declared.summary.Summary.{Summary}
 use Rattle.effects.specs.declared.uses.Uses.{Uses}
 use Rattle.effects.proofs.HasLabels.{has_label-true, from_has_label, label_within}
 
--- whether a label is there, and that it tells
+-- Whether a label is there, as a test
 
 abbrev set_has : Option LabelSet → ℕ → Bool
 set_has None l = false
@@ -40,7 +40,7 @@ some_has (Some x) r l = row_has x r l
 abbrev pub has_in : List Summary → ℕ → Row → ℕ → Bool
 has_in table f r l = some_has (slice_get table f) r l
 
--- a test that tells whether something holds, of labels below 2 ^ 32
+-- a test that decides a property of labels below 2 ^ 32
 record Tells (holds : ℕ → Type 0) (test : ℕ → Bool) : Type 0 where
   yes : (l : ℕ) → holds l → test l ≡ true
   from : (l : ℕ) → test l ≡ true → holds l
@@ -75,7 +75,7 @@ some_told None r = record { yes = λ l h. absurd h; from = λ l e. false_true e;
 some_told (Some x) r =
     let t = row_told x r in record { yes = λ l h. t.yes l h; from = λ l e. t.from l e; within = λ l h. t.within l h }
 
--- how many of the first n numbers fail a test
+-- the number of the first n numbers that fail a test
 failing : (ℕ → Bool) → ℕ → ℕ
 failing test zero = 0
 failing test (suc n) = (if test n then 0 else 1) + failing test n
@@ -115,7 +115,7 @@ less_fail test later h m e f (suc n) within = elim (cases_lt m n) [
       omega (arith, one, rest)
 ]
 
--- how many labels the rows into which flows bring don't have
+-- the number of labels that are missing in the rows into which flows bring
 pub missing : List Flow → List Summary → ℕ
 missing [] table = 0
 missing (x ∷ flows) table = failing (has_in table x.caller.number x.to) (2 ^ 32) + missing flows table
@@ -155,6 +155,6 @@ module _ (before after : List Summary) (more : (f : ℕ) (r : Row) (l : ℕ) →
       let rest = less_with flows x m less in
       omega (arith, here, rest)
 
-  -- a label that a flow brings anew is one less
+  -- a new label that a flow brings reduces the number
   pub less_missing : (flows : List Flow) → BringsNew flows before after → missing flows after < missing flows before
   less_missing flows new = less_with flows new.flow new.member (one_brings new.flow new.label new.now new.missing)

@@ -1,4 +1,4 @@
--- A table that has exactly what comes into its rows is the summary of each procedure.
+-- A table that has exactly what arrives in its rows is the summary of each procedure.
 use Rattle.std.proofs.Common.{◌≡◌, ◌∙◌, ◌∷◌, [], ℕ, List, length, ◌<◌, ◌+◌, ap, subst, arith}
 use Rattle.std.proofs.lemmas.List.{length-append}
 use Rattle.std.specs.Prelude.{◌↔◌, Some, slice_get}

@@ -40,7 +40,7 @@ has_set (x ∷ xs) (suc i) y more h both (suc s) l =
       λ k. deeper.1 (elim k [ inl a ↦ inl a | inr b ↦ inr (let e : suc s ≡ suc i = b.0 in omega arith, b.1) ]),
     )
 
--- what is read of a list stands there
+-- what is read from a list is in the list
 pub found : (xs ys : List LabelSet) (s : ℕ) (x : LabelSet) → xs ≡ ys → s < length xs → x ≡ get_or xs s x → slice_get ys s ≡ Some x
 found xs ys s x e h at = ap (λ (zs : List LabelSet). slice_get zs s) (sym e) ∙ slice_get_read xs (length xs) s x refl h at
 
@@ -60,7 +60,7 @@ pub has_set_at : (xs : List LabelSet) (i : ℕ) (x y : LabelSet) (more : ℕ →
 has_set_at xs i x y more h at both =
     has_set xs i y more h (subst (λ (o : Option LabelSet). (l : ℕ) → HasLabel y l ↔ (HasIn o l ⊎ more l)) (sym (found xs xs i x refl h at)) both)
 
--- what is the same may stand in its place
+-- equivalent facts may replace each other
 pub through : {A B C M : Type 0} → A ↔ (B ⊎ M) → B ↔ C → A ↔ (C ⊎ M)
 through f g = (λ a. elim (f.0 a) [ inl b ↦ inl (g.0 b) | inr m ↦ inr m ], λ h. f.1 (elim h [ inl c ↦ inl (g.1 c) | inr m ↦ inr m ]))
 
@@ -103,7 +103,7 @@ pub are_read : (old : Accesses) (new : Uses) (s : ℕ) (w : Bool) (more : ℕ �
 unfolding HasAccess
 are_read old new s w more e both x = read_case old new s w more e both x.write x.section x.label
 
--- a set that has a label stands in the list
+-- a set that has a label is in the list
 pub stands_within : (xs : List LabelSet) (s l : ℕ) → HasIn (slice_get xs s) l → s < length xs
 stands_within [] zero l h = absurd h
 stands_within [] (suc s) l h = absurd h
@@ -115,7 +115,7 @@ kind_within : (xs : Accesses) (n : ℕ) → ((s l : ℕ) → HasUse xs.reads s l
 kind_within xs n reads writes true s l h = writes s l h
 kind_within xs n reads writes false s l h = reads s l h
 
--- sections behind both ends are not accessed
+-- sections past both ends are not accessed
 pub accessed_within : (xs : Accesses) (r w n : ℕ) → ((s l : ℕ) → HasUse xs.reads s l → s < r)
     → ((s l : ℕ) → HasUse xs.writes s l → s < w) → r ≤ n → w ≤ n → (x : Access) → HasAccess xs x → x.section < n
 unfolding HasAccess

@@ -11,7 +11,7 @@ use Rattle.effects.specs.declared.visits.Standing.{Standing}
 use Rattle.effects.specs.declared.visits.Standing.TheVariants.{Open, Begun, Awaited}
 use Rattle.effects.proofs.Members.{in_parts}
 
--- the visits behind others, where the standing and the block are the same
+-- the visits after others, if the positions and the blocks are the same
 pub visits_same : (before : List Visit) {w v : Standing} {b c : List Stmt} → w ≡ v → b ≡ c
     → before ++ visits_in w (codes b) ≡ before ++ visits_in v (codes c)
 visits_same before {w} {v} {b} {c} standing block =
@@ -65,7 +65,7 @@ module _ (p : Program) (subject : Subject) (g : Procedure) (root : ℕ → ℕ)
     up_inside w l (Async b) scope h v m x a = like (λ y. AllOf.async) (up (in_async w) b scope h v m x a)
     up_inside w l (Finish b) scope h v m x a = like (λ y. AllOf.finish) (up (in_finish w) b scope h v m x a)
 
--- inside an async or a finish, all statements stand as it does
+-- inside an async or a finish, all statements have its position
 mutual
   standing_in : (w : Standing) → in_async w ≡ w → in_finish w ≡ w → (b : Codes) (v : Visit) → Member v (visits_in w b) → v.standing ≡ w
   standing_in w a f End v m = elim m [ ]
@@ -91,7 +91,7 @@ mutual
 module _ (p : Program) (subject : Subject) (g : Procedure) (root : ℕ → ℕ)
     (past : (scope : List ℕ) (s l r : ℕ) → SplitsWell g scope s l r → (x : subject.Item)
     → subject.renamed root (subject.renamed (past_split s l r) x) ≡ subject.renamed root x) where
-  -- what a statement that stands so leaves pending when the body has ended
+  -- what a statement in this position leaves pending after the body has finished
   abbrev pub Leaves : Standing → Visit → subject.Item → Type 0
   Leaves Open v x = PendingOf p subject v.code x
   Leaves Begun v x = AllOf p subject v.label v.code x

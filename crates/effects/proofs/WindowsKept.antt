@@ -1,4 +1,4 @@
--- A run of code whose names follow the rules leaves the windows in scope as they are.
+-- A run of code whose names follow the rules leaves the windows in scope unchanged.
 use Rattle.std.proofs.Common.{◌≡◌, ℕ, zero, suc, ◌+◌, List, ◌∷◌, Ok, Err, ℤ, refl, sym, ap, ◌∙◌, map}
 use Rattle.std.specs.Prelude.{Bool, true, false, ok_or}
 use Rattle.sections.specs.Place.{Place, sides_of}
@@ -78,7 +78,7 @@ module _ (p : Program) {X : Type 0} where
 
     module _ (deeper : Work → State X → State X)
         (deeper_keeps : (scope : List ℕ) (l : ℕ) (t : Truth) (b : Codes) → Follows p g scope b → Keeps scope (deeper (Turn l t b))) where
-      -- a turn of a loop, where its block does and further turns do
+      -- an iteration of a loop, if its block does and further iterations do
       while_keeps : (t : Truth) (b : Codes) (l : ℕ) (scope : List ℕ) → Keeps scope (block p r deeper b) → Keeps scope (deeper (Turn l t b))
           → Keeps scope (act p r deeper l (While t b))
       while_keeps t b l scope inner further st =
@@ -136,7 +136,7 @@ module _ (p : Program) {X : Type 0} where
         → SameWindows scope st.environment (run p r w st).environment
     run_keeps w scope k st = within_keeps (st.steps + 1) w scope k st
 
--- so an environment that fits goes on to fit
+-- so an environment that fits continues to fit
 pub run_fits : (p : Program) {X : Type 0} (r : Rules X) → KeepsWindows r → (g : Procedure) (w : Work) (scope : List ℕ)
     → WorkFollows p g scope w
     → (st : State X) → Fits p g scope st.environment → Fits p g scope (run p r w st).environment

@@ -1,4 +1,4 @@
--- The accesses of a set, which are kept by kind.
+-- The accesses of a set, which stores them by kind.
 use Rattle.std.specs.Prelude.{ℕ, ◌≡◌, Bool, true, false}
 use Rattle.effects.specs.Accesses.{Access}
 use Rattle.effects.specs.UseSets.{HasUse}

@@ -4,7 +4,7 @@ use Rattle.types.specs.Code.{Primitive, Skip, Assign, Store, Print, Raise, Code,
 use Rattle.types.specs.Code.{Split, Call, Async, Finish}
 use Rattle.types.specs.Indexed.{indexed, indexed_truth}
 
--- the statement with this label may read elements of a section, or write them
+-- the statement with this label may read, or write, elements of a section
 pub record Access : Type 0 where
   pub label : ℕ
   pub section : ℕ
@@ -14,7 +14,8 @@ pub record Access : Type 0 where
 abbrev pub reads : (label : ℕ) → List ℕ → List Access
 reads l ss = map (λ s. record { label = l; section = s; write = false }) ss
 
--- those of a statement of one step: reads of what its expressions index, and a store's write
+-- the accesses of a statement of one step: a read of each section that its expressions index, and
+-- the write of a store
 abbrev pub own_primitive : (label : ℕ) → Primitive → List Access
 own_primitive l Skip = []
 own_primitive l (Assign x e) = reads l (indexed e)

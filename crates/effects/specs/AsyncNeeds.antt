@@ -1,4 +1,4 @@
--- What is kept of the asyncs of a program: what the body of each needs, by the async's label.
+-- What is kept for the asyncs of a program: what the body of each needs, by the async's label.
 use Rattle.std.specs.Prelude.{ℕ, ◌≡◌, ◌⊎◌, Option, None, Some, IsSome, option_map}
 use Rattle.std.specs.BTreeMap.{BTreeMap, get}
 use Rattle.std.specs.Ordering.{nat_cmp}
@@ -13,7 +13,7 @@ use Rattle.effects.specs.declared.needs.Needs.{Needs as rNeeds}
 abbrev pub needs_at : BTreeMap ℕ rNeeds → (label : ℕ) → Option Needs
 needs_at kept l = option_map needs (get nat_cmp kept l)
 
--- at the label of an async what its body needs, and nothing at another one
+-- at the label of an async, what its body needs; at any other label, nothing
 pub record IsNeedAt (p : Program) (label : ℕ) (found : Option Needs) : Type 0 where
   pub of_async : (b : Codes) → HasStatement p label (Async b) → found ≡ Some (needs_of p b)
   pub of_another : ((b : Codes) → HasStatement p label (Async b) → ⊥) → found ≡ None
@@ -24,7 +24,7 @@ pub record IsOfAsync (p : Program) (label : ℕ) (n : Needs) : Type 0 where
   pub stands : HasStatement p label (Async body)
   pub same : n ≡ needs_of p body
 
--- what asyncs need is kept besides what was kept before, and nothing else
+-- the needs of asyncs are kept in addition to what was kept before, and nothing else is added
 pub record Keeps (p : Program) (those : (label : ℕ) → Codes → Type 0)
     (before after : ℕ → Option Needs) : Type 0 where
   pub stay : (l : ℕ) → IsSome (before l) → IsSome (after l)

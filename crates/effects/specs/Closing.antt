@@ -6,12 +6,12 @@ use Rattle.effects.specs.declared.flows.Flow.{Flow}
 use Rattle.effects.specs.declared.summary.Row.{Row}
 use Rattle.effects.specs.declared.summary.Summary.{Summary}
 
--- there is a summary, and a row of it has the label
+-- there is a summary, and one of its rows has the label
 abbrev pub HasSome : Option Summary → Row → (label : ℕ) → Type 0
 HasSome None r l = ⊥
 HasSome (Some x) r l = HasRow x r l
 
--- a row of the summary of a number has the label
+-- a row of the summary with this number has the label
 abbrev pub HasIn : List Summary → ℕ → Row → (label : ℕ) → Type 0
 HasIn table f r l = HasSome (slice_get table f) r l
 
@@ -22,7 +22,7 @@ module _ (flows : List Flow) (table : List Summary) where
     flow : {l : ℕ} → (x : Flow) → Member x flows → x.caller.number < length table
         → Reached x.callee.number x.from l → Reached x.caller.number x.to l
 
--- the labels that one flow brings where there is a caller's summary
+-- the labels that one flow brings if the caller has a summary
 pub record Brings (x : Flow) (table : List Summary) (f : ℕ) (r : Row) (l : ℕ) : Type 0 where
   pub there : x.caller.number < length table
   pub caller : f ≡ x.caller.number
@@ -37,7 +37,7 @@ pub record BringsNew (flows : List Flow) (before after : List Summary) : Type 0 
   pub now : HasIn after flow.caller.number flow.to label
   pub missing : HasIn before flow.caller.number flow.to label → ⊥
 
--- what flows bring is there
+-- what flows bring is already there
 abbrev pub IsClosed : List Flow → List Summary → Type 0
 IsClosed flows table = (x : Flow) → Member x flows → (f : ℕ) (r : Row) (l : ℕ)
     → Brings x table f r l → HasIn table f r l

@@ -1,4 +1,4 @@
--- The labels that come into the rows of a program's procedures: from statements, and by calls.
+-- The labels that enter the rows of a program's procedures: from statements, and by calls.
 use Rattle.std.specs.Prelude.{ℕ, ◌<◌, length}
 use Rattle.sections.specs.Member.{Member}
 use Rattle.types.specs.Code.{Program}

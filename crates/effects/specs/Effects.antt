@@ -7,7 +7,7 @@ use Rattle.types.specs.Run.{procedure_of}
 use Rattle.types.specs.Sound.{passed_for}
 use Rattle.effects.specs.Accesses.{Access, own_accesses}
 
--- around a split of s, both sides are s
+-- in the names around a split of s, both sides are s
 abbrev pub past_split : (s left right : ℕ) → ℕ → ℕ
 past_split s l r x = if nat_eq l x || nat_eq r x then s else x
 
@@ -15,7 +15,7 @@ past_split s l r x = if nat_eq l x || nat_eq r x then s else x
 abbrev pub renamed : (ℕ → ℕ) → Access → Access
 renamed out x = record x { section = out x.section }
 
--- what is collected: what a statement has by itself, and what becomes of it in other names
+-- what is collected: the items of a statement without its blocks, and how an item is renamed
 pub record Subject : Type 1 where
   pub Item : Type 0
   pub own : (label : ℕ) → Code → List Item
@@ -26,12 +26,13 @@ pub record Subject : Type 1 where
 abbrev pub accesses : Subject
 accesses = record { Item = Access; own = own_accesses; renamed = renamed; kept = λ x. refl }
 
--- the labels of statements: each has its own, which no renaming changes
+-- the labels of statements: each statement has its own label, which renaming doesn't change
 abbrev pub labels : Subject
 labels = record { Item = ℕ; own = λ l s. l ∷ []; renamed = λ out l. l; kept = λ x. refl }
 
 module _ (p : Program) where
-  -- a statement runs a block in its own task, whose section x is `out x` in the names around it
+  -- a statement runs a block in its own task; section x of the block is `out x` in the names around
+  -- the statement
   pub data Inner : Code → Codes → (out : ℕ → ℕ) → Type 0 where
     if_body : {t : Truth} {b c : Codes} → Inner (If t b c) b (λ x. x)
     if_other : {t : Truth} {b c : Codes} → Inner (If t b c) c (λ x. x)
@@ -43,7 +44,7 @@ module _ (p : Program) where
 
 module _ (p : Program) (subject : Subject) where
   mutual
-    -- all that a statement may do, with its blocks and its call
+    -- everything that a statement may do, with its blocks and its call
     pub data AllOf : (label : ℕ) → Code → subject.Item → Type 0 where
       own_access : {l : ℕ} {s : Code} {x : subject.Item} → Member x (subject.own l s) → AllOf l s x
       inner : {l : ℕ} {s : Code} {b : Codes} {out : ℕ → ℕ} {x y : subject.Item}
@@ -51,7 +52,7 @@ module _ (p : Program) (subject : Subject) where
       async : {l : ℕ} {b : Codes} {x : subject.Item} → All b x → AllOf l (Async b) x
       finish : {l : ℕ} {b : Codes} {x : subject.Item} → All b x → AllOf l (Finish b) x
 
-    -- all that a list of statements may do
+    -- everything that a list of statements may do
     pub data All : Codes → subject.Item → Type 0 where
       here : {l : ℕ} {s : Code} {rest : Codes} {x : subject.Item} → AllOf l s x
           → All (Then l s rest) x
@@ -59,13 +60,13 @@ module _ (p : Program) (subject : Subject) where
           → All (Then l s rest) x
 
   mutual
-    -- what may still be done once a statement has ended: by tasks for which no finish waits
+    -- what may still be done after a statement has finished: by tasks for which no finish waits
     pub data PendingOf : Code → subject.Item → Type 0 where
       inner : {s : Code} {b : Codes} {out : ℕ → ℕ} {x y : subject.Item}
           → Inner p s b out → Pending b x → y ≡ subject.renamed out x → PendingOf s y
       async : {b : Codes} {x : subject.Item} → All b x → PendingOf (Async b) x
 
-    -- what may still be done once a list of statements has ended
+    -- what may still be done after a list of statements has finished
     pub data Pending : Codes → subject.Item → Type 0 where
       here : {l : ℕ} {s : Code} {rest : Codes} {x : subject.Item} → PendingOf s x
           → Pending (Then l s rest) x

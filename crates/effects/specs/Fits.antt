@@ -1,4 +1,4 @@
--- Which environments fit a procedure: the windows of its sections stand as their origins say.
+-- Which environments fit a procedure: the windows of its sections are related as their origins say.
 use Rattle.std.specs.Prelude.{ℕ, ◌+◌, ◌≤◌, List}
 use Rattle.sections.specs.Member.{Member}
 use Rattle.sections.specs.Place.{Window}
@@ -12,12 +12,12 @@ use Rattle.effects.specs.Sound.{may_write}
 abbrev pub LiesInArray : Program → Window → Type 0
 LiesInArray p w = w.at + w.length ≤ (array_of p w.array).length
 
--- the sections of a procedure that may be named where this scope is
+-- the sections of a procedure that may be named where this is the scope
 abbrev pub names_in : Procedure → (scope : List ℕ) → Names
 names_in g scope =
     record { origins = g.sections; may_write = may_write g.parameters; scope = scope }
 
--- an environment fits a procedure, where the sections of the scope may be named
+-- an environment fits a procedure in which the sections of the scope may be named
 pub record Fits (p : Program) (g : Procedure) (scope : List ℕ) (env : Environment) : Type 0 where
   pub lies : (s : ℕ) → Member s scope → LiesInArray p (env.windows s)
   pub placed : Placed (names_in g scope) env.windows

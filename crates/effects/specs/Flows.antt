@@ -1,4 +1,4 @@
--- What calls bring from the rows of their procedures into those of the caller.
+-- What calls bring from the rows of the called procedures into those of the caller.
 use Rattle.std.specs.Prelude.{ℕ, ◌+◌, List, [], ◌∷◌, ◌++◌, Bool, true, false, nat_lt, if◌then◌else◌}
 use Rattle.sections.specs.declared.id.SectionId.{SectionId}
 use Rattle.types.specs.Code.{Code, Do, If, While, Split, Call, Async, Finish}
@@ -15,15 +15,15 @@ module _ (caller : ProcedureId) where
   abbrev pub flow : (callee : ProcedureId) → (from to : Row) → Flow
   flow f from to = record { callee = f; from = from; caller = caller; to = to }
 
-  -- all labels are among all; what is pending once the callee has ended is pending behind an open
-  -- call, and all behind one that was begun
+  -- all labels of the callee are among all labels of the caller; after an open call, what is
+  -- pending after the callee is pending; after a call inside an async, all labels are pending
   abbrev pub flows_of_labels : Standing → (callee : ProcedureId) → List Flow
   flows_of_labels Open f =
       flow f Labels Labels ∷ flow f PendingLabels PendingLabels ∷ []
   flows_of_labels Begun f = flow f Labels Labels ∷ flow f Labels PendingLabels ∷ []
   flows_of_labels Awaited f = flow f Labels Labels ∷ []
 
-  -- the same of the accesses of one kind to a parameter, for which this section is passed
+  -- the flows of the accesses of one kind to a parameter, for which this section is passed
   abbrev pub flows_of_use : Standing → (callee : ProcedureId) → (parameter section : SectionId)
       → (write : Bool) → List Flow
   flows_of_use Open f k s w = flow f (All k w) (All s w) ∷ flow f (Pending k w) (Pending s w) ∷ []
@@ -31,7 +31,7 @@ module _ (caller : ProcedureId) where
   flows_of_use Awaited f k s w = flow f (All k w) (All s w) ∷ []
 
   module _ (root : ℕ → ℕ) where
-    -- those of the parameters from k on
+    -- the flows of the parameters from k on
     abbrev pub flows_of_sections : Standing → (callee : ProcedureId) → (k : ℕ) → List ℕ → List Flow
     flows_of_sections w f k [] = []
     flows_of_sections w f k (s ∷ ss) =
@@ -40,13 +40,13 @@ module _ (caller : ProcedureId) where
         ++ flows_of_sections w f (k + 1) ss)
 
   module _ (procedures : ℕ) (root : ℕ → ℕ) where
-    -- what a call of a procedure that is there brings
+    -- what a call brings, if the procedure exists
     abbrev pub flows_of_call : Standing → (callee : ℕ) → List ℕ → List Flow
     flows_of_call w f ss =
         if nat_lt f procedures then flows_of_labels w (record { number = f })
         ++ flows_of_sections root w (record { number = f }) 0 ss else []
 
-    -- what a statement that stands so brings
+    -- what a statement in this position brings
     abbrev pub flows_of_code : Standing → Code → List Flow
     flows_of_code w (Do s) = []
     flows_of_code w (If t b c) = []

@@ -24,30 +24,30 @@ module _ (p : Program) (env : Environment) where
   abbrev pub MayTouch : Codes → Place → Type 0
   MayTouch b = Touches env (All p accesses b)
 
-  -- the places that it may write
+  -- the places that a list of statements may write
   abbrev pub MayWrite : Codes → Place → Type 0
   MayWrite b = Overwrites env (All p accesses b)
 
-  -- the same of one statement
+  -- the places that one statement may touch
   abbrev pub MayTouchOf : (label : ℕ) → Code → Place → Type 0
   MayTouchOf l s = Touches env (AllOf p accesses l s)
 
-  -- and those that it may write
+  -- the places that one statement may write
   abbrev pub MayWriteOf : (label : ℕ) → Code → Place → Type 0
   MayWriteOf l s = Overwrites env (AllOf p accesses l s)
 
-  -- the places that may still be touched once it has ended
+  -- the places that may still be touched after a list of statements has finished
   abbrev pub MayStillTouch : Codes → Place → Type 0
   MayStillTouch b = Touches env (Pending p accesses b)
 
-  -- and those that may still be written
+  -- the places that may still be written after a list of statements has finished
   abbrev pub MayStillWrite : Codes → Place → Type 0
   MayStillWrite b = Overwrites env (Pending p accesses b)
 
-  -- the same of one statement
+  -- the places that may still be touched after one statement has finished
   abbrev pub MayStillTouchOf : Code → Place → Type 0
   MayStillTouchOf s = Touches env (PendingOf p accesses s)
 
-  -- and those that it may still write
+  -- the places that may still be written after one statement has finished
   abbrev pub MayStillWriteOf : Code → Place → Type 0
   MayStillWriteOf s = Overwrites env (PendingOf p accesses s)

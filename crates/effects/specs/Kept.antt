@@ -1,4 +1,4 @@
--- Runs leave the windows in scope as they are.
+-- Runs leave the windows in scope unchanged.
 use Rattle.std.specs.Prelude.{ℕ, ◌≡◌, List}
 use Rattle.sections.specs.Member.{Member}
 use Rattle.types.specs.Code.{Codes, Procedure, Program}
@@ -10,7 +10,7 @@ use Rattle.effects.specs.Sound.{Follows}
 abbrev pub SameWindows : (scope : List ℕ) → (env other : Environment) → Type 0
 SameWindows scope env other = (s : ℕ) → Member s scope → env.windows s ≡ other.windows s
 
--- the rules leave all windows as they are
+-- the rules leave all windows unchanged
 pub record KeepsWindows {X : Type 0} (r : Rules X) : Type 0 where
   pub begin : (l : ℕ) (b : Codes) (st : State X)
       → (r.begin l b st).environment.windows ≡ st.environment.windows

@@ -4,7 +4,7 @@ use Rattle.std.specs.Int.{bit_at}
 use Rattle.types.specs.Run.{by_number}
 use Rattle.effects.specs.declared.label_set.LabelSet.{LabelSet}
 
--- these words, zeros behind them, have the bit of a label
+-- these words, with zeros after them, have the bit of a label
 abbrev pub HasBit : (words : ℕ → ℕ) → (label : ℕ) → Type 0
 HasBit words l = bit_at (words (l / 64)) (l % 64) ≡ 1
 
@@ -22,7 +22,7 @@ pub record HasNew (those these : ℕ → Type 0) : Type 0 where
   pub among : these label
   pub missing : those label → ⊥
 
--- the word has a bit that the old one hasn't
+-- the word has a bit that the old word doesn't have
 pub record HasNewBit (old word : ℕ) : Type 0 where
   pub bit : ℕ
   pub below : bit < 64

@@ -8,7 +8,7 @@ use Rattle.effects.specs.Accesses.{Access}
 use Rattle.effects.specs.Effects.{accesses, All}
 use Rattle.effects.specs.Tables.{Table, all_in}
 
--- sections by their names in scope at the async, each once, ascending
+-- sections by their names in scope at the async, each once, in ascending order
 pub record Needs : Type 0 where
   pub writes : List ℕ
   pub reads : List ℕ
@@ -46,7 +46,7 @@ module _ (p : Program) (needs : Codes → Needs) where
     ProvidesOf (Async b) = AreNeeds p b (needs b) × ProvidesIn b
     ProvidesOf (Finish b) = ProvidesIn b
 
-    -- and in a list of statements
+    -- `needs` gives what each async in a list of statements needs
     pub ProvidesIn : Codes → Type 0
     ProvidesIn End = Unit {0}
     ProvidesIn (Then l s rest) = ProvidesOf s × ProvidesIn rest
@@ -56,11 +56,11 @@ module _ (p : Program) (needs : Codes → Needs) where
     pub main : ProvidesIn p.main.body
     pub procedures : (f : ℕ) → ProvidesIn (procedure_of p f).body
 
--- whether a number is among these
+-- whether a number is in a list
 abbrev pub among : List ℕ → ℕ → Bool
 among ss s = list_any (nat_eq s) ss
 
--- these, which ascend, and another in its place, each once
+-- an ascending list with one more number at its position, each number once
 abbrev pub also : ℕ → List ℕ → List ℕ
 also s [] = s ∷ []
 also s (t ∷ ss) =
@@ -71,7 +71,7 @@ abbrev pub written_by : List Access → List ℕ
 written_by [] = []
 written_by (x ∷ xs) = if x.write then also x.section (written_by xs) else written_by xs
 
--- the others
+-- the sections that accesses only read
 abbrev pub others_by : (written : List ℕ) → List Access → List ℕ
 others_by ws [] = []
 others_by ws (x ∷ xs) =

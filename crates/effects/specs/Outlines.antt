@@ -1,4 +1,4 @@
--- What each procedure does by itself, and what its calls bring.
+-- What each procedure does without its calls, and what its calls bring.
 use Rattle.std.specs.Prelude.{ℕ, ◌+◌, List, [], ◌∷◌, ◌++◌, flat_map, Option, None, Some, slice_get}
 use Rattle.sections.specs.Member.{Member}
 use Rattle.sections.specs.Overlap.{root_of}
@@ -16,28 +16,28 @@ use Rattle.effects.specs.declared.visits.Standing.TheVariants.{Open}
 abbrev pub visits_of : Procedure → List Visit
 visits_of g = visits_in Open g.body
 
--- what it does by itself
+-- what a procedure does without its calls
 abbrev pub starts_in : Procedure → List Start
 starts_in g = flat_map (starts_of (root_of g.sections)) (visits_of g)
 
--- what its calls bring
+-- what a procedure's calls bring
 abbrev pub flows_in : (procedures : ℕ) → (caller : ProcedureId) → Procedure → List Flow
 flows_in n f g = flat_map (flows_of f n (root_of g.sections)) (visits_of g)
 
--- and those of procedures that are numbered from k on
+-- what the calls of procedures bring that are numbered from k on
 abbrev pub flows_in_all : (procedures k : ℕ) → List Procedure → List Flow
 flows_in_all n k [] = []
 flows_in_all n k (g ∷ gs) = flows_in n (record { number = k }) g ++ flows_in_all n (k + 1) gs
 
--- the procedures of a program in the order of the text, with `main` behind them
+-- the procedures of a program in the order of the text, and after them `main`
 abbrev pub numbered : Program → List Procedure
 numbered p = p.procedures ++ p.main ∷ []
 
--- there is a procedure, and by itself it puts the label in the row
+-- the procedure exists, and without its calls it puts the label in the row
 abbrev pub StartsIn : Option Procedure → Row → (label : ℕ) → Type 0
 StartsIn None r l = ⊥
 StartsIn (Some g) r l = Member (record { row = r; label = l }) (starts_in g)
 
--- so it is of the procedure of a number
+-- the procedure with this number exists, and without its calls it puts the label in the row
 abbrev pub StartsAt : List Procedure → ℕ → Row → (label : ℕ) → Type 0
 StartsAt gs f r l = StartsIn (slice_get gs f) r l

@@ -1,4 +1,4 @@
--- What each procedure may do and leaves pending, computed: round by round, until nothing is added.
+-- What each procedure may do and leaves pending, computed in rounds until a round adds nothing.
 use Rattle.std.specs.Prelude.{ℕ, zero, suc, ◌+◌, List, [], ◌++◌, map, flat_map, length, Bool, true}
 use Rattle.std.specs.Prelude.{false, ◌&&◌, nat_eq, if◌then◌else◌}
 use Rattle.std.specs.List.{list_all, list_any}
@@ -29,13 +29,13 @@ lists xs x = list_any (same_access x) xs
 abbrev pub has_all : (xs part : List Access) → Bool
 has_all xs part = list_all (lists xs) part
 
--- the table of nothing
+-- the empty table
 abbrev pub none : Table accesses
 none f = []
 
--- for so many procedures, where one more round is `round`
+-- for this number of procedures, where `round` computes one more round
 module _ (round : Table accesses → Table accesses) (count : ℕ) where
-  -- after so many rounds
+  -- the table after this number of rounds
   abbrev pub after : ℕ → Table accesses
   after zero = none
   after (suc k) = round (after k)
@@ -49,38 +49,38 @@ module _ (round : Table accesses → Table accesses) (count : ℕ) where
   abbrev pub is_stable : Table accesses → Bool
   is_stable table = is_stable_below table count
 
-  -- the first stable table from round k on, where n more may be gone
+  -- the first stable table from round k on, within at most n more rounds
   abbrev pub first_stable : (n k : ℕ) → Table accesses
   first_stable zero k = after k
   first_stable (suc n) k =
       if◌then◌else◌ {A = Table accesses} (is_stable (after k)) (after k) (first_stable n (suc k))
 
 module _ (p : Program) where
-  -- the accesses that stand in the first n procedures
+  -- the accesses that occur in the first n procedures
   abbrev pub standing : ℕ → List Access
   standing zero = []
   standing (suc f) = all_in accesses none (procedure_of p f).body ++ standing f
 
-  -- all that a procedure's body may do: one of these, to a parameter
+  -- an upper bound of what a procedure's body may do: each of these accesses, to a parameter
   abbrev pub possible : ℕ → List Access
   possible f =
       flat_map (λ x. map (λ s. record x { section = s }) (parameters_of (procedure_of p f)))
       (standing (length p.procedures))
 
-  -- how many those of the first n procedures are
+  -- the number of possible accesses of the first n procedures
   abbrev pub possible_below : ℕ → ℕ
   possible_below zero = 0
   possible_below (suc f) = length (possible f) + possible_below f
 
-  -- a round goes one call deeper
+  -- one round for All: it follows calls one level deeper
   abbrev pub all_round : Table accesses → Table accesses
   all_round table f = all_in accesses table (procedure_of p f).body
 
-  -- and so for what is left pending
+  -- one round for Pending
   abbrev pub pending_round : (alls : Table accesses) → Table accesses → Table accesses
   pending_round alls table f = left_in accesses alls table (procedure_of p f).body
 
-  -- the first stable table of rounds from nothing on
+  -- the first stable table of rounds that start from the empty table
   abbrev pub solution : (Table accesses → Table accesses) → Table accesses
   solution round = first_stable round (length p.procedures) (possible_below (length p.procedures)) 0
 

@@ -13,7 +13,7 @@ module _ (p : Program) (subject : Subject) where
     pub among : those item
     pub same : y ≡ subject.renamed out item
 
-  -- what the blocks of a statement and its call have, in the names around it
+  -- what the blocks of a statement and its call contribute, in the names around it
   abbrev pub Inside : (Codes → subject.Item → Type 0) → Code → subject.Item → Type 0
   Inside has (Do s) x = ⊥
   Inside has (If t b c) x = has b x ⊎ has c x
@@ -23,18 +23,18 @@ module _ (p : Program) (subject : Subject) where
   Inside has (Async b) x = has b x
   Inside has (Finish b) x = has b x
 
-  -- what they may do
+  -- what the blocks of a statement and its call may do
   abbrev pub AllInside : Code → subject.Item → Type 0
   AllInside s x = Inside (All p subject) s x
 
-  -- what a statement leaves pending: an async all of its body, a finish nothing, and another what
-  -- is left inside it
+  -- what a statement leaves pending: an async leaves all of its body, a finish nothing, and any
+  -- other statement what is left inside it
   abbrev pub LeftBy : Code → subject.Item → Type 0
   LeftBy (Async b) x = All p subject b x
   LeftBy (Finish b) x = ⊥
   LeftBy s x = Inside (Pending p subject) s x
 
-  -- a set for each list of statements that has all that the rows ask of All
+  -- a set for each list of statements that contains everything that the rows require of All
   pub record SolvesAll (has : Codes → subject.Item → Bool) : Type 0 where
     pub own : (l : ℕ) (s : Code) (rest : Codes) (x : subject.Item)
         → Member x (subject.own l s) → has (Then l s rest) x ≡ true
@@ -47,7 +47,7 @@ module _ (p : Program) (subject : Subject) where
     pub finish : (l : ℕ) (b rest : Codes) (x : subject.Item)
         → has b x ≡ true → has (Then l (Finish b) rest) x ≡ true
 
-  -- and one that has all that they ask of Pending
+  -- a set that contains everything that the rows require of Pending
   pub record SolvesPending (has : Codes → subject.Item → Bool) : Type 0 where
     pub later : (l : ℕ) (s : Code) (rest : Codes) (x : subject.Item)
         → has rest x ≡ true → has (Then l s rest) x ≡ true
@@ -56,7 +56,7 @@ module _ (p : Program) (subject : Subject) where
     pub async : (l : ℕ) (b rest : Codes) (x : subject.Item)
         → All p subject b x → has (Then l (Async b) rest) x ≡ true
 
-  -- All and Pending meet the rows, and every set that does has them
+  -- All and Pending satisfy the rows, and every set that satisfies them contains All and Pending
   pub record IsLeastSolution : Type 0 where
     pub all_of_statement : (l : ℕ) (s : Code) (x : subject.Item)
         → AllOf p subject l s x ↔ (Member x (subject.own l s) ⊎ AllInside s x)

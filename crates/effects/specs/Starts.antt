@@ -1,4 +1,4 @@
--- What the statements of a body do by themselves, as labels of rows.
+-- What the statements of a body do without their calls, as labels of rows.
 use Rattle.std.specs.Prelude.{ℕ, List, [], ◌∷◌, ◌++◌, flat_map}
 use Rattle.effects.specs.Accesses.{Access, own_accesses}
 use Rattle.effects.specs.Visits.{Visit}
@@ -7,7 +7,7 @@ use Rattle.effects.specs.declared.summary.Row.TheVariants.{All, Pending, Labels,
 use Rattle.effects.specs.declared.visits.Standing.{Standing}
 use Rattle.effects.specs.declared.visits.Standing.TheVariants.{Begun}
 
--- what stands among all, and where a begun task does it, among what is pending
+-- a row of everything that is done and, if a spawned task does it, a row of what is pending
 abbrev pub starts_at : Standing → (all pending : Start) → List Start
 starts_at Begun all pending = all ∷ pending ∷ []
 starts_at w all pending = all ∷ []
@@ -18,11 +18,11 @@ starts_of_label w l =
     starts_at w (record { row = Labels; label = l }) (record { row = PendingLabels; label = l })
 
 module _ (root : ℕ → ℕ) where
-  -- an access among all
+  -- an access in the row of everything that is done
   abbrev pub among_all : Access → Start
   among_all x = record { row = All (record { number = root x.section }) x.write; label = x.label }
 
-  -- and among what is pending
+  -- an access in the row of what is pending
   abbrev pub among_pending : Access → Start
   among_pending x =
       record { row = Pending (record { number = root x.section }) x.write; label = x.label }
@@ -31,7 +31,7 @@ module _ (root : ℕ → ℕ) where
   abbrev pub starts_of_access : Standing → Access → List Start
   starts_of_access w x = starts_at w (among_all x) (among_pending x)
 
-  -- what a statement does by itself
+  -- what a statement does without its call
   abbrev pub starts_of : Visit → List Start
   starts_of v = starts_of_label v.standing v.label
       ++ flat_map (starts_of_access v.standing) (own_accesses v.label v.code)

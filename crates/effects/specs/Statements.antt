@@ -3,7 +3,7 @@ use Rattle.std.specs.Prelude.{ℕ}
 use Rattle.types.specs.Code.{Number, Truth, Code, If, While, Split, Async, Finish, Codes, Then, Program}
 use Rattle.types.specs.Run.{procedure_of}
 
--- the blocks that stand inside a statement; what a call runs stands in its procedure
+-- the blocks inside a statement; what a call runs is in its procedure
 pub data Block : Code → Codes → Type 0 where
   if_body : {t : Truth} {b c : Codes} → Block (If t b c) b
   if_other : {t : Truth} {b c : Codes} → Block (If t b c) c
@@ -12,7 +12,7 @@ pub data Block : Code → Codes → Type 0 where
   async : {b : Codes} → Block (Async b) b
   finish : {b : Codes} → Block (Finish b) b
 
--- a statement with this label stands in a list, or inside a statement of the list
+-- a statement with this label is in a list, or inside a statement of the list
 pub data Stands : Codes → (label : ℕ) → Code → Type 0 where
   here : {l : ℕ} {s : Code} {rest : Codes} → Stands (Then l s rest) l s
   inside : {l m : ℕ} {s t : Code} {b rest : Codes} → Block s b → Stands b m t
@@ -24,6 +24,6 @@ pub data HasStatement (p : Program) (label : ℕ) (s : Code) : Type 0 where
   in_procedure : (f : ℕ) → Stands (procedure_of p f).body label s → HasStatement p label s
   in_main : Stands p.main.body label s → HasStatement p label s
 
--- the statements of a list are of the program
+-- the statements of a list belong to the program
 abbrev pub IsPartOf : Program → Codes → Type 0
 IsPartOf p b = (l : ℕ) (s : Code) → Stands b l s → HasStatement p l s

@@ -10,15 +10,15 @@ use Rattle.effects.specs.AsyncNeeds.{IsNeedAt, needs_at}
 use Rattle.effects.specs.declared.summary.Summary.{Summary}
 use Rattle.effects.specs.declared.summaries.Summaries.{Summaries}
 
--- the procedures' summaries in the order of the text, and that of `main` behind them
+-- the procedures' summaries in the order of the text, and after them that of `main`
 abbrev pub summaries_of : Summaries → List Summary
 summaries_of s = s.procedures.items
 
--- the body of the procedure of a number, where `main` is numbered behind the others
+-- the body of the procedure with this number; `main` is numbered after the others
 abbrev pub body_of : Program → ℕ → Codes
 body_of p f = if nat_eq f (length p.procedures) then p.main.body else (procedure_of p f).body
 
--- the summary has what these statements may do and leave pending, and nothing else
+-- the summary contains what these statements may do and leave pending, and nothing else
 pub record IsSummary (p : Program) (b : Codes) (s : Summary) : Type 0 where
   pub all : (x : Access) → HasAccess s.all x ↔ All p accesses b x
   pub pending : (x : Access) → HasAccess s.pending x ↔ Pending p accesses b x
@@ -30,7 +30,7 @@ pub record AreOfProcedures (p : Program) (table : List Summary) : Type 0 where
   pub number : length table ≡ length p.procedures + 1
   pub each : (f : ℕ) (x : Summary) → slice_get table f ≡ Some x → IsSummary p (body_of p f) x
 
--- there is a summary of each procedure, and what each async needs is there
+-- there is a summary for each procedure, and the needs of each async
 pub record AreSummaries (p : Program) (s : Summaries) : Type 0 where
   pub procedures : AreOfProcedures p (summaries_of s)
   pub asyncs : (l : ℕ) → IsNeedAt p l (needs_at s.asyncs l)

@@ -1,4 +1,5 @@
--- The rows of a summary: one set of labels for each kind of access, and those of statements.
+-- The rows of a summary: one set of labels for each kind of access to a section, and the sets of
+-- statement labels.
 use Rattle.std.specs.Prelude.{ℕ}
 use Rattle.effects.specs.LabelSets.{HasLabel}
 use Rattle.effects.specs.AccessSets.{HasAccess}

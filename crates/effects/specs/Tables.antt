@@ -1,4 +1,4 @@
--- All and Pending as lists, over tables of what each procedure's body has.
+-- All and Pending as lists, over tables of what each procedure's body contains.
 use Rattle.std.specs.Prelude.{ℕ, zero, suc, List, [], ◌++◌, map, ◌↔◌}
 use Rattle.sections.specs.Member.{Member}
 use Rattle.types.specs.Code.{Code, Do, If, While, Split, Call, Async, Finish, Codes, End, Then, Program}
@@ -6,7 +6,7 @@ use Rattle.types.specs.Run.{procedure_of}
 use Rattle.types.specs.Sound.{passed_for}
 use Rattle.effects.specs.Effects.{past_split, Subject, All, Pending}
 
--- what is listed of each procedure
+-- what is listed for each procedure
 abbrev pub Table : Subject → Type 0
 Table subject = ℕ → List subject.Item
 
@@ -48,25 +48,25 @@ module _ (subject : Subject) (alls pendings : Table subject) where
     left_in End = []
     left_in (Then l s rest) = left_by s ++ left_in rest
 
--- the tables from nothing on: each goes one call deeper
+-- the tables of rounds that start from the empty table; each round follows calls one level deeper
 module _ (p : Program) (subject : Subject) where
-  -- after so many rounds, All as far as so many calls within one another go
+  -- All after this number of rounds: up to this number of nested calls
   abbrev pub alls_after : ℕ → Table subject
   alls_after zero f = []
   alls_after (suc k) f = all_in subject (alls_after k) (procedure_of p f).body
 
-  -- and Pending
+  -- Pending after this number of rounds
   abbrev pub pendings_after : Table subject → ℕ → Table subject
   pendings_after alls zero f = []
   pendings_after alls (suc k) f =
       left_in subject alls (pendings_after alls k) (procedure_of p f).body
 
-  -- what the table lists is derived
+  -- everything that the table lists is derived
   abbrev pub IsDerived : Table subject → Type 0
   IsDerived table = (f : ℕ) (x : subject.Item) → Member x (table f)
       → All p subject (procedure_of p f).body x
 
-  -- so it is of Pending
+  -- everything that the table lists for Pending is derived
   abbrev pub IsDerivedPending : Table subject → Type 0
   IsDerivedPending table = (f : ℕ) (x : subject.Item) → Member x (table f)
       → Pending p subject (procedure_of p f).body x
@@ -76,13 +76,13 @@ module _ (p : Program) (subject : Subject) where
   IsStable table = (f : ℕ) (x : subject.Item)
       → Member x (all_in subject table (procedure_of p f).body) → Member x (table f)
 
-  -- so it is of Pending
+  -- one more round adds nothing to the table of Pending
   abbrev pub IsStablePending : (alls pendings : Table subject) → Type 0
   IsStablePending alls pendings = (f : ℕ) (x : subject.Item)
       → Member x (left_in subject alls pendings (procedure_of p f).body) → Member x (pendings f)
 
-  -- tables that list only what is derived, and to which one more round adds nothing, list all of it; and
-  -- rounds from nothing on list only what is derived
+  -- tables that list only what is derived, and to which one more round adds nothing, list all of
+  -- it; rounds that start from the empty table list only what is derived
   pub record StableIsLeast : Type 0 where
     pub alls : (table : Table subject) → IsDerived table → IsStable table
         → (b : Codes) (x : subject.Item) → Member x (all_in subject table b) ↔ All p subject b x

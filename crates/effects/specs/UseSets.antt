@@ -4,7 +4,7 @@ use Rattle.effects.specs.LabelSets.{HasLabel}
 use Rattle.effects.specs.declared.label_set.LabelSet.{LabelSet}
 use Rattle.effects.specs.declared.uses.Uses.{Uses}
 
--- there is a set, and it has the label
+-- the set exists, and it has the label
 abbrev pub HasIn : Option LabelSet → (label : ℕ) → Type 0
 HasIn None l = ⊥
 HasIn (Some labels) l = HasLabel labels l

@@ -1,4 +1,4 @@
--- The statements of a body, at any depth, and where each stands.
+-- The statements of a body, at any depth, each with its position relative to asyncs and finishes.
 use Rattle.std.specs.Prelude.{ℕ, List, [], ◌∷◌, ◌++◌}
 use Rattle.types.specs.Code.{Code, Do, If, While, Split, Call, Async, Finish, Codes, End, Then}
 use Rattle.types.specs.Translation.{code}
@@ -6,7 +6,7 @@ use Rattle.effects.specs.declared.visits.Standing.{Standing}
 use Rattle.effects.specs.declared.visits.Standing.TheVariants.{Open, Begun, Awaited}
 use Rattle.effects.specs.declared.visits.Visit.{Visit as rVisit}
 
--- a statement, where it stands
+-- a statement and its position
 pub record Visit : Type 0 where
   pub standing : Standing
   pub label : ℕ
@@ -19,16 +19,17 @@ visit v = record {
   code = code v.statement.now.kind;
 }
 
--- where the inside of a statement stands: around it, unless it is the first that isn't open
+-- the position inside a statement: `inside` if the position around it is open, else the position
+-- around it
 abbrev pub closed_by : (inside : Standing) → (around : Standing) → Standing
 closed_by inside Open = inside
 closed_by inside around = around
 
--- where the body of an async stands
+-- the position of the body of an async
 abbrev pub in_async : Standing → Standing
 in_async = closed_by Begun
 
--- and that of a finish, which waits for what isn't pending anyway
+-- the position of the body of a finish; inside an async or a finish it stays the same
 abbrev pub in_finish : Standing → Standing
 in_finish = closed_by Awaited
 
@@ -43,7 +44,7 @@ abbrev mutual
   visits_inside w (Async b) = visits_in (in_async w) b
   visits_inside w (Finish b) = visits_in (in_finish w) b
 
-  -- and those of a list of statements
+  -- the statements of a list of statements
   pub visits_in : Standing → Codes → List Visit
   visits_in w End = []
   visits_in w (Then l s rest) =

@@ -3,7 +3,7 @@
 use sections::id::SectionId;
 use types::code::Label;
 
-/// The statement with this label may read elements of a section, or write them.
+/// An access: the statement with this label may read or write elements of this section.
 #[derive(Clone, Copy, PartialEq, Eq, Debug)]
 pub struct Access {
     pub label: Label,

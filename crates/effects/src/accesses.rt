@@ -22,7 +22,7 @@ pub struct Accesses {
 }
 
 impl Accesses {
-    /// No access yet. It takes no memory.
+    /// Returns an empty set. It allocates no memory.
     pub fn new(alloc: Global) -> Accesses
         ensures { (x : PlainAccess) → HasAccess result x → ⊥ }
     {
@@ -32,7 +32,7 @@ impl Accesses {
         }
     }
 
-    /// Whether it has an access.
+    /// Returns whether the set contains an access.
     pub fn has(&self, access: Access) -> bool
         ensures { IsTrue result ↔ HasAccess self.now (access_of access) }
     {
@@ -43,7 +43,7 @@ impl Accesses {
         }
     }
 
-    /// The least label of the accesses of this kind to a section.
+    /// Returns the smallest label of the accesses of this kind to a section.
     pub fn first(&self, section: SectionId, write: bool) -> Option<Label>
         ensures { IsFirst (HasAccess self.now) section.number write result }
     {
@@ -54,7 +54,7 @@ impl Accesses {
         }
     }
 
-    /// The statement with this label writes a section, or reads it.
+    /// Adds one access: the statement with this label writes, or reads, the section.
     pub fn insert(
         &mut self,
         alloc: Global,
@@ -72,7 +72,8 @@ impl Accesses {
         }
     }
 
-    /// Statements with these labels write a section, or read it. False if that was known of all.
+    /// Adds an access for each of these labels: the statements write, or read, the section. Returns
+    /// false if no access was new.
     pub fn unite(
         &mut self,
         alloc: Global,
@@ -97,7 +98,7 @@ impl Accesses {
         }
     }
 
-    /// The labels of the statements that write a section, or of those that read it.
+    /// Returns the labels of the statements that write a section, or of those that read it.
     pub fn copied(
         &self,
         alloc: Global,
@@ -114,7 +115,7 @@ impl Accesses {
         }
     }
 
-    /// An end of the sections that are accessed.
+    /// Returns an upper bound: each accessed section has a smaller number.
     pub fn end(&self) -> usize
         ensures { (x : PlainAccess) → HasAccess self.now x → x.section < result }
     {

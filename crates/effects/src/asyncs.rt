@@ -17,7 +17,7 @@ use std::alloc::{AllocError, Global};
 use std::collections::BTreeMap;
 use types::code::{Label, Program, Stmt, StmtKind};
 
-/// What the body of each async needs, by the async's label.
+/// Returns what the body of each async needs, by the async's label.
 pub fn needs_of_asyncs(
     alloc: Global,
     code: &Program,
@@ -36,7 +36,7 @@ pub fn needs_of_asyncs(
     Ok(kept)
 }
 
-/// Keeps what the asyncs in a block need.
+/// Adds the needs of the asyncs in a block.
 fn keep_block(
     alloc: Global,
     code: &Program,
@@ -58,7 +58,7 @@ fn keep_block(
     Ok(())
 }
 
-/// Keeps what a statement's body needs, where it is an async.
+/// Adds the needs of a statement's body if the statement is an async.
 fn keep(
     alloc: Global,
     code: &Program,

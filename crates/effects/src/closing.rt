@@ -1,4 +1,4 @@
-//! Rows that have what calls bring, and nothing else.
+//! Rows that contain what calls bring, and only that.
 
 ghost use Rattle.std.specs.Prelude.{◌≡◌, ◌↔◌, ◌⊎◌, ℕ, OnOk, IfOk, false, true, length};
 ghost use Rattle.effects.specs.Closing.{HasIn, Reached, Brings, BringsNew, IsClosed};
@@ -9,8 +9,8 @@ use crate::flows::Flow;
 use crate::summary::Summary;
 use std::alloc::{AllocError, Global};
 
-/// Brings labels along the flows, until none is new. Each round but the last puts a label in, and a
-/// row has less than 2^32 of them.
+/// Propagates labels along the flows until no label is new. Each round except the last adds a
+/// label, and a row has fewer than 2^32 labels.
 pub fn close(alloc: Global, flows: &[Flow], table: &mut Vec<Summary>) -> Result<(), AllocError>
     ensures exact { OnOk result ((f : ℕ) (r : TheRow) (l : ℕ)
         → HasIn table.new.items f r l ↔ Reached flows.now table.old.items f r l) }
@@ -23,7 +23,7 @@ pub fn close(alloc: Global, flows: &[Flow], table: &mut Vec<Summary>) -> Result<
     }
 }
 
-/// Brings labels along each flow once. False if none was new.
+/// Propagates labels along each flow once. Returns false if no label was new.
 fn round(alloc: Global, flows: &[Flow], table: &mut Vec<Summary>) -> Result<bool, AllocError>
     ensures number { OnOk result (length table.new.items ≡ length table.old.items) }
     ensures more { OnOk result ((f : ℕ) (r : TheRow) (l : ℕ)
@@ -43,7 +43,7 @@ fn round(alloc: Global, flows: &[Flow], table: &mut Vec<Summary>) -> Result<bool
     Ok(grown)
 }
 
-/// Brings labels along a flow. False if none was new.
+/// Propagates labels along one flow. Returns false if no label was new.
 fn bring(alloc: Global, flow: Flow, table: &mut Vec<Summary>) -> Result<bool, AllocError>
     ensures number { OnOk result (length table.new.items ≡ length table.old.items) }
     ensures both { OnOk result ((f : ℕ) (r : TheRow) (l : ℕ) → HasIn table.new.items f r l

@@ -84,7 +84,7 @@ fn add_inside(
     }
 }
 
-/// Adds what a procedure may do, in the names around a call of it with these sections.
+/// Adds what a procedure may do, in the names around a call of it that passes these sections.
 fn add_call(
     alloc: Global,
     code: &Program,

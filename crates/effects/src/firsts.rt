@@ -13,16 +13,16 @@ use crate::accesses::Accesses;
 use sections::id::SectionId;
 use std::alloc::{AllocError, Global};
 
-/// What is done to each section: of the accesses to it that are alike, the one with the least label.
-/// Which of them clash, and where a clash is told first, depends on these alone.
+/// What is done to each section: among the accesses to it of one kind, the access with the smallest
+/// label. Only these accesses decide which accesses clash, and which clash is reported first.
 #[derive(Drop)]
 pub struct Firsts {
-    /// At most one item a section and kind.
+    /// At most one item for each section and kind.
     items: Vec<Access>,
 }
 
 impl Firsts {
-    /// Nothing is done. It takes no memory.
+    /// Returns an empty list. It allocates no memory.
     pub fn new(alloc: Global) -> Firsts
         ensures { kept_in result ≡ [] }
     {
@@ -31,14 +31,14 @@ impl Firsts {
         }
     }
 
-    /// What is kept.
+    /// Returns the accesses that are kept.
     pub fn items(&self) -> &[Access]
         ensures { result.now ≡ self.now.items.items }
     {
         &self.items
     }
 
-    /// One access more.
+    /// Adds one access.
     pub fn add(&mut self, access: Access) -> Result<(), AllocError>
         ensures { OnOk result (AreFirstsIn (access_of access ∷ kept_in self.old)
             (kept_in self.new)) }
@@ -53,7 +53,7 @@ impl Firsts {
         Ok(())
     }
 
-    /// Where an access to the same section, of the same kind, is kept.
+    /// Returns the index of the access to the same section and of the same kind, if there is one.
     fn place_of(&self, access: Access) -> Option<usize>
         ensures { IfSome result (IsAlikeAt self.now.items.items access) }
     {
@@ -65,7 +65,7 @@ impl Firsts {
         None
     }
 
-    /// More accesses.
+    /// Adds several accesses.
     pub fn add_all(&mut self, others: &[Access]) -> Result<(), AllocError>
         ensures { OnOk result (AreFirstsIn (map access_of others.now ++ kept_in self.old)
             (kept_in self.new)) }
@@ -76,7 +76,7 @@ impl Firsts {
         Ok(())
     }
 
-    /// The same in the names around a split.
+    /// Returns these accesses in the names around a split.
     pub fn past_split(
         &self,
         alloc: Global,
@@ -95,7 +95,8 @@ impl Firsts {
         Ok(outside)
     }
 
-    /// What a procedure may do to its parameters, in the names around a call with these sections.
+    /// Returns what a procedure may do to its parameters, in the names around a call that passes
+    /// these sections.
     pub fn past_call(
         alloc: Global,
         accesses: &Accesses,
@@ -113,7 +114,8 @@ impl Firsts {
         Ok(outside)
     }
 
-    /// The first access of a kind to a parameter more, as one to the section that is passed.
+    /// Adds the first access of one kind to a parameter, as an access to the section that is
+    /// passed.
     fn add_passed(
         &mut self,
         accesses: &Accesses,
@@ -135,7 +137,7 @@ impl Firsts {
         }
     }
 
-    /// The same once more.
+    /// Returns a copy.
     pub fn copy(&self, alloc: Global) -> Result<Firsts, AllocError>
         ensures { IfOk result (λ copy. kept_in copy ≡ kept_in self.now) }
     {
@@ -145,7 +147,7 @@ impl Firsts {
     }
 }
 
-/// An access in the names around a split.
+/// Returns an access in the names around a split.
 pub fn around(access: Access, section: SectionId, left: SectionId, right: SectionId) -> Access
     ensures { access_of result
         ≡ renamed (past_split section.number left.number right.number) (access_of access) }

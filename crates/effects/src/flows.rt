@@ -1,4 +1,4 @@
-//! What calls bring from their procedures into rows.
+//! What calls bring from the rows of the called procedures into rows of the callers.
 
 ghost use Rattle.std.specs.Prelude.{◌≡◌, ◌++◌, [], ◌∷◌, OnOk, map};
 ghost use Rattle.sections.specs.Translation.{section as section_of};
@@ -15,7 +15,8 @@ use std::alloc::AllocError;
 use types::code::StmtKind;
 use types::ids::ProcedureId;
 
-/// The labels of a row of one procedure are in a row of another one, which calls it.
+/// A flow: the labels in a row of one procedure are also in a row of another procedure, which calls
+/// it.
 #[derive(Clone, Copy)]
 pub struct Flow {
     pub callee: ProcedureId,
@@ -24,8 +25,8 @@ pub struct Flow {
     pub to: Row,
 }
 
-/// Adds what a statement's call brings, if it is one. `main` is numbered behind the procedures, and
-/// is never called.
+/// Adds what a statement's call brings, if the statement is a call. `main` is numbered after the
+/// procedures, and is never called.
 pub fn flow_visit(
     caller: ProcedureId,
     procedures: usize,
@@ -59,7 +60,7 @@ pub fn flow_visit(
     }
 }
 
-/// A call, and where it stands.
+/// A call and its position in the body.
 #[derive(Clone, Copy)]
 struct Call {
     caller: ProcedureId,
@@ -68,7 +69,7 @@ struct Call {
 }
 
 impl Call {
-    /// Adds all that the call brings.
+    /// Adds everything that the call brings.
     fn flow_all(
         self,
         procedures: usize,
@@ -88,7 +89,7 @@ impl Call {
         Ok(())
     }
 
-    /// From a row of the callee to one of the caller.
+    /// Adds a flow from a row of the callee to a row of the caller.
     fn flow(self, from: Row, to: Row, into: &mut Vec<Flow>) -> Result<(), AllocError>
         ensures { OnOk result (into.new.items ≡ into.old.items
             ++ record { callee = self.callee; from = from; caller = self.caller; to = to } ∷ []) }
@@ -102,7 +103,7 @@ impl Call {
         Ok(())
     }
 
-    /// Adds those of the labels of statements.
+    /// Adds the flows of statement labels.
     fn flow_labels(self, into: &mut Vec<Flow>) -> Result<(), AllocError>
         ensures { OnOk result (into.new.items ≡ into.old.items
             ++ flows_of_labels self.caller self.standing self.callee) }
@@ -115,7 +116,7 @@ impl Call {
         }
     }
 
-    /// Adds those of the parameters, for which these sections are passed.
+    /// Adds the flows of the parameters, for which these sections are passed.
     fn flow_sections(
         self,
         roots: &Roots,
@@ -135,7 +136,7 @@ impl Call {
         Ok(())
     }
 
-    /// Adds those of the accesses of one kind to a parameter.
+    /// Adds the flows of the accesses of one kind to a parameter.
     fn flow_use(
         self,
         parameter: SectionId,

@@ -8,7 +8,8 @@ ghost use Rattle.effects.specs.Least.{IsLeast};
 use std::alloc::{AllocError, Global};
 use types::code::Label;
 
-/// A set of labels, a bit for each label from 0 to the largest that was put in, and some more.
+/// A set of labels: one bit for each label from 0 to the largest label in the set, and some more
+/// bits.
 #[derive(Drop)]
 pub struct LabelSet {
     words: Vec<u64>,
@@ -18,7 +19,7 @@ pub struct LabelSet {
 impl LabelSet {
     ghost use Rattle.effects.specs.LabelSets.{HasLabel, HasNew, HasNewBit, words_of};
 
-    /// No label yet. It takes no memory.
+    /// Returns an empty set. It allocates no memory.
     pub fn new(alloc: Global) -> LabelSet
         ensures { (l : ℕ) → HasLabel result l → ⊥ }
     {
@@ -27,7 +28,7 @@ impl LabelSet {
         }
     }
 
-    /// Whether it has a label.
+    /// Returns whether the set contains a label.
     pub fn has(&self, label: Label) -> bool
         ensures { IsTrue result ↔ HasLabel self.now label }
     {
@@ -37,7 +38,7 @@ impl LabelSet {
         }
     }
 
-    /// Its least label.
+    /// Returns the smallest label.
     pub fn least(&self) -> Option<Label>
         ensures { IsLeast (HasLabel self.now) result }
     {
@@ -49,7 +50,7 @@ impl LabelSet {
         None
     }
 
-    /// An end of its labels.
+    /// Returns an upper bound: each label of the set is smaller.
     pub fn end(&self) -> usize
         ensures behind { (l : ℕ) → HasLabel self.now l → l < result }
         ensures within { result ≤ 2 ^ 32 }
@@ -57,7 +58,7 @@ impl LabelSet {
         self.words.len() * 64
     }
 
-    /// Puts a label in.
+    /// Adds a label.
     pub fn insert(&mut self, label: Label) -> Result<(), AllocError>
         ensures { OnOk result ((l : ℕ)
             → HasLabel self.new l ↔ (HasLabel self.old l ⊎ (l ≡ label))) }
@@ -68,7 +69,7 @@ impl LabelSet {
         Ok(())
     }
 
-    /// Puts the labels of another set in. False if all of them were there.
+    /// Adds the labels of another set. Returns false if all of them were already in this set.
     pub fn unite(&mut self, other: &LabelSet) -> Result<bool, AllocError>
         ensures both { OnOk result ((l : ℕ)
             → HasLabel self.new l ↔ (HasLabel self.old l ⊎ HasLabel other.now l)) }
@@ -85,7 +86,7 @@ impl LabelSet {
         Ok(grown)
     }
 
-    /// The same labels.
+    /// Returns a copy.
     pub fn copied(&self, alloc: Global) -> Result<LabelSet, AllocError>
         ensures { IfOk result (λ s. (l : ℕ) → HasLabel s l ↔ HasLabel self.now l) }
     {
@@ -93,7 +94,7 @@ impl LabelSet {
         Ok(LabelSet { words })
     }
 
-    /// Makes room for so many words. The labels are the same.
+    /// Makes room for this number of words. The set keeps its labels.
     fn reserve(&mut self, count: usize) -> Result<(), AllocError>
         requires { count ≤ 67108864 }
         ensures same { OnOk result (words_of self.new ≡ words_of self.old) }
@@ -106,7 +107,7 @@ impl LabelSet {
         Ok(())
     }
 
-    /// Puts the labels of a word in. Whether one of them is new.
+    /// Adds the labels of a word. Returns whether one of them is new.
     fn unite_word(&mut self, k: usize, word: u64) -> bool
         requires { k < vec_len self.old.words }
         ensures word { words_of self.new ≡ bind k (bit_or (words_of self.old k) word) (words_of self.old) }

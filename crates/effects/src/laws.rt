@@ -1,4 +1,4 @@
-//! Laws of the definitions, each the contract of a function that does nothing.
+//! Theorems about the definitions, each the contract of a function with an empty body.
 
 ghost use Rattle.std.specs.Prelude.{◌≡◌, ◌⊎◌, ◌↔◌, ℕ, ℤ, List, [], ◌∷◌, map, length, Some};
 ghost use Rattle.sections.specs.Place.{Place, Window, sides_of};
@@ -27,8 +27,8 @@ ghost use Rattle.effects.specs.Kept.{SameWindows, KeepsWindows, WorkFollows};
 
 use types::typed::Typed;
 
-/// All and Pending are solutions of the table's rows, and the least of them: of accesses, and of
-/// labels.
+/// All and Pending satisfy the rows of the table, and are the least sets that do, both for accesses
+/// and for labels.
 pub fn effects_are_the_least_solution()
     ensures accesses { (p : Program) → IsLeastSolution p accesses }
     ensures labels { (p : Program) → IsLeastSolution p labels }
@@ -43,13 +43,13 @@ pub fn pending_is_among_all()
 {}
 
 /// Tables that list only what is derived, and to which one more round adds nothing, are the least
-/// solution; and rounds from nothing on list only what is derived.
+/// solution. Rounds that start from empty tables list only what is derived.
 pub fn stable_tables_are_least()
     ensures accesses { (p : Program) → StableIsLeast p accesses }
     ensures labels { (p : Program) → StableIsLeast p labels }
 {}
 
-/// The rounds of a sound program come to stable tables, so that what its procedures may do, leave
+/// The rounds of a sound program lead to stable tables. So what its procedures may do, leave
 /// pending and need is computed.
 pub fn sound_programs_have_summaries()
     ensures possible { (p : Program) → IsSound p → (f : ℕ) (x : Access)
@@ -68,15 +68,15 @@ pub fn stable_tables_provide_needs()
         → IsDerived p accesses table → IsStable p accesses table → Provides p (needs_in table) }
 {}
 
-/// Where the type rules hold, all that a procedure may do is in the scope of its parameters, and
-/// it writes only what it may write.
+/// If the type rules are satisfied, a procedure accesses only the scope of its parameters, and
+/// writes only what it may write.
 pub fn accesses_are_in_scope()
     ensures { (p : Program) → IsSound p → (g : Procedure) → IsSoundIn p g → (x : Access)
         → All p accesses g.body x → Allowed g (parameters_of g) x }
 {}
 
-/// A value depends only on places that reads of its sections may touch, and a statement of one step
-/// writes no place but those that its own accesses may write.
+/// A value depends only on places that reads of its sections may touch. A statement of one step
+/// writes only places that its own accesses may write.
 pub fn steps_keep_to_their_own_accesses<X>()
     ensures number { (env : Environment) (l : ℕ) (read other : Place → ℤ) (e : Number)
         → ((q : Place) → Touches env (λ x. Member x (reads l (indexed e))) q → read q ≡ other q)
@@ -90,8 +90,8 @@ pub fn steps_keep_to_their_own_accesses<X>()
         → (primitive p l s st).store q ≡ st.store q }
 {}
 
-/// The environment of `main` fits at its start, and it stays so: in the block of a split, behind
-/// it, and in the body of a call. Only the windows in scope matter.
+/// The environment of `main` fits at its start. An environment continues to fit in the block of a
+/// split, after the split, and in the body of a call. Only the windows in scope matter.
 pub fn environments_fit()
     ensures start { (p : Program) → IsSoundIn p p.main → HasArrays p
         → Fits p p.main (parameters_of p.main) (entry [] (whole_arrays 0 p.arrays)) }
@@ -113,8 +113,8 @@ pub fn environments_fit()
         → Fits p g scope other }
 {}
 
-/// A run of work whose names follow the rules leaves the windows in scope as they are, under any
-/// rules that leave windows alone, such as those of one thread.
+/// A run of work whose names follow the rules leaves the windows in scope unchanged, under any
+/// rules that leave windows unchanged, such as those of one thread.
 pub fn runs_keep_windows<X>()
     ensures run { (p : Program) (r : Rules X) → KeepsWindows r
         → (g : Procedure) (w : Work) (scope : List ℕ) → WorkFollows p g scope w
@@ -126,8 +126,9 @@ pub fn runs_keep_windows<X>()
     ensures one_thread { (p : Program) (fresh nest : ℕ) → KeepsWindows (one_rules p fresh nest) }
 {}
 
-/// Beside the reads in its own arguments, a call may touch and write what the body may in the
-/// environment in which it begins, place for place; and what it leaves pending is what that does.
+/// Apart from the reads in its arguments, a call may touch and write exactly the places that the
+/// body may touch and write in the environment in which it starts. The call leaves pending what the
+/// body leaves pending.
 pub fn calls_keep_footprints()
     ensures touched { (p : Program) → IsSound p
         → (env : Environment) (l f : ℕ) (es : List Number) (ss : List ℕ) (values : List ℤ)
@@ -152,7 +153,8 @@ pub fn calls_keep_footprints()
         ↔ MayStillWrite p (entry values (map env.windows ss)) (procedure_of p f).body q }
 {}
 
-/// What the block of a split may do in its environment, the split may do in the one around it.
+/// What the block of a split may do in its environment, the split may do in the environment around
+/// it.
 pub fn splits_keep_footprints()
     ensures touched { (p : Program) (env : Environment) (label s l r : ℕ) (e : Number) (b : Codes)
         → (v : ℤ) (ws : Window × Window) → sides_of (env.windows s) v ≡ Some ws → (q : Place)

@@ -9,17 +9,17 @@ use crate::access::Access;
 use sections::id::SectionId;
 use std::alloc::{AllocError, Global};
 
-/// What a body may do to the sections in scope where it stands. Both lists ascend.
+/// What a body may do to the sections in scope at its async. Both lists are in ascending order.
 #[derive(Drop)]
 pub struct Needs {
-    /// Those that it may write.
+    /// The sections that the body may write.
     pub writes: Vec<SectionId>,
-    /// Those that it may only read.
+    /// The sections that the body may only read.
     pub reads: Vec<SectionId>,
 }
 
 impl Needs {
-    /// The needs of a body that makes these accesses.
+    /// Returns the needs of a body that makes these accesses.
     pub fn of(alloc: Global, accesses: &[Access]) -> Result<Needs, AllocError>
         ensures { IfOk result (λ n. needs_in n ≡ needs_by (map access_of accesses.now)) }
     {
@@ -29,7 +29,7 @@ impl Needs {
     }
 }
 
-/// The sections that accesses write.
+/// Returns the sections that accesses write.
 fn written(alloc: Global, accesses: &[Access]) -> Result<Vec<SectionId>, AllocError>
     ensures { IfOk result (λ found. map section_of found.items
         ≡ written_by (map access_of accesses.now)) }
@@ -44,7 +44,7 @@ fn written(alloc: Global, accesses: &[Access]) -> Result<Vec<SectionId>, AllocEr
     Ok(found)
 }
 
-/// The sections of accesses that are not among those that are written.
+/// Returns the sections of accesses that are not among the written ones.
 fn only_read(
     alloc: Global,
     writes: &[SectionId],
@@ -63,7 +63,7 @@ fn only_read(
     Ok(found)
 }
 
-/// Whether a section is among these.
+/// Returns whether a section is in a list.
 fn among(sections: &[SectionId], section: SectionId) -> bool
     ensures { result ≡ is_among (map section_of sections.now) section.number }
 {
@@ -75,7 +75,7 @@ fn among(sections: &[SectionId], section: SectionId) -> bool
     false
 }
 
-/// Puts a section into a list that ascends, if it isn't there.
+/// Inserts a section into an ascending list, unless it is already there.
 fn add(section: SectionId, into: &mut Vec<SectionId>) -> Result<(), AllocError>
     ensures { OnOk result (map section_of into.new.items
         ≡ also section.number (map section_of into.old.items)) }
@@ -94,7 +94,7 @@ fn add(section: SectionId, into: &mut Vec<SectionId>) -> Result<(), AllocError>
     }
 }
 
-/// How many sections in front are numbered below another.
+/// Returns the number of leading sections that are numbered below another.
 fn place_of(sections: &[SectionId], section: SectionId) -> usize
     ensures within { result ≤ length sections.now }
     ensures below { (k : ℕ) → k < result

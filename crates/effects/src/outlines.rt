@@ -1,4 +1,4 @@
-//! What each procedure does by itself, and what its calls bring.
+//! What each procedure does without its calls, and what its calls bring.
 
 ghost use Rattle.std.specs.Prelude.{◌≡◌, ◌↔◌, ◌++◌, ◌+◌, ℕ, OnOk, IfOk, map, flat_map, length};
 ghost use Rattle.sections.specs.Member.{Member};
@@ -21,7 +21,8 @@ use std::alloc::{AllocError, Global};
 use types::code::{Procedure, Program};
 use types::ids::ProcedureId;
 
-/// What each procedure does by itself, and `main` behind them, and what all calls bring.
+/// Returns what each procedure, and after them `main`, does without its calls, and what all calls
+/// bring.
 pub fn outlines(
     alloc: Global,
     code: &Program,
@@ -47,7 +48,7 @@ pub fn outlines(
     Ok(table)
 }
 
-/// What a procedure does by itself, and what its calls bring.
+/// Returns what one procedure does without its calls, and what its calls bring.
 fn outline(
     alloc: Global,
     procedures: usize,
@@ -85,7 +86,7 @@ fn flow_visits(
     Ok(())
 }
 
-/// What statements do by themselves.
+/// Returns what statements do without their calls.
 fn starts(alloc: Global, roots: &Roots, visits: &[Visit<'_>]) -> Result<Vec<Start>, AllocError>
     ensures { IfOk result (λ xs. xs.items
         ≡ flat_map (starts_of (root_in roots.now)) (map visit_of visits.entry.now)) }
@@ -97,7 +98,7 @@ fn starts(alloc: Global, roots: &Roots, visits: &[Visit<'_>]) -> Result<Vec<Star
     Ok(starts)
 }
 
-/// The rows with these labels.
+/// Returns a summary whose rows contain these labels.
 fn collected(alloc: Global, starts: &[Start]) -> Result<Summary, AllocError>
     ensures { IfOk result (λ x. (r : TheRow) (l : ℕ)
         → HasRow x r l ↔ Member (record { row = r; label = l }) starts.now) }

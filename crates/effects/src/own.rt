@@ -14,7 +14,7 @@ use sections::id::SectionId;
 use std::alloc::{AllocError, Global};
 use types::code::{Label, Link, Number, Primitive, StmtKind, Truth};
 
-/// A statement's own accesses: those of its own expressions, not of its blocks.
+/// Returns a statement's own accesses: those of its expressions, without those of its blocks.
 pub fn own_accesses(alloc: Global, label: Label, kind: &StmtKind) -> Result<Vec<Access>, AllocError>
     ensures { IfOk result (λ found. map access_of found.items ≡ own_by label (plain_code kind.now)) }
 {
@@ -29,7 +29,8 @@ pub fn own_accesses(alloc: Global, label: Label, kind: &StmtKind) -> Result<Vec<
     }
 }
 
-/// Those of a statement of one step: reads of what its expressions index, and a store's write.
+/// Returns the accesses of a statement of one step: a read of each section that its expressions
+/// index, and the write of a store.
 fn accesses_of(
     alloc: Global,
     label: Label,
@@ -63,7 +64,7 @@ fn accesses_of(
     }
 }
 
-/// The reads of an expression.
+/// Returns the reads of an expression.
 fn reads(alloc: Global, label: Label, number: &Number) -> Result<Vec<Access>, AllocError>
     ensures { IfOk result (λ found. map access_of found.items
         ≡ reads_of label (indexed (number_of number.now))) }
@@ -73,7 +74,7 @@ fn reads(alloc: Global, label: Label, number: &Number) -> Result<Vec<Access>, Al
     reads_each(alloc, label, &sections)
 }
 
-/// The reads of several expressions.
+/// Returns the reads of several expressions.
 fn all_reads(alloc: Global, label: Label, numbers: &[Number]) -> Result<Vec<Access>, AllocError>
     ensures { IfOk result (λ found. map access_of found.items
         ≡ reads_of label (flat_map indexed (map number_of numbers.now))) }
@@ -85,7 +86,7 @@ fn all_reads(alloc: Global, label: Label, numbers: &[Number]) -> Result<Vec<Acce
     reads_each(alloc, label, &sections)
 }
 
-/// The reads of a guard.
+/// Returns the reads of a condition.
 fn guard_reads(alloc: Global, label: Label, guard: &Truth) -> Result<Vec<Access>, AllocError>
     ensures { IfOk result (λ found. map access_of found.items
         ≡ reads_of label (indexed_truth (truth_of guard.now))) }
@@ -95,7 +96,7 @@ fn guard_reads(alloc: Global, label: Label, guard: &Truth) -> Result<Vec<Access>
     reads_each(alloc, label, &sections)
 }
 
-/// A read of each of these sections.
+/// Returns a read of each of these sections.
 fn reads_each(
     alloc: Global,
     label: Label,
@@ -109,7 +110,7 @@ fn reads_each(
     Ok(found)
 }
 
-/// A read more for each of these sections.
+/// Adds a read of each of these sections.
 fn add_reads(
     label: Label,
     sections: &[SectionId],
@@ -150,7 +151,7 @@ fn add_indexed(number: &Number, found: &mut Vec<SectionId>) -> Result<(), AllocE
     }
 }
 
-/// Adds those of the operands behind the first one of a chain.
+/// Adds the sections that the operands after the first one of a chain may read.
 #[cycle(indexed)]
 fn add_indexed_behind(rest: &[Link], found: &mut Vec<SectionId>) -> Result<(), AllocError>
     ensures { OnOk result (map section_of found.new.items
@@ -162,7 +163,7 @@ fn add_indexed_behind(rest: &[Link], found: &mut Vec<SectionId>) -> Result<(), A
     Ok(())
 }
 
-/// Adds the sections whose elements a guard may read.
+/// Adds the sections whose elements a condition may read.
 #[cycle(indexed_in)]
 fn add_indexed_in(truth: &Truth, found: &mut Vec<SectionId>) -> Result<(), AllocError>
     ensures { OnOk result (map section_of found.new.items
@@ -180,7 +181,7 @@ fn add_indexed_in(truth: &Truth, found: &mut Vec<SectionId>) -> Result<(), Alloc
     }
 }
 
-/// Adds those of several truth expressions.
+/// Adds the sections whose elements several conditions may read.
 #[cycle(indexed_in)]
 fn add_indexed_in_all(operands: &[Truth], found: &mut Vec<SectionId>) -> Result<(), AllocError>
     ensures { OnOk result (map section_of found.new.items

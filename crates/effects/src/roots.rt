@@ -1,4 +1,4 @@
-//! The parameter, or the array, that each section of a procedure lies in.
+//! The parameter, or the array, that contains each section of a procedure.
 
 ghost use Rattle.std.specs.Prelude.{◌≡◌, ℕ, IfOk, map};
 ghost use Rattle.sections.specs.Overlap.{beyond, root_of};
@@ -11,7 +11,7 @@ use sections::origin::Origin;
 use sections::tree::SectionTree;
 use std::alloc::{AllocError, Global};
 
-/// The roots of the sections of a tree, by number.
+/// The roots of the sections of a tree, by section number.
 #[derive(Drop)]
 pub struct Roots {
     roots: Vec<SectionId>,
@@ -20,7 +20,7 @@ pub struct Roots {
 impl Roots {
     ghost use Rattle.effects.specs.Roots.{root_in};
 
-    /// Those of a tree.
+    /// Returns the roots of a tree.
     pub fn new(alloc: Global, tree: &SectionTree) -> Result<Roots, AllocError>
         ensures { IfOk result (λ roots. (s : ℕ) → root_in roots s ≡ root_of (origins_of tree.now) s) }
     {
@@ -33,7 +33,7 @@ impl Roots {
         Ok(Roots { roots })
     }
 
-    /// The root of a section.
+    /// Returns the root of a section.
     pub fn of(&self, section: SectionId) -> SectionId
         ensures { result.number ≡ root_in self.now section.number }
     {
@@ -41,7 +41,7 @@ impl Roots {
     }
 }
 
-/// The root of a section behind those that are listed.
+/// Returns the root of the next section after those that are listed.
 fn next_root(roots: &[SectionId], section: SectionId, origin: Origin) -> SectionId
     ensures { result.number
         ≡ beyond section.number (listed_root (map section_of roots.now)) (origin_as origin) }
@@ -53,7 +53,7 @@ fn next_root(roots: &[SectionId], section: SectionId, origin: Origin) -> Section
     }
 }
 
-/// The root of a section by the list.
+/// Returns the root of a section from the list.
 fn root_at(roots: &[SectionId], section: SectionId) -> SectionId
     ensures { result.number ≡ listed_root (map section_of roots.now) section.number }
 {

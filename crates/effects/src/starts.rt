@@ -1,4 +1,4 @@
-//! What the statements of a body do by themselves.
+//! What the statements of a body do without their calls.
 
 ghost use Rattle.std.specs.Prelude.{◌≡◌, ◌++◌, OnOk};
 ghost use Rattle.effects.specs.Roots.{root_in};
@@ -14,14 +14,14 @@ use crate::visits::{Standing, Visit};
 use std::alloc::{AllocError, Global};
 use types::code::{Label, Stmt};
 
-/// A label that a row has from the start.
+/// A label that is in a row from the start.
 #[derive(Clone, Copy)]
 pub struct Start {
     pub row: Row,
     pub label: Label,
 }
 
-/// Adds what a statement does by itself, in the names of the parameters.
+/// Adds what a statement does without its call, in the names of the parameters.
 pub fn start_visit(
     alloc: Global,
     roots: &Roots,
@@ -78,7 +78,7 @@ fn start_access(
     add_rows(standing, all, pending, into)
 }
 
-/// Adds what stands among all and, where a begun task does it, among what is pending.
+/// Adds a row of everything that is done and, if a spawned task does it, a row of what is pending.
 fn add_rows(
     standing: Standing,
     all: Start,

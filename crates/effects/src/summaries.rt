@@ -16,16 +16,16 @@ use types::ids::ProcedureId;
 use types::laws::typed_programs_are_sound;
 use types::typed::Typed;
 
-/// The summary of each procedure, and what each async needs. `summarize` makes them.
+/// The summary of each procedure, and what each async needs. `summarize` creates it.
 #[derive(Drop)]
 pub struct Summaries {
-    /// Those of the procedures in the order of the text, and of `main` behind them.
+    /// The summaries of the procedures in the order of the text, and after them that of `main`.
     procedures: Vec<Summary>,
     /// What the body of each async needs, by the async's label.
     asyncs: BTreeMap<Label, Needs>,
 }
 
-/// What each procedure may do and leaves pending, and what each async needs.
+/// Returns what each procedure may do and leaves pending, and what each async needs.
 pub fn summarize(alloc: Global, typed: &Typed) -> Result<Summaries, AllocError>
     ensures exact { IfOk result (AreSummaries (code_of typed.now)) }
 {
@@ -42,7 +42,7 @@ impl Summaries {
     ghost use Rattle.effects.specs.AsyncNeeds.{IsNeedAt};
     ghost use Rattle.effects.specs.Translation.{needs as needs_in};
 
-    /// That of a procedure; `main` is numbered behind the others.
+    /// Returns the summary of a procedure; `main` is numbered after the others.
     pub fn of(&self, procedure: ProcedureId) -> &Summary
         requires { procedure.number < length (summaries_of self.now) }
         ensures there { slice_get (summaries_of self.now) procedure.number ≡ Some result.now }
@@ -52,8 +52,8 @@ impl Summaries {
         &self.procedures[procedure.number]
     }
 
-    /// What the body of an async needs, in the names in scope at the async. None for the label of
-    /// another statement, or of none.
+    /// Returns what the body of an async needs, in the names in scope at the async. Returns `None`
+    /// if no async has this label.
     pub fn needs(&self, label: Label) -> Option<&Needs>
         ensures { (p : Program) → AreSummaries p self.now
             → IsNeedAt p label (option_map needs_in (option_copied result)) }

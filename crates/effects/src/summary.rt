@@ -15,28 +15,28 @@ use types::code::Label;
 #[derive(Drop)]
 pub struct Summary {
     pub all: Accesses,
-    /// What may still be done once it has ended.
+    /// What may still be done after the body has finished.
     pub pending: Accesses,
-    /// The labels of its statements, and of those that its calls run.
+    /// The labels of its statements, and of the statements that its calls run.
     pub labels: LabelSet,
     pub pending_labels: LabelSet,
 }
 
-/// A set of labels of a summary.
+/// The name of one set of labels in a summary.
 #[derive(Clone, Copy, PartialEq, Eq, Debug)]
 pub enum Row {
-    /// Those of the accesses that write a section, or of those that read it.
+    /// The labels of the accesses that write a section, or of those that read it.
     All { section: SectionId, write: bool },
-    /// The same of the accesses that are left pending.
+    /// The labels of the pending accesses that write a section, or of those that read it.
     Pending { section: SectionId, write: bool },
-    /// Those of all statements.
+    /// The labels of all statements.
     Labels,
-    /// Those of the statements that are left pending.
+    /// The labels of the statements that are left pending.
     PendingLabels,
 }
 
 impl Summary {
-    /// Of a body that does nothing.
+    /// Returns the summary of a body that does nothing.
     pub fn new(alloc: Global) -> Summary
         ensures { (r : TheRow) (l : ℕ) → HasRow result r l → ⊥ }
     {
@@ -48,7 +48,7 @@ impl Summary {
         }
     }
 
-    /// Puts a label in a row.
+    /// Adds a label to a row.
     pub fn insert(&mut self, alloc: Global, row: Row, label: Label) -> Result<(), AllocError>
         ensures { OnOk result ((r : TheRow) (l : ℕ) → HasRow self.new r l
             ↔ (HasRow self.old r l ⊎ ((r ≡ row) × (l ≡ label)))) }
@@ -61,7 +61,7 @@ impl Summary {
         }
     }
 
-    /// Puts labels in a row. False if all of them were there.
+    /// Adds labels to a row. Returns false if all of them were already there.
     pub fn unite(&mut self, alloc: Global, row: Row, labels: &LabelSet) -> Result<bool, AllocError>
         ensures both { OnOk result ((r : TheRow) (l : ℕ) → HasRow self.new r l
             ↔ (HasRow self.old r l ⊎ ((r ≡ row) × HasLabel labels.now l))) }
@@ -78,7 +78,7 @@ impl Summary {
         }
     }
 
-    /// The labels of a row.
+    /// Returns the labels of a row.
     pub fn copied(&self, alloc: Global, row: Row) -> Result<LabelSet, AllocError>
         ensures { IfOk result (λ labels. (l : ℕ) → HasLabel labels l ↔ HasRow self.now row l) }
     {

@@ -16,7 +16,7 @@ use crate::summary::Summary;
 use std::alloc::{AllocError, Global};
 use types::code::Program;
 
-/// The summaries of the procedures in the order of the text, and that of `main` behind them.
+/// Returns the summaries of the procedures in the order of the text, and after them that of `main`.
 pub fn table(alloc: Global, code: &Program) -> Result<Vec<Summary>, AllocError>
     ensures exact { IfOk result (λ table. (f : ℕ) (r : TheRow) (l : ℕ)
         → HasIn table.items f r l ↔ Comes (program_of code.now) f r l) }
@@ -30,8 +30,8 @@ pub fn table(alloc: Global, code: &Program) -> Result<Vec<Summary>, AllocError>
     Ok(table)
 }
 
-/// Adds the flows once more, the last one first. So one round brings labels along a chain of calls,
-/// whether procedures stand before those that call them or behind.
+/// Adds the flows once more, in reverse order. So one round propagates labels along a chain of
+/// calls, whether procedures are declared before or after their callers.
 fn add_reversed(flows: &mut Vec<Flow>) -> Result<(), AllocError>
     ensures { OnOk result ((x : TheFlow)
         → Member x flows.new.items ↔ Member x flows.old.items) }

@@ -10,15 +10,16 @@ use sections::id::SectionId;
 use std::alloc::{AllocError, Global};
 use types::code::Label;
 
-/// The labels of the statements that use each section in one way: that read it, or that write it.
+/// The labels of the statements that use each section in one way, either by reading or by writing
+/// it.
 #[derive(Drop)]
 pub struct Uses {
-    /// For each section, by its number.
+    /// One set for each section, by section number.
     sets: Vec<LabelSet>,
 }
 
 impl Uses {
-    /// No use yet. It takes no memory.
+    /// Returns an empty set of uses. It allocates no memory.
     pub fn new(alloc: Global) -> Uses
         ensures { (s l : ℕ) → HasUse result s l → ⊥ }
     {
@@ -27,7 +28,7 @@ impl Uses {
         }
     }
 
-    /// Whether the statement with this label uses a section.
+    /// Returns whether the statement with this label uses a section.
     pub fn has(&self, section: SectionId, label: Label) -> bool
         ensures { IsTrue result ↔ HasUse self.now section.number label }
     {
@@ -37,7 +38,7 @@ impl Uses {
         }
     }
 
-    /// The least label of the statements that use a section.
+    /// Returns the smallest label of the statements that use a section.
     pub fn first(&self, section: SectionId) -> Option<Label>
         ensures { IsLeast (HasUse self.now section.number) result }
     {
@@ -47,7 +48,7 @@ impl Uses {
         }
     }
 
-    /// A statement uses a section.
+    /// Adds that a statement uses a section.
     pub fn insert(
         &mut self,
         alloc: Global,
@@ -62,7 +63,8 @@ impl Uses {
         Ok(())
     }
 
-    /// Statements with these labels use a section. False if that was known of all of them.
+    /// Adds that the statements with these labels use a section. Returns false if all of these uses
+    /// were already known.
     pub fn unite(
         &mut self,
         alloc: Global,
@@ -81,7 +83,7 @@ impl Uses {
         Ok(grown)
     }
 
-    /// The labels of the statements that use a section.
+    /// Returns the labels of the statements that use a section.
     pub fn copied(&self, alloc: Global, section: SectionId) -> Result<LabelSet, AllocError>
         ensures { IfOk result (λ labels. (l : ℕ)
             → HasLabel labels l ↔ HasUse self.now section.number l) }
@@ -92,14 +94,14 @@ impl Uses {
         }
     }
 
-    /// An end of the sections that are used.
+    /// Returns an upper bound: each used section has a smaller number.
     pub fn end(&self) -> usize
         ensures { (s l : ℕ) → HasUse self.now s l → s < result }
     {
         self.sets.len()
     }
 
-    /// Makes room for a section. The uses are the same.
+    /// Makes room for a section. The uses stay as they are.
     fn reserve(&mut self, alloc: Global, section: usize) -> Result<(), AllocError>
         ensures same { OnOk result ((s l : ℕ) → HasUse self.new s l ↔ HasUse self.old s l) }
         ensures room { OnOk result (section < vec_len self.new.sets) }

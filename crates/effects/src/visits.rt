@@ -1,4 +1,4 @@
-//! The statements of a body, at any depth, and where each stands.
+//! The statements of a body, at any depth, each with its position relative to asyncs and finishes.
 
 ghost use Rattle.std.specs.Prelude.{◌≡◌, ◌++◌, OnOk, map};
 ghost use Rattle.types.specs.Translation.{code as plain_code, codes as codes_of};
@@ -7,18 +7,19 @@ ghost use Rattle.effects.specs.Visits.{visits_in, visits_inside, visit as visit_
 use std::alloc::AllocError;
 use types::code::{Stmt, StmtKind};
 
-/// Whether what a statement does may be pending once the body has ended.
+/// Whether the effects of a statement may be pending after the body has finished.
 #[derive(Clone, Copy, PartialEq, Eq, Debug)]
 pub enum Standing {
-    /// It stands in no async and no finish: what it leaves pending is pending.
+    /// The statement is in no async and no finish: what it leaves pending stays pending.
     Open,
-    /// It stands in an async for which no finish of the body waits: all of it may be pending.
+    /// The statement is in an async for which no finish of the body waits: all of it may be
+    /// pending.
     Begun,
-    /// It stands in a finish, which waits for all of it.
+    /// The statement is in a finish, which waits for all of it.
     Awaited,
 }
 
-/// A statement and where it stands.
+/// A statement and its position.
 #[derive(Clone, Copy)]
 pub struct Visit<'p> {
     pub standing: Standing,
@@ -26,7 +27,7 @@ pub struct Visit<'p> {
 }
 
 impl Standing {
-    /// Where the body of an async stands.
+    /// Returns the position of the body of an async.
     pub fn in_async(self) -> Standing
         ensures { result ≡ in_async self }
     {
@@ -37,7 +38,7 @@ impl Standing {
         }
     }
 
-    /// Where the body of a finish stands.
+    /// Returns the position of the body of a finish.
     pub fn in_finish(self) -> Standing
         ensures { result ≡ in_finish self }
     {

@@ -1,4 +1,4 @@
--- The ten events, and what an event in Rust stands for.
+-- The ten events, and which of them an event in Rust represents.
 use Rattle.std.specs.Prelude.{ℕ, List}
 use Rattle.types.specs.declared.path.Path.{Path}
 use Rattle.types.specs.declared.scope_id.ScopeId.{ScopeId as rScopeId}
@@ -8,7 +8,7 @@ use Rattle.events.specs.declared.event.Event.TheVariants.{Replenish as rReplenis
 use Rattle.events.specs.declared.event.Event.TheVariants.{Open as rOpen, Park as rPark, End as rEnd}
 use Rattle.events.specs.declared.event.Event.TheVariants.{Pass as rPass, Resume as rResume}
 
--- a scope's name: the path of its owner, and which of its finishes it is, from 1
+-- a scope's name: the path of its owner, and the number of the finish among the owner's, from 1
 pub record ScopeId : Type 0 where
   pub owner : List ℕ
   pub number : ℕ
@@ -20,22 +20,22 @@ pub data Event : Type 0 where
   Steal : (worker from : ℕ) → (path : List ℕ) → Event
   -- a task does one step, of a statement other than async and finish
   Steps : (path : List ℕ) → Event
-  -- a task that weighs 1 is given more by its innermost scope
+  -- a task of weight 1 gets more weight from its innermost scope
   Replenish : (path : List ℕ) → Event
-  -- a task begins another, and shares its weight with it
+  -- a task spawns another task, and shares its weight with it
   Spawns : (path : List ℕ) → Event
-  -- a task begins a finish
+  -- a task starts a finish
   Opens : (path : List ℕ) → Event
   -- a task is at the end of its innermost finish, and gives back its weight there
   Parks : (path : List ℕ) → Event
   -- a task is at its end, and gives back its weight and its result
   Ends : (path : List ℕ) → Event
-  -- a scope passes, since all its weight came back
+  -- a scope passes, because all its weight has come back
   Pass : ScopeId → Event
   -- a worker takes a task that was parked at a passed scope
   Resume : (worker : ℕ) → (path : List ℕ) → Event
 
--- ---- without what says where it lies in memory
+-- ---- Rust values, without their locations in memory
 abbrev pub turns_of : Path → List ℕ
 turns_of path = path.turns.items
 

@@ -4,7 +4,7 @@ use crate::worker_id::WorkerId;
 use types::path::Path;
 use types::scope_id::ScopeId;
 
-/// What happens to a world.
+/// One event of a run, which changes a world.
 #[derive(Clone, PartialEq, Eq, Debug, Drop)]
 pub enum Event {
     /// `take 1 0.2`: a worker takes a task from its queue into its hand.
@@ -22,15 +22,15 @@ pub enum Event {
     Step {
         path: Path,
     },
-    /// `replenish 0.1`: a task that weighs 1 is given more by its innermost scope.
+    /// `replenish 0.1`: a task of weight 1 gets more weight from its innermost scope.
     Replenish {
         path: Path,
     },
-    /// `spawn 0`: a task begins another, and shares its weight with it.
+    /// `spawn 0`: a task spawns another task, and shares its weight with it.
     Spawn {
         path: Path,
     },
-    /// `open 0`: a task begins a finish.
+    /// `open 0`: a task starts a finish.
     Open {
         path: Path,
     },
@@ -42,7 +42,7 @@ pub enum Event {
     End {
         path: Path,
     },
-    /// `pass 0#1`: a scope passes, since all its weight came back.
+    /// `pass 0#1`: a scope passes, because all its weight has come back.
     Pass {
         scope: ScopeId,
     },

@@ -1,5 +1,4 @@
-//! What the workers of a run do, event by event: plain data, for whoever writes it down, reads it or
-//! judges it.
+//! The events of a run, as plain data for the crates that write, read or check them.
 
 #![tactic(auto)]
 

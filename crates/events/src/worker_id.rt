@@ -4,7 +4,7 @@ ghost use Rattle.std.specs.Prelude.{◌≡◌, ◌<◌, ◌≤◌, ℕ, MatchOpt
 
 use std::marker::Model;
 
-/// How many workers there are, at most.
+/// The maximum number of workers.
 pub const MOST_WORKERS: u32 = 64;
 
 /// A worker's number, from 0 to 63.
@@ -24,7 +24,7 @@ impl Model for WorkerId {
 }
 
 impl WorkerId {
-    /// The worker of this number, where it is below 64: none of 64.
+    /// Returns the worker with this number if it is below 64, and otherwise None.
     pub fn new(number: u32) -> Option<WorkerId>
         ensures { MatchOption result (64 ≤ number) (λ w. (number < 64) × (w ≡ number)) }
     {
@@ -34,14 +34,14 @@ impl WorkerId {
         Some(WorkerId { number })
     }
 
-    /// The worker in whose queue the root begins.
+    /// Returns the worker whose queue contains the root at the start.
     pub fn first() -> WorkerId
         ensures { result ≡ 0 }
     {
         WorkerId { number: 0 }
     }
 
-    /// Its number.
+    /// Returns its number.
     pub fn number(self) -> u32
         ensures same { result ≡ self }
         ensures few { result < 64 }

@@ -1,4 +1,4 @@
-//! Facts of truths, numbers, lists and results that the proofs of several crates use, and the library
-//! has not.
+//! Lemmas about booleans, numbers, lists and results that the proofs of several crates use and the
+//! standard library doesn't have.
 
 #![tactic(auto)]

@@ -1,4 +1,4 @@
--- What stands in a scope crosses threads, and a scope is seen from all of them.
+-- The state of a scope can be sent to other threads, and all of them can share a scope.
 use Rattle.std.proofs.Crossing.{crosses, Arc-send, Vec-send}
 use denote.Builtin.{usize}
 use denote.Param.Send.{IsSend, sendable, view_send, plain_send}

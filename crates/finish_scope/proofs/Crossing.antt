@@ -1,4 +1,4 @@
--- Programs, and the tasks that borrow them, cross threads.
+-- Programs, and the tasks that borrow them, can be sent to other threads.
 use Rattle.std.proofs.Crossing.{crosses}
 use denote.Param.Send.{IsSync, IsSend, sendable}
 use denote.Param.SendFields.{declared_sync, declared_send, variants_send, as_row_sync}
@@ -87,7 +87,7 @@ typed_sync = declared_sync Typed.the_type (tree_sync, (code_sync, tt))
 pub accepted_sync : IsSync Accepted.the_row
 accepted_sync = declared_sync Accepted.the_type (typed_sync, (summaries_sync, tt))
 
--- what crosses with a task
+-- what is sent along with a task
 pub ruleset carried = (
   tt,
   accepted_sync,

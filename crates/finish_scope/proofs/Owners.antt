@@ -14,7 +14,7 @@ module _ (o : Option Job) where
   results_are_of_the_job j is [] all = tt
   results_are_of_the_job j is (r ∷ rs) all = (all.0 j is, results_are_of_the_job j is rs all.1)
 
-  -- whoever is parked is of the run
+  -- a parked owner is of the run
   pub owner_is_of_the_run : (x : Option Resting) (r : Resting) → x ≡ Some r → IsOwnOwner o x → IsOwnResting o r
   owner_is_of_the_run x r is own = subst (IsOwnOwner o) is own
 

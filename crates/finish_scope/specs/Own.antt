@@ -1,4 +1,4 @@
--- What is of the job of a run, wherever it comes from.
+-- What belongs to the job of a run.
 use Rattle.std.specs.Prelude.{◌≡◌, List, Option, Some, None}
 use Rattle.own_run.specs.Lists.{Each}
 use Rattle.own_run.specs.declared.result.TaskResult.{TaskResult as Made}
@@ -23,12 +23,12 @@ module _ (o : Option Job) where
     pub job : o ≡ Some r.parked.value.job
     pub ends : IsParked r.parked.value
 
-  -- where one is parked
+  -- if one is parked, it is an owner of the run
   abbrev pub IsOwnOwner : Option Resting → Type 0
   IsOwnOwner None = Unit {0}
   IsOwnOwner (Some r) = IsOwnResting r
 
-  -- all that stands in a scope is of the run
+  -- all contents of a scope are of the run
   pub record IsOwnScope (came : List Made) (parked : Option Resting) : Type 0 where
     pub results : Each IsResultOfRun came
     pub owner : IsOwnOwner parked

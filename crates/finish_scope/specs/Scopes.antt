@@ -1,4 +1,4 @@
--- What stands in a scope, and what each call does to it.
+-- The state of a scope, and the effect of each call.
 use Rattle.std.specs.Prelude.{ℕ, ◌≡◌, ◌-◌, ◌+◌, ◌<◌, ◌≤◌, ◌⊎◌, List, [], ◌∷◌, ◌++◌, Option, Some}
 use Rattle.std.specs.Prelude.{None, Bool, true, false}
 use Rattle.own_run.specs.declared.result.TaskResult.{TaskResult as Made}
@@ -9,8 +9,8 @@ use Rattle.finish_scope.specs.declared.late.Reason.TheVariants.{NotDue, IssuedTo
 use Rattle.finish_scope.specs.declared.resting.Passing.{Passing}
 use Rattle.finish_scope.specs.declared.resting.Resting.{Resting}
 
--- its book, the results that have come, the owner that is parked, and whether a result or an entry
--- found no memory
+-- its book, the results that have arrived, the parked owner, and whether memory ran out for a result or an
+-- entry
 pub record Standing : Type 0 where
   pub book : Ledger
   pub results : List Made
@@ -21,7 +21,7 @@ pub record Standing : Type 0 where
 abbrev pub scope_at_opening : (w0 : ℕ) → Standing
 scope_at_opening w0 = record { book = opened w0; results = []; owner = None; marked = false }
 
--- how much weight is out
+-- the amount of weight that is out
 abbrev pub out_of : Standing → ℕ
 out_of s = issued_of s.book - returned_of s.book
 
@@ -38,24 +38,24 @@ pub record HasPassed (s : Standing) : Type 0 where
 abbrev pub given_by : Made → (weight : ℕ) → Returned
 given_by made weight = record { path = made.path.turns.items; weight = weight }
 
--- w0 more is issued, on top of a weight that is out
+-- w0 more is issued, in addition to a weight that is out
 pub record Mints (old new : Standing) (weight : ℕ) : Type 0 where
   pub out : weight ≤ out_of old
   pub few : 1 + old.book.mints < 2147483648
   pub book : new ≡ record old { book = minted old.book }
 
--- why no more is issued: so much isn't out; or it is, and w0 was issued 2^31 times
+-- why no more is issued: that much isn't out; or it is, and w0 was issued 2^31 times
 abbrev pub Cannot : Standing → (weight : ℕ) → Reason → Type 0
 Cannot s weight NotDue = out_of s < weight
 Cannot s weight IssuedTooOften = (weight ≤ out_of s) × (1 + s.book.mints ≡ 2147483648)
 
--- a weight comes back: it has its entry; or that found no memory, and the weight is counted as
--- unlisted, and the mark says so
+-- a weight comes back: it has its entry; or there was no memory for it, the weight is counted as unlisted,
+-- and the mark is set
 abbrev pub Counts : (old new : Standing) → Returned → Type 0
 Counts old new e = (new ≡ record old { book = listed e old.book })
     ⊎ (new ≡ record old { book = without_entry e old.book; marked = true })
 
--- a result is kept; or it found no memory, and the mark says so
+-- a result is kept; or there was no memory for it, and the mark is set
 abbrev pub Keeps : (old new : Standing) → Made → Type 0
 Keeps old new made = (new ≡ record old { results = old.results ++ made ∷ [] })
     ⊎ (new ≡ record old { marked = true })
@@ -67,7 +67,7 @@ pub record TakesBack (old new : Standing) (e : Returned) (made : Made) : Type 0 
   pub counts : Counts old between e
   pub keeps : Keeps between new made
 
--- an owner is parked where none was: the weight that it gives back was out, and is counted
+-- an owner is parked if none was: the weight that it returns was out, and is counted
 pub record Parks (old new : Standing) (e : Returned) (owner : Resting) : Type 0 where
   pub nobody : old.owner ≡ None
   pub out : e.weight ≤ out_of old

@@ -1,4 +1,4 @@
-//! What stands under the lock of a scope.
+//! The state of a scope, under its lock.
 
 ghost use Rattle.std.specs.Prelude.{◌≡◌, ◌≢◌, ◌+◌, ◌<◌, ◌≤◌, ◌⊎◌, ◌↔◌, IfErr, IfNone, IfOk};
 ghost use Rattle.std.specs.Prelude.{IfSome, None, OnErr, OnOk};
@@ -21,17 +21,17 @@ use weights::weight::Weight;
 /// A scope that threads share.
 pub type Scope<'p, J> = Mutex<Inner<'p, J>>;
 
-/// How many times a scope issues weight at most.
+/// The maximum number of times that a scope issues weight.
 const MOST_ISSUES: u64 = 2_147_483_648;
 
-/// What stands under the lock of a scope.
+/// The state of a scope, under its lock.
 #[derive(Drop)]
 pub struct Inner<'p, J: Running> {
     book: Book,
-    /// Those that have come, the oldest first.
+    /// The results that have arrived, the oldest first.
     results: Vec<TaskResult>,
     owner: Option<Resting<'p>>,
-    /// A result, or the entry of a weight, found no memory.
+    /// There was no memory for a result, or for the entry of a weight.
     marked: bool,
     of: PhantomData<J>,
 }
@@ -58,7 +58,7 @@ impl<'p, J: Running> Model for Inner<'p, J> {
 }
 
 impl<'p, J: Running> Inner<'p, J> {
-    /// A scope at its opening, and the first weight that it issues.
+    /// Returns a scope at its opening, and the first weight that it issues.
     pub fn open(alloc: Global, w0: u64) -> (Inner<'p, J>, Weight)
         requires { (1 ≤ w0) × (w0 ≤ 4294967296) }
         ensures scope { result.0 ≡ scope_at_opening w0 }
@@ -75,7 +75,7 @@ impl<'p, J: Running> Inner<'p, J> {
         (inner, weight)
     }
 
-    /// How much weight is out.
+    /// Returns the amount of weight that is out.
     pub fn out(&self) -> u64
         ensures out { result ≡ out_of self.now }
         ensures within { returned_of self.now.book ≤ issued_of self.now.book }
@@ -83,14 +83,14 @@ impl<'p, J: Running> Inner<'p, J> {
         self.book.issued() - self.book.returned()
     }
 
-    /// Whether a result, or the entry of a weight, found no memory.
+    /// Returns whether memory ran out for a result, or for the entry of a weight.
     pub fn marked(&self) -> bool
         ensures { result ≡ self.now.marked }
     {
         self.marked
     }
 
-    /// Issues more weight, on top of one that is out.
+    /// Issues more weight, in addition to one that is out.
     pub fn replenish(&mut self, weight: Weight) -> Result<Weight, Late<Weight>>
         ensures book { OnOk result (Mints self.old self.new weight) }
         ensures weight { IfOk result (λ w. w ≡ weight + self.old.book.w0) }
@@ -113,7 +113,7 @@ impl<'p, J: Running> Inner<'p, J> {
         Ok(self.book.mint(weight))
     }
 
-    /// A task has ended: its weight comes back, with its result.
+    /// Takes back the weight of a task that has finished, with its result.
     pub fn give_back(
         &mut self,
         weight: Weight,
@@ -138,8 +138,8 @@ impl<'p, J: Running> Inner<'p, J> {
         Ok(back)
     }
 
-    /// A task is at the end of its finish, or of `main`: its weight comes back, and it waits as the
-    /// owner.
+    /// Takes back the weight of a task at the end of its finish, or of `main`, and parks that task
+    /// as the owner.
     pub fn park(
         &mut self,
         weight: Weight,
@@ -165,8 +165,8 @@ impl<'p, J: Running> Inner<'p, J> {
         Ok(back)
     }
 
-    /// All of its weight is back: the owner goes on, with all results. None where weight is out, or
-    /// nobody is parked, as once it has passed.
+    /// Removes the owner, with all results, once all weight is back. Returns None if weight is out
+    /// or nobody is parked; after the scope has passed, nobody is.
     pub fn resume(&mut self) -> Option<Passing<'p>>
         ensures own { IfSome result (IsOwnPassing J.job) }
         ensures passes { IfSome result (Passes self.old self.new) }
@@ -182,7 +182,7 @@ impl<'p, J: Running> Inner<'p, J> {
         Some(Passing { owner, results })
     }
 
-    /// Counts a weight that came back. Where its entry finds no memory the scope is marked.
+    /// Counts a weight that came back. If there is no memory for its entry, the scope is marked.
     fn count(&mut self, weight: Weight, path: &Path) -> Back
         requires out { weight ≤ out_of self.old }
         ensures counts { Counts self.old self.new (record {
@@ -200,7 +200,7 @@ impl<'p, J: Running> Inner<'p, J> {
         back
     }
 
-    /// Keeps a result. Where it finds no memory the scope is marked.
+    /// Keeps a result. If there is no memory for it, the scope is marked.
     fn keep(&mut self, made: TaskResult)
         requires own { IsResultOfRun J.job made }
         ensures { Keeps self.old self.new made }

@@ -1,16 +1,17 @@
-//! What a scope doesn't take.
+//! Reasons why a scope rejects a call.
 
-/// Why a scope doesn't take what it is given, with a call on one that was opened by `Inner::open(alloc, 8)`.
+/// Why a scope rejects what it is given. The examples use a scope from `Inner::open(alloc, 8)`.
 #[derive(Clone, Copy, PartialEq, Eq, Debug)]
 pub enum Reason {
-    /// L1: so much weight isn't out, as none is once it has passed, in `replenish` of a weight of 9; or an
-    /// owner is parked there, as in a second `park`.
+    /// L1: that much weight isn't out, or an owner is already parked. Examples: `replenish` with a
+    /// weight of 9; a second `park`. Once a scope has passed, no weight is out.
     NotDue,
-    /// L2: it has issued weight as often as its book counts, in the 2,147,483,648th `replenish`.
+    /// L2: it has issued weight as often as its book can count. Example: the 2,147,483,648th
+    /// `replenish`.
     IssuedTooOften,
 }
 
-/// A scope took nothing: what it was given comes back, and nothing has changed.
+/// A rejected call: what the scope was given comes back, and nothing has changed.
 #[derive(PartialEq, Eq, Debug)]
 pub struct Late<T> {
     pub reason: Reason,

@@ -1,8 +1,8 @@
-//! Scopes under locks, and where they lie.
+//! Scopes under locks, and their positions.
 //!
-//! A scope has the results of the tasks that were begun in it and have ended, the book of its
-//! weight, and its owner once that is parked. Whoever gives back the last of its weight goes on with
-//! that owner.
+//! A scope has the results of the tasks that were started in it and have finished, the book of its
+//! weight, and its owner once that is parked. The worker that returns the last of its weight
+//! continues with that owner.
 
 #![tactic(auto)]
 

@@ -1,4 +1,4 @@
-//! Where scopes lie.
+//! Shelves of scopes.
 
 use crate::inner::Scope;
 use crate::running::Running;
@@ -9,12 +9,12 @@ use std::sync::Arc;
 #[derive(Drop)]
 pub struct Shelf<'p, J: Running> {
     scopes: Vec<Option<Arc<Scope<'p, J>>>>,
-    /// The slots in which none lies.
+    /// The empty slots.
     free: Vec<usize>,
 }
 
 impl<'p, J: Running> Shelf<'p, J> {
-    /// A shelf with no scopes.
+    /// Returns a shelf with no scopes.
     pub fn new(alloc: Global) -> Shelf<'p, J> {
         Shelf {
             scopes: Vec::new(alloc),
@@ -22,7 +22,7 @@ impl<'p, J: Running> Shelf<'p, J> {
         }
     }
 
-    /// Puts a scope into a slot in which none lies, and tells which.
+    /// Puts a scope into an empty slot, and returns the slot's number.
     pub fn add(&mut self, scope: Arc<Scope<'p, J>>) -> Result<usize, AllocError> {
         if let Some(slot) = self.free.pop() {
             if let Some(entry) = self.scopes.get_mut(slot) {
@@ -35,7 +35,7 @@ impl<'p, J: Running> Shelf<'p, J> {
         Ok(slot)
     }
 
-    /// The scope in this slot, if one lies there and its owners can be counted.
+    /// Returns the scope in this slot, if there is one and its reference count can be incremented.
     pub fn find(&self, slot: usize) -> Option<Arc<Scope<'p, J>>> {
         match self.scopes.get(slot)? {
             Some(scope) => Arc::try_clone(scope).ok(),
@@ -43,7 +43,7 @@ impl<'p, J: Running> Shelf<'p, J> {
         }
     }
 
-    /// Nothing lies in this slot any more.
+    /// Empties this slot.
     pub fn free(&mut self, slot: usize) -> Result<(), AllocError> {
         if let Some(entry) = self.scopes.get_mut(slot) {
             *entry = None;

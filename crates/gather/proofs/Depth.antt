@@ -1,4 +1,4 @@
--- How deep results are listed makes no difference, and a result is settled hole by hole.
+-- The depth at which results are listed makes no difference, and a result is settled hole by hole.
 use Rattle.std.proofs.lemmas.Option.{none-some, same_Some}
 use Rattle.std.proofs.Common.{◌≡◌, ℕ, zero, suc, ◌+◌, ◌<◌, ◌≤◌, List, [], ◌∷◌, length, Option, Some, None, refl, sym, ap}
 use Rattle.std.proofs.Common.{◌∙◌, arith, add-one}
@@ -53,7 +53,7 @@ fewer_taken path (r ∷ rs) found e = by_path (λ f. fewer_taken path rs f) (poi
         ap (λ (f : TaskResult × List TaskResult). suc (length f.1)) i
     by_path rec false q = later rec (take path rs) refl q
 
--- ---- none more
+-- ---- not more results
 abbrev Shrinks : (TaskResult → List TaskResult → Comes) → Type 0
 Shrinks d = (r : TaskResult) (rs : List TaskResult) (x : Settled × List TaskResult) → d r rs ≡ Some x → length x.1 ≤ length rs
 
@@ -80,7 +80,7 @@ settle_shrinks (suc k) r rs x e =
     let b : length g.one.1 ≡ length x.1 = ap (λ (x : Settled × List TaskResult). length x.1) i in
     omega (arith, a, b)
 
--- ---- how many may stand within one another makes no difference, if there are enough
+-- ---- the nesting limit makes no difference if it is high enough
 fill_same : (d e : TaskResult → List TaskResult → Comes) (n : ℕ) → Shrinks d
     → ((r : TaskResult) (rs : List TaskResult) → length rs < n → d r rs ≡ e r rs)
     → (owned : Places) (cs : List Listed) (s : Settled) (rs : List TaskResult) → length rs ≤ n
@@ -105,7 +105,7 @@ settle_same (suc k) (suc j) r rs lt gt =
     (λ x xs le. settle_same k j x xs (omega (arith, lt, le)) (omega (arith, gt, le)))
     r.owned r.children none_yet rs (omega arith))
 
--- ---- what a task has by itself may come first
+-- ---- what the task itself has may come first
 abbrev more : Places → Listed → Places
 more owned c q = owned q || has c.windows q
 
@@ -164,7 +164,7 @@ opened-shifted : (r : TaskResult) → (opened r).so_far ≡ shifted r none_yet
 unfolding shifted
 opened-shifted r = ap (λ b. record (opened r).so_far { stopped = b }) (sym (or-false r.stopped))
 
--- a result is settled by filling its holes, from what it has by itself
+-- a result is settled by filling its holes, starting from what the task itself has
 pub settle_one-finished : (r : TaskResult) (rs : List TaskResult) → settle_one r rs ≡ finished (opened r) rs
 unfolding shifted
 settle_one-finished r rs =

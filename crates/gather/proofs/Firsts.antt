@@ -1,4 +1,4 @@
--- A result is taken from the first place of its path.
+-- A result is taken from the first slot with its path.
 use Rattle.std.proofs.Common.{◌≡◌, ℕ, ◌+◌, ◌<◌, List, [], ◌∷◌, ◌++◌, length, get_or, set, map, Option, Some, None}
 use Rattle.std.proofs.Common.{refl, sym, ap, ◌∙◌, subst, reverse, arith}
 use Rattle.std.specs.Prelude.{Bool, true, false, nat_eq, cond, IfNone, if◌then◌else◌}
@@ -50,7 +50,7 @@ other_way p q e = by (pointwise nat_eq q p) refl
     by false w = w
     by true w = absurd (false_true (sym e ∙ ap (λ l. pointwise nat_eq p l) (paths_same q p w) ∙ path_same p))
 
--- ---- the first of a path
+-- ---- the first result with a path
 first_below : (path : List ℕ) (ps : List (Option Entry)) (i : ℕ) → first_of path ps ≡ Some i → i < length ps
 first_below path [] i e = absurd (none-some i e)
 first_below path (None ∷ ps) i e = let h = first_below path ps i e in omega (arith, h)
@@ -72,7 +72,7 @@ nowhere path (Some x ∷ ps) e = by (nowhere path ps) (is_of path x.task) refl e
     by behind_it true w q = absurd (none-some (length ps) (sym q))
     by behind_it false w q = passed path x.task (left_in ps) w ∙ ap (behind (task_result x.task)) (behind_it q)
 
--- what stands there, and what is left without it
+-- the entry there, and what is left without it
 pub record Found (path : List ℕ) (ps : List (Option Entry)) (i : ℕ) : Type 0 where
   pub entry : Entry
   pub others : List (Option Entry)
@@ -84,7 +84,7 @@ pub record Found (path : List ℕ) (ps : List (Option Entry)) (i : ℕ) : Type 0
   pub firsts : (other : List ℕ) → first_of other others ≡ (if pointwise nat_eq path other then entry.next else first_of other ps)
   pub chained : AreChained others
 
--- it stands in front
+-- it is the first one
 module _ (path : List ℕ) (x : Entry) (ps : List (Option Entry)) (chain : AreChained (Some x ∷ ps)) where
   next_is : x.next ≡ first_of x.task.path.turns.items ps
   next_is = let same : x.next ∷ said_next ps ≡ first_of x.task.path.turns.items ps ∷ next_in ps = chain in same_head same
@@ -119,7 +119,7 @@ module _ (path : List ℕ) (x : Entry) (ps : List (Option Entry)) (chain : AreCh
     chained = chain_behind;
   }
 
-  -- it stands behind the first
+  -- it comes after the first one
   module _ (w : is_of path x.task ≡ false) (i : ℕ) (lt : i < length ps) (h : Found path ps i) where
     firsts_behind : (other : List ℕ)
         → first_of other (Some x ∷ h.others) ≡ (if pointwise nat_eq path other then h.entry.next else first_of other (Some x ∷ ps))
@@ -160,7 +160,7 @@ module _ (path : List ℕ) (x : Entry) (ps : List (Option Entry)) (chain : AreCh
           ∙ ap (λ (l : List (Option ℕ)). first_of x.task.path.turns.items h.others ∷ l) h.chained;
     }
 
--- nothing stands in front
+-- the first slot is empty
 behind_none : (path : List ℕ) (ps : List (Option Entry)) (i : ℕ) → i < length ps → Found path ps i → Found path (None ∷ ps) i
 behind_none path ps i lt h = record {
   entry = h.entry;
@@ -184,7 +184,7 @@ found path (Some x ∷ ps) i chain e = by (found path ps i (chain_behind path x 
     by behind_it true w q = here path x ps chain w i (same_Some (length ps) i q)
     by behind_it false w q = behind_first path x ps chain w i (first_below path ps i q) (behind_it q)
 
--- ---- a result is taken out of places as they stand in memory
+-- ---- a result is taken out of slots in memory
 module _ (path : List ℕ) (xs : List (Option Entry)) (i : ℕ) (chain : AreChained (reverse xs))
     (at : first_of path (reverse xs) ≡ Some i) where
   abbrev it : Found path (reverse xs) i
@@ -239,7 +239,7 @@ module _ (xs ys : List (Option Entry)) (x : Entry) (pushed : ys ≡ xs ++ Some x
       ∙ ap (λ (l : List (Option ℕ)). first_of x.task.path.turns.items (reverse xs) ∷ l) chain
       ∙ ap next_in (sym in_front)
 
--- ---- what a table says
+-- ---- the positions that a table stores
 
 pub said_by : (b : Bool) (n : Option ℕ) (o : Option (Option ℕ)) → option_flatten (cond b (Some n) o) ≡ (if b then n else option_flatten o)
 said_by true n o = refl

@@ -1,4 +1,4 @@
--- Results that are opened one after the other, and which error is told where that ends.
+-- Results that are opened one after the other, and the error if this ends too early.
 use Rattle.std.proofs.Common.{◌≡◌, ℕ, ◌+◌, ◌<◌, List, [], ◌∷◌, ◌++◌, map, Option, Some, None, refl, sym, ap, ◌∙◌, subst, arith}
 use Rattle.std.proofs.Common.{append_assoc}
 use Rattle.std.proofs.lemmas.Option.{none-some}
@@ -25,7 +25,7 @@ use Rattle.gather.specs.Reached.{IsPartOf, IsReached, outstanding}
 use Rattle.gather.specs.Refusal.{times, paths_of, listed, listed_by, IsDue, begun, further, IsLost, IsLeftOver, ComesBackTwice}
 use Rattle.gather.specs.Refusal.{IsStranger, HasOneMore}
 
--- ---- how often
+-- ---- number of occurrences
 pub times-append : (p : List ℕ) (xs ys : List (List ℕ)) → times p (xs ++ ys) ≡ times p xs + times p ys
 times-append p [] ys = omega arith
 times-append p (x ∷ xs) ys =
@@ -36,7 +36,7 @@ times-here : (p : List ℕ) (ps : List (List ℕ)) → 0 < times p (p ∷ ps)
 times-here p ps =
     subst (λ (b : Bool). 0 < (if b then 1 else 0) + times p ps) (sym (path_same p)) (omega arith)
 
--- a path that isn't taken stands nowhere
+-- a path that isn't taken doesn't occur
 none_of : (path : List ℕ) (rs : List TaskResult) → take path rs ≡ None → times path (paths_of rs) ≡ 0
 none_of path [] e = refl
 none_of path (r ∷ rs) e = by_path (none_of path rs) (pointwise nat_eq r.path path) e
@@ -50,7 +50,7 @@ none_of path (r ∷ rs) e = by_path (none_of path rs) (pointwise nat_eq r.path p
     by_path rec true q = absurd (none-some _ (sym q))
     by_path rec false q = let h = rec (later_none (take path rs) q) in omega (arith, h)
 
--- whether a path is among some
+-- whether a path is among these paths
 pub among_times : (path : Path) (paths : List Path) → list_any (λ p. is_path p path) paths ≡ true
     → 0 < times path.turns.items (map (λ p. p.turns.items) paths)
 among_times path [] e = absurd (false_true e)
@@ -71,7 +71,7 @@ not_among path (p ∷ ps) e = by_path (not_among path ps) (is_path p path) e
     by_path rec true q = absurd (false_true (sym q))
     by_path rec false q = let h = rec q in omega (arith, h)
 
--- ---- what is listed and not opened
+-- ---- listed paths that aren't opened
 outstanding-hole : (p : List ℕ) (ws : List Waiting) (w : Waiting)
     → times p (outstanding ws (unopened w)) ≡ times p (w.hole.path ∷ []) + times p (outstanding ws w.part)
 outstanding-hole p [] w = omega arith
@@ -149,7 +149,7 @@ filled_part rs w child h = record {
 }
 
 module _ (start : TaskResult) (rs : List TaskResult) where
-  -- ---- at first
+  -- ---- at the start
   pub reached-first : IsReached start rs [] (record { left = rs; waiting = []; part = opened_of start })
   reached-first = record {
     opened = [];
@@ -177,7 +177,7 @@ module _ (start : TaskResult) (rs : List TaskResult) where
           let c = times-here w.hole.path [] in
           omega (arith, a, b, c)
 
-      -- its result isn't there
+      -- its result is missing
       pub lost : take w.hole.path left ≡ None → IsLost start rs w.hole.path
       lost e = record {
         opened = h.opened;
@@ -236,7 +236,7 @@ module _ (start : TaskResult) (rs : List TaskResult) where
         waiting = (each_end _ ws w h.waiting).0;
       }
 
-      -- a place comes back that is owned
+      -- a place comes back that is already owned
       pub back_twice : comes_back_twice w ≡ true → ComesBackTwice start rs w.hole.path
       back_twice e =
           let k = (each_end _ ws w h.waiting).1 in
@@ -256,7 +256,7 @@ module _ (start : TaskResult) (rs : List TaskResult) where
             twice = ap (λ (set : Places). meets set w.hole.windows) (sym owned) ∙ e;
           }
 
-    -- ---- nothing waits any more
+    -- ---- no result waits any more
     module _ (f : Part) (full : f.holes ≡ []) (none : ws ≡ [])
         (h : IsReached start rs used (record { left = left; waiting = ws; part = f })) where
       all_opened : (p : List ℕ) → times p (paths_of h.opened) ≡ times p (listed_by (start ∷ h.opened))

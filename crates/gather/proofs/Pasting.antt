@@ -34,7 +34,7 @@ use Rattle.gather.specs.declared.error.GatherError.{GatherError}
 use Rattle.gather.specs.declared.error.GatherError.TheVariants.{Lost, Double, Stranger, OutOfMemory}
 use Rattle.gather.specs.declared.filling.Filling.{Filling}
 
--- ---- at one place
+-- ---- a single place
 number_at : (w : Bool) (c p : Option Held) → is_some (owned_number c) ≡ w
     → option_map number_of (first_of (option_map Owned (owned_number c)) p)
     ≡ first_of (if w then option_map number_of c else None) (option_map number_of p)
@@ -125,7 +125,7 @@ module _ (before child after : Holdings) (ws : List Window)
       value_none (owned (held before) q) (free_unless_met (owned_by before) ws e q
       (sym (back q) ∙ value_some (owned (held child) q) some))
 
--- ---- whether anything strayed, by the test of it
+-- ---- the test for strays
 pub none-from : {A : Type 0} (xs : List A) → nat_eq (length xs) 0 ≡ true → xs ≡ []
 none-from [] e = refl
 none-from (x ∷ xs) e = let none : suc (length xs) ≡ 0 = eqb-true _ _ e in absurd (omega (arith, none))
@@ -133,7 +133,7 @@ none-from (x ∷ xs) e = let none : suc (length xs) ≡ 0 = eqb-true _ _ e in ab
 pub from-none : {A : Type 0} (xs : List A) → xs ≡ [] → nat_eq (length xs) 0 ≡ true
 from-none xs e = ap (λ (l : List _). nat_eq (length l) 0) e
 
--- ---- what is owned, by the test of it
+-- ---- the test for ownership
 pub back-just : (child : Holdings) (xs ws : List rWindow) → xs ≡ ws → IsJustAt (has (map window xs)) (owned (held child))
     → (q : Place) → owned_by child q ≡ has (map window ws) q
 back-just child xs ws same just q =
@@ -146,12 +146,12 @@ just-back child xs ws same back q =
 
 -- ---- a part to which places came back
 
--- what isn't owned by holdings alone is none's where nothing strayed
+-- a place that the holdings don't own isn't owned at all if there are no strays
 pub owned-clear : (f : Filling) → IsClear f → (part f).owned ≡ owned_by f.so_far.holdings
 owned-clear f clear =
     ap (λ (vs : List rWindow). λ (q : Place). has (map window vs) q || owned_by f.so_far.holdings q) clear
 
--- a part to which nothing has come yet
+-- a part to which nothing has come back yet
 abbrev opened_by : rTaskResult → List rWindow → List (List ℤ) → List Fault → List Listed → Part
 opened_by task ss ls fs hs = record {
   owned = λ q. has (map window ss) q || owned_by task.holdings q;
@@ -183,7 +183,7 @@ given-pasted f ws child h back pasted =
     ∙ ap (λ (c : Contents). record (given_back (part f) ws (contents_of child)) { so_far = record (settled f.so_far) { contents = c } })
     (contents-pasted before child h ws back pasted)
 
--- ---- places that a child had in whatever way
+-- ---- places that a child owned or copied
 number_written : (v : Option ℤ) (p : Option Held) → option_map number_of (written_over v p) ≡ first_of v (option_map number_of p)
 number_written None p = refl
 number_written (Some z) None = refl
@@ -263,7 +263,7 @@ filled-is f given hole child two three taken told is_given told_more is_two =
     ∙ ap (λ (s : Settled). record (part given) { so_far = s }) so_far_is
     ∙ ap (λ (p : Part). record p { so_far = tells p.so_far }) taken
 
--- ---- what is refused
+-- ---- errors
 pub refuses_back : (e : GatherError) (path : Path) (met : Bool) (apart : Type 0) → (met ≡ false → apart)
     → RefusesPaste path apart e → RefusesBack path met e
 refuses_back OutOfMemory path met apart back h = tt
@@ -278,7 +278,7 @@ refuses_hole (Lost other) w path same h = h
 refuses_hole (Double other) w path same h = (ap (λ (p : Path). p.turns.items) h.0 ∙ same, h.1)
 refuses_hole (Stranger other) w path same h = h
 
--- an error is passed on as it is
+-- an error is passed on unchanged
 pub passed_on : {A E : Type 0} (r : Result A E) (e : E) (P : E → Type 0) → IsErr r × IsErrAnd r (λ x. x ≡ e) → P e → IfErr r P
 passed_on (Ok x) e P h p = tt
 passed_on (Err x) e P h p = subst P (sym h.1) p

@@ -1,4 +1,4 @@
--- How turns of a stage are reached, and in which case a turn is refused.
+-- How iterations of a stage are reached, and the error of each failing one.
 use Rattle.std.proofs.Common.{◌≡◌, ℕ, List, [], ◌∷◌, ◌++◌, map, Some, sym, ap, subst, inl, inr}
 use Rattle.std.specs.List.{list_any}
 use Rattle.types.specs.declared.path.Path.{Path}
@@ -50,7 +50,7 @@ filled_reached start rs used left ws vs w f g child full popped is h =
     (reached-filled start rs used left ws w f full
     (subst (λ (vs : List Waiting). IsReached start rs used (record { left = left; waiting = vs; part = f })) popped h) child)
 
--- a place came back that is owned
+-- a place came back that is already owned
 pub hole_case : (used : List (List ℕ)) (left : List TaskResult) (ws vs : List Waiting) (w : Waiting) (f : Part) (e : GatherError)
     → f.holes ≡ [] → vs ≡ ws ++ w ∷ [] → RefusesHole w e
     → IsOwnCase used (record { left = left; waiting = vs; part = f }) e
@@ -62,7 +62,7 @@ hole_case used left ws vs w f (Double path) full popped h = λ start rs k.
     (subst (λ (vs : List Waiting). IsReached start rs used (record { left = left; waiting = vs; part = f })) popped k) h.1))
 hole_case used left ws vs w f (Stranger path) full popped h = absurd h
 
--- nothing waits any more, and a result is left
+-- no result waits any more, and a result is left
 pub left_case : (e : GatherError) (used : List Path) (left rest : List rTaskResult) (task : rTaskResult) (vs : List rWaiting) (f : Part)
     → f.holes ≡ [] → vs ≡ [] → left ≡ task ∷ rest → TellsLeftOver (list_any (λ p. is_path p task.path) used) task.path e
     → IsOwnCase (map (λ p. p.turns.items) used) (gathered left vs f) e

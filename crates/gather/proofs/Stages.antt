@@ -1,4 +1,4 @@
--- Turns of a stage.
+-- Iterations of a stage.
 use Rattle.std.proofs.Common.{◌≡◌, ℕ, List, [], ◌∷◌, ◌++◌, Some, refl, sym, ap, ◌∙◌, subst}
 use Rattle.std.specs.Prelude.{false}
 use Rattle.sections.specs.Covers.{has}

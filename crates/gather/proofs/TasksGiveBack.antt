@@ -1,4 +1,4 @@
--- What tasks give back at their ends is what is listed of them.
+-- What tasks give back at their ends is what is listed for them.
 use Rattle.std.proofs.Common.{◌≡◌, List, [], refl, sym, ap, ◌∙◌, subst}
 use Rattle.std.specs.Prelude.{ℤ, ◌||◌, nat_eq}
 use Rattle.std.specs.Cmp.Lexicographic.{pointwise}
@@ -21,7 +21,7 @@ use Rattle.own_run.proofs.BelongingTasks.{IsGivenBack, children_give_back}
 use Rattle.own_run.proofs.Lists.{each_map, each_more}
 use Rattle.gather.specs.GivesBack.{all_owned, GivesBack, AreGivenBack, GiveBack}
 
--- ---- what comes back from those that a task lists
+-- ---- the places that come back from the children that a task lists
 all_back : (st : State Own) (q : Place) → all_owned (result_of st) q ≡ (st.extra.owned q || back_from st.extra.pending q)
 all_back st q = refl
 

@@ -1,4 +1,4 @@
--- What comes of a gathering stays the same when a hole is opened, and when one is filled.
+-- The settled result of a gathering stays the same when a hole is opened, and when one is filled.
 use Rattle.std.proofs.Common.{◌≡◌, List, [], ◌∷◌, ◌++◌, Option, Some, None, sym, ap, ◌∙◌}
 use Rattle.std.specs.Prelude.{Bool, true, false, ◌||◌, if◌then◌else◌}
 use Rattle.sections.specs.Covers.{has}
@@ -10,16 +10,16 @@ use Rattle.gather.specs.Parts.{Part, Waiting, Comes, opened, closed, filled, com
 use Rattle.gather.specs.Parts.{gone_on, come, comes_to, unopened}
 use Rattle.gather.proofs.Depth.{and_then-assoc, and_then-none, settle_one-finished}
 
--- the last that waits goes on first
+-- the last one that waits continues first
 come-push : (ws : List Waiting) (w : Waiting) (x : Settled × List TaskResult) → come (ws ++ w ∷ []) x ≡ and_then (gone_on w x) (come ws)
 come-push [] w x = sym (and_then-some (gone_on w x))
 come-push (v ∷ ws) w x = ap (λ (o : Comes). and_then o (gone_on v)) (come-push ws w x) ∙ and_then-assoc (gone_on w x) (come ws) (gone_on v)
 
--- what comes of some that wait and one more
+-- the result of some that wait and one more
 abbrev comes_from : List Waiting → Comes → Option Settled
 comes_from ws o = and_then (and_then o (come ws)) none_left
 
--- ---- at first
+-- ---- at the start
 pub settle-opened : (r : TaskResult) (rs : List TaskResult)
     → comes_to (record { left = rs; waiting = []; part = opened r }) ≡ settle r rs
 settle-opened r rs =

@@ -1,4 +1,4 @@
--- Whatever is listed stays given back.
+-- All that is listed is still given back.
 use Rattle.std.proofs.Common.{◌≡◌, ℕ, List, [], ◌∷◌, ◌++◌, Some, refl, sym, ap, ◌∙◌}
 use Rattle.std.proofs.Math.Bool.{or_assoc, or-false}
 use Rattle.std.specs.Prelude.{◌||◌, nat_eq}
@@ -19,7 +19,7 @@ pub each_end : {A : Type 0} (P : A → Type 0) (xs : List A) (x : A) → Each P 
 each_end P [] x h = (tt, h.0)
 each_end P (y ∷ xs) x h = let k = each_end P xs x h.1 in ((h.0, k.0), k.1)
 
--- ---- what is owned in all
+-- ---- all owned places
 pub total-push : (ws : List Waiting) (w : Waiting) (f : Part) → total (ws ++ w ∷ []) f ≡ total ws (unopened w)
 total-push [] w f = refl
 total-push (v ∷ ws) w f = refl

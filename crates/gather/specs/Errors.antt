@@ -1,4 +1,4 @@
--- What an error is told by.
+-- The printed text of an error.
 use Rattle.std.specs.Prelude.{ℕ, List, codes, ◌++◌}
 use Rattle.types.specs.Names.{path_text}
 use Rattle.gather.specs.declared.error.GatherError.{GatherError}

@@ -1,4 +1,5 @@
--- What a task owns at its end, with what comes back to it, is what its parent lists for it.
+-- What a task owns at its end, together with what comes back to it, is what its parent lists for
+-- it.
 use Rattle.std.specs.Prelude.{◌≡◌, List, true, ◌||◌, nat_eq}
 use Rattle.std.specs.Cmp.Lexicographic.{pointwise}
 use Rattle.sections.specs.Covers.{has}
@@ -11,15 +12,15 @@ use Rattle.own_run.specs.Lists.{Each}
 abbrev pub all_owned : TaskResult → Places
 all_owned r q = r.owned q || returned r.children q
 
--- a result of the path that is listed so owns, in the end, what is listed
+-- if a result has the listed path, it owns in the end exactly what is listed
 abbrev pub GivesBack : Listed → TaskResult → Type 0
 GivesBack c r =
     pointwise nat_eq r.path c.path ≡ true → (q : Place) → all_owned r q ≡ has c.windows q
 
--- so do all results of what a task lists
+-- all results of a task's listed children give back what is listed
 abbrev pub AreGivenBack : List TaskResult → List Listed → Type 0
 AreGivenBack rs cs = Each (λ c. Each (GivesBack c) rs) cs
 
--- and of what results list themselves
+-- so do the results of all children that these results list
 abbrev pub GiveBack : TaskResult → List TaskResult → Type 0
 GiveBack r rs = AreGivenBack rs r.children × Each (λ x. AreGivenBack rs x.children) rs

@@ -1,4 +1,4 @@
--- What tasks are run for, in the words of the definitions.
+-- The job of a run, as the definitions have it.
 use Rattle.std.specs.Prelude.{List, ℤ}
 use Rattle.types.specs.Code.{Program}
 use Rattle.types.specs.Contents.{FitsArrays}
@@ -14,14 +14,14 @@ module _ (j : Job) where
   abbrev pub program_of : Program
   program_of = code_of j.accepted.now.typed
 
-  -- what the arrays hold at first
+  -- the contents of the arrays at the start
   abbrev pub lists_of : List (List ℤ)
   lists_of = input j.input.now
 
   abbrev pub budget_of : Budget
   budget_of = budget j.budget
 
-  -- what it comes to on one thread
+  -- its outcome on one thread
   abbrev pub outcome_of : Outcome
   outcome_of = outcome program_of lists_of budget_of
 

@@ -1,4 +1,4 @@
--- Results with holes, some of which are filled, and what comes of them.
+-- Results with some of their holes filled, and what they settle to.
 use Rattle.std.specs.Prelude.{◌+◌, ◌≡◌, List, [], ◌∷◌, ◌++◌, length, ℤ, Bool, ◌||◌}
 use Rattle.std.specs.Prelude.{Option, Some, None, if◌then◌else◌}
 use Rattle.sections.specs.Covers.{has}
@@ -11,22 +11,22 @@ use Rattle.own_run.specs.Settling.{fill_all, settle_within, none_left}
 use Rattle.own_run.specs.Lists.{Each}
 use Rattle.gather.specs.GivesBack.{AreGivenBack}
 
--- a result, some of whose holes are filled
+-- a result with some of its holes filled
 pub record Part : Type 0 where
   pub owned : Places
-  -- what has come so far, with all that the task has by itself
+  -- what has come back so far, together with what the task itself has
   pub so_far : Settled
   pub holes : List Listed
-  -- what it told behind its last hole
+  -- its lines and faults after its last hole
   pub lines : List (List ℤ)
   pub faults : List Fault
 
--- a result that waits for what goes into a hole
+-- a result that waits for the result of one of its holes
 pub record Waiting : Type 0 where
   pub part : Part
   pub hole : Listed
 
--- a result, none of whose holes is filled
+-- a result with none of its holes filled
 abbrev pub opened : TaskResult → Part
 opened r = record {
   owned = r.owned;
@@ -36,11 +36,11 @@ opened r = record {
   faults = r.faults;
 }
 
--- what has come, once what it told behind its last hole is told
+-- what has come back, followed by the lines and faults after the last hole
 abbrev pub closed : Part → (so_far : Settled) → Settled
 closed f s = record s { lines = s.lines ++ f.lines; faults = s.faults ++ f.faults }
 
--- places of windows come back, with the numbers that a child has there
+-- the places of windows come back, with the numbers that a child has there
 abbrev pub given_back : Part → List Window → (child : Contents) → Part
 given_back f ws child = record f {
   owned = λ q. f.owned q || has ws q;
@@ -54,11 +54,11 @@ filled w child = record w.part {
   so_far = fill w.hole child w.part.so_far;
 }
 
--- a place comes back that is owned
+-- a place comes back that is already owned
 abbrev pub comes_back_twice : Waiting → Bool
 comes_back_twice w = meets w.part.owned w.hole.windows
 
--- results that are settled take others with them, and leave the rest
+-- a settled result, and the results that it left unused
 abbrev pub Comes : Type 0
 Comes = Option (Settled × List TaskResult)
 
@@ -71,12 +71,12 @@ abbrev pub finished : Part → List TaskResult → Comes
 finished f rs =
     and_then (fill_all settle_one f.owned f.holes f.so_far rs) (λ all. Some (closed f all.0, all.1))
 
--- fills the hole that was waited for, and then the others
+-- fills the hole that was waited for, and then the remaining holes
 abbrev pub gone_on : Waiting → Settled × List TaskResult → Comes
 gone_on w x =
     if comes_back_twice w then None else finished (filled w x.0) x.1
 
--- and so on for all that wait, the last first
+-- continues in this way for all waiting results, the last first
 abbrev pub come : List Waiting → Settled × List TaskResult → Comes
 come [] x = Some x
 come (w ∷ ws) x = and_then (come ws x) (gone_on w)
@@ -85,33 +85,35 @@ come (w ∷ ws) x = and_then (come ws x) (gone_on w)
 abbrev pub owned_in_all : Part → Places
 owned_in_all f q = f.owned q || returned f.holes q
 
--- so of what was opened first: where one waits, its hole is among those that are left
+-- the places that the first opened result owns in the end: if it waits, its hole is among those
+-- that are left
 abbrev pub total : List Waiting → Part → Places
 total [] f = owned_in_all f
 total (w ∷ ws) f = owned_in_all (record w.part { holes = w.hole ∷ w.part.holes })
 
--- what goes into a hole owns, in the end, what is listed there
+-- the result of each hole owns in the end what is listed there
 abbrev pub Fit : List Waiting → Part → Type 0
 Fit [] f = Unit {0}
 Fit (w ∷ ws) f = ((q : Place) → total ws f q ≡ has w.hole.windows q) × Fit ws f
 
--- how far the gathering of results has come: what is left, what waits, and what is filled now
+-- the progress of the gathering: results that are left, results that wait, and the part that is
+-- filled now
 pub record Gathering : Type 0 where
   pub left : List TaskResult
   pub waiting : List Waiting
   pub part : Part
 
--- what comes of it all
+-- the settled result of the whole gathering
 abbrev pub comes_to : Gathering → Option Settled
 comes_to g = and_then (and_then (finished g.part g.left) (come g.waiting)) none_left
 
--- whatever is listed is given back
+-- all that is listed is given back
 pub record IsWhole (g : Gathering) : Type 0 where
   pub fit : Fit g.waiting g.part
   pub holes : AreGivenBack g.left g.part.holes
   pub waiting : Each (λ w. AreGivenBack g.left w.part.holes) g.waiting
   pub results : Each (λ x. AreGivenBack g.left x.children) g.left
 
--- a part before the hole for which it waits
+-- a waiting part before its hole was taken out
 abbrev pub unopened : Waiting → Part
 unopened w = record w.part { holes = w.hole ∷ w.part.holes }

@@ -8,7 +8,8 @@ use Rattle.gather.specs.Refusal.{IsCaseOf, Opening, listed, listed_by, paths_of,
 use Rattle.gather.specs.declared.error.GatherError.{GatherError}
 use Rattle.gather.specs.declared.settle.Results.{Results}
 
--- a part of one of some results: the first of its holes are filled, and what they own is owned
+-- a part of one of these results: its first holes are filled, and the places that came back are
+-- owned
 pub record IsPartOf (rs : List TaskResult) (f : Part) : Type 0 where
   pub whole : TaskResult
   pub others : List TaskResult
@@ -17,12 +18,12 @@ pub record IsPartOf (rs : List TaskResult) (f : Part) : Type 0 where
   pub lists : whole.children ≡ before ++ f.holes
   pub owned : (q : Place) → f.owned q ≡ (whole.owned q || returned before q)
 
--- the paths that are listed, and of which nothing is opened for it
+-- the listed paths for which no result is opened yet
 abbrev pub outstanding : List Waiting → Part → List (List ℕ)
 outstanding [] f = listed f.holes
 outstanding (w ∷ ws) f = listed w.part.holes ++ outstanding ws f
 
--- results of these paths were opened one after the other, and the parts are theirs
+-- results with these paths were opened one after the other, and the parts belong to them
 pub record IsReached (start : TaskResult) (rs : List TaskResult) (used : List (List ℕ))
     (g : Gathering) : Type 0 where
   pub opened : List TaskResult
@@ -37,12 +38,12 @@ pub record IsReached (start : TaskResult) (rs : List TaskResult) (used : List (L
 abbrev pub used_by : Results → List (List ℕ)
 used_by r = map (λ p. p.turns.items) r.used.items
 
--- a gathering goes on to another, from wherever it was reached
+-- a gathering continues to another one, in whichever way the first was reached
 abbrev pub GoesOn : (used : List (List ℕ)) → Gathering → (more : List (List ℕ)) → Gathering → Type 0
 GoesOn used g more h =
     (start : TaskResult) (rs : List TaskResult) → IsReached start rs used g → IsReached start rs more h
 
--- an error is in its own case, from whatever a gathering was reached
+-- an error is the right one, in whichever way the gathering was reached
 abbrev pub IsOwnCase : (used : List (List ℕ)) → Gathering → GatherError → Type 0
 IsOwnCase used g e =
     (start : TaskResult) (rs : List TaskResult) → IsReached start rs used g → IsCaseOf start rs e

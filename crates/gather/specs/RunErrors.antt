@@ -1,4 +1,4 @@
--- Why a run has no outcome.
+-- The reasons why a run has no outcome.
 use Rattle.std.specs.Prelude.{ℕ, ◌≤◌, List, codes}
 use Rattle.gather.specs.declared.error.GatherError.{GatherError}
 use Rattle.gather.specs.declared.error.GatherError.TheVariants.{Lost, Double, Stranger}
@@ -13,8 +13,8 @@ error_code (TooManyTasks ticket) = codes "E2"
 error_code (Gather e) = codes "E3"
 error_code Late = codes "E4"
 
--- E2 has a ticket whose number is the most tasks that the run may have, or more; want of memory is never
--- told as E3
+-- E2 has a ticket whose number is at least the maximum number of tasks of the run; E3 never means
+-- out of memory
 abbrev pub IsCause : (tasks : ℕ) → RunError → Type 0
 IsCause tasks OutOfMemory = Unit {0}
 IsCause tasks (TooManyTasks ticket) = tasks ≤ ticket.number
@@ -22,7 +22,7 @@ IsCause tasks (Gather NoMemoryToGather) = ⊥
 IsCause tasks (Gather e) = Unit {0}
 IsCause tasks Late = Unit {0}
 
--- why a run is refused where results can't be put together
+-- the error of a run whose results can't be put together
 abbrev pub refused_by : GatherError → RunError
 refused_by NoMemoryToGather = OutOfMemory
 refused_by (Lost path) = Gather (Lost path)

@@ -1,4 +1,4 @@
--- Stages of the gathering as they stand in Rust, without what says where they lie in memory.
+-- Stages of the gathering in Rust, without their locations in memory.
 use Rattle.std.specs.Prelude.{ℕ, ◌+◌, ◌*◌, ◌≡◌, ◌||◌, List, [], map, length, Some}
 use Rattle.std.specs.Vec.{vec_len}
 use Rattle.sections.specs.Covers.{has}
@@ -17,7 +17,7 @@ use Rattle.gather.specs.declared.filling.Filling.{Filling}
 use Rattle.gather.specs.declared.filling.Waiting.{Waiting as rWaiting}
 use Rattle.gather.specs.declared.settle.Stage.{Stage}
 
--- a result that is being filled: what strayed counts as owned, too
+-- a result that is being filled; strays count as owned too
 abbrev pub part : Filling → Part
 part f = record {
   owned = λ q. has (map window f.strays.items) q || owned_by f.so_far.holdings q;
@@ -27,14 +27,14 @@ part f = record {
   faults = map fault f.faults.items;
 }
 
--- one that waits for what goes into a hole
+-- a result that waits for the result of one of its holes
 abbrev pub waiting_for : Filling → rListed → Waiting
 waiting_for f hole = record { part = part f; hole = listed hole }
 
 abbrev pub waiting : rWaiting → Waiting
 waiting w = waiting_for w.filling w.hole
 
--- nothing strayed
+-- there are no strays
 abbrev pub IsClear : Filling → Type 0
 IsClear f = f.strays.items ≡ []
 
@@ -46,7 +46,7 @@ gathered left ws f = record { left = map task_result left; waiting = map waiting
 abbrev pub gathering : Stage → Gathering
 gathering g = gathered (left g.results.unused) g.waiting.items (part g.filling)
 
--- nothing strayed, in what is filled and in those that wait
+-- there are no strays, neither in the current part nor in the waiting ones
 abbrev pub AreClear : Stage → Type 0
 AreClear g = IsClear g.filling × Each (λ w. IsClear w.filling) g.waiting.items
 
@@ -54,27 +54,28 @@ AreClear g = IsClear g.filling × Each (λ w. IsClear w.filling) g.waiting.items
 abbrev pub owned_in_end : Gathering → Places
 owned_in_end g = total g.waiting g.part
 
--- a gathering leads to another, of which the same comes
+-- a gathering leads to another one with the same settled result
 pub record Leads (g h : Gathering) : Type 0 where
   pub comes : comes_to h ≡ comes_to g
   pub owned : (q : Place) → owned_in_end h q ≡ owned_in_end g q
   pub whole : IsWhole g → IsWhole h
 
--- this is what comes of a stage
+-- this is the settled result of a stage
 pub record Ends (g : Stage) (s : rSettled) : Type 0 where
   pub comes : Some (settled s) ≡ comes_to (gathering g)
   pub owned : IsClear g.filling → (q : Place) → owned_by s.holdings q ≡ owned_in_end (gathering g) q
 
--- a stage, with a hole that was taken out of its part put back
+-- a stage before a hole was taken out of its part
 abbrev pub gathering_before : Stage → rListed → Gathering
 gathering_before g hole =
     gathered (left g.results.unused) g.waiting.items (unopened (waiting_for g.filling hole))
 
--- no hole is left, and nothing waits
+-- no hole is left, and no result waits
 abbrev pub IsFull : Stage → Type 0
 IsFull g = (g.waiting.items ≡ []) × (g.filling.holes.items ≡ [])
 
--- how many turns are left at most: a result is opened once, and goes on once behind each hole
+-- the maximum number of iterations left: a result is opened once, and continues once after each
+-- hole
 abbrev pub turns_left : (results waiting : ℕ) → ℕ
 turns_left results waiting = 2 * results + waiting
 

@@ -1,4 +1,4 @@
-//! Why results can't be put together.
+//! The reasons why results can't be put together.
 
 ghost use Rattle.std.specs.Prelude.{◌≡◌, Some};
 ghost use Rattle.gather.specs.Errors.{error_code, error_text};
@@ -9,22 +9,25 @@ use std::fmt;
 use thiserror::Error;
 use types::path::Path;
 
-/// Why results don't make a whole, with a call of `settle` that says so: `root` is the result of the root of
-/// `main { async { } }`, which lists 0.1, and `child` that of 0.1.
+/// The reason why results don't fit together, with an example of a call to `settle` for each. In
+/// the examples, `root` is the result of the root of `main { async { } }`, which lists 0.1, and
+/// `child` is the result of 0.1.
 #[derive(PartialEq, Eq, Debug, Drop, Error)]
 pub enum GatherError {
-    /// `G1 0.1`, a task that is listed has no result: `root` and no results.
+    /// `G1 0.1`: a listed task has no result. Example: `root` without results.
     Lost(Path),
-    /// `G2 0.1`, a path has two results: `root`, with `child` twice. Or a place comes back that is owned.
+    /// `G2 0.1`: a path has two results, or a place comes back that is already owned. Example:
+    /// `root` with `child` twice.
     Double(Path),
-    /// `G3 0.1`, a result that nobody lists: the result of the root of `main { }`, with `child`.
+    /// `G3 0.1`: nobody lists this result. Example: the result of the root of `main { }`, with
+    /// `child`.
     Stranger(Path),
-    /// `G4`, want of memory: `root` with `child` where memory is refused.
+    /// `G4`: out of memory. Example: `root` with `child`, if an allocation fails.
     OutOfMemory,
 }
 
 impl GatherError {
-    /// The code of the error.
+    /// Returns the code of the error.
     pub fn code(&self) -> &'static str
         ensures { result.now ≡ error_code self.now }
     {

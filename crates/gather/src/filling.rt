@@ -1,4 +1,4 @@
-//! Results with holes, which are filled in turn.
+//! Results with holes, which are filled in order.
 
 ghost use Rattle.std.specs.Prelude.{◌≡◌, ◌++◌, IfErr, IfOk, OnOk, false, map};
 ghost use Rattle.sections.specs.Covers.{has};
@@ -24,23 +24,23 @@ use std::collections::VecDeque;
 use types::fault::Fault;
 use types::path::Path;
 
-/// A result, some of whose holes are filled.
+/// A result with some of its holes filled.
 #[derive(Drop)]
 pub struct Filling {
-    /// What has come so far, with all that the task has by itself.
+    /// What has come back so far, together with what the task itself has.
     pub so_far: Settled,
-    /// Windows that were given back by tasks that didn't own just these, so that their places count as
-    /// owned, whatever the holdings have there. Tasks of a program leave none.
+    /// Windows that came back from tasks that didn't own exactly these windows. Their places count
+    /// as owned, independent of the holdings. Tasks of a program leave none.
     pub strays: Vec<Window>,
     /// The holes that aren't filled yet.
     pub holes: VecDeque<Listed>,
 
-    // What it told behind its last hole.
+    // Its lines and faults after its last hole.
     pub lines: Vec<Vec<i64>>,
     pub faults: Vec<Fault>,
 }
 
-/// A result that waits for what goes into one of its holes.
+/// A result that waits for the result of one of its holes.
 #[derive(Drop)]
 pub struct Waiting {
     pub filling: Filling,
@@ -48,7 +48,7 @@ pub struct Waiting {
 }
 
 impl Filling {
-    /// A result, none of whose holes is filled, and its path.
+    /// Returns a result with none of its holes filled, and its path.
     pub fn of(alloc: Global, task: TaskResult) -> (Filling, Path)
         ensures opened { part_of result.0 ≡ opened (result_of task) }
         ensures clear { IsClear result.0 }
@@ -71,7 +71,7 @@ impl Filling {
         (filling, task.path)
     }
 
-    /// What has come: what was told behind the last hole stands last.
+    /// Returns what has come back, followed by the lines and faults after the last hole.
     pub fn close(self) -> Result<Settled, AllocError>
         ensures closed { IfOk result (λ s.
             settled_of s ≡ closed (part_of self) (part_of self).so_far) }
@@ -82,7 +82,7 @@ impl Filling {
         Ok(settled)
     }
 
-    /// Fills a hole with what came of its task.
+    /// Fills a hole with the settled result of its task.
     pub fn fill(&mut self, alloc: Global, hole: Listed, child: Settled) -> Result<(), GatherError>
         ensures filled { OnOk result
             (part_of self.new ≡ filled (waiting_for self.old hole) (settled_of child)) }
@@ -99,8 +99,8 @@ impl Filling {
         Ok(())
     }
 
-    /// Takes the places of windows back from a task, with the numbers that it has there. Where it owns
-    /// just these, blocks move without a look at their numbers.
+    /// Takes the places of windows back from a task, with the numbers that it has there. If the
+    /// task owns exactly these places, whole blocks move without a look at their numbers.
     fn take_back(
         &mut self,
         alloc: Global,
@@ -124,7 +124,7 @@ impl Filling {
     }
 }
 
-/// Takes the owned places in that come back from a task.
+/// Takes in the owned places that come back from a task.
 fn paste(
     alloc: Global,
     holdings: &mut Holdings,
@@ -146,7 +146,7 @@ fn paste(
     }
 }
 
-/// Tells lines and faults behind what was told.
+/// Appends lines and faults.
 fn tell(settled: &mut Settled, lines: Vec<Vec<i64>>, faults: Vec<Fault>) -> Result<(), AllocError>
     ensures told { OnOk result (settled_of settled.new ≡ record (settled_of settled.old) {
       lines = (settled_of settled.old).lines ++ map (λ v. v.items) lines.items;

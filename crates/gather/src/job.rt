@@ -1,4 +1,4 @@
-//! What tasks are run for.
+//! The job of a run.
 
 ghost use Rattle.std.specs.Prelude.{◌≡◌, IfOk};
 ghost use Rattle.types.specs.Contents.{FitsArrays};
@@ -14,7 +14,7 @@ use std::alloc::{AllocError, Global};
 use types::budget::Budget;
 use types::input::Input;
 
-/// A program, an input and a budget: what names a run.
+/// The job of a run: its program, input and budget.
 #[derive(Clone, Copy)]
 pub struct Job<'p> {
     pub alloc: Global,
@@ -24,7 +24,7 @@ pub struct Job<'p> {
 }
 
 impl<'p> Job<'p> {
-    /// What its tasks go by.
+    /// Returns the plan of its tasks.
     pub fn plan(self) -> Plan<'p>
         ensures program { program_of result.program.now ≡ code_of self.entry.accepted.now.typed }
         ensures budget { result.budget ≡ self.entry.budget }
@@ -36,7 +36,7 @@ impl<'p> Job<'p> {
         }
     }
 
-    /// What the root starts with: `main`, with all arrays.
+    /// Returns the start of the root: `main`, with all arrays.
     pub fn root(self) -> Result<Start<'p>, AllocError>
         requires { FitsArrays (code_of self.accepted.now.typed).arrays (lists_in self.input.now) }
         ensures { IfOk result (λ s. start_of s ≡ root_of (code_of self.entry.accepted.now.typed)

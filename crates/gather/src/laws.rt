@@ -1,4 +1,4 @@
-//! Laws of what comes back, each the contract of a function that does nothing.
+//! Theorems about the places that come back, each the contract of an empty function.
 
 ghost use Rattle.std.specs.Prelude.{◌≡◌, ℤ, List};
 ghost use Rattle.sections.specs.Place.{Place};
@@ -18,8 +18,9 @@ ghost use Rattle.own_run.specs.Translation.{owned_by};
 ghost use Rattle.own_run.specs.declared.result.Settled.{Settled};
 ghost use Rattle.gather.specs.GivesBack.{GiveBack, all_owned};
 
-/// Wherever a task of a sound and accepted program may come to stand: the results of tasks that came
-/// to their ends give back what is listed of them, so that its result may be settled with them.
+/// In each configuration that a task of a sound and accepted program can reach, the results of
+/// tasks that have ended give back what is listed for these tasks. So its result may be settled
+/// with them.
 pub fn results_of_tasks_give_back()
     ensures { (p : Program) → IsSound p → IsAccepted p
         → (input : List (List ℤ)) (b : Budget) → FitsArrays p.arrays input
@@ -28,8 +29,8 @@ pub fn results_of_tasks_give_back()
         → GiveBack (result_of t.state) rs }
 {}
 
-/// A task goes on behind a finish with the places that it owned, and those that come back: that is
-/// all that is owned once its result is settled.
+/// After a finish, a task continues with the places that it owned, and with those that come back.
+/// These are all places that are owned once its result is settled.
 pub fn settled_places_come_back()
     ensures { (st : State Own) (s : Settled)
         → ((q : Place) → owned_by s.holdings q ≡ all_owned (result_of st) q) → ComesBack s st }

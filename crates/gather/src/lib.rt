@@ -1,4 +1,4 @@
-//! Results of tasks, put together by path; and what tasks are run for.
+//! The results of tasks, put together by path, and the job of a run.
 
 #![tactic(auto)]
 

@@ -1,4 +1,4 @@
-//! Why a run has no outcome.
+//! The reasons why a run has no outcome.
 
 ghost use Rattle.std.specs.Prelude.{◌≡◌};
 ghost use Rattle.gather.specs.RunErrors.{error_code, refused_by};
@@ -8,24 +8,25 @@ use crate::error::GatherError;
 use std::alloc::AllocError;
 use tickets::Ticket;
 
-/// Why a run has no outcome: what came first. With a run to which it happens, where one is known.
+/// The first reason why a run has no outcome, with an example of such a run if one is known.
 #[derive(PartialEq, Eq, Debug, Drop)]
 pub enum RunError {
-    /// E1: memory, as may be of `main { }`; a thread that couldn't be started; a scope that has issued
-    /// weight, or a worker that has drawn tickets, as often as is counted.
+    /// E1: out of memory, which can happen for `main { }`; or a thread couldn't be started; or a
+    /// counter is used up: a scope has issued weight, or a worker has drawn tickets, the maximum
+    /// number of times.
     OutOfMemory,
-    /// E2: this ticket was drawn, whose number is the most tasks that the run may have, or more: 1 of
-    /// `main { async { } }` where that is 1.
+    /// E2: this ticket was drawn, whose number is at least the maximum number of tasks of the run.
+    /// Example: ticket 1 of `main { async { } }`, if the maximum is 1.
     TooManyTasks(Ticket),
-    /// E3: the results of tasks don't make a whole. No run is known that comes to it.
+    /// E3: the results of tasks don't fit together. No run is known in which this happens.
     Gather(GatherError),
-    /// E4: a scope didn't take what was given back to it, or it was complete and nobody its owner. No
-    /// run is known that comes to it.
+    /// E4: a scope didn't accept what was given back to it, or a complete scope had no owner. No
+    /// run is known in which this happens.
     Late,
 }
 
 impl RunError {
-    /// The code that the program prints.
+    /// Returns the code that the program prints.
     pub fn code(&self) -> &'static str
         ensures { result.now ≡ error_code self.now }
     {

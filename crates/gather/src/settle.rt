@@ -1,4 +1,4 @@
-//! Results put together by path.
+//! Settling: results are put together by path.
 
 ghost use Rattle.std.specs.Prelude.{◌≡◌, ◌<◌, [], IfErr, IfOk, IsTrue, OnOk, Some, false, map};
 ghost use Rattle.std.specs.List.{list_any};
@@ -21,26 +21,26 @@ use own_run::result::{Listed, Settled, TaskResult};
 use std::alloc::Global;
 use types::path::Path;
 
-/// How far the gathering has come.
+/// The progress of the gathering.
 #[derive(Drop)]
 pub struct Stage {
     pub results: Results,
-    /// Those that wait for what goes into a hole, the one that waits for the part below last.
+    /// The results that wait for one of their holes. The last one waits for `filling`.
     pub waiting: Vec<Waiting>,
     pub filling: Filling,
 }
 
-/// The results.
+/// The results that were passed to `settle`.
 #[derive(Drop)]
 pub struct Results {
-    /// Those that aren't used yet.
+    /// The results that aren't used yet.
     pub unused: Unused,
-    /// The paths of the others.
+    /// The paths of the used results.
     pub used: Vec<Path>,
 }
 
-/// Puts the results of tasks into the holes of a result, each by its path, at whatever depth it is
-/// listed. Nothing here recurses along the depth.
+/// Puts the results of tasks into the holes of a result. Each goes into the hole with its path, at
+/// any depth. No function recurses along this depth.
 pub fn settle(
     alloc: Global,
     start: TaskResult,
@@ -71,8 +71,8 @@ pub fn settle(
 }
 
 impl Stage {
-    /// Opens the result of the next hole or, where no hole is left, fills the hole of the one that
-    /// waits. False where none waits either, and nothing has changed.
+    /// Opens the result of the next hole. If no hole is left, it fills the hole of the result that
+    /// waits. Returns false if no result waits either, and then nothing has changed.
     fn turn(&mut self, alloc: Global) -> Result<bool, GatherError>
         ensures leads { OnOk result (Leads (stage_of self.old) (stage_of self.new)) }
         ensures clear { OnOk result
@@ -93,7 +93,7 @@ impl Stage {
         }
     }
 
-    /// Opens the result of a hole, for which the part waits.
+    /// Opens the result of a hole, while the current part waits.
     fn open(&mut self, alloc: Global, hole: Listed) -> Result<(), GatherError>
         ensures leads { OnOk result (Leads (stage_before self.old hole) (stage_of self.new)) }
         ensures clear { OnOk result (AreClear self.old → AreClear self.new) }
@@ -116,7 +116,8 @@ impl Stage {
         }
     }
 
-    /// A part whose holes are filled goes into the hole of the one that waits for it, if one does.
+    /// Fills the hole of the waiting result with the current part, whose own holes are all filled.
+    /// Returns false if no result waits.
     fn go_on(&mut self, alloc: Global) -> Result<bool, GatherError>
         requires { self.old.filling.holes.items ≡ [] }
         ensures leads { OnOk result (Leads (stage_of self.old) (stage_of self.new)) }
@@ -141,7 +142,7 @@ impl Stage {
         }
     }
 
-    /// Nothing waits any more: no result is left.
+    /// Ends the gathering, when no result waits any more. It fails if a result is left.
     fn end(self) -> Result<Settled, GatherError>
         requires { IsFull self }
         ensures ends { IfOk result (Ends self) }
@@ -162,7 +163,7 @@ impl Stage {
     }
 }
 
-/// A result of a path is left over, where those of some paths were used.
+/// Returns the error for a result that is left over, given the paths of the used results.
 fn left_over(used: &[Path], path: Path) -> GatherError
     ensures { TellsLeftOver (list_any (λ p. is_path p path) used.now) path result }
 {
@@ -173,7 +174,7 @@ fn left_over(used: &[Path], path: Path) -> GatherError
     }
 }
 
-/// Whether a path is among some.
+/// Returns whether a path is among these paths.
 fn has_path(paths: &[Path], path: &Path) -> bool
     ensures { result ≡ list_any (λ p. is_path p path.now) paths.now }
 {

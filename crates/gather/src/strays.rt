@@ -1,4 +1,4 @@
-//! What comes back from a task that doesn't own just what is listed for it.
+//! Places that come back from a task that doesn't own exactly what is listed for it.
 
 ghost use Rattle.std.specs.Prelude.{◌≡◌, ◌+◌, ◌&&◌, IfErr, OnOk, false, map, nat_eq, nat_le, nat_lt};
 ghost use Rattle.std.specs.List.{list_any};
@@ -16,8 +16,9 @@ use sections::window::{Place, Window};
 use types::path::Path;
 
 impl Filling {
-    /// Takes the places of windows back one by one: where the task has a number, owned or not, that is
-    /// put in as a copy, and elsewhere the old one stays. All count as owned from then on.
+    /// Takes the places of windows back one by one. If the task has a number for a place, owned or
+    /// not, it is stored as a copy. Otherwise the old number stays. All places count as owned from
+    /// then on.
     pub fn take_strays(
         &mut self,
         path: Path,
@@ -40,7 +41,7 @@ impl Filling {
         Ok(())
     }
 
-    /// Whether one of the places of windows counts as owned.
+    /// Returns whether one of the places of windows counts as owned.
     fn owns_one(&self, windows: &[Window]) -> bool
         ensures { result ≡ meets (part_of self.now).owned (map window_of windows.now) }
     {
@@ -52,7 +53,7 @@ impl Filling {
         false
     }
 
-    /// The same of one window.
+    /// Returns whether one of the places of a window counts as owned.
     fn owns_one_of(&self, window: Window) -> bool
         ensures { result
             ≡ has_one (part_of self.now).owned window.array.number window.at window.len }
@@ -73,7 +74,7 @@ impl Filling {
         false
     }
 
-    /// Whether a place counts as owned.
+    /// Returns whether a place counts as owned.
     fn owns(&self, place: Place) -> bool
         ensures { result ≡ (part_of self.now).owned (place_of place) }
     {
@@ -81,7 +82,7 @@ impl Filling {
     }
 }
 
-/// Whether one of some windows has a place.
+/// Returns whether one of these windows contains a place.
 fn have(windows: &[Window], place: Place) -> bool
     ensures { result ≡ list_any (λ w. nat_eq place.array.number w.array.number
         && (nat_le w.at place.index && nat_lt place.index (w.at + w.len))) windows.now }

@@ -1,4 +1,4 @@
-//! A table of results, each found by a look-up of its path.
+//! A table of results. Each is found by a look-up of its path.
 
 ghost use Rattle.std.specs.Prelude.{◌≡◌, ◌∷◌, IsSome, None, OnOk, Some, reverse};
 ghost use Rattle.std.specs.Prelude.{if◌then◌else◌, slice_index_or, slice_set};
@@ -11,19 +11,20 @@ use own_run::result::TaskResult;
 use std::alloc::{AllocError, Global};
 use types::path::Path;
 
-/// A result, and where the next of its path stands.
+/// A result, and the position of the next result with the same path.
 #[derive(Drop)]
 pub struct Entry {
     pub task: TaskResult,
     pub next: Option<usize>,
 }
 
-/// Results that aren't used yet, in turn. The first of a path is found by one look-up.
+/// Results that aren't used yet, in order. The first one with a path is found by one look-up.
 #[derive(Drop)]
 pub struct Table {
-    /// The last result first, so that the table is filled from the back; none where one was used.
+    /// The results in reverse order, so the table is filled from the back. None if the result was
+    /// used.
     places: Vec<Option<Entry>>,
-    /// Where the first result of each path stands that is left.
+    /// The position of the first remaining result with each path.
     first: IndexMap<Path, Option<usize>>,
     ghost chained: { AreChained (reverse places.items) } by { Prim.hlevel props },
     ghost finds: { FindsFirsts first (reverse places.items) } by { Prim.hlevel props },
@@ -35,7 +36,7 @@ impl Table {
     ghost use Rattle.own_run.specs.Settling.{take as take_of};
     ghost use Rattle.own_run.specs.Translation.{task_result as result_of};
 
-    /// All of some results.
+    /// Creates a table of these results.
     pub fn of(alloc: Global, results: Vec<TaskResult>) -> Result<Table, AllocError>
         ensures { IfOk result (λ table. left_of table ≡ results.items) }
     {
@@ -48,7 +49,7 @@ impl Table {
         Ok(Table { places, first })
     }
 
-    /// Takes the first result of a path out.
+    /// Takes out the first result with a path.
     pub fn take(&mut self, path: &Path) -> Option<TaskResult>
         ensures found { IfSome result (λ task.
             take_of path.now.turns.items (map result_of (left_of self.old))
@@ -64,7 +65,7 @@ impl Table {
         Some(entry.task)
     }
 
-    /// The first of all that are left.
+    /// Returns the first of all remaining results.
     pub fn into_first(self) -> Option<TaskResult>
         ensures { MatchOption result (left_of self ≡ [])
             (λ task. (rest : List TaskResult) × (left_of self ≡ task ∷ rest)) }
@@ -99,14 +100,14 @@ fn put_first(
     Ok(())
 }
 
-/// Where the first result of a path stands, by the table.
+/// Returns the position of the first result with a path, according to the table.
 fn first_place(first: &IndexMap<Path, Option<usize>>, path: &Path) -> Option<usize>
     ensures { result ≡ said_of first.now path.now }
 {
     first.get(path).copied().flatten()
 }
 
-/// Sets where the first result of a path stands, which had one so far.
+/// Sets the position of the first result with a path. The table has to contain the path.
 fn set_first_place(first: &mut IndexMap<Path, Option<usize>>, path: &Path, next: Option<usize>)
     requires { IsSome (said_of first.old path.now) }
     ensures { (other : Path) → said_of first.new other
@@ -117,7 +118,7 @@ fn set_first_place(first: &mut IndexMap<Path, Option<usize>>, path: &Path, next:
     }
 }
 
-/// Takes the result out of a place.
+/// Takes the result out of a position.
 fn take_from(places: &mut Vec<Option<Entry>>, place: usize) -> Entry
     requires { IsSome (slice_index_or places.old.items place None) }
     ensures found { slice_index_or places.old.items place None ≡ Some result }

@@ -1,4 +1,4 @@
-//! What is told of a run, once all of it has settled.
+//! The outcome of a run, once all of it has settled.
 
 ghost use Rattle.std.specs.Prelude.{◌≡◌, IfOk, map};
 ghost use Rattle.types.specs.Contents.{shown as shown_in};
@@ -13,7 +13,7 @@ use std::alloc::{AllocError, Global};
 use types::code::{Array, Program};
 use types::outcome::Outcome;
 
-/// What is told of a run of the program in which all this has come.
+/// Returns the outcome of a run of the program with this settled result.
 pub fn told(alloc: Global, program: &Program, settled: Settled) -> Result<Outcome, AllocError>
     ensures told { IfOk result (λ o. outcome_of o
         ≡ told_of (program_of program.now) (settled_of settled)) }
@@ -28,7 +28,7 @@ pub fn told(alloc: Global, program: &Program, settled: Settled) -> Result<Outcom
     })
 }
 
-/// The numbers of all arrays, in the order of declaration.
+/// Returns the numbers of all arrays, in the order of declaration.
 fn shown(
     alloc: Global,
     declared: &[Array],

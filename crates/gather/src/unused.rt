@@ -1,4 +1,4 @@
-//! Results that aren't used yet, each found by its path.
+//! Results that aren't used yet. Each is found by its path.
 
 ghost use Rattle.std.specs.Prelude.{◌≡◌, ◌∷◌, ◌+◌, [], IfNone, IfOk, IfSome, List, MatchOption};
 ghost use Rattle.std.specs.Prelude.{None, Some, length, map};
@@ -15,22 +15,22 @@ use std::alloc::{AllocError, Global};
 use std::collections::VecDeque;
 use types::path::Path;
 
-/// So many results are looked through sooner than a table of them is filled.
+/// Up to this number, a linear search is faster than a table.
 const FEW: usize = 16;
 
-/// Results that aren't used yet, in turn.
+/// Results that aren't used yet, in order.
 #[derive(Drop)]
 pub enum Unused {
-    /// A few, or in the order of their paths: looked through from the front.
+    /// A few results, or results in the order of their paths. The search starts at the front.
     InTurn(VecDeque<TaskResult>),
-    /// Many in whatever order: each found by a look-up.
+    /// Many results in another order. Each is found by a look-up.
     Tabled(Table),
 }
 
 impl Unused {
     ghost use Rattle.gather.specs.Left.{left};
 
-    /// All of some results.
+    /// Creates the collection of these results.
     pub fn of(alloc: Global, results: Vec<TaskResult>) -> Result<Unused, AllocError>
         ensures { IfOk result (λ unused. left unused ≡ results.items) }
     {
@@ -41,7 +41,7 @@ impl Unused {
         Ok(Unused::Tabled(table))
     }
 
-    /// Takes the first result of a path out.
+    /// Takes out the first result with a path.
     pub fn take(&mut self, path: &Path) -> Option<TaskResult>
         ensures found { IfSome result (λ task.
             take_of path.now.turns.items (map result_of (left self.old))
@@ -57,7 +57,7 @@ impl Unused {
         }
     }
 
-    /// The first of all that are left.
+    /// Returns the first of all remaining results.
     pub fn into_first(self) -> Option<TaskResult>
         ensures { MatchOption result (left self ≡ [])
             (λ task. (rest : List TaskResult) × (left self ≡ task ∷ rest)) }
@@ -72,7 +72,8 @@ impl Unused {
     }
 }
 
-/// Whether results come in the order of their paths. A hole's result is then the first that is left.
+/// Returns whether results are in the order of their paths. The result of a hole is then the first
+/// one left.
 fn are_in_order(results: &[TaskResult]) -> bool
     ensures { IsAllAdjacentAnswer (λ one next b. b ≡ partial_le
         (slice_partial_cmp (λ x y. Some (nat_cmp x y)))
@@ -81,7 +82,7 @@ fn are_in_order(results: &[TaskResult]) -> bool
     results.is_sorted_by(|one, next| one.path.turns <= next.path.turns)
 }
 
-/// Takes the first result of a path out, looked for from the front.
+/// Takes out the first result with a path, searching from the front.
 fn take_first(tasks: &mut VecDeque<TaskResult>, path: &Path) -> Option<TaskResult>
     ensures found { IfSome result (λ task.
         take_of path.now.turns.items (map result_of tasks.old.items)
@@ -96,7 +97,7 @@ fn take_first(tasks: &mut VecDeque<TaskResult>, path: &Path) -> Option<TaskResul
     }
 }
 
-/// Where the first result of a path stands.
+/// Returns the position of the first result with a path.
 fn index_of(results: &VecDeque<TaskResult>, path: &Path) -> Option<usize>
     ensures { result ≡ position (is_of path.now.turns.items) results.now.items }
 {

@@ -17,7 +17,7 @@ row_is c a at (x ∷ xs) h =
     h (suc k) (omega (arith, lt)) ∙ ap (λ j. read c (record { array = a; index = j })) s) in
     ap (λ y. y ∷ xs) first ∙ ap (λ ys. read c (record { array = a; index = at }) ∷ ys) rest
 
--- what a list is after a write through a borrow of all of it
+-- what a list is after a write through a borrow of the whole list
 pub written_back : (n : ℕ) (xs ys : List ℤ) → length xs ≡ n → length ys ≡ n → take n (ys ++ drop (length ys) xs) ≡ ys
 written_back n xs ys l k =
     let none : drop (length ys) xs ≡ [] = drop_all (length ys) xs (omega (arith, l, k)) in

@@ -1,4 +1,4 @@
--- What a refused call is told by.
+-- Errors of calls to holdings.
 use Rattle.std.specs.Prelude.{ℕ, List, codes}
 use Rattle.holdings.specs.declared.error.HoldError.{HoldError}
 use Rattle.holdings.specs.declared.error.HoldError.TheVariants.{NotHeld, OutOfMemory, OwnedTwice}
@@ -9,13 +9,13 @@ error_code NotHeld = codes "H1"
 error_code OutOfMemory = codes "H2"
 error_code OwnedTwice = codes "H3"
 
--- a call that asks for places was refused: one is missing, or memory was, though all were there
+-- a call that needs places failed: either one is missing, or all are there and memory ran out
 abbrev pub RefusesPlaces : HoldError → (all_there : Type 0) → Type 0
 RefusesPlaces NotHeld there = there → ⊥
 RefusesPlaces OutOfMemory there = there
 RefusesPlaces OwnedTwice there = ⊥
 
--- a call that brings places was refused: one is owned already, or memory was missing
+-- a call that brings places failed: either one is owned already, or none is and memory ran out
 abbrev pub RefusesOwned : HoldError → (apart : Type 0) → Type 0
 RefusesOwned NotHeld apart = ⊥
 RefusesOwned OutOfMemory apart = apart

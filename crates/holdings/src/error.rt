@@ -1,4 +1,4 @@
-//! Why holdings refuse a call.
+//! The reasons why calls to holdings fail.
 
 ghost use Rattle.std.specs.Prelude.{◌≡◌, Some};
 ghost use Rattle.holdings.specs.Errors.{error_code};
@@ -8,20 +8,21 @@ use std::alloc::{AllocError, AllocFailed};
 use std::fmt;
 use thiserror::Error;
 
-/// Why a call was refused, with one that is: `own` and `others` are made by `Holdings::of_input` of
-/// `main { array a: int[1]; }`, and `a` is `ArrayId { number: 0 }`. Nothing has changed then.
+/// The reason why a call failed. Nothing has changed in this case. In the examples,
+/// `Holdings::of_input` makes `own` and `others` from `main { array a: int[1]; }`, and `a` is
+/// `ArrayId { number: 0 }`.
 #[derive(Clone, Copy, PartialEq, Eq, Debug, Error)]
 pub enum HoldError {
-    /// H1: a place that isn't held, as in `own.read(a, 1)`, or, to write it or to carve it out, not owned.
+    /// H1: a place isn't held, as in `own.read(a, 1)`. For a write or a carve, a place isn't owned.
     NotHeld,
-    /// H2: want of memory, as may be in `own.carve(alloc, &windows)`.
+    /// H2: out of memory, as is possible in `own.carve(alloc, &windows)`.
     OutOfMemory,
-    /// H3: a pasted place that is owned here already, as in `own.paste(alloc, others)`.
+    /// H3: a pasted place is already owned here, as in `own.paste(alloc, others)`.
     OwnedTwice,
 }
 
 impl HoldError {
-    /// The code of the error.
+    /// Returns the code of the error.
     pub fn code(self) -> &'static str
         ensures { result.now ≡ error_code self }
     {

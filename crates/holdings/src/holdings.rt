@@ -10,8 +10,8 @@ use std::alloc::{AllocError, Global};
 use types::input::Input;
 use types::typed::Typed;
 
-/// Numbers at places of the arrays. Each is owned, so that it may be written and carved out, or a
-/// copy.
+/// Numbers at places of the arrays. Each number is either owned or a copy. An owned number can be
+/// written and carved out.
 #[derive(Drop)]
 pub struct Holdings {
     pub(crate) rows: Rows,
@@ -34,7 +34,7 @@ impl Holdings {
     ghost use Rattle.types.specs.Translation.{input as lists_in};
     ghost use Rattle.types.specs.Typed.{code_of};
 
-    /// No places.
+    /// Returns holdings without places.
     pub fn none(alloc: Global) -> Holdings
         ensures held { (q : PlainPlace) → held result q ≡ None }
         ensures copied { result.copied ≡ 0 }
@@ -43,7 +43,7 @@ impl Holdings {
         Holdings { rows, copied: 0 }
     }
 
-    /// All places of the arrays, owned, with the numbers of lists that fit them.
+    /// Returns holdings that own all places of the arrays, with the numbers of the input's lists.
     pub fn of_input(alloc: Global, _typed: &Typed, input: &Input) -> Result<Holdings, AllocError>
         requires { FitsArrays (code_of _typed.now).arrays (lists_in input.now) }
         ensures held { IfOk result (λ h. held h ≡ as_owned (listed (lists_in input.now))) }
@@ -53,14 +53,14 @@ impl Holdings {
         Ok(Holdings { rows, copied: 0 })
     }
 
-    /// How many places were copied one by one where places were carved out or pasted.
+    /// Returns how many places were copied one by one when places were carved out or pasted.
     pub fn copied(&self) -> u64
         ensures { result ≡ self.now.copied }
     {
         self.copied
     }
 
-    /// The number at a place.
+    /// Returns the number at a place.
     pub fn read(&self, array: ArrayId, index: usize) -> Result<i64, HoldError>
         ensures { result ≡ ok_or
             (numbers (held self.now) (record { array = array.number; index = index }))
@@ -72,7 +72,7 @@ impl Holdings {
         }
     }
 
-    /// The number at a place, 0 where nothing is held.
+    /// Returns the number at a place, or 0 if nothing is held there.
     #[inline(always)]
     pub fn number(&self, place: Place) -> i64
         ensures { result ≡ read_of (numbers (held self.now)) (place_of place) }
@@ -80,7 +80,7 @@ impl Holdings {
         self.rows.number(place).unwrap_or(0)
     }
 
-    /// The first numbers of an array, 0 where nothing is held.
+    /// Returns the first numbers of an array, with 0 where nothing is held.
     pub fn row(&self, alloc: Global, array: ArrayId, length: usize) -> Result<Vec<i64>, AllocError>
         ensures { IfOk result (λ v. v.items
             ≡ row_of (numbers (held self.now)) array.number 0 length) }
@@ -90,14 +90,14 @@ impl Holdings {
         Ok(row)
     }
 
-    /// Whether a place is owned.
+    /// Returns whether a place is owned.
     pub fn owns(&self, place: Place) -> bool
         ensures { result ≡ is_some (owned (held self.now) (place_of place)) }
     {
         self.rows.owns(place)
     }
 
-    /// Whether the places of windows are owned, and no others. It takes no memory.
+    /// Returns whether the places of windows are owned, and no others. Takes no memory.
     pub fn owns_just(&self, windows: &[Window]) -> bool
         ensures { IsTrue result
             ↔ IsJustAt (has (map window_of windows.now)) (owned (held self.now)) }
@@ -124,8 +124,8 @@ impl Holdings {
         }
     }
 
-    /// Writes the number at an owned place where that needs no memory, and tells whether it did. Where
-    /// copies of it may have the same memory nothing is written.
+    /// Writes the number at an owned place if that needs no memory, and returns whether it did.
+    /// Writes nothing if copies of the number may share its memory.
     #[inline(always)]
     pub fn set(&mut self, place: Place, value: i64) -> bool
         ensures written { OnTrue result
@@ -137,8 +137,8 @@ impl Holdings {
         self.rows.set(place, value)
     }
 
-    /// Writes the number at any place: an owned one stays owned, and at any other the number is a
-    /// copy. Only want of memory is refused.
+    /// Writes the number at any place. An owned number stays owned, and at any other place the
+    /// number is a copy. Fails only if memory runs out.
     #[inline(never)]
     pub fn put(&mut self, place: Place, value: i64) -> Result<(), AllocError>
         requires { place.index < 4194304 }
@@ -150,8 +150,8 @@ impl Holdings {
         self.rows.put(place, value)
     }
 
-    /// Writes the numbers that others hold at places of windows, as `put` does. Only want of memory is
-    /// refused.
+    /// Writes the numbers that others hold at places of windows, as `put` does. Fails only if
+    /// memory runs out.
     pub fn put_all(&mut self, windows: &[Window], others: &Holdings) -> Result<(), AllocError>
         ensures written { OnOk result (held self.new ≡ put_all (only (has (map window_of windows.now))
             (numbers (held others.now))) (held self.old)) }
@@ -160,7 +160,7 @@ impl Holdings {
         self.rows.put_all(windows, &others.rows)
     }
 
-    /// Moves the places of windows out, all of which are owned.
+    /// Moves out the places of windows, which must all be owned.
     pub fn carve(&mut self, alloc: Global, windows: &[Window]) -> Result<Holdings, HoldError>
         ensures taken { IfOk result (λ c. held c
             ≡ only (has (map window_of windows.now)) (held self.old)) }
@@ -181,14 +181,14 @@ impl Holdings {
         }
         let places = cover(alloc, windows)?;
         let mut rows = Rows::new(alloc);
-        // Memory comes first: nothing has changed where it is missing, and the rest needs none.
+        // Allocate first: if memory runs out, nothing has changed. The rest needs no memory.
         let carvings = self.rows.cut_all(&mut rows, &places)?;
         self.copied = self.copied.saturating_add(carvings.copied);
         self.rows.carve_all(&mut rows, carvings);
         Ok(Holdings { rows, copied: 0 })
     }
 
-    /// Copies of the places of windows, all of which are held.
+    /// Returns copies of the places of windows, which must all be held.
     pub fn share(&self, alloc: Global, windows: &[Window]) -> Result<Holdings, HoldError>
         ensures shared { IfOk result (λ c. held c
             ≡ as_shared (only (has (map window_of windows.now)) (numbers (held self.now)))) }
@@ -205,8 +205,8 @@ impl Holdings {
         Ok(Holdings { rows, copied: 0 })
     }
 
-    /// The same numbers at the same places, owned and copied alike. Whole blocks are copied when
-    /// they are written.
+    /// Returns holdings with the same numbers at the same places, owned and copied alike. A whole
+    /// block is copied only when it is written.
     pub fn clone(&self, alloc: Global) -> Result<Holdings, AllocError>
         ensures { IfOk result (λ h. held h ≡ held self.now) }
     {
@@ -217,7 +217,7 @@ impl Holdings {
         })
     }
 
-    /// Takes the owned places of others in; their copies are dropped.
+    /// Takes in the owned places of others. Their copies are dropped.
     pub fn paste(&mut self, _alloc: Global, other: Holdings) -> Result<(), (HoldError, Holdings)>
         ensures pasted { OnOk result (held self.new
             ≡ over (as_owned (owned (held other))) (held self.old)) }
@@ -233,7 +233,7 @@ impl Holdings {
         if !self.rows.are_apart(&other.rows) {
             return Err((HoldError::OwnedTwice, other));
         }
-        // Room comes first: nothing has changed where it is missing, and the rest needs no memory.
+        // Make room first: if memory runs out, nothing has changed. The rest needs no memory.
         if self.rows.make_room_for(&other.rows).is_err() {
             return Err((HoldError::OutOfMemory, other));
         }

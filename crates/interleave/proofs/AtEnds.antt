@@ -1,4 +1,4 @@
--- The events at the ends of finishes and of tasks, as the tables in Rust show them.
+-- The events at the ends of finishes and of tasks, as the tables in Rust represent them.
 use Rattle.std.proofs.Common.{◌≡◌, ℕ, ◌+◌, ◌≤◌, List, [], ◌∷◌, ◌++◌, Option, Some, None, refl, sym, ap, ◌∙◌, subst, arith}
 use Rattle.std.proofs.lemmas.Option.{none-some, same_Some}
 use Rattle.std.specs.Prelude.{Bool, true, false, ◌||◌, not, nat_eq, map, if◌then◌else◌, Contains, slice_index_or}
@@ -78,7 +78,7 @@ last_is : (path : List ℕ) → (is_end (last_action path) ≡ not (is_root path
 last_is [] = (refl, refl)
 last_is (k ∷ path) = (refl, refl)
 
--- by what a task of a path is about to do
+-- by the next action of the task with a path
 ends_as : (path : List ℕ) (d : Doing) (a : Action) → ahead_of path d ≡ Some a
     → (is_end a ≡ has_ended path d) × (is_finish a ≡ is_waiting path d)
 ends_as path (Starts s) a e = absurd (none-some _ e)
@@ -99,7 +99,7 @@ pub record IsSeen (r : rWorld) (path : Path) (worker : ℕ) : Type 0 where
   pub place : its.place ≡ rHand worker
   pub known : IsKnown its.doing
 
--- ---- a world that is shown
+-- ---- a represented world
 module _ (r : rWorld) (ok : IsWeightedJob r.job) (w : World) (h : Shows r w) where
   abbrev p : Program
   p = program_of r.job.job
@@ -110,7 +110,7 @@ module _ (r : rWorld) (ok : IsWeightedJob r.job) (w : World) (h : Shows r w) whe
   abbrev hands_on_so : Start → List (List TaskResult) → TaskResult
   hands_on_so = hands_on p (needs_of p) (budget_of r.job.job).steps r.job.w0
 
-  -- no task weighs more than what is out
+  -- no task has more weight than what is out
   pub none_late : NoneIsLate r
   none_late path a =
       let t = there (IsTaskOf r.job.job) a.its (get is_path r.tasks path) (task path.turns.items w.live) (h.tasks path) a.at in
@@ -127,7 +127,7 @@ module _ (r : rWorld) (ok : IsWeightedJob r.job) (w : World) (h : Shows r w) whe
       let returned = b.2.returned in
       omega (arith, late, issued, returned)
 
-  -- a live task stands in a scope that is there
+  -- a live task is in a scope that exists
   pub stands_at : (path : Path) (k : rTask) → get is_path r.tasks path ≡ Some k → StandsAt r path
   stands_at path k at = by_items k.stakes.items refl
     where
@@ -157,7 +157,7 @@ module _ (r : rWorld) (ok : IsWeightedJob r.job) (w : World) (h : Shows r w) whe
           let book = in_table s.scope (get is_scope r.scopes s.scope) refl all_there.0 in
           record { its = k; at = at; inner = s; outer = outer; stakes = e; book = book.0; there = book.1 }
 
-  -- no task in a hand, no event of one
+  -- if no task is in a hand, no event of a task in a hand is legal
   unseen_goes : (path : Path) → ((k : rTask) → get is_path r.tasks path ≡ Some k → hand_of (whereabouts k.place) ≡ None)
       → (go : Live → Stake → List Stake → World → Action → Option World)
       → with_next r.job.w0 acts hands_on_so path.turns.items w
@@ -189,7 +189,7 @@ module _ (r : rWorld) (ok : IsWeightedJob r.job) (w : World) (h : Shows r w) whe
           next = next.1;
         }
 
-    -- what comes of an event that asks for its innermost scope
+    -- the result of an event that needs the innermost scope
     abbrev goes_in : (Live → Stake → List Stake → World → Action → Option World) → Option World
     goes_in go = with_next r.job.w0 acts hands_on_so path.turns.items w
         (λ t a. in_innermost r.job.w0 acts hands_on_so t.stakes (λ s outer. go t s outer w a))
@@ -242,7 +242,7 @@ module _ (r : rWorld) (ok : IsWeightedJob r.job) (w : World) (h : Shows r w) whe
       its_book : (b : Scope) × (scope (scope_id inner.scope) w.scopes ≡ Some b) × IsBookOf book b
       its_book = there IsBookOf book (get is_scope r.scopes inner.scope) (scope (scope_id inner.scope) w.scopes) (h.scopes inner.scope) kept
 
-      -- with another in its place that has passed where it has
+      -- with another scope that replaces it, and has passed exactly if it has
       told_so : (to : Scope) → to.id ≡ its_book.0.id → to.passed ≡ its_book.0.passed
           → IsTold r.job.job (is_passed (scope root_scope (put_scope to w.scopes))) r.told
       told_so to named passed =
@@ -269,7 +269,7 @@ module _ (r : rWorld) (ok : IsWeightedJob r.job) (w : World) (h : Shows r w) whe
           ends_are_own p (needs_of p) r.job.w0 ok.least (lists_of r.job.job) (budget_of r.job.job) h.events w h.led path.turns.items found.its worker
           (stake inner) (map stake outer) found.lives found.hand are
 
-      -- after an event the tables show the world that it leads to
+      -- after an event the tables represent the world that the event leads to
       abbrev IsShownAfter : Event → Type 0
       IsShownAfter e = (to : World) × (next_world r.job e w ≡ Some to)
           × Shows (record r { tasks = new.tasks; scopes = new.scopes; hands = new.hands }) to
@@ -397,8 +397,8 @@ module _ (r : rWorld) (ok : IsWeightedJob r.job) (w : World) (h : Shows r w) whe
             (λ v. free_parked found.its w.live (hands_are_apart p r.job.w0 (lists_of r.job.job) (budget_of r.job.job) h.events w h.led) worker v
             found.hand parked refl (ap (λ x. task x w.live) found.named ∙ found.lives))
 
--- ---- for the functions of worlds
--- the hand that a task is in
+-- ---- lemmas for the functions of worlds
+-- the hand of a task
 hand_place : (q : rWhereabouts) (v : ℕ) → hand_of (whereabouts q) ≡ Some v → q ≡ rHand v
 hand_place (rQueue u) v e = absurd (none-some _ e)
 hand_place (rHand u) v e = ap rHand (same_Some _ _ e)
@@ -407,7 +407,7 @@ hand_place rParked v e = absurd (none-some _ e)
 pub seen_by : (r : rWorld) (path : Path) (worker : ℕ) → IsReady r path worker → IsSeen r path worker
 seen_by r path worker g = record { its = g.task; at = g.at; place = hand_place g.task.place worker g.hand; known = g.known }
 
--- what was found is where the task stands
+-- what was found is the task's own stake and scope
 pub record IsHere (r : rWorld) (path : Path) (a : StandsAt r path) (k : rTask) (s : rStake) (b : rScope) : Type 0 where
   pub task : k ≡ a.its
   pub stake : s ≡ a.inner
@@ -425,7 +425,7 @@ found_here {s = s} r path a at front there =
       book = same_Some _ _ (sym there ∙ ap (λ (x : rStake). get is_scope r.scopes x.scope) stake_is ∙ a.there);
     }
 
--- nor is that scope missing
+-- the scope exists
 pub none_here : {k : rTask} {s : rStake} (r : rWorld) (path : Path) (a : StandsAt r path)
     → get is_path r.tasks path ≡ Some k → s ≡ slice_index_or k.stakes.items 0 s → get is_scope r.scopes s.scope ≡ None → ⊥
 none_here {s = s} r path a at front none =
@@ -433,14 +433,14 @@ none_here {s = s} r path a at front none =
     let stake_is = front ∙ ap (λ xs. slice_index_or xs 0 s) (ap (λ (k : rTask). k.stakes.items) task_is ∙ a.stakes) in
     none-some _ (sym none ∙ ap (λ (x : rStake). get is_scope r.scopes x.scope) stake_is ∙ a.there)
 
--- a task wants weight from one scope alone
+-- a task needs weight from only one scope
 pub one_wanted : {k l : rTask} {id other : rScopeId} → k ≡ l → IsWanting k id → IsWanting l other → id ≡ other
 one_wanted same w v =
     let stakes = sym w.stakes ∙ ap (λ (k : rTask). k.stakes.items) same ∙ v.stakes in
     let inner : w.inner ≡ v.inner = cc stakes in
     sym w.named ∙ ap (λ (s : rStake). s.scope) inner ∙ v.named
 
--- and its weight there isn't more than what is out
+-- and its weight there is at most what is out
 pub late_here : {k : rTask} {s : rStake} {b : rScope} (r : rWorld) (path : Path) → NoneIsLate r → (a : StandsAt r path)
     → get is_path r.tasks path ≡ Some k → s ≡ slice_index_or k.stakes.items 0 s → get is_scope r.scopes s.scope ≡ Some b
     → b.returned + s.weight ≤ b.issued
@@ -452,7 +452,7 @@ late_here r path none a at front there =
     let issued = ap (λ (b : rScope). b.issued) same.book in
     omega (arith, late, weight, returned, issued)
 
--- a hand was asked for, and the tables are the same
+-- the task was looked at, and the tables are unchanged
 module _ {old r1 : rWorld} (known : IsWorld old) (still : WorldStays old r1) where
   known_on : IsWorld r1
   known_on = record {
@@ -496,14 +496,14 @@ module _ {old r1 : rWorld} (known : IsWorld old) (still : WorldStays old r1) whe
         refused_so (Parks path.turns.items)
         (λ w h. not_waiting r1 known_on.job w h path worker asked (sym (said asked.its asked.at) ∙ none))
 
-    -- where it stands, and that it gives back no more than is out
+    -- its stake and scope, and it gives back at most what is out
     pub stands_there : StandsAt r1 path × NoneIsLate r1
     stands_there = (
       stands_at r1 known_on.job known_on.world known_on.shows path ready.task ready.at,
       none_late r1 known_on.job known_on.world known_on.shows,
     )
 
--- what was asked for is gone on with
+-- the event continues with what was looked up
 module _ (old : rWorld) (ok : IsWeightedJob old.job) (path : Path) (r1 : rWorld) (others1 : r1 ≡ record old { tasks = r1.tasks })
     (still1 : WorldStays old r1) where
   module _ (worker : ℕ) (seen1 : IsSeen r1 path worker) where
@@ -567,7 +567,7 @@ module _ (old : rWorld) (ok : IsWeightedJob old.job) (path : Path) (r1 : rWorld)
       end_there : get is_scope old.scopes a.inner.scope ≡ Some a.book
       end_there = ap (λ ss. get is_scope ss a.inner.scope) (sym kept_scopes) ∙ a.there
 
-      -- its result finds no room
+      -- there is no room for its result
       pub end_roomless : ScopeBecomes r1 r3 a.inner.scope (ScopeStays a.book) → WorldStays old r3
       end_roomless s =
           subst (WorldStays old) (sym others3)

@@ -1,4 +1,4 @@
--- A task goes on behind a finish, as the tables in Rust show it.
+-- A task continues after a finish, as the tables in Rust represent it.
 use Rattle.std.proofs.Common.{◌≡◌, ℕ, List, [], ◌∷◌, ◌++◌, length, Option, Some, None, refl, sym, ap, ◌∙◌, subst, arith}
 use Rattle.std.proofs.lemmas.List.{length_push}
 use Rattle.std.proofs.lemmas.Option.{none-some, same_Some}
@@ -52,7 +52,7 @@ use Rattle.interleave.proofs.Staying.{stays_hands, stays_shown}
 use Rattle.interleave.proofs.Tables.{there, not_there, tasks_put, paths_put, taken_hand, free_put, led_on}
 use Rattle.interleave.proofs.Turning.{its_task}
 
--- ---- a run behind a finish
+-- ---- a run after a finish
 module _ (j : Job) (ok : IsJob j) (c : Course) (q : Paused) (made : Made) (at : IsPausedOf j c q made) (rs : List TaskResult)
     (own : Each (IsOfOwnRun (program_of j) (needs_of (program_of j)) (budget_of j).steps (root (program_of j) (lists_of j) (budget_of j))) rs)
     (run : Run) (goes : GoesBehind q made rs run) where
@@ -103,7 +103,7 @@ pub results_of : (o : _) (rs : _) (b : Scope) → o ≡ Some rs → AreResultsOf
 results_of None rs b e h = absurd (none-some _ e)
 results_of (Some xs) rs b e h = ap (λ ys. map task_result ys.items) (sym (same_Some _ _ e)) ∙ h
 
--- ---- where nobody leaves
+-- ---- no task may leave
 two_items : (xs : List rStake) → 1 < length xs → (a : rStake) × (b : rStake) × (rest : List rStake) × (xs ≡ a ∷ b ∷ rest)
 two_items [] h = absurd (omega (arith, h))
 two_items (a ∷ []) h = absurd (omega (arith, h))
@@ -140,7 +140,7 @@ module _ (r : rWorld) (w : World) (h : Shows r w) (path : Path) (worker : ℕ) w
   abbrev leave_with : Live → List Stake → Option World
   leave_with t ss = by_resume r.job.w0 (does_in r.job) (gives_in r.job) worker t w ss
 
-  -- the test that is asked of the innermost scope
+  -- the test of the innermost scope
   abbrev test_of : Live → Scope → Bool
   test_of t s = is_parked t.place && (s.passed && hand_is_free worker w.live)
 
@@ -191,7 +191,7 @@ module _ (r : rWorld) (w : World) (h : Shows r w) (path : Path) (worker : ℕ) w
           ap (λ z. is_parked t.place && (z && hand_is_free worker w.live)) (by_book (get is_scope r.scopes s.scope) refl b there_so)
           ∙ none_passed (is_parked t.place) (hand_is_free worker w.live)
 
--- a scope stands for the same
+-- the new scope represents what the old one represented
 both_still : {A B : Type 0} (Are : A → B → Type 0) (b : Bool) (to was : A) (o : Option A) (q : Option B)
     → ((x : B) → Are was x → Are to x) → (b ≡ true → AreBoth Are (Some was) q) → AreBoth Are o q
     → AreBoth Are (if b then Some to else o) q
@@ -216,7 +216,7 @@ scope_keeps r w h id s to new at still each = record {
   told = h.told;
 }
 
--- ---- a parked task goes on
+-- ---- a parked task continues
 module _ (old : rWorld) (ok : IsWeightedJob old.job) (path : Path) (m : MayLeave old path) (hs : rWorld)
     (same_hands : (v : ℕ) → contains nat_eq hs.hands v ≡ contains nat_eq old.hands v) where
   abbrev roomy : rWorld
@@ -240,7 +240,7 @@ module _ (old : rWorld) (ok : IsWeightedJob old.job) (path : Path) (m : MayLeave
   }
 
   module _ (results : List Made) (them : (b : Scope) → AreResultsOf m.at.book.results b → map task_result results ≡ b.results) where
-    -- what is known of it in a world that is shown
+    -- facts about it in a represented world
     record Waiting (w : World) : Type 0 where
       its : Live
       lives : task path.turns.items w.live ≡ Some its
@@ -399,7 +399,7 @@ module _ (old : rWorld) (ok : IsWeightedJob old.job) (path : Path) (m : MayLeave
             subst (λ r. Shows r (to w h)) (sym (ap (λ (r : rWorld). record r { hands = last.hands }) both_others)) (shown w h),
           )
 
--- it has gone on with what its scope keeps, and runs so outside of that
+-- it has continued with the results of its scope, outside of this scope
 pub behind_by : (r : rWorld) (path : Path) (a : StandsAt r path) (run : Run) (g : IsGoneOn r path a run) (worker : ℕ) (old new : rWorld)
     → TaskBecomes old new path (IsOutside worker run a.its) → TaskBecomes old new path (IsBehind worker (map task_result g.results.items) a.its)
 behind_by r path a run g worker old new b = record {

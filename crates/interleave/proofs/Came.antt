@@ -1,4 +1,4 @@
--- The results that scopes keep are those of tasks that came to their ends.
+-- The results that scopes keep are those of tasks that have ended.
 use Rattle.std.proofs.Common.{◌≡◌, ℕ, ◌+◌, ◌≤◌, List, [], ◌∷◌, ◌++◌, Option, Some, None, refl, sym, ap, ◌∙◌, subst, inl}
 use Rattle.std.proofs.Common.{inr}
 use Rattle.std.proofs.lemmas.List.{append-nil}
@@ -42,7 +42,7 @@ use Rattle.interleave.proofs.NeverStuck.{Goes, first_goes, list_goes}
 use Rattle.interleave.proofs.Parting.{AllPlaced, awake_stands}
 use Rattle.interleave.proofs.Standing.{poise, closed}
 
--- a task that stands at its end hands on what it has made
+-- a task at its end hands on what it has made
 pub ends_with : (p : Program) (needs : Codes → Needs) (fresh : ℕ) (root s : Start) (receipts : List (List TaskResult)) (st : State Own)
     → Follows p needs fresh root s receipts (record { frames = []; state = st })
     → result_of (run_by p needs fresh receipts s) ≡ result_of st

@@ -1,4 +1,4 @@
--- What each legal event changes.
+-- The changes by each legal event.
 use Rattle.std.proofs.Common.{◌≡◌, ℕ, ◌+◌, ◌-◌, ◌/◌, ◌≤◌, List, [], ◌∷◌, ◌++◌, Option, Some, None, refl, inl, inr}
 use Rattle.std.proofs.lemmas.Bool.{eqb-true, leb-true, eq-eqb, and_parts, not-true}
 use Rattle.std.specs.Prelude.{Bool, true, false, ◌⊎◌, ◌&&◌, not, nat_eq}
@@ -25,7 +25,8 @@ pub record IsLive (path : List ℕ) (a : World) : Type 0 where
 abbrev pub is_live : (path : List ℕ) (a : World) (was : Live) → task path a.live ≡ Some was → IsLive path a
 is_live path a was found = record { was = was; found = found; named = task_path path a.live was found }
 
--- a task changes, but not in what it has begun, where it stands or what it weighs; it isn't parked
+-- a task changes, but its spawned tasks, its scopes and its weights stay the same, and it isn't
+-- parked
 pub record IsQuiet (does : Live → Option Action) (path : List ℕ) (a b : World) : Type 0 where
   pub its : IsLive path a
   pub open its use *
@@ -163,7 +164,7 @@ module _ (w0 : ℕ) (actions : Start → List (List TaskResult) → List Action)
   abbrev hands : Live → TaskResult
   hands t = result t.start t.receipts
 
-  -- a task in a hand, and what it does next
+  -- a task in a hand, with its next action
   pub record InHand (path : List ℕ) (a b : World) (go : Live → Action → Option World) : Type 0 where
     pub was : Live
     pub worker : ℕ
@@ -183,7 +184,7 @@ module _ (w0 : ℕ) (actions : Start → List (List TaskResult) → List Action)
   abbrev is_in : (a : World) (s : Stake) (r : Scope) → scope s.scope a.scopes ≡ Some r → IsIn a s
   is_in a s r e = record { book = r; found = e; id = scope_id s.scope a.scopes r e }
 
-  -- a task is put elsewhere, or does a step
+  -- a task moves to another location, or takes a step
   quiet : (path : List ℕ) (a b : World) (was : Live) (to : Whereabouts) (done : ℕ) → task path a.live ≡ Some was
       → (done ≡ was.done) ⊎ ((nexts was ≡ Some Step) × (done ≡ was.done + 1)) → is_parked was.place ≡ false → is_parked to ≡ false
       → Some (record a { live = put_task (record was { place = to; done = done }) a.live }) ≡ Some b → IsQuiet nexts path a b
@@ -226,7 +227,7 @@ module _ (w0 : ℕ) (actions : Start → List (List TaskResult) → List Action)
           quiet path a b h.was h.was.place (h.was.done + 1) h.found (inr (does_now, refl)) awake awake g
       by_action c d g = absurd (none-some _ g)
 
-  -- a task in a hand does what it does next where it stands in its innermost scope
+  -- a task in a hand does its next action, and has an innermost scope
   abbrev ByAction : (path : List ℕ) (a b : World) → (Live → Stake → List Stake → World → Action → Option World) → Type 0 → Type 0
   ByAction path a b go Is =
       (at : IsAt path a) (c : Action) → nexts at.was ≡ Some c → go at.was at.inner at.outer a c ≡ Some b → Is
@@ -344,7 +345,7 @@ module _ (w0 : ℕ) (actions : Start → List (List TaskResult) → List Action)
             now = same_Some _ _ t.gives;
           }
 
-  -- whatever is legal is one of these
+  -- each legal event is one of these
   pub becomes : (e : Event) (a b : World) → nx e a ≡ Some b → Becomes nexts hands w0 e a b
   becomes (Take w path) a b e = took w path a b e
   becomes (Steal w f path) a b e = stole w f path a b e
@@ -357,7 +358,7 @@ module _ (w0 : ℕ) (actions : Start → List (List TaskResult) → List Action)
   becomes (Pass id) a b e = passes id a b e
   becomes (Resume w path) a b e = resumes w path a b e
 
-  -- a steal from oneself is not
+  -- stealing from oneself isn't legal
   pub steals_from_others : (v : ℕ) (path : List ℕ) (a : World) → nx (Steal v v path) a ≡ None
   steals_from_others v path a = by_task (task path a.live)
     where

@@ -1,5 +1,5 @@
--- What a task does is bracketed, and what it has pending at its end are the tasks that it spawned outside of its own
--- finishes.
+-- The finishes of a task's actions are bracketed, and what it has pending at its end are the tasks
+-- that it spawned outside of its own finishes.
 use Rattle.std.proofs.Common.{◌≡◌, ℕ, zero, suc, ◌+◌, List, [], ◌∷◌, ◌++◌, Option, Some, None, refl, sym, ap, ◌∙◌}
 use Rattle.std.proofs.Common.{arith, append_assoc}
 use Rattle.std.proofs.lemmas.List.{append-nil, map-append}
@@ -23,7 +23,7 @@ use Rattle.interleave.proofs.Levels.{depth, depth-append, IsLevel, level-append,
 abbrev pub start_of : Child → Start
 start_of c = c.start
 
--- what is spawned at the level at which the actions begin, where that is d finishes deep
+-- the tasks spawned at the level at which the actions start, from a point that is d finishes deep
 abbrev pub direct : ℕ → List Action → List Start
 direct d [] = []
 direct d (Step ∷ xs) = direct d xs
@@ -48,13 +48,13 @@ direct-append d (EndTask ∷ xs) ys e h = absurd (none-some _ h)
 record Follows (st to : State Own) : Type 0 where
   done : List Action
   more : to.extra.actions ≡ st.extra.actions ++ done
-  -- how many finishes are left open: none, unless it waits at the end of one
+  -- the number of finishes left open: none, unless it waits at the end of one
   rise : ℕ
   level : IsLevel done rise
   flat : to.extra.waits ≡ false → rise ≡ 0
   awake : to.extra.waits ≡ false → st.extra.waits ≡ false
   pending : to.extra.waits ≡ false → map start_of to.extra.pending ≡ map start_of st.extra.pending ++ direct 0 done
-  -- nothing of what stands deeper is spawned at its level
+  -- nothing that is deeper is spawned at its level
   deeper : to.extra.waits ≡ false → (d : ℕ) → direct (suc d) done ≡ []
 
 module _ (needs : Codes → Needs) (nest : ℕ) (close : State Own → Option Settled) where
@@ -73,7 +73,7 @@ module _ (needs : Codes → Needs) (nest : ℕ) (close : State Own → Option Se
     deeper = λ h d. refl;
   }
 
-  -- behind what doesn't wait no finish is open that wasn't
+  -- after actions that don't wait, the same finishes are open as before
   at_level : (st to : State Own) (h : Follows st to) → to.extra.waits ≡ false → (d : ℕ) → depth d h.done ≡ Some d
   at_level st to h e = flat_level h.done h.rise h.level (h.flat e)
 
@@ -184,7 +184,7 @@ module _ (needs : Codes → Needs) (nest : ℕ) (close : State Own → Option Se
   run_follows : (p : Program) (w : Work) (st : State Own) → Follows st (run p r w st)
   run_follows p w st = run_keeps p r Follows follows w st
 
--- what the own run of a start does, whatever is handed to it
+-- the actions of the own run of a start, with any receipts
 pub record IsBracketed (st : State Own) : Type 0 where
   pub rise : ℕ
   pub level : depth 0 st.extra.actions ≡ Some rise

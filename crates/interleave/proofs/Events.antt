@@ -1,4 +1,4 @@
--- Each kind of event keeps what holds of a world.
+-- Each kind of event keeps the facts about a world.
 use Rattle.std.proofs.Common.{◌≡◌, ℕ, ◌+◌, ◌<◌, ◌≤◌, List, [], ◌∷◌, ◌++◌, Option, Some, refl, sym, ap, ◌∙◌, subst}
 use Rattle.std.proofs.Common.{inl, inr, arith}
 use Rattle.std.specs.Prelude.{Bool, true, false, ◌⊎◌, map, if◌then◌else◌}
@@ -58,7 +58,7 @@ no_known es id (s ∷ ss) h lt = both (same_scope s.scope id) refl (no_known es 
         absurd (omega (arith, j, lt))
     both false e f = omega (arith, f)
 
--- nobody stands in a scope that wasn't opened
+-- no task is in a scope that wasn't opened
 pub none_held : (es : List Event) (id : ScopeId) (ts : List Live) → Each (λ (t : Live). Each (IsKnown es) t.stakes) ts → (told es id.owner).opened < id.number → held id ts ≡ 0
 none_held es id [] h lt = refl
 none_held es id (t ∷ ts) h lt =
@@ -76,7 +76,7 @@ module _ (es : List Event) (e : Event) (a : World) (k : Kept es a) where
   pub opened_still : (id : ScopeId) → id.number ≤ (told es id.owner).opened → id.number ≤ (told es' id.owner).opened
   opened_still id h = let m = (told_more es e id.owner).opened in omega (arith, h, m)
 
-  -- ---- events that tell nothing of scopes and children
+  -- ---- events that change nothing of scopes and children
   module _ (same : (q : List ℕ) → told es' q ≡ told es q) (no_spawn : (o : List ℕ) → e ≡ Spawns o → ⊥) where
     as_told : (p q : List ℕ) (t : Live) → q ≡ p → task p a.live ≡ Some t → IsTold (told es' q) (k.line q) q t
     as_told p q t f g = subst (λ x. IsTold x (k.line q) q t) (sym (same q)) (k.tasks q t (subst (λ r. task r a.live ≡ Some t) (sym f) g))

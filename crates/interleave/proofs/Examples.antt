@@ -35,7 +35,7 @@ abbrev illegal : Replayed → Option ℕ
 illegal (Legal w) = None
 illegal (IllegalAt n) = Some n
 
--- what a scope has issued and what came back
+-- the weight that a scope has issued, and the weight that came back
 abbrev book_of : ScopeId → Replayed → Option (ℕ × ℕ)
 book_of id (Legal w) = book id w
 book_of id (IllegalAt n) = None
@@ -48,7 +48,7 @@ abbrev told : Replayed → Option Outcome
 told (Legal w) = world_outcome two_arrays (needs_of two_arrays) 1000 8 w
 told (IllegalAt n) = None
 
--- one worker does it all
+-- one worker does everything
 abbrev one_worker : List Event
 one_worker =
     Take 0 root ∷ Opens root ∷ Spawns root ∷ Steps root ∷ Parks root
@@ -62,7 +62,7 @@ outcome_is = refl
 book_is : book_of its_finish (two one_worker) ≡ Some (8, 8)
 book_is = refl
 
--- while the child hasn't ended its scope can't pass
+-- as long as the child hasn't ended, its scope can't pass
 without_end : illegal (two (take 7 one_worker ++ drop 8 one_worker)) ≡ Some 7
 without_end = refl
 
@@ -78,7 +78,7 @@ steal_from_itself = refl
 steal_from_another : illegal (two (take 3 one_worker ++ Steal 1 0 first ∷ Take 1 first ∷ [])) ≡ None
 steal_from_another = refl
 
--- ---- a finish of so many asyncs that skip
+-- ---- a finish of several asyncs that skip
 abbrev skipping : ℕ → (label : ℕ) → Codes
 skipping zero l = End
 skipping (suc k) l = (l, Async ((suc l, Do Skip) ⨾ End)) ⨾ skipping k (suc (suc l))
@@ -89,7 +89,7 @@ skips k = main_of [] 0 [] ((1, Finish (skipping k 2)) ⨾ End)
 abbrev runs : (child : ℕ) → List Event
 runs n = Take 0 (n ∷ []) ∷ Steps (n ∷ []) ∷ Ends (n ∷ []) ∷ []
 
--- with weight 1 each spawn wants more
+-- with weight 1 each spawn needs more weight
 abbrev three_with_one : List Event
 three_with_one =
     Take 0 root ∷ Opens root ∷ Replenish root ∷ Spawns root ∷ Replenish root ∷ Spawns root
@@ -98,7 +98,7 @@ three_with_one =
 three_book : book_of its_finish (replayed (skips 3) 1 [] three_with_one) ≡ Some (4, 4)
 three_book = refl
 
--- with weight 8 the fourth does
+-- with weight 8 the fourth spawn does
 abbrev four_with_eight : List Event
 four_with_eight =
     Take 0 root ∷ Opens root ∷ Spawns root ∷ Spawns root ∷ Spawns root ∷ Replenish root ∷ Spawns root
@@ -107,7 +107,7 @@ four_with_eight =
 four_book : book_of its_finish (replayed (skips 4) 8 [] four_with_eight) ≡ Some (16, 16)
 four_book = refl
 
--- what its tasks weigh by then, the newest first
+-- the weights of its tasks by then, the newest first
 abbrev weights : Replayed → List ℕ
 weights (Legal w) = map (λ (t : Live). weight_in its_finish t.stakes) w.live
 weights (IllegalAt n) = []
@@ -133,7 +133,7 @@ in_time : illegal (replayed nested 8 [] (child_ends_first
     ∷ Pass its_finish ∷ Resume 1 root ∷ Steps root ∷ Parks root ∷ Pass root_scope ∷ [])) ≡ None
 in_time = refl
 
--- both were begun in it
+-- both were spawned in it
 first_spawned : SpawnsAt child_ends_first (take 2 child_ends_first) root first
 first_spawned = record { later = drop 3 child_ends_first; here = refl; numbered = refl }
 

@@ -1,4 +1,4 @@
--- Until the root's scope has passed some event is legal.
+-- Until the root's scope has passed, some event is legal.
 use Rattle.std.proofs.Common.{◌≡◌, ℕ, zero, suc, ◌+◌, ◌*◌, ◌^◌, ◌≤◌, List, [], ◌∷◌, ◌++◌, length, Option, Some, None}
 use Rattle.std.proofs.Common.{refl, sym, ap, ◌∙◌, subst, inl, inr, arith, le_refl}
 use Rattle.std.proofs.lemmas.Bool.{ltb-false, leb-true, leb-false, eq-eqb, and_from}
@@ -44,7 +44,7 @@ use Rattle.interleave.proofs.OwnTasks.{in_truth_or_behind, start_path, IsAtLevel
 use Rattle.interleave.proofs.Present.{IsThere, Falls, told_falls}
 use Rattle.interleave.proofs.Outcomes.{IsSound, sound}
 
--- ---- looking through the live tasks
+-- ---- a search through the live tasks
 later_found : (u t : Live) (q : List ℕ) (ts : List Live) → Unique (u ∷ ts) → task q ts ≡ Some t → task q (u ∷ ts) ≡ Some t
 later_found u t q ts h e =
     by_test (λ b. (if b then Some u else task q ts) ≡ Some t) (same_path u.path q)
@@ -71,7 +71,7 @@ search_all P (u ∷ ts) h =
     further f (inl g) = inl (record { path = g.path; its = g.its; lives = later_found u g.its g.path ts h g.lives; fits = g.fits })
     further f (inr g) = inr (f, g)
 
--- what holds of each that is found holds of all
+-- a property of each task that is found is true of all
 pub each_of : (P : Live → Type 0) (ts : List Live) → Unique ts → ((q : List ℕ) (t : Live) → task q ts ≡ Some t → P t) → Each P ts
 each_of P [] h f = tt
 each_of P (u ∷ ts) h f = (f u.path u (here_found u ts), each_of P ts h.1 (λ q t e. f q t (later_found u t q ts h e)))
@@ -96,7 +96,7 @@ longest u (v ∷ ts) h = compare_with (longest v ts h.1)
         (λ f g. record { its = u; lives = here_found u (v ∷ ts); all = (le_refl (length u.path), all_less (length l.its.path) (length u.path) (v ∷ ts) (leb-true _ _ f) l.all) })
         (λ f g. record { its = l.its; lives = later_found u l.its l.its.path (v ∷ ts) h l.lives; all = ((let x = leb-false (length l.its.path) (length u.path) f in omega (arith, x)), l.all) }) refl
 
--- ---- places
+-- ---- locations
 is_hand : Live → Bool
 is_hand t = is_some (hand_of t.place)
 
@@ -241,7 +241,7 @@ module _ (p : Program) (needs : Codes → Needs) (fresh w0 : ℕ) (least : 1 ≤
       its_scope : IsThere w.scopes s
       its_scope = (subst (Each (IsThere w.scopes)) are (h.there q t lives)).0
 
-      -- an event that asks for its innermost scope
+      -- an event that needs its innermost scope
       goes_inside : (a : Action) (go : Live → Stake → List Stake → World → Action → Option World) → does_next t ≡ Some a
           → with_next w0 (does p needs fresh w0) (hands_on p needs fresh w0) q w (λ t a. in_innermost w0 (does p needs fresh w0) (hands_on p needs fresh w0) t.stakes (λ s outer. go t s outer w a)) ≡ go t s outer w a
       goes_inside a go e =
@@ -251,7 +251,7 @@ module _ (p : Program) (needs : Codes → Needs) (fresh w0 : ℕ) (least : 1 ≤
       abbrev raw : List Action
       raw = (own p needs fresh t.start).extra.actions
 
-      -- an action that fits no bracket is its last
+      -- an action without an open finish is the last one
       last_only : (a : Action) → does_next t ≡ Some a → depth (length outer) (a ∷ []) ≡ None → (t.done ≡ length raw) × (last_action t.path ≡ a)
       last_only a e none = by_place (get_last (own p needs fresh t.start).extra.actions (last_action (own p needs fresh t.start).path) a t.done (ap (λ l. slice_get l t.done) (sym (truly_is p needs fresh w0 root nameless t.start)) ∙ next_in_truth p needs fresh w0 root nameless t its a e))
         where
@@ -265,7 +265,7 @@ module _ (p : Program) (needs : Codes → Needs) (fresh w0 : ℕ) (least : 1 ≤
           by_place (inr f) =
               (f.0, ap last_action (sym (own_path p needs fresh t.start ∙ start_path p needs fresh w0 root nameless t its)) ∙ f.1)
 
-      -- where it ends a finish, that is its own
+      -- if it ends a finish, this finish is its own
       pub park_owned : does_next t ≡ Some EndFinish → same_path t.path s.scope.owner ≡ true
       park_owned e = by_inside (told es q).inside (h.kept.line q) refl scopes_are
         where
@@ -290,7 +290,7 @@ module _ (p : Program) (needs : Codes → Needs) (fresh w0 : ℕ) (least : 1 ≤
               alone [] e = refl
               alone (s ∷ ss) e = absurd (nil_cons (sym e))
 
-      -- where it ends, it stands in no scope of its own
+      -- if it ends, it is in none of its own scopes
       pub end_alone : does_next t ≡ Some EndTask → same_path t.path s.scope.owner ≡ false
       end_alone e = by_kind (h.kept.hangs q t lives)
         where
@@ -323,7 +323,7 @@ module _ (p : Program) (needs : Codes → Needs) (fresh w0 : ℕ) (least : 1 ≤
               by_inside [] f = path_not t.path s.scope.owner (λ i. other (ap (λ (j : ScopeId). j.owner) (sym (same_head f)) ∙ sym i ∙ named))
               by_inside (n ∷ ns) f = absurd (nil_snoc (map (own_scope q) ns) (own_scope g.owner g.number) [] (sym (ap (map scope_of) none_below) ∙ same_rest f))
 
-    -- with nothing left to do its own run waits
+    -- its own run waits if nothing is left to do
     still_waits : (s : Stake) (outer : List Stake) → t.stakes ≡ s ∷ outer → does_next t ≡ None → is_waiting (run_by p needs fresh t.receipts t.start) ≡ true
     still_waits s outer are e = by_rel (in_truth_or_behind p needs fresh w0 root nameless t its)
       where
@@ -347,7 +347,7 @@ module _ (p : Program) (needs : Codes → Needs) (fresh w0 : ℕ) (least : 1 ≤
         (goes_inside s outer are (Spawn c) (by_replenish w0 (does p needs fresh w0) (hands_on p needs fresh w0)) e ∙ found_goes _ r _ found
         ∙ only_true _ _ (and_from (nat_eq s.weight 1) (may_issue w0 r) (eq-eqb s.weight 1 one) may))
 
-    -- ---- what it does next is legal
+    -- ---- the next action is legal
     by_action : (s : Stake) (outer : List Stake) → t.stakes ≡ s ∷ outer → (o : Option Action) → does_next t ≡ o → Goes
     by_action s outer are None e = inr (inr (record { path = q; its = t; lives = lives; awake = awake; nothing = e; waits = still_waits s outer are e }))
     by_action s outer are (Some Step) e = free_at (Steps q) (5, omega arith, refl) _ (next_is Step (λ t. by_step w0 (does p needs fresh w0) (hands_on p needs fresh w0) t w) e)
@@ -404,13 +404,13 @@ module _ (p : Program) (needs : Codes → Needs) (fresh w0 : ℕ) (least : 1 ≤
       by_stakes [] e l = absurd (no_level p needs fresh w0 root nameless t.place t (subst (λ ss. IsAtLevel p needs fresh w0 root nameless t.place ss t) e l))
       by_stakes (s ∷ outer) e l = by_action q t lives v hand s outer e (does_next t) refl
 
-  -- ---- a task in a queue, where all hands are free
+  -- ---- a task in a queue, if all hands are free
   in_queue_goes : (q : List ℕ) (t : Live) → task q w.live ≡ Some t → (v : ℕ) → t.place ≡ Queue v → hand_is_free v w.live ≡ true → Goes
   in_queue_goes q t lives v at open_hand =
       free q t lives (Take v q) (subst (λ x. Contains (candidates 0 q x t.stakes) (Take v q)) (sym at) (contains_here (Take v q) [])) _
       (found_goes _ t _ lives ∙ only_true _ _ (and_from (in_queue t.place v) (hand_is_free v w.live) (ap (λ x. in_queue x v) at ∙ eq-eqb v v refl) open_hand))
 
-  -- ---- all are parked: the one with the longest path goes on
+  -- ---- all tasks are parked: the one with the longest path continues
   module _ (parked : (q : List ℕ) (t : Live) → task q w.live ≡ Some t → t.place ≡ Parked) (hands_free : (v : ℕ) → hand_is_free v w.live ≡ true)
       (top : Scope) (top_is : scope root_scope w.scopes ≡ Some top) (not_passed : top.passed ≡ false) (l : Longest w.live) where
     abbrev t : Live
@@ -450,7 +450,7 @@ module _ (p : Program) (needs : Codes → Needs) (fresh w0 : ℕ) (least : 1 ≤
           by_inside [] [] e f g = absurd (nil_cons (sym g))
           by_inside [] (b ∷ rest) e f g = absurd (not_base b rest f (ap (λ (i : ScopeId). i.owner) (sym (same_head g)) ∙ own_owner))
 
-      -- a base is no scope of this task
+      -- the scope in which a task was spawned is none of this task's own
       base_other : (r : List ℕ) (u : Live) → task r w.live ≡ Some u → Contains (base (h.kept.line r)) s.scope → ⊥
       base_other r u e c = by_kind (h.kept.hangs r u e)
         where
@@ -467,7 +467,7 @@ module _ (p : Program) (needs : Codes → Needs) (fresh w0 : ℕ) (least : 1 ≤
                   let a = g.shorter in let b : length g.owner ≡ length q = ap length same in let c = short in omega (arith, a, b, c)
               by_place (inr f) = contains_nil s.scope f
 
-      -- nobody weighs in its innermost scope
+      -- no task has weight in its innermost scope
       absent : (r : List ℕ) (u : Live) → task r w.live ≡ Some u → weight_in s.scope u.stakes ≡ 0
       absent r u e =
           by_test (λ b. same_path q r ≡ b → weight_in s.scope u.stakes ≡ 0) (same_path q r)
@@ -510,7 +510,7 @@ module _ (p : Program) (needs : Codes → Needs) (fresh w0 : ℕ) (least : 1 ≤
           let b = held_none s.scope w.live (each_of (λ (t : Live). weight_in s.scope t.stakes ≡ 0) w.live h.kept.unique absent) in
           omega (arith, a, b)
 
-      -- where it stands in no scope but its own it is the root, in its outer finish
+      -- if it is only in its own scopes, it is the root, in its outer finish
       only_root : outer ≡ [] → s.scope ≡ root_scope
       only_root f = by_kind (h.kept.hangs q t l.lives)
         where

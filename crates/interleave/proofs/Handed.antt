@@ -1,4 +1,4 @@
--- The result of each ended task is in the scope that it was begun in, and nowhere else.
+-- The result of each ended task is in the scope in which it was spawned, and in no other.
 use Rattle.std.proofs.Common.{◌≡◌, ℕ, ◌+◌, ◌-◌, ◌/◌, List, [], ◌∷◌, ◌++◌, length, Option, Some, refl, sym, ap, ◌∙◌}
 use Rattle.std.proofs.Common.{subst, inl, inr, arith}
 use Rattle.std.proofs.lemmas.List.{append-nil}
@@ -27,7 +27,7 @@ use Rattle.interleave.proofs.Steps.{put_cases}
 use Rattle.interleave.proofs.Events.{rebooked}
 use Rattle.interleave.proofs.Scopes.{Lone, lone}
 
--- ---- one place in a history
+-- ---- one position in a history
 record Splits {X : Type 0} (b c : List X) (x y : X) : Type 0 where
   how : (b ≡ c) ⊎ (((m : List X) × (c ≡ b ++ x ∷ m)) ⊎ ((m : List X) × (b ≡ c ++ y ∷ m)))
 
@@ -66,7 +66,7 @@ spawn_once es b c o p q h k = by_split (splits b c h.later k.later (Spawns o) (S
         let f = same.last in
         absurd (omega (arith, a, n, f))
 
--- a task is begun in one scope
+-- a task is spawned in one scope
 pub begun_in_one : (es : List Event) (i j : ScopeId) (q : List ℕ) → BegunIn es i q → BegunIn es j q → i ≡ j
 begun_in_one es i j q (in_own {before = b} {low = l} h e) (in_own {before = c} {low = m} k f) =
     let s = spawn_once es b c i.owner j.owner q h k in
@@ -86,7 +86,7 @@ pub begun_in_still : (es : List Event) (e : Event) (id : ScopeId) (q : List ℕ)
 begun_in_still es e id q (in_own {before = b} h f) = in_own (still_spawns es e b id.owner q h) f
 begun_in_still es e id q (handed_on {before = b} {path = o} h f g) = handed_on (still_spawns es e b o q h) f (begun_in_still es e id o g)
 
--- ---- the scope that a task was begun in is the last that it stands in
+-- ---- the scope in which a task was spawned is the last one that it is in
 abbrev pub Last : List Stake → ScopeId → Type 0
 Last [] id = ⊥
 Last (s ∷ []) id = s.scope ≡ id
@@ -111,11 +111,11 @@ pub record IsKeptIn (es : List Event) (ss : List Scope) (q : List ℕ) : Type 0 
   pub path : result.path ≡ q
 
 pub record Handed (es : List Event) (w : World) : Type 0 where
-  -- a live task but the root was begun in the last scope that it stands in
+  -- a live task other than the root was spawned in the last scope that it is in
   pub live : (q : List ℕ) (t : Live) (id : ScopeId) → task q w.live ≡ Some t → Last t.stakes id → (id.owner ≡ q) ⊎ BegunIn es id q
-  -- each result is in the scope that its task was begun in
+  -- each result is in the scope in which its task was spawned
   pub results : (id : ScopeId) (s : Scope) → scope id w.scopes ≡ Some s → Each (λ (r : TaskResult). BegunIn es id r.path) s.results
-  -- that of each ended task is somewhere
+  -- the result of each ended task is in some scope
   pub ended : (q : List ℕ) → Contains es (Ends q) → IsKeptIn es w.scopes q
 
 -- ---- scopes that change
@@ -163,7 +163,7 @@ module _ (es : List Event) (e : Event) (a : World) (k : Kept es a) (h : Handed e
       by_place (inl (u, v)) = subst (λ r. (id.owner ≡ r) ⊎ BegunIn es' id r) (sym g ∙ u) (its id (subst (λ (t : Live). Last t.stakes id) (sym v) l))
       by_place (inr (u, v)) = live_still q t id v l
 
-  -- in the same scopes
+  -- with unchanged scopes
   live_same : (to was : Live) (path : List ℕ) → task path a.live ≡ Some was → to.path ≡ path → map scope_of to.stakes ≡ map scope_of was.stakes → LiveOk (put_task to a.live)
   live_same to was path f g same = live_put to was path f g (λ id l. live_still path was id f (last_same_scopes to.stakes was.stakes id same l))
 
@@ -177,7 +177,7 @@ module _ (es : List Event) (e : Event) (a : World) (k : Kept es a) (h : Handed e
       by_place (inl (u, v)) = subst (λ (s : Scope). Each (λ (r : TaskResult). BegunIn es' id r.path) s.results) v (subst (λ i. Each (λ (r : TaskResult). BegunIn es' i r.path) to.results) u its)
       by_place (inr (u, v)) = results_still id s v
 
-  -- an event that isn't an end
+  -- an event other than an end
   ended_still : ((q : List ℕ) → e ≡ Ends q → ⊥) → (ss : List Scope) → ((q : List ℕ) → IsKeptIn es a.scopes q → IsKeptIn es' ss q) → (q : List ℕ) → Contains es' (Ends q) → IsKeptIn es' ss q
   ended_still not_end ss f q c = by_place (Contains-push_cases es e (Ends q) c)
     where
@@ -185,7 +185,7 @@ module _ (es : List Event) (e : Event) (a : World) (k : Kept es a) (h : Handed e
       by_place (inl d) = f q (h.ended q d)
       by_place (inr g) = absurd (not_end q g)
 
-  -- a book changes, but not its results
+  -- a book changes, except its results
   booked : ((q : List ℕ) → e ≡ Ends q → ⊥) → (live : List Live) → LiveOk live → (x : ScopeId) (book to : Scope) → scope x a.scopes ≡ Some book → to.id ≡ x → to.results ≡ book.results → Handed es' (record { live = live; scopes = put_scope to a.scopes })
   booked not_end live ok x book to f g same = record {
     live = ok;

@@ -24,7 +24,7 @@ use Rattle.interleave.proofs.Changes.{IsPass, becomes}
 use Rattle.interleave.proofs.Outcomes.{replays_are_worlds}
 use Rattle.interleave.proofs.Worth.{sum_by-put_task, sum_by-without_task}
 
--- 1 where a task is in this worker's hand
+-- 1 if a task is in this worker's hand
 abbrev in_one : ℕ → Live → ℕ
 in_one v t = if in_hand t.place v then 1 else 0
 
@@ -57,8 +57,8 @@ parked_out (Queue u) v e = refl
 parked_out (Hand u) v e = false_true e
 parked_out Parked v e = refl
 
--- ---- what changes
--- a task is put in its place, and is in no hand that it wasn't in
+-- ---- the changes
+-- a task is replaced, and is in no new hand
 put_apart : (to was : Live) (ts : List Live) → task to.path ts ≡ Some was → ((v : ℕ) → in_one v to ≤ in_one v was) → AreApart ts
     → AreApart (put_task to ts)
 put_apart to was ts found less apart v =
@@ -67,7 +67,7 @@ put_apart to was ts found less apart v =
     let few = apart v in
     omega (arith, sums, le, few)
 
--- a task that was in no hand comes into one that was free
+-- a task that was in no hand moves into a hand that was free
 taken_apart : (to was : Live) (ts : List Live) (w : ℕ) → task to.path ts ≡ Some was → ((v : ℕ) → in_hand was.place v ≡ false)
     → to.place ≡ Hand w → hand_is_free w ts ≡ true → AreApart ts → AreApart (put_task to ts)
 taken_apart to was ts w found out put free apart v =
@@ -229,7 +229,7 @@ module _ (w0 : ℕ) (actions : Start → List (List TaskResult) → List Action)
   first_apart : (root : Start) → AreApart (first_world w0 root).live
   first_apart root v = omega arith
 
--- so it is in every world that events lead to
+-- this is true in every world that events lead to
 pub hands_are_apart : (p : Program) (w0 : ℕ) (input : List (List ℤ)) (b : Budget) (es : List Event) (w : World)
     → LeadsTo p w0 input b es w → AreApart w.live
 hands_are_apart p w0 input b es w leads =

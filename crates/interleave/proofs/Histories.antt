@@ -1,4 +1,4 @@
--- What one event more adds to a history.
+-- How one more event extends a history.
 use Rattle.std.proofs.Common.{◌≡◌, ℕ, zero, suc, ◌+◌, ◌<◌, ◌≤◌, List, [], ◌∷◌, ◌++◌, length, refl, sym, ap, ◌∙◌}
 use Rattle.std.proofs.Common.{subst, inl, inr, arith, append_assoc, le_refl}
 use Rattle.std.specs.Prelude.{Bool, ◌⊎◌, map, Contains, if◌then◌else◌}
@@ -53,7 +53,7 @@ pub nil_snoc : {X : Type 0} (xs : List X) (x : X) (ys : List X) → [] ≡ xs ++
 nil_snoc [] x ys e = nil_cons e
 nil_snoc (y ∷ xs) x ys e = nil_cons e
 
--- a list with one element more, at a place in it
+-- a list with one more element, split at an element
 pub at_last : {X : Type 0} (es before later : List X) (e x : X) → es ++ e ∷ [] ≡ before ++ x ∷ later → ((l : List X) × (es ≡ before ++ x ∷ l)) ⊎ ((before ≡ es) × (e ≡ x))
 at_last [] [] later e x h = inr (refl, same_head h)
 at_last [] (b ∷ before) later e x h = absurd (nil_snoc before x later (same_rest h))
@@ -64,7 +64,7 @@ at_last (y ∷ es) (b ∷ before) later e x h = further (at_last es before later
     further (inl (l, g)) = inl (l, ap (λ a. a ∷ es) (same_head h) ∙ ap (λ t. b ∷ t) g)
     further (inr (g, i)) = inr (ap (λ a. a ∷ before) (sym (same_head h)) ∙ ap (λ t. y ∷ t) g, i)
 
--- ---- what is told
+-- ---- the record of a task
 pub tell_all-append : (q : List ℕ) (xs ys : List Event) (t : Told) → tell_all q (xs ++ ys) t ≡ tell_all q ys (tell_all q xs t)
 tell_all-append q [] ys t = refl
 tell_all-append q (e ∷ xs) ys t = tell_all-append q xs ys (tell q e t)
@@ -118,7 +118,7 @@ module _ (es : List Event) (e : Event) where
       by_place (inl (l, g)) = inl (record { later = l; here = g; numbered = h.numbered })
       by_place (inr g) = inr g
 
--- more is told of the parent afterwards
+-- afterwards the record of the parent has one more child
 pub spawned_since : (es before : List Event) (o q : List ℕ) → SpawnsAt es before o q → (told before o).spawned < (told es o).spawned
 spawned_since es before o q h =
     let rest = tell_all_more o (Spawns o ∷ h.later) (told before o) in
@@ -147,8 +147,8 @@ child_is_other p k e =
     let b : length p ≡ length (child_path p k) = ap length e in
     omega (arith, a, b)
 
--- ---- begun
--- a child that the last event begins
+-- ---- spawned tasks
+-- a child that the last event spawns
 pub record BegunLast (es : List Event) (id : ScopeId) (e : Event) (q : List ℕ) : Type 0 where
   pub parent : List ℕ
   pub spawns : e ≡ Spawns parent

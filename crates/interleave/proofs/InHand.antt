@@ -1,4 +1,4 @@
--- The events of a task in a hand, as the tables in Rust show them.
+-- The events of a task in a hand, as the tables in Rust represent them.
 pub use Rattle.facts.proofs.Results.{err_passed}
 use Rattle.std.proofs.Common.{◌≡◌, ℕ, ◌+◌, ◌-◌, ◌*◌, ◌/◌, ◌≤◌, ◌<◌, List, [], ◌∷◌, ◌++◌, Option, Some, None, refl, sym, ap, ◌∙◌, subst, arith}
 use Rattle.std.proofs.lemmas.Bool.{and_parts, le-leb, lt-ltb, leb-true, ltb-true, eqb-true}
@@ -66,7 +66,7 @@ becomes_after old mid new e same looked b w h =
     subst (λ j. (to : World) × (next_world j e w ≡ Some to) × Shows new to) same (b w (looked w h))
 
 -- ---- the next action
--- what it does next, where that is known
+-- the next action, if it is known
 abbrev pub ahead_of : List ℕ → Doing → Option Action
 ahead_of path (Starts s) = None
 ahead_of path (Runs r) = None
@@ -86,7 +86,7 @@ known_next j c (rOpens r) k h = (EnterFinish, h.0, refl)
 known_next j c (AtFinish q made) k h = (EndFinish, h.0, refl)
 known_next j c (AtEnd made) k h = (last_action c.start.path, h.0, refl)
 
--- what comes of an event by its next action
+-- the result of an event, by the next action
 by_kind : (go : Action → Option World) (d : Doing) (a : Action) (q : List ℕ) → ((r : Run) → d ≡ rSteps r → go Step ≡ None)
     → ((r : Run) (s : rStart) → d ≡ rSpawns r s → go (Spawn (start s)) ≡ None) → ((r : Run) → d ≡ rOpens r → go EnterFinish ≡ None)
     → go EndFinish ≡ None → go EndTask ≡ None → ahead_of q d ≡ Some a → go a ≡ None
@@ -99,7 +99,7 @@ by_kind go (AtFinish p made) a q step spawn enter finish end e = ap go (sym (sam
 by_kind go (AtEnd made) a [] step spawn enter finish end e = ap go (sym (same_Some _ _ e)) ∙ finish
 by_kind go (AtEnd made) a (i ∷ q) step spawn enter finish end e = ap go (sym (same_Some _ _ e)) ∙ end
 
--- what the tasks of a job do and hand on, and the events that their next actions make legal
+-- the actions and results of a job's tasks, and the events that are legal for their next actions
 module _ (j : WeightedJob) where
   abbrev pub does_in : Start → List (List TaskResult) → List Action
   does_in = does (program_of j.job) (needs_of (program_of j.job)) (budget_of j.job).steps j.w0
@@ -110,7 +110,7 @@ module _ (j : WeightedJob) where
   abbrev pub acting : List ℕ → World → (Live → Action → Option World) → Option World
   acting path w go = with_next j.w0 does_in gives_in path w go
 
--- ---- where a task in a hand is in the definition
+-- ---- a task in a hand, in the world of the definitions
 pub record InHand (r : rWorld) (w : World) (path : Path) (worker : ℕ) (k : rTask) : Type 0 where
   pub its : Live
   pub lives : task path.turns.items w.live ≡ Some its
@@ -133,7 +133,7 @@ module _ (r : rWorld) (w : World) (h : Shows r w) (path : Path) where
         doing = its_doing r.job.job k t.0 worker t.2 hand;
       }
 
-  -- where none of the path is in a hand none is in the definition
+  -- if no task with this path is in a hand, then none is in the world of the definitions
   pub acts_nowhere : (go : Live → Action → Option World)
       → ((k : rTask) → get is_path r.tasks path ≡ Some k → hand_of (whereabouts k.place) ≡ None)
       → acting r.job path.turns.items w go ≡ None
@@ -152,7 +152,7 @@ module _ (r : rWorld) (w : World) (h : Shows r w) (path : Path) where
           (ap hand_of (sym t.2.place) ∙ out k refl)
 
   module _ (worker : ℕ) (k : rTask) (x : InHand r w path worker k) where
-    -- it goes by its next action
+    -- the event continues with its next action
     pub acts : (a : Action) (go : Live → Action → Option World) → IsNext r.job.job (course_of x.its) a
         → acting r.job path.turns.items w go ≡ go x.its a
     acts a go next =
@@ -160,7 +160,7 @@ module _ (r : rWorld) (w : World) (h : Shows r w) (path : Path) where
         ∙ ap (λ o. and_then o (λ (v : ℕ). and_then (next_action r.job.w0 (does_in r.job) (gives_in r.job) x.its) (go x.its))) x.hand
         ∙ ap (λ o. and_then o (go x.its)) next
 
-    -- an event that asks for another next action isn't legal
+    -- an event that needs another next action isn't legal
     pub acts_not : (go : Live → Action → Option World) → IsKnown k.doing
         → ((a : Action) → ahead_of x.its.start.path k.doing ≡ Some a → go x.its a ≡ None)
         → acting r.job path.turns.items w go ≡ None
@@ -182,11 +182,11 @@ free_same v to was (t ∷ ts) lives same =
     lives
 
 -- ---- in Rust
--- the first of a list is one thing
+-- the first element of a list is unique
 pub one_first : {A : Type 0} (xs ys zs : List A) (x y : A) → xs ≡ x ∷ ys → xs ≡ y ∷ zs → (x ≡ y) × (ys ≡ zs)
 one_first xs ys zs x y e f = let g : x ∷ ys ≡ y ∷ zs = sym e ∙ f in (cc g, cc g)
 
--- the first of a list that has one
+-- the first element of a list that has one
 pub first_is : {A : Type 0} (xs : List A) (x : A) → 0 < length xs → x ≡ slice_index_or xs 0 x → (outer : List A) × (xs ≡ x ∷ outer)
 first_is [] x some e = absurd (omega (arith, some))
 first_is (y ∷ xs) x some e = (xs, ap (λ z. z ∷ xs) (sym e))
@@ -196,7 +196,7 @@ pub ready_by : (r : rWorld) (path : Path) (k : rTask) (o : Result ℕ EventError
 ready_by r path k (Ok v) at hand known = record { task = k; at = at; hand = hand; known = known }
 ready_by r path k (Err e) at hand known = tt
 
--- an event on a task that is ready, which stays in the hand
+-- an event of a task that is ready, and stays in the hand
 module _ (old mid : rWorld) (path : Path) (worker : ℕ) (g : IsReady mid path worker) (same : mid.job ≡ old.job)
     (still : WorldStays old mid) where
   looked : (w : World) → Shows old w → Shows mid w
@@ -205,7 +205,7 @@ module _ (old mid : rWorld) (path : Path) (worker : ℕ) (g : IsReady mid path w
   abbrev at_hand : (w : World) → Shows mid w → InHand mid w path worker g.task
   at_hand w h = in_the_hand mid w h path worker g.task g.at g.hand
 
-  -- where it becomes another
+  -- if it becomes another task
   pub shows_put : (w : World) (h : Shows mid w) (e : Event) (new : rTask) (to : Live) (ss : List Scope) (tasks : _) (scopes : _)
       → to.path ≡ path.turns.items → to.place ≡ (at_hand w h).its.place → IsTaskOf mid.job.job new to
       → ((q : Path) → get is_path tasks q ≡ (if is_path path q then Some new else get is_path mid.tasks q))
@@ -226,7 +226,7 @@ module _ (old mid : rWorld) (path : Path) (worker : ℕ) (g : IsReady mid path w
         told = subst (λ b. IsTold mid.job.job b mid.told) (sym passed) h.told;
       }
 
-  -- a task that isn't as another look-up says
+  -- another look-up finds the same task
   one_task : (k : rTask) → get is_path mid.tasks path ≡ Some k → g.task ≡ k
   one_task k at = same_Some _ _ (sym g.at ∙ at)
 
@@ -357,7 +357,7 @@ module _ (old mid : rWorld) (path : Path) (worker : ℕ) (g : IsReady mid path w
     pub replenishes : (s : IsShort mid path) → DidIssue mid next path s → Becomes (Replenish path.turns.items) old next
     replenishes s d = becomes_after old mid next (Replenish path.turns.items) same looked (replenish_of s d)
 
-  -- a task that isn't short gets nothing
+  -- a task that isn't short gets no weight
   module _ (none : IsShort mid path → ⊥) (w : World) (h : Shows mid w) where
     not_short : next_world mid.job (Replenish path.turns.items) w ≡ None
     not_short =
@@ -434,7 +434,7 @@ module _ (old mid : rWorld) (path : Path) (worker : ℕ) (g : IsReady mid path w
   replenishes_not none =
       refuses_after old mid mid (Replenish path.turns.items) Illegal still (stays_self mid, λ w h. not_short none w h)
 
-  -- ---- a task is begun
+  -- ---- a task is spawned
   module _ (least : 1 ≤ mid.job.w0) (k : rTask) (at : get is_path mid.tasks path ≡ Some k) where
     module _ (new child : rTask) (cpath : Path) (d : DidSpawn k new child cpath worker) (next : rWorld)
         (each : (q : Path) → get is_path next.tasks q
@@ -536,7 +536,7 @@ module _ (old mid : rWorld) (path : Path) (worker : ℕ) (g : IsReady mid path w
       pub spawns : Becomes (Spawns path.turns.items) old (record mid { tasks = next.tasks })
       spawns = becomes_after old mid (record mid { tasks = next.tasks }) (Spawns path.turns.items) same looked spawn_of
 
-    -- one that isn't to begin a task, or is too light
+    -- a task that isn't about to spawn, or has too little weight
     module _ (none : IsToSpawn k → IsHeavy k → ⊥) (w : World) (h : Shows mid w) where
       no_spawn_of : next_world mid.job (Spawns path.turns.items) w ≡ None
       no_spawn_of =
@@ -588,9 +588,9 @@ module _ (old mid : rWorld) (path : Path) (worker : ℕ) (g : IsReady mid path w
         (stays_put mid path k new next.tasks mid.scopes at (alike_stays mid.job.job k new alike) each (λ q. refl))
         (λ m w h. no_spawn_of (none m) w h))
 
-  -- ---- a finish is begun
+  -- ---- a finish is started
   module _ (k : rTask) (at : get is_path mid.tasks path ≡ Some k) where
-    -- it has begun fewer than its budget has steps
+    -- the number of finishes that it has started is less than the steps of its budget
     pub opened_few : (w : World) → Shows mid w → (r : Run) → k.doing ≡ rOpens r → k.opened + 1 ≤ (budget_of mid.job.job).steps
     opened_few w h r was =
         let x = at_hand w h in
@@ -662,7 +662,7 @@ module _ (old mid : rWorld) (path : Path) (worker : ℕ) (g : IsReady mid path w
       pub opens : Becomes (Opens path.turns.items) old (record mid { tasks = next.tasks; scopes = next.scopes })
       opens = becomes_after old mid (record mid { tasks = next.tasks; scopes = next.scopes }) (Opens path.turns.items) same looked open_of
 
-    -- one that isn't to begin a finish
+    -- a task that isn't about to start a finish
     no_open_of : ((r : Run) → k.doing ≡ rOpens r → ⊥) → (w : World) (h : Shows mid w) → next_world mid.job (Opens path.turns.items) w ≡ None
     no_open_of none w h =
         let x = at_hand w h in
@@ -681,7 +681,7 @@ module _ (old mid : rWorld) (path : Path) (worker : ℕ) (g : IsReady mid path w
         (stays_put mid path k new next.tasks next.scopes at (alike_stays mid.job.job k new alike) each kept)
         (λ m w h. no_open_of (none m) w h))
 
--- what is known of a task that is short, as one look-up finds it
+-- facts about a task that is short, as one look-up finds it
 pub record ItsInner (r : rWorld) (path : Path) (s : IsShort r path) (k : rTask) (inner : rStake) (outer : List rStake) : Type 0 where
   pub task : k ≡ s.task
   pub inner_is : inner ≡ s.wants.inner

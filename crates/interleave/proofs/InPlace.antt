@@ -1,4 +1,4 @@
--- A step that a task's run takes where it is, and an event that asks for one that isn't next.
+-- A step that a task's run takes in place, and an event for a step that isn't next.
 use Rattle.std.proofs.Common.{◌≡◌, ℕ, List, Option, Some, None, refl, sym, ap, ◌∙◌, subst, inr}
 use Rattle.std.specs.Prelude.{Bool, true, false, if◌then◌else◌}
 use Rattle.std.specs.HashMap.{get}
@@ -59,11 +59,11 @@ module _ (r : rWorld) (path : Path) (k : rTask) (at : get is_path r.tasks path �
           by_action (next_action r.job.w0 actions handed t.0)
           (not (course_of t.0) (its_doing r.job.job k t.0 v t.2 (ap hand_of t.2.place ∙ e)))
 
-  -- tables with another task in the place of that
+  -- tables in which another task replaces it
   module _ (put : rTask → rWorld)
       (each : (x : rTask) (q : Path) → get is_path (put x).tasks q ≡ (if is_path path q then Some x else get is_path r.tasks q))
       (found : (x : rTask) → get is_path (put x).tasks path ≡ Some x) (new : rTask) where
-    -- as if its step had been known before
+    -- as if the step had been known before
     stepped : TookStep r.job.job k new → Becomes (Steps path.turns.items) r (record r { tasks = (put new).tasks })
     stepped s =
         (steps r mid path s.worker (record { task = known; at = found known; hand = s.hand; known = tt }) refl
@@ -82,7 +82,7 @@ module _ (r : rWorld) (path : Path) (k : rTask) (at : get is_path r.tasks path �
         mid : rWorld
         mid = record r { tasks = (put known).tasks }
 
-    -- it did so, or it is as it was
+    -- it took the step, or it is unchanged
     pub stepped_if : (did : Bool) → TookStepIf did r.job.job k new → SteppedIf did path.turns.items r (record r { tasks = (put new).tasks })
     stepped_if true s = stepped s
     stepped_if false same =

@@ -1,4 +1,4 @@
--- What holds of each world that a list of legal events leads to.
+-- Facts about each world that a list of legal events leads to.
 use Rattle.std.proofs.Common.{◌≡◌, ℕ, zero, suc, ◌+◌, ◌<◌, ◌≤◌, List, [], ◌∷◌, ◌++◌, length, Some, ap, ◌∙◌, subst}
 use Rattle.std.proofs.Common.{inl, inr, arith}
 use Rattle.std.proofs.lemmas.List.Elements.{Contains-append_left, Contains-append_cases}
@@ -11,12 +11,12 @@ use Rattle.interleave.proofs.Lookups.{Unique, held_least}
 use Rattle.interleave.proofs.Histories.{contains_nil, contains_later, contains_cons, contains_map, map_contains}
 use Rattle.interleave.proofs.Stakes.{scope_of, own, Weighty, weighs_below, weighs_last}
 
--- the scope that a task was begun in stands first in its line
+-- the scope in which a task was spawned is the first in its line
 abbrev pub base : List ScopeId → List ScopeId
 base [] = []
 base (b ∷ bs) = b ∷ []
 
--- a task that was begun in a scope, which its owner has open
+-- a task that was spawned in a scope, which its owner has open
 pub record Hangs (es : List Event) (live : List Live) (line : List ℕ → List ScopeId) (q : List ℕ) : Type 0 where
   pub owner : List ℕ
   pub number : ℕ
@@ -36,7 +36,7 @@ pub record WasSpawned (es : List Event) (q : List ℕ) : Type 0 where
 abbrev pub IsNamed : List Event → List ℕ → Type 0
 IsNamed es q = (q ≡ []) ⊎ WasSpawned es q
 
--- a task is as the events tell
+-- a task agrees with the record of its events
 pub record IsTold (x : Told) (line : List ScopeId) (q : List ℕ) (t : Live) : Type 0 where
   pub spawned : t.spawned ≡ x.spawned
   pub opened : t.opened ≡ x.opened
@@ -52,7 +52,7 @@ pub record ScopeOk (es : List Event) (live : List Live) (id : ScopeId) (s : Scop
   pub known : id.number ≤ (told es id.owner).opened
 
 pub record Kept (es : List Event) (w : World) : Type 0 where
-  -- the scopes that a task was begun in, directly or not
+  -- the scopes in which a task was spawned, directly or not
   pub line : List ℕ → List ScopeId
   pub no_line : line [] ≡ []
   pub unique : Unique w.live
@@ -65,9 +65,9 @@ pub record Kept (es : List Event) (w : World) : Type 0 where
   pub spawned : (before : List Event) (o q : List ℕ) → SpawnsAt es before o q → ((t : Live) × (task q w.live ≡ Some t)) ⊎ Contains es (Ends q)
   pub begun : (id : ScopeId) (q : List ℕ) → Begun es id q → Contains (line q) id
 
--- ---- what follows of one world
+-- ---- consequences for a single world
 module _ (es : List Event) (w : World) (k : Kept es w) where
-  -- in the scope that it was begun in a task weighs
+  -- in the scope in which it was spawned, a task has weight
   pub base_weighs : (q : List ℕ) (t : Live) → task q w.live ≡ Some t → (h : Hangs es w.live k.line q) → 1 ≤ held (own h.owner h.number) w.live
   base_weighs q t e h =
       let i = k.tasks q t e in
@@ -80,7 +80,7 @@ module _ (es : List Event) (w : World) (k : Kept es w) where
       too_long : h.owner ≡ q → length h.owner < length q → ⊥
       too_long f lt = let g : length h.owner ≡ length q = ap length f in omega (arith, g, lt)
 
-  -- below its innermost own scope an owner weighs
+  -- below its innermost own scope an owner has weight
   low_weighs : (u : List ℕ) (t : Live) (top low : List ℕ) (m n : ℕ) → task u w.live ≡ Some t → (told es u).inside ≡ top ++ m ∷ low → Contains low n → 1 ≤ held (own u n) w.live
   low_weighs u t top low m n e f c =
       let i = k.tasks u t e in
@@ -120,11 +120,11 @@ module _ (es : List Event) (w : World) (k : Kept es w) where
                   subst (λ i. 1 ≤ held i w.live) g.2 (low_weighs h.owner h.its h.top h.low h.number g.0 h.lives h.inside g.1)
               by_part (inr f) = rec h.owner h.its (let s = h.shorter in omega (arith, s, lt)) h.lives f
 
-  -- in each scope that a live task was begun in, directly or not, some task weighs
+  -- in each scope in which a live task was spawned, directly or not, some task has weight
   pub line_weighs : (q : List ℕ) (t : Live) → task q w.live ≡ Some t → (id : ScopeId) → Contains (k.line q) id → 1 ≤ held id w.live
   line_weighs q t = line_within (length q + 1) q t (omega arith)
 
-  -- all that was begun in a passed scope has ended
+  -- all tasks spawned in a passed scope have ended
   pub passed_ended : (id : ScopeId) (s : Scope) (q : List ℕ) → scope id w.scopes ≡ Some s → s.passed ≡ true → Begun es id q → WasSpawned es q → Contains es (Ends q)
   passed_ended id s q e p b h = by_place (k.spawned h.before h.parent q h.at)
     where

@@ -1,4 +1,4 @@
--- No live task weighs more in a scope than the scope has out.
+-- No live task has more weight in a scope than the scope has out.
 use Rattle.std.proofs.Common.{◌≡◌, ℕ, ◌≤◌, List, [], ◌∷◌, ap, inl, inr, arith}
 use Rattle.std.specs.Prelude.{◌⊎◌, Bool, Contains, if◌then◌else◌}
 use Rattle.own_run.specs.Results.{TaskResult}
@@ -9,7 +9,7 @@ use Rattle.interleave.proofs.Lookups.{scope_is, held_least}
 use Rattle.interleave.proofs.Histories.{contains_nil, contains_cons}
 use Rattle.interleave.proofs.Reached.{weights_add_up}
 
--- a stake weighs at most what its task has in its scope
+-- a stake has at most the weight of its task in its scope
 stake_least : (ss : List Stake) (k : Stake) → Contains ss k → k.weight ≤ weight_in k.scope ss
 stake_least [] k c = absurd (contains_nil k c)
 stake_least (s ∷ ss) k c = by_place (contains_cons s ss k c) (stake_least ss k)

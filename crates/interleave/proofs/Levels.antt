@@ -1,10 +1,12 @@
--- How many finishes are open behind what a task does: it ends none that it hasn't begun, and its end comes last.
+-- The number of open finishes after a task's actions: a task ends only finishes that it has
+-- started, and its own end is last.
 use Rattle.std.proofs.Common.{◌≡◌, ℕ, zero, suc, ◌+◌, List, [], ◌∷◌, ◌++◌, Option, Some, None, refl, sym, ap, ◌∙◌, arith}
 use Rattle.std.specs.Prelude.{take, slice_get}
 use Rattle.std.proofs.lemmas.Option.{none-some, same_Some}
 use Rattle.own_run.specs.OwnRun.{Action, Step, Spawn, EnterFinish, EndFinish, EndTask, last_action}
 
--- how many finishes are open behind actions, where d were before; none where one ends that isn't there, or the task
+-- the number of open finishes after actions, with d before them; None if a finish ends that isn't
+-- open, or the task ends
 abbrev pub depth : ℕ → List Action → Option ℕ
 depth d [] = Some d
 depth d (Step ∷ xs) = depth d xs
@@ -23,12 +25,12 @@ depth-append zero (EndFinish ∷ xs) bs e h = absurd (none-some _ h)
 depth-append (suc d) (EndFinish ∷ xs) bs e h = depth-append d xs bs e h
 depth-append d (EndTask ∷ xs) bs e h = absurd (none-some _ h)
 
--- the last of a task's actions fits no bracket
+-- the last action of a task ends no open finish
 pub depth-last_action : (q : List ℕ) → depth 0 (last_action q ∷ []) ≡ None
 depth-last_action [] = refl
 depth-last_action (k ∷ q) = refl
 
--- actions that open so many finishes more than they end, from wherever they start
+-- actions that open more finishes than they end, by this number, from any start
 abbrev pub IsLevel : List Action → ℕ → Type 0
 IsLevel xs n = (d : ℕ) → depth d xs ≡ Some (n + d)
 
@@ -43,19 +45,19 @@ same_level d = let e : d ≡ 0 + d = omega arith in ap Some e
 pub flat_level : (xs : List Action) (n : ℕ) → IsLevel xs n → n ≡ 0 → (d : ℕ) → depth d xs ≡ Some d
 flat_level xs n h none d = let e : n + d ≡ d = omega (arith, none) in h d ∙ ap Some e
 
--- ---- the first so many
+-- ---- the first k elements
 pub take_next : {A : Type 0} (xs : List A) (k : ℕ) (x : A) → slice_get xs k ≡ Some x → take (suc k) xs ≡ take k xs ++ x ∷ []
 take_next [] k x e = absurd (none-some _ e)
 take_next (y ∷ xs) zero x e = ap (λ z. z ∷ []) (same_Some _ _ e)
 take_next (y ∷ xs) (suc k) x e = ap (λ l. y ∷ l) (take_next xs k x e)
 
--- those before one of the first list
+-- the first k elements of the first list
 pub take-append : {A : Type 0} (xs ys : List A) (k : ℕ) (x : A) → slice_get xs k ≡ Some x → take k (xs ++ ys) ≡ take k xs
 take-append [] ys k x e = absurd (none-some _ e)
 take-append (z ∷ xs) ys zero x e = refl
 take-append (z ∷ xs) ys (suc k) x e = ap (λ l. z ∷ l) (take-append xs ys k x e)
 
--- a beginning of bracketed actions, with the next
+-- a first part of bracketed actions, together with the next one
 pub depth_next : (d : ℕ) (xs : List Action) (k : ℕ) (a : Action) (e f : ℕ) → depth d xs ≡ Some e → slice_get xs k ≡ Some a → depth d (take k xs) ≡ Some f → (g : ℕ) × (depth f (a ∷ []) ≡ Some g)
 depth_next d [] k a e f h n t = absurd (none-some _ n)
 depth_next d (x ∷ xs) zero a e f h n t =

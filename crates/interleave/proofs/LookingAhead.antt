@@ -1,4 +1,4 @@
--- A world in which a task's next action is known by now, and what is said of it.
+-- A world in which a task's next action is known by now, and facts about it.
 use Rattle.std.proofs.Common.{◌≡◌, ℕ, List, Some, None, refl, sym, ap, ◌∙◌, subst}
 use Rattle.std.specs.Prelude.{true, nat_eq, if◌then◌else◌}
 use Rattle.std.specs.Cmp.Lexicographic.{pointwise}
@@ -22,7 +22,7 @@ use Rattle.interleave.proofs.InHand.{becomes_after}
 use Rattle.interleave.proofs.Lookups.{by_test}
 use Rattle.interleave.proofs.Staying.{stays_put, stays_shown}
 
--- what a task is about to do, wherever it is
+-- the next action of a task, at any location
 pub some_doing : (j : Job) (k : rTask) (t : Live) → IsTaskOf j k t → (c : Course) × IsDoing j c k.doing
 some_doing j k t is = by_place t.place is.doing
   where
@@ -52,7 +52,7 @@ pub stays_back : (r : rWorld) (path name : Path) (k new : rTask) (without last :
 stays_back r path name k new without last at same s out back =
     stays_put r path k new last.tasks r.scopes at s (each_back path name new r without last same out back) (λ q. refl)
 
--- ---- an event behind that
+-- ---- an event after the look
 pub still_world : (old mid : rWorld) → IsWorld old → WorldStays old mid → IsWorld mid
 still_world old mid is still = record {
   job = subst IsWeightedJob (sym still.job) is.job;
@@ -63,7 +63,7 @@ still_world old mid is still = record {
 pub becomes_then : (old mid new : rWorld) (e : Event) → WorldStays old mid → Becomes e mid new → Becomes e old new
 becomes_then old mid new e still b = becomes_after old mid new e still.job (stays_shown old mid still) b
 
--- what is called illegal was
+-- an event that was called illegal was illegal
 pub illegal_by : (old new : rWorld) (e : Event) (x : EventError) → Refuses e old new x → x ≡ Illegal → IsIllegal old e
 illegal_by old new e x r is = (subst (Refuses e old new) is r).1
 

@@ -48,19 +48,19 @@ pub holds : {A : Type 0} (b : Bool) (o : Option A) (y : A) → only_if b o ≡ S
 holds true o y e = record { test = refl; gives = e }
 holds false o y e = absurd (none-some _ e)
 
--- by what a test says
+-- a case split on a test
 pub by_test : (P : Bool → Type 0) (b : Bool) → (b ≡ true → P true) → (b ≡ false → P false) → P b
 by_test P true h k = h refl
 by_test P false h k = k refl
 
--- ---- what has a name, in a list
+-- ---- the element with a name, in a list
 module _ {A K : Type 0} (same : K → K → Bool) (are : (i j : K) → same i j ≡ true → i ≡ j) (name : A → K) where
-  -- what `task` and `scope` are for tasks and scopes
+  -- `task` and `scope`, for lists of any kind
   abbrev named : K → List A → Option A
   named i [] = None
   named i (x ∷ xs) = if same (name x) i then Some x else named i xs
 
-  -- what `put_task` and `put_scope` are
+  -- `put_task` and `put_scope`, for lists of any kind
   abbrev put : A → List A → List A
   put to [] = []
   put to (x ∷ xs) = if same (name x) (name to) then to ∷ xs else x ∷ put to xs
@@ -72,7 +72,7 @@ module _ {A K : Type 0} (same : K → K → Bool) (are : (i j : K) → same i j 
       (λ f e. ap name (sym (same_Some _ _ e)) ∙ are (name y) i f)
       (λ f e. named_so i ys x e) e
 
-  -- another in the place of one
+  -- one element replaces another
   named-put : (to x : A) (i : K) (xs : List A) → named (name to) xs ≡ Some x
       → named i (put to xs) ≡ (if same (name to) i then Some to else named i xs)
   named-put to x i [] e = absurd (none-some _ e)
@@ -97,7 +97,7 @@ module _ {A K : Type 0} (same : K → K → Bool) (are : (i j : K) → same i j 
 pub task_path : (q : List ℕ) (ts : List Live) (t : Live) → task q ts ≡ Some t → t.path ≡ q
 task_path = named_so same_path paths_same (λ (t : Live). t.path)
 
--- another in the place of one
+-- one task replaces another
 pub task-put_task : (to t : Live) (j : List ℕ) (ts : List Live) → task to.path ts ≡ Some t → task j (put_task to ts) ≡ (if same_path to.path j then Some to else task j ts)
 task-put_task = named-put same_path paths_same (λ (t : Live). t.path)
 
@@ -108,7 +108,7 @@ task-without_task q j (u ∷ ts) ne =
     (λ f. ap (λ (b : Bool). if b then Some u else task j ts) (sym (path_not u.path j (λ e. ne (sym (paths_same u.path q f) ∙ e)))))
     (λ f. ap (λ o. if same_path u.path j then Some u else o) (task-without_task q j ts ne))
 
--- no two of one path
+-- no two tasks with the same path
 abbrev pub Unique : List Live → Type 0
 Unique [] = Unit {0}
 Unique (t ∷ ts) = (task t.path ts ≡ None) × Unique ts
@@ -154,7 +154,7 @@ gone-without_task q (u ∷ ts) h =
     (λ f. ap (λ p. task p ts) (sym (paths_same u.path q f)) ∙ h.0)
     (λ f. ap (λ (b : Bool). if b then Some u else task q (without_task q ts)) f ∙ gone-without_task q ts h.1)
 
--- ---- of each
+-- ---- properties of each element
 pub each-put_task : (P : Live → Type 0) (to : Live) (ts : List Live) → Each P ts → P to → Each P (put_task to ts)
 each-put_task P to [] h k = tt
 each-put_task P to (u ∷ ts) h k =
@@ -219,7 +219,7 @@ pub scope-put_scope : (to s : Scope) (j : ScopeId) (ss : List Scope) → scope t
 scope-put_scope = named-put same_scope scopes_same (λ (s : Scope). s.id)
 
 -- ---- whether scopes have passed
--- another of the same scope, which has passed where that has
+-- a replacement of the same scope, which has passed exactly if the scope has
 pub passed-put_scope : (to was : Scope) (j : ScopeId) (ss : List Scope) → scope to.id ss ≡ Some was → to.passed ≡ was.passed
     → is_passed (scope j (put_scope to ss)) ≡ is_passed (scope j ss)
 passed-put_scope to was j ss found same =
@@ -228,7 +228,7 @@ passed-put_scope to was j ss found same =
     (λ e. same ∙ ap is_passed (sym found) ∙ ap (λ i. is_passed (scope i ss)) (scopes_same to.id j e))
     (λ e. refl)
 
--- another of another scope
+-- a replacement of another scope
 pub passed_beside : (to was : Scope) (j : ScopeId) (ss : List Scope) → scope to.id ss ≡ Some was → (to.id ≡ j → ⊥)
     → is_passed (scope j (put_scope to ss)) ≡ is_passed (scope j ss)
 passed_beside to was j ss found other =
@@ -237,7 +237,7 @@ passed_beside to was j ss found other =
     (λ e. absurd (other (scopes_same to.id j e)))
     (λ e. refl)
 
--- a finish that is begun isn't the root's scope
+-- the scope of a finish that starts isn't the root's
 pub passed_opened : (name : ScopeId) (w0 n : ℕ) (ss : List Scope) → name.number ≡ n + 1
     → is_passed (scope root_scope (new_scope name w0 ∷ ss)) ≡ is_passed (scope root_scope ss)
 passed_opened name w0 n ss numbered =

@@ -1,4 +1,4 @@
--- Once it has passed the root's scope holds what all tasks below the root are worth.
+-- Once it has passed, the root's scope holds the worth of all tasks below the root.
 use Rattle.std.proofs.Common.{◌≡◌, ℕ, ◌+◌, List, [], ◌∷◌, ◌++◌, Some, refl, sym, ap, ◌∙◌}
 use Rattle.std.proofs.lemmas.List.{append-nil}
 use Rattle.std.proofs.lemmas.List.Folds.{fold-map}
@@ -18,11 +18,11 @@ use Rattle.interleave.proofs.Worth.{coming, coming_is}
 use Rattle.interleave.proofs.Whole.{root_scope_is_whole}
 
 module _ (p : Program) (needs : Codes → Needs) (fresh : ℕ) (f : TaskResult → ℕ) where
-  -- what a start is worth
+  -- the worth of a start
   pub worth : Start → ℕ
   worth s = worth_by p needs fresh f s
 
-  -- what children are worth, by what they start with
+  -- the worth of children, by their starts
   pub listed_is : (cs : List Child) → sum_by (λ c. worth_by p needs fresh f c.start) cs ≡ sum_by worth (map start_of cs)
   unfolding worth
   listed_is cs = sym (fold-map (λ n (s : Start). n + worth_by p needs fresh f s) start_of 0 cs)
@@ -35,7 +35,7 @@ module _ (p : Program) (needs : Codes → Needs) (fresh : ℕ) (f : TaskResult �
   worth_lists s = ap (λ n. f (result_of (own p needs fresh s)) + n) (below_is s)
 
   module _ (w0 : ℕ) (root : Start) (nameless : root.path ≡ []) where
-    -- a task's own run spawns for its scope what it lists
+    -- a task's own run spawns exactly the children that it lists for its scope
     truly_direct : (c : Start) → direct 0 (truly p needs fresh w0 root nameless c) ≡ map start_of (own p needs fresh c).extra.pending
     truly_direct c =
         let b = bracketed p needs fresh (in_truth p needs fresh) c in

@@ -1,4 +1,5 @@
--- Events by which a task changes its place, and a scope passes: as the tables in Rust show them.
+-- Events by which a task changes its location, or a scope passes, as the tables in Rust represent
+-- them.
 use Rattle.std.proofs.Common.{◌≡◌, ℕ, [], ◌∷◌, ◌++◌, Option, Some, None, refl, sym, ap, ◌∙◌, subst}
 use Rattle.std.proofs.lemmas.Bool.{ne_eqb, not-false}
 use Rattle.std.specs.Prelude.{Bool, true, false, ◌&&◌, not, nat_eq, if◌then◌else◌}
@@ -35,7 +36,7 @@ queued_doing j (Queue v) w c d e h = h
 queued_doing j (Hand v) w c d e h = h
 queued_doing j Parked w c d e h = false_true e
 
--- where a task of a path is in a queue, it is so in the definition
+-- if the task with a path is in a queue, it is so in the world of the definitions
 pub record Found (old : rWorld) (w : World) (path : Path) (worker : ℕ) (k : rTask) : Type 0 where
   pub its : Live
   pub lives : task path.turns.items w.live ≡ Some its
@@ -49,7 +50,7 @@ module _ (old : rWorld) (w : World) (h : Shows old w) (path : Path) where
       let t = there (IsTaskOf old.job.job) k (get is_path old.tasks path) (task path.turns.items w.live) (h.tasks path) at in
       record { its = t.0; lives = t.1; is = t.2; queued = ap (λ q. in_queue q worker) (sym t.2.place) ∙ queued }
 
-  -- a task that is in a queue is somewhere else
+  -- a task in a queue moves to another location
   module _ (from : ℕ) (k : rTask) (at : get is_path old.tasks path ≡ Some k) (queued : in_queue (whereabouts k.place) from ≡ true)
       (place : rWhereabouts) (new : rWorld)
       (each : (q : Path) → get is_path new.tasks q ≡ (if is_path path q then Some (record k { place = place }) else get is_path old.tasks q)) where
@@ -189,13 +190,13 @@ module _ (old : rWorld) (w : World) (h : Shows old w) (id : rScopeId) where
     found_so : scope passed_book.id w.scopes ≡ Some passing_book.0
     found_so = ap (λ i. scope i w.scopes) its_name ∙ passing_book.1
 
-    -- it is there, and has passed
+    -- it exists, and has passed
     pub passed_there : scope (scope_id id) passed_world.scopes ≡ Some passed_book
     passed_there =
         scope-put_scope passed_book passing_book.0 (scope_id id) w.scopes found_so
         ∙ ap (λ (b : Bool). if b then Some passed_book else scope (scope_id id) w.scopes) (scope_is its_name)
 
-    -- another scope than the root's
+    -- a scope other than the root's
     pub passed_elsewhere : (scope_id id ≡ root_scope → ⊥) → has_passed root_scope passed_world ≡ has_passed root_scope w
     passed_elsewhere other =
         passed_beside passed_book passing_book.0 root_scope w.scopes found_so (λ e. other (sym its_name ∙ e))

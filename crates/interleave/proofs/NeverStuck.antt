@@ -1,4 +1,4 @@
--- No world of a sound and accepted program is stuck, and at the end its outcome is told.
+-- No world of a sound and accepted program is stuck, and at the end it has an outcome.
 use Rattle.std.proofs.Common.{◌≡◌, ℕ, ◌≤◌, List, [], ◌∷◌, ◌++◌, Option, Some, None, refl, sym, ap, ◌∙◌, subst, inl}
 use Rattle.std.proofs.Common.{inr, arith}
 use Rattle.std.proofs.lemmas.Option.{none-some, same_Some}
@@ -49,7 +49,7 @@ module _ (p : Program) (needs : Codes → Needs) (scoped : IsScoped p) (calm : I
   abbrev go : List Event → World → Option World
   go = after w0 (does p needs fresh w0) (hands_on p needs fresh w0)
 
-  -- each task has its place, and each scope what it should
+  -- each task is at a point of its own run, and each scope holds what it should
   pub record Goes (w : World) : Type 0 where
     pub placed : AllPlaced p needs scoped calm provided fresh w0 root nameless may_begin w.live
     pub even : AllEvenBy p needs scoped calm provided fresh w0 root nameless may_begin w.live w.scopes
@@ -79,7 +79,7 @@ module _ (p : Program) (needs : Codes → Needs) (scoped : IsScoped p) (calm : I
         even = event_even p needs scoped calm provided fresh w0 root nameless may_begin before a h.kept h.own k.placed k.even x g.one c;
       }) g.next
 
-  -- so each live task that isn't parked has a next action
+  -- each live task that isn't parked has a next action
   has_next : (es : List Event) (w : World) → go es (first_world w0 root) ≡ Some w → (path : List ℕ) (t : Live) → task path w.live ≡ Some t
       → is_parked t.place ≡ false → (a : Action) × (next_action w0 (does p needs fresh w0) (hands_on p needs fresh w0) t ≡ Some a)
   has_next es w e path t lives awake =
@@ -88,7 +88,7 @@ module _ (p : Program) (needs : Codes → Needs) (scoped : IsScoped p) (calm : I
       has_next_action p needs scoped calm provided fresh root nameless may_begin t.start t.receipts t.done
       (poise p needs scoped calm provided fresh root nameless may_begin t.start t.receipts t.done s.0 s.1)
 
--- what holds of each holds of those among them
+-- a property of each element is true of the elements of a sublist
 pub each_has : {A : Type 0} (P : A → Type 0) (xs : List A) (x : A) → Each P xs → Contains xs x → P x
 each_has P [] x h c = absurd (contains_nil x c)
 each_has P (y ∷ xs) x h c = by_place (contains_cons y xs x c) (each_has P xs x h.1)
@@ -172,7 +172,7 @@ module _ (p : Program) (sound : IsSoundProgram p) (accepted : IsAccepted p) (w0 
       by_case (inr (inl x)) = inr x
       by_case (inr (inr x)) = absurd (never x)
 
-  -- the root's scope is there, since the root stands in it
+  -- the root's scope exists, because the root is in it
   root_there : (s : Scope) × (scope root_scope w.scopes ≡ Some s)
   root_there =
       let h = is_sound p (needs_of p) w0 least input b es w leads in
@@ -180,7 +180,7 @@ module _ (p : Program) (sound : IsSoundProgram p) (accepted : IsAccepted p) (w0 
       (subst (λ l. Contains l root_scope) (sym (its_stakes es w h.kept h.rooted ∙ ap (map (own_scope [])) h.rooted.inside))
       (root_last h.rooted.above))
 
-  -- where no candidate of a live task is legal
+  -- if no candidate of a live task is legal
   pub stuck : ((q : List ℕ) (t : Live) → task q w.live ≡ Some t
       → Each (λ e. event_of p w0 b e w ≡ None) (candidates 0 q t.place t.stakes))
       → (has_passed root_scope w ≡ true) ⊎ IsSpent p w0 b w

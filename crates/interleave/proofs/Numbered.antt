@@ -1,4 +1,4 @@
--- The n-th child that a task begins has its path with n behind.
+-- The n-th child that a task spawns has the task's path followed by n.
 use Rattle.std.proofs.Common.{◌≡◌, ℕ, zero, suc, ◌+◌, List, [], ◌∷◌, ◌++◌, length, Option, Some, None, refl, sym, ap}
 use Rattle.std.proofs.Common.{◌∙◌, inl, inr, arith, append_assoc}
 use Rattle.std.proofs.lemmas.List.{append-nil, length_push}
@@ -27,7 +27,7 @@ get_last (z ∷ xs) x y (suc n) e = further (get_last xs x y n e)
     further (inl h) = inl h
     further (inr h) = inr (ap suc h.0, h.1)
 
--- where a task with this path has its children numbered
+-- the children of a task with this path are numbered
 record Numbers (path : List ℕ) (st : State Own) : Type 0 where
   named : st.path ≡ path
   counted : length (begun_by st.extra.actions) ≡ st.spawned
@@ -48,7 +48,7 @@ module _ (path : List ℕ) (needs : Codes → Needs) (nest : ℕ) (close : State
     each = λ n c i. h.each n c (ap (λ l. slice_get l n) (sym g) ∙ i);
   }
 
-  -- with one action more that begins nothing
+  -- with one more action that spawns nothing
   quiet : (xs : List Action) (a : Action) → begun_by (a ∷ []) ≡ [] → begun_by (xs ++ a ∷ []) ≡ begun_by xs
   quiet xs a e = begun_by-append xs (a ∷ []) ∙ ap (λ l. begun_by xs ++ l) e ∙ append-nil (begun_by xs)
 
@@ -104,7 +104,7 @@ module _ (p : Program) (needs : Codes → Needs) (fresh : ℕ) where
       (run_numbers s.path needs s.nest (in_truth p needs fresh) p (Block s.body) (beginning (at_first s.owned) fresh s)
       (record { named = refl; counted = refl; each = λ n c e. absurd (none-some _ e) })).each n c e
 
-  -- what a path is given has this path
+  -- the start given to a path has this path
   pub given_path : (q : List ℕ) (s c : Start) → given p needs fresh s q ≡ Some c → c.path ≡ s.path ++ q
   given_path [] s c e = ap (λ (c : Start). c.path) (sym (same_Some _ _ e)) ∙ sym (append-nil s.path)
   given_path (zero ∷ q) s c e = absurd (none-some _ e)
@@ -112,7 +112,7 @@ module _ (p : Program) (needs : Codes → Needs) (fresh : ℕ) where
       let g = gives (slice_get (begun_by (own p needs fresh s).extra.actions) n) (λ d. given p needs fresh d q) c e in
       given_path q g.one c g.next ∙ ap (λ l. l ++ q) (begun_path s n g.one g.first) ∙ append_assoc s.path (suc n ∷ []) q
 
--- the child of a spawn is the next that was begun
+-- the child of a spawn is the next one after those already spawned
 pub begun_at : (xs : List Action) (k : ℕ) (c : Start) → slice_get xs k ≡ Some (Spawn c) → slice_get (begun_by xs) (length (begun_by (take k xs))) ≡ Some c
 begun_at [] k c e = absurd (none-some _ e)
 begun_at (x ∷ xs) zero c e = ap (λ y. slice_get (begun_by (y ∷ xs)) 0) (same_Some _ _ e)

@@ -58,13 +58,13 @@ module _ (es : List Event) (e : Event) (a : World) (h : AllOnce es a.live a.scop
     ended = Contains-append_left es (e ∷ []) (Ends q) g.ended;
   }
 
-  -- the same scopes beside other tasks
+  -- unchanged scopes, with other tasks
   still_once : (live : List Live) → ((q : List ℕ) → WasSpawned es q → task q a.live ≡ None → task q live ≡ None) → AllOnce es' live a.scopes
   still_once live f id s g =
       let o = h id s g in
       (o.0, each_more (OfGone es a.live) (OfGone es' live) s.results (λ r. gone_still live f r.path) o.1)
 
-  -- another book, with results that are fine
+  -- another book, whose results are right
   booked_once : (live : List Live) → AllOnce es' live a.scopes → (x : ScopeId) (book to : Scope) → scope x a.scopes ≡ Some book → to.id ≡ x
       → NoTwice to.results × Each (OfGone es' live) to.results → AllOnce es' live (put_scope to a.scopes)
   booked_once live k x book to f g fine id s i = by_place (rebooked x book to a.scopes id s f g i)
@@ -73,7 +73,7 @@ module _ (es : List Event) (e : Event) (a : World) (h : AllOnce es a.live a.scop
       by_place (inl (u, v)) = subst (λ (r : Scope). NoTwice r.results × Each (OfGone es' live) r.results) v fine
       by_place (inr (u, v)) = k id s v
 
-  -- with the results that it had
+  -- with unchanged results
   same_results : (live : List Live) → AllOnce es' live a.scopes → (x : ScopeId) (book to : Scope) → scope x a.scopes ≡ Some book → to.id ≡ x → to.results ≡ book.results → AllOnce es' live (put_scope to a.scopes)
   same_results live k x book to f g same = booked_once live k x book to f g (subst (λ rs. NoTwice rs × Each (OfGone es' live) rs) (sym same) (k x book f))
 

@@ -1,4 +1,4 @@
--- What every replay keeps, and what it comes to.
+-- Facts that every replay keeps, and the outcome of a replay.
 use Rattle.std.proofs.Common.{inl, ◌≡◌, ℕ, suc, ◌+◌, ◌≤◌, List, [], ◌∷◌, ◌++◌, length, Option, Some, None, refl, sym}
 use Rattle.std.proofs.Common.{ap, ◌∙◌, subst, arith, append_assoc}
 use Rattle.std.proofs.lemmas.List.{append-nil}
@@ -40,7 +40,7 @@ module _ (p : Program) (needs : Codes → Needs) (fresh w0 : ℕ) (least : 1 ≤
   abbrev go : List Event → World → Option World
   go = after w0 (does p needs fresh w0) (hands_on p needs fresh w0)
 
-  -- what holds of every world
+  -- facts about every world
   pub record IsSound (es : List Event) (w : World) : Type 0 where
     pub kept : Kept es w
     pub own : AllOwn p needs fresh w0 root nameless w
@@ -149,7 +149,7 @@ module _ (p : Program) (needs : Codes → Needs) (fresh w0 : ℕ) (least : 1 ≤
             two_one : (xs : List ScopeId) → s.scope ∷ r.scope ∷ xs ≡ root_scope ∷ [] → ⊥
             two_one xs e = let n : suc (suc (length xs)) ≡ 1 = ap length e in omega (arith, n)
 
-    -- the root started with what it is given
+    -- the root started with the start that is given to it
     pub root_start : h.rooted.its.start ≡ root
     root_start =
         let path = task_path [] w.live h.rooted.its h.rooted.lives in
@@ -158,7 +158,7 @@ module _ (p : Program) (needs : Codes → Needs) (fresh w0 : ℕ) (least : 1 ≤
     pub root_hands_on : hands_on p needs fresh w0 h.rooted.its.start h.rooted.its.receipts ≡ result_of (own p needs fresh root)
     root_hands_on = ap result_of root_is_done.0 ∙ ap (λ s. result_of (own p needs fresh s)) root_start
 
--- what a replay comes to is one world, or one number
+-- a replay leads to one world, or to one number
 pub legal_same : (a b : World) → Legal a ≡ Legal b → a ≡ b
 legal_same a b e = cc e
 
@@ -222,7 +222,7 @@ module _ (p : Program) (needs : Codes → Needs) (w0 : ℕ) where
       let g = gives (event p needs fresh w0 x a) (after w0 (does p needs fresh w0) (hands_on p needs fresh w0) es) w e in
       ap (go_or n (replay_from p needs fresh w0 (n + 1) es)) g.first ∙ lead fresh (n + 1) es g.one w g.next
 
-  -- what events lead to is what they are replayed to
+  -- the world that events lead to is the world of their replay
   pub worlds_are_replays : (input : List (List ℤ)) (b : Budget) (es : List Event) (w : World)
       → after w0 (does p needs b.steps w0) (hands_on p needs b.steps w0) es (start_of p w0 input b) ≡ Some w
       → replay p needs w0 input b es ≡ Legal w

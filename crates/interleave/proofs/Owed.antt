@@ -1,4 +1,5 @@
--- Whatever results are worth: what a scope holds, and what the tasks begun in it are, is what was spawned for it.
+-- For any measure of results: what a scope holds, and what the tasks spawned in it are worth, is
+-- together the worth of what was spawned for it.
 use Rattle.std.proofs.Common.{◌≡◌, ℕ, zero, suc, ◌+◌, ◌-◌, ◌/◌, ◌<◌, ◌≤◌, List, [], ◌∷◌, ◌++◌, length, Some}
 use Rattle.std.proofs.Common.{None, refl, sym, ap, ◌∙◌, subst, inl, inr, arith}
 use Rattle.std.proofs.lemmas.Option.{none-some, same_Some}
@@ -39,7 +40,7 @@ use Rattle.interleave.proofs.Pending.{spawned, spawned-append}
 use Rattle.interleave.proofs.Worth.{sum_by-each_zero, sum_by-put_task, sum_by-without_task}
 
 -- ---- lists
--- where only one task counts
+-- if only one task counts
 pub sum_by-one : (g : Live → ℕ) (path : List ℕ) (t : Live) (ts : List Live) → Unique ts → task path ts ≡ Some t
     → ((q : List ℕ) (u : Live) → task q ts ≡ Some u → (path ≡ q → ⊥) → g u ≡ 0) → sum_by g ts ≡ g t
 sum_by-one g path t ts unique e h =
@@ -85,7 +86,7 @@ based_in id (x ∷ y ∷ more) e = contains_later x (y ∷ more) id (based_in id
 not_based : (id : ScopeId) (xs : List ScopeId) → (Contains xs id → ⊥) → based id xs ≡ false
 not_based id xs n = by_test (λ b. based id xs ≡ b → b ≡ false) (based id xs) (λ f e. absurd (n (based_in id xs e))) (λ f e. refl) refl
 
--- where a task stands whose scope weighs nothing
+-- the owner of a scope is the only task that can be in it without weight
 pub stands_owner : (w : Whereabouts) (q : List ℕ) (ss : List Stake) (id : ScopeId) → Weighty w q ss → Contains (map scope_of ss) id
     → weight_in id ss ≡ 0 → id.owner ≡ q
 stands_owner (Queue w) q ss id h c z = absurd (let a = positive_in id ss h c in omega (arith, a, z))
@@ -97,7 +98,7 @@ stands_owner Parked q (s ∷ ss) id h c z = by_place (contains_cons s.scope (map
     by_place (inl e) = ap (λ (i : ScopeId). i.owner) (sym e) ∙ h.1
     by_place (inr d) = absurd (let a = positive_in id ss h.2 d in omega (arith, a, z))
 
--- a scope that no event has told of
+-- a scope that no event has opened
 no_scope : (es : List Event) (id : ScopeId) (ss : List Stake) → Each (IsKnown es) ss → (told es id.owner).opened < id.number
     → Contains (map scope_of ss) id → ⊥
 no_scope es id [] h lt c = contains_nil id c
@@ -111,7 +112,7 @@ no_scope es id (s ∷ ss) h lt c = by_place (contains_cons s.scope (map scope_of
         let c : (told es s.scope.owner).opened ≡ (told es id.owner).opened = ap (λ (i : ScopeId). (told es i.owner).opened) e in
         omega (arith, a, b, c, lt)
 
--- a live task stands in a scope
+-- a live task is in a scope
 pub record Somebody (ts : List Live) (id : ScopeId) : Type 0 where
   pub path : List ℕ
   pub its : Live
@@ -124,7 +125,7 @@ module _ (p : Program) (needs : Codes → Needs) (fresh w0 : ℕ) (root : Start)
   abbrev truth : Start → List Action
   truth s = truly p needs fresh w0 root nameless s
 
-  -- what it had done when it last had its innermost scope open
+  -- the number of its actions when it last had its innermost scope open
   abbrev pub prior : Whereabouts → ℕ → ℕ
   prior Parked n = n - 1
   prior (Queue w) n = n
@@ -135,7 +136,7 @@ module _ (p : Program) (needs : Codes → Needs) (fresh w0 : ℕ) (root : Start)
   prior_awake (Hand w) n e = refl
   prior_awake Parked n e = absurd (false_true (sym e))
 
-  -- what a task has spawned in each scope that it stands in
+  -- what a task has spawned in each scope that it is in
   pub open_in : Live → List (List Start)
   open_in t = spawned ([] ∷ []) (take (prior t.place t.done) (truth t.start))
 
@@ -152,7 +153,7 @@ module _ (p : Program) (needs : Codes → Needs) (fresh w0 : ℕ) (root : Start)
       open_awake to b ∙ ap (λ x. spawned ([] ∷ []) (take to.done (truth x))) s
       ∙ ap (λ n. spawned ([] ∷ []) (take n (truth t.start))) d ∙ sym (open_awake t a)
 
-  -- with one action more
+  -- with one more action
   open_more : (t to : Live) → IsOwnTask p needs fresh w0 root nameless t → (a : Action) → nexts p needs fresh w0 root nameless t ≡ Some a
       → is_parked t.place ≡ false → is_parked to.place ≡ false → to.start ≡ t.start → to.done ≡ t.done + 1
       → open_in to ≡ spawned (open_in t) (a ∷ [])
@@ -163,7 +164,7 @@ module _ (p : Program) (needs : Codes → Needs) (fresh w0 : ℕ) (root : Start)
       ∙ spawned-append ([] ∷ []) (take t.done (truth t.start)) (a ∷ [])
       ∙ ap (λ css. spawned css (a ∷ [])) (sym (open_awake t x))
 
-  -- what is spawned in one scope is worth
+  -- the worth of what is spawned in one scope
   abbrev pub hung : ScopeId → List ScopeId → List (List Start) → ℕ
   hung id [] css = 0
   hung id (x ∷ xs) [] = 0
@@ -185,7 +186,7 @@ module _ (p : Program) (needs : Codes → Needs) (fresh w0 : ℕ) (root : Start)
   unfolding hangs
   hangs_is id t = refl
 
-  -- a task other than the root that was begun in a scope is worth
+  -- the worth of a task other than the root that was spawned in a scope
   pub owed : ScopeId → Live → ℕ
   owed id t = if same_path t.path [] then 0 else (if based id (map scope_of t.stakes) then worth t.start else 0)
 
@@ -217,11 +218,11 @@ module _ (p : Program) (needs : Codes → Needs) (fresh w0 : ℕ) (root : Start)
   abbrev pub Even : ScopeId → Scope → List Live → Type 0
   Even id s ts = sum_by f s.results + sum_by (owed id) ts ≡ sum_by (hangs id) ts
 
-  -- so it is for each scope that some task stands in
+  -- this is true for each scope that some task is in
   abbrev pub AllEven : List Live → List Scope → Type 0
   AllEven ts ss = (id : ScopeId) (s : Scope) → scope id ss ≡ Some s → Somebody ts id → Even id s ts
 
-  -- ---- one scope, or one task, in the place of another
+  -- ---- one scope or one task replaces another
   same_even : (x : ScopeId) (book to : Scope) (ts : List Live) (ss : List Scope) → scope x ss ≡ Some book → to.id ≡ x
       → to.results ≡ book.results → AllEven ts ss → AllEven ts (put_scope to ss)
   same_even x book to ts ss e g same h id s i who = by_place (rebooked x book to ss id s e g i)
@@ -239,7 +240,7 @@ module _ (p : Program) (needs : Codes → Needs) (fresh w0 : ℕ) (root : Start)
       let b = sum_by-put_task (hangs id) to was ts e in
       omega (arith, a, b, c, d, h)
 
-  -- who stood there before
+  -- tasks that were in the scope before
   stood : (to was : Live) (path : List ℕ) (ts : List Live) (id : ScopeId) → task path ts ≡ Some was → to.path ≡ path
       → (Contains (map scope_of to.stakes) id → Contains (map scope_of was.stakes) id) → Somebody (put_task to ts) id → Somebody ts id
   stood to was path ts id e g back who = by_place (put_cases to was who.its who.path ts (ap (λ r. task r ts) g ∙ e) who.lives).here
@@ -460,7 +461,7 @@ module _ (p : Program) (needs : Codes → Needs) (fresh w0 : ℕ) (root : Start)
                   by_place (inl e) = subst (Contains (c.at.inner.scope ∷ map scope_of c.at.outer)) e (contains_here c.at.inner.scope (map scope_of c.at.outer))
                   by_place (inr e) = absurd (contains_nil id e)
 
-    -- ---- the end of a task, whose own run has this pending
+    -- ---- the end of a task, whose own run has these children pending
     module _ (path : List ℕ) (b : World)
         (c : IsEnd (λ t. nexts p needs fresh w0 root nameless t) (λ t. hands p needs fresh w0 root nameless t) path a b)
         (all_spawned : open_in c.at.was ≡ map start_of (own p needs fresh c.at.was.start).extra.pending ∷ []) where
@@ -543,7 +544,7 @@ module _ (p : Program) (needs : Codes → Needs) (fresh w0 : ℕ) (root : Start)
       none_in : (q : List ℕ) (u : Live) → task q a.live ≡ Some u → weight_in c.inner.scope u.stakes ≡ 0
       none_in q u e = let x = held_least c.inner.scope q u a.live e in let y = weightless in omega (arith, x, y)
 
-      -- only its owner stands there
+      -- only its owner is in it
       owner_of : (q : List ℕ) (u : Live) → task q a.live ≡ Some u → Contains (map scope_of u.stakes) c.inner.scope → c.inner.scope.owner ≡ q
       owner_of q u e d = stands_owner u.place q u.stakes c.inner.scope (k.tasks q u e).weighty d (none_in q u e)
 
@@ -567,7 +568,7 @@ module _ (p : Program) (needs : Codes → Needs) (fresh w0 : ℕ) (root : Start)
               let n = none_in path c.was c.found in
               omega (arith, y, z, n)
 
-      -- nobody that it holds is still to end
+      -- none of the tasks spawned in it is still to end
       pub nothing_owed : sum_by (owed c.inner.scope) a.live ≡ 0
       nothing_owed = sum_by-each_zero (owed c.inner.scope) a.live (each_of (λ t. owed c.inner.scope t ≡ 0) a.live k.unique each)
         where
@@ -589,7 +590,7 @@ module _ (p : Program) (needs : Codes → Needs) (fresh w0 : ℕ) (root : Start)
                   let z : held (own_scope r.owner r.number) a.live ≡ 0 = ap (λ i. held i a.live) (sym same.last) ∙ weightless in
                   absurd (omega (arith, weighs, z))
 
-      -- what hangs on it is what its owner spawned there
+      -- the worth that depends on it is the worth of what its owner spawned there
       pub all_hangs : sum_by (hangs c.inner.scope) a.live ≡ sum_by worth here
       all_hangs =
           let one = sum_by-one (hangs c.inner.scope) path c.was a.live k.unique c.found
@@ -601,7 +602,7 @@ module _ (p : Program) (needs : Codes → Needs) (fresh w0 : ℕ) (root : Start)
           ap (λ x. if x then sum_by worth here else 0) (scope_is {a = c.inner.scope} refl) in
           omega (arith, one, is, rest, head)
 
-      -- so its results are worth that
+      -- so its results have this worth
       pub results_are : sum_by f c.of.book.results ≡ sum_by worth here
       results_are =
           let e = h c.inner.scope c.of.book c.of.found (record {
@@ -644,7 +645,7 @@ module _ (p : Program) (needs : Codes → Needs) (fresh w0 : ℕ) (root : Start)
           earlier id d =
               subst (λ ss. Contains (map scope_of ss) id) (sym c.stakes) (contains_later c.inner.scope (c.next.scope ∷ map scope_of c.outer) id d)
 
-  -- at the beginning nothing was spawned
+  -- at the start nothing was spawned
   pub first_even : AllEven (new_task [] root (record { scope = root_scope; weight = w0 }) 0 ∷ []) (new_scope root_scope w0 ∷ [])
   first_even id s e who =
       let t : Live = new_task [] root (record { scope = root_scope; weight = w0 }) 0 in

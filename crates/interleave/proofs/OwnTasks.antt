@@ -1,4 +1,5 @@
--- Each task of a world started with what its path is given, and does what its own run does.
+-- Each task of a world started with the start given to its path, and does the actions of its own
+-- run.
 use Rattle.std.proofs.Common.{◌≡◌, ℕ, suc, ◌+◌, ◌-◌, ◌/◌, List, [], ◌∷◌, ◌++◌, length, Option, Some, None, refl}
 use Rattle.std.proofs.Common.{sym, ap, ◌∙◌, subst, inl, inr, arith, append_assoc}
 use Rattle.std.proofs.lemmas.List.{append-nil, length_push}
@@ -36,7 +37,7 @@ use Rattle.interleave.proofs.Numbered.{given_path, begun_at}
 use Rattle.facts.proofs.Lists.{get-append_left}
 
 module _ (p : Program) (needs : Codes → Needs) (fresh w0 : ℕ) (root : Start) (nameless : root.path ≡ []) where
-  -- what a task does in truth
+  -- the actions of a task's own run
   abbrev pub truly : Start → List Action
   truly s = actions_of (own p needs fresh s)
 
@@ -49,7 +50,7 @@ module _ (p : Program) (needs : Codes → Needs) (fresh w0 : ℕ) (root : Start)
       let st = own p needs fresh s in
       ap (λ (b : Bool). if b then st.extra.actions else st.extra.actions ++ last_action st.path ∷ []) (and_right (is_stopped st.flow) st.extra.waits (own_is_awake s))
 
-  -- how far a task is, among the finishes that it has opened
+  -- the progress of a task, among the finishes that it has opened
   abbrev pub IsAtLevel : Whereabouts → List Stake → Live → Type 0
   IsAtLevel w [] t = ⊥
   IsAtLevel (Queue w) (s ∷ outer) t = depth 0 (take t.done (truly t.start)) ≡ Some (length outer)
@@ -97,7 +98,7 @@ module _ (p : Program) (needs : Codes → Needs) (fresh w0 : ℕ) (root : Start)
     pub in_truth_or_behind : Rel (run_by p needs fresh t.receipts t.start) (own p needs fresh t.start)
     in_truth_or_behind = run_in_truth p needs fresh root t.start is_given t.receipts h.receipts
 
-    -- what it does next it does in truth
+    -- its next action is the next action of its own run
     pub next_in_truth : (a : Action) → nexts t ≡ Some a → slice_get (truly t.start) t.done ≡ Some a
     next_in_truth a e = by_rel in_truth_or_behind
       where
@@ -115,7 +116,7 @@ module _ (p : Program) (needs : Codes → Needs) (fresh w0 : ℕ) (root : Start)
         by_rel (inl i) = ap (λ st. slice_get (actions_of st) t.done) (sym i) ∙ e
         by_rel (inr i) = behind i
 
-    -- its own run doesn't wait where no action of brackets is next
+    -- its own run doesn't wait if the next action starts or ends no finish
     pub ends_in_truth : (a : Action) (f : ℕ) → nexts t ≡ Some a → depth 0 (take t.done (truly t.start)) ≡ Some f → (depth f (a ∷ []) ≡ None) → run_by p needs fresh t.receipts t.start ≡ own p needs fresh t.start
     ends_in_truth a f e d n = by_rel in_truth_or_behind
       where
@@ -150,7 +151,7 @@ module _ (p : Program) (needs : Codes → Needs) (fresh w0 : ℕ) (root : Start)
     pub depth_more : (a : Action) (f : ℕ) → nexts t ≡ Some a → depth 0 (take t.done (truly t.start)) ≡ Some f → depth 0 (take (t.done + 1) (truly t.start)) ≡ depth f (a ∷ [])
     depth_more a f e d = ap (depth 0) (more_done a e) ∙ depth-append 0 (take t.done (truly t.start)) (a ∷ []) f d
 
-    -- its next child is given what it spawns
+    -- its next child is given the start of its next spawn
     pub child_comes : (c : Start) → nexts t ≡ Some (Spawn c) → given p needs fresh root (child_path t.path (t.spawned + 1)) ≡ Some c
     child_comes c e =
         let n : t.spawned + 1 ≡ suc t.spawned = omega arith in
@@ -165,11 +166,11 @@ module _ (p : Program) (needs : Codes → Needs) (fresh w0 : ℕ) (root : Start)
         no_last [] = refl
         no_last (k ∷ q) = refl
 
-    -- it hands on under its own path
+    -- its result has its own path
     pub hands_path : (hands t).path ≡ t.path
     hands_path = (run_tells t.start.nest needs (from_receipts t.receipts) p (Block t.start.body) (beginning (at_first t.start.owned) fresh t.start)).path ∙ start_path
 
-    -- what it hands on at its end is of its own run, and its path is given the start
+    -- its result at its end is that of its own run, and its path is given the start
     pub hands_own : nexts t ≡ Some EndTask → (f : ℕ) → depth 0 (take t.done (truly t.start)) ≡ Some f → IsOfOwnRun p needs fresh root (hands t)
     hands_own e f d = record {
       start = t.start;

@@ -1,4 +1,4 @@
--- Each live task goes on: what a passed scope holds settles what its owner made in it.
+-- Each live task continues: what a passed scope holds settles what its owner made in it.
 use Rattle.std.proofs.Common.{◌≡◌, ℕ, zero, suc, ◌+◌, ◌-◌, ◌/◌, List, [], ◌∷◌, ◌++◌, length, Option, Some, None}
 use Rattle.std.proofs.Common.{refl, sym, ap, ◌∙◌, subst, inl, inr, arith, append_assoc}
 use Rattle.std.proofs.lemmas.Option.{none-some, same_Some}
@@ -46,7 +46,7 @@ use Rattle.interleave.proofs.Pending.{spawned, spawned-append, around, pendings,
 use Rattle.interleave.proofs.Owed.{AllEven, open_in, open_is, quiet_even, replenish_even, park_even, pass_even}
 use Rattle.interleave.proofs.Owed.{open_even, spawn_even, end_even, resume_even, results_are, prior, prior_awake}
 
--- the last of what is listed
+-- the last of the listed children
 listed_last : (cs : List Child) (ss : List Start) (c : Start) → map start_of cs ≡ ss ++ c ∷ [] → (d : Child) × Member d cs × (d.start ≡ c)
 listed_last [] ss c e = absurd (nil_snoc ss c [] e)
 listed_last (d ∷ cs) [] c e = (d, first, same_head e)
@@ -66,11 +66,11 @@ module _ (p : Program) (needs : Codes → Needs) (scoped : IsScoped p) (calm : I
   abbrev pub StandsIn : (s : Start) → List (List TaskResult) → ℕ → Standing Own → Type 0
   StandsIn s receipts done u = Stands p needs scoped calm provided fresh root nameless may_begin s receipts done u
 
-  -- a task that started so stands somewhere
+  -- a task with this start is at some point of its own run
   abbrev pub StandsBy : (s : Start) → List (List TaskResult) → ℕ → Type 0
   StandsBy s receipts done = (u : Standing Own) × StandsIn s receipts done u
 
-  -- a parked task stands at the end of a finish that it has done
+  -- a parked task is at the end of a finish that it has ended
   pub record WaitsAt (t : Live) : Type 0 where
     pub before : State Own
     pub frames : List (Frame Own)
@@ -97,7 +97,7 @@ module _ (p : Program) (needs : Codes → Needs) (scoped : IsScoped p) (calm : I
   awake_place (Hand w) ss t e h = h
   awake_place Parked ss t e h = absurd (false_true (sym e))
 
-  -- each live task has its place
+  -- each live task is at a point of its own run
   abbrev pub AllPlaced : List Live → Type 0
   AllPlaced ts = (q : List ℕ) (t : Live) → task q ts ≡ Some t → HasPlace t.place t.stakes t
 
@@ -112,7 +112,7 @@ module _ (p : Program) (needs : Codes → Needs) (scoped : IsScoped p) (calm : I
       by_place (inl (i, j)) = subst (λ (t : Live). HasPlace t.place t.stakes t) j k
       by_place (inr (i, j)) = h q t j
 
-  -- a step further
+  -- one action further
   further : (s : Start) (receipts : List (List TaskResult)) (done : ℕ) (a : Action) → IsMove a
       → next_action p needs fresh receipts done s ≡ Some a → StandsBy s receipts done
       → StandsBy s receipts (done + 1)
@@ -123,7 +123,7 @@ module _ (p : Program) (needs : Codes → Needs) (scoped : IsScoped p) (calm : I
         moved_on p needs scoped calm provided fresh root nameless may_begin s receipts done a k,
       )
 
-  -- what all is by, at a task that is at its end
+  -- no depth is left after all actions of a task
   truth_none : (s : Start) → depth 0 (truth s) ≡ None
   truth_none s =
       let b = bracketed p needs fresh (in_truth p needs fresh) s in
@@ -181,7 +181,7 @@ module _ (p : Program) (needs : Codes → Needs) (scoped : IsScoped p) (calm : I
         open_is p needs fresh w0 root nameless (worth p needs fresh f) f (worth_lists p needs fresh f) t
         ∙ ap (λ n. spawned ([] ∷ []) (take n (truth t.start))) e
 
-  -- each scope holds what it should, by whatever it is measured
+  -- each scope holds what it should, by any measure
   abbrev pub AllEvenBy : List Live → List Scope → Type 0
   AllEvenBy ts ss = (f : TaskResult → ℕ) → EvenBy f ts ss
 
@@ -313,7 +313,7 @@ module _ (p : Program) (needs : Codes → Needs) (scoped : IsScoped p) (calm : I
         ∙ ap (λ r. task r (without_task c.at.was.path a.live)) (paths_same c.at.was.path q g) ∙ f)))
         (λ g. h q t (sym (task-without_task c.at.was.path q a.live (other_path g)) ∙ f)))
 
-    -- all that it spawned is pending where it ends
+    -- all that it spawned is pending at its end
     end_spawned : (path : List ℕ) (b : World) (c : IsEnd its_next (λ t. hands p needs fresh w0 root nameless t) path a b) (f : TaskResult → ℕ)
         → opened f c.at.was ≡ map start_of (own p needs fresh c.at.was.start).extra.pending ∷ []
     end_spawned path b c f =
@@ -328,7 +328,7 @@ module _ (p : Program) (needs : Codes → Needs) (scoped : IsScoped p) (calm : I
         ∙ sym (pending_spawned p needs fresh root over.1.reached)
         ∙ ap (λ (x : State Own). map start_of x.extra.pending ∷ []) (over_own c.at.was.start c.at.was.receipts c.at.was.done over.0 over.1)
 
-    -- ---- behind a finish
+    -- ---- after a finish
     module _ (even : AllEvenBy a.live a.scopes) (path : List ℕ) (b : World) (c : IsResume path a b) where
       pub waited : WaitsAt c.was
       waited = by_place c.was.place c.parked (subst (λ ss. HasPlace c.was.place ss c.was) c.stakes (h path c.was c.found))

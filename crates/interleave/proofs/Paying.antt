@@ -1,4 +1,5 @@
--- A turn that does something takes a step, and one that takes a step does something or is stopped.
+-- A turn that has an action takes a step, and a turn that takes a step has an action or stops the
+-- task.
 use Rattle.std.proofs.Common.{◌≡◌, ℕ, zero, suc, ◌+◌, ◌≤◌, List, [], ◌∷◌, ◌++◌, refl, sym, inl}
 use Rattle.std.proofs.Common.{inr, arith, le_refl}
 use Rattle.std.specs.Prelude.{◌⊎◌, false, Option}
@@ -16,7 +17,7 @@ use Rattle.own_run.proofs.TasksEnd.{acted_less}
 use Rattle.interleave.proofs.Histories.{nil_cons}
 
 module _ (p : Program) (needs : Codes → Needs) (nest : ℕ) (close : State Own → Option Settled) where
-  -- it does nothing, or takes a step
+  -- it has no action, or takes a step
   abbrev Pays : List Action → (to st : State Own) → Type 0
   Pays acts to st = (to.steps ≤ st.steps) × ((acts ≡ []) ⊎ (to.steps + 1 ≤ st.steps))
 
@@ -44,7 +45,7 @@ module _ (p : Program) (needs : Codes → Needs) (nest : ℕ) (close : State Own
   turn_pays (AtEnd before) fs st = (le_refl st.steps, inl refl)
   turn_pays (Back env) fs st = (le_refl st.steps, inl refl)
 
-  -- where a step is left a statement does something, or is an async over the budget
+  -- if a step is left, a statement has an action, or is an async over the budget
   acts : (m n : ℕ) (c : Code) (st : State Own) → done_by needs m (suc n) c st ≡ [] → is_over m (suc n) c ≡ false → ⊥
   acts zero n (Async b) st e k = false_true (sym k)
   acts (suc m) n (Async b) st e k = nil_cons (sym e)
@@ -74,7 +75,7 @@ module _ (p : Program) (needs : Codes → Needs) (nest : ℕ) (close : State Own
   flow_idle Faulted l c fs below st none k = le_refl st.steps
   flow_idle Stopped l c fs below st none k = le_refl st.steps
 
-  -- a turn that does nothing takes no step, unless it is over the budget
+  -- a turn without an action takes no step, unless it is over the budget
   pub turn_idle : (f : Frame Own) (fs : List (Frame Own)) (st : State Own)
       → done_in needs nest f st ≡ [] → stops nest f st ≡ false
       → st.steps ≤ (turn p (own_rules needs nest close) f fs st).state.steps
@@ -84,7 +85,7 @@ module _ (p : Program) (needs : Codes → Needs) (nest : ℕ) (close : State Own
   turn_idle (AtEnd before) fs st none k = le_refl st.steps
   turn_idle (Back env) fs st none k = le_refl st.steps
 
-  -- a task that is begun has the next path
+  -- a spawned task has the next path
   abbrev pub Named : List ℕ → List Action → Type 0
   Named q [] = Unit {0}
   Named q (Spawn x ∷ rest) = x.path ≡ q

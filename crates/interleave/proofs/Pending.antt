@@ -1,4 +1,4 @@
--- What a task has pending at each finish that it has open are the tasks that it spawned there.
+-- The children that a task has pending at each open finish are the tasks that it spawned there.
 use Rattle.std.proofs.Common.{◌≡◌, ℕ, List, [], ◌∷◌, ◌++◌, refl, sym, ap, ◌∙◌}
 use Rattle.std.proofs.lemmas.List.{map-append}
 use Rattle.std.specs.Prelude.{map}
@@ -14,7 +14,7 @@ use Rattle.own_run.proofs.ListedTurns.{turn_lists}
 use Rattle.own_run.proofs.TurnActions.{turn_does}
 use Rattle.interleave.proofs.Direct.{start_of}
 
--- what is spawned in each scope that is open, the innermost first, where this was before
+-- the tasks spawned in each open scope, the innermost first, after these before
 abbrev pub spawned : List (List Start) → List Action → List (List Start)
 spawned css [] = css
 spawned css (Step ∷ xs) = spawned css xs
@@ -42,11 +42,11 @@ around fs = map (map start_of) (lists_around fs)
 abbrev pub pendings : List (Frame Own) → State Own → List (List Start)
 pendings fs st = map start_of st.extra.pending ∷ around fs
 
--- what the children start with that are listed
+-- the starts of the listed children
 abbrev starts_of : Lists → List (List Start)
 starts_of ls = map start_of ls.inner ∷ map (map start_of) ls.outer
 
--- what a turn makes of the lists is what it spawns
+-- a turn changes the lists according to what it spawns
 lists_spawned : (xs : List Action) (old new : Lists) → ListsAs xs old new → starts_of new ≡ spawned (starts_of old) xs
 lists_spawned [] old new e = ap starts_of e
 lists_spawned (Step ∷ []) old new e = ap starts_of e
@@ -64,14 +64,14 @@ module _ (p : Program) (needs : Codes → Needs) (fresh : ℕ) where
   abbrev of : Standing Own → List (List Start)
   of t = starts_of (lists t)
 
-  -- a turn adds what it does
+  -- a turn appends its actions
   pub turn_pending : (nest : ℕ) (f : Frame Own) (fs : List (Frame Own)) (st : State Own)
       → of (turn p (r nest) f fs st) ≡ spawned (pendings (f ∷ fs) st) (done_in needs nest f st)
   turn_pending nest f fs st =
       lists_spawned (done_in needs nest f st) (lists (record { frames = f ∷ fs; state = st })) (lists (turn p (r nest) f fs st))
       (turn_lists p needs (in_truth p needs fresh) nest f fs st)
 
-  -- so what is pending is what was spawned
+  -- the pending children are those that were spawned
   pub pending_spawned : (root : Start) {s : Start} {t : Standing Own} → Reached p needs fresh root s t
       → pendings t.frames t.state ≡ spawned ([] ∷ []) t.state.extra.actions
   pending_spawned root root_begins = refl

@@ -1,4 +1,4 @@
--- The scopes that tasks stand in are there, and a task's own are numbered downwards.
+-- The scopes that tasks are in exist, and a task's own scopes are numbered in decreasing order.
 use Rattle.std.proofs.Common.{◌≡◌, ℕ, ◌+◌, ◌-◌, ◌/◌, ◌<◌, ◌≤◌, List, [], ◌∷◌, ◌++◌, Option, Some, refl, sym, ap, ◌∙◌}
 use Rattle.std.proofs.Common.{subst, inl, inr, arith}
 use Rattle.std.specs.Prelude.{Bool, true, ◌⊎◌, drop, if◌then◌else◌}
@@ -18,7 +18,7 @@ use Rattle.interleave.proofs.Lookups.{scope-put_scope}
 use Rattle.interleave.proofs.Changes.{IsQuiet, IsAt, Becomes}
 use Rattle.interleave.proofs.Steps.{put_cases}
 
--- ---- numbers fall
+-- ---- decreasing numbers
 abbrev pub Falls : ℕ → List ℕ → Type 0
 Falls b [] = Unit {0}
 Falls b (n ∷ ns) = (n < b) × Falls n ns
@@ -50,12 +50,12 @@ tell_all_falls : (q : List ℕ) (es : List Event) (t : Told) → IsFalling t →
 tell_all_falls q [] t h = h
 tell_all_falls q (e ∷ es) t h = tell_all_falls q es (tell q e t) (tell_falls q e t h)
 
--- the scopes that a task has open are numbered downwards
+-- the scopes that a task has open are numbered in decreasing order
 pub told_falls : (es : List Event) (q : List ℕ) → Falls ((told es q).opened + 1) (told es q).inside
 told_falls es [] = tell_all_falls [] es (untold []) ((let x : 0 < 0 + 1 = omega arith in x), tt)
 told_falls es (j ∷ q) = tell_all_falls (j ∷ q) es (untold (j ∷ q)) tt
 
--- ---- scopes are there
+-- ---- scopes exist
 abbrev pub IsThere : List Scope → Stake → Type 0
 IsThere ss s = (r : Scope) × (scope s.scope ss ≡ Some r)
 
@@ -72,7 +72,7 @@ there_new : (to : Scope) (ss : List Scope) (s : Stake) → IsThere ss s → IsTh
 there_new to ss s h =
     by_test (λ b. (r : Scope) × ((if b then Some to else scope s.scope ss) ≡ Some r)) (same_scope to.id s.scope) (λ f. (to, refl)) (λ f. h)
 
--- with the same tasks
+-- with unchanged tasks
 more_there : (ts : List Live) (ss rs : List Scope) → ((s : Stake) → IsThere ss s → IsThere rs s) → AllThere ts ss → AllThere ts rs
 more_there ts ss rs f h q t e = each_more (IsThere ss) (IsThere rs) t.stakes f (h q t e)
 

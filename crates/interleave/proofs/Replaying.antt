@@ -11,14 +11,14 @@ use Rattle.events.specs.declared.event.Event.{Event as rEvent}
 use Rattle.interleave.specs.declared.job.WeightedJob.{WeightedJob}
 use Rattle.interleave.specs.declared.world.World.{World as rWorld}
 
--- what is left of a list comes to this
+-- the replay of the rest of a list
 abbrev pub left_comes : WeightedJob → ℕ → List rEvent → World → Replayed
 left_comes j n es w =
     replay_from (program_of j.job) (needs_of (program_of j.job)) (budget_of j.job).steps j.w0 n (map event es) w
 
 module _ (j : WeightedJob) (old : rWorld) (same : old.job ≡ j) (w : World) (h : Shows old w) (n : ℕ) (e : rEvent) (es : List rEvent)
     (new : rWorld) where
-  -- an event that is legal leads on
+  -- a legal event leads on
   pub goes_on : (b : Becomes (event e) old new)
       → (to : World) × (left_comes j n (e ∷ es) w ≡ left_comes j (n + 1) es to) × Shows new to
   goes_on b =
@@ -29,7 +29,7 @@ module _ (j : WeightedJob) (old : rWorld) (same : old.job ≡ j) (w : World) (h 
         s.2,
       )
 
-  -- one that isn't is the first of those that are left
+  -- an illegal event is the first illegal one of the rest
   pub stops_at : IsIllegal old (event e) → left_comes j n (e ∷ es) w ≡ IllegalAt n
   stops_at none =
       ap (go_or n (replay_from (program_of j.job) (needs_of (program_of j.job)) (budget_of j.job).steps j.w0 (n + 1) (map event es)))

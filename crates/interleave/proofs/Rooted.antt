@@ -1,4 +1,4 @@
--- The root lives on, in its outer finish.
+-- The root stays alive, in its outer finish.
 use Rattle.std.proofs.Common.{◌≡◌, ℕ, ◌+◌, ◌-◌, ◌/◌, List, [], ◌∷◌, ◌++◌, Option, Some, refl, sym, ap, ◌∙◌, subst}
 use Rattle.std.proofs.lemmas.List.{append-nil}
 use Rattle.std.specs.Prelude.{map, drop, Contains, if◌then◌else◌}
@@ -35,7 +35,7 @@ module _ (es : List Event) (a : World) (k : Kept es a) (r : IsRooted es a) where
   pub its_stakes : map scope_of r.its.stakes ≡ map (own []) (told es []).inside
   its_stakes = (k.tasks [] r.its r.lives).stakes ∙ ap (λ l. map (own []) (told es []).inside ++ base l) k.no_line ∙ append-nil _
 
-  -- an event that tells nothing of scopes
+  -- an event that changes nothing of scopes
   still : (e : Event) (b : World) → (told (es ++ e ∷ []) []).inside ≡ (told es []).inside → (s : Live) × (task [] b.live ≡ Some s) → IsRooted (es ++ e ∷ []) b
   still e b same s = record { its = s.0; lives = s.1; above = r.above; inside = same ∙ r.inside }
 

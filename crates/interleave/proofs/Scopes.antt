@@ -1,4 +1,4 @@
--- A task ends, opens a finish, or goes on behind it.
+-- A task ends, opens a finish, or continues after it.
 use Rattle.std.proofs.Common.{◌≡◌, ℕ, ◌+◌, ◌<◌, ◌≤◌, List, [], ◌∷◌, ◌++◌, Option, Some, refl, sym, ap, ◌∙◌, subst}
 use Rattle.std.proofs.Common.{inl, inr, arith}
 use Rattle.std.specs.Prelude.{Bool, true, false, ◌⊎◌, map, drop, if◌then◌else◌}
@@ -46,14 +46,14 @@ pub record Lone (inside : List ℕ) (outer : List Stake) : Type 0 where
   pub no_inside : inside ≡ []
   pub no_outer : outer ≡ []
 
--- a task whose innermost scope isn't its own stands in no other
+-- a task whose innermost scope isn't its own is in no other
 pub lone : (q : List ℕ) (s : Stake) (outer : List Stake) (inside : List ℕ) (line : List ScopeId) → map scope_of (s ∷ outer) ≡ map (own q) inside ++ base line → same_path q s.scope.owner ≡ false → Lone inside outer
 lone q s outer (n ∷ inside) line e f = absurd (not_both (path_is (ap (λ (i : ScopeId). i.owner) (sym (same_head e)))) f)
 lone q s outer [] [] e f = absurd (nil_cons (sym e))
 lone q s [] [] (b ∷ line) e f = record { no_inside = refl; no_outer = refl }
 lone q s (r ∷ outer) [] (b ∷ line) e f = absurd (nil_cons (sym (same_rest e)))
 
--- what stands first in a line
+-- the first scope in a line
 pub base_is : (x : ScopeId) (xs ys l : List ScopeId) → x ∷ xs ≡ ys ++ base l → base (ys ++ l) ≡ x ∷ []
 base_is x xs [] [] e = absurd (nil_cons (sym e))
 base_is x xs [] (b ∷ l) e = ap (λ i. i ∷ []) (sym (same_head e))
@@ -230,7 +230,7 @@ module _ (es : List Event) (a : World) (k : Kept es a) where
     pub open_kept : Kept (es ++ Opens path ∷ []) b
     open_kept = subst (λ r. Kept (es ++ Opens r ∷ []) b) h.named open_kept_own
 
-  -- ---- a task goes on behind its finish
+  -- ---- a task continues after its finish
   module _ (w : ℕ) (path : List ℕ) (b : World) (h : IsResume path a b) where
     abbrev r : List ℕ
     r = h.was.path

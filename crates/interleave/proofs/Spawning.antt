@@ -85,7 +85,7 @@ module _ (es : List Event) (a : World) (k : Kept es a) {does : Live → Option A
       by_kind (inl n) = absurd (not_named n)
       by_kind (inr f) = f ∙ untold_child p (h.at.was.spawned + 1)
 
-  -- ---- what is told
+  -- ---- the records
   here : told es' p ≡ spawned_more (told es p)
   here = told_last es (Spawns p) p ∙ ap (λ (x : Bool). if x then spawned_more (told es p) else told es p) (path_same p)
 
@@ -101,7 +101,7 @@ module _ (es : List Event) (a : World) (k : Kept es a) {does : Live → Option A
   told_child : told es' c ≡ record { spawned = 0; opened = 0; inside = [] }
   told_child = others c (child_is_other p (h.at.was.spawned + 1)) ∙ silent
 
-  -- ---- lines
+  -- ---- lines of scopes
   abbrev its_line : List ScopeId
   its_line = map (own p) (told es p).inside ++ k.line p
 
@@ -181,7 +181,7 @@ module _ (es : List Event) (a : World) (k : Kept es a) {does : Live → Option A
       by_place (inl (f, g)) = subst (λ s. IsTold (told es' q) (line q) q s) g (subst (λ r. IsTold (told es' r) (line r) r kid) f kid_told)
       by_place (inr (n, i)) = by_put n i.here
 
-  -- ---- where they hang
+  -- ---- the tasks' positions
   still_hangs : (q r : List ℕ) → line r ≡ k.line q → length q < length r + 1 → Hangs es a.live k.line q → Hangs es' live line r
   still_hangs q r f lt g =
       let s = lives_on g.owner g.its g.lives in
@@ -256,7 +256,7 @@ module _ (es : List Event) (a : World) (k : Kept es a) {does : Live → Option A
       by_kind n (inl g) = inl (named_still es (Spawns p) q g)
       by_kind n (inr g) = inr (others q n ∙ g)
 
-  -- ---- begun
+  -- ---- spawned tasks
   spawned : (before : List Event) (o q : List ℕ) → SpawnsAt es' before o q → ((t : Live) × (task q live ≡ Some t)) ⊎ Contains es' (Ends q)
   spawned before o q i = by_place (spawned_last es (Spawns p) before o q i)
     where

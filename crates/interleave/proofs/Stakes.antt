@@ -1,4 +1,4 @@
--- What a task weighs in the scopes that it stands in.
+-- The weight of a task in the scopes that it is in.
 use Rattle.std.proofs.Common.{◌≡◌, ℕ, ◌+◌, ◌≤◌, List, [], ◌∷◌, ◌++◌, sym, ap, ◌∙◌, subst, inl, inr, arith}
 use Rattle.std.specs.Prelude.{Bool, false, ◌⊎◌, map, Contains, if◌then◌else◌}
 use Rattle.facts.proofs.Truths.{false_true}
@@ -17,7 +17,7 @@ own q k = record { owner = q; number = k }
 abbrev pub IsPositive : Stake → Type 0
 IsPositive s = 1 ≤ s.weight
 
--- all weigh, but that of the scope at whose end it is parked
+-- all stakes have weight, except that of the scope at whose end the task is parked
 abbrev pub Weighty : Whereabouts → List ℕ → List Stake → Type 0
 Weighty (Queue w) q ss = Each IsPositive ss
 Weighty (Hand w) q ss = Each IsPositive ss
@@ -37,7 +37,7 @@ awake_weighty Parked q ss e h = absurd (false_true (sym e))
 pub weight_in-cons_same : (b : ScopeId) (s : Stake) (ss : List Stake) → s.scope ≡ b → weight_in b (s ∷ ss) ≡ s.weight + weight_in b ss
 weight_in-cons_same b s ss e = ap (λ (t : Bool). (if t then s.weight else 0) + weight_in b ss) (scope_is e)
 
--- an innermost stake of another weight
+-- an innermost stake with another weight
 pub weight_in-other_weight : (id : ScopeId) (s : Stake) (w : ℕ) (ss : List Stake)
     → weight_in id (record s { weight = w } ∷ ss) + (if same_scope s.scope id then s.weight else 0) ≡ weight_in id (s ∷ ss) + (if same_scope s.scope id then w else 0)
 weight_in-other_weight id s w ss = omega arith
@@ -50,7 +50,7 @@ positive_in b (s ∷ ss) h k = by_place (contains_cons s.scope (map scope_of ss)
     by_place (inl e) rec = let a = weight_in-cons_same b s ss e in let p = h.0 in omega (arith, a, p)
     by_place (inr c) rec = let a = rec c in omega (arith, a)
 
--- below its innermost scope it weighs, wherever it is
+-- below its innermost scope it has weight, at any location
 pub weighs_below : (w : Whereabouts) (q : List ℕ) (ss : List Stake) (x b : ScopeId) (xs : List ScopeId) → Weighty w q ss → map scope_of ss ≡ x ∷ xs → Contains xs b → 1 ≤ weight_in b ss
 weighs_below w q [] x b xs h e k = absurd (nil_cons e)
 weighs_below w q (s ∷ ss) x b xs h e k = more (positive_in b ss (tail_positive w h) (subst (λ l. Contains l b) (sym (same_rest e)) k))
@@ -63,7 +63,7 @@ weighs_below w q (s ∷ ss) x b xs h e k = more (positive_in b ss (tail_positive
     more : 1 ≤ weight_in b ss → 1 ≤ weight_in b (s ∷ ss)
     more a = omega (arith, a)
 
--- in the scope that it was begun in it weighs
+-- in the scope in which it was spawned it has weight
 pub weighs_last : (w : Whereabouts) (q : List ℕ) (ss : List Stake) (b : ScopeId) (xs : List ScopeId) → Weighty w q ss → map scope_of ss ≡ xs ++ b ∷ [] → (b.owner ≡ q → ⊥) → 1 ≤ weight_in b ss
 weighs_last w q ss b [] h e ne = lone w ss h e
   where

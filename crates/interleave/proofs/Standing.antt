@@ -1,4 +1,4 @@
--- Each live task stands somewhere in its own run, so that it always has a next action.
+-- Each live task is at some point of its own run, so it always has a next action.
 use Rattle.std.proofs.Common.{◌≡◌, ℕ, zero, suc, ◌+◌, List, [], ◌∷◌, ◌++◌, length, Some, refl, sym, ap, ◌∙◌}
 use Rattle.std.proofs.Common.{subst, inl, inr, ⊎_elim}
 use Rattle.std.proofs.lemmas.Option.{same_Some}
@@ -37,7 +37,7 @@ no_move : (a : Action) (q : List ℕ) → last_action q ≡ a → IsMove a → �
 no_move a [] e m = subst IsMove (sym e) m
 no_move a (k ∷ q) e m = subst IsMove (sym e) m
 
--- a turn does nothing, or one thing that ends nothing
+-- a turn has no action, or one action that ends nothing
 pub record DoesOne (acts : List Action) : Type 0 where
   pub action : Action
   pub moves : IsMove action
@@ -81,13 +81,14 @@ module _ (needs : Codes → Needs) where
 
 module _ (p : Program) (needs : Codes → Needs) (scoped : IsScoped p) (calm : IsCalm p) (provided : Provides p needs) (fresh : ℕ)
     (root : Start) (named : root.path ≡ []) (may_begin : MayBegin p needs root) where
-  -- a task that started so stands so, with these receipts and after so many actions
+  -- a task with this start is in this configuration, with these receipts and after this number of
+  -- actions
   pub record Stands (s : Start) (receipts : List (List TaskResult)) (done : ℕ) (u : Standing Own) : Type 0 where
     pub reached : Reached p needs fresh root s u
     pub follows : Follows p needs fresh root s receipts u
     pub after : length u.state.extra.actions ≡ done
 
-  -- and is about to act, or at the end of a finish, or at its own
+  -- it is about to act, or it is at the end of a finish or at its own end
   pub data Poised (s : Start) (receipts : List (List TaskResult)) (done : ℕ) : Type 0 where
     acts : (f : Frame Own) (fs : List (Frame Own)) (st : State Own) → Stands s receipts done (record { frames = f ∷ fs; state = st })
         → DoesOne (done_in needs s.nest f st) → Poised s receipts done
@@ -102,7 +103,7 @@ module _ (p : Program) (needs : Codes → Needs) (scoped : IsScoped p) (calm : I
     abbrev At : List (Frame Own) → State Own → ℕ → Type 0
     At fs st n = Stands s receipts n (record { frames = fs; state = st })
 
-    -- a turn adds what it does
+    -- a turn appends its actions
     pub turned : (f : Frame Own) (fs : List (Frame Own)) (st : State Own) (xs : List Action) → At (f ∷ fs) st done
         → done_in needs s.nest f st ≡ xs → Stands s receipts (length (st.extra.actions ++ xs)) (go f fs st)
     turned f fs st xs h e =
@@ -119,7 +120,7 @@ module _ (p : Program) (needs : Codes → Needs) (scoped : IsScoped p) (calm : I
         let k = turned f fs st [] h e in
         record { reached = k.reached; follows = k.follows; after = k.after ∙ ap length (append-nil st.extra.actions) ∙ h.after }
 
-    -- wherever it stands, by turns that do nothing it comes to act, or to an end
+    -- from each configuration, turns without an action lead to an action, or to an end
     pub poise : (u : Standing Own) → Stands s receipts done u → Poised s receipts done
     poise u h =
         by_turns p needs scoped calm provided fresh root named may_begin s (Poised s receipts done) (λ fs st. At fs st done) over
@@ -130,7 +131,7 @@ module _ (p : Program) (needs : Codes → Needs) (scoped : IsScoped p) (calm : I
     awake : (u : Standing Own) → Stands s receipts done u → u.state.extra.waits ≡ false
     awake u h = (goes p needs scoped calm provided fresh root named may_begin h.reached).task.awake
 
-    -- what it does next
+    -- its next action
     next_acts : (f : Frame Own) (fs : List (Frame Own)) (st : State Own) → At (f ∷ fs) st done → (one : DoesOne (done_in needs s.nest f st))
         → next_action p needs fresh receipts done s ≡ Some one.action
     next_acts f fs st h one =
@@ -172,7 +173,7 @@ module _ (p : Program) (needs : Codes → Needs) (scoped : IsScoped p) (calm : I
     moves (over st k) a m e =
         let same : last_action st.path ≡ a = same_Some _ _ (sym (next_over st k) ∙ e) in absurd (no_move a st.path same m)
 
-    -- and the end of a finish is where it stands at one, or at its own
+    -- the end of a finish is next if it is at the end of a finish, or at its own end
     pub data Closes : Type 0 where
       finishes : (before : State Own) (fs : List (Frame Own)) (st : State Own) → At (AtEnd before ∷ fs) st done → Closes
       is_over : (st : State Own) → At [] st done → Closes
@@ -183,7 +184,7 @@ module _ (p : Program) (needs : Codes → Needs) (scoped : IsScoped p) (calm : I
     closes (ends before fs st k) e = finishes before fs st k
     closes (over st k) e = is_over st k
 
-    -- the end of a task is where it is over
+    -- the end of a task is next if the task is over
     pub closed : Poised s receipts done → next_action p needs fresh receipts done s ≡ Some EndTask → (st : State Own) × At [] st done
     closed (acts f fs st k one) e =
         let same : one.action ≡ EndTask = same_Some _ _ (sym (next_acts f fs st k one) ∙ e) in absurd (subst IsMove same one.moves)
@@ -194,14 +195,14 @@ module _ (p : Program) (needs : Codes → Needs) (scoped : IsScoped p) (calm : I
         IsFinish x = ⊥
     closed (over st k) e = (st, k)
 
-  -- a step further
+  -- one action further
   pub moved_on : (s : Start) (receipts : List (List TaskResult)) (done : ℕ) (a : Action) (m : Moves s receipts done a)
       → Stands s receipts (done + 1) (turn p (own_rules needs s.nest (in_truth p needs fresh)) m.frame m.frames m.state)
   moved_on s receipts done a m =
       let k = turned s receipts done m.frame m.frames m.state (a ∷ []) m.stands m.does in
       record { reached = k.reached; follows = k.follows; after = k.after ∙ length_push m.state.extra.actions a ∙ ap (λ n. n + 1) m.stands.after }
 
-  -- behind a finish
+  -- after a finish
   pub left : (s : Start) (receipts : List (List TaskResult)) (done : ℕ) (before : State Own) (fs : List (Frame Own)) (st : State Own)
       → Stands s receipts done (record { frames = AtEnd before ∷ fs; state = st })
       → (rs : List TaskResult) → Each (IsOwn p needs fresh root) rs → (x : Settled) → settle (result_of st) rs ≡ Some x

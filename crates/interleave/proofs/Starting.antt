@@ -1,4 +1,4 @@
--- The world at the start, as the tables in Rust show it.
+-- The world at the start, as the tables in Rust represent it.
 use Rattle.std.proofs.Common.{◌≡◌, ℕ, [], ◌∷◌, Some, None, refl, sym, ap, subst}
 use Rattle.std.specs.Prelude.{Bool, true, false, nat_eq, map, if◌then◌else◌}
 use Rattle.std.specs.HashMap.{get}

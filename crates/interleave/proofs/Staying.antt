@@ -1,4 +1,4 @@
--- Tables that stay the same show the same world.
+-- Tables that stay the same represent the same world.
 use Rattle.std.proofs.Common.{◌≡◌, ℕ, List, Option, Some, None, refl, sym, ap, ◌∙◌, subst, inl, inr}
 use Rattle.std.proofs.lemmas.Option.{none-some, same_Some}
 use Rattle.std.specs.Prelude.{◌⊎◌, true, ◌&&◌, nat_eq, map, option_map, Vec, if◌then◌else◌}
@@ -30,7 +30,7 @@ use Rattle.interleave.specs.declared.task.Task.{Task as rTask}
 use Rattle.interleave.specs.declared.world.World.{World as rWorld}
 use Rattle.interleave.proofs.Lookups.{by_test, scopes_same}
 
--- ---- what two tables have at a key
+-- ---- the entries of two tables at a key
 pub both_self : {A : Type 0} (R : A → A → Type 0) → ((a : A) → R a a) → (o : Option A) → AreBoth R o o
 both_self R self None = tt
 both_self R self (Some a) = self a
@@ -52,7 +52,7 @@ both_over R Are over (Some a) None q h k = absurd h
 both_over R Are over (Some a) (Some b) None h k = absurd k
 both_over R Are over (Some a) (Some b) (Some x) h k = over a b h x k
 
--- equal keys are one key
+-- equal keys find the same entry
 at_path : {X S : Type 0} (m : HashMap Path X S) (p q : Path) → is_path p q ≡ true → get is_path m q ≡ get is_path m p
 at_path m p q e =
     ap (λ (xs : List ℕ). get_by (λ (o : Path). pointwise nat_eq xs o.turns.items) m) (sym (paths_same p.turns.items q.turns.items e))
@@ -81,7 +81,7 @@ task_stays j old new s t is = record {
 pub its_self : (j : Job) (k : rTask) → TaskStays j k k
 its_self j k = record { doing = inl refl; opened = refl; place = refl; stakes = refl }
 
--- wherever its stakes lie
+-- with its stakes possibly elsewhere in memory
 pub alike_stays : (j : Job) (old new : rTask) → IsSame old new → TaskStays j old new
 alike_stays j old new s = record { doing = inl s.doing; opened = s.opened; place = s.place; stakes = s.stakes }
 
@@ -154,7 +154,7 @@ stays_on a b c h k = record {
   told = k.told ∙ h.told;
 }
 
--- with tables that have what stays
+-- with tables whose entries stay the same
 module _ (r : rWorld) where
   tasks_self : (q : Path) → AreBoth (TaskStays r.job.job) (get is_path r.tasks q) (get is_path r.tasks q)
   tasks_self q = both_self (TaskStays r.job.job) (its_self r.job.job) (get is_path r.tasks q)
@@ -172,7 +172,7 @@ module _ (r : rWorld) where
   pub stays_self : WorldStays r r
   stays_self = stays_with r.tasks r.scopes r.hands tasks_self scopes_self (λ v. refl)
 
-  -- with tables that have the same
+  -- with equal tables
   same_tasks : {S : Type 0} (tasks : HashMap Path rTask S) → ((q : Path) → get is_path tasks q ≡ get is_path r.tasks q) → (q : Path)
       → AreBoth (TaskStays r.job.job) (get is_path r.tasks q) (get is_path tasks q)
   same_tasks tasks kept q = subst (λ o. AreBoth (TaskStays r.job.job) (get is_path r.tasks q) o) (sym (kept q)) (tasks_self q)
@@ -192,7 +192,7 @@ module _ (r : rWorld) where
       → WorldStays r (record r { hands = hands })
   stays_hands hands kept = stays_with r.tasks r.scopes hands tasks_self scopes_self kept
 
-  -- with one task that stays, and scopes that are where they were
+  -- with one task that stays the same, and unchanged scopes
   pub stays_put : (path : Path) (k new : rTask) (tasks : _) (scopes : _) → get is_path r.tasks path ≡ Some k
       → TaskStays r.job.job k new → ((q : Path) → get is_path tasks q ≡ (if is_path path q then Some new else get is_path r.tasks q))
       → ((q : rScopeId) → get is_scope scopes q ≡ get is_scope r.scopes q) → WorldStays r (record r { tasks = tasks; scopes = scopes })
@@ -205,7 +205,7 @@ module _ (r : rWorld) where
           (λ e. subst (λ o. AreBoth (TaskStays r.job.job) o (Some new)) (sym (at_path r.tasks path q e ∙ at)) s)
           (λ e. tasks_self q))
 
-  -- with one scope that stays
+  -- with one scope that stays the same
   pub stays_book : (id : rScopeId) (s to : rScope) (scopes : _) → get is_scope r.scopes id ≡ Some s → ScopeStays s to
       → ((q : rScopeId) → get is_scope scopes q ≡ (if is_scope id q then Some to else get is_scope r.scopes q))
       → WorldStays r (record r { scopes = scopes })

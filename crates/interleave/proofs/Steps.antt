@@ -1,4 +1,4 @@
--- Each legal event keeps what holds of a world.
+-- Each legal event keeps the facts about a world.
 use Rattle.std.proofs.Common.{◌≡◌, ℕ, ◌+◌, ◌≤◌, List, [], ◌∷◌, ◌++◌, Some, refl, sym, ap, ◌∙◌, subst, inl, inr, arith}
 use Rattle.std.proofs.lemmas.List.Elements.{Contains-append_left, Contains-push}
 use Rattle.std.specs.Prelude.{◌⊎◌, Contains, if◌then◌else◌}
@@ -14,7 +14,7 @@ use Rattle.interleave.proofs.Histories.{told_more, still_spawns, spawned_last, B
 use Rattle.interleave.proofs.Stakes.{own}
 use Rattle.interleave.proofs.Kept.{Hangs, IsNamed, IsTold, IsKnown, ScopeOk, Kept, base_weighs}
 
--- ---- a task put in its own place
+-- ---- a task replaces itself
 pub record IsPut (to : Live) (ts : List Live) (q : List ℕ) (t : Live) : Type 0 where
   pub here : ((to.path ≡ q) × (to ≡ t)) ⊎ ((to.path ≡ q → ⊥) × (task q ts ≡ Some t))
 
@@ -31,7 +31,7 @@ put_lives to was t q ts e f =
     (λ g h. (to, h)) (λ g h. (t, h ∙ f))
     (task-put_task to was q ts e)
 
--- what lives then lived before
+-- each live task was live before
 pub put_from : (to was t : Live) (q : List ℕ) (ts : List Live) → task to.path ts ≡ Some was → IsPut to ts q t → (s : Live) × (task q ts ≡ Some s)
 put_from to was t q ts found h = by_place h.here
   where
@@ -39,7 +39,7 @@ put_from to was t q ts found h = by_place h.here
     by_place (inl (f, g)) = (was, subst (λ r. task r ts ≡ Some was) f found)
     by_place (inr (f, g)) = (t, g)
 
--- ---- knowledge stays
+-- ---- facts stay true
 pub named_still : (es : List Event) (e : Event) (q : List ℕ) → IsNamed es q → IsNamed (es ++ e ∷ []) q
 named_still es e q (inl f) = inl f
 named_still es e q (inr h) = inr (record { before = h.before; parent = h.parent; at = still_spawns es e h.before h.parent q h.at })
@@ -53,7 +53,7 @@ known_more es e ss = each_more (IsKnown es) (IsKnown (es ++ e ∷ [])) ss (known
 pub all_known_more : (es : List Event) (e : Event) (ts : List Live) → Each (λ (t : Live). Each (IsKnown es) t.stakes) ts → Each (λ (t : Live). Each (IsKnown (es ++ e ∷ [])) t.stakes) ts
 all_known_more es e ts = each_more (λ (t : Live). Each (IsKnown es) t.stakes) (λ (t : Live). Each (IsKnown (es ++ e ∷ [])) t.stakes) ts (λ t. known_more es e t.stakes)
 
--- a scope that an event leaves alone
+-- a scope that an event leaves unchanged
 pub scope_still : (es : List Event) (e : Event) (live to : List Live) (id : ScopeId) (s : Scope) → held id to ≡ held id live → ScopeOk es live id s → ScopeOk (es ++ e ∷ []) to id s
 scope_still es e live to id s f h = record {
   books = h.books ∙ ap (λ n. s.returned + n) (sym f);

@@ -26,14 +26,14 @@ pub pick : {A B : Type 0} (Are : A → B → Type 0) (b : Bool) (x u : Option A)
 pick Are true x u y v h k = h
 pick Are false x u y v h k = k
 
--- what a table has at a key, by what the definition has there
+-- the entry of a table at a key, by the entry of the definitions
 pub there : {A B : Type 0} (Are : A → B → Type 0) (a : A) (o : Option A) (q : Option B) → AreBoth Are o q → o ≡ Some a
     → (b : B) × (q ≡ Some b) × Are a b
 there Are a (Some x) (Some b) h e = (b, refl, subst (λ z. Are z b) (same_Some x a e) h)
 there Are a (Some x) None h e = absurd h
 there Are a None q h e = absurd (none-some a e)
 
--- the task that a table has at a path, as the definition has it
+-- the task of a table at a path, by the task of the definitions
 pub task_there : (j : Job) (k : rTask) (o : Option rTask) (q : Option Live) → AreBoth (IsTaskOf j) o q → o ≡ Some k
     → (t : Live) × IsTaskOf j k t
 task_there j k o q h e = let t = there (IsTaskOf j) k o q h e in (t.0, t.2)
@@ -43,14 +43,14 @@ not_there Are None None h e = refl
 not_there Are None (Some b) h e = absurd h
 not_there Are (Some x) q h e = absurd (none-some x (sym e))
 
--- and the other way round
+-- and in the other direction
 pub is_there : {A B : Type 0} (Are : A → B → Type 0) (b : B) (o : Option A) (q : Option B) → AreBoth Are o q → q ≡ Some b → is_some o ≡ true
 is_there Are b (Some x) q h e = refl
 is_there Are b None (Some y) h e = absurd h
 is_there Are b None None h e = absurd (none-some b e)
 
 module _ (j : Job) where
-  -- a task is put in its place
+  -- a task is replaced
   pub tasks_put : (at to_at : Path → Option rTask) (k : Path) (new : rTask) (was to : Live) (live : List Live)
       → ((q : Path) → AreBoth (IsTaskOf j) (at q) (task q.turns.items live)) → task k.turns.items live ≡ Some was
       → to.path ≡ k.turns.items → IsTaskOf j new to
@@ -64,7 +64,7 @@ module _ (j : Job) where
       (pick (IsTaskOf j) (is_path k q) (Some new) (at q) (Some to) (task q.turns.items live) is (h q)))
 
 -- ---- the paths of live tasks
--- with a task put in its place
+-- with a task replaced
 pub paths_put : (to was : Live) (ts : List Live) → task to.path ts ≡ Some was → ArePaths ts → ArePaths (put_task to ts)
 paths_put to was ts lives h q t e =
     by_test (λ b. (if b then Some to else task q ts) ≡ Some t → (path : Path) × (path.turns.items ≡ q)) (same_path to.path q)
@@ -72,14 +72,14 @@ paths_put to was ts lives h q t e =
     (λ other f. h q t f)
     (sym (task-put_task to was q ts lives) ∙ e)
 
--- without one that was there
+-- without one task
 pub paths_without : (path : List ℕ) (was : Live) (ts : List Live) → task path ts ≡ Some was → ArePaths ts → ArePaths (without_task path ts)
 paths_without path was ts lives h q t e =
     by_test (λ b. same_path path q ≡ b → (path : Path) × (path.turns.items ≡ q)) (same_path path q)
     (λ same f. h q was (ap (λ p. task p ts) (sym (paths_same path q same)) ∙ lives))
     (λ other f. h q t (sym (task-without_task path q ts (other_path other)) ∙ e)) refl
 
--- with one more
+-- with one more task
 pub paths_more : (new : Live) (path : Path) (ts : List Live) → path.turns.items ≡ new.path → ArePaths ts → ArePaths (new ∷ ts)
 paths_more new path ts named h q t e =
     by_test (λ b. (if b then Some new else task q ts) ≡ Some t → (path : Path) × (path.turns.items ≡ q)) (same_path new.path q)
@@ -88,7 +88,7 @@ paths_more new path ts named h q t e =
 pub paths_none : ArePaths []
 paths_none q t e = absurd (none-some _ e)
 
--- a scope is put in its place
+-- a scope is replaced
 pub scopes_put : (at to_at : rScopeId → Option rScope) (k : rScopeId) (new : rScope) (was to : Scope) (ss : List Scope)
     → ((q : rScopeId) → AreBoth IsBookOf (at q) (scope (scope_id q) ss)) → scope (scope_id k) ss ≡ Some was
     → to.id ≡ scope_id k → IsBookOf new to
@@ -107,12 +107,12 @@ swap true b c = refl
 swap false true c = refl
 swap false false c = refl
 
--- the hands that are taken, with one more
+-- the taken hands, with one more
 pub taken_hand : (b f : Bool) → (if b then true else not f) ≡ not (not b && f)
 taken_hand true f = refl
 taken_hand false f = refl
 
--- a task that wasn't in this hand is put in its place
+-- a task that wasn't in this hand is replaced
 pub free_put : (v : ℕ) (to was : Live) (ts : List Live) → task to.path ts ≡ Some was → in_hand was.place v ≡ false
     → hand_is_free v (put_task to ts) ≡ (not (in_hand to.place v) && hand_is_free v ts)
 free_put v to was [] lives out = absurd (none-some _ lives)

@@ -1,4 +1,4 @@
--- Once the root's scope has passed its results settle, in whatever order they came.
+-- Once the root's scope has passed, its results settle, in any order.
 use Rattle.std.proofs.Common.{◌≡◌, ℕ, ◌≤◌, List, [], Some, refl, sym, ap, ◌∙◌}
 use Rattle.std.specs.Prelude.{true, ℤ}
 use Rattle.types.specs.Code.{Codes, Program}
@@ -29,7 +29,7 @@ module _ (p : Program) (needs : Codes → Needs) (w0 : ℕ) (least : 1 ≤ w0) (
       ((sound p needs w0 least input b es w e).own.results root_scope s there))
       (λ f. sym (root_holds_all p needs w0 least input b es w e s there passed f))
 
-  -- and where they settle, what is told is what they come to
+  -- if they settle, the outcome is that of their settled result
   pub told_once_settled : {x : Settled} → settle (result_of (own p needs b.steps (root_of p input b.nest))) s.results ≡ Some x
       → world_outcome p needs b.steps w0 w ≡ Some (told_of p x)
   told_once_settled settles =

@@ -1,4 +1,4 @@
--- What is told where the root's scope passes, by what the root has made and what its scope keeps.
+-- The outcome when the root's scope passes, by what the root has made and what its scope keeps.
 use Rattle.std.proofs.Common.{◌≡◌, List, [], ◌∷◌, ◌++◌, Option, Some, None, refl, sym, ap, ◌∙◌, subst}
 use Rattle.std.proofs.lemmas.Option.{same_Some}
 use Rattle.std.specs.Prelude.{true, false, ◌&&◌, not, nat_eq, map}
@@ -36,7 +36,7 @@ use Rattle.interleave.proofs.Moves.{passed_book, passed_there, passed_world, pas
 use Rattle.interleave.proofs.NeverStuck.{outcome_told}
 use Rattle.interleave.proofs.Tables.{there}
 
--- ---- what is told already
+-- ---- the outcome is known already
 passed_found : (o : Option Scope) → is_passed o ≡ true → (s : Scope) × (o ≡ Some s) × (s.passed ≡ true)
 passed_found None e = false_true e
 passed_found (Some s) e = (s, refl, e)
@@ -60,8 +60,8 @@ module _ (r : rWorld) (ok : IsWeightedJob r.job) (w : World) (h : Shows r w) whe
   pub told_not : r.told ≡ None → None ≡ outcome_of (program_of r.job.job) r.job.w0 (budget_of r.job.job) w
   told_not e = sym (none_told (scope root_scope w.scopes) _ (subst (IsTold r.job.job (has_passed root_scope w)) e h.told))
 
--- ---- where the root has ended
--- wherever it is, it has come to its end with the same start and receipts
+-- ---- the root has ended
+-- at any location, it has reached its end with the same start and receipts
 record AtLast (j : Job) (c : Course) (made : Made) : Type 0 where
   before : Course
   start : before.start ≡ c.start

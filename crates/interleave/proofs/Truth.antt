@@ -1,4 +1,4 @@
--- With receipts of own runs a task does what its own run does, as far as they go.
+-- With receipts of own runs, a task does what its own run does, as far as the receipts go.
 use Rattle.std.proofs.Common.{◌≡◌, ℕ, zero, suc, ◌+◌, List, [], ◌∷◌, ◌++◌, Option, Some, None, Ok, Err, refl, sym, ap}
 use Rattle.std.proofs.Common.{◌∙◌, subst, inl, inr, append_assoc}
 use Rattle.std.proofs.lemmas.List.{append-nil}
@@ -76,7 +76,7 @@ module _ (p : Program) (needs : Codes → Needs) (fresh : ℕ) (root s : Start) 
   shorter : (st to : State Own) → T st to → Prefix to.extra.actions Z → Prefix st.extra.actions Z
   shorter st to t h = record { rest = t.done ++ h.rest; is = h.is ∙ ap (λ l. l ++ h.rest) t.more ∙ append_assoc st.extra.actions t.done h.rest }
 
-  -- the one that is ahead goes on
+  -- the run that is ahead continues
   goes_on : (a b to : State Own) → Behind a b → T b to → Behind a to
   goes_on a b to h t = record {
     waits = h.waits;
@@ -238,7 +238,7 @@ module _ (p : Program) (needs : Codes → Needs) (fresh : ℕ) (root s : Start) 
   within_moves zero w st = idle st (stopped st) refl refl refl
   within_moves (suc k) w st = work_moves (within p r1 k) (within p r2 k) (within_moves k) w st
 
-  -- the run by receipts is the own run, or waits and has done a part of it
+  -- the run by receipts is the own run, or it waits and has done a part of it
   pub run_in_truth : Rel (run_by p needs fresh receipts s) (own p needs fresh s)
   run_in_truth =
       (within_moves (fresh + 1) (Block s.body) (beginning (at_first s.owned) fresh s)).rel

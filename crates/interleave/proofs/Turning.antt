@@ -1,4 +1,4 @@
--- What a turn shows of a task that was to run.
+-- What a turn shows about a task that was to run.
 use Rattle.std.proofs.Common.{◌≡◌, ℕ, ◌+◌, ◌<◌, ◌≤◌, List, [], ◌∷◌, ◌++◌, length, Some, refl, sym, ap, ◌∙◌, subst}
 use Rattle.std.proofs.Common.{inl, inr, arith}
 use Rattle.std.specs.Prelude.{false, ◌⊎◌}
@@ -50,7 +50,7 @@ use Rattle.interleave.proofs.Histories.{nil_cons}
 use Rattle.interleave.proofs.Paying.{turn_pays, turn_idle, turn_names, Named}
 use Rattle.own_run.proofs.ListedTurns.{over_does_nothing}
 
--- what a turn shows of a task that was to run, which had so many steps left
+-- what a turn shows about a task that was to run, and had `before` steps left
 abbrev pub IsShown : Job → Course → (before : ℕ) → Turn → Type 0
 IsShown j c n (Going r) =
     (r.thread.steps + 1 ≤ n → IsDoing j c (Steps r)) × (n ≤ r.thread.steps → IsRunOf j c r)
@@ -67,7 +67,7 @@ module _ (j : Job) (ok : IsJob j) where
   abbrev At : List (Frame Own) → State Own → Standing Own
   At fs st = record { frames = fs; state = st }
 
-  -- wherever a task stands, it is its own run
+  -- in each configuration, a task is its own run
   pub its_task : (s : Start) (u : Standing Own) → MayStand p (lists_of j) (budget_of j) s u
       → IsTask p (needs_of p) (budget_of j).steps (root p (lists_of j) (budget_of j)) s u
   its_task s u h =
@@ -76,14 +76,14 @@ module _ (j : Job) (ok : IsJob j) where
       (root_begins p (needs_of p) (is_scoped p ok.sound) (is_calm p ok.sound ok.accepted) (provides_needs p ok.sound) (lists_of j)
       (budget_of j).nest ok.fits) h).task
 
-  -- where it comes to by a turn
+  -- the configuration after a turn
   abbrev next_of : Start → Frame Own → List (Frame Own) → State Own → Standing Own
   next_of s f fs st = turn p (own_rules (needs_of p) s.nest (in_truth p (needs_of p) (budget_of j).steps)) f fs st
 
   abbrev root_start : Start
   root_start = root p (lists_of j) (budget_of j)
 
-  -- what it does next is what its turn does
+  -- its next action is the action of its turn
   next_is : (c : Course) (f : Frame Own) (fs : List (Frame Own)) (st : State Own) (a : Action)
       → HasCome j c (At (f ∷ fs) st) → done_in (needs_of p) c.start.nest f st ≡ a ∷ [] → IsNext j c a
   next_is c f fs st a h e =
@@ -107,7 +107,7 @@ module _ (j : Job) (ok : IsJob j) where
       ∙ next_is_last p (needs_of p) (budget_of j).steps root_start c.start c.receipts st task.awake h.follows
       ∙ ap (λ q. Some (last_action q)) task.path
 
-  -- a turn that does this
+  -- a turn with these actions
   come_on : (c : Course) (done spawned opened : ℕ) (f : Frame Own) (fs : List (Frame Own)) (st : State Own) (xs : List Action)
       → HasCome j c (At (f ∷ fs) st) → done_in (needs_of p) c.start.nest f st ≡ xs
       → done ≡ c.done + length xs → spawned ≡ c.spawned + length (begun_by xs)
@@ -165,7 +165,7 @@ module _ (j : Job) (ok : IsJob j) where
     does_so : (xs : List Action) → done_in (needs_of p) r.thread.nest f st ≡ xs → done_in (needs_of p) c.start.nest f st ≡ xs
     does_so xs e = ap (λ (n : ℕ). done_in (needs_of p) n f st) (sym nest) ∙ e
 
-    -- the run after it stands there
+    -- the run after it is in this configuration
     runs_on : (d : Course) (q : Run) → d.start ≡ c.start → GoesTo r reached_by q → HasCome j d (next_of c.start f fs st) → IsRunOf j d q
     runs_on d q starts goes there = record {
       program = ap (λ plan. program plan.program.now) goes.plan ∙ is;
@@ -207,7 +207,7 @@ module _ (j : Job) (ok : IsJob j) where
         (come_on c (c.done + 1) c.spawned (c.opened + 1) f fs st (EnterFinish ∷ []) come (does_so (EnterFinish ∷ []) e) refl (omega arith)
         (omega (arith, le)))
 
-    -- a turn that goes on took a step, or did nothing
+    -- a turn that continues took a step, or had no action
     going : (q : Run) → GoesTo r reached_by q → stops r.thread.nest f st ≡ false
         → (done_in (needs_of p) r.thread.nest f st ≡ []) ⊎ (done_in (needs_of p) r.thread.nest f st ≡ Step ∷ [])
         → IsShown j c r.thread.steps (Going q)
@@ -268,7 +268,7 @@ module _ (j : Job) (ok : IsJob j) where
     by_frames (Ended x) [] st steps come stay h = (ends_last c st come, record { state = st; come = come; is = h })
     by_frames t [] st steps come stay h = absurd h
 
-  -- a run of the program's on this input
+  -- a run of the program on this input
   pub may_run : (c : Course) (r : Run) → IsRunOf j c r → MayRun p (lists_of j) (budget_of j) r
   may_run c r m = record {
     program = m.program;
@@ -280,7 +280,7 @@ module _ (j : Job) (ok : IsJob j) where
     stands = m.come.stands;
   }
 
-  -- whatever turn a run takes, that is what its task is about to do
+  -- each turn of a run shows the next action of its task
   pub shown : (c : Course) (r : Run) (t : Turn) → IsRunOf j c r → IsTurn (needs_of p) r t → IsShown j c r.thread.steps t
   unfolding may_run
   shown c r t m turns_so =
@@ -288,7 +288,7 @@ module _ (j : Job) (ok : IsJob j) where
       (stays p (lists_of j) (budget_of j) r t (may_run c r m) turns_so)
       (turns_so (in_truth p (needs_of p) (budget_of j).steps) m.frames m.own m.shows)
 
-  -- ---- what isn't a step
+  -- ---- a next action that isn't a step
   one_next : (c : Course) (a b : Action) → IsNext j c a → IsNext j c b → a ≡ b
   one_next c a b is other = same_Some _ _ (sym is ∙ other)
 
@@ -305,7 +305,7 @@ module _ (j : Job) (ok : IsJob j) where
   last_no_step [] e = let bad : ⊥ = cc in bad
   last_no_step (i ∷ q) e = let bad : ⊥ = cc in bad
 
-  -- a run that began a task or a finish, or is at an end, wasn't to step
+  -- a run that spawned a task or started a finish, or is at an end, wasn't about to take a step
   pub spawns_not : (c : Course) (n : ℕ) (q : Run) (x : rStart) → IsShown j c n (Spawns q x) → IsNext j c Step → ⊥
   spawns_not c n q x h is = spawns_no_step (start x) (one_next c (Spawn (start x)) Step h.0 is)
 
@@ -329,7 +329,7 @@ module _ (j : Job) (ok : IsJob j) where
           ends_no_step (one_next c EndFinish Step (ends_finish c shown.0 fs st at_end) is))
           m.come
 
-  -- a task that has begun stands at its beginning
+  -- a task that has started is at its start
   pub begins : (c : Course) (s : rStart) (r : Run) → IsFresh j c s → program r.plan.program.now ≡ p → r.thread.nest ≡ s.nest
       → IsAt r (begun (budget_of j).steps (start s)) → IsRunOf j c r
   begins c s r fresh is nest at = record {
@@ -352,7 +352,7 @@ module _ (j : Job) (ok : IsJob j) where
         few = let none = fresh.opened in omega (arith, none);
       }
 
-  -- what was copied stands for the same
+  -- a copy represents the same task
   pub fresh_copy : (c : Course) (s q : rStart) → start q ≡ start s → IsFresh j c s → IsFresh j c q
   fresh_copy c s q e h = record {
     is = e ∙ h.is;
@@ -373,9 +373,9 @@ module _ (j : Job) (ok : IsJob j) where
     come = subst (λ st. HasCome j c (record { frames = h.frames; state = with_own h.own st })) (sym e.state) h.come;
   }
 
--- ---- turn after turn, up to the first action of its own
+-- ---- turn after turn, up to the next action
 module _ (j first_job : Job) where
-  -- the run stands as far as its task has come, which did nothing since
+  -- the run has the progress of its task, and has had no action since
   pub record HasGone (first now : Run) : Type 0 where
     pub job : IsJob j
     pub there : (c : Course) × IsRunOf j c now
@@ -394,7 +394,7 @@ module _ {j first_job : Job} {first now : Run} (i : HasGone j first_job first no
       → IsShown j c now.thread.steps t
   shows_so t is c m = shown j i.job c now t (i.same c m) is
 
-  -- the same of a turn that is another
+  -- the same fact for an equal turn
   pub shows_as : {x y : Turn} → x ≡ y → IsTurn (needs_of (program_of j)) now x → (c : Course) → IsRunOf first_job c first
       → IsShown j c now.thread.steps y
   shows_as {y = y} e is = shows_so y (subst (IsTurn (needs_of (program_of j)) now) e is)

@@ -1,4 +1,4 @@
--- Walks: an event more, a candidate that isn't legal, and what it means that none is.
+-- Walks: one more event, a candidate that isn't legal, and the consequence if none is.
 use Rattle.std.proofs.Common.{◌≡◌, ℕ, ◌+◌, ◌<◌, List, [], ◌∷◌, ◌++◌, length, Some, None, sym, ap, ◌∙◌, subst}
 use Rattle.std.proofs.Common.{map, refl, inl, inr, take}
 use Rattle.std.proofs.lemmas.List.{map-append, length-append, take_more}
@@ -35,7 +35,7 @@ use Rattle.interleave.proofs.Staying.{stays_shown}
 use Rattle.interleave.proofs.Tables.{is_there, led_on}
 
 -- ---- events that were legal
--- a legal event behind those of a replay
+-- a legal event after those of a replay
 pub replayed_on : (j : WeightedJob) (es : List rEvent) (e : rEvent) (old new : rWorld) → IsReplayed j es old → Becomes (event e) old new
     → new.job ≡ old.job → IsReplayed j (es ++ e ∷ []) new
 replayed_on j es e old new i b same =
@@ -63,7 +63,7 @@ module _ (old new : Walk) (e : rEvent) (i : IsWalk old) (same : new.world.job �
     more = ap length items ∙ length-append old.events.items (e ∷ []);
   }
 
-  -- after one that wasn't
+  -- after an event that wasn't legal
   pub did_not_happen : (x : EventError) → x ≡ Illegal → Refuses (event e) old.world new.world x
       → new.events.items ≡ old.events.items → IsAsBefore old new
   did_not_happen x is r items = record {
@@ -85,7 +85,7 @@ module _ (old new : Walk) (e : rEvent) (i : IsWalk old) (same : new.world.job �
 pub was_illegal : (old new : rWorld) (e : Event) (x : EventError) → x ≡ Illegal → Refuses e old new x → IsIllegal old e
 was_illegal old new e x is r w s = (subst (Refuses e old new) is r).1 w s
 
--- ---- one behind the other
+-- ---- one after the other
 pub still_on : (a b c : Walk) → IsAsBefore a b → IsAsBefore b c → IsAsBefore a c
 still_on a b c h k = record { walk = k.walk; job = k.job ∙ h.job; same = k.same ∙ h.same; shows = λ w s. k.shows w (h.shows w s) }
 
@@ -138,7 +138,7 @@ passed_over walk i passed to e =
     inl (passed to (subst (Shows walk.world) (legal_same i.replayed.world to (sym i.replayed.legal ∙ e)) i.replayed.shows))
 
 -- ---- the tasks of a table
--- with one that was still to come
+-- with one task that was still to come
 pub named_more : (p new q : Path) (old_left left : List Path) (old_paths paths : List Path) → old_left ≡ p ∷ left
     → new.turns.items ≡ p.turns.items → paths ≡ old_paths ++ new ∷ []
     → Contains (map turns_of old_paths) q.turns.items ⊎ (is_member is_path old_left q ≡ true)

@@ -1,4 +1,4 @@
--- Once the root's scope has passed it holds all that is worth something, and nothing is still to come.
+-- Once it has passed, the root's scope holds all worth, and nothing is still to come.
 use Rattle.std.proofs.Common.{◌≡◌, ℕ, ◌+◌, ◌≤◌, List, [], ◌∷◌, ◌++◌, Option, Some, refl, sym, ap, ◌∙◌, subst, arith}
 use Rattle.std.specs.Prelude.{true, map, sum_by, if◌then◌else◌}
 use Rattle.std.proofs.lemmas.Option.{same_Some}
@@ -43,7 +43,7 @@ module _ (p : Program) (needs : Codes → Needs) (fresh w0 : ℕ) (least : 1 ≤
   based_last (s ∷ []) e = ([], ap (λ i. i ∷ []) (scopes_same s.scope root_scope e))
   based_last (s ∷ r ∷ more) e = let h = based_last (r ∷ more) e in (s.scope ∷ h.0, ap (λ l. s.scope ∷ l) h.1)
 
-  -- what the root's scope holds is worth what the tasks are that the root spawns for it
+  -- what the root's scope holds is the worth of the tasks that the root spawns for it
   pub root_scope_is_whole : (es : List Event) (w : World) → go es (first_world w0 root) ≡ Some w → (s : Scope) → scope root_scope w.scopes ≡ Some s → s.passed ≡ true
       → sum_by f s.results ≡ coming p needs fresh w0 root nameless worth (Some 0) (truly p needs fresh w0 root nameless root)
   root_scope_is_whole es w e s there passed =

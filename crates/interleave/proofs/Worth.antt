@@ -1,4 +1,5 @@
--- Whatever results are worth: what the root's scope holds and what is still to come to it is always the same.
+-- For any measure of results: what the root's scope holds, together with what is still to come to
+-- it, is constant.
 use Rattle.std.proofs.Common.{◌≡◌, ℕ, zero, suc, ◌+◌, ◌-◌, ◌/◌, ◌≤◌, List, [], ◌∷◌, ◌++◌, length, Option, Some, None}
 use Rattle.std.proofs.Common.{refl, sym, ap, ◌∙◌, subst, inl, inr, arith}
 use Rattle.std.proofs.lemmas.List.{append-nil}
@@ -33,7 +34,7 @@ use Rattle.interleave.proofs.OwnTasks.{IsOwnTask, AllOwn, IsAtLevel, truly, next
 use Rattle.interleave.proofs.OwnTasks.{ends_in_truth, depth_more, at_level}
 use Rattle.interleave.proofs.Present.{Falls, told_falls}
 
--- an action that begins no task
+-- an action that spawns no task
 abbrev is_spawn : Action → Bool
 is_spawn (Spawn d) = true
 is_spawn a = false
@@ -84,7 +85,7 @@ sum_by-without_task g q t (u ∷ ts) e =
     more h = let b = sum_by-cons g u (without_task q ts) in let c = sum_by-cons g u ts in omega (arith, h, b, c)
 
 module _ (p : Program) (needs : Codes → Needs) (fresh w0 : ℕ) (root : Start) (nameless : root.path ≡ []) (worth : Start → ℕ) where
-  -- what is to come at the level of these actions
+  -- the worth that is to come at the level of these actions
   pub coming : Option ℕ → List Action → ℕ
   coming None xs = 0
   coming (Some d) xs = sum_by worth (direct d xs)
@@ -111,7 +112,7 @@ module _ (p : Program) (needs : Codes → Needs) (fresh w0 : ℕ) (root : Start)
   unfolding coming
   deep_coming c d rest = refl
 
-  -- what a task has still to spawn outside of its own finishes
+  -- the worth of what a task has still to spawn outside of its own finishes
   pub left : Live → ℕ
   left t = coming (depth 0 (take t.done (truly p needs fresh w0 root nameless t.start))) (drop t.done (truly p needs fresh w0 root nameless t.start))
 
@@ -140,7 +141,7 @@ module _ (p : Program) (needs : Codes → Needs) (fresh w0 : ℕ) (root : Start)
   left_same t to h a d e f s n no_spawn =
       left_after t to h a d e f s n ∙ sym (step_coming a d _ no_spawn) ∙ sym (left_is t h a d e f)
 
-  -- what an event leaves to come of a task that it doesn't move on
+  -- an event keeps what is to come of a task that it doesn't move forward
   left_still : (t to : Live) → to.start ≡ t.start → to.done ≡ t.done → left to ≡ left t
   unfolding left
   left_still t to s n =
@@ -176,7 +177,7 @@ module _ (p : Program) (needs : Codes → Needs) (fresh w0 : ℕ) (root : Start)
     abbrev pub reward : Live → ℕ
     reward t = if same_path t.path [] then 0 else f (result_of (own p needs fresh t.start))
 
-    -- what is still to come of a task to the root's scope
+    -- the worth that a task still contributes to the root's scope
     abbrev pub share : Live → ℕ
     share t = if based t.stakes then reward t + left t else 0
 
@@ -187,7 +188,7 @@ module _ (p : Program) (needs : Codes → Needs) (fresh w0 : ℕ) (root : Start)
         ∙ ap (λ s. if based t.stakes then (if same_path t.path [] then 0 else f (result_of (own p needs fresh s))) + left to else 0) b
         ∙ ap (λ n. if based t.stakes then reward t + n else 0) c
 
-    -- what the root's scope holds and what is to come is what the root's own run spawns
+    -- what the root's scope holds, together with what is to come, is what the root's own run spawns
     abbrev pub Balanced : List Live → List Scope → Type 0
     Balanced ts ss = (s : Scope) → scope root_scope ss ≡ Some s → sum_by f s.results + sum_by share ts ≡ coming (Some 0) (truly p needs fresh w0 root nameless root)
 
@@ -417,7 +418,7 @@ module _ (p : Program) (needs : Codes → Needs) (fresh w0 : ℕ) (root : Start)
           let z : sum_by f s.results ≡ 0 = ap (λ (r : Scope). sum_by f r.results) (sym (same_Some _ _ e)) in
           omega (arith, z, g)
 
-  -- nothing is left where no finish is open any more
+  -- nothing is to come if no finish is open any more
   pub none_left : (t : Live) → depth 0 (take t.done (truly p needs fresh w0 root nameless t.start)) ≡ None → left t ≡ 0
   unfolding left coming
   none_left t e = ap (λ o. coming o (drop t.done (truly p needs fresh w0 root nameless t.start))) e

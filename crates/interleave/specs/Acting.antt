@@ -1,4 +1,4 @@
--- What the events of a task in a hand make of it, in Rust.
+-- The effect in Rust of the events of a task in a hand.
 use Rattle.std.specs.Prelude.{ℕ, ◌+◌, ◌*◌, ◌-◌, ◌/◌, ◌≡◌, ◌≤◌, ◌<◌, List, [], ◌∷◌, map, Some}
 use Rattle.std.specs.Prelude.{if◌then◌else◌, Bool, true, false}
 use Rattle.std.specs.HashMap.{get}
@@ -26,20 +26,20 @@ pub record IsReady (r : World) (path : Path) (worker : ℕ) : Type 0 where
   pub hand : hand_of (whereabouts task.place) ≡ Some worker
   pub known : IsKnown task.doing
 
--- the same task, wherever its stakes lie
+-- the same task, with its stakes possibly elsewhere in memory
 pub record IsSame (old new : Task) : Type 0 where
   pub doing : new.doing ≡ old.doing
   pub opened : new.opened ≡ old.opened
   pub place : new.place ≡ old.place
   pub stakes : new.stakes.items ≡ old.stakes.items
 
--- it did a step
+-- it took a step
 pub record DidStep (old new : Task) : Type 0 where
   pub run : Run
   pub was : old.doing ≡ Steps run
   pub now : new ≡ record old { doing = Runs run }
 
--- in a hand it took the step that it was to take next, whether that was known or not
+-- in a hand it took its next step, which was known before or not
 pub record TookStep (j : Job) (old new : Task) : Type 0 where
   pub worker : ℕ
   pub hand : hand_of (whereabouts old.place) ≡ Some worker
@@ -47,23 +47,23 @@ pub record TookStep (j : Job) (old new : Task) : Type 0 where
   pub looked : IsLooked j old.doing (Steps run)
   pub now : new ≡ record old { doing = Runs run }
 
--- it did so, or it is as it was
+-- it did so, or it is unchanged
 abbrev pub TookStepIf : Bool → Job → (old new : Task) → Type 0
 TookStepIf true j old new = TookStep j old new
 TookStepIf false j old new = new ≡ old
 
--- the task of a path took a step, or the tables are the same
+-- the task with this path took a step, or the tables are unchanged
 abbrev pub SteppedIf : Bool → (path : List ℕ) → (old new : World) → Type 0
 SteppedIf true path old new = Becomes (IsStep path) old new
 SteppedIf false path old new = WorldStays old new
 
--- it is to begin a task
+-- it is about to spawn a task
 pub record IsToSpawn (k : Task) : Type 0 where
   pub run : Run
   pub start : Start
   pub is : k.doing ≡ Spawns run start
 
--- it is to begin a task, and weighs 1 in its innermost scope, which is this
+-- it is about to spawn a task, and has weight 1 in its innermost scope, which is `id`
 pub record IsWanting (k : Task) (id : ScopeId) : Type 0 where
   pub spawns : IsToSpawn k
   pub inner : rStake
@@ -72,7 +72,7 @@ pub record IsWanting (k : Task) (id : ScopeId) : Type 0 where
   pub one : inner.weight ≡ 1
   pub named : inner.scope ≡ id
 
--- it is to begin a task and weighs 1, and its innermost scope may issue w0 more
+-- it is about to spawn a task and has weight 1, and its innermost scope may issue w0 more
 pub record IsShort (r : World) (path : Path) : Type 0 where
   pub task : Task
   pub at : get is_path r.tasks path ≡ Some task
@@ -82,7 +82,7 @@ pub record IsShort (r : World) (path : Path) : Type 0 where
   pub found : get is_scope r.scopes id ≡ Some book
   pub few : book.issued < 2147483648 * r.job.w0
 
--- its innermost scope issued w0 more, and it has that
+-- its innermost scope issued w0 more, and the task has this weight
 pub record DidIssue (old new : World) (path : Path) (s : IsShort old path) : Type 0 where
   pub task : Task
   pub doing : task.doing ≡ s.task.doing
@@ -96,7 +96,7 @@ pub record DidIssue (old new : World) (path : Path) (s : IsShort old path) : Typ
   pub scopes : (q : ScopeId) → get is_scope new.scopes q
       ≡ (if is_scope s.id q then Some book else get is_scope old.scopes q)
 
--- it begins a task, which gets half of its weight, rounded down, and is in this worker's queue
+-- it spawns a task, which gets half of its weight, rounded down, and is in this worker's queue
 pub record DidSpawn (old new child : Task) (path : Path) (worker : ℕ) : Type 0 where
   pub run : Run
   pub start : Start
@@ -116,7 +116,7 @@ pub record DidSpawn (old new child : Task) (path : Path) (worker : ℕ) : Type 0
   pub given : map stake child.stakes.items ≡ record inner { weight = inner.weight / 2 } ∷ []
   pub queued : child.place ≡ Queue worker
 
--- what a child is called, and half of its parent's weight, rounded down
+-- the path of a child, and half of its parent's weight, rounded down
 pub record IsShare (k : Task) (path : Path) (stakes : List rStake) : Type 0 where
   pub spawns : IsToSpawn k
   pub inner : rStake
@@ -126,14 +126,14 @@ pub record IsShare (k : Task) (path : Path) (stakes : List rStake) : Type 0 wher
   pub named : path.turns.items ≡ spawns.start.path.turns.items
   pub given : map stake stakes ≡ record (stake inner) { weight = inner.weight / 2 } ∷ []
 
--- it weighs 2 at least in its innermost scope
+-- it has at least weight 2 in its innermost scope
 pub record IsHeavy (k : Task) : Type 0 where
   pub inner : rStake
   pub outer : List rStake
   pub stakes : k.stakes.items ≡ inner ∷ outer
   pub two : 2 ≤ inner.weight
 
--- it began a finish, in whose scope it weighs w0
+-- it started a finish, in whose scope it has the weight w0
 pub record DidOpen (old new : Task) (path : Path) (id : ScopeId) (w0 : ℕ) : Type 0 where
   pub run : Run
   pub was : old.doing ≡ Opens run

@@ -1,4 +1,4 @@
--- How far a live task has come in its own run, and what a run in Rust stands for there.
+-- The progress of a live task in its own run, and what a run in Rust represents at this point.
 use Rattle.std.specs.Prelude.{ℕ, ◌+◌, ◌≡◌, ◌≤◌, List, [], ◌∷◌, length, Option, Some, None}
 use Rattle.types.specs.Run.{State}
 use Rattle.types.specs.Translation.{program}
@@ -23,7 +23,7 @@ use Rattle.interleave.specs.declared.doing.Doing.{Doing}
 use Rattle.interleave.specs.declared.doing.Doing.TheVariants.{Starts, Runs, Steps, Spawns as rSpawns, Opens}
 use Rattle.interleave.specs.declared.doing.Doing.TheVariants.{AtFinish, AtEnd as rAtEnd}
 
--- what a live task has started with, gone on with and done
+-- the start of a live task, the receipts that it has continued with, and the number of its actions
 pub record Course : Type 0 where
   pub start : Start
   pub receipts : List (List TaskResult)
@@ -44,11 +44,11 @@ course_of t = record {
 abbrev pub further : Course → Course
 further c = record c { done = c.done + 1 }
 
--- which began a task
+-- after the action that spawns a task
 abbrev pub with_child : Course → Course
 with_child c = record (further c) { spawned = c.spawned + 1 }
 
--- which began a finish
+-- after the action that starts a finish
 abbrev pub with_finish : Course → Course
 with_finish c = record (further c) { opened = c.opened + 1 }
 
@@ -62,7 +62,7 @@ IsKnown (Opens r) = Unit {0}
 IsKnown (AtFinish q made) = Unit {0}
 IsKnown (rAtEnd made) = Unit {0}
 
--- what a task is about to do once it has done what it was to do in a hand
+-- the run of a task in a hand, after its next action
 abbrev pub behind : Doing → Doing
 behind (Starts s) = Starts s
 behind (Runs r) = Runs r
@@ -72,7 +72,7 @@ behind (Opens r) = Runs r
 behind (AtFinish q made) = AtFinish q made
 behind (rAtEnd made) = rAtEnd made
 
--- what the task starts with that it begins by that
+-- the start of the task that this action spawns
 abbrev pub begun_by : Doing → Option rStart
 begun_by (Starts s) = None
 begun_by (Runs r) = None
@@ -89,7 +89,7 @@ module _ (j : Job) where
       next_action (program_of j) (needs_of (program_of j)) (budget_of j).steps c.receipts c.done c.start
       ≡ Some a
 
-  -- a task has come to stand so; each finish that it began has cost a step
+  -- a task has reached this configuration; each finish that it started has cost a step
   pub record HasCome (c : Course) (u : Standing Own) : Type 0 where
     pub stands : MayStand (program_of j) (lists_of j) (budget_of j) c.start u
     pub follows : Follows (program_of j) (needs_of (program_of j)) (budget_of j).steps
@@ -98,7 +98,7 @@ module _ (j : Job) where
     pub children : u.state.spawned ≡ c.spawned
     pub few : c.opened + u.state.steps ≤ (budget_of j).steps
 
-  -- a task has yet to begin
+  -- a task hasn't started yet
   pub record IsFresh (c : Course) (s : rStart) : Type 0 where
     pub is : start s ≡ c.start
     pub may : MayStart (program_of j) (lists_of j) (budget_of j) c.start
@@ -107,7 +107,7 @@ module _ (j : Job) where
     pub spawned : c.spawned ≡ 0
     pub opened : c.opened ≡ 0
 
-  -- a run stands so
+  -- a run represents this progress
   pub record IsRunOf (c : Course) (r : Run) : Type 0 where
     pub program : program r.plan.program.now ≡ program_of j
     pub nest : r.thread.nest ≡ c.start.nest
@@ -116,7 +116,7 @@ module _ (j : Job) where
     pub shows : Shows r frames own
     pub come : HasCome c (record { frames = frames; state = with_own own (state_of r.thread) })
 
-  -- a run waits so at the end of a finish, with this so far
+  -- a run waits with this progress at the end of a finish, with `so_far` as its result
   pub record IsPausedOf (c : Course) (q : Paused) (so_far : rTaskResult) : Type 0 where
     pub program : program q.plan.program.now ≡ program_of j
     pub nest : q.nest ≡ c.start.nest
@@ -133,7 +133,7 @@ module _ (j : Job) where
     pub come : HasCome c (record { frames = []; state = state })
     pub is : task_result made ≡ result_of state
 
-  -- what a live task is about to do
+  -- the next action of a live task
   abbrev pub IsDoing : Course → Doing → Type 0
   IsDoing c (Starts s) = IsFresh c s
   IsDoing c (Runs r) = IsRunOf c r
@@ -146,7 +146,7 @@ module _ (j : Job) where
   IsDoing c (AtFinish q made) = IsNext c EndFinish × IsPausedOf c q made
   IsDoing c (rAtEnd made) = IsNext c (last_action c.start.path) × IsEndOf c made
 
-  -- the same, whose next action is known
+  -- a version of the same task whose next action is known
   pub record IsLooked (old new : Doing) : Type 0 where
     pub known : IsKnown new
     pub same : (c : Course) → IsDoing c old → IsDoing c new

@@ -1,4 +1,5 @@
--- What the events at the ends of finishes and of tasks find in the tables, and leave there.
+-- What the events at the ends of finishes and of tasks find in the tables, and how they change
+-- them.
 use Rattle.std.specs.Prelude.{ℕ, ◌≡◌, ◌+◌, ◌≤◌, List, [], ◌∷◌, Bool, true, false, not, map, drop, Some, Vec}
 use Rattle.std.specs.Global.{Global}
 use Rattle.std.specs.HashMap.{get}
@@ -30,24 +31,25 @@ use Rattle.interleave.specs.declared.task.Task.{Task as rTask}
 use Rattle.interleave.specs.declared.task.Whereabouts.TheVariants.{Hand as rHand, Parked as rParked}
 use Rattle.interleave.specs.declared.world.World.{World as rWorld}
 
--- ---- what a task is about to do
+-- ---- the next action of a task
 -- the root's path
 abbrev pub is_root : List ℕ → Bool
 is_root [] = true
 is_root (k ∷ path) = false
 
--- the task of a path is at the end of a finish; the root's own end is that of one too
+-- the task with this path is at the end of a finish; the root's own end counts as the end of a
+-- finish
 abbrev pub is_waiting : (path : List ℕ) → Doing → Bool
 is_waiting path (AtFinish q made) = true
 is_waiting path (AtEnd made) = is_root path
 is_waiting path _ = false
 
--- the task of a path is at its end, and isn't the root
+-- the task with this path is at its end, and isn't the root
 abbrev pub has_ended : (path : List ℕ) → Doing → Bool
 has_ended path (AtEnd made) = not (is_root path)
 has_ended path _ = false
 
--- ---- what is found
+-- ---- the tables before an event
 -- a live task, its innermost scope, and its weight there
 pub record StandsAt (r : rWorld) (path : Path) : Type 0 where
   pub its : rTask
@@ -58,7 +60,7 @@ pub record StandsAt (r : rWorld) (path : Path) : Type 0 where
   pub book : rScope
   pub there : get is_scope r.scopes inner.scope ≡ Some book
 
--- a parked task whose scope has passed, and which stands in another around it
+-- a parked task whose scope has passed, and which is in another scope around it
 pub record MayLeave (r : rWorld) (path : Path) : Type 0 where
   pub at : StandsAt r path
   pub place : at.its.place ≡ rParked
@@ -67,34 +69,33 @@ pub record MayLeave (r : rWorld) (path : Path) : Type 0 where
   pub around : at.outer ≡ next ∷ outer
   pub passed : at.book.passed ≡ true
 
--- a task at its end, with what it has made
+-- a task at its end, with its result
 pub record HasMade (r : rWorld) (path : Path) : Type 0 where
   pub its : rTask
   pub at : get is_path r.tasks path ≡ Some its
   pub made : Made
   pub is : its.doing ≡ AtEnd made
 
--- no task weighs more in its innermost scope than what is out there
+-- no task has more weight in its innermost scope than what is out there
 abbrev pub NoneIsLate : rWorld → Type 0
 NoneIsLate r =
     (path : Path) (a : StandsAt r path) → a.book.returned + a.inner.weight ≤ a.book.issued
 
--- what a task at the end of a finish made is given back what it listed, by what its innermost
--- scope keeps
+-- the results in a task's innermost scope give back what the task listed in the finish
 abbrev pub MayGoOn : rWorld → Path → Type 0
 MayGoOn r path =
     (a : StandsAt r path) (q : Paused) (made : Made) (results : Vec Made Global)
     → a.its.doing ≡ AtFinish q made → a.book.results ≡ Some results
     → GiveBack (task_result made) (map task_result results.items)
 
--- ---- what changes
--- the task of a path became another, and no other did
+-- ---- the changes
+-- the task with this path became another, and no other task changed
 pub record TaskBecomes (old new : rWorld) (path : Path) (Fits : rTask → Type 0) : Type 0 where
   pub to : rTask
   pub fits : Fits to
   pub each : PutsTask old new path to
 
--- the scope of a name became another, and no other did
+-- the scope with this name became another, and no other scope changed
 pub record ScopeBecomes (old new : rWorld) (id : rScopeId) (Fits : rScope → Type 0) : Type 0 where
   pub to : rScope
   pub fits : Fits to
@@ -104,7 +105,7 @@ pub record ScopeBecomes (old new : rWorld) (id : rScopeId) (Fits : rScope → Ty
 abbrev pub GivesBack : ℕ → List TaskResult → (old new : rScope) → Type 0
 GivesBack w rs old new = (b : Scope) → IsBookOf old b → IsBookOf new (give_back w rs b)
 
--- a task is parked, and weighs nothing in its innermost scope
+-- a task is parked, and has weight 0 in its innermost scope
 pub record IsSetDown (old new : rTask) : Type 0 where
   pub place : new.place ≡ rParked
   pub doing : new.doing ≡ old.doing
@@ -112,7 +113,7 @@ pub record IsSetDown (old new : rTask) : Type 0 where
   pub stakes : (s : rStake) (outer : List rStake) → old.stakes.items ≡ s ∷ outer
       → map stake new.stakes.items ≡ record (stake s) { weight = 0 } ∷ map stake outer
 
--- a run goes on behind a finish, with what its results settled to
+-- a run continues after a finish, with the settled results
 pub record GoesBehind (q : Paused) (made : Made) (results : List TaskResult)
     (run : Run) : Type 0 where
   pub settled : Settled
@@ -124,7 +125,7 @@ pub record GoesBehind (q : Paused) (made : Made) (results : List TaskResult)
   pub plan : run.plan ≡ q.plan
   pub nest : run.thread.nest ≡ q.nest
 
--- it goes on so behind its finish, with what its innermost scope keeps
+-- a run continues after its finish in this way, with the results of its innermost scope
 pub record IsGoneOn (r : rWorld) (path : Path) (a : StandsAt r path) (run : Run) : Type 0 where
   pub paused : Paused
   pub made : Made
@@ -133,14 +134,14 @@ pub record IsGoneOn (r : rWorld) (path : Path) (a : StandsAt r path) (run : Run)
   pub kept : a.book.results ≡ Some results
   pub goes : GoesBehind paused made (map task_result results.items) run
 
--- a task runs so in a hand, in the scope around its innermost one
+-- a task continues with this run in a hand, in the scope around its innermost one
 pub record IsOutside (worker : ℕ) (run : Run) (old new : rTask) : Type 0 where
   pub is : new.doing ≡ Runs run
   pub place : new.place ≡ rHand worker
   pub opened : new.opened ≡ old.opened
   pub stakes : new.stakes.items ≡ drop 1 old.stakes.items
 
--- a task goes on in a hand, in the scope around the finish
+-- a task continues in a hand, in the scope around the finish
 pub record IsBehind (worker : ℕ) (results : List TaskResult) (old new : rTask) : Type 0 where
   pub paused : Paused
   pub made : Made

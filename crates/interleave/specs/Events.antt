@@ -1,4 +1,4 @@
--- The ten events: where each is legal, and the world after it.
+-- The ten events: when each is legal, and the world after it.
 use Rattle.std.specs.Prelude.{ℕ, ◌+◌, ◌-◌, ◌*◌, ◌/◌, ◌^◌, List, [], ◌∷◌, ◌++◌, Bool, true, false, ◌&&◌}
 use Rattle.std.specs.Prelude.{not, nat_lt, nat_le, nat_eq, Option, Some, None, slice_get}
 pub use Rattle.events.specs.Events.{Event, Take, Steal, Steps, Replenish, Spawns, Opens, Parks}
@@ -9,13 +9,13 @@ use Rattle.interleave.specs.World.{ScopeId, Stake, Live, Scope, World, Whereabou
 use Rattle.interleave.specs.World.{same_path, root_scope, child_path, task, put_task, without_task, scope}
 use Rattle.interleave.specs.World.{put_scope, in_queue, is_parked, hand_of, hand_is_free}
 
--- nothing unless the test holds
+-- None unless the test is true
 abbrev pub only_if : {A : Type 0} → Bool → Option A → Option A
 only_if true o = o
 only_if false o = None
 
--- ---- what events change
--- a task is somewhere else
+-- ---- the changes by events
+-- a task is at another location
 abbrev pub moved : Whereabouts → Live → World → World
 moved to t world = record world { live = put_task (record t { place = to }) world.live }
 
@@ -31,11 +31,11 @@ may_issue w0 s = nat_lt s.issued (2 ^ 31 * w0)
 abbrev pub give_back : ℕ → List TaskResult → Scope → Scope
 give_back w results s = record s { returned = s.returned + w; results = s.results ++ results }
 
--- a scope is that of a finish of the task's own, so the task waits at its end
+-- a scope is that of one of the task's own finishes, so the task waits at its end
 abbrev pub owns : Live → ScopeId → Bool
 owns t id = same_path t.path id.owner
 
--- with one action more done, in these scopes
+-- one more action is done, and the task is in these scopes
 abbrev pub did : Live → List Stake → Live
 did t stakes = record t { done = t.done + 1; stakes = stakes }
 
@@ -43,7 +43,7 @@ did t stakes = record t { done = t.done + 1; stakes = stakes }
 abbrev pub new_scope : ScopeId → (w0 : ℕ) → Scope
 new_scope id w0 = record { id = id; issued = w0; returned = 0; results = []; passed = false }
 
--- a task as it begins
+-- a task at its start
 abbrev pub new_task : List ℕ → Start → Stake → (worker : ℕ) → Live
 new_task path start stake w = record {
   path = path;
@@ -63,10 +63,10 @@ first_world w0 root = record {
   scopes = new_scope root_scope w0 ∷ [];
 }
 
--- `actions` is what the own run of a start does with these receipts, `result` what it hands on
+-- `actions` are the actions of an own run with these receipts, `result` is its result
 module _ (w0 : ℕ) (actions : Start → List (List TaskResult) → List Action)
     (result : Start → List (List TaskResult) → TaskResult) where
-  -- what a task does next; nothing where its own run waits
+  -- a task's next action; None if its own run waits
   abbrev pub next_action : Live → Option Action
   next_action t = slice_get (actions t.start t.receipts) t.done
 
@@ -87,7 +87,7 @@ module _ (w0 : ℕ) (actions : Start → List (List TaskResult) → List Action)
   by_step t world Step = Some (record world { live = put_task (did t t.stakes) world.live })
   by_step t world _ = None
 
-  -- it is to begin a task, weighs 1, and its scope may issue
+  -- it is about to spawn a task, has weight 1, and its scope may issue
   abbrev pub by_replenish : Live → Stake → List Stake → World → Action → Option World
   by_replenish t s outer world (Spawn c) =
       and_then (scope s.scope world.scopes) (λ r.
@@ -97,7 +97,7 @@ module _ (w0 : ℕ) (actions : Start → List (List TaskResult) → List Action)
       })))
   by_replenish t s outer world _ = None
 
-  -- it is to begin a task, and weighs 2 at least: the child gets half, rounded down
+  -- it is about to spawn a task, and has at least weight 2: the child gets half, rounded down
   abbrev pub by_spawn : Live → Stake → List Stake → World → Action → Option World
   by_spawn t s outer world (Spawn c) =
       and_then (hand_of t.place) (λ w. only_if (nat_le 2 s.weight) (
@@ -108,7 +108,7 @@ module _ (w0 : ℕ) (actions : Start → List (List TaskResult) → List Action)
       })))
   by_spawn t s outer world _ = None
 
-  -- it is to begin a finish, whose scope has the weight W0
+  -- it is about to start a finish, whose scope has the weight W0
   abbrev pub by_open : Live → World → Action → Option World
   by_open t world EnterFinish =
       let id : ScopeId = record { owner = t.path; number = t.opened + 1 } in
@@ -119,7 +119,7 @@ module _ (w0 : ℕ) (actions : Start → List (List TaskResult) → List Action)
       })
   by_open t world _ = None
 
-  -- it is to end a finish, that of its innermost scope
+  -- it is about to end a finish, that of its innermost scope
   abbrev pub by_park : Live → Stake → List Stake → World → Action → Option World
   by_park t s outer world EndFinish =
       and_then (scope s.scope world.scopes) (λ r. only_if (owns t s.scope) (
@@ -130,7 +130,7 @@ module _ (w0 : ℕ) (actions : Start → List (List TaskResult) → List Action)
       })))
   by_park t s outer world _ = None
 
-  -- it is to end, and has no finish open
+  -- it is about to end, and has no finish open
   abbrev pub by_end : Live → Stake → List Stake → World → Action → Option World
   by_end t s outer world EndTask =
       and_then (scope s.scope world.scopes) (λ r. only_if (not (owns t s.scope)) (
@@ -141,13 +141,13 @@ module _ (w0 : ℕ) (actions : Start → List (List TaskResult) → List Action)
       })))
   by_end t s outer world _ = None
 
-  -- all weight came back, and it hasn't passed yet
+  -- all weight has come back, and the scope hasn't passed yet
   abbrev pub by_pass : World → Scope → Option World
   by_pass world s =
       only_if (not s.passed && nat_eq s.issued s.returned)
       (Some (record world { scopes = put_scope (record s { passed = true }) world.scopes }))
 
-  -- back in a hand with what came of the finish; the root's scope is left by nobody
+  -- back in a hand with the receipt of the finish; no task leaves the root's scope
   abbrev pub by_resume : ℕ → Live → World → List Stake → Option World
   by_resume w t world (s ∷ outer ∷ more) =
       and_then (scope s.scope world.scopes) (λ r.
@@ -160,7 +160,7 @@ module _ (w0 : ℕ) (actions : Start → List (List TaskResult) → List Action)
   by_resume w t world (s ∷ []) = None
   by_resume w t world [] = None
 
-  -- the world after an event, where it is legal
+  -- the world after an event, if it is legal
   abbrev pub next : Event → World → Option World
   next (Take w path) world =
       and_then (task path world.live) (λ t.
@@ -182,7 +182,7 @@ module _ (w0 : ℕ) (actions : Start → List (List TaskResult) → List Action)
   next (Resume w path) world =
       and_then (task path world.live) (λ t. by_resume w t world t.stakes)
 
-  -- the world after a list of events, where all are legal
+  -- the world after a list of events, if all are legal
   abbrev pub after : List Event → World → Option World
   after [] world = Some world
   after (e ∷ es) world = and_then (next e world) (after es)

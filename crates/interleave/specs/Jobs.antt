@@ -1,9 +1,9 @@
--- What a world goes by, in the words of the definitions.
+-- The parameters of a world, as the definitions have them.
 use Rattle.std.specs.Prelude.{◌≤◌}
 use Rattle.gather.specs.Jobs.{IsJob}
 use Rattle.interleave.specs.declared.job.WeightedJob.{WeightedJob}
 
--- the job is right, and weight is issued
+-- the job is right, and at least weight 1 is issued
 pub record IsWeightedJob (j : WeightedJob) : Type 0 where
   pub job : IsJob j.job
   pub least : 1 ≤ j.w0

@@ -7,7 +7,7 @@ use Rattle.own_run.specs.declared.result.TaskResult.{TaskResult as Made}
 use Rattle.interleave.specs.Ending.{IsBehind, ScopeBecomes, StandsAt, TaskBecomes}
 use Rattle.interleave.specs.declared.world.World.{World as rWorld}
 
--- it has gone on behind the finish, and its innermost scope gave up for it what it kept
+-- it continues after the finish, with the results that its innermost scope kept
 pub record HasLeft (old new : rWorld) (path : Path) (worker : ℕ) (a : StandsAt old path) : Type 0 where
   pub results : Vec Made Global
   pub kept : a.book.results ≡ Some results

@@ -1,4 +1,4 @@
--- The world of a program's tasks: each does what its own run does.
+-- The world of a program's tasks: each does the actions of its own run.
 use Rattle.std.specs.Prelude.{ℕ, ◌+◌, List, [], ◌∷◌, ℤ, Option, Some, None}
 use Rattle.types.specs.Code.{Codes, Program}
 use Rattle.types.specs.Outcome.{Budget, Outcome}
@@ -15,17 +15,17 @@ pub data Replayed : Type 0 where
   Legal : World → Replayed
   IllegalAt : ℕ → Replayed
 
--- goes on with the world after an event, or that event isn't legal
+-- continues with the world after an event, unless the event isn't legal
 abbrev pub go_or : ℕ → (World → Replayed) → Option World → Replayed
 go_or n go None = IllegalAt n
 go_or n go (Some w) = go w
 
 module _ (p : Program) (needs : Codes → Needs) (fresh w0 : ℕ) where
-  -- what the own run of a start does with these receipts
+  -- the actions of the own run with these receipts
   abbrev pub does : Start → List (List TaskResult) → List Action
   does s receipts = actions_of (run_by p needs fresh receipts s)
 
-  -- what it hands on with these receipts
+  -- its result with these receipts
   abbrev pub hands_on : Start → List (List TaskResult) → TaskResult
   hands_on s receipts = result_of (run_by p needs fresh receipts s)
 
@@ -33,12 +33,12 @@ module _ (p : Program) (needs : Codes → Needs) (fresh w0 : ℕ) where
   abbrev pub event : Event → World → Option World
   event = next w0 does hands_on
 
-  -- a list of events, the first of which has this number
+  -- a list of events, whose first event has this number
   abbrev pub replay_from : ℕ → List Event → World → Replayed
   replay_from n [] world = Legal world
   replay_from n (e ∷ es) world = go_or n (replay_from (n + 1) es) (event e world)
 
-  -- what is told once the root's scope has passed
+  -- the outcome, once the root's scope has passed
   abbrev pub world_outcome : World → Option Outcome
   world_outcome world =
       and_then (scope root_scope world.scopes) (λ s. only_if s.passed (

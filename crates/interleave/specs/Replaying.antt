@@ -13,18 +13,18 @@ use Rattle.interleave.specs.declared.job.WeightedJob.{WeightedJob}
 use Rattle.interleave.specs.declared.world.World.{World as rWorld}
 
 module _ (j : WeightedJob) (es : List rEvent) where
-  -- what the definitions' replay of a list comes to
+  -- the definitions' replay of a list
   abbrev pub comes : Replayed
   comes = replayed (program_of j.job) j.w0 (lists_of j.job) (budget_of j.job) (map event es)
 
-  -- the world that it comes to is shown
+  -- the replay leads to a world, and the tables represent it
   pub record IsReplayed (r : rWorld) : Type 0 where
     pub world : World
     pub legal : comes ≡ Legal world
     pub shows : Shows r world
     pub job : r.job ≡ j
 
-  -- it comes to the first event that isn't legal; or memory was missing
+  -- the replay stops at this event, the first that isn't legal; or memory ran out
   abbrev pub IsRefused : ReplayError → Type 0
   IsRefused (rIllegalAt n) = comes ≡ IllegalAt n
   IsRefused NoMemory = Unit {0}

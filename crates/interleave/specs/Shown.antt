@@ -1,4 +1,4 @@
--- What a world in Rust stands for: live tasks by their paths, scopes by their names.
+-- The world that a world in Rust represents: live tasks by their paths, scopes by their names.
 use Rattle.std.specs.Prelude.{ℕ, ◌≡◌, ◌⊎◌, List, Bool, true, false, ◌&&◌, option_map}
 use Rattle.std.specs.Prelude.{not, nat_eq, map, Option, Some, None, Vec, codes, if◌then◌else◌}
 use Rattle.std.specs.Global.{Global}
@@ -32,7 +32,7 @@ use Rattle.interleave.specs.declared.task.Whereabouts.TheVariants.{Queue as rQue
 use Rattle.interleave.specs.declared.task.Whereabouts.TheVariants.{Parked as rParked}
 use Rattle.interleave.specs.declared.world.World.{World as rWorld}
 
--- ---- names and places
+-- ---- names and locations
 abbrev pub stake : rStake → Stake
 stake s = record { scope = scope_id s.scope; weight = s.weight }
 
@@ -52,7 +52,7 @@ AreBoth Are None (Some b) = ⊥
 AreBoth Are (Some a) None = ⊥
 
 -- ---- scopes
--- the results that a scope keeps; they are handed over only once it has passed
+-- the results that a scope keeps; they are handed to the owner only once it has passed
 abbrev pub AreResultsOf : Option (Vec TaskResult Global) → Scope → Type 0
 AreResultsOf None book = book.passed ≡ true
 AreResultsOf (Some rs) book = map task_result rs.items ≡ book.results
@@ -64,7 +64,7 @@ pub record IsBookOf (s : rScope) (book : Scope) : Type 0 where
   pub passed : s.passed ≡ book.passed
   pub results : AreResultsOf s.results book
 
--- the same scope, wherever its results lie
+-- the same scope, with its results possibly elsewhere in memory
 pub record ScopeStays (old new : rScope) : Type 0 where
   pub issued : new.issued ≡ old.issued
   pub returned : new.returned ≡ old.returned
@@ -73,13 +73,13 @@ pub record ScopeStays (old new : rScope) : Type 0 where
 
 module _ (j : Job) where
   -- ---- tasks
-  -- a parked task did the end of a finish last, or of its own
+  -- the last action of a parked task was the end of a finish, or its own end
   pub record IsParked (c : Course) (doing : Doing) : Type 0 where
     pub before : Course
     pub last : further before ≡ c
     pub at : IsDoing j before doing
 
-  -- what it is about to do; or where it is parked
+  -- its next action; or, if it is parked, its last one
   abbrev pub IsDoingThere : Whereabouts → Course → Doing → Type 0
   IsDoingThere Parked c doing = IsParked c doing
   IsDoingThere (Queue w) c doing = IsDoing j c doing
@@ -91,38 +91,39 @@ module _ (j : Job) where
     pub opened : k.opened ≡ t.opened
     pub doing : IsDoingThere t.place (course_of t) k.doing
 
-  -- the same task, wherever its stakes lie; its next action may be known by now
+  -- the same task, with its stakes possibly elsewhere in memory; its next action may be known by
+  -- now
   pub record TaskStays (old new : rTask) : Type 0 where
     pub doing : (new.doing ≡ old.doing) ⊎ IsLooked j old.doing new.doing
     pub opened : new.opened ≡ old.opened
     pub place : new.place ≡ old.place
     pub stakes : new.stakes.items ≡ old.stakes.items
 
-  -- ---- what is told
-  -- nothing before the root's scope has passed, and then the one-thread outcome
+  -- ---- the outcome
+  -- None before the root's scope has passed, and then the one-thread outcome
   abbrev pub IsTold : (passed : Bool) → Option Outcome → Type 0
   IsTold passed None = passed ≡ false
   IsTold passed (Some told) =
       (passed ≡ true) × (outcome_of told ≡ one_thread (program_of j) (lists_of j) (budget_of j))
 
 -- ---- tables
--- the task of a path is this, and the others are as they were
+-- the task with this path is `to`, and the others are unchanged
 abbrev pub PutsTask : (old new : rWorld) → Path → rTask → Type 0
 PutsTask old new path to =
     (q : Path) → get is_path new.tasks q ≡ (if is_path path q then Some to else get is_path old.tasks q)
 
--- the same of the scope of a name
+-- the scope with this name is `to`, and the others are unchanged
 abbrev pub PutsScope : (old new : rWorld) → rScopeId → rScope → Type 0
 PutsScope old new id to =
     (q : rScopeId)
     → get is_scope new.scopes q ≡ (if is_scope id q then Some to else get is_scope old.scopes q)
 
 -- ---- worlds
--- each live task has a path that a table can be asked for
+-- each live task has a path that can be looked up in a table
 abbrev pub ArePaths : List Live → Type 0
 ArePaths ts = (q : List ℕ) (t : Live) → task q ts ≡ Some t → (path : Path) × (path.turns.items ≡ q)
 
--- a world is shown by its tables, and was led to by events
+-- the tables represent a world, and events led to this world
 pub record Shows (r : rWorld) (w : World) : Type 0 where
   pub events : List Event
   pub led : LeadsTo (program_of r.job.job) r.job.w0 (lists_of r.job.job) (budget_of r.job.job) events w
@@ -134,16 +135,17 @@ pub record Shows (r : rWorld) (w : World) : Type 0 where
   pub hands : (worker : ℕ) → contains nat_eq r.hands worker ≡ not (hand_is_free worker w.live)
   pub told : IsTold r.job.job (has_passed root_scope w) r.told
 
--- the world after an event of a job, where it is legal
+-- the world after an event of a job, if it is legal
 abbrev pub next_world : WeightedJob → Event → World → Option World
 next_world j e w = event_of (program_of j.job) j.w0 (budget_of j.job) e w
 
--- whatever world was shown, the event was legal there, and the world after it is shown
+-- for each world that was represented, the event was legal there, and the world after it is
+-- represented
 abbrev pub Becomes : Event → (old new : rWorld) → Type 0
 Becomes e old new = (w : World) → Shows old w
     → (to : World) × (next_world old.job e w ≡ Some to) × Shows new to
 
--- the same tables, wherever they lie
+-- the same tables, possibly elsewhere in memory
 pub record WorldStays (old new : rWorld) : Type 0 where
   pub job : new.job ≡ old.job
   pub tasks : (path : Path)
@@ -153,19 +155,19 @@ pub record WorldStays (old new : rWorld) : Type 0 where
   pub hands : (worker : ℕ) → contains nat_eq new.hands worker ≡ contains nat_eq old.hands worker
   pub told : new.told ≡ old.told
 
--- an error leaves the same tables; where the event is called illegal it was, in whatever world was
--- shown
+-- an error leaves the tables unchanged; if it is `Illegal`, the event wasn't legal in any world
+-- that was represented
 abbrev pub Refuses : Event → (old new : rWorld) → EventError → Type 0
 Refuses e old new Illegal =
     WorldStays old new × ((w : World) → Shows old w → next_world old.job e w ≡ None)
 Refuses e old new NoMemory = WorldStays old new
 
--- what is printed of an error
+-- the printed text of an error
 abbrev pub event_error_text : EventError → List ℕ
 event_error_text Illegal = codes "I1"
 event_error_text NoMemory = codes "I2"
 
--- a right job, and a world that is shown
+-- a right job, and tables that represent a world
 pub record IsWorld (r : rWorld) : Type 0 where
   pub job : IsWeightedJob r.job
   pub world : World

@@ -1,4 +1,4 @@
--- Who stands in a scope, and weighs there.
+-- The tasks in a scope, and their weights there.
 use Rattle.std.specs.Prelude.{ℕ, ◌≡◌, ◌≤◌, List, drop, Some, Contains, if◌then◌else◌}
 use Rattle.own_run.specs.Results.{TaskResult}
 use Rattle.own_run.specs.Lists.{Each}
@@ -6,27 +6,27 @@ use Rattle.own_run.specs.OwnRun.{Start, Action}
 use Rattle.interleave.specs.World.{ScopeId, Stake, Live, World, task, is_parked}
 use Rattle.interleave.specs.Events.{Event, first_world, after}
 
--- what tasks do: by what a task starts with, and the results that it has gone on with
+-- the behavior of tasks: their actions, by the start and the receipts
 abbrev pub Does : Type 0
 Does = Start → List (List TaskResult) → List Action
 
--- and what they hand on at their ends
+-- the results of tasks at their ends
 abbrev pub HandsOn : Type 0
 HandsOn = Start → List (List TaskResult) → TaskResult
 
--- a list of events is legal from the start of such tasks, and leads to a world
+-- a list of events is legal from the start for such tasks, and leads to a world
 abbrev pub Leads : (w0 : ℕ) → Does → HandsOn → (root : Start) → List Event → World → Type 0
 Leads w0 does hands_on root es w = after w0 does hands_on es (first_world w0 root) ≡ Some w
 
--- the scopes where a task weighs; a parked one has given back its weight in the innermost
+-- the scopes in which a task has weight; a parked task has given back its weight in the innermost
 abbrev pub standing : Live → List Stake
 standing t = if is_parked t.place then drop 1 t.stakes else t.stakes
 
--- it weighs 1 at least in each
+-- it has at least weight 1 in each
 abbrev pub Weighs : Live → Type 0
 Weighs t = Each (λ (s : Stake). 1 ≤ s.weight) (standing t)
 
--- a live task stands in a scope
+-- a live task is in a scope
 pub record StandsIn (live : List Live) (id : ScopeId) : Type 0 where
   pub path : List ℕ
   pub its : Live

@@ -1,4 +1,4 @@
--- The worlds of a program's run on an input and under a budget, with the needs that are computed.
+-- The worlds of a program's run on an input and under a budget, with the computed needs.
 use Rattle.std.specs.Prelude.{ℕ, ℤ, ◌≡◌, ◌+◌, ◌≤◌, ◌*◌, ◌^◌, List, ◌∷◌, ◌++◌, length, Option, Some, None}
 use Rattle.types.specs.Code.{Program}
 use Rattle.types.specs.Outcome.{Budget, Outcome}
@@ -15,15 +15,16 @@ use Rattle.interleave.specs.Events.{Event, next_action}
 use Rattle.interleave.specs.Replay.{does, hands_on, event, Replayed, Legal, replay, world_outcome}
 
 module _ (p : Program) (input : List (List ℤ)) (b : Budget) where
-  -- what the task of a path starts with, in the run of the program
+  -- the start given to a path, in the run of the program
   abbrev pub given_to : List ℕ → Option Start
   given_to = given p (needs_of p) b.steps (root p input b)
 
-  -- it is that of the own run of a task, whose path is given its start
+  -- a result is that of the own run of a task, whose path is given its start
   abbrev pub ComesOfOwnRun : TaskResult → Type 0
   ComesOfOwnRun = IsOfOwnRun p (needs_of p) b.steps (root p input b)
 
-  -- a parked task stands at the end of a finish, and these results settle what it has made in that
+  -- a parked task is at the end of a finish, and these results settle what it has made in this
+  -- finish
   pub record Settles (t : Live) (results : List TaskResult) : Type 0 where
     pub before : State Own
     pub frames : List (Frame Own)
@@ -35,7 +36,7 @@ module _ (p : Program) (input : List (List ℤ)) (b : Budget) where
     pub settled : Settled
     pub settles : settle (result_of state) results ≡ Some settled
 
--- a task wants weight from a scope that has issued w0 for 2^31 times
+-- a task needs weight from a scope that has issued w0 for 2^31 times
 pub record IsSpentBy (next : Live → Option Action) (w0 : ℕ) (w : World) : Type 0 where
   pub path : List ℕ
   pub its : Live
@@ -50,7 +51,7 @@ pub record IsSpentBy (next : Live → Option Action) (w0 : ℕ) (w : World) : Ty
   pub found : scope inner.scope w.scopes ≡ Some book
   pub spent : 2 ^ 31 * w0 ≤ book.issued
 
--- the events before the n-th lead to a world, and that leads on to none
+-- the events before the n-th lead to a world, in which the n-th event isn't legal
 pub record IsFirstRefused (leads : List Event → World → Type 0) (next : Event → World → Option World)
     (es : List Event) (n : ℕ) : Type 0 where
   pub before : List Event
@@ -63,15 +64,15 @@ pub record IsFirstRefused (leads : List Event → World → Type 0) (next : Even
   pub illegal : next first to ≡ None
 
 module _ (p : Program) (w0 : ℕ) (b : Budget) where
-  -- the world after an event, where it is legal
+  -- the world after an event, if it is legal
   abbrev pub event_of : Event → World → Option World
   event_of = event p (needs_of p) b.steps w0
 
-  -- what a task does next
+  -- a task's next action
   abbrev pub next_of : Live → Option Action
   next_of = next_action w0 (does p (needs_of p) b.steps w0) (hands_on p (needs_of p) b.steps w0)
 
-  -- what is told of a world, once the root's scope has passed
+  -- the outcome of a world, once the root's scope has passed
   abbrev pub outcome_of : World → Option Outcome
   outcome_of = world_outcome p (needs_of p) b.steps w0
 
@@ -81,7 +82,7 @@ module _ (p : Program) (w0 : ℕ) (b : Budget) where
     pub to : World
     pub legal : event_of first w ≡ Some to
 
-  -- a task wants weight from a scope that has issued 2^31 times
+  -- a task needs weight from a scope that has issued 2^31 times
   abbrev pub IsSpent : World → Type 0
   IsSpent = IsSpentBy next_of w0
 
@@ -94,6 +95,6 @@ module _ (p : Program) (w0 : ℕ) (input : List (List ℤ)) (b : Budget) where
   abbrev pub LeadsTo : List Event → World → Type 0
   LeadsTo es w = replayed es ≡ Legal w
 
-  -- the events before the n-th are legal, and that isn't
+  -- the events before the n-th are legal, and the n-th isn't
   abbrev pub IsFirstIllegal : List Event → ℕ → Type 0
   IsFirstIllegal = IsFirstRefused LeadsTo (event_of p w0 b)

@@ -1,4 +1,4 @@
-//! The events by which a task in a hand takes a step, begins another or begins a finish.
+//! The events by which a task in a hand takes a step, spawns another task or starts a finish.
 
 ghost use Rattle.std.specs.Prelude.{◌≡◌, ◌≤◌, ◌<◌, ◌-◌, ◌/◌, ◌∷◌, [], List, None, Some, map};
 ghost use Rattle.std.specs.Prelude.{IfErr, IfOk, MatchOption, OnErr, OnOk};
@@ -37,7 +37,7 @@ use types::path::Path;
 use types::scope_id::ScopeId;
 
 impl<'p> World<'p> {
-    /// A task does one step, of a statement other than async and finish.
+    /// Takes one step of a task, of a statement other than async and finish.
     pub fn step(&mut self, path: &Path) -> Result<(), EventError>
         requires { IsWorld self.old }
         ensures job { self.new.job ≡ self.old.job }
@@ -51,7 +51,8 @@ impl<'p> World<'p> {
         }
     }
 
-    /// A task that is to begin another, and weighs 1, is given more by its innermost scope.
+    /// Gives more weight to a task that is about to spawn another, if it has weight 1 in its
+    /// innermost scope.
     pub fn replenish(&mut self, path: &Path) -> Result<(), EventError>
         requires { IsWorld self.old }
         ensures job { self.new.job ≡ self.old.job }
@@ -67,7 +68,7 @@ impl<'p> World<'p> {
         Ok(())
     }
 
-    /// A task begins another, and shares its weight with it.
+    /// Spawns a task, which gets part of its parent's weight.
     pub fn spawn(&mut self, path: &Path) -> Result<(), EventError>
         requires { IsWorld self.old }
         ensures job { self.new.job ≡ self.old.job }
@@ -80,12 +81,12 @@ impl<'p> World<'p> {
             return Err(EventError::Illegal);
         };
         let (child, begun) = task.spawn(self.job.job.alloc, worker)?;
-        // There is room for it.
+        // There is room for it, so this can't fail.
         self.tasks.insert(child, begun)?;
         Ok(())
     }
 
-    /// A task begins a finish, whose scope issues its first weight to it.
+    /// Starts a finish, whose scope issues its first weight to the task.
     pub fn open(&mut self, path: &Path) -> Result<(), EventError>
         requires { IsWorld self.old }
         ensures job { self.new.job ≡ self.old.job }
@@ -99,13 +100,14 @@ impl<'p> World<'p> {
             return Err(EventError::Illegal);
         };
         let scope = task.open(path, job)?;
-        // There is room for it.
+        // There is room for it, so this can't fail.
         self.scopes
             .insert(scope, Scope::new(job.job.alloc, job.w0))?;
         Ok(())
     }
 
-    /// The worker in whose hand the task of a path is, once its next action is known.
+    /// Returns the worker in whose hand a task is, and makes sure that the task's next action is
+    /// known.
     pub(crate) fn look_at(&mut self, path: &Path) -> Result<WorkerId, EventError>
         requires { IsWorld self.old }
         ensures others { self.new ≡ record self.old { tasks = self.new.tasks } }
@@ -121,8 +123,8 @@ impl<'p> World<'p> {
         }
     }
 
-    /// A task's next action becomes known. It leaves the table while its run turns, and no copy of it
-    /// does: after an error it is gone.
+    /// Makes sure that a task's next action is known. The task leaves the table while its run
+    /// turns, without a copy. After an error the task is lost.
     pub(crate) fn look_ahead(&mut self, path: &Path) -> Result<(), EventError>
         requires { IsWorld self.old }
         ensures stays { OnOk result (WorldStays self.old self.new) }
@@ -137,8 +139,8 @@ impl<'p> World<'p> {
         Ok(())
     }
 
-    /// A task does one step in a world that is given up by an error: wherever it can, its run turns
-    /// where it is.
+    /// Takes one step of a task in a world that is discarded after an error. If possible, the run
+    /// turns in place.
     pub(crate) fn step_ahead(&mut self, path: &Path) -> Result<(), EventError>
         requires { IsWorld self.old }
         ensures job { OnOk result (self.new.job ≡ self.old.job) }
@@ -153,8 +155,8 @@ impl<'p> World<'p> {
         self.step(path)
     }
 
-    /// Whether a task's run took a step where it is, as one in a hand does whose next action isn't
-    /// looked at yet. After an error the run is worth nothing.
+    /// Takes a step in place and returns true if the task is in a hand and its next action isn't
+    /// known yet. Otherwise it returns false. After an error the run can't be used.
     fn take_step(&mut self, path: &Path) -> Result<bool, EventError>
         requires { IsWorld self.old }
         ensures job { self.new.job ≡ self.old.job }
@@ -169,7 +171,8 @@ impl<'p> World<'p> {
         }
     }
 
-    /// Whether a task is to begin another and weighs 1, and its innermost scope may issue.
+    /// Returns whether a task is about to spawn another and has weight 1, and its innermost scope
+    /// may issue more.
     fn is_short(&self, path: &Path) -> bool
         requires { self.now.job.w0 ≤ 4294967296 }
         ensures is { OnTrue result (IsShort self.now path.now) }
@@ -187,7 +190,7 @@ impl<'p> World<'p> {
         }
     }
 
-    /// The innermost scope of such a task issues more to it.
+    /// Issues more weight to such a task from its innermost scope.
     fn issue_to(&mut self, path: &Path)
         requires few { self.old.job.w0 ≤ 4294967296 }
         requires short { IsShort self.old path.now }
@@ -212,7 +215,7 @@ impl<'p> World<'p> {
 }
 
 impl<'p> Task<'p> {
-    /// The worker in whose hand it is, once its next action is known.
+    /// Returns the worker in whose hand the task is, and makes sure that its next action is known.
     fn in_hand(&mut self, job: Job<'p>) -> Result<WorkerId, EventError>
         requires job { IsJob job }
         requires task { (t : Live) × IsTaskOf job self.old t }
@@ -231,7 +234,7 @@ impl<'p> Task<'p> {
         Ok(worker)
     }
 
-    /// The same with its next action.
+    /// Returns the same task with its next action known.
     fn known(self, job: Job<'p>) -> Result<Task<'p>, EventError>
         requires job { IsJob job }
         requires task { (t : Live) × IsTaskOf job self t }
@@ -254,7 +257,8 @@ impl<'p> Task<'p> {
         })
     }
 
-    /// It has done what it was to do. What the task starts with that it began by that.
+    /// Moves the task past its next action. If this action spawns a task, it returns the start of
+    /// that task.
     fn goes_on(&mut self) -> Option<Start<'p>>
         ensures now { self.new ≡ record self.old { doing = behind self.old.doing } }
         ensures child { result ≡ begun_by self.old.doing }
@@ -262,7 +266,7 @@ impl<'p> Task<'p> {
         core::mem::replace_with(&mut self.doing, (), Doing::goes_on)
     }
 
-    /// It does a step.
+    /// Takes the step that is known to be next.
     fn step(&mut self) -> Result<(), EventError>
         ensures stepped { OnOk result (DidStep self.old self.new) }
         ensures same { OnErr result (self.new ≡ self.old) }
@@ -276,7 +280,7 @@ impl<'p> Task<'p> {
         Ok(())
     }
 
-    /// Whether its run took a step where it is. After an error the run is worth nothing.
+    /// Takes a step in place, and returns whether it did. After an error the run can't be used.
     fn take_step(&mut self, job: Job<'p>) -> Result<bool, EventError>
         requires job { IsJob job }
         requires task { (t : Live) × IsTaskOf job self.old t }
@@ -293,7 +297,7 @@ impl<'p> Task<'p> {
         Ok(true)
     }
 
-    /// The innermost scope, where it weighs 1 in that and is to begin a task.
+    /// Returns the innermost scope if the task has weight 1 there and is about to spawn a task.
     fn wants(&self) -> Option<&ScopeId>
         ensures { MatchOption result ((id : AnyScopeId) → IsWanting self.now id → ⊥)
             (λ id. IsWanting self.now id.now) }
@@ -307,7 +311,7 @@ impl<'p> Task<'p> {
         }
     }
 
-    /// It begins a task, to which half of its weight goes, and which is in the same worker's queue.
+    /// Spawns a task, which gets half of the weight and goes to the queue of the same worker.
     fn spawn(&mut self, alloc: Global, worker: WorkerId) -> Result<(Path, Task<'p>), EventError>
         ensures spawned { IfOk result (λ r. DidSpawn self.old self.new r.1 r.0 worker) }
         ensures same { OnErr result (IsSame self.old self.new) }
@@ -328,7 +332,7 @@ impl<'p> Task<'p> {
         Ok((path, child))
     }
 
-    /// The path of the task that it is to begin, and the half of its weight that goes there.
+    /// Returns the path of the task to spawn, and its half of the weight.
     fn share(&self, alloc: Global) -> Result<(Path, VecDeque<Stake>), EventError>
         ensures share { IfOk result (λ r. IsShare self.now r.0 r.1.items) }
         ensures light { IfErr result (λ e. e ≡ Illegal
@@ -348,7 +352,7 @@ impl<'p> Task<'p> {
         Ok((path, stakes))
     }
 
-    /// Half of its weight in its innermost scope, rounded down, goes.
+    /// Gives away half of the weight in the innermost scope, rounded down.
     fn halve(&mut self)
         ensures others { self.new ≡ record self.old { stakes = self.new.stakes } }
         ensures halved { (inner : AnyStake) (outer : List AnyStake)
@@ -360,7 +364,7 @@ impl<'p> Task<'p> {
         }
     }
 
-    /// It begins a finish, in whose scope it weighs w0; the name of that.
+    /// Starts a finish, in whose scope the task has the weight w0. Returns the name of the scope.
     fn open(&mut self, path: &Path, job: WeightedJob<'p>) -> Result<ScopeId, EventError>
         requires { (r : AnyRun) → self.old.doing ≡ Doing.Opens r
             → self.old.opened < job.job.budget.steps }
@@ -385,7 +389,7 @@ impl<'p> Task<'p> {
     }
 }
 
-/// One stake alone.
+/// Returns a single stake.
 fn only(alloc: Global, scope: &ScopeId, weight: u64) -> Result<VecDeque<Stake>, AllocError>
     ensures { IfOk result (λ d. map stake d.items
         ≡ record { scope = scope_id scope.now; weight = weight } ∷ []) }

@@ -1,4 +1,4 @@
-//! What a live task is about to do.
+//! The next actions of live tasks.
 
 ghost use Rattle.std.specs.Prelude.{◌≡◌, ◌⊎◌, IfErr, IfOk, MatchOption, OnOk};
 ghost use Rattle.gather.specs.Jobs.{IsJob};
@@ -13,18 +13,18 @@ use own_run::run::Run;
 use own_run::start::Start;
 use own_run::turn::{Done, Paused, Step, Turn};
 
-/// How far a task's own run has come. Where its next action is known the run is already behind it.
+/// The progress of a task's own run. If the next action is known, the run is already past it.
 #[derive(Drop)]
 pub enum Doing<'p> {
-    /// It has yet to begin.
+    /// It hasn't started yet.
     Starts(Start<'p>),
-    /// Its next action isn't looked at yet.
+    /// Its next action isn't known yet.
     Runs(Run<'p>),
-    /// It does a step, and then runs so.
+    /// It takes a step, and then continues with this run.
     Steps(Run<'p>),
-    /// It begins a task, which starts so.
+    /// It spawns a task with this start.
     Spawns(Run<'p>, Start<'p>),
-    /// It begins a finish.
+    /// It starts a finish.
     Opens(Run<'p>),
     /// It is at the end of a finish, with what it has made since that began.
     AtFinish(Paused<'p>, TaskResult),
@@ -33,8 +33,8 @@ pub enum Doing<'p> {
 }
 
 impl<'p> Doing<'p> {
-    /// The same with its next action, where that isn't known yet. It is a copy of the run that turns,
-    /// so that want of memory takes nothing away.
+    /// Returns a version whose next action is known, or None if it is known already. A copy of the
+    /// run turns, so an out-of-memory error loses nothing.
     pub fn look(&self, job: Job<'p>) -> Result<Option<Doing<'p>>, EventError>
         requires job { IsJob job }
         requires task { (c : Course) × IsDoing job c self.now }
@@ -62,8 +62,8 @@ impl<'p> Doing<'p> {
         }
     }
 
-    /// The same with its next action, where that isn't known yet. It is the run itself that turns, so want
-    /// of memory takes it away.
+    /// Returns a version whose next action is known. The run itself turns, so an out-of-memory
+    /// error loses it.
     pub fn known(self, job: Job<'p>) -> Result<Doing<'p>, EventError>
         requires job { IsJob job }
         requires task { (c : Course) × IsDoing job c self }
@@ -85,7 +85,8 @@ impl<'p> Doing<'p> {
         }
     }
 
-    /// The run behind what it was to do, and what the task starts with that it begins by that.
+    /// Returns the run after its next action. If this action spawns a task, it also returns the
+    /// start of that task.
     pub fn goes_on(self, _behind: ()) -> (Doing<'p>, Option<Start<'p>>)
         ensures now { result.0 ≡ behind self.entry }
         ensures child { result.1 ≡ begun_by self.entry }
@@ -102,7 +103,7 @@ impl<'p> Doing<'p> {
     }
 }
 
-/// A run up to the first action of its own. One that takes a step has fewer steps left behind it.
+/// Runs on up to the next action. A run that takes a step has fewer steps left afterwards.
 fn ahead<'p>(job: Job<'p>, run: Run<'p>) -> Result<Doing<'p>, EventError>
     requires job { IsJob job }
     requires task { (c : Course) × IsRunOf job c run }
@@ -131,8 +132,8 @@ fn ahead<'p>(job: Job<'p>, run: Run<'p>) -> Result<Doing<'p>, EventError>
     }
 }
 
-/// A run goes on where it is, up to the first action of its own, which is to be a step. After an
-/// error it is worth nothing.
+/// Runs on in place up to the next action, which has to be a step. After an error the run can't be
+/// used.
 pub(crate) fn take_step<'p>(job: Job<'p>, run: &mut Run<'p>) -> Result<(), EventError>
     requires job { IsJob job }
     requires task { (c : Course) × IsRunOf job c run.old }

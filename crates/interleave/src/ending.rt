@@ -32,7 +32,8 @@ use std::alloc::{AllocError, Global};
 use types::path::Path;
 
 impl<'p> World<'p> {
-    /// A task at the end of its innermost finish gives back its weight there, and waits.
+    /// Parks a task at the end of its innermost finish. The task gives back its weight there, and
+    /// waits.
     pub fn park(&mut self, path: &Path) -> Result<(), EventError>
         requires { IsWorld self.old }
         ensures parked { OnOk result (Becomes (IsPark path.now.turns.items) self.old self.new) }
@@ -50,7 +51,7 @@ impl<'p> World<'p> {
         Ok(())
     }
 
-    /// A task at its end gives back its weight and its result.
+    /// Ends a task, which gives back its weight and its result.
     pub fn end(&mut self, path: &Path) -> Result<(), EventError>
         requires { IsWorld self.old }
         ensures ended { OnOk result (Becomes (IsEnd path.now.turns.items) self.old self.new) }
@@ -68,7 +69,8 @@ impl<'p> World<'p> {
         Ok(())
     }
 
-    /// A worker takes a task that was parked at a passed scope, with what came of the finish.
+    /// Takes a task that was parked at a passed scope. The task continues with the settled result
+    /// of the finish.
     pub fn resume(&mut self, worker: WorkerId, path: &Path) -> Result<(), EventError>
         requires { IsWorld self.old }
         ensures resumed { OnOk result
@@ -85,14 +87,15 @@ impl<'p> World<'p> {
         }
         self.hands.reserve(1)?;
         let run = self.settled_run(path)?;
-        // Nothing below finds no memory.
+        // Nothing below can run out of memory.
         self.drop_results(path);
         self.go_behind(worker, path, run);
         self.hands.insert(worker)?;
         Ok(())
     }
 
-    /// The same in a world that is given up by an error: what came of the finish is moved, and no copy is.
+    /// Resumes a task in a world that is discarded after an error. The results are moved, not
+    /// copied.
     pub(crate) fn go_on_behind(&mut self, worker: WorkerId, path: &Path) -> Result<(), EventError>
         requires { IsWorld self.old }
         ensures resumed { OnOk result
@@ -112,7 +115,8 @@ impl<'p> World<'p> {
         Ok(())
     }
 
-    /// A task goes on behind its finish, with what its innermost scope keeps. After an error both are gone.
+    /// Continues a task after its finish, with the results of its innermost scope. After an error
+    /// both are lost.
     fn leave(&mut self, worker: WorkerId, path: &Path) -> Result<(), EventError>
         requires stands { StandsAt self.old path.now }
         requires may { MayGoOn self.old path.now }
@@ -154,7 +158,7 @@ impl<'p> World<'p> {
         Ok(())
     }
 
-    /// Whether a task is at the end of a finish.
+    /// Returns whether a task is at the end of a finish.
     fn is_waiting(&self, path: &Path) -> bool
         ensures { (k : AnyTask) → get is_path self.now.tasks path.now ≡ Some k
             → result ≡ is_waiting path.now.turns.items k.doing }
@@ -169,7 +173,7 @@ impl<'p> World<'p> {
         }
     }
 
-    /// Whether a task other than the root is at its end.
+    /// Returns whether a task other than the root is at its end.
     fn has_ended(&self, path: &Path) -> bool
         ensures { (k : AnyTask) → get is_path self.now.tasks path.now ≡ Some k
             → result ≡ has_ended path.now.turns.items k.doing }
@@ -183,7 +187,7 @@ impl<'p> World<'p> {
         }
     }
 
-    /// A task's weight in its innermost scope goes back there.
+    /// Gives back a task's weight in its innermost scope.
     fn return_weight(&mut self, path: &Path)
         requires stands { StandsAt self.old path.now }
         requires late { NoneIsLate self.old }
@@ -203,7 +207,7 @@ impl<'p> World<'p> {
         scope.give_back(stake.weight);
     }
 
-    /// A task is parked, and weighs nothing in its innermost scope.
+    /// Parks a task and sets its weight in its innermost scope to 0.
     fn set_down(&mut self, path: &Path)
         ensures others { self.new ≡ record self.old { tasks = self.new.tasks } }
         ensures parked { (k : AnyTask) → get is_path self.old.tasks path.now ≡ Some k
@@ -214,7 +218,7 @@ impl<'p> World<'p> {
         }
     }
 
-    /// What a task has made at its end, a second time.
+    /// Returns a copy of the result of a task at its end.
     fn made(&self, path: &Path) -> Result<TaskResult, AllocError>
         requires { HasMade self.now path.now }
         ensures { IfOk result (λ made. (k : AnyTask) (m : Made)
@@ -230,7 +234,7 @@ impl<'p> World<'p> {
         made.clone(self.job.job.alloc)
     }
 
-    /// A task's weight in its innermost scope goes back there, with its result.
+    /// Gives back a task's weight in its innermost scope, together with its result.
     fn hand_on(&mut self, path: &Path, made: TaskResult) -> Result<(), EventError>
         requires stands { StandsAt self.old path.now }
         requires late { NoneIsLate self.old }
@@ -253,7 +257,7 @@ impl<'p> World<'p> {
         scope.end(stake.weight, made)
     }
 
-    /// Whether a task is parked at a passed scope, and stands in another around it.
+    /// Returns whether a task is parked at a passed scope, and is in another scope around it.
     fn may_leave(&self, path: &Path) -> bool
         ensures may { OnTrue result (MayLeave self.now path.now) }
         ensures not { OnFalse result ((w : AnyWorld) (worker : _) → Shows self.now w
@@ -265,7 +269,7 @@ impl<'p> World<'p> {
         if task.place != Whereabouts::Parked {
             return false;
         }
-        // The root's scope is left by nobody.
+        // No task leaves the root's scope.
         let Some(_around) = task.stakes.get(1) else {
             return false;
         };
@@ -278,8 +282,8 @@ impl<'p> World<'p> {
         }
     }
 
-    /// The run that goes on behind a task's finish, with what its innermost scope keeps: copies of
-    /// both.
+    /// Returns the run that continues after a task's finish. It settles copies of the results that
+    /// the innermost scope keeps.
     fn settled_run(&self, path: &Path) -> Result<Run<'p>, EventError>
         requires stands { StandsAt self.now path.now }
         requires may { MayGoOn self.now path.now }
@@ -302,7 +306,7 @@ impl<'p> World<'p> {
         run_behind(self.job.job.alloc, paused, made, results)
     }
 
-    /// A task's innermost scope keeps no results any more: its owner has them.
+    /// Removes the results from a task's innermost scope, because the owner has them now.
     fn drop_results(&mut self, path: &Path)
         requires stands { StandsAt self.old path.now }
         ensures others { self.new ≡ record self.old { scopes = self.new.scopes } }
@@ -322,7 +326,7 @@ impl<'p> World<'p> {
         scope.results = None;
     }
 
-    /// A task runs so in a hand, in the scope around its innermost one.
+    /// Continues a task with this run in a hand, in the scope around its innermost one.
     fn go_behind(&mut self, worker: WorkerId, path: &Path, run: Run<'p>)
         ensures others { self.new ≡ record self.old { tasks = self.new.tasks } }
         ensures behind { (k : AnyTask) → get is_path self.old.tasks path.now ≡ Some k
@@ -335,7 +339,7 @@ impl<'p> World<'p> {
 }
 
 impl<'p> Task<'p> {
-    /// It is parked, and weighs nothing in its innermost scope.
+    /// Parks the task and sets its weight in its innermost scope to 0.
     fn set_down(&mut self)
         ensures { IsSetDown self.old self.new }
     {
@@ -345,7 +349,7 @@ impl<'p> Task<'p> {
         }
     }
 
-    /// It runs so in a hand, in the scope around its innermost one.
+    /// Continues with this run in a hand, in the scope around the innermost one.
     fn go_behind(&mut self, worker: WorkerId, run: Run<'p>)
         ensures { IsOutside worker run.entry self.old self.new }
     {
@@ -355,8 +359,8 @@ impl<'p> Task<'p> {
     }
 }
 
-/// The run that goes on behind a finish, with what its results settle to. It is copies that settle,
-/// so that want of memory takes nothing away.
+/// Returns the run that continues after a finish, with its settled results. It settles copies, so
+/// an out-of-memory error loses nothing.
 fn run_behind<'p>(
     alloc: Global,
     paused: &Paused<'p>,
@@ -373,7 +377,7 @@ fn run_behind<'p>(
     settled_on(alloc, paused.clone()?, made, results)
 }
 
-/// The same of what is given up for it.
+/// Returns the run that continues after a finish. It settles the values themselves, without copies.
 fn settled_on<'p>(
     alloc: Global,
     paused: Paused<'p>,
@@ -392,7 +396,7 @@ fn settled_on<'p>(
     Ok(run)
 }
 
-/// Results a second time.
+/// Copies results.
 pub(crate) fn copies(alloc: Global, results: &[TaskResult]) -> Result<Vec<TaskResult>, AllocError>
     ensures { IfOk result (λ v. map task_result v.items ≡ map task_result results.now) }
 {

@@ -1,4 +1,4 @@
-//! Why an event or a list of events leads to no world.
+//! The errors of events and of lists of events.
 
 ghost use Rattle.std.specs.Prelude.{◌≡◌, Some};
 ghost use Rattle.interleave.specs.Shown.{event_error_text};
@@ -8,12 +8,13 @@ use std::alloc::{AllocError, AllocFailed};
 use std::error::Error;
 use std::fmt;
 
-/// Why an event leads to no world. The world's tables stay as they were.
+/// The reason why an event fails. The tables of the world stay unchanged.
 #[derive(Clone, Copy, PartialEq, Eq, Debug)]
 pub enum EventError {
-    /// `I1`: the event isn't legal in that world, as `step 0` in the first, where the root is in a queue.
+    /// `I1`: the event isn't legal in this world. An example is `step 0` at the start, because the
+    /// root is in a queue.
     Illegal,
-    /// `I2`, want of memory: as may be of `take 0 0` there.
+    /// `I2`: out of memory. This can happen at `take 0 0`, for example.
     NoMemory,
 }
 
@@ -46,11 +47,12 @@ impl<T: Drop> From<AllocFailed<T>> for EventError {
     }
 }
 
-/// Why a list of events leads to no world.
+/// The reason why a list of events fails.
 #[derive(Clone, Copy, PartialEq, Eq, Debug)]
 pub enum ReplayError {
-    /// The event of this number, from 0, is the first that isn't legal: 1 of `take 0 0`, `take 0 0`.
+    /// The event with this number, from 0, is the first that isn't legal. For `take 0 0`, `take 0
+    /// 0` it is 1.
     IllegalAt(usize),
-    /// Want of memory, as may be of `take 0 0`.
+    /// Out of memory. This can happen at `take 0 0`, for example.
     NoMemory,
 }

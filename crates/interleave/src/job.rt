@@ -1,4 +1,4 @@
-//! What a world goes by.
+//! The parameters of a world.
 
 ghost use Rattle.std.specs.Prelude.{◌≡◌, ◌<◌, ◌⊎◌, MatchOption};
 ghost use Rattle.types.specs.Contents.{FitsArrays};
@@ -13,10 +13,10 @@ use types::budget::Budget;
 use types::input::Input;
 use types::laws::typed_programs_are_sound;
 
-/// The most weight that a scope issues at a time: 2^32.
+/// The maximum weight that a scope issues at once: 2^32.
 pub const MOST_WEIGHT: u64 = 4_294_967_296;
 
-/// A job, and the weight that a scope issues at a time.
+/// A job, and the weight that a scope issues at once.
 #[derive(Clone, Copy)]
 pub struct WeightedJob<'p> {
     pub job: Job<'p>,
@@ -24,8 +24,8 @@ pub struct WeightedJob<'p> {
 }
 
 impl<'p> WeightedJob<'p> {
-    /// A job with an input that has a list for each array, of its length. None where the weight isn't
-    /// from 1 to 2^32.
+    /// Creates a job. The input needs a list for each array, with the length of the array. Returns
+    /// None if the weight isn't from 1 to 2^32.
     pub fn new(
         alloc: Global,
         accepted: &'p Accepted,

@@ -1,4 +1,4 @@
-//! What is told once the root's scope has passed.
+//! The outcome of a world, once the root's scope has passed.
 
 ghost use Rattle.std.specs.Prelude.{◌≡◌, ◌&&◌, IfErr, IfOk, IfSome, OnOk, Some, nat_eq, not};
 ghost use Rattle.std.specs.Prelude.{option_map, true};
@@ -24,7 +24,7 @@ use types::path::Path;
 use types::scope_id::ScopeId;
 
 impl<'p> World<'p> {
-    /// What is told, once the root's scope has passed.
+    /// Returns the outcome, once the root's scope has passed.
     pub fn outcome(&self) -> Option<&Outcome>
         requires { IsWorld self.now }
         ensures told { (w : AnyWorld) → Shows self.now w
@@ -39,7 +39,7 @@ impl<'p> World<'p> {
         }
     }
 
-    /// The root's scope passes, with what is told then.
+    /// Passes the root's scope, and stores the outcome.
     pub(crate) fn pass_root(&mut self, scope: &ScopeId) -> Result<(), EventError>
         requires world { IsWorld self.old }
         requires root { scope_id scope.now ≡ the_root_scope }
@@ -55,7 +55,7 @@ impl<'p> World<'p> {
         Ok(())
     }
 
-    /// What is told where the root's scope is about to pass. It is copies that settle.
+    /// Returns the outcome of a world whose root scope is about to pass. It settles copies.
     fn settled(&self, scope: &ScopeId) -> Result<Outcome, EventError>
         requires world { IsWorld self.now }
         requires root { scope_id scope.now ≡ the_root_scope }

@@ -1,4 +1,4 @@
-//! Events of any kind, and lists of them from the start.
+//! Events of any kind, and lists of events from the start.
 
 ghost use Rattle.std.specs.Prelude.{◌≡◌, IfErr, IfOk, OnOk};
 ghost use Rattle.interleave.specs.Jobs.{IsWeightedJob};
@@ -14,7 +14,7 @@ use events::event::Event;
 use types::path::Path;
 
 impl<'p> World<'p> {
-    /// What happens next. After an error the world is as it was.
+    /// Applies an event. After an error the world is unchanged.
     pub fn event(&mut self, event: &Event) -> Result<(), EventError>
         requires { IsWorld self.old }
         ensures legal { OnOk result (Becomes (event_of event.now) self.old self.new) }
@@ -37,7 +37,8 @@ impl<'p> World<'p> {
 }
 
 impl<'p> World<'p> {
-    /// The same in a world that is given up by an error: no task is copied before it acts.
+    /// Applies an event in a world that is discarded after an error. No task is copied before it
+    /// acts.
     fn go_by(&mut self, event: &Event) -> Result<(), EventError>
         requires { IsWorld self.old }
         ensures legal { OnOk result (Becomes (event_of event.now) self.old self.new) }
@@ -59,7 +60,7 @@ impl<'p> World<'p> {
     }
 }
 
-/// The task whose next action the event is to be.
+/// Returns the task whose next action the event is.
 fn actor(event: &Event) -> Option<&Path> {
     match event {
         Event::Step { path } => Some(path),
@@ -73,7 +74,7 @@ fn actor(event: &Event) -> Option<&Path> {
     }
 }
 
-/// The world that events lead to from the start, one after the other.
+/// Returns the world that the events lead to from the start, one after the other.
 pub fn replay<'p>(job: WeightedJob<'p>, events: &[Event]) -> Result<World<'p>, ReplayError>
     requires { IsWeightedJob job }
     ensures legal { IfOk result (IsReplayed job.entry events.now) }

@@ -1,4 +1,4 @@
-//! A finish's scope: what it has issued, what came back, and what was handed on in it.
+//! The scope of a finish: the weight issued, the weight that came back, and the results.
 
 ghost use Rattle.std.specs.Prelude.{◌≡◌, ◌+◌, ◌*◌, ◌<◌, ◌≤◌, ◌&&◌, [], ◌∷◌, not, nat_eq};
 ghost use Rattle.std.specs.Prelude.{◌↔◌, IfErr, IsTrue, OnOk};
@@ -12,21 +12,22 @@ use crate::error::EventError;
 use own_run::result::TaskResult;
 use std::alloc::Global;
 
-/// How often a scope issues weight, at most.
+/// The maximum number of times that a scope issues weight.
 pub const MOST_ISSUES: u64 = 2_147_483_648;
 
-/// What a scope has issued and what came back, and the results of those that ended in it.
+/// The weight that a scope has issued, the weight that came back, and the results of tasks that
+/// ended in it.
 #[derive(Drop)]
 pub struct Scope {
     pub issued: u64,
     pub returned: u64,
     pub passed: bool,
-    /// None once they were handed to the owner.
+    /// None once the results were handed to the owner.
     pub results: Option<Vec<TaskResult>>,
 }
 
 impl Scope {
-    /// A scope whose owner has all its weight.
+    /// Creates a scope whose owner has all its weight.
     pub fn new(alloc: Global, w0: u64) -> Scope
         ensures { (id : _) → IsBookOf result (new_scope id w0) }
     {
@@ -38,7 +39,7 @@ impl Scope {
         }
     }
 
-    /// Whether it may issue w0 once more.
+    /// Returns whether the scope may issue w0 once more.
     pub fn may_issue(&self, w0: u64) -> bool
         requires { w0 ≤ 4294967296 }
         ensures same { (book : Book) → IsBookOf self.now book → result ≡ may_issue w0 book }
@@ -56,7 +57,7 @@ impl Scope {
         self.issued += w0;
     }
 
-    /// Weight comes back.
+    /// Takes back weight.
     pub fn give_back(&mut self, weight: u64)
         requires { self.old.returned + weight ≤ self.old.issued }
         ensures { (book : Book) → IsBookOf self.old book
@@ -65,7 +66,7 @@ impl Scope {
         self.returned += weight;
     }
 
-    /// Weight comes back, and a result with it.
+    /// Takes back weight, together with a result.
     pub fn end(&mut self, weight: u64, made: TaskResult) -> Result<(), EventError>
         requires { self.old.returned + weight ≤ self.old.issued }
         ensures ended { OnOk result ((book : Book) → IsBookOf self.old book
@@ -81,7 +82,7 @@ impl Scope {
         Ok(())
     }
 
-    /// Whether all its weight came back, and it hasn't passed yet.
+    /// Returns whether all weight has come back and the scope hasn't passed yet.
     pub fn is_complete(&self) -> bool
         ensures { result ≡ not self.now.passed && nat_eq self.now.issued self.now.returned }
     {

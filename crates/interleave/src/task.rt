@@ -1,4 +1,4 @@
-//! Live tasks: where they are, what they weigh where, and how far they have come.
+//! Live tasks: their location, their weights, and their progress.
 
 ghost use Rattle.std.specs.Prelude.{◌≡◌};
 ghost use Rattle.interleave.specs.Shown.{whereabouts};
@@ -9,19 +9,19 @@ use events::worker_id::WorkerId;
 use std::collections::VecDeque;
 use types::scope_id::ScopeId;
 
-/// Where a task is.
+/// The location of a task.
 #[derive(Clone, Copy, PartialEq, Eq, Debug)]
 pub enum Whereabouts {
     /// In a worker's queue.
     Queue(WorkerId),
     /// In a worker's hand.
     Hand(WorkerId),
-    /// At the end of a finish of its own.
+    /// At the end of one of its own finishes.
     Parked,
 }
 
 impl Whereabouts {
-    /// Whether it is in this worker's queue.
+    /// Returns whether it is in this worker's queue.
     pub fn is_in_queue(self, worker: WorkerId) -> bool
         ensures { result ≡ in_queue (whereabouts self) worker }
     {
@@ -31,7 +31,7 @@ impl Whereabouts {
         }
     }
 
-    /// The worker whose queue it is in.
+    /// Returns the worker whose queue it is in.
     pub fn queue(self) -> Option<WorkerId> {
         match self {
             Whereabouts::Queue(worker) => Some(worker),
@@ -39,7 +39,7 @@ impl Whereabouts {
         }
     }
 
-    /// The worker whose hand it is in.
+    /// Returns the worker whose hand it is in.
     pub fn hand(self) -> Option<WorkerId>
         ensures { result ≡ hand_of (whereabouts self) }
     {
@@ -50,18 +50,18 @@ impl Whereabouts {
     }
 }
 
-/// A scope that a task stands in, and its weight there.
+/// A scope that a task is in, and its weight there.
 #[derive(Drop)]
 pub struct Stake {
     pub scope: ScopeId,
     pub weight: u64,
 }
 
-/// A task that has begun and has not ended.
+/// A task that has started and hasn't ended.
 #[derive(Drop)]
 pub struct Task<'p> {
     pub doing: Doing<'p>,
-    /// How many finishes it has begun.
+    /// The number of finishes that it has started.
     pub opened: u32,
     /// The innermost scope first.
     pub stakes: VecDeque<Stake>,

@@ -1,4 +1,4 @@
-//! Walks at random: one legal event behind the other.
+//! Random walks: one legal event after the other.
 
 ghost use Rattle.std.specs.Prelude.{◌≡◌, ◌<◌, ◌∷◌, [], length, false, map, IfErr, IfOk, OnOk};
 ghost use Rattle.interleave.specs.Candidates.{in_hand as hand_events, when_parked as parked_events};
@@ -30,7 +30,7 @@ pub struct Walk<'p> {
     pub world: World<'p>,
 }
 
-/// What is left to chance, of so many workers.
+/// The random choices of a walk with a given number of workers.
 #[derive(Drop)]
 struct Chance {
     generator: SmallRng,
@@ -38,7 +38,7 @@ struct Chance {
 }
 
 impl Chance {
-    /// A number below this one, or 0.
+    /// Returns a number below this one, or 0.
     fn below(&mut self, count: usize) -> usize {
         if count == 0 {
             return 0;
@@ -46,23 +46,23 @@ impl Chance {
         self.generator.random_range(0..count)
     }
 
-    /// A worker.
+    /// Returns a worker.
     fn worker(&mut self) -> WorkerId {
         let workers = self.workers.clamp(1, MOST_WORKERS);
         let number = self.generator.random_range(0..workers);
         WorkerId::new(number).unwrap_or(WorkerId::first())
     }
 
-    /// One of two sides of a coin.
+    /// Returns the result of a coin toss.
     fn heads(&mut self) -> bool {
         self.generator.random()
     }
 }
 
-/// A walk of so many workers until the root's scope has passed, or of so many events; no worker
-/// counts as one, and more than 64 as 64. A generator picks live tasks and workers from a seed on,
-/// and what can happen to these happens. It ends earlier only where a task wants weight from a
-/// scope that has issued 2^31 times.
+/// Walks at random, with `workers` workers, until the root's scope has passed or there are `most`
+/// events. No worker counts as one worker, and more than 64 count as 64. A generator picks live
+/// tasks and workers, starting from a seed, and the walk applies an event that is legal for them.
+/// It ends early only if a task needs weight from a scope that has issued 2^31 times.
 pub fn random_walk<'p>(
     job: WeightedJob<'p>,
     workers: u32,
@@ -93,7 +93,7 @@ pub fn random_walk<'p>(
 }
 
 impl<'p> Walk<'p> {
-    /// Before the first event.
+    /// Creates a walk without events.
     fn start(job: WeightedJob<'p>) -> Result<Walk<'p>, EventError>
         requires { IsWeightedJob job }
         ensures walk { IfOk result IsWalk }
@@ -106,7 +106,8 @@ impl<'p> Walk<'p> {
         Ok(Walk { events, world })
     }
 
-    /// As many picks as there are live tasks; where nothing happens at them, the first event that can.
+    /// Picks as many times as there are live tasks. If no pick leads to an event, it applies the
+    /// first event that is legal. Returns whether an event happened.
     fn round(&mut self, chance: &mut Chance, most: usize) -> Result<bool, EventError>
         requires walk { IsWalk self.old }
         requires fewer { length self.old.events.items < most }
@@ -121,7 +122,7 @@ impl<'p> Walk<'p> {
         self.anywhere()
     }
 
-    /// As many picks as there are live tasks.
+    /// Picks as many times as there are live tasks.
     fn at_random(&mut self, chance: &mut Chance, most: usize) -> Result<(), EventError>
         requires walk { IsWalk self.old }
         requires fewer { length self.old.events.items < most }
@@ -138,7 +139,7 @@ impl<'p> Walk<'p> {
         Ok(())
     }
 
-    /// A task is picked, and a worker. The task is stolen, or else goes on.
+    /// Picks a task and a worker. The task is stolen, or otherwise it continues.
     fn pick(&mut self, chance: &mut Chance, paths: &[Path]) -> Result<bool, EventError>
         requires { IsWalk self.old }
         ensures happened { IfOk result (λ b. Happened b self.old self.new) }
@@ -154,7 +155,7 @@ impl<'p> Walk<'p> {
         }
     }
 
-    /// A task in a queue is stolen.
+    /// Steals a task from a queue.
     fn steal(&mut self, worker: WorkerId, path: &Path) -> Result<bool, EventError>
         requires { IsWalk self.old }
         ensures happened { IfOk result (λ b. Happened b self.old self.new) }
@@ -167,12 +168,12 @@ impl<'p> Walk<'p> {
         self.happens(Event::Steal { worker, from, path })
     }
 
-    /// The worker in whose queue a task is.
+    /// Returns the worker whose queue a task is in.
     fn queue(&self, path: &Path) -> Option<WorkerId> {
         self.world.tasks.get(path)?.place.queue()
     }
 
-    /// An event of the first task that has one which is legal, and whether there was one.
+    /// Applies an event of the first task that has a legal one. Returns whether there was one.
     fn anywhere(&mut self) -> Result<bool, EventError>
         requires { IsWalk self.old }
         ensures happened { IfOk result (λ b. Happened b self.old self.new) }
@@ -188,7 +189,7 @@ impl<'p> Walk<'p> {
         Ok(false)
     }
 
-    /// The paths of all live tasks.
+    /// Returns the paths of all live tasks.
     fn paths(&self) -> Result<Vec<Path>, AllocError>
         ensures { IfOk result (λ paths. AreTasks self.now.world (map turns_of paths.items)) }
     {
@@ -199,7 +200,8 @@ impl<'p> Walk<'p> {
         Ok(paths)
     }
 
-    /// What a task does, where that is legal: this worker may take it from where it is parked.
+    /// Applies an event of this task if one is legal. If the task is parked, this worker may take
+    /// it.
     fn go_on(&mut self, worker: WorkerId, path: &Path) -> Result<bool, EventError>
         requires { IsWalk self.old }
         ensures happened { IfOk result (λ b. Happened b self.old self.new) }
@@ -211,7 +213,7 @@ impl<'p> Walk<'p> {
         self.one_of(events)
     }
 
-    /// What a task may do, by where it is.
+    /// Returns the events that a task may do next, depending on its location.
     fn candidates(&self, worker: WorkerId, path: &Path) -> Result<Vec<Event>, AllocError>
         ensures { IfOk result (λ events. AreCandidates self.now.world worker path.now.turns.items
             (map event_of events.items)) }
@@ -227,7 +229,7 @@ impl<'p> Walk<'p> {
         }
     }
 
-    /// The last of these events that is legal happens, if one is.
+    /// Applies the last of these events that is legal. Returns whether there was one.
     fn one_of(&mut self, events: Vec<Event>) -> Result<bool, EventError>
         requires { IsWalk self.old }
         ensures happened { IfOk result (λ b. Happened b self.old self.new) }
@@ -244,7 +246,7 @@ impl<'p> Walk<'p> {
         Ok(false)
     }
 
-    /// An event happens, where it is legal. Whether it was.
+    /// Applies an event if it is legal. Returns whether it was.
     fn happens(&mut self, event: Event) -> Result<bool, EventError>
         requires { IsWalk self.old }
         ensures happened { IfOk result (λ b. Happened b self.old self.new) }
@@ -263,7 +265,7 @@ impl<'p> Walk<'p> {
     }
 }
 
-/// What a task in a queue may do.
+/// Returns the events of a task in a queue.
 fn in_queue(alloc: Global, owner: WorkerId, path: &Path) -> Result<Vec<Event>, AllocError>
     ensures { IfOk result (λ events. map event_of events.items
         ≡ IsTake owner path.now.turns.items ∷ []) }
@@ -277,7 +279,7 @@ fn in_queue(alloc: Global, owner: WorkerId, path: &Path) -> Result<Vec<Event>, A
     ]?)
 }
 
-/// What a task in a hand may do.
+/// Returns the events of a task in a hand.
 fn in_hand(alloc: Global, path: &Path) -> Result<Vec<Event>, AllocError>
     ensures { IfOk result (λ events. map event_of events.items
         ≡ hand_events path.now.turns.items) }
@@ -302,7 +304,7 @@ fn in_hand(alloc: Global, path: &Path) -> Result<Vec<Event>, AllocError>
     Ok(vec![in alloc; end, park, open, replenish, spawn, step]?)
 }
 
-/// What may happen where a task is parked: its innermost scope passes, or the worker takes it.
+/// Returns the events of a parked task: its innermost scope passes, or the worker takes it.
 fn when_parked(
     alloc: Global,
     worker: WorkerId,

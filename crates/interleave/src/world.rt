@@ -1,4 +1,4 @@
-//! A world of tasks and scopes, and the events that touch no task's run.
+//! A world of tasks and scopes, and the events that don't change the run of a task.
 
 ghost use Rattle.std.specs.Prelude.{◌≡◌, ◌&&◌, IfErr, IfOk, OnOk, Some, true, false, not, nat_eq};
 ghost use Rattle.std.specs.Bool.{OnTrue, OnFalse};
@@ -28,20 +28,21 @@ use types::outcome::Outcome;
 use types::path::Path;
 use types::scope_id::ScopeId;
 
-/// The live tasks by their paths and the scopes by their names.
+/// The live tasks by their paths, and the scopes by their names.
 #[derive(Drop)]
 pub struct World<'p> {
     pub job: WeightedJob<'p>,
     pub tasks: HashMap<Path, Task<'p>>,
     pub scopes: HashMap<ScopeId, Scope>,
-    /// The workers that have a task in their hands.
+    /// The workers that have a task in their hand.
     pub hands: HashSet<WorkerId>,
-    /// What is told once the root's scope has passed.
+    /// The outcome, once the root's scope has passed.
     pub told: Option<Outcome>,
 }
 
 impl<'p> World<'p> {
-    /// The world at the start: the root in the first worker's queue, with the weight of its scope.
+    /// Creates the world at the start. The root is in the first worker's queue, with the weight of
+    /// its scope.
     pub fn start(job: WeightedJob<'p>) -> Result<World<'p>, EventError>
         requires { FitsArrays (program_of job.job).arrays (lists_of job.job) }
         ensures shows { IfOk result (λ r. Shows r (first_of (program_of job.entry.job) job.entry.w0
@@ -77,7 +78,7 @@ impl<'p> World<'p> {
         })
     }
 
-    /// A worker takes a task from its queue into its hand.
+    /// Moves a task from a worker's queue to the worker's hand.
     pub fn take(&mut self, worker: WorkerId, path: &Path) -> Result<(), EventError>
         ensures taken { OnOk result
             (Becomes (IsTake worker path.now.turns.items) self.old self.new) }
@@ -93,7 +94,7 @@ impl<'p> World<'p> {
         Ok(())
     }
 
-    /// A worker takes a task from another's queue into its own.
+    /// Moves a task from another worker's queue to the queue of this worker.
     pub fn steal(&mut self, worker: WorkerId, from: WorkerId, path: &Path) -> Result<(), EventError>
         ensures stolen { OnOk result
             (Becomes (IsSteal worker from path.now.turns.items) self.old self.new) }
@@ -108,8 +109,8 @@ impl<'p> World<'p> {
         Ok(())
     }
 
-    /// A scope passes, since all its weight came back. Where it is the root's, what is told is known
-    /// from then on: what the scope keeps settles what the root has made in a world that is shown.
+    /// Passes a scope, because all its weight has come back. If it is the root's scope, the outcome
+    /// is known from then on. What this scope keeps settles what the root has made.
     pub fn pass(&mut self, scope: &ScopeId) -> Result<(), EventError>
         requires { scope_id scope.now ≡ the_root_scope → IsWorld self.old }
         ensures passed { OnOk result (Becomes (IsPass (scope_id scope.now)) self.old self.new) }
@@ -126,7 +127,7 @@ impl<'p> World<'p> {
         Ok(())
     }
 
-    /// Whether a scope has passed.
+    /// Returns whether a scope has passed.
     pub fn passed(&self, scope: &ScopeId) -> bool
         ensures { (w : AnyWorld) → Shows self.now w → result ≡ has_passed (scope_id scope.now) w }
     {
@@ -136,7 +137,7 @@ impl<'p> World<'p> {
         }
     }
 
-    /// What a scope has issued, and what came back.
+    /// Returns the weight that a scope has issued, and the weight that came back.
     pub fn book(&self, scope: &ScopeId) -> Option<(u64, u64)>
         ensures { (w : AnyWorld) → Shows self.now w → result ≡ book (scope_id scope.now) w }
     {
@@ -146,7 +147,7 @@ impl<'p> World<'p> {
         }
     }
 
-    /// What a live task weighs in its innermost scope.
+    /// Returns the weight of a live task in its innermost scope.
     pub fn weight(&self, path: &Path) -> Option<u64>
         ensures { (w : AnyWorld) → Shows self.now w → result ≡ weight_of path.now.turns.items w }
     {
@@ -156,7 +157,7 @@ impl<'p> World<'p> {
         }
     }
 
-    /// Whether a task lives and is in this worker's queue.
+    /// Returns whether a live task is in this worker's queue.
     fn is_in_queue(&self, path: &Path, worker: WorkerId) -> bool
         ensures there { OnTrue result ((k : AnyTask)
             × (get is_path self.now.tasks path.now ≡ Some k)
@@ -170,7 +171,7 @@ impl<'p> World<'p> {
         }
     }
 
-    /// A live task is somewhere else.
+    /// Sets the location of a live task.
     fn move_to(&mut self, path: &Path, place: Whereabouts)
         ensures others { self.new ≡ record self.old { tasks = self.new.tasks } }
         ensures moved { (k : AnyTask) → get is_path self.old.tasks path.now ≡ Some k
@@ -181,7 +182,7 @@ impl<'p> World<'p> {
         }
     }
 
-    /// Whether all weight of a scope came back, and it hasn't passed yet.
+    /// Returns whether all weight of a scope has come back and it hasn't passed yet.
     fn is_complete(&self, scope: &ScopeId) -> bool
         ensures there { OnTrue result ((s : AnyScope)
             × (get is_scope self.now.scopes scope.now ≡ Some s)
@@ -196,7 +197,7 @@ impl<'p> World<'p> {
         }
     }
 
-    /// A scope has passed.
+    /// Marks a scope as passed.
     pub(crate) fn mark_passed(&mut self, scope: &ScopeId)
         ensures others { self.new ≡ record self.old { scopes = self.new.scopes } }
         ensures marked { (s : AnyScope) → get is_scope self.old.scopes scope.now ≡ Some s
@@ -208,7 +209,7 @@ impl<'p> World<'p> {
     }
 }
 
-/// Whether it is the scope that `main` stands in.
+/// Returns whether this is the scope around `main`.
 fn is_root_scope(scope: &ScopeId) -> bool
     ensures root { OnTrue result (scope_id scope.now ≡ the_root_scope) }
     ensures other { OnFalse result (scope_id scope.now ≡ the_root_scope → ⊥) }
@@ -216,7 +217,7 @@ fn is_root_scope(scope: &ScopeId) -> bool
     scope.owner.turns.is_empty() && scope.number == 0
 }
 
-/// The name of the scope that `main` stands in.
+/// Returns the name of the scope around `main`.
 pub(crate) fn root_scope(alloc: Global) -> ScopeId
     ensures { scope_id result ≡ the_root_scope }
 {

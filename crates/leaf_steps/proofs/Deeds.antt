@@ -1,4 +1,4 @@
--- What a statement of one step does, told before it is done.
+-- The effect of a statement of one step, determined before it is executed.
 use Rattle.std.proofs.Common.{◌≡◌, ℕ, List, refl, ap, ◌∙◌, Ok, Err}
 use Rattle.std.specs.Prelude.{ℤ, Bool, true, false}
 use Rattle.sections.specs.Place.{Place}
@@ -67,7 +67,7 @@ module _ {X : Type 0} where
   primitive-did p l (Print es) st = value_did l _ _ Prints st (λ v. refl)
   primitive-did p l (Raise e) st = value_did l _ _ (λ v. Fails (Raised v)) st (λ v. refl)
 
-  -- windows stay
+  -- windows stay unchanged
   did_windows : (l : ℕ) (d : Deed) (st : State X) → (did l d st).environment.windows ≡ st.environment.windows
   did_windows l Nothing st = refl
   did_windows l (Assigns x v) st = refl

@@ -1,4 +1,4 @@
--- Blocks one behind the other, and callers within one another.
+-- Blocks one after the other, and nested callers.
 use Rattle.std.proofs.Common.{◌≡◌, List, [], ◌∷◌, ◌++◌, length, refl, sym, ap, ◌∙◌, arith}
 use Rattle.std.specs.Prelude.{true, false, nat_eq}
 use Rattle.types.specs.Code.{Codes, End, Then}
@@ -31,7 +31,7 @@ pub callers-push : (cs : List rCaller) (c : rCaller) → callers (cs ++ c ∷ []
 callers-push [] c = refl
 callers-push (x ∷ cs) c = ap (λ l. l ++ caller x ∷ []) (callers-push cs c)
 
--- nothing is left where there is no block
+-- nothing is left exactly if there is no block
 pub done_is_none : (bs : List Block) → nat_eq (length bs) 0 ≡ is_done (blocks bs)
 done_is_none [] = refl
 done_is_none (b ∷ bs) =
@@ -52,14 +52,14 @@ returned_open (Then l s rest) k e = refl
 pub returned-open : (k : Leaf) → is_done k.rest ≡ false → returned k ≡ k
 returned-open k e = returned_open k.rest k e
 
--- and one that has nothing left, not even a caller
+-- and so does one that has nothing left, not even a caller
 pub returned-last : (k : Leaf) → k.rest ≡ End → k.callers ≡ [] → returned k ≡ k
 returned-last k none alone =
     ap (λ c. returned_by c k) none ∙ ap (λ fs. return_to fs k) alone
     ∙ ap (λ (c : Codes). let j : Leaf = record k { rest = c; callers = [] } in j) (sym none)
     ∙ ap (λ (fs : List Caller). let j : Leaf = record k { callers = fs } in j) (sym alone)
 
--- what is left and the callers are no matter where a leaf returns
+-- where a leaf returns doesn't depend on its remaining statements and callers
 return_same : (fs gs : List Caller) (k : Leaf) (c : Codes)
     → return_to fs (record k { rest = c; callers = gs }) ≡ return_to fs k
 return_same [] gs k c = refl
@@ -77,11 +77,11 @@ return_same (f ∷ fs) gs k c = by f.rest (return_same fs gs (record k { environ
     by End h = h
     by (Then l s rest) h = refl
 
--- a leaf behind a call
+-- a leaf after a call
 abbrev pub behind : Caller → List Caller → Leaf → Leaf
 behind f fs k = record k { environment = f.environment; rest = f.rest; callers = fs }
 
--- a leaf that has nothing left goes on behind its innermost call
+-- a leaf that has nothing left continues after its innermost call
 pub returned-up : (k : Leaf) (f : Caller) (fs : List Caller) → k.rest ≡ End → k.callers ≡ f ∷ fs
     → returned k ≡ returned (behind f fs k)
 returned-up k f fs none in_call =

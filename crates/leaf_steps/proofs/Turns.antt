@@ -1,4 +1,4 @@
--- What a turn of a leaf comes to.
+-- The result of one step of a leaf.
 use Rattle.std.proofs.Common.{◌≡◌, ℕ, ◌+◌, List, [], ◌∷◌, ◌++◌, refl, sym, ap, ◌∙◌, subst, Option, Some, Result, Ok, Err}
 use Rattle.std.specs.Prelude.{IfOk}
 use Rattle.std.specs.declared.alloc.AllocError.{AllocError}
@@ -30,7 +30,8 @@ pub step_here : (p : Program) (c : Codes) (k : Leaf) (a : Contents) {l : ℕ} {s
     ≡ Some (tree_after p l s (record k { rest = rest }) a, store_after p l s (record k { rest = rest }) a)
 step_here p c k a e = ap (λ c. leaf_step p c k a) e
 
--- what comes of one turn comes of another with a store of the same lengths, by equal trees and stores
+-- the result of one turn is the result of another one, if their stores have equal lengths, and
+-- trees and contents are equal
 pub comes_as : (turn new : Turn) {t u : Tree} {a b : Contents} (r : Result (Becomes × Store) AllocError)
     → t ≡ u → a ≡ b → lengths_of new.thread.store ≡ lengths_of turn.thread.store
     → IfOk r (Comes t a new) → IfOk r (Comes u b turn)
@@ -63,7 +64,7 @@ module _ (p : Program) (l : ℕ) (s : Primitive) (st : State (Unit {0})) where
       ap (λ (x : State (Unit {0})). x.spawned) (primitive-did p l s st)
       ∙ (did_name l (deed p st.environment (read st.store) s) st).1
 
--- the leaf at a state with its name
+-- the leaf with the environment and the output of a state
 abbrev told_at : Leaf → State (Unit {0}) → Leaf
 told_at k st = record k { environment = st.environment; lines = st.lines; faults = st.faults }
 
@@ -73,7 +74,7 @@ same_leaf k st e f =
     ap (λ (q : List ℕ). let j : Leaf = record (told_at k st) { path = q; spawned = st.spawned } in j) e
     ∙ ap (λ (n : ℕ). let j : Leaf = record (told_at k st) { spawned = n } in j) f
 
--- behind a statement of one step the leaf goes on, or is done
+-- after a statement of one step the leaf continues or is done
 module _ (p : Program) (l : ℕ) (s : Primitive) (turn : Turn) (ready : IsReady turn) (new : Thread Store)
     (is : state_of new ≡ primitive p l s (state_of turn.thread)) where
   abbrev here : Leaf
@@ -111,7 +112,7 @@ pub call_of_nothing : (f : Procedure) (env : Environment) (k : Leaf) → f.body 
 call_of_nothing f env k none =
     ap Single (sym (returned-up (called f env k) (record { environment = k.environment; rest = k.rest }) k.callers none refl))
 
--- an async's body beside its parent, of what stands in the leaf's place
+-- the body of an async in parallel with its parent, given equal parts of the leaf
 pub spawned_tree : (b : Codes) (k j : Leaf) (path : List ℕ) (n : ℕ) (x a y : Leaf) → j ≡ k → path ≡ k.path ++ n ∷ [] → n ≡ k.spawned + 1
     → x ≡ returned (record (inside b j) { path = path; spawned = 0 }) → a ≡ held_back j → y ≡ returned (record a { spawned = n })
     → Beside (Single x) (Single y) ≡ Beside (single (child b k)) (single (parent k))
@@ -123,7 +124,7 @@ spawned_tree b k j path n x a y same path_is n_is x_is a_is y_is =
     ∙ ap (λ (i : Leaf). Beside (single (child b k)) (Single i))
     (y_is ∙ ap (λ (q : Leaf). returned (record q { spawned = n })) a_is ∙ parent_is)
 
--- a finish's body, and what waits for its end
+-- the body of a finish, and the leaf that waits for its end
 pub entered_tree : (b : Codes) (k j : Leaf) (path : List ℕ) (n : ℕ) (x a : Leaf) → j ≡ k → path ≡ k.path → n ≡ k.spawned
     → x ≡ returned (record (inside b j) { path = path; spawned = n }) → a ≡ held_back j
     → and_then (Single x) a ≡ and_then (single (inside b k)) (held_back k)
@@ -131,12 +132,12 @@ entered_tree b k j path n x a same path_is n_is x_is a_is =
     let body_is : returned (record (inside b j) { path = path; spawned = n }) ≡ returned (inside b k) = cc in
     ap (λ (i : Leaf). and_then (Single i) a) (x_is ∙ body_is) ∙ ap (and_then (single (inside b k))) (a_is ∙ ap held_back same)
 
--- the same statement, spelled in another way
+-- the result for an equal statement
 pub after_as : (turn : Turn) (l : ℕ) {s d : Code} (r : Result (Becomes × Store) AllocError) → s ≡ d
     → IfOk r (After turn l s) → IfOk r (After turn l d)
 after_as turn l r is h = subst (λ (s : Code). IfOk r (After turn l s)) is h
 
--- a leaf in whose place a procedure begins
+-- a leaf that is replaced by the start of a procedure
 pub called_as : (f : Procedure) (env : Environment) (k : Leaf) (e : Environment) (rest : Codes) (fs : List Caller)
     → e ≡ env → rest ≡ f.body → fs ≡ record { environment = k.environment; rest = k.rest } ∷ k.callers
     → single (record k { environment = e; rest = rest; callers = fs }) ≡ single (called f env k)

@@ -1,4 +1,4 @@
--- The Rust types as the definitions see them.
+-- The plain values of the Rust types.
 use Rattle.std.specs.Prelude.{◌≡◌, List, [], ◌∷◌, ◌++◌, map, Option, Some, None}
 use Rattle.std.proofs.Common.{Bor}
 use Rattle.types.specs.declared.code.Stmt.{Stmt}
@@ -13,7 +13,7 @@ use Rattle.leaf_steps.specs.declared.leaf.Leaf.{Leaf as rLeaf}
 abbrev pub block : Block → Codes
 block b = Then b.first.now.label (code b.first.now.kind) (codes b.others.now)
 
--- those of several blocks, the last of which is done first
+-- the statements of several blocks, the last of which runs first
 abbrev pub blocks : List Block → Codes
 blocks [] = End
 blocks (b ∷ bs) = append (blocks bs) (block b)
@@ -39,7 +39,7 @@ leaf_of k = record {
   faults = map fault k.faults.items;
 }
 
--- the first statement is taken off; or none is left
+-- the first statement is removed, or none is left
 abbrev pub Takes : Option (Bor Stmt) → (old new : Codes) → Type 0
 Takes None old new = (old ≡ End) × (new ≡ End)
 Takes (Some s) old new = old ≡ Then s.now.label (code s.now.kind) new

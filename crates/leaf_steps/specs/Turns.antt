@@ -18,7 +18,7 @@ use Rattle.leaf_steps.specs.declared.turn.Becomes.TheVariants.{Single as rSingle
 use Rattle.leaf_steps.specs.declared.turn.Turn.{Turn}
 use Rattle.leaf_steps.specs.Translation.{blocks, callers, leaf_of}
 
--- a task that stands at a state, with this left to do
+-- a task in a state, with the remaining statements and callers
 abbrev pub leaf_at : State (Unit {0}) → Codes → List Caller → Leaf
 leaf_at st rest fs = record {
   environment = st.environment;
@@ -30,11 +30,11 @@ leaf_at st rest fs = record {
   faults = st.faults;
 }
 
--- the leaf that has its step
+-- the leaf of a turn
 abbrev pub leaf_in : Turn → Leaf
 leaf_in t = leaf_at (state_of t.thread) (blocks t.rest.items) (callers t.callers.items)
 
--- and the store that it has
+-- and its store
 abbrev pub store_in : Turn → Contents
 store_in t = contents_of t.thread.store
 
@@ -44,13 +44,13 @@ becomes (rSingle k) = Single (leaf_of k)
 becomes (Spawned child parent) = Beside (Single (leaf_of child)) (Single (leaf_of parent))
 becomes (Entered body behind) = and_then (Single (leaf_of body)) (leaf_of behind)
 
--- a tree and a store come of a turn, and the arrays keep their lengths
+-- a turn gives a tree and a store, and the arrays keep their lengths
 pub record Comes (t : Tree) (a : Contents) (turn : Turn) (r : Becomes × Store) : Type 0 where
   pub tree : becomes r.0 ≡ t
   pub store : contents_of r.1 ≡ a
   pub lengths : lengths_of r.1 ≡ lengths_of turn.thread.store
 
--- what a statement makes of a leaf
+-- the result of executing a statement
 abbrev pub After : Turn → (label : ℕ) → Code → Becomes × Store → Type 0
 After turn l s =
     let p = program turn.plan.program.now in
@@ -63,7 +63,7 @@ pub record IsReady (turn : Turn) : Type 0 where
   pub uncounted : turn.thread.steps ≡ 0
   pub bounds : IsInBounds (program turn.plan.program.now) turn.thread
 
--- there is a number for each element of each array, and the leaf's windows lie in these
+-- there is a number for each element of each array, and the leaf's windows lie in the arrays
 pub record MayTurn (plan : Plan) (a : Store) (k : rLeaf) : Type 0 where
   pub store : FitsArrays (program plan.program.now).arrays (lists_of a)
   pub windows : LiesInArrays (program plan.program.now) (environment k.environment)

@@ -17,26 +17,27 @@ pub struct Caller<'p> {
     pub rest: Vec<Block<'p>>,
 }
 
-/// A task as it stands.
+/// The state of a task.
 #[derive(Drop)]
 pub struct Leaf<'p> {
-    // What it has left.
+    // What remains to be done.
     pub environment: Environment,
     pub rest: Vec<Block<'p>>,
-    /// The calls that it is in, the innermost last.
+    /// The calls that the task is in, the innermost one last.
     pub callers: Vec<Caller<'p>>,
 
     // Its name.
     pub path: Path,
-    /// How many children it has begun.
+    /// The number of children that it has spawned.
     pub spawned: u32,
 
-    // What it told.
+    // Its output.
     pub lines: Vec<Vec<i64>>,
     pub faults: Vec<Fault>,
 }
 
-/// At the end of a call's body a leaf is back at its caller, behind the call.
+/// Returns from all calls whose bodies are finished. The leaf continues after the call, in its
+/// caller.
 pub fn returned<'p>(leaf: Leaf<'p>) -> Leaf<'p>
     ensures { leaf_of result ≡ returned_leaf (leaf_of leaf.entry) }
 {
@@ -69,7 +70,7 @@ pub fn returned<'p>(leaf: Leaf<'p>) -> Leaf<'p>
     }
 }
 
-/// A leaf that drops what it has left.
+/// Drops what a leaf has left to do.
 pub fn done<'p>(alloc: Global, mut leaf: Leaf<'p>) -> Leaf<'p>
     ensures { leaf_of result ≡ done_leaf (leaf_of leaf.entry) }
 {

@@ -1,4 +1,4 @@
-//! One step of a task over a shared store: of a leaf of a step tree.
+//! One step of a task over a shared store, which is one step of a leaf of a step tree.
 
 #![tactic(auto)]
 

@@ -1,4 +1,4 @@
-//! The statements that a leaf has left: blocks that are done one behind the other, the next one last.
+//! The remaining statements of a leaf: blocks that run one after the other, the next one last.
 
 ghost use Rattle.std.specs.Prelude.{◌≡◌, IfOk, OnOk};
 ghost use Rattle.types.specs.Code.{Then};
@@ -9,14 +9,14 @@ ghost use Rattle.leaf_steps.specs.Translation.{blocks as statements_of, Takes};
 use std::alloc::{AllocError, Global};
 use types::code::Stmt;
 
-/// A block that has a statement.
+/// A block with at least one statement.
 #[derive(Clone, Copy)]
 pub struct Block<'p> {
     pub first: &'p Stmt,
     pub others: &'p [Stmt],
 }
 
-/// A block and nothing behind it.
+/// Returns the list of one block, or an empty list if the block is empty.
 pub fn block_alone<'p>(alloc: Global, block: &'p [Stmt]) -> Result<Vec<Block<'p>>, AllocError>
     ensures { IfOk result (λ rest. statements_of rest.items ≡ codes_of block.entry.now) }
 {
@@ -25,7 +25,7 @@ pub fn block_alone<'p>(alloc: Global, block: &'p [Stmt]) -> Result<Vec<Block<'p>
     Ok(rest)
 }
 
-/// A block that is done first.
+/// Adds a block that runs first.
 pub fn enter<'p>(rest: &mut Vec<Block<'p>>, block: &'p [Stmt]) -> Result<(), AllocError>
     ensures { OnOk result (statements_of rest.new.items
         ≡ append (codes_of block.entry.now) (statements_of rest.old.items)) }
@@ -36,7 +36,7 @@ pub fn enter<'p>(rest: &mut Vec<Block<'p>>, block: &'p [Stmt]) -> Result<(), All
     Ok(())
 }
 
-/// A statement that is done first.
+/// Adds a statement that runs first.
 pub fn begin<'p>(rest: &mut Vec<Block<'p>>, stmt: &'p Stmt) -> Result<(), AllocError>
     ensures { OnOk result (statements_of rest.new.items
         ≡ Then stmt.entry.now.label (code_of stmt.entry.now.kind) (statements_of rest.old.items)) }
@@ -48,7 +48,7 @@ pub fn begin<'p>(rest: &mut Vec<Block<'p>>, stmt: &'p Stmt) -> Result<(), AllocE
     Ok(())
 }
 
-/// Takes the next statement off.
+/// Removes the next statement and returns it.
 pub fn next<'p>(rest: &mut Vec<Block<'p>>) -> Result<Option<&'p Stmt>, AllocError>
     ensures { IfOk result (λ stmt. Takes stmt (statements_of rest.old.items)
         (statements_of rest.new.items)) }

@@ -24,18 +24,18 @@ use types::fault::FaultKind;
 use types::ids::ProcedureId;
 use types::path::Path;
 
-/// What a leaf becomes by a step.
+/// What a leaf becomes in one step.
 #[derive(Drop)]
 pub enum Becomes<'p> {
-    /// It goes on, or is done.
+    /// A leaf that continues or is done.
     Single(Leaf<'p>),
-    /// An async's body, beside its parent.
+    /// The body of an async, in parallel with its parent.
     Spawned { child: Leaf<'p>, parent: Leaf<'p> },
-    /// A finish's body, and what waits for its end.
+    /// The body of a finish, and the leaf that waits for its end.
     Entered { body: Leaf<'p>, behind: Leaf<'p> },
 }
 
-/// A leaf that has the store for a step.
+/// A leaf that has the store during its step.
 #[derive(Drop)]
 pub struct Turn<'p> {
     pub plan: Plan<'p>,
@@ -44,7 +44,7 @@ pub struct Turn<'p> {
     pub callers: Vec<Caller<'p>>,
 }
 
-/// One step of a leaf that isn't done.
+/// Executes one step of a leaf that isn't done.
 pub fn step<'p>(
     plan: Plan<'p>,
     store: Store,
@@ -80,7 +80,7 @@ pub fn step<'p>(
     }
 }
 
-/// A statement.
+/// Executes a statement.
 fn statement<'p>(turn: Turn<'p>, stmt: &'p Stmt) -> Result<(Becomes<'p>, Store), AllocError>
     requires { IsReady turn }
     ensures { IfOk result (After turn.entry stmt.entry.now.label (code_of stmt.entry.now.kind)) }
@@ -104,7 +104,7 @@ fn statement<'p>(turn: Turn<'p>, stmt: &'p Stmt) -> Result<(Becomes<'p>, Store),
     }
 }
 
-/// A statement of one step.
+/// Executes a statement of one step.
 fn primitive<'p>(
     mut turn: Turn<'p>,
     label: Label,
@@ -121,7 +121,7 @@ fn primitive<'p>(
     }
 }
 
-/// The one block or the other, as the guard says.
+/// Enters one of two blocks, depending on the condition.
 fn choose<'p>(
     turn: Turn<'p>,
     label: Label,
@@ -140,7 +140,7 @@ fn choose<'p>(
     }
 }
 
-/// A guard of a loop: its body and the loop once more, where it holds.
+/// Evaluates the condition of a loop. If it is true, enters the body and then the loop again.
 fn turn_loop<'p>(
     mut turn: Turn<'p>,
     stmt: &'p Stmt,
@@ -161,7 +161,7 @@ fn turn_loop<'p>(
     }
 }
 
-/// A block in which both sides of a section have names.
+/// Enters a block in which both sides of a section have names.
 fn split<'p>(
     mut turn: Turn<'p>,
     label: Label,
@@ -184,7 +184,8 @@ fn split<'p>(
     }
 }
 
-/// The scalar arguments from left to right, then the body with the sections' windows.
+/// Evaluates the scalar arguments from left to right, then enters the body with the windows of the
+/// sections.
 fn call<'p>(
     mut turn: Turn<'p>,
     label: Label,
@@ -215,7 +216,7 @@ fn call<'p>(
     }
 }
 
-/// An async's body, to which all goes that was told so far, beside its parent.
+/// Spawns the body of an async in parallel with its parent. The body takes all output so far.
 fn begin_async<'p>(turn: Turn<'p>, body: &'p [Stmt]) -> Result<(Becomes<'p>, Store), AllocError>
     ensures { IfOk result (After turn.entry 0 (Async (codes_of body.entry.now))) }
 {
@@ -232,7 +233,8 @@ fn begin_async<'p>(turn: Turn<'p>, body: &'p [Stmt]) -> Result<(Becomes<'p>, Sto
     Ok((Becomes::Spawned { child, parent }, store))
 }
 
-/// A finish's body, to which all goes that was told so far, and what waits for its end.
+/// Enters the body of a finish, which takes all output so far, and keeps the leaf that waits for
+/// its end.
 fn begin_finish<'p>(turn: Turn<'p>, body: &'p [Stmt]) -> Result<(Becomes<'p>, Store), AllocError>
     ensures { IfOk result (After turn.entry 0 (Finish (codes_of body.entry.now))) }
 {
@@ -244,7 +246,7 @@ fn begin_finish<'p>(turn: Turn<'p>, body: &'p [Stmt]) -> Result<(Becomes<'p>, St
     Ok((Becomes::Entered { body, behind }, store))
 }
 
-/// A block as a leaf of its own, which takes all that the leaf told that it stands in.
+/// Makes a separate leaf of a block. It takes all output of the leaf that contains the block.
 fn inside<'p>(
     alloc: Global,
     around: &mut Leaf<'p>,
@@ -272,7 +274,7 @@ fn inside<'p>(
 
 // ---- the end of a step
 
-/// It goes on with a block that is done first.
+/// Continues with a block that runs first.
 fn enters<'p>(mut turn: Turn<'p>, block: &'p [Stmt]) -> Result<(Becomes<'p>, Store), AllocError>
     ensures { IfOk result (Comes (single (before_rest (codes_of block.entry.now) (leaf_in turn.entry)))
         (store_in turn.entry) turn.entry) }
@@ -281,7 +283,7 @@ fn enters<'p>(mut turn: Turn<'p>, block: &'p [Stmt]) -> Result<(Becomes<'p>, Sto
     Ok(going(turn))
 }
 
-/// It goes on.
+/// Returns the leaf, which continues, and the store.
 fn going<'p>(turn: Turn<'p>) -> (Becomes<'p>, Store)
     ensures { Comes (single (leaf_in turn.entry)) (store_in turn.entry) turn.entry result }
 {
@@ -289,7 +291,7 @@ fn going<'p>(turn: Turn<'p>) -> (Becomes<'p>, Store)
     (Becomes::Single(returned(leaf)), store)
 }
 
-/// It is done.
+/// Returns the leaf, which is done now, and the store.
 fn ended<'p>(turn: Turn<'p>) -> (Becomes<'p>, Store)
     ensures { Comes (Single (done_leaf (leaf_in turn.entry))) (store_in turn.entry) turn.entry result }
 {
@@ -298,7 +300,7 @@ fn ended<'p>(turn: Turn<'p>) -> (Becomes<'p>, Store)
     (Becomes::Single(done(alloc, leaf)), store)
 }
 
-/// It is done, with a fault.
+/// Ends the leaf with a fault.
 fn failed<'p>(
     mut turn: Turn<'p>,
     label: Label,
@@ -312,7 +314,7 @@ fn failed<'p>(
     Ok(ended(turn))
 }
 
-/// The leaf, and the store.
+/// Returns the leaf and the store.
 fn apart<'p>(turn: Turn<'p>) -> (Leaf<'p>, Store)
     ensures leaf { leaf_of result.0 ≡ leaf_in turn.entry }
     ensures store { result.1 ≡ turn.entry.thread.store }

@@ -1,4 +1,4 @@
--- A log whose world has ended.
+-- A log whose world has finished.
 use Rattle.std.proofs.Common.{◌≡◌, ℕ, Option, Some, None, Bool, true, ap, ◌∙◌, subst, sym}
 use Rattle.std.proofs.lemmas.Bool.{OnTrue_from}
 use Rattle.std.specs.Bool.{OnTrue}
@@ -18,7 +18,7 @@ use Rattle.interleave.specs.declared.error.EventError.TheVariants.{Illegal, NoMe
 use Rattle.logged_run.specs.Ending.{LeadsToOutcome}
 use Rattle.logged_run.specs.Errors.{IsCauseOrUnlogged, of_log}
 
--- what is told of a world is that of its job, once its root's scope has passed
+-- the outcome of a world is that of its job, once its root's scope has passed
 module _ (told : Option (Bor Outcome)) (r : rWorld) where
   abbrev IsToldOf : Type 0
   IsToldOf = (w : World) → Shows r w
@@ -27,7 +27,7 @@ module _ (told : Option (Bor Outcome)) (r : rWorld) where
   abbrev IsOneThread : Type 0
   IsOneThread = IfSome told (λ o. outcome_in o.now ≡ outcome_of r.job.job)
 
--- what is told of the world that a clean log shows is the outcome of its job
+-- the outcome of the world of a clean log is the outcome of its job
 leads : (l : Recorded) → IsClean l → (told : Option (Bor Outcome)) → IsToldOf told l.world → IsOneThread told l.world
     → is_some told ≡ true → LeadsToOutcome l (outcome_of l.world.job.job)
 leads l clean None is same some = false_true some
@@ -37,7 +37,7 @@ leads l clean (Some o) is same some = record {
   is_told = sym (is clean.replayed.world clean.replayed.shows) ∙ ap Some same;
 }
 
--- the same of the world that it shows, where it is asked whether anything is told
+-- the world that the log shows, if it is asked whether there is an outcome
 pub has_ended : (l : Recorded) (r : rWorld) → r ≡ l.world → IsClean l → (told : Option (Bor Outcome))
     → IsToldOf told r → IsOneThread told r → (ended : Bool) → ended ≡ is_some told
     → OnTrue ended (LeadsToOutcome l (outcome_of l.world.job.job))
@@ -45,7 +45,7 @@ has_ended l r shown clean told is same ended asked =
     OnTrue_from ended (LeadsToOutcome l (outcome_of l.world.job.job))
     (λ yes. leads l clean told (subst (IsToldOf told) shown is) (subst (IsOneThread told) shown same) (sym asked ∙ yes))
 
--- whatever a log refuses is a cause
+-- every error of a log is a cause
 pub any_cause : (tasks : ℕ) (e : EventError) → IsCauseOrUnlogged tasks (of_log e)
 any_cause tasks Illegal = tt
 any_cause tasks NoMemory = tt

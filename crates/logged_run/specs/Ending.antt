@@ -1,4 +1,4 @@
--- Where the events of a log lead.
+-- The world that the events of a log lead to.
 use Rattle.std.specs.Prelude.{◌≡◌, Some}
 use Rattle.types.specs.Outcome.{Outcome}
 use Rattle.gather.specs.Jobs.{budget_of, program_of}
@@ -8,8 +8,8 @@ use Rattle.interleave.specs.World.{World}
 use Rattle.interleave.specs.Worlds.{outcome_of}
 use Rattle.trace.specs.Logs.{Recorded}
 
--- the events are legal from the start of the log's job, and of the world that they lead to this is told:
--- so its root's scope has passed
+-- the events are legal from the start of the log's job, and lead to a world with this outcome: therefore
+-- its root's scope has passed
 pub record LeadsToOutcome (l : Recorded) (told : Outcome) : Type 0 where
   pub world : World
   pub legal : comes l.world.job l.events ≡ Legal world

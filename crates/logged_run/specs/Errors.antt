@@ -1,4 +1,4 @@
--- Why a run under a log has no outcome.
+-- Reasons why a logged run has no outcome.
 use Rattle.std.specs.Prelude.{ℕ, List, codes}
 use Rattle.gather.specs.RunErrors.{IsCause, error_code as code_of_run}
 use Rattle.gather.specs.declared.run_error.RunError.TheVariants.{OutOfMemory}
@@ -12,13 +12,13 @@ abbrev pub error_code : LoggedRunError → List ℕ
 error_code (Run e) = code_of_run e
 error_code Unlogged = codes "E5"
 
--- why a run is refused where its log refuses an event
+-- the error of a run whose log rejects an event
 abbrev pub of_log : EventError → LoggedRunError
 of_log Illegal = Unlogged
 of_log NoMemory = Run OutOfMemory
 
--- E2 has a ticket whose number is the most tasks that the run may have, or more; want of memory is never
--- told as E3
+-- E2 has a ticket whose number is at least the maximum number of tasks of the run; out of memory is never
+-- reported as E3
 abbrev pub IsCauseOrUnlogged : (tasks : ℕ) → LoggedRunError → Type 0
 IsCauseOrUnlogged tasks (Run e) = IsCause tasks e
 IsCauseOrUnlogged tasks Unlogged = Unit {0}

@@ -1,4 +1,4 @@
-//! Why a run under a log has no outcome.
+//! Reasons why a logged run has no outcome.
 
 ghost use Rattle.std.specs.Prelude.{◌≡◌};
 ghost use Rattle.logged_run.specs.Errors.{error_code};
@@ -6,19 +6,20 @@ ghost use Rattle.logged_run.specs.Errors.{error_code};
 use interleave::error::EventError;
 use workers::error::RunError;
 
-/// Why a run under a log has no outcome: what came first.
+/// The reason why a logged run has no outcome: the first that occurred.
 #[derive(PartialEq, Eq, Debug, Drop)]
 pub enum LoggedRunError {
-    /// `E1` to `E4`, as without a log: `E2` of `main { async { } }` where there may be one task. `E1` also
-    /// where the log finds no memory, as may be of `main { }`.
+    /// `E1` to `E4`, as without a log. Example: `E2` for `main { async { } }` with a maximum of one
+    /// task. `E1` also means that there was no memory for the log, which can happen even for `main
+    /// { }`.
     Run(RunError),
-    /// `E5`: what the workers did isn't legal, or doesn't lead to the end of the run. No run is known that
-    /// comes to it.
+    /// `E5`: what the workers did isn't legal, or doesn't lead to the end of the run. No run is
+    /// known that leads to this.
     Unlogged,
 }
 
 impl LoggedRunError {
-    /// The code that the program prints.
+    /// Returns the code that the program prints.
     pub fn code(&self) -> &'static str
         ensures { result.now ≡ error_code self.now }
     {

@@ -1,4 +1,5 @@
-//! Runs accepted programs as tasks, and judges what the workers did by the world of events.
+//! Runs accepted programs with one task per `async`, and checks the workers' events in the world of
+//! events.
 
 #![tactic(auto)]
 

@@ -1,4 +1,4 @@
-//! The run of an accepted program on worker threads, with a log of what they did.
+//! The run of an accepted program on worker threads, with a log of its events.
 
 ghost use Rattle.std.specs.Prelude.{◌≡◌, IfErr, IfOk};
 ghost use Rattle.std.specs.Bool.{OnTrue};
@@ -24,8 +24,8 @@ use workers::gate::Gate;
 use workers::run::run_noted;
 use workers::settings::Settings;
 
-/// Runs a program on an input as `workers` does, and answers a log of what they did beside the outcome.
-/// Nothing is known of what they note: it is judged here, behind the run, by the world of events.
+/// Runs a program on an input as `workers` does, and returns the outcome and a log of the events.
+/// The recorded events aren't specified: after the run, the world of events checks them here.
 pub fn run_logged<'p, G: Gate + Sync, R: Threads + Wait + Sync>(
     rt: &R,
     alloc: Global,
@@ -45,8 +45,8 @@ pub fn run_logged<'p, G: Gate + Sync, R: Threads + Wait + Sync>(
 {
     let (outcome, events) = run_noted(rt, alloc, accepted, input, settings, gate)?;
     let log = Log::of_events(alloc, &header_of(settings), accepted, input, events)?;
-    // The outcome and what is told of a world that has ended are both that of one thread, so they are
-    // never compared.
+    // Both the run's outcome and the outcome of a world that has finished are the one-thread
+    // outcome, and therefore are never compared.
     if has_ended(&log) {
         Ok((outcome, log))
     } else {
@@ -54,7 +54,7 @@ pub fn run_logged<'p, G: Gate + Sync, R: Threads + Wait + Sync>(
     }
 }
 
-/// What a run of these settings was asked for, as its trace tells it.
+/// Returns the header of a trace for a run with these settings.
 pub fn header_of(settings: Settings) -> Header
     ensures budget { result.budget ≡ settings.budget }
     ensures w0 { result.w0 ≡ settings.w0 }
@@ -66,7 +66,7 @@ pub fn header_of(settings: Settings) -> Header
     }
 }
 
-/// Whether the run has ended by the events of its log.
+/// Returns whether the run has finished according to the events of its log.
 fn has_ended(log: &Log<'_>) -> bool
     ensures clean { IsClean log.now }
     ensures ended { OnTrue result (LeadsToOutcome log.now (outcome_of log.now.world.job.job)) }

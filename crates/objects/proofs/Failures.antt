@@ -25,7 +25,7 @@ module _ (c : Command) (s : Settings) (held : Held) (text : List ℕ) where
   pub memory_early : FailsEarly c s held text NoMemory
   memory_early = early NoMemory tt tt
 
-  -- want of memory that is passed on
+  -- out of memory that is passed on
   pub memory_passed : {T : Type 0} (r : Result T Failure) → IfErr r (λ f. f ≡ NoMemory)
       → IfErr r (FailsEarly c s held text)
   memory_passed (Ok x) only = tt

@@ -1,4 +1,4 @@
--- From the line of an object to what it tells.
+-- From the line of an object to its meaning.
 use Rattle.std.proofs.Common.{◌≡◌, ◌≢◌, ℕ, List, Option, Some, Result, Ok, Err, ap, sym, subst, ◌∙◌}
 use Rattle.std.proofs.Common.{Global, String, string_bytes}
 use Rattle.std.specs.declared.alloc.AllocError.{AllocError}
@@ -52,7 +52,7 @@ pub flushed : {T E : Type 0} (Tells : List ℕ → Type 0) (a b c : Option (List
     → Writes a b r t → Keeps b c → IsToldAsObject Tells a c
 flushed Tells a b c r t tells written keeps = told t tells (kept_begun a b c t (beginning_written a b r t written) keeps)
 
--- a failure that is told with the places of the text's program
+-- a failure that is reported with the positions of the text's program
 pub placed_told : (file text object : List ℕ) (f : Failure) (places shown : List Place) → shown ≡ places
     → ArePlaces text places → object ≡ line (refusal_json file shown f) → TellsPlaced file text f object
 placed_told file text object f places shown same begun is = record {
@@ -61,7 +61,7 @@ placed_told file text object f places shown same begun is = record {
   told_is = is ∙ ap (λ (ps : List Place). line (refusal_json file ps f)) same;
 }
 
--- what a check that refuses says
+-- the race in an error of `check`
 pub refusal_of : (typed back : Typed) (race : FoundRace) (e : Refused) (r : Result Accepted Refused) → r ≡ Err e
     → e ≡ Race race back → IfErr r (IsRefusalOf typed) → (back ≡ typed) × IsLeastRace (code_of typed) (race_of race)
 refusal_of typed back race e (Ok x) is of refused = absurd (ok_is_no_error x e is)
@@ -83,7 +83,7 @@ race_shown file object places code back race found w found_is is_witness shortes
   told_is = is ∙ ap (λ (p : Program). line (race_json file places p race w)) same;
 }
 
--- a race that was found once more
+-- a race that was found again
 pub race_told : (file text object : List ℕ) (typed back : Typed) (race : ProgramRace) (places shown : List Place)
     → IsCodeOf text (code_of typed) → back ≡ typed → IsLeastRace (code_of typed) race → shown ≡ places
     → ArePlaces text places → ShowsRace file shown (code_of back) race object → TellsRace file text object
@@ -120,7 +120,7 @@ told_pairs text code kept list (Ok t) l is_code are listed is status object =
     }
 
 module _ (Is : Answer) (Why : Failure → Type 0) (Tells : Failure → (told : List ℕ) → Type 0) where
-  -- a failure whose object was told
+  -- a failure whose object was written
   pub object_refused : (old new : Option (List ℕ)) (f : Failure) → Why f → f ≢ CannotWriteOutput
       → IsToldAsObject (Tells f) old new → FailedAsObject Is Why Tells old new f
   object_refused old new f why other is_told =

@@ -1,4 +1,4 @@
--- The object that tells why a command has no answer.
+-- The object that reports why a command has no answer.
 use Rattle.std.specs.Prelude.{ℕ, ◌≡◌, ◌≢◌, List, [], Option}
 use Rattle.std.specs.Io.KnownBytes.{Keeps}
 use Rattle.syntax.specs.declared.place.Place.{Place}
@@ -15,7 +15,7 @@ use Rattle.race_objects.specs.Races.{race_json}
 use Rattle.answers.specs.Answers.{Answer, Began, IsCodeOf}
 use Rattle.objects.specs.Objects.{ArePlaces}
 
--- a race of a program, and why it is one: a witness of it, than which none has fewer steps
+-- a race of a program, and a witness of it; no other witness has fewer steps
 pub record ShowsRace (file : List ℕ) (places : List Place) (code : Program)
     (race : ProgramRace) (told : List ℕ) : Type 0 where
   pub witness : Witness
@@ -39,18 +39,18 @@ pub record TellsPlaced (file text : List ℕ) (f : Failure) (told : List ℕ) : 
   pub begun : ArePlaces text places
   pub told_is : told ≡ line (refusal_json file places f)
 
--- the object of a failure; only a race and a rule are told with statements
+-- the object of a failure; only a race and a broken rule have statements
 abbrev pub TellsFailure : (file text : List ℕ) → Failure → (told : List ℕ) → Type 0
 TellsFailure file text (Race procedure first second) told = TellsRace file text told
 TellsFailure file text (Types e) told = TellsPlaced file text (Types e) told
 TellsFailure file text f told = told ≡ line (refusal_json file [] f)
 
--- the object was appended as far as it was taken; or there was no memory for it
+-- the object was appended as far as the writer accepted it; or there was no memory for it
 pub data IsToldAsObject (Tells : (told : List ℕ) → Type 0) (old new : Option (List ℕ)) : Type 0 where
   untold : Keeps old new → IsToldAsObject Tells old new
   told : (object : List ℕ) → Tells object → AppendsBeginning old new object → IsToldAsObject Tells old new
 
--- there is a reason, and its object was told; or, where writing failed, a beginning of the answer was
+-- there is a reason, and its object was written; or, if writing failed, a prefix of the answer was
 pub record FailedAsObject (Is : Answer) (Why : Failure → Type 0) (Tells : Failure → (told : List ℕ) → Type 0)
     (old new : Option (List ℕ)) (f : Failure) : Type 0 where
   pub why : Why f

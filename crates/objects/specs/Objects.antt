@@ -1,4 +1,4 @@
--- What a command answers to a program's text as one object, and why it has no answer.
+-- The answer of a command to a program's text as one object, and the reason why there is none.
 use Rattle.std.specs.Prelude.{ℕ, ◌≡◌, ◌≢◌, List}
 use Rattle.std.specs.Str.{chars}
 use Rattle.syntax.specs.Lexical.{AreTokensOf}
@@ -27,7 +27,7 @@ use Rattle.json_answers.specs.Pieces.{line}
 use Rattle.json_answers.specs.Programs.{accepted_json, pairs_json}
 use Rattle.answers.specs.Answers.{Explains, IsExplored, TellsAccepted, TellsOfRun, TellsPairs}
 
--- where the statements of the text's program begin
+-- the positions at which the statements of the text's program start
 abbrev pub ArePlaces : (text : List ℕ) → List Place → Type 0
 ArePlaces text places =
     (p : tree.Program) → AreTokensOf (chars text) (spelling p) → AreBegun (chars text) (starts p) places
@@ -45,25 +45,25 @@ ObjectOfSerial s held text told status =
     TellsOfRun s held text
     (λ code input. TellsOutcome code.arrays (outcome code input s.budget) text told status)
 
--- `run`: the text's program has no race; the same outcome
+-- `run`: the text's program has no race; the outcome is the one-thread outcome
 pub record ObjectOfRun (s : Settings) (held : Held) (text told : List ℕ) (status : ℕ) : Type 0 where
   pub run : IsExplored s held text
   pub tells : TellsOutcome run.code.arrays (outcome run.code run.input s.budget) text told status
 
--- what is told of a run that ended without faults is what it cost; of any other its outcome
+-- if a run ended without faults its cost is reported, else its outcome
 pub data TellsNumbers (code : Program) (o : Outcome) (c : Numbers) (text told : List ℕ) (status : ℕ)
     : Type 0 where
   numbers : status_of o ≡ 0 → told ≡ line (cost_json c) → status ≡ 0 → TellsNumbers code o c text told status
   not_ended : status_of o ≢ 0 → TellsOutcome code.arrays o text told status
       → TellsNumbers code o c text told status
 
--- `cost`: what the run on one thread cost
+-- `cost`: the cost of the one-thread run
 abbrev pub ObjectOfCost : Settings → Held → (text told : List ℕ) → (status : ℕ) → Type 0
 ObjectOfCost s held text told status =
     TellsOfRun s held text (λ code input.
     TellsNumbers code (outcome code input s.budget) (cost_of (tally_of code input s.budget)) text told status)
 
--- `check`: the text's program has no race, and so many procedures and labels
+-- `check`: the text's program has no race, and these numbers of procedures and labels
 abbrev pub ObjectOfCheck : (text told : List ℕ) → (status : ℕ) → Type 0
 ObjectOfCheck text = TellsAccepted text (λ code program. line (accepted_json code))
 
@@ -71,7 +71,7 @@ ObjectOfCheck text = TellsAccepted text (λ code program. line (accepted_json co
 abbrev pub ObjectOfPairs : (text told : List ℕ) → (status : ℕ) → Type 0
 ObjectOfPairs text = TellsPairs text (λ pairs. line (pairs_json pairs))
 
--- the object told, with its status, answers what is asked of a program's text
+-- the object written, with its status, answers the command for a program's text
 abbrev pub ObjectOf : Command → Settings → Held → (text told : List ℕ) → (status : ℕ) → Type 0
 ObjectOf Run s held text told status = ObjectOfRun s held text told status
 ObjectOf Serial s held text told status = ObjectOfSerial s held text told status

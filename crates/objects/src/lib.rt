@@ -1,4 +1,4 @@
-//! What commands answer as one object: the answer, or why there is none.
+//! The answers of commands as one object: the answer, or the reason why there is none.
 
 #![tactic(auto)]
 

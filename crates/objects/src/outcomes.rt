@@ -15,10 +15,10 @@ use syntax::Place;
 use types::code::Array;
 use types::outcome::Outcome;
 
-/// The most bytes of a text that spells a program.
+/// The maximum number of bytes of a text that spells a program.
 const MOST_BYTES: usize = 1_048_576;
 
-/// An outcome of a text's program, whose arrays are `declared`.
+/// Returns the object of an outcome of a text's program, whose arrays are `declared`.
 pub fn outcome_told(
     alloc: Global,
     text: &str,
@@ -41,7 +41,8 @@ pub fn outcome_told(
     }
 }
 
-/// Where the statements of a text's program begin. A longer text spells none, so it has no places.
+/// Returns where the statements of a text's program start. A longer text spells no program: it is an
+/// error.
 pub(crate) fn places_in(alloc: Global, text: &str) -> Result<Vec<Place>, AllocError>
     ensures { IfOk result (λ places. ArePlaces text.now places.items) }
 {

@@ -1,4 +1,4 @@
-//! Why a command has no answer.
+//! Objects of failures.
 
 ghost use Rattle.std.specs.Prelude.{IfOk};
 ghost use Rattle.std.specs.String.{string_bytes};
@@ -22,8 +22,8 @@ use types::laws::typed_programs_are_sound;
 use types::typed::Typed;
 use witness::witness::witness_of;
 
-/// The line of a failure, of a command that was asked of the file with this text; the text is empty where
-/// the file has none. A race is looked for once more, since its failure has its accesses as text.
+/// Returns the line of a failure of a command on the file with this text. The text is empty if the
+/// file has none. A race is looked for again, because its failure contains its accesses as text.
 pub fn refusal_line<R: Threads + Sync>(
     rt: &R,
     alloc: Global,
@@ -41,7 +41,7 @@ pub fn refusal_line<R: Threads + Sync>(
     }
 }
 
-/// The line of the least race of a text's program, with a witness.
+/// Returns the line of the least race of a text's program, with a witness.
 fn race_line<R: Threads + Sync>(
     rt: &R,
     alloc: Global,
@@ -61,7 +61,7 @@ fn race_line<R: Threads + Sync>(
     }
 }
 
-/// The line of a race, with a witness.
+/// Returns the line of a race, with a witness.
 fn shown_line(
     alloc: Global,
     file: &str,
@@ -87,7 +87,7 @@ fn shown_line(
     }
 }
 
-/// The line of a failure that tells a statement of a text's program.
+/// Returns the line of a failure at a statement of a text's program.
 fn placed_line(
     alloc: Global,
     file: &str,

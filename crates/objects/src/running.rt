@@ -19,7 +19,7 @@ use json_answers::costs::cost_object;
 use statement_steps::watch::Watch;
 use std::alloc::Global;
 
-/// `serial`: the outcome on one thread.
+/// `serial`: returns the object of the one-thread outcome.
 pub fn serial_told<F: FileSource, W: Watch>(
     alloc: Global,
     question: Question<'_>,
@@ -40,7 +40,8 @@ pub fn serial_told<F: FileSource, W: Watch>(
     }
 }
 
-/// `cost`: what the run on one thread costs, or its outcome where it has faults or was stopped.
+/// `cost`: returns the object of the cost of the one-thread run, or of its outcome if it has faults
+/// or was stopped.
 pub fn cost_told<F: FileSource>(
     alloc: Global,
     question: Question<'_>,

@@ -1,4 +1,4 @@
-//! The commands that tell of a program without a run.
+//! The commands that report on a program without a run.
 
 ghost use Rattle.std.specs.Prelude.{IfErr, IfOk};
 ghost use Rattle.std.specs.String.{string_bytes};
@@ -15,7 +15,7 @@ use json_answers::programs::{accepted_object, pairs_object};
 use std::alloc::Global;
 use std::thread::Threads;
 
-/// `check`: how many procedures and labels an accepted program has.
+/// `check`: returns the object with the numbers of procedures and labels of an accepted program.
 pub fn check_told<R: Threads + Sync>(rt: &R, alloc: Global, text: &str) -> Result<Told, Failure>
     ensures object { (s : SettingsOf) (held : Held)
         → IfOk result (λ t. ObjectOf Command.Check s held text.now (string_bytes t.line) t.status) }
@@ -25,7 +25,7 @@ pub fn check_told<R: Threads + Sync>(rt: &R, alloc: Global, text: &str) -> Resul
     told_or_no_memory(accepted_object(alloc, accepted.typed().code()), 0)
 }
 
-/// `mhp`: the pairs of labels of a program that may run together.
+/// `mhp`: returns the object with the pairs of labels of a program that may run together.
 pub fn pairs_told(alloc: Global, text: &str) -> Result<Told, Failure>
     ensures object { (s : SettingsOf) (held : Held)
         → IfOk result (λ t. ObjectOf Command.Pairs s held text.now (string_bytes t.line) t.status) }

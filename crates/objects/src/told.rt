@@ -1,4 +1,4 @@
-//! An object, and the status that it tells.
+//! An object, and the exit status that goes with it.
 
 ghost use Rattle.std.specs.Prelude.{◌≡◌, IfOk, IfErr, Ok};
 
@@ -12,7 +12,7 @@ pub struct Told {
     pub status: u8,
 }
 
-/// A line and its status, or want of memory.
+/// Returns a line and its status, or out of memory.
 pub(crate) fn told_or_no_memory(
     line: Result<String, AllocError>,
     status: u8,

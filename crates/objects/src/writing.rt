@@ -13,7 +13,7 @@ use std::io::Write;
 use std::thread::Threads;
 use texts::emit::append;
 
-/// Writes an answer, hands on what the writer keeps back, and gives its exit status.
+/// Writes an answer, flushes the writer, and returns the exit status.
 pub fn answer_object<O: Write>(out: &mut O, told: &Told) -> Result<u8, Failure>
     ensures text { Writes (O.contents out.old) (O.contents out.new) result (string_bytes told.now.line) }
     ensures status { IfOk result (λ status. status ≡ told.now.status) }
@@ -26,7 +26,8 @@ pub fn answer_object<O: Write>(out: &mut O, told: &Told) -> Result<u8, Failure>
     }
 }
 
-/// Writes why there is no answer, as far as it is taken, where memory is there.
+/// Writes the object of a failure, as far as the writer accepts it, if there is memory for the
+/// object.
 pub fn tell_refusal<R: Threads + Sync, O: Write>(
     rt: &R,
     alloc: Global,

@@ -1,4 +1,4 @@
--- All with nothing but sound and accepted as premises.
+-- All theorems with only sound and accepted as premises.
 use Rattle.std.proofs.Common.{◌≡◌, List, [], Some, refl, sym, ap, ◌∙◌}
 use Rattle.std.specs.Prelude.{ℤ}
 use Rattle.types.specs.Code.{Program}

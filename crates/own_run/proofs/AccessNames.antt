@@ -70,7 +70,7 @@ pub overwrites_more : (env : Environment) (part all : Access → Type 0) (q : Pl
     → Overwrites env all q
 overwrites_more env part all q f t = record { access = t.access; among = f t.access t.among; place = t.place; writes = t.writes }
 
--- those of accesses under other names, which name the same
+-- the places of accesses under other names, which name the same windows
 module _ (env inner : Environment) (past : ℕ → ℕ) (part all : Access → Type 0) (q : Place)
     (out : (z : ℕ) → In (inner.windows z) q → In (env.windows (past z)) q)
     (among : (y : Access) → part y → all (renamed past y)) where

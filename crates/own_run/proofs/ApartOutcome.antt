@@ -33,7 +33,7 @@ arrays_fit p j k may lt ne q a b =
     let f = array_here p.arrays k 0 q b in
     ne (omega (arith, e, f))
 
--- ---- what both come to
+-- ---- the outcome of both
 stopped_is : (f : Flow) → is_stopped f ≡ true → f ≡ Stopped
 stopped_is Stopped e = refl
 stopped_is On e = absurd (false_true e)
@@ -101,7 +101,7 @@ module _ (p : Program) (needs : Codes → Needs) (is_scoped : IsScoped p) (is_ca
       right : A
       right = gather a apart_end
 
-      -- `main` as the body of a finish, where all that it leaves pending has ended
+      -- `main` as the body of a finish, if all that it leaves pending has ended
       ready : ReadyOf p needs around none none 0 (Finish p.main.body)
       ready = record {
         fits = arrays_fit p;

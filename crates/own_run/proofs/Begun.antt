@@ -1,4 +1,5 @@
--- What a task lists, it has begun, each under a path of its own; and where all is handed over it never waits.
+-- A task has spawned all that it lists, each under a separate path; if all results are handed over,
+-- it never waits.
 use Rattle.std.proofs.Common.{◌≡◌, ℕ, zero, suc, ◌+◌, List, [], ◌∷◌, ◌++◌, length, Option, Some, None, refl, sym, ap}
 use Rattle.std.proofs.Common.{◌∙◌, subst, arith, add-one, append_assoc}
 use Rattle.std.proofs.lemmas.List.{append-nil, length_push}
@@ -33,7 +34,7 @@ get_last (y ∷ xs) x zero e = absurd (omega (arith, e))
 get_last (y ∷ xs) x (suc k) e = get_last xs x k (omega (arith, e))
 
 -- ---- what is known
--- a state follows another: its name stays, its actions grow at their end
+-- a state follows another: its path stays, its actions grow at their end
 pub record Tells (nest : ℕ) (st to : State Own) : Type 0 where
   pub path : to.path ≡ st.path
   pub done : List Action
@@ -53,7 +54,7 @@ module _ (nest : ℕ) where
     deeper = h.deeper;
   }
 
-  -- an action other than a spawn, with no more begun
+  -- an action other than a spawn, with no more tasks spawned
   pub quiet : (st to : State Own) (a : Action) → begun_by (a ∷ []) ≡ [] → to.path ≡ st.path → to.spawned ≡ st.spawned
       → to.extra.actions ≡ st.extra.actions ++ a ∷ [] → to.extra.pending ≡ st.extra.pending → HasBegun nest st → HasBegun nest to
   quiet st to a none path spawned more pending h = record {
@@ -192,14 +193,14 @@ module _ (nest : ℕ) where
       finish = finish_tells;
     }
 
-    -- of any run by these rules
+    -- facts about any run by these rules
     pub run_tells : (p : Program) (w : Work) (st : State Own) → Tells nest st (run p r w st)
     run_tells p w st = run_keeps p r (Tells nest) tells w st
 
     pub at_first_fine : (fresh : ℕ) (s : Start) → HasBegun nest (beginning (at_first s.owned) fresh s)
     at_first_fine fresh s = record { counted = refl; begun = tt }
 
-    -- where all is handed over, it never waits
+    -- if all results are handed over, it never waits
     abbrev Awake : State Own → State Own → Type 0
     Awake st to = st.extra.waits ≡ false → to.extra.waits ≡ false
 

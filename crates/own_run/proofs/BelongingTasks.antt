@@ -1,4 +1,5 @@
--- Of a sound and accepted program: what a task has to do is of the program, and its places come back to it.
+-- For a sound and accepted program: the work of a task belongs to the program, and its places come
+-- back to it.
 use Rattle.std.proofs.lemmas.Option.{same_Some}
 use Rattle.std.proofs.Common.{◌≡◌, ℕ, List, [], ◌∷◌, refl, sym, ap, ◌∙◌}
 use Rattle.std.specs.Prelude.{ℤ, ◌||◌, true, nat_eq}
@@ -38,7 +39,7 @@ use Rattle.own_run.proofs.SettledResults.{paths_same}
 use Rattle.own_run.proofs.TaskRuns.{lists_given}
 use Rattle.own_run.proofs.TurnsBelong.{Belongs, AllBelong, IsOf, turn_kept, handed_kept, begun_kept, ended_places}
 
--- the async that stands first in a block of the program is one of its
+-- the async that is first in a block of the program is one of its asyncs
 module _ (p : Program) where
   abbrev pub IsAsync : ℕ → Codes → Type 0
   IsAsync l b = HasStatement p l (Async b)
@@ -73,7 +74,7 @@ module _ (p : Program) (needs : Codes → Needs) (scoped : IsScoped p) (calm : I
   belongs (leaves {s = s} {before = before} {fs = fs} {st = st} {x = x} rs r all e) =
       handed_kept p s.owned before x fs st (belongs r)
 
-  -- of each path there is one start: what a task of a listed path owns in the end is what is listed
+  -- each path has one start: what a task of a listed path owns in the end is what is listed
   pub given_back : {u : Start} {st : State Own} → Reached p needs fresh root u (record { frames = []; state = st }) → (c : Child)
       → Belongs p c → IsGivenChild p needs fresh root c → pointwise nat_eq st.path c.listed.path ≡ true → (q : Place)
       → (st.extra.owned q || back_from st.extra.pending q) ≡ has c.listed.windows q
@@ -85,14 +86,15 @@ module _ (p : Program) (needs : Codes → Needs) (scoped : IsScoped p) (calm : I
       ∙ ap (λ (v : Start). v.owned q) same
       ∙ of.places q
 
-  -- each task that is listed is given its start
+  -- each listed task is given its start
   pub children_given : {s : Start} {t : Standing Own} → Reached p needs fresh root s t
       → Each (IsGivenChild p needs fresh root) t.state.extra.pending
   children_given {s} {t} r =
       lists_given p needs fresh root s t.frames t.state (goes p needs scoped calm provided fresh root named may_begin r).task
 
--- ---- of a sound and accepted program
--- what a task of the path of a child owns in the end, with what comes back to it, is what is listed of the child
+-- ---- sound and accepted programs
+-- what the task of a child's path owns in the end, with what comes back to it, is what is listed
+-- for the child
 abbrev pub IsGivenBack : Program → List (List ℤ) → Budget → Child → Type 0
 IsGivenBack p input b c =
     (r : TaskResult) (k : IsTaskResult p input b r) → pointwise nat_eq k.state.path c.listed.path ≡ true → (q : Place)
@@ -106,7 +108,7 @@ module _ (p : Program) (sound : IsSound p) (accepted : IsAccepted p) (input : Li
   main_part : IsPartOf p p.main.body
   main_part l s h = HasStatement.in_main h
 
-  -- a run of the program's has what it does next, and knows an async that is next
+  -- a run of the program has all that its next statement needs, and knows an async that is next
   pub can_turn : (r : Run) → MayRun p input b r → CanTurn (needs_of p) (IsAsync p) r
   can_turn r m = record {
     frames = m.frames;
@@ -118,7 +120,7 @@ module _ (p : Program) (sound : IsSound p) (accepted : IsAccepted p) (input : Li
         refl begins_root main_part m.stands).frames;
   }
 
-  -- and its next statement is the program's
+  -- its next statement belongs to the program
   first_is_of : (fs : List (Frame Own)) → AllBelong p fs → FirstIsOf p fs
   first_is_of [] k = tt
   first_is_of (Rest End ∷ fs) k = tt

@@ -1,4 +1,4 @@
--- A turn that began a task lists it.
+-- A turn that spawned a task lists it.
 use Rattle.std.proofs.Common.{◌≡◌, ℕ, zero, suc, List, [], ◌∷◌}
 use Rattle.std.specs.Prelude.{Option}
 use Rattle.sections.specs.Member.{Member, first}
@@ -10,7 +10,7 @@ use Rattle.own_run.specs.Frames.{Frame, Rest, Again, AtEnd, Back, acted, by_flow
 use Rattle.own_run.specs.OwnRun.{Action, Child, Own, Spawn, Start, own_rules}
 use Rattle.own_run.specs.Results.{Settled}
 
--- a task that started so is listed
+-- a task with this start is listed
 pub record Lists (st : State Own) (s : Start) : Type 0 where
   pub child : Child
   pub member : Member child st.extra.pending

@@ -1,4 +1,4 @@
--- What a task had at its beginning is there once all has come.
+-- All that a task had at its start is there once everything has come back.
 use Rattle.std.proofs.Common.{◌≡◌, ℕ, zero, suc, List, [], ◌∷◌, ◌++◌, Option, Some, None, refl, sym, subst, inl, inr}
 use Rattle.std.specs.Prelude.{ℤ, Bool, true, false, if◌then◌else◌}
 use Rattle.std.proofs.lemmas.Bool.{or_cases}
@@ -39,7 +39,7 @@ there_right (Some x) v h = tt
 abbrev R : A → A → Type 0
 R a b = Extends (merged a) (merged b)
 
--- what may be written may be touched
+-- each place that may be written may be touched
 pub written_touched : (env : Environment) (n : Needs) (q : Place) → written env n q ≡ true → touched env n q ≡ true
 written_touched env n q h =
     let i = named_some env n.writes q h in
@@ -64,7 +64,7 @@ module _ (begin : Codes → A → A) (begins : (b : Codes) (st : A) → R st (be
     finish = λ l st out h q i. there_or (st.extra.contents q) (st.store q) (merged out q) (λ k. h q k) i;
   }
 
--- where only some places are kept, a number at one of them stays there
+-- if only some places are kept, a number at one of them stays
 pub only_there : (t : Bool) (v : Option ℤ) → t ≡ true → IsThere v → IsThere (if t then v else None)
 only_there true v e h = h
 only_there false v e h = absurd (false_true e)

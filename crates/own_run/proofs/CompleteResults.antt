@@ -1,4 +1,5 @@
--- Where the results of all tasks below one are there, each once and in whatever order, it is settled.
+-- If the results of all tasks below a task are there, each once and in any order, its result
+-- settles.
 use Rattle.std.proofs.Common.{◌≡◌, ℕ, zero, suc, ◌+◌, ◌<◌, ◌≤◌, List, [], ◌∷◌, ◌++◌, length, Option, Some, None, refl}
 use Rattle.std.proofs.Common.{sym, ap, ◌∙◌, subst, arith, append_assoc, le_refl}
 use Rattle.std.proofs.lemmas.Bool.{eq-eqb, and_from, or_from, or_left, or_right}
@@ -87,7 +88,7 @@ not_met set (w ∷ ws) h =
 
 -- ---- settling
 module _ (p : Program) (needs : Codes → Needs) (fresh : ℕ) (root : Start) where
-  -- it comes to this, and leaves others
+  -- it settles to this, and leaves the others unused
   pub record Done (o : Option (Settled × List TaskResult)) (x : Settled) (ts rs : List TaskResult) : Type 0 where
     pub rest : List TaskResult
     pub is : o ≡ Some (x, rest)
@@ -96,7 +97,7 @@ module _ (p : Program) (needs : Codes → Needs) (fresh : ℕ) (root : Start) wh
     pub parted : Each IsParted rest
     pub fewer : length rest ≤ length rs
 
-  -- a listed task that is given its start, with so much nest
+  -- a listed task that is given its start, with this nesting level
   pub record Stands (n : ℕ) (c : Child) : Type 0 where
     pub is : IsGivenChild p needs fresh root c
     pub nest : c.start.nest ≡ n
@@ -161,7 +162,7 @@ module _ (p : Program) (needs : Codes → Needs) (fresh : ℕ) (root : Start) wh
       })
       (t.fine (at_first_fine s.nest needs (in_truth p needs fresh) fresh s)).begun
 
-  -- with no nest a task lists none
+  -- without a nesting level a task lists no child
   pub lists_none : (s : Start) → s.nest ≡ zero → (own p needs fresh s).extra.pending ≡ []
   lists_none s e =
       let t = run_tells s.nest needs (in_truth p needs fresh) p (Block s.body) (beginning (at_first s.owned) fresh s) in
@@ -203,7 +204,7 @@ module _ (p : Program) (needs : Codes → Needs) (fresh : ℕ) (root : Start) wh
         fewer = f.fewer;
       }
 
-  -- a task's own run is settled, and comes to what its start comes to
+  -- the result of a task's own run settles to the settled result of its start
   pub own_complete : (s : Start) → IsGiven p needs fresh root s → (rs : List TaskResult) → Shuffled (below p needs fresh s.nest s) rs
       → NoTwice rs
       → IsParted (result_of (own p needs fresh s)) → Each IsParted rs

@@ -1,4 +1,4 @@
--- What is settled used up the results of all tasks below, and no others.
+-- A settled result used up the results of all tasks below, and no others.
 use Rattle.std.proofs.lemmas.Option.{none-some, same_Some}
 use Rattle.std.proofs.Common.{◌≡◌, ℕ, zero, suc, ◌+◌, List, [], ◌∷◌, ◌++◌, length, Option, Some, None, refl, sym, ap}
 use Rattle.std.proofs.Common.{◌∙◌, subst, append_assoc}
@@ -18,7 +18,7 @@ use Rattle.own_run.proofs.OnePath.{results}
 use Rattle.own_run.proofs.SettledResults.{unless_none, gives, taken, IsGiven, settle_sound}
 use Rattle.own_run.proofs.CompleteResults.{Stands, stands, lists_none}
 
--- what was taken stood there
+-- a result that was taken was in the list
 took : (path : List ℕ) (rs : List TaskResult) (found : TaskResult × List TaskResult) → take path rs ≡ Some found
     → Inserted found.0 found.1 rs
 took path [] found e = absurd (none-some _ e)
@@ -38,7 +38,7 @@ took path (r ∷ rs) found e = by_path (λ f. took path rs f) (pointwise nat_eq 
     by_path rec false q = later_one rec (take path rs) refl q
 
 module _ (p : Program) (needs : Codes → Needs) (fresh : ℕ) (root : Start) where
-  -- these results were used up, whatever is left
+  -- these results were used up, and any others are left
   abbrev Used : List TaskResult → (rs rest : List TaskResult) → Type 0
   Used us rs rest = (ts : List TaskResult) → Shuffled ts rest → Shuffled (us ++ ts) rs
 
@@ -94,7 +94,7 @@ module _ (p : Program) (needs : Codes → Needs) (fresh : ℕ) (root : Start) wh
   all_used (s, []) y e = refl
   all_used (s, r ∷ rs) y e = absurd (none-some _ e)
 
-  -- where it is settled, the results were those of all tasks below it, in some order
+  -- if a result settles, the results were those of all tasks below it, in some order
   pub own_exact : (s : Start) → IsGiven p needs fresh root s → (rs : List TaskResult) → Each (IsOwn p needs fresh root) rs → (x : Settled)
       → settle (result_of (own p needs fresh s)) rs ≡ Some x → Shuffled (below p needs fresh s.nest s) rs
   own_exact s is rs all x e =

@@ -1,4 +1,4 @@
--- Worked programs: what asyncs need, tasks apart, and results settled in whatever order they came.
+-- Worked programs: the needs of asyncs, tasks apart, and results settled in several orders.
 use Rattle.std.proofs.Common.{◌≡◌, ℕ, List, [], ◌∷◌, ◌++◌, Option, Some, None, refl, ap, arith}
 use Rattle.std.specs.Prelude.{ℤ, pos, false, replicate}
 use Rattle.types.specs.Code.{Element, Store, Do, Call, End, Then, Program}
@@ -19,7 +19,7 @@ budget steps nest = record { steps = steps; nest = nest }
 abbrev zeros : ℕ → List ℤ
 zeros n = replicate n (pos 0)
 
--- ---- what asyncs need
+-- ---- needs of asyncs
 two_arrays_needs : needs_of two_arrays first_child ≡ record { writes = 0 ∷ []; reads = [] }
 two_arrays_needs = refl
 
@@ -57,7 +57,8 @@ results_of p input (path ∷ paths) =
     among_results (and_then (given p (needs_of p) 100 (root_of p input 5) path) (λ s. Some (result_of (own p (needs_of p) 100 s))))
     ++ results_of p input paths
 
--- what is told where the root's only finish goes on with the results of these paths; where it can't, the root waits
+-- the outcome if the root's only finish continues with the results of these paths; if it can't, the
+-- root waits
 abbrev told_with : Program → (input : List (List ℤ)) → (paths : List (List ℕ)) → Option Outcome
 told_with p input paths =
     and_then (settle (result_of (run_by p (needs_of p) 100 (results_of p input paths ∷ []) (root_of p input 5))) [])
@@ -84,7 +85,8 @@ faults_in_order = refl
 faults_out_of_order : told_with three_faults [] ((2 ∷ []) ∷ (1 ∷ []) ∷ []) ≡ Some three
 faults_out_of_order = refl
 
--- finish { async { async { print 1; } print 2; } } print 3; where the result of 0.1.1 comes before that of 0.1
+-- finish { async { async { print 1; } print 2; } } print 3; with the result of 0.1.1 before that of
+-- 0.1
 nested_in_order : told_with nested_tasks [] ((1 ∷ []) ∷ (1 ∷ 1 ∷ []) ∷ [])
     ≡ Some (Ended (record { arrays = []; lines = (pos 1 ∷ []) ∷ (pos 2 ∷ []) ∷ (pos 3 ∷ []) ∷ []; faults = [] }))
 nested_in_order = refl
@@ -93,7 +95,7 @@ nested_child_first : told_with nested_tasks [] ((1 ∷ 1 ∷ []) ∷ (1 ∷ []) 
     ≡ Some (Ended (record { arrays = []; lines = (pos 1 ∷ []) ∷ (pos 2 ∷ []) ∷ (pos 3 ∷ []) ∷ []; faults = [] }))
 nested_child_first = refl
 
--- ---- what isn't settled: a result too few, one twice, one of a stranger; two tasks are pending
+-- ---- unsettled: a missing result, a result twice, one of a stranger; two tasks are pending
 abbrev pending_two : TaskResult
 pending_two = record {
   path = [];
@@ -134,7 +136,8 @@ one_comes_twice = refl
 one_is_a_stranger : lines_of (settle pending_two (leaf 2 ∷ leaf 1 ∷ leaf 3 ∷ [])) ≡ None
 one_is_a_stranger = refl
 
--- ---- finish { async { a[0] = 7; } print a[0]; } has a race: its tasks apart tell 0, and one thread tells 7
+-- ---- finish { async { a[0] = 7; } print a[0]; } has a race: its tasks apart print 0, and one
+-- thread prints 7
 abbrev first_number : List ℤ → ℕ
 first_number (pos n ∷ vs) = n
 first_number _ = 0

@@ -1,4 +1,5 @@
--- Runs go on: by nothing, by a turn, by a plain statement at once, and by one after the other.
+-- Runs continue: by nothing, by a turn, by a plain statement at once, and by several of these in
+-- sequence.
 use Rattle.std.proofs.Common.{◌≡◌, ℕ, zero, suc, ◌+◌, ◌<◌, ◌≤◌, List, [], ◌∷◌, ◌++◌, map, Option, None, refl, sym, ap, ◌∙◌, subst, inl, arith}
 use Rattle.std.specs.Borrow.{Bor}
 use Rattle.types.specs.declared.code.Stmt.{Stmt}
@@ -39,7 +40,7 @@ use Rattle.own_run.proofs.RunSteps.{stacked-pushed}
 use Rattle.own_run.proofs.RunTops.{on_this}
 use Rattle.own_run.proofs.TurnsLeft.{goes_left, left_same, quiet_no_more, rest_leaves}
 
--- where a run stands as one that goes on
+-- the configuration of a run that continues
 abbrev Stands : (needs : Codes → Needs) → (close : State Own → Option Settled) → (old new : Run) → List (Frame Own) → State Own
     → Type 0
 Stands needs close old new fs st =
@@ -61,7 +62,7 @@ goes_nowhere needs r = λ close fs x shows. (
   record { plan = refl; nest = refl; stands = record { own = x; shows = shows; is = refl } },
 )
 
--- by a turn that does no more than a step
+-- by a turn that does at most a step
 module _ (needs : Codes → Needs) (close : State Own → Option Settled) (old new : Run) where
   abbrev next : Frame Own → List (Frame Own) → State Own → Standing Own
   next = turn (program old.plan.program.now) (own_rules needs old.thread.nest close)
@@ -77,7 +78,7 @@ module _ (needs : Codes → Needs) (close : State Own → Option Settled) (old n
   going (Again l t b ∷ fs) st h = goes (Again l t b) fs st h.0 h.1.1
   going (Back env ∷ fs) st h = goes (Back env) fs st h.0 h.1.1
 
-  -- or goes over the budget
+  -- or a turn that goes over the budget
   over : (fs : List (Frame Own)) (st : State Own) → TurnOf needs close old fs st (Over new) → Stands needs close old new fs st
   over [] st h = absurd h
   over (AtEnd before ∷ fs) st h = absurd h
@@ -94,7 +95,7 @@ pub goes_over : (needs : Codes → Needs) (old new : Run) → IsTurn needs old (
 goes_over needs old new is = λ close fs x shows.
     over needs close old new fs (with_own x (state_of old.thread)) (is close fs x shows)
 
--- by one after the other
+-- by several of these in sequence
 pub goes_more : (needs : Codes → Needs) (a b c : Run) → GoesOn needs a b → GoesOn needs b c → GoesOn needs a c
 goes_more needs a b c h k = λ close fs x shows.
     let first = h close fs x shows in
@@ -111,23 +112,23 @@ goes_more needs a b c h k = λ close fs x shows.
       record { plan = second.2.plan ∙ first.2.plan; nest = second.2.nest ∙ first.2.nest; stands = second.2.stands },
     )
 
--- then by a step in place that did nothing else
+-- then by a step in place that did at most a step
 pub goes_did : (needs : Codes → Needs) (a b c : Run) (s : rStep) (d : Done) → GoesOn needs a b → IsStep needs b s c → s ≡ rDid d → d ≡ Gone
     → GoesOn needs a c
 goes_did needs a b c s d so_far is to same = goes_more needs a b c so_far (goes_turn needs b c (did needs b c s d Gone is to same))
 
--- or that was over the budget
+-- or by one that was over the budget
 pub goes_exceeded : (needs : Codes → Needs) (a b c : Run) (s : rStep) (d : Done) → GoesOn needs a b → IsStep needs b s c → s ≡ rDid d
     → d ≡ Exceeded → GoesOn needs a c
 goes_exceeded needs a b c s d so_far is to same = goes_more needs a b c so_far (goes_over needs b c (did needs b c s d Exceeded is to same))
 
--- on the same plan
+-- with the same plan
 pub goes_plan : (needs : Codes → Needs) (a b : Run) (fs : List (Frame Own)) (x : Own) → Shows a fs x → GoesOn needs a b
     → b.plan ≡ a.plan
 goes_plan needs a b fs x shows far = (far (λ st. None) fs x shows).2.plan
 
 -- ---- by a plain statement
--- notes of steps leave all else
+-- recorded steps leave everything else unchanged
 noted_owned : (n : ℕ) (x : Own) → (times n (notes Step) x).owned ≡ x.owned
 noted_owned zero x = refl
 noted_owned (suc n) x = noted_owned n (notes Step x)
@@ -136,8 +137,8 @@ noted_pending : (n : ℕ) (x : Own) → (times n (notes Step) x).pending ≡ x.p
 noted_pending zero x = refl
 noted_pending (suc n) x = noted_pending n (notes Step x)
 
--- the top frame is a block, whose first statement is plain and was done at once; how many fresh steps a child would have is of
--- no consequence
+-- The top frame is a block, whose first statement is plain and was done at once. The number of
+-- fresh steps of a child has no effect.
 module _ (needs : Codes → Needs) (old new : Run) (fresh : ℕ) (hs : List rFrame) (b rest : Bor (List Stmt)) (s : Stmt) where
   abbrev p : Program
   p = program old.plan.program.now
@@ -165,7 +166,7 @@ module _ (needs : Codes → Needs) (old new : Run) (fresh : ℕ) (hs : List rFra
     abbrev st : State Own
     st = with_own x (state_of old.thread)
 
-    -- where it stands then
+    -- the configuration after it
     abbrev to : List (Frame Own) → Standing Own
     to below = record { frames = Rest (codes rest.now) ∷ below; state = run p r (Block (Then s.label c End)) st }
 
@@ -191,7 +192,7 @@ module _ (needs : Codes → Needs) (old new : Run) (fresh : ℕ) (hs : List rFra
           };
         }
 
-    -- a fact of all frames that it may stand on
+    -- a fact about all frames that it may have
     by_top : (P : List (Frame Own) → Type 0) (fs : List (Frame Own)) → Shows old fs x
         → ((below : List (Frame Own)) → Stacked hs below → P (Rest (Then s.label c (codes rest.now)) ∷ below)) → P fs
     by_top P fs shows h =
@@ -206,7 +207,8 @@ module _ (needs : Codes → Needs) (old new : Run) (fresh : ℕ) (hs : List rFra
           passed_to below fs stacked shows,
         ))
 
-    -- fewer turns are left: `left`, `left_same`, `goes_left`, `rest_leaves` and `quiet_no_more` of TurnsLeft
+    -- fewer turns are left: `left`, `left_same`, `goes_left`, `rest_leaves` and `quiet_no_more` of
+    -- TurnsLeft
     passed_leaves : (fs : List (Frame Own)) → Shows old fs x → left_of new < left_of old
     passed_leaves fs shows =
         by_top (λ (fs : List (Frame Own)). Shows old fs x → left_of new < left_of old) fs shows (λ below stacked shown.
@@ -225,7 +227,7 @@ module _ (needs : Codes → Needs) (old new : Run) (fresh : ℕ) (hs : List rFra
   plain_leaves_fewer : PassedBy → (fs : List (Frame Own)) (x : Own) → Shows old fs x → left_of new < left_of old
   plain_leaves_fewer by fs x shows = passed_leaves by (λ st. None) x fs shows
 
--- ---- what a piece comes to, of the program of a run that went on so far
+-- ---- the effect of a piece of code, for a run that has continued so far
 module _ (needs : Codes → Needs) (c : ProgramCode) (number : ℕ) (rest : Bor (List Stmt)) (start old new : Run)
     (plan : old.plan ≡ start.plan) (h : HasPiece c old number rest) (done : IsPassed c number rest old new)
     (of : IsCodeOfProgram (program start.plan.program.now) c) (next : NextIsOf (program start.plan.program.now) old) where
@@ -235,7 +237,7 @@ module _ (needs : Codes → Needs) (c : ProgramCode) (number : ℕ) (rest : Bor 
   its_code : IsCodeOfProgram its c
   its_code = subst (λ (q : Plan). IsCodeOfProgram (program q.program.now) c) (sym plan) of
 
-  -- the statement is the program's
+  -- the statement belongs to the program
   first_stands : HasStatement its h.first.label (code h.first.kind)
   first_stands =
       let is = subst (λ (q : Plan). NextIsOf (program q.program.now) old) (sym plan) next in

@@ -1,4 +1,4 @@
--- What holdings hold, as contents and sets of places.
+-- Holdings as contents and sets of places.
 use Rattle.std.proofs.Common.{◌≡◌, List, [], ◌∷◌, ◌++◌, refl, sym, ap, ◌∙◌, subst, Option, Some, None}
 use Rattle.std.specs.Prelude.{ℤ, Bool, true, false, ◌&&◌, ◌||◌, not, option_map, is_some, if◌then◌else◌}
 use Rattle.sections.specs.Covers.{has, is_in}
@@ -29,7 +29,7 @@ owned_put false v o is = refl
 abbrev pub owns : Map Held → Places
 owns m q = is_some (owned m q)
 
--- a write to an owned place leaves what is owned
+-- a write to an owned place doesn't change which places are owned
 pub owned-put : (q : Place) (v : ℤ) (m : Map Held) → is_some (owned m q) ≡ true
     → owns (put q (Owned v) m) ≡ owns m
 owned-put q v m is =
@@ -57,7 +57,7 @@ owned_over true v h o same = written h ∙ ap (λ (x : Option Held). is_some (ow
     written (Some (Shared w)) = refl
 owned_over false v h o same = refl
 
--- it leaves what is owned
+-- such a write doesn't change which places are owned
 pub owned-over : (q : Place) (v : ℤ) (m : Map Held) → owns (put q (in_place_of (m q) v) m) ≡ owns m
 owned-over q v m = λ t r. owned_over (same_place q r) v (m q) (m r) (λ same. ap m (places_same q r same)) t
 
@@ -74,7 +74,7 @@ has-append (w ∷ ws) vs q =
 
 -- ---- parts: what is carved and shared
 
--- a place that is owned is there
+-- an owned place is there
 pub all_owned : (set : Place → Bool) (m : Map Held) → ((q : Place) → set q ≡ true → is_some (owned m q) ≡ true)
     → AreThere set (owned m)
 all_owned set m own q e n = some_there (owned m q) (own q e) n

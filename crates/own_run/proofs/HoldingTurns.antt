@@ -1,4 +1,4 @@
--- From its beginning to its end a task has what it touches.
+-- From its start to its end a task has all that it touches.
 use Rattle.std.proofs.Common.{◌≡◌, ℕ, zero, suc, ◌+◌, ◌<◌, List, [], ◌∷◌, ◌++◌, length, Option, Some, refl, sym, ap}
 use Rattle.std.proofs.Common.{◌∙◌, subst, inl, inr, arith}
 use Rattle.std.proofs.lemmas.Bool.{or_left, or_right, false_from_ne_true, or_cases}
@@ -47,7 +47,7 @@ module _ (p : Program) (needs : Codes → Needs) (is_scoped : IsScoped p) (is_ca
     abbrev B : Scope → Environment → ℕ → Code → List (Frame Own) → State Own → Type 0
     B = Before p needs is_scoped is_calm provides nest close
 
-    -- actions that are noted, or aren't, and steps change nothing that is held
+    -- recorded actions and steps change nothing that is held
     with_actions : (sc : Scope) (env : Environment) (l : ℕ) (s : Code) (gs : List (Frame Own))
         (st : State Own) (k : ℕ) (acts : List Action) → B sc env l s gs st
         → B sc env l s gs (record st { steps = k; extra = record st.extra { actions = acts } })
@@ -126,7 +126,7 @@ module _ (p : Program) (needs : Codes → Needs) (is_scoped : IsScoped p) (is_ca
           returns = h.returns;
         }
 
-    -- a guard is about to be evaluated again
+    -- a condition is about to be evaluated again
     before_again : (l : ℕ) (t : Truth) (b : Codes) (fs : List (Frame Own)) (st : State Own)
         (h : Holds p needs (record { frames = Again l t b ∷ fs; state = st }))
         → B h.stack.0 h.stack.1 l (While t b) fs st
@@ -154,7 +154,7 @@ module _ (p : Program) (needs : Codes → Needs) (is_scoped : IsScoped p) (is_ca
     flow_holds Faulted s sc env l gs fs st h k = k
     flow_holds Stopped s sc env l gs fs st h k = k
 
-    -- a turn leaves a task what it touches
+    -- after a turn a task still has all that it touches
     pub turn_holds : (f : Frame Own) (fs : List (Frame Own)) (st : State Own) → Holds p needs (record { frames = f ∷ fs; state = st })
         → Holds p needs (turn p r f fs st)
     turn_holds (Rest End) fs st h = below_holds st.environment.windows h.stack.0 _ fs st h.stack.3 h.carried h.parted h.returns
@@ -172,7 +172,7 @@ module _ (p : Program) (needs : Codes → Needs) (is_scoped : IsScoped p) (is_ca
       returns = returns_move p needs st _ (record { there = λ q. inl; owned = λ q. inl; back = λ q. inr; no_more = λ q i. i }) fs h.returns;
     }
 
-    -- ---- what a statement about to run has
+    -- ---- what a statement has before it runs
     has_own : (sc : Scope) (env : Environment) (l : ℕ) (s : Code) (gs : List (Frame Own)) (st : State Own) → B sc env l s gs st
         → HasOwn st l s
     has_own sc env l s gs st h y m q i =
@@ -275,7 +275,7 @@ module _ (p : Program) (needs : Codes → Needs) (is_scoped : IsScoped p) (is_ca
         (part_sound p needs fresh root st.extra.pending (lists_given p needs fresh root s (AtEnd before ∷ fs) st task)
         (result_of st) refl rs all x e)
 
-    -- ---- beginnings
+    -- ---- starts
     pub begin_holds : (s : Start) → MayBegin p needs s
         → Holds p needs (record { frames = Rest s.body ∷ []; state = beginning (at_first s.owned) fresh s })
     begin_holds s h = record { stack = h; carried = tt; parted = tt; returns = tt }
@@ -298,7 +298,7 @@ module _ (p : Program) (needs : Codes → Needs) (is_scoped : IsScoped p) (is_ca
   window_within (w ∷ ws) zero q i = or_left (is_in w q) (has ws q) (is_in-from w q i)
   window_within (w ∷ ws) (suc k) q i = or_right (is_in w q) (has ws q) (window_within ws k q i)
 
-  -- the root can begin on an input that fits
+  -- the root can start on an input that fits
   pub root_begins : (input : List (List ℤ)) (nest : ℕ) → FitsArrays p.arrays input → MayBegin p needs (root_of p input nest)
   root_begins input nest f =
       let env = entry [] (whole_arrays 0 p.arrays) in (

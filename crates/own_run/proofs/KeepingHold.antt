@@ -1,4 +1,4 @@
--- Each turn of a task leaves it what it touches; so does what comes at the end of a finish.
+-- After each turn a task still has all that it touches, and so it has after the end of a finish.
 use Rattle.std.proofs.Common.{◌≡◌, ℕ, zero, suc, ◌<◌, List, [], ◌∷◌, ◌++◌, Option, Some, None, Ok, Err, refl, sym, ap}
 use Rattle.std.proofs.Common.{◌∙◌, subst, inl, inr}
 use Rattle.std.proofs.lemmas.Bool.{or_left, or_right, or_from, or_parts, false_from_ne_true, and_parts, or_cases}
@@ -68,7 +68,7 @@ back_split (d ∷ cs) c q e =
       ]
     ]
 
--- ---- what comes back is not owned
+-- ---- a place that comes back is not owned
 abbrev pub lists : List Child → List Listed
 lists = map (λ c. c.listed)
 
@@ -98,7 +98,7 @@ owned_apart o (c ∷ cs) k q e =
     (false_from_ne_true (has c.listed.windows q) (λ w. false_true (sym (k.0 q w) ∙ e)))
     (owned_apart (λ q. o q || has c.listed.windows q) cs k.1 q (or_left (o q) (has c.listed.windows q) e))
 
--- what is there, or owned, stays so or comes back
+-- what is there or owned stays so, or comes back
 pub record Moves (st to : State Own) : Type 0 where
   pub there : (q : Place) → IsThere (st.store q) → IsThere (to.store q) ⊎ (back_from to.extra.pending q ≡ true)
   pub owned : (q : Place) → st.extra.owned q ≡ true → (to.extra.owned q ≡ true) ⊎ (back_from to.extra.pending q ≡ true)
@@ -135,7 +135,7 @@ module _ (p : Program) (needs : Codes → Needs) where
   returns_in st env =
       returns_move st (record st { environment = env }) (record { there = λ q. inl; owned = λ q. inl; back = λ q. inr; no_more = λ q i. i })
 
-  -- a block where nothing is locked has what it touches
+  -- a block has all that it touches if nothing is locked
   remains_alone : (f : ℕ → Window) (c : Contents) (o : Places) (b : Codes) (sc : Scope) (env : Environment)
       → ((s : ℕ) → InScope sc s → f s ≡ env.windows s) → FitsScope sc env → Scoped p sc b → Calm p sc b → ProvidesIn p needs b
       → ((q : Place) → Touches env (All p accesses b) q → IsThere (c q))
@@ -147,7 +147,7 @@ module _ (p : Program) (needs : Codes → Needs) where
     ready = unlocked_ready p needs (having sc env c o) (locked_after p needs env none b) b fits scoped calm provided held wrote (λ q. inr);
   }
 
-  -- ---- a state that differs in nothing that is held but by what was written
+  -- ---- a state in which only written places differ
   pub record Alike (st to : State Own) : Type 0 where
     pub windows : (s : ℕ) → to.environment.windows s ≡ st.environment.windows s
     pub stores : Extends st.store to.store
@@ -215,7 +215,7 @@ module _ (p : Program) (needs : Codes → Needs) where
       abbrev mid : Place → Type 0
       mid = behind p needs x none s
 
-      -- it did nothing but write
+      -- it did nothing except write
       pub plain : (to : State Own) → Alike st to → Holds p needs (record { frames = gs; state = to })
       plain to a = record {
         stack = restack p needs st.environment.windows to.environment.windows (InScope sc) anywhere to.store to.extra.owned none gs
@@ -233,7 +233,7 @@ module _ (p : Program) (needs : Codes → Needs) where
         returns = returns_move st to (alike_moves st to a) gs h.returns;
       }
 
-      -- a block locks no more than the statement
+      -- a block locks at most what the statement locks
       abbrev after : Environment → Codes → Place → Type 0
       after env b = locked_after p needs env none b
 
@@ -310,7 +310,7 @@ module _ (p : Program) (needs : Codes → Needs) where
     chosen_holds true fs gs st h k = h
     chosen_holds false fs gs st h k = k
 
-    -- a turn of a loop
+    -- an iteration of a loop
     loop_holds : (sc : Scope) (env : Environment) (l : ℕ) (t : Truth) (b : Codes) (gs : List (Frame Own)) (st : State Own)
         → Before sc env l (While t b) gs st
         → Holds p needs (record { frames = Rest b ∷ Again l t b ∷ gs; state = st })
@@ -452,7 +452,7 @@ module _ (p : Program) (needs : Codes → Needs) where
           );
         }
 
-    -- behind an async
+    -- after an async
     async_holds : (n : ℕ) (sc : Scope) (env : Environment) (l : ℕ) (b : Codes) (gs : List (Frame Own)) (st : State Own)
         → Before sc env l (Async b) gs st
         → Holds p needs (record { frames = gs; state = begin_own needs n b st })

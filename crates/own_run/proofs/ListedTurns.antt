@@ -1,4 +1,4 @@
--- What a turn makes of the lists of a task's children: what it does says it.
+-- The actions of a turn determine how the lists of a task's children change.
 use Rattle.std.proofs.Common.{◌≡◌, ℕ, zero, suc, List, [], ◌∷◌, Option, Ok, Err, refl, ap, subst}
 use Rattle.std.specs.Prelude.{Bool, true, false, ok_or}
 use Rattle.facts.proofs.Truths.{false_true}
@@ -62,7 +62,7 @@ module _ (p : Program) (needs : Codes → Needs) (close : State Own → Option S
   chosen_lists true fs gs st ls e f = e
   chosen_lists false fs gs st ls e f = f
 
-  -- a statement that steps
+  -- a statement that takes a step
   module _ (nest n : ℕ) (fs : List (Frame Own)) (st : State Own) where
     abbrev after : State Own
     after = record st { steps = n; extra = notes Step st.extra }
@@ -99,7 +99,7 @@ module _ (p : Program) (needs : Codes → Needs) (close : State Own → Option S
   paid_lists nest (suc n) l (While t b) fs st = while_lists nest n fs st l t b
   paid_lists nest (suc n) l (Split s e x y b) fs st = split_lists nest n fs st l s x y e b
   paid_lists nest (suc n) l (Call f es ss) fs st = call_lists nest n fs st l f es ss
-  -- a finish begins no task, nor does what is over the budget
+  -- a finish spawns no task, and neither does a statement that is over the budget
   paid_lists nest n l s fs st = refl
 
   flow_lists : (nest : ℕ) (g : Flow) (l : ℕ) (s : Code) (fs below : List (Frame Own)) (st : State Own) → around fs ≡ around below
@@ -110,7 +110,7 @@ module _ (p : Program) (needs : Codes → Needs) (close : State Own → Option S
   flow_lists nest Faulted l s fs below st e = refl
   flow_lists nest Stopped l s fs below st e = refl
 
-  -- a turn makes of the lists what it does
+  -- a turn changes the lists according to its actions
   pub turn_lists : (nest : ℕ) (f : Frame Own) (fs : List (Frame Own)) (st : State Own)
       → ListsAs (done_in needs nest f st) (lists (record { frames = f ∷ fs; state = st })) (lists (turn p (r nest) f fs st))
   turn_lists nest (Rest End) fs st = refl

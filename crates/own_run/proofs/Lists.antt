@@ -1,4 +1,4 @@
--- What holds of each element of a list, and lists that end alike.
+-- Properties of each element of a list, and lists with the same end.
 use Rattle.std.proofs.Common.{◌≡◌, suc, List, [], ◌∷◌, ◌++◌, length, map, refl, ap, ◌∙◌, arith}
 use Rattle.std.proofs.lemmas.List.{length-append}
 use Rattle.own_run.specs.Lists.{Each}

@@ -1,4 +1,5 @@
--- Results that measure as all that a task has pending are these, each once: so they settle.
+-- Results with the same measures as all that a task has pending are exactly these, each once. So
+-- they settle.
 use Rattle.std.proofs.Common.{◌≡◌, ℕ, zero, suc, ◌+◌, ◌≤◌, List, [], ◌∷◌, Some, refl, sym, ap, ◌∙◌, subst, arith}
 use Rattle.std.proofs.lemmas.List.Sums.{sum_by-cons}
 use Rattle.std.specs.Prelude.{ℤ, Bool, true, false, nat_eq, sum_by, if◌then◌else◌}
@@ -37,7 +38,7 @@ use Rattle.own_run.proofs.AcceptedPrograms.{provides_needs}
 use Rattle.own_run.proofs.StartsWorth.{pending_worth, worth_lists}
 
 -- ---- a result is found by its path
--- one, where the path is this
+-- one, if the path is this path
 at_path : List ℕ → TaskResult → ℕ
 at_path path r = if pointwise nat_eq r.path path then 1 else 0
 
@@ -77,7 +78,7 @@ no_more [] e = refl
 no_more (y ∷ ys) e = absurd (let a = sum_by-cons (λ (r : TaskResult). 1) y ys in omega (arith, a, e))
 
 module _ (p : Program) (needs : Codes → Needs) (fresh : ℕ) (top : Start) where
-  -- results of own runs that measure alike are the same, in some order
+  -- results of own runs with the same measures are the same, in some order
   pub shuffled : (xs ys : List TaskResult) → Each (IsOfOwnRun p needs fresh top) xs → Each (IsOwn p needs fresh top) ys
       → ((f : TaskResult → ℕ) → measured f xs ≡ measured f ys) → Shuffled xs ys
   shuffled [] ys h k e = subst (Shuffled []) (sym (no_more ys (e (λ r. 1)))) none
@@ -102,7 +103,7 @@ module _ (p : Program) (needs : Codes → Needs) (fresh : ℕ) (top : Start) whe
 
 module _ (p : Program) (needs : Codes → Needs) (scoped : IsScoped p) (calm : IsCalm p) (provided : Provides p needs) (fresh : ℕ)
     (top : Start) (named : top.path ≡ []) (may_begin : MayBegin p needs top) where
-  -- at the end of a task's own run a start is worth what has been made of it
+  -- at the end of a task's own run, a start is worth what has been made of it
   pub ended_worth_by : (f : TaskResult → ℕ) (s : Start) (st : State Own)
       → Reached p needs fresh top s (record { frames = []; state = st })
       → worth_by p needs fresh f s ≡ f (result_of st) + sum_by (λ c. worth_by p needs fresh f c.start) st.extra.pending
@@ -121,7 +122,8 @@ module _ (p : Program) (needs : Codes → Needs) (scoped : IsScoped p) (calm : I
       (λ c h. record { number = h.number; path = h.path }) k.task.fine.begun)
       (distinct p needs scoped calm provided fresh top named may_begin r).ours (below_once p needs fresh n)
 
-  -- wherever a task stands, results of own runs that measure as what it has pending settle
+  -- in each configuration of a task, results of own runs with the measures of its pending tasks
+  -- settle
   pub measured_settles_by : (s : Start) (t : Standing Own) → Reached p needs fresh top s t
       → (rs : List TaskResult) → Each (IsOwn p needs fresh top) rs
       → ((f : TaskResult → ℕ) → measured f rs ≡ sum_by (λ c. worth_by p needs fresh f c.start) t.state.extra.pending)
@@ -135,20 +137,21 @@ module _ (p : Program) (needs : Codes → Needs) (scoped : IsScoped p) (calm : I
       settles_any p needs scoped calm provided fresh top named may_begin s.nest s t.frames t.state refl k.task k.holds rs order
       (shuffled_once order (all_pending_once s.nest s t r))
 
--- ---- of sound and accepted programs, where the input fits
+-- ---- sound and accepted programs, on an input that fits
 module _ (p : Program) (sound : IsSound p) (accepted : IsAccepted p) (input : List (List ℤ)) (b : Budget)
     (fits : FitsArrays p.arrays input) where
   root_may_begin : MayBegin p (needs_of p) (root p input b)
   root_may_begin = root_begins p (needs_of p) (is_scoped p sound) (is_calm p sound accepted) (provides_needs p sound) input b.nest fits
 
-  -- a task at its end has made of its start what that is worth: its result, and what it lists
+  -- a task at its end has made of its start what the start is worth: its result, and what it lists
   pub ended_worth : (f : TaskResult → ℕ) (s : Start) (st : State Own) → MayStand p input b s (record { frames = []; state = st })
       → worth p b f s ≡ f (result_of st) + listed_worth p b f st.extra.pending
   ended_worth f s st r =
       ended_worth_by p (needs_of p) (is_scoped p sound) (is_calm p sound accepted) (provides_needs p sound) b.steps (root p input b) refl
       root_may_begin f s st r
 
-  -- wherever a task stands, at the end of a finish or at its own, results of tasks that measure as what it lists settle
+  -- in each configuration, at the end of a finish or at its own, results of tasks with the measures
+  -- of what it lists settle
   pub measured_settles : (s : Start) (t : Standing Own) → MayStand p input b s t
       → (rs : List TaskResult) → Each (IsTaskResult p input b) rs
       → ((f : TaskResult → ℕ) → measured f rs ≡ listed_worth p b f t.state.extra.pending)

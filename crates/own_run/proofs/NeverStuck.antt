@@ -1,4 +1,5 @@
--- No finish is stuck: wherever a task that may come about stands at the end of a finish, results of own runs settle.
+-- No finish is stuck: in each reachable configuration at the end of a finish, results of own runs
+-- settle.
 use Rattle.std.proofs.Common.{◌≡◌, ℕ, zero, suc, ◌+◌, ◌<◌, ◌≤◌, List, [], ◌∷◌, length, Some, Ok, Err, refl, sym, ap}
 use Rattle.std.proofs.Common.{◌∙◌, subst, arith, inl, inr, le_refl}
 use Rattle.std.proofs.lemmas.List.{append-nil}
@@ -156,7 +157,7 @@ module _ (p : Program) (needs : Codes → Needs) (scoped : IsScoped p) (calm : I
         ∙ ap (λ o. and_then (and_then o (λ all. Some (complete (result_of st) all.0, all.1))) none_left) e
         ∙ ap (λ rest. none_left (complete (result_of st) x, rest)) nil
 
-    -- where the results of all that is pending are there, each once and in whatever order, they settle
+    -- if the results of all that is pending are there, each once and in any order, they settle
     pub settles_any : (n : ℕ) (s : Start) (fs : List (Frame Own)) (st : State Own) → s.nest ≡ n
         → IsTask p needs fresh root s (record { frames = fs; state = st })
         → Holds p needs (record { frames = fs; state = st }) → (rs : List TaskResult)
@@ -216,14 +217,15 @@ module _ (p : Program) (needs : Codes → Needs) (scoped : IsScoped p) (calm : I
           settles = k.1;
         }
 
-    -- wherever a task stands at the end of a finish, it can be left
+    -- in each configuration at the end of a finish, the finish can be left
     pub can_leave : (s : Start) (t : Standing Own) → Reached p needs fresh root s t → CanSettle p needs fresh root t.state
     can_leave s t r =
         let k = goes p needs scoped calm provided fresh root named may_begin r in
         leaves_at s.nest s t.frames t.state refl k.task k.holds (distinct r).ours
 
-    -- ---- to its end
-    -- what follows where no turn can be done, at the end of a finish, and from what follows a turn, follows
+    -- ---- up to the end
+    -- A fact follows if it follows when no turn is possible, at the end of a finish, and from the
+    -- configuration after a turn.
     module _ (s : Start) (Goal : Type 0) (At : List (Frame Own) → State Own → Type 0) (over : (st : State Own) → At [] st → Goal)
         (at_end : (before : State Own) (fs : List (Frame Own)) (st : State Own) → At (AtEnd before ∷ fs) st
         → ((to : State Own) → to.steps ≤ st.steps → At fs to → Goal) → Goal)
@@ -275,7 +277,7 @@ module _ (p : Program) (needs : Codes → Needs) (scoped : IsScoped p) (calm : I
       pub by_turns : (fs : List (Frame Own)) (st : State Own) → At fs st → Goal
       by_turns fs st a = ends (suc st.steps) fs st (omega arith) a
 
-    -- each task that may come about can come to its end
+    -- each reachable task can reach its end
     pub can_end : (s : Start) (t : Standing Own) → Reached p needs fresh root s t → CanEnd p needs fresh root s
     can_end s t r =
         by_turns s (CanEnd p needs fresh root s) (λ fs st. Reached p needs fresh root s (record { frames = fs; state = st }))

@@ -1,4 +1,4 @@
--- The next action of a task is what its next turn does, or the end that it stands at.
+-- The next action of a task is the action of its next turn, or the end that it is at.
 use Rattle.std.proofs.Common.{◌≡◌, ℕ, List, [], ◌∷◌, ◌++◌, length, Some, refl, sym, ap, ◌∙◌, append_assoc}
 use Rattle.std.proofs.lemmas.List.{append-nil}
 use Rattle.std.proofs.lemmas.Bool.{and_right}
@@ -20,7 +20,7 @@ at_length : {A : Type 0} (xs : List A) (x : A) (ys : List A) → slice_get (xs +
 at_length [] x ys = refl
 at_length (z ∷ xs) x ys = at_length xs x ys
 
--- whatever is done behind it, an action stands where it stands
+-- an action keeps its position if other actions are appended
 stands : (b : Bool) (acts : List Action) (a e : Action) (more : List Action)
     → slice_get (if b then acts ++ a ∷ more else (acts ++ a ∷ more) ++ e ∷ []) (length acts) ≡ Some a
 stands true acts a e more = at_length acts a more
@@ -33,7 +33,7 @@ module _ (p : Program) (needs : Codes → Needs) (fresh : ℕ) (root s : Start) 
       ap (λ l. run_by p needs fresh l s) (sym (append-nil taken)) ∙ h.follows []
       ∙ ap (λ l. resume p (own_rules needs s.nest (from_receipts l)) t.frames t.state) (append-nil taken)
 
-  -- before a turn that does something
+  -- before a turn that has an action
   pub next_is_done : (f : Frame Own) (fs : List (Frame Own)) (st : State Own) (a : Action) → HasBegun s.nest st
       → HasBegunBelow s.nest st (f ∷ fs)
       → Follows p needs fresh root s taken (record { frames = f ∷ fs; state = st }) → done_in needs s.nest f st ≡ a ∷ []

@@ -1,4 +1,4 @@
--- No two tasks below one have the same path.
+-- No two tasks below a task have the same path.
 use Rattle.std.proofs.lemmas.Option.{none-some}
 use Rattle.std.proofs.Common.{◌≡◌, ℕ, zero, suc, ◌+◌, ◌<◌, List, [], ◌∷◌, ◌++◌, length, Option, Some, None, refl, sym}
 use Rattle.std.proofs.Common.{ap, ◌∙◌, subst, arith, append_assoc}
@@ -143,13 +143,13 @@ inserted_once : {x : TaskResult} {ys zs : List TaskResult} → Inserted x ys zs 
 inserted_once here h k = (h, k)
 inserted_once (later i) h k = (inserted_each _ i (λ e. h.0 (sym e)) k.0, inserted_once i h.1 k.1)
 
--- in another order no path has two results either
+-- no path has two results in another order either
 pub shuffled_once : {xs ys : List TaskResult} → Shuffled xs ys → NoTwice xs → NoTwice ys
 shuffled_once none h = tt
 shuffled_once (one i s) h = inserted_once i (shuffled_each _ s h.0) (shuffled_once s h.1)
 
 module _ (p : Program) (needs : Codes → Needs) (fresh : ℕ) where
-  -- a result of a task below one, by its path
+  -- a result of a task below another, by its path
   record Under (base : List ℕ) (x : TaskResult) : Type 0 where
     number : ℕ
     rest : List ℕ

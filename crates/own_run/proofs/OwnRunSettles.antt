@@ -20,7 +20,7 @@ abbrev A : Type 0
 A = State Aside
 
 module _ (p : Program) (needs : Codes → Needs) (fresh : ℕ) where
-  -- what really comes of those that are listed, over nothing
+  -- the real settled results of the listed children, over nothing
   abbrev come : Own → Settled
   come x = filled p needs fresh x.pending none_yet
 
@@ -32,7 +32,7 @@ module _ (p : Program) (needs : Codes → Needs) (fresh : ℕ) where
     extra = λ u x. record { contents = (come x).contents; stopped = (come x).stopped };
   }
 
-  -- with what really comes of those that it lists
+  -- with the real settled results of the children that it lists
   abbrev pub settled : Unit {0} → State Own → A
   settled = viewed settling
 
@@ -126,7 +126,7 @@ module _ (p : Program) (needs : Codes → Needs) (fresh : ℕ) where
             by_body (inl e) = inl (lost_out (is_waiting out) refl e)
             by_body (inr e) = by_waiting (is_waiting out) refl e
 
-    -- an own run from where nothing waits
+    -- an own run from a configuration in which nothing waits
     pub run_settles : (w : Work) (st : State Own) → st.extra.waits ≡ false
         → apart p needs fresh nest w (settled tt st) ≡ settled tt (run p r w st)
     run_settles w st e = surely (within_follows p r s settling IsLost view (st.steps + 1) w tt st)
@@ -146,7 +146,7 @@ module _ (p : Program) (needs : Codes → Needs) (fresh : ℕ) where
         surely (inl l) = absurd (asleep (is_stopped out.flow) out.extra.waits l awake)
         surely (inr e) = e
 
-  -- a task's own run, with what comes of those that it lists, is what comes of its start
+  -- a task's own run, with the settled results of its children, is the settled result of its start
   pub own_settles : (s : Start) → complete (result_of (own p needs fresh s))
       (filled p needs fresh (own p needs fresh s).extra.pending none_yet) ≡ comes_to p needs fresh s
   own_settles s =

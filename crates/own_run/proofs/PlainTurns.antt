@@ -1,4 +1,5 @@
--- Turn by turn, frames come to behind a plain statement, or to its fault or stop, as its meaning says; each turn does no more than a step.
+-- Turn by turn, frames get past a plain statement, or to its fault or stop, as its meaning
+-- specifies. Each turn does at most a step.
 use Rattle.std.proofs.Common.{◌≡◌, ℕ, zero, suc, ◌<◌, ◌≤◌, List, ◌∷◌, Option, Ok, Err, refl, sym, ap, ◌∙◌, subst, inl, inr, arith}
 use Rattle.std.specs.Prelude.{Bool, true, false, map, ok_or}
 use Rattle.sections.specs.Place.{sides_of}
@@ -41,7 +42,7 @@ module _ (p : Program) (needs : Codes → Needs) (nest : ℕ) (close : State Own
   quietly_more here k = k
   quietly_more (further little h) k = further little (quietly_more h k)
 
-  -- ---- what one turn does
+  -- ---- the effect of one turn
   little_by : (n k : ℕ) (c : Code) → Inside p c → (st : State Own) → IsLittle (done_by needs n k c st)
   little_by n zero c i st = inl refl
   little_by zero (suc k) (Do s) i st = inr refl
@@ -62,7 +63,7 @@ module _ (p : Program) (needs : Codes → Needs) (nest : ℕ) (close : State Own
   little_at Faulted c i st = inl refl
   little_at Stopped c i st = inl refl
 
-  -- ---- what the meaning of blocks is made of
+  -- ---- the parts of the meaning of blocks
   flow_block : (f : Flow) (b : Codes) (st : State Own) → at_flow f st (m (Block b)) ≡ at_flow f st (block p r m b)
   flow_block On b st = solves p r (own_thrifty p needs nest close) (Block b) st
   flow_block Faulted b st = refl
@@ -82,7 +83,7 @@ module _ (p : Program) (needs : Codes → Needs) (nest : ℕ) (close : State Own
   abbrev stepped : (l : ℕ) → Code → State Own → State Own
   stepped l c st = with_step (λ s. act p r m l c (counted r l c s)) st
 
-  -- a statement alone is its step and what it does then
+  -- a single statement is its step, followed by what it does
   pub alone : (l : ℕ) (c : Code) (st : State Own) → m (Block (Then l c End)) st ≡ stepped l c st
   alone l c st =
       solves p r (own_thrifty p needs nest close) (Block (Then l c End)) st ∙ ended (stepped l c st).flow (stepped l c st)
@@ -97,7 +98,7 @@ module _ (p : Program) (needs : Codes → Needs) (nest : ℕ) (close : State Own
       subst (λ (o : State Own). o.steps ≤ st.steps) (alone l c st)
       (run_less p r (own_thrifty p needs nest close) (Block (Then l c End)) st)
 
-  -- ---- what frames do, where what is inside does as it means
+  -- ---- the effect of frames, if the work inside follows its meaning
   value_passes : {A : Type 0} (l : ℕ) (v : Valued A) (go : A → Standing Own) (to : A → State Own → State Own)
       (gs : List (Frame Own)) (st : State Own) → ((a : A) → Q (go a) (at gs (to a st)))
       → Q (by_value l v go gs st) (at gs (with_value l v to st))
@@ -109,7 +110,7 @@ module _ (p : Program) (needs : Codes → Needs) (nest : ℕ) (close : State Own
   choose_passes true fs hs gs f g st h k = h
   choose_passes false fs hs gs f g st h k = k
 
-  -- a block on top, where the flow is on
+  -- a block on top, if the flow is on
   on_passes : (b : Codes) (gs : List (Frame Own)) (st : State Own) → st.flow ≡ On
       → Q (at (Rest b ∷ gs) st) (at gs (go_on (m (Block b)) st)) → Q (at (Rest b ∷ gs) st) (at gs (block p r m b st))
   on_passes b gs st on h = subst (λ (o : State Own). Q (at (Rest b ∷ gs) st) (at gs o)) (on_block b st on) h
@@ -131,7 +132,7 @@ module _ (p : Program) (needs : Codes → Needs) (nest : ℕ) (close : State Own
       let less = counted_steps r l to c in
       h (counted r l c to) (counted_flow r l to c ∙ on) (omega (arith, less))
 
-  -- plain work on top of frames is done, where fewer than k steps are left
+  -- plain work on top of frames is done, if fewer than k steps are left
   abbrev Passes : ℕ → Type 0
   Passes k =
       (w : Work) → IsPlainWork p w → (fs : List (Frame Own)) (st : State Own) → st.steps < k
@@ -197,7 +198,7 @@ module _ (p : Program) (needs : Codes → Needs) (nest : ℕ) (close : State Own
       (paid_passes st.steps l (While t b) fs st
       (λ s flow less. acted_passes k (passes_below k) (While t b) l plain fs s flow (omega (arith, less, lt))) on)))
 
-  -- a plain statement that is next, where the flow is on: behind its first turn
+  -- a plain statement that is next, if the flow is on: after its first turn
   pub statement_after : (l : ℕ) (c : Code) (rest : Codes) → IsPlain p l c → (fs : List (Frame Own)) (st : State Own)
       → st.flow ≡ On → Q (turn p r (Rest (Then l c rest)) fs st) (at (Rest rest ∷ fs) (m (Block (Then l c End)) st))
   statement_after l c rest plain fs st on =
@@ -208,7 +209,7 @@ module _ (p : Program) (needs : Codes → Needs) (nest : ℕ) (close : State Own
       (paid_passes st.steps l c gs st
       (λ s flow lt. acted_passes st.steps (passes_below st.steps) c l i gs s flow lt) on))
 
-  -- and with it
+  -- and together with its first turn
   pub statement_passes : (l : ℕ) (c : Code) (rest : Codes) → IsPlain p l c → (fs : List (Frame Own)) (st : State Own)
       → st.flow ≡ On → Q (at (Rest (Then l c rest) ∷ fs) st) (at (Rest rest ∷ fs) (m (Block (Then l c End)) st))
   statement_passes l c rest plain fs st on =

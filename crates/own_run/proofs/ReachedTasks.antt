@@ -1,4 +1,4 @@
--- In a sound and accepted program each task that may come about is its own run, and has what it touches.
+-- In a sound and accepted program each reachable task is its own run, and has all that it touches.
 use Rattle.std.proofs.Common.{◌≡◌, ℕ, List, [], ◌∷◌, Some, sym, ap, ◌∙◌, subst}
 use Rattle.sections.specs.Member.{Member, first, next}
 use Rattle.types.specs.Code.{Code, Do, If, While, Split, Call, Async, Finish, Codes, End, Then, Program}
@@ -24,7 +24,7 @@ each_member P x [] all m = elim m [ ]
 
 module _ (p : Program) (needs : Codes → Needs) (scoped : IsScoped p) (calm : IsCalm p) (provided : Provides p needs) (fresh : ℕ) where
   module _ (root : Start) (named : root.path ≡ []) (may_begin : MayBegin p needs root) where
-    -- it is its own run, and has what it touches
+    -- it is its own run, and has all that it touches
     pub record Goes (s : Start) (t : Standing Own) : Type 0 where
       pub task : IsTask p needs fresh root s t
       pub holds : Holds p needs t
@@ -95,7 +95,7 @@ module _ (p : Program) (needs : Codes → Needs) (scoped : IsScoped p) (calm : I
     pub ends_own : (r : TaskResult) → IsResult p needs fresh root r → IsOwn p needs fresh root r
     ends_own r k = subst (IsOwn p needs fresh root) (sym k.is) (ends_task p needs fresh root k.start k.state (goes k.ended).task)
 
-    -- what the root has at its end is what its own run has
+    -- at its end the root has what its own run has
     pub root_ends : (st : State Own) → Reached p needs fresh root root (record { frames = []; state = st })
         → result_of st ≡ result_of (own p needs fresh root)
     root_ends st r =

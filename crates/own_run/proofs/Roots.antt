@@ -1,4 +1,4 @@
--- What the root starts with: all places of all arrays, with the numbers of an input that fits.
+-- The root's start: all places of all arrays, with the numbers of an input that fits.
 use Rattle.std.proofs.Common.{◌≡◌, ℕ, zero, suc, ◌+◌, ◌<◌, ◌≤◌, List, [], ◌∷◌, length, Option, Some, None, refl, ap, ◌∙◌, inl, inr}
 use Rattle.std.proofs.Common.{arith}
 use Rattle.std.proofs.lemmas.Option.{slice_get-get_or}
@@ -28,7 +28,7 @@ there_is (x ∷ xs) (suc i) h = let k = there_is xs i h in omega (arith, k)
 abbrev whole : (n : ℕ) → Array → Window
 whole n x = record { array = n; at = 0; length = x.length }
 
--- the arrays from the n-th on stand at n and behind
+-- the arrays from the n-th on have the numbers n and above
 behind : (n : ℕ) (xs : List Array) (q : Place) → has (whole_arrays n xs) q ≡ true → n ≤ q.array
 behind n [] q h = false_true h
 behind n (x ∷ xs) q h =

@@ -1,4 +1,4 @@
--- What statements whose step was taken make of a run.
+-- The effect of statements on a run, once their step has been taken.
 use Rattle.std.proofs.Common.{◌≡◌, ◌≢◌, ℕ, zero, suc, ◌+◌, ◌-◌, List, [], ◌∷◌, ◌++◌, Ok, Err, refl, sym, ap, ◌∙◌, subst, inr, arith}
 use Rattle.std.specs.Prelude.{ℤ, Bool, true, false, Option, Result, OnOk}
 use Rattle.sections.specs.Place.{Place}
@@ -27,7 +27,7 @@ use Rattle.own_run.specs.declared.turn.Done.TheVariants.{Gone, Entered}
 
 -- ---- frames
 
--- a frame more
+-- one more frame
 pub stacked-pushed : (gs hs : List rFrame) (g : rFrame) (f : Frame Own) (fs : List (Frame Own)) → hs ≡ gs ++ g ∷ [] → ShowsFrame g f
     → Stacked gs fs → Stacked hs (f ∷ fs)
 stacked-pushed gs hs g f fs e shows stacked = (gs, g, e, shows, stacked)
@@ -65,7 +65,7 @@ module _ (x : Own) (l : ℕ) where
   put_own true q v st = refl
   put_own false q v st = refl
 
-  -- they leave what a run keeps beside
+  -- they don't change what a run keeps in addition
   pub primitive_own : (p : Program) (s : Primitive) (st : State (Unit {0}))
       → with_own x (primitive p l s st) ≡ primitive p l s (with_own x st)
   primitive_own p Skip st = refl
@@ -81,7 +81,7 @@ module _ (x : Own) (l : ℕ) where
 abbrev shape : TaskMemory → Place → Bool
 shape m = owned_by m.holdings
 
--- ---- what a run shows
+-- ---- the tasks that a run represents
 
 -- a run whose task keeps what it has
 pub shows_kept : (old : Run) (t : Thread TaskMemory) (fs : List (Frame Own)) (x : Own) → KeepsTask shape old.thread t → Shows old fs x
@@ -108,7 +108,7 @@ turns_fault old t l k go is state kept = record {
   });
 }
 
--- the same, where a thread has told of it
+-- a statement that faults, if a thread has recorded the fault
 pub acts_faulted : {T E : Type 0} (r : Result T E) (old : Run) (t : Thread TaskMemory) (l : ℕ) (k : FaultKind) (c : Code)
     → ((needs : Codes → Needs) (close : State Own → Option Settled) (fs : List (Frame Own)) (x : Own)
     → acted (program old.plan.program.now) (own_rules needs old.thread.nest close) l c fs (with_own x (state_of old.thread))
@@ -119,10 +119,10 @@ acts_faulted r old t l k c is same keeps =
     on_ok_both r (λ state kept needs close.
     turns_fault old t l k (acted (program old.plan.program.now) (own_rules needs old.thread.nest close) l c) (is needs close) state kept) same keeps
 
--- ---- steps that are noted
+-- ---- recorded steps
 
 module _ (needs : Codes → Needs) (l : ℕ) (old new : Run) where
-  -- a step more is noted
+  -- one more step is recorded
   pub shows_noted : (fs : List (Frame Own)) (x : Own) (a : Action) → Shows old fs x → Shows old fs (notes a x)
   shows_noted fs x a shows = record { frames = shows.frames; owned = shows.owned; pending = shows.pending; few = shows.few }
 
@@ -182,7 +182,7 @@ module _ (needs : Codes → Needs) (l : ℕ) (old new : Run) where
   did_Call f es ss = noted (Call f es ss) (λ close st. refl)
       (λ x. (refl, inr (done_Call old.thread.nest f es ss (with_own x (state_of old.thread)))))
 
--- ---- statements of one step, and the beginning of a finish
+-- ---- statements of one step, and the start of a finish
 
 -- a statement of one step
 pub acts_primitive : (l : ℕ) (s : Primitive) (old : Run) (t : Thread TaskMemory)
@@ -198,7 +198,7 @@ acts_primitive l s old t state kept = λ needs close. record {
   };
 }
 
--- the beginning of a finish is no step
+-- the start of a finish is no step
 pub did_Finish : (needs : Codes → Needs) (l : ℕ) (b : Codes) (old new : Run) → Acts l (Finish b) old new
     → DidAct needs l (Finish b) old Entered new
 did_Finish needs l b old new acts = λ close. record {
@@ -210,7 +210,7 @@ did_Finish needs l b old new acts = λ close. record {
     entered zero st = refl
     entered (suc n) st = refl
 
--- the same of equal code
+-- the same statement, for equal code
 pub did_same : (needs : Codes → Needs) (l : ℕ) (c k : Code) (old : Run) (d : Done) (new : Run) → c ≡ k → DidAct needs l c old d new
     → DidAct needs l k old d new
 did_same needs l c k old d new e did = subst (λ (k : Code). DidAct needs l k old d new) e did
@@ -252,7 +252,7 @@ over_more nest (suc n) m c e = refl
 
 module _ (needs : Codes → Needs) (old : Run) (m : ℕ) (on : old.thread.flow ≡ rOn) (less : m + 1 ≡ old.thread.steps)
     (l : ℕ) (c : Code) (d : Done) (new : Run) where
-  -- a step less is left
+  -- one step less is left
   abbrev pub paid_run : Run
   paid_run = record old { thread = record old.thread { steps = m } }
 
@@ -290,7 +290,7 @@ module _ (needs : Codes → Needs) (old : Run) (m : ℕ) (on : old.thread.flow �
             (subst (λ (a : List Action). DoneAs a (is_over old.thread.nest 1 c) d) (sym same_done) (act.noted x));
       }
 
--- ---- what a statement needs is there once its step was taken
+-- ---- what a statement needs is still there after its step was taken
 
 module _ (needs : Codes → Needs) (IsAsync : ℕ → Codes → Type 0) (old : Run) (m : ℕ) (l : ℕ) where
   can_store_on : (s : Primitive) → CanAct needs IsAsync l (Do s) old
@@ -311,7 +311,7 @@ module _ (needs : Codes → Needs) (IsAsync : ℕ → Codes → Type 0) (old : R
   can_on (Async b) h = (record { there = h.0.there; owned = h.0.owned }, h.1)
   can_on (Finish b) h = h
 
--- ---- the beginning of a task, where nest is left
+-- ---- the start of a task, if a nesting level is left
 
 module _ (needs : Codes → Needs) where
   pub begin_some : (n : ℕ) → n ≢ 0 → (b : Codes) (st : State Own) → begin_own needs n b st ≡ list_child (needs b) (n - 1) b st

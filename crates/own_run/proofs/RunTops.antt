@@ -27,7 +27,7 @@ use Rattle.own_run.proofs.Lists.{same_end}
 
 -- ---- the top frame
 
--- a fact of all frames that a run may stand on, where the top one was taken off
+-- a fact about all frames that a run may have, if the top one was taken off
 pub on_top : (gs hs : List rFrame) (g : rFrame) (fs : List (Frame Own)) → gs ≡ hs ++ g ∷ [] → Stacked gs fs
     → (P : List (Frame Own) → Type 0) → ((f : Frame Own) (below : List (Frame Own)) → ShowsFrame g f → Stacked hs below → P (f ∷ below))
     → P fs
@@ -45,23 +45,23 @@ none_stacked gs (f ∷ fs) e stacked =
     let long : length (stacked.0 ++ stacked.1 ∷ []) ≡ 0 = ap length (sym stacked.2 ∙ e) in
     absurd (omega (arith, long, length-append stacked.0 (stacked.1 ∷ [])))
 
--- ---- a list by its last
+-- ---- a list by its last element
 
--- it ends in what stands last
+-- it ends in its last element
 pub ends_in_last : {A : Type 0} (xs : List A) (x : A) (n : ℕ) → n + 1 ≡ length xs → x ≡ slice_index_or xs n x → xs ≡ take n xs ++ x ∷ []
 ends_in_last [] x n count is = absurd (omega (arith, count))
 ends_in_last (y ∷ []) x zero count is = ap (λ z. z ∷ []) (sym is)
 ends_in_last (y ∷ z ∷ ys) x zero count is = absurd (omega (arith, count))
 ends_in_last (y ∷ ys) x (suc n) count is = ap (λ l. y ∷ l) (ends_in_last ys x n (omega (arith, count)) is)
 
--- another one stands there
+-- another element is last
 pub ends_in_set : {A : Type 0} (xs : List A) (x : A) (n : ℕ) → n + 1 ≡ length xs → slice_set xs n x ≡ take n xs ++ x ∷ []
 ends_in_set [] x n count = absurd (omega (arith, count))
 ends_in_set (y ∷ []) x zero count = refl
 ends_in_set (y ∷ z ∷ ys) x zero count = absurd (omega (arith, count))
 ends_in_set (y ∷ ys) x (suc n) count = ap (λ l. y ∷ l) (ends_in_set ys x n (omega (arith, count)))
 
--- a vector is told by its elements
+-- a vector is determined by its elements
 vec_of_items : {A : Type 0} (v : Vec A Global) (xs : List A) → v.items ≡ xs → (ok : v.len ≡ length xs)
     → (record { ptr = v.ptr; len = v.len; cap = v.cap; alloc = v.alloc; items = xs; ok = (ok, v.ok.1); small = v.small }) ≡ v
 vec_of_items {A} v xs e =
@@ -78,7 +78,7 @@ vec_of_items {A} v xs e =
       small = v.small;
     })
 
--- an element put where it stands changes nothing
+-- replacing an element by itself changes nothing
 pub with_own_item : {A : Type 0} (v : Vec A Global) (n : ℕ) (x : A) → x ≡ slice_index_or v.items n x → with_item v n x ≡ v
 with_own_item v n x is = vec_of_items v (slice_set v.items n x) (sym (ap (slice_set v.items n) is ∙ set-get_or v.items n x)) _
 
@@ -105,7 +105,7 @@ module _ (needs : Codes → Needs) (IsAsync : ℕ → Codes → Type 0) (r : Run
   can_store (Print es) h = tt
   can_store (Raise e) h = tt
 
-  -- the first statement of a block has what it touches
+  -- the first statement of a block has all that it touches
   pub can_first : (c : Code) → HasNext needs st (Rest (Then l c rest) ∷ fs) → KnowsFirst IsAsync (Rest (Then l c rest) ∷ fs)
       → CanAct needs IsAsync l c (record r { frames = hs })
   can_first (Do s) h known = can_store s h.0
@@ -122,14 +122,14 @@ module _ (needs : Codes → Needs) (IsAsync : ℕ → Codes → Type 0) (r : Run
   )
   can_first (Finish b) h known = tt
 
--- where the top frame is one that is shown as a given one
+-- if the top frame represents a given one
 pub on_frame : (gs hs : List rFrame) (g t : rFrame) (fs : List (Frame Own)) → gs ≡ hs ++ g ∷ [] → g ≡ t → Stacked gs fs
     → (P : List (Frame Own) → Type 0) → ((f : Frame Own) (below : List (Frame Own)) → ShowsFrame t f → Stacked hs below → P (f ∷ below))
     → P fs
 on_frame gs hs g t fs e is stacked P h =
     on_top gs hs g fs e stacked P (λ f below shows rest. h f below (subst (λ (u : rFrame). ShowsFrame u f) is shows) rest)
 
--- where it is this one
+-- if it is this one
 pub on_this : (gs hs : List rFrame) (g t : rFrame) (to : Frame Own) (fs : List (Frame Own)) → gs ≡ hs ++ g ∷ [] → g ≡ t
     → ((f : Frame Own) → ShowsFrame t f → f ≡ to) → Stacked gs fs
     → (P : List (Frame Own) → Type 0) → ((below : List (Frame Own)) → Stacked hs below → P (to ∷ below)) → P fs

@@ -1,4 +1,4 @@
--- A turn of a run of a program's leaves a run of the program's.
+-- A turn of a run of a program leaves a run of the program.
 use Rattle.std.proofs.Common.{◌≡◌, ℕ, List, [], ◌∷◌, Some, refl, sym, ap, ◌∙◌, subst}
 use Rattle.std.specs.Prelude.{ℤ, Bool}
 use Rattle.types.specs.Code.{Program}
@@ -59,7 +59,7 @@ module _ (p : Program) (input : List (List ℤ)) (b : Budget) (r : Run) where
         refl,
       )
 
-  -- a task that a turn began may stand at its beginning
+  -- a spawned task may be in its first configuration
   child_starts : (c : rStart) (s : Start) (f : Frame Own) (fs : List (Frame Own)) (st : State Own) → r.thread.nest ≡ s.nest
       → MayStand p input b s (record { frames = f ∷ fs; state = st })
       → done_in (needs_of p) r.thread.nest f st ≡ Spawn (start c) ∷ [] → MayStart p input b (start c)
@@ -106,19 +106,19 @@ module _ (p : Program) (input : List (List ℤ)) (b : Budget) (r : Run) where
   by_frames (Ended x) s [] st is nest stands h = (st, stands, h)
   by_frames t s [] st is nest stands h = absurd h
 
-  -- whatever the turn, the run stays one of the program's
+  -- after any turn, the run stays one of the program
   pub stays : (t : Turn) (m : MayRun p input b r) → IsTurn (needs_of p) r t → Stays p input b m.start t
   stays t m is =
       by_frames t m.start m.frames (with_own m.own (state_of r.thread)) m.program m.nest m.stands
       (is (in_truth p (needs_of p) b.steps) m.frames m.own m.shows)
 
-  -- quiet turns lead where the task may stand
+  -- quiet turns lead to configurations that the task can reach
   quiet_stands : (s : Start) {a t : Standing Own} → Quietly p (needs_of p) s.nest (in_truth p (needs_of p) b.steps) a t
       → MayStand p input b s a → MayStand p input b s t
   quiet_stands s here h = h
   quiet_stands s (further little k) h = quiet_stands s k (turns h)
 
-  -- a run that goes on stays one of the program's
+  -- a run that continues stays one of the program
   pub stays_on : (q : Run) (m : MayRun p input b r) → GoesOn (needs_of p) r q → IsRunOf p input b m.start q
   stays_on q m far =
       let close = in_truth p (needs_of p) b.steps in
@@ -142,7 +142,7 @@ module _ (p : Program) (input : List (List ℤ)) (b : Budget) (r : Run) where
         refl,
       )
 
--- the run of a task at its beginning
+-- the run of a task at its start
 module _ (p : Program) (input : List (List ℤ)) (b : Budget) where
   pub begins : (k : Run) (s : Start) → MayStart p input b s → program k.plan.program.now ≡ p → k.thread.nest ≡ s.nest
       → IsAt k (begun b.steps s) → IsRunOf p input b s k
@@ -161,7 +161,7 @@ module _ (p : Program) (input : List (List ℤ)) (b : Budget) where
     refl,
   )
 
--- behind the end of a finish, with what the results of tasks settled to
+-- after the end of a finish, with what the results of tasks settled to
 module _ (p : Program) (sound : IsSound p) (accepted : IsAccepted p) (input : List (List ℤ)) (b : Budget)
     (fits : FitsArrays p.arrays input) where
   behind_finish : (s : Start) (before : State Own) (fs : List (Frame Own)) (st : State Own)

@@ -1,4 +1,4 @@
--- Whatever is settled from results that are own runs is what comes of its start, in whatever order they stand.
+-- Results of own runs that settle, in any order, give the settled result of the start.
 use Rattle.std.proofs.lemmas.Option.{none-some, same_Some}
 use Rattle.std.proofs.Common.{◌≡◌, ℕ, zero, suc, ◌+◌, List, [], ◌∷◌, ◌++◌, length, Option, Some, None, refl, sym, ap}
 use Rattle.std.proofs.Common.{◌∙◌, subst}
@@ -94,7 +94,7 @@ module _ (p : Program) (needs : Codes → Needs) (fresh : ℕ) where
       by_child rec (Some c) q = rec c q
 
   module _ (root : Start) where
-    -- a start is what its path is given
+    -- a start is the one given to its path
     abbrev pub IsGiven : Start → Type 0
     IsGiven s = given p needs fresh root s.path ≡ Some s
 
@@ -160,7 +160,7 @@ module _ (p : Program) (needs : Codes → Needs) (fresh : ℕ) where
     none_left_is (s, []) y e = same_Some _ _ e
     none_left_is (s, r ∷ rs) y e = absurd (none-some _ e)
 
-    -- what is pending of a task that was given its start, with results that are own runs
+    -- the pending children of a task that was given its start, with results of own runs
     pub part_sound : (cs : List Child) → Each (IsGivenChild p needs fresh root) cs → (r : TaskResult) → r.children ≡ map (λ c. c.listed) cs
         → (rs : List TaskResult)
         → Each (IsOwn p needs fresh root) rs → (x : Settled) → settle r rs ≡ Some x → x ≡ complete r (filled p needs fresh cs none_yet)
@@ -184,7 +184,7 @@ module _ (p : Program) (needs : Codes → Needs) (fresh : ℕ) where
         part_sound (own p needs fresh s).extra.pending (lists_true s is) (result_of (own p needs fresh s)) refl rs all x e
         ∙ own_settles p needs fresh s
 
-  -- what is told of what comes of the root is the settled outcome
+  -- the outcome of the root's settled result is the settled outcome
   pub told_apart : (input : List (List ℤ)) (b : Budget) → fresh ≡ b.steps
       → told_of p (comes_to p needs fresh (root_of p input b.nest)) ≡ apart_outcome p needs input b
   told_apart input b e =
@@ -193,7 +193,7 @@ module _ (p : Program) (needs : Codes → Needs) (fresh : ℕ) where
       sym (ap (λ f. outcome_by f (record { arrays = shown p.arrays (merged out); lines = out.lines; faults = out.faults }))
       (flow_is p needs b.steps out.flow out.extra.stopped out.faults)))
 
--- results of own runs, settled in any order, come to the one-thread outcome
+-- results of own runs, settled in any order, give the one-thread outcome
 pub settled_outcome : (p : Program) (needs : Codes → Needs) → IsScoped p → IsCalm p → Provides p needs
     → (input : List (List ℤ)) (b : Budget) (rs : List TaskResult) (x : Settled)
     → Each (IsOwn p needs b.steps (root_of p input b.nest)) rs

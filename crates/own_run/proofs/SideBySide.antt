@@ -1,4 +1,5 @@
--- What holds between a run on one thread and a run of tasks apart, and what single operations keep of it.
+-- The relation between a run on one thread and a run of tasks apart, and what single operations
+-- keep of it.
 use Rattle.std.proofs.Common.{◌≡◌, ℕ, zero, suc, List, [], ◌∷◌, ◌++◌, Option, Some, None, Ok, Err, refl, sym, ap, ◌∙◌}
 use Rattle.std.proofs.Common.{subst, arith, unwrap_or}
 use Rattle.std.proofs.lemmas.Bool.{or_right}
@@ -29,7 +30,7 @@ A = State Aside
 abbrev pub Set : Type 1
 Set = Place → Type 0
 
--- both stand at the same; outside of `locked` nothing is aside
+-- both are at the same point; outside of `locked` nothing is set aside
 pub record Same (x : Around) (locked : Place → Type 0) (o : S) (a : A) : Type 0 where
   pub flow : o.flow ≡ a.flow
   pub environment : o.environment ≡ a.environment
@@ -49,11 +50,12 @@ pub data Agree (x : Around) (locked : Place → Type 0) (o : S) (a : A) : Type 0
   same : Same x locked o a → Agree x locked o a
   both_stop : o.flow ≡ Stopped → stops_anywhere a ≡ true → Agree x locked o a
 
--- once a task was stopped, that stays
+-- once a task was stopped, it stays stopped
 abbrev pub Dies : (A → A) → Type 0
 Dies go = (a : A) → a.extra.stopped ≡ true → (go a).extra.stopped ≡ true
 
--- where both were changed alike they stand at the same: the path and the number of children stay
+-- after the same change in both they are at the same point: the path and the number of children
+-- stay
 changed : {f g : Flow} {e h : Environment} {b c : Contents} {ls ms : List (List ℤ)} {fs gs : List Fault} {j k : ℕ} (x y : Around)
     (locked final : Set) (o : S) (a : A) → f ≡ g → e ≡ h → ((z : ℕ) → InScope y.scope z → e.windows z ≡ y.env.windows z)
     → ((q : Place) → y.held q → b q ≡ first_of (a.extra.contents q) (c q)) → ((q : Place) → (y.wrote q → ⊥) → b q ≡ y.base q)
@@ -80,8 +82,8 @@ module _ (x : Around) where
   widen locked final o a f s =
       changed x x locked final o a s.flow s.environment s.windows s.store s.stays s.lines s.faults s.steps s.alive (λ q n. s.out q (λ l. n (f q l))) s
 
-  -- ---- what is changed in both
-  -- how they go on, what they told, and their steps
+  -- ---- changes in both
+  -- the flows, the lines and faults, and the steps
   pub told : {f g : Flow} {ls ms : List (List ℤ)} {fs gs : List Fault} {j k : ℕ} (locked : Set) (o : S) (a : A)
       → f ≡ g → ls ≡ ms → fs ≡ gs → j ≡ k → Same x locked o a
       → Same x locked (record o { flow = f; lines = ls; faults = fs; steps = j })
@@ -89,14 +91,14 @@ module _ (x : Around) where
   told locked o a flow lines faults steps s =
       changed x x locked locked o a flow s.environment s.windows s.store s.stays lines faults steps s.alive s.out s
 
-  -- where they stand, under what names
+  -- the positions of both, and the names in scope
   pub stand : {e f : Environment} (sc : Scope) (env : Environment) (locked : Set) (o : S) (a : A)
       → e ≡ f → ((z : ℕ) → InScope sc z → e.windows z ≡ env.windows z) → Same x locked o a
       → Same (record x { scope = sc; env = env }) locked (record o { environment = e }) (record a { environment = f })
   stand sc env locked o a environment windows s =
       changed x (record x { scope = sc; env = env }) locked locked o a s.flow environment windows s.store s.stays s.lines s.faults s.steps s.alive s.out s
 
-  -- ---- going on
+  -- ---- both continue
   stops_on : (f : Flow) (a : A) (to : A → A) → f ≡ a.flow → Dies to → stops_anywhere a ≡ true → stops_anywhere (at_flow f a to) ≡ true
   stops_on On a to e d y =
       or_right (is_stopped (to a).flow) (to a).extra.stopped (d a (subst (λ f. (is_stopped f || a.extra.stopped) ≡ true) (sym e) y))
@@ -151,7 +153,7 @@ module _ (x : Around) where
   choose_same final o a true go go' to to' h k = h
   choose_same final o a false go go' to to' h k = k
 
-  -- what is read is the same
+  -- both read the same value
   pub reads_same : (locked : Set) (o : S) (a : A) → Same x locked o a → (q : Place) → x.held q → (locked q → ⊥) → o.store q ≡ a.store q
   reads_same locked o a s q h n = s.store q h ∙ ap (λ v. first_of v (a.store q)) (s.out q n)
 

@@ -1,4 +1,4 @@
--- Run apart and gathered, a calm program does what it does on one thread.
+-- A calm program that is run apart and gathered does what it does on one thread.
 use Rattle.std.proofs.lemmas.Option.{none-some}
 use Rattle.std.proofs.Common.{◌≡◌, ℕ, zero, suc, ◌+◌, ◌<◌, List, [], ◌∷◌, ◌++◌, Option, Some, None, refl, sym, ap}
 use Rattle.std.proofs.Common.{◌∙◌, subst, inl, inr}
@@ -45,7 +45,8 @@ abbrev pub nowhere : Set
 nowhere q = ⊥
 
 module _ (p : Program) (needs : Codes → Needs) where
-  -- it may run next: within what is around, off what is locked; `final` is locked afterwards
+  -- it may run next: it stays within the surroundings, and touches nothing that is locked; `final`
+  -- is locked afterwards
   pub record ReadyOf (x : Around) (locked final : Place → Type 0) (l : ℕ) (s : Code) : Type 0 where
     pub fits : FitsScope x.scope x.env
     pub names : (y : Access) → Member y (own_accesses l s) → InScope x.scope y.section
@@ -64,7 +65,7 @@ module _ (p : Program) (needs : Codes → Needs) where
   behind x locked s q = locked q ⊎ Overwrites x.env (PendingOf p accesses s) q
 
   module _ (x : Around) (locked final : Set) (l : ℕ) (s : Code) where
-    -- behind itself it leaves locked what it leaves pending
+    -- after itself it leaves locked what it leaves pending
     relock : ReadyOf p needs x locked final l s → ReadyOf p needs x locked (behind x locked s) l s
     relock r = record {
       fits = r.fits;
@@ -144,7 +145,7 @@ module _ (p : Program) (needs : Codes → Needs) where
               (r.held q at, r.free q at),
         )
 
-  -- the next turn of a loop, once its body has run
+  -- the next iteration of a loop, once its body has run
   pub again_ready : (x : Around) (locked final : Set) (l : ℕ) (t : Truth) (b : Codes) → ReadyOf p needs x locked final l (While t b)
       → Ready p needs x (behind x locked (While t b)) final (Then l (While t b) End)
   again_ready x locked final l t b r = record {
@@ -251,11 +252,11 @@ module _ (p : Program) (needs : Codes → Needs) where
     leave_call o oo a aa k (same h) = same (stand within_call x.scope x.env final oo aa k.environment k.windows h)
     leave_call o oo a aa k (both_stop e y) = both_stop e y
 
-  -- ---- what a block by itself may do: that of an async, or of a finish
+  -- ---- a block on its own: the body of an async, or of a finish
   abbrev alone : Around → Contents → Set → Codes → Around
   alone x base held b = record x { base = base; wrote = Overwrites x.env (All p accesses b); held = held }
 
-  -- it is ready where nothing is locked
+  -- it is ready if nothing is locked
   pub unlocked_ready : (x : Around) (final : Set) (b : Codes) → FitsScope x.scope x.env → Scoped p x.scope b → Calm p x.scope b
       → ProvidesIn p needs b → ((q : Place) → Touches x.env (All p accesses b) q → x.held q)
       → ((q : Place) → Overwrites x.env (All p accesses b) q → x.wrote q)
@@ -291,7 +292,7 @@ module _ (p : Program) (needs : Codes → Needs) where
     abbrev within_async : Around
     within_async = alone x o.store (Touches x.env (All p accesses b)) b
 
-    -- the places that the body's needs name are those that it accesses
+    -- the places that the body's needs name are the places that it accesses
     written_overwrites : (q : Place) → written a.environment n q ≡ true → Overwrites x.env (All p accesses b) q
     written_overwrites q h =
         let i = named_some a.environment n.writes q h in
@@ -348,7 +349,7 @@ module _ (p : Program) (needs : Codes → Needs) where
     async_ready : Ready p needs within_async nowhere (Overwrites x.env (Pending p accesses b)) b
     async_ready = lone_ready x o.store (Touches x.env (All p accesses b)) b r.fits r.scoped r.calm r.provided.1 (λ q t. t)
 
-    -- what the body wrote is set aside, and what it didn't stays
+    -- what the body wrote is set aside, and everything else stays
     aside_at : (w : Bool) (new old c mine : Option ℤ) → (w ≡ true → new ≡ c) → (w ≡ true → old ≡ None)
         → (w ≡ false → new ≡ first_of old mine)
         → new ≡ first_of (first_of (if w then c else None) old) (if w then None else mine)
@@ -402,7 +403,7 @@ module _ (p : Program) (needs : Codes → Needs) where
   -- ---- a finish
   module _ (x : Around) (locked final : Set) (l : ℕ) (b : Codes) (r : ReadyOf p needs x locked final l (Finish b)) (o : S) (a : A)
       (k : Same x locked o a) where
-    -- what no task pending before it has made
+    -- what no earlier pending task has made
     abbrev vacant : Set
     vacant q = (a.extra.contents q ≡ None) × x.held q
 
@@ -489,7 +490,7 @@ module _ (p : Program) (needs : Codes → Needs) where
       finish_agrees (same h) = finish_same oo.flow refl h
       finish_agrees (both_stop e y) = finish_stops e y
 
-  -- ---- the two runs, side by side
+  -- ---- the two runs, next to each other
   abbrev work_code : Work → Codes
   work_code (Block b) = b
   work_code (Turn l t b) = Then l (While t b) End

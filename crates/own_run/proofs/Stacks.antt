@@ -1,4 +1,4 @@
--- Stacks of blocks that are left, under other windows, contents and locks.
+-- Stacks of remaining blocks, under other windows, contents and locks.
 use Rattle.std.proofs.Common.{◌≡◌, ℕ, List, [], ◌∷◌, ◌∙◌, inl, inr}
 use Rattle.std.specs.Prelude.{◌⊎◌, true}
 use Rattle.sections.specs.Place.{Window, Place}
@@ -41,7 +41,7 @@ module _ (p : Program) (needs : Codes → Needs) where
   restack f g limit wide c o locked (AtEnd before ∷ fs) h e k = restack f g limit wide before.store before.extra.owned (λ q. ⊥) fs h e k
   restack f g limit wide c o locked (Back env ∷ fs) h e k = k
 
-  -- other contents, which have all that isn't locked, and no more locks
+  -- other contents, which have everything that isn't locked, and no more locks
   module _ (c d : Contents) (o n : Places) where
     pub record Keeps (locked fewer : Place → Type 0) : Type 0 where
       pub there : (q : Place) → (locked q → ⊥) → IsThere (c q) → IsThere (d q)

@@ -1,4 +1,5 @@
--- What a start is worth: its own result, and what those are worth that its task lists at its end.
+-- The worth of a start: its own result, and the worth of the children that its task lists at its
+-- end.
 use Rattle.std.proofs.Common.{◌≡◌, ℕ, zero, suc, ◌+◌, List, [], ◌∷◌, refl, sym, ap, ◌∙◌, arith}
 use Rattle.std.proofs.lemmas.List.Sums.{sum_by-cons, sum_by-append}
 use Rattle.std.specs.Prelude.{sum_by}
@@ -28,7 +29,7 @@ module _ (p : Program) (needs : Codes → Needs) (fresh : ℕ) (f : TaskResult �
   unfolding worth_of
   worth_of_is = refl
 
-  -- one that is listed, with so much nest
+  -- a listed child, with this nesting level
   one_listed : (n : ℕ) (c : Child) → c.start.nest ≡ n
       → measured f (result_of (own p needs fresh c.start) ∷ below p needs fresh n c.start) ≡ worth_of c
   unfolding worth_of
@@ -48,7 +49,7 @@ module _ (p : Program) (needs : Codes → Needs) (fresh : ℕ) (f : TaskResult �
       (one_listed n c e) (all_listed (suc n) st cs h.1)
       ∙ sym (sum_by-cons worth_of c cs)
 
-  -- the results of all that is pending are worth what is listed
+  -- the results of all pending tasks are worth what is listed
   pub pending_worth : (nest : ℕ) (st : State Own) (cs : List Child) → Each (IsBegun nest st) cs
       → measured f (pending_results p needs fresh nest cs) ≡ sum_by (λ c. worth_by p needs fresh f c.start) cs
   pending_worth nest st cs h = all_listed nest st cs h ∙ ap (λ g. g cs) worth_of_is
@@ -63,12 +64,12 @@ module _ (p : Program) (needs : Codes → Needs) (fresh : ℕ) (f : TaskResult �
   below_is zero s = refl
   below_is (suc n) s = refl
 
-  -- so what is below a start is worth what is listed at its task's end
+  -- what is below a start is worth what is listed at its task's end
   pub below_worth : (s : Start) → measured f (below p needs fresh s.nest s)
       ≡ sum_by (λ c. worth_by p needs fresh f c.start) (own p needs fresh s).extra.pending
   below_worth s = below_is s.nest s ∙ pending_worth s.nest (own p needs fresh s) (own p needs fresh s).extra.pending (begun s)
 
-  -- and the start its own result with that
+  -- and the start is worth this together with its own result
   pub worth_lists : (s : Start) → worth_by p needs fresh f s
       ≡ f (result_of (own p needs fresh s)) + sum_by (λ c. worth_by p needs fresh f c.start) (own p needs fresh s).extra.pending
   worth_lists s = ap (λ n. f (result_of (own p needs fresh s)) + n) (below_worth s)

@@ -1,4 +1,4 @@
--- Among tasks apart, once one was stopped that stays, and changes nothing else.
+-- Among tasks apart, a stopped task stays stopped, and this changes nothing else.
 use Rattle.std.proofs.Common.{ℕ, zero, suc, [], refl, ap, ◌∙◌, inr}
 use Rattle.std.specs.Prelude.{Bool, true, false, ◌||◌}
 use Rattle.types.specs.Code.{Codes, Program}
@@ -16,7 +16,7 @@ marking = record {
   extra = λ b x. record x { stopped = b || x.stopped };
 }
 
--- the same, or the same with a task stopped
+-- the same state, or the same state with a task stopped
 abbrev marked : Bool → A → A
 marked = viewed marking
 

@@ -1,4 +1,4 @@
--- What a step in place comes to: the turn of the frame that was the top one.
+-- A step in place is the turn of the frame that was the top one.
 use Rattle.std.proofs.Common.{◌≡◌, ◌+◌, ◌-◌, ◌<◌, List, [], ◌∷◌, ◌++◌, length, take, refl, sym, ap, ◌∙◌, subst, inl, arith}
 use Rattle.std.proofs.Common.{Global, Vec}
 use Rattle.std.specs.Prelude.{ℕ, Bool, slice_index_or}
@@ -24,7 +24,7 @@ use Rattle.own_run.specs.declared.turn.Turn.TheVariants.{Going}
 use Rattle.own_run.proofs.RunSteps.{stacked-pushed}
 use Rattle.own_run.proofs.RunTops.{ends_in_last, ends_in_set, on_this, with_own_item}
 
--- what a run did and where it stands is a turn
+-- what a run did, together with its configuration, is a turn
 goes_as : (old : Run) (next : Standing Own) (actions : List Action) (over : Bool) (d : Done) (new : Run) → GoesTo old next new
     → DoneAs actions over d → GoesAs old next actions over (turn_of new d)
 goes_as old next actions over Gone new goes done = (goes, done)
@@ -43,16 +43,16 @@ module _ (v : Vec rFrame Global) (g : rFrame) (some : 0 < length v.items) (read 
   pub is_above : v.items ≡ below ++ g ∷ []
   is_above = ends_in_last v.items g (v.len - 1) count read
 
-  -- another frame in its place
+  -- another frame replaces it
   pub is_put : (h : rFrame) → (with_item v (v.len - 1) h).items ≡ below ++ h ∷ []
   is_put h = ends_in_set v.items h (v.len - 1) count
 
-  -- the same in its place
+  -- the same frame replaces it
   pub is_kept : with_item v (v.len - 1) g ≡ v
   is_kept = with_own_item v (v.len - 1) g read
 
 module _ (needs : Codes → Needs) (old : Run) (hs : List rFrame) where
-  -- what was done over other frames goes on from there
+  -- what was done over other frames continues from there
   moved : {go : Going_on} {gs : List (Frame Own)} (v : Vec rFrame Global) (new : Run) (fs : List (Frame Own)) (x : Own)
       → Turns go (record old { frames = v }) new → Stacked v.items fs → Shows old gs x
       → GoesTo old (go fs (with_own x (state_of old.thread))) new
@@ -79,7 +79,7 @@ module _ (needs : Codes → Needs) (old : Run) (hs : List rFrame) where
       (stacked-pushed hs put.items (rRest rest) (Rest (codes rest.now)) below is_put refl stacked) shows)
       (next.noted x))
 
-  -- it is the next turn of a loop, and was taken off
+  -- it is the next iteration of a loop, and was taken off
   pub again_is_turn : (l : ℕ) (guard : Bor rTruth) (body : Bor (List Stmt)) (popped : Vec rFrame Global) (d : Done) (new : Run)
       → old.frames.items ≡ hs ++ rAgain l guard body ∷ [] → popped.items ≡ hs
       → DidNext needs (λ fs. fs) l (While (truth guard.now) (codes body.now)) (record old { frames = popped }) d new

@@ -1,4 +1,5 @@
--- A task is stopped by its budget, and by a stopped task that its finish gathers; by nothing else.
+-- A task is stopped by its budget, or by a stopped task that its finish gathers, and by nothing
+-- else.
 use Rattle.std.proofs.lemmas.Option.{none-some, same_Some}
 use Rattle.std.proofs.Common.{◌≡◌, ℕ, zero, suc, ◌+◌, List, [], ◌∷◌, length, Option, Some, None, Ok, Err, refl, sym}
 use Rattle.std.proofs.Common.{ap, ◌∙◌, subst}
@@ -54,7 +55,7 @@ module _ (p : Program) (needs : Codes → Needs) (nest : ℕ) (close : State Own
   primitive_goes l (Print es) st on = value_goes l (numbers_at st es) print st (λ vs. on)
   primitive_goes l (Raise e) st on = value_goes l (number_at st e) _ st (λ v. refl)
 
-  -- the same of a standing
+  -- a task in a configuration isn't stopped
   by_value_goes : {A : Type 0} (l : ℕ) (v : Valued A) (go : A → Standing Own) (fs : List (Frame Own)) (st : State Own)
       → ((a : A) → Goes (go a).state) → Goes (by_value l v go fs st).state
   by_value_goes l (Ok a) go fs st h = h a
@@ -87,7 +88,7 @@ module _ (p : Program) (needs : Codes → Needs) (nest : ℕ) (close : State Own
   flow_stops Faulted l s fs below st e = ap is_stopped e
   flow_stops Stopped l s fs below st e = ap is_stopped e
 
-  -- a turn stops a task exactly where what it does next is over the budget
+  -- a turn stops a task exactly if what it does next is over the budget
   pub turn_stops : (f : Frame Own) (fs : List (Frame Own)) (st : State Own)
       → is_stopped (turn p r f fs st).state.flow ≡ (is_stopped st.flow || stops nest f st)
   turn_stops (Rest End) fs st = sym (or-false (is_stopped st.flow))
@@ -119,7 +120,7 @@ take_stopped path (r ∷ rs) found e = by_path (take_stopped path rs) (pointwise
         subst (λ (f : TaskResult × List TaskResult). (r.stopped || some_stopped rs) ≡ (f.0.stopped || some_stopped f.1)) i refl
     by_path rec false q = later rec (take path rs) refl q
 
--- a task was stopped, or one whose result is left
+-- a task was stopped, or a task whose result is left
 abbrev either_stopped : Settled × List TaskResult → Bool
 either_stopped x = x.0.stopped || some_stopped x.1
 
@@ -152,7 +153,7 @@ left_stopped : (x : Settled × List TaskResult) (y : Settled) → none_left x �
 left_stopped (s, []) y e = ap (λ (s : Settled). s.stopped) (sym (same_Some _ _ e)) ∙ sym (or-false s.stopped)
 left_stopped (s, r ∷ rs) y e = absurd (none-some _ e)
 
--- what comes of results was stopped exactly where one of them was
+-- a settled result is stopped exactly if one of the results was
 pub settle_stopped : (r : TaskResult) (rs : List TaskResult) (x : Settled) → settle r rs ≡ Some x
     → x.stopped ≡ (r.stopped || some_stopped rs)
 settle_stopped r rs x e =
@@ -164,7 +165,7 @@ flow_stopped true faults = refl
 flow_stopped false [] = refl
 flow_stopped false (f ∷ faults) = refl
 
--- a finish stops its owner exactly where it was stopped, or one of the tasks that it gathers
+-- a finish stops its owner exactly if the owner or one of the gathered tasks was stopped
 pub finish_stops : (before st : State Own) (rs : List TaskResult) (x : Settled) → settle (result_of st) rs ≡ Some x
     → is_stopped (handed before x st).flow ≡ (is_stopped st.flow || some_stopped rs)
 finish_stops before st rs x e = flow_stopped x.stopped x.faults ∙ settle_stopped (result_of st) rs x e

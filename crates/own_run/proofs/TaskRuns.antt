@@ -1,4 +1,5 @@
--- From its beginning to its end a task is its own run; so are its result and the starts of its children.
+-- From its start to its end a task is its own run, and so are its result and the starts of its
+-- children.
 use Rattle.std.proofs.lemmas.Option.{same_Some}
 use Rattle.std.proofs.Common.{◌≡◌, ℕ, zero, suc, ◌+◌, List, [], ◌∷◌, ◌++◌, length, Option, Some, refl, sym, ap, ◌∙◌}
 use Rattle.std.proofs.Common.{arith, append_assoc}
@@ -24,14 +25,14 @@ use Rattle.own_run.proofs.TaskTurns.{own_thrifty, resume_grows, turn_kept}
 use Rattle.facts.proofs.Lists.{get-append_left}
 
 module _ (p : Program) (needs : Codes → Needs) (fresh : ℕ) (root : Start) where
-  -- what is of a task's own run is so for whatever start its path is given
+  -- a fact about a task's own run is true for each start that its path is given
   pub own_if_given : (r : TaskResult) → IsOfOwnRun p needs fresh root r → IsOwn p needs fresh root r
   own_if_given r k s e = k.is ∙ ap (λ s. result_of (own p needs fresh s)) (same_Some _ _ (sym k.of_path ∙ e))
 
   pub each_if_given : (rs : List TaskResult) → Each (IsOfOwnRun p needs fresh root) rs → Each (IsOwn p needs fresh root) rs
   each_if_given rs = each_more (IsOfOwnRun p needs fresh root) (IsOwn p needs fresh root) rs own_if_given
 
-  -- where it is awake, a finish ends with what is handed over
+  -- unless it waits, a finish ends with what is handed over
   leaves : (nest : ℕ) (close : State Own → Option Settled) (before st : State Own) (x : Settled) → st.extra.waits ≡ false
       → close st ≡ Some x
       → (own_rules needs nest close).leave before st ≡ handed before x st
@@ -75,14 +76,14 @@ module _ (p : Program) (needs : Codes → Needs) (fresh : ℕ) (root : Start) wh
           below = k.below;
         }
 
-    -- what it has done are the first of all its actions
+    -- the actions that it has done are the first of all its actions
     pub goes_on : (fs : List (Frame Own)) (st : State Own) → IsTask p needs fresh root s (record { frames = fs; state = st })
         → (done : List Action) × ((own p needs fresh s).extra.actions ≡ st.extra.actions ++ done)
     goes_on fs st h =
         let g = resume_grows p needs s.nest (in_truth p needs fresh) fs st in
         (g.done, ap (λ (st : State Own). st.extra.actions) (sym h.runs) ∙ g.more)
 
-    -- each task that it lists is given its start
+    -- each listed task is given its start
     pub lists_given : (fs : List (Frame Own)) (st : State Own) → IsTask p needs fresh root s (record { frames = fs; state = st })
         → Each (IsGivenChild p needs fresh root) st.extra.pending
     lists_given fs st h =
@@ -93,7 +94,7 @@ module _ (p : Program) (needs : Codes → Needs) (fresh : ℕ) (root : Start) wh
         ∙ get-append_left (begun_by st.extra.actions) (begun_by g.0) k t e))
         h.fine.begun
 
-    -- the end of a finish, with what really came of it
+    -- the end of a finish, with its real settled result
     pub handed_task : (before : State Own) (fs : List (Frame Own)) (st : State Own)
         → IsTask p needs fresh root s (record { frames = AtEnd before ∷ fs; state = st }) → (x : Settled)
         → x ≡ complete (result_of st) (filled p needs fresh st.extra.pending none_yet)
@@ -156,7 +157,7 @@ module _ (p : Program) (needs : Codes → Needs) (fresh : ℕ) (root : Start) wh
     pub begins_follow : Follows p needs fresh root s [] (record { frames = Rest s.body ∷ []; state = beginning (at_first s.owned) fresh s })
     begins_follow = record { count = refl; follows = λ later. refl }
 
-    -- a turn is the same whatever finishes come to
+    -- a turn doesn't depend on the settled results of finishes
     module _ (c d : State Own → Option Settled) where
       paid_alike : (n l : ℕ) (t : Code) (fs : List (Frame Own)) (st : State Own)
           → paid p (own_rules needs s.nest c) n l t fs st ≡ paid p (own_rules needs s.nest d) n l t fs st

@@ -1,4 +1,4 @@
--- A task's turns keep what is true of it, whatever else happens between them.
+-- A task's turns keep the facts about it, independent of what else happens between them.
 use Rattle.std.proofs.Common.{◌≡◌, ℕ, zero, suc, ◌≤◌, List, [], ◌∷◌, ◌++◌, Option, Some, None, Ok, Err, refl, sym, ap}
 use Rattle.std.proofs.Common.{◌∙◌, le_refl, append_assoc}
 use Rattle.std.proofs.lemmas.List.{append-nil}
@@ -45,7 +45,7 @@ module _ (p : Program) (needs : Codes → Needs) (nest : ℕ) (close : State Own
   pub own_thrifty : IsThrifty r
   own_thrifty = record { begin = λ l. begin_thrifty nest; enter = λ l st. le_refl st.steps; leave = leave_thrifty }
 
-  -- ---- what is left to do adds to the actions at their end
+  -- ---- the remaining work appends to the actions
   pub record Grows (st to : State Own) : Type 0 where
     pub path : to.path ≡ st.path
     pub done : List Action
@@ -103,7 +103,7 @@ module _ (p : Program) (needs : Codes → Needs) (nest : ℕ) (close : State Own
   )
   below_still st to path done more (Back env ∷ fs) h = below_still st to path done more fs h
 
-  -- it stands at t, after a state, above frames
+  -- it is in configuration t, after a state, above frames
   pub record Kept (st : State Own) (t : Standing Own) : Type 0 where
     pub tells : T st t.state
     pub below : HasBegunBelow nest t.state t.frames
@@ -127,7 +127,7 @@ module _ (p : Program) (needs : Codes → Needs) (nest : ℕ) (close : State Own
     ended = ap (λ (x : Own). x.ended) extra;
   }
 
-  -- what changes nothing that others know
+  -- changes to nothing that others know
   abbrev Hidden : State Own → State Own → Type 0
   Hidden st to = (to.path ≡ st.path) × (to.spawned ≡ st.spawned) × (to.extra ≡ st.extra)
 

@@ -1,4 +1,5 @@
--- Each task that can begin comes to its end by turns, so that it has at its end what it touches; and the results of all settle.
+-- Each task that can start reaches its end by turns, so at its end it has all that it touches; and
+-- the results of all tasks settle.
 use Rattle.std.proofs.Common.{◌≡◌, ℕ, zero, suc, ◌+◌, ◌<◌, ◌≤◌, List, [], ◌∷◌, Option, Some, Ok, Err, refl}
 use Rattle.std.proofs.Common.{subst, arith, le_refl}
 use Rattle.std.specs.Prelude.{Bool, true, false, flat_map, ok_or}
@@ -61,7 +62,7 @@ begin_less : (needs : Codes → Needs) (n : ℕ) (b : Codes) (st : State Own) �
 begin_less needs zero b st = le_refl st.steps
 begin_less needs (suc n) b st = le_refl st.steps
 
--- a statement whose step was taken takes none
+-- a statement whose step was taken takes no further step
 module _ (p : Program) (needs : Codes → Needs) (nest : ℕ) (close : State Own → Option Settled) where
   pub acted_less : (c : Code) (l : ℕ) (fs : List (Frame Own)) (st : State Own)
       → (acted p (own_rules needs nest close) l c fs st).state.steps ≤ st.steps
@@ -98,7 +99,7 @@ module _ (p : Program) (needs : Codes → Needs) (scoped : IsScoped p) (calm : I
     flow_falls Faulted l c fs below st w lt k = sheds (le_refl st.steps) k
     flow_falls Stopped l c fs below st w lt k = sheds (le_refl st.steps) k
 
-    -- ---- to its end
+    -- ---- up to the end
     abbrev Ended : Type 0
     Ended = Holds p needs (record { frames = []; state = own p needs fresh s })
 
@@ -143,7 +144,7 @@ module _ (p : Program) (needs : Codes → Needs) (scoped : IsScoped p) (calm : I
     ends zero fs st lt task holds = absurd (omega (arith, lt))
     ends (suc n) fs st lt task holds = within n (suc (weight fs)) (ends n) fs st (omega (arith, lt)) (omega arith) task holds
 
-    -- a task that can begin has at its end what it touches
+    -- a task that can start has at its end all that it touches
     pub own_ends : given p needs fresh root s.path ≡ Some s → MayBegin p needs s → Ended
     own_ends is may =
         ends (suc fresh) _ _ (omega arith) (begins_task p needs fresh root s is) (begin_holds p needs scoped calm provided fresh s may)
@@ -164,7 +165,7 @@ module _ (p : Program) (needs : Codes → Needs) (scoped : IsScoped p) (calm : I
       (lists_true p needs fresh root s is) (own_ends s is may).carried
       (λ c t k. ((own_ends c.start t.is k.begins).parted, below_parted n c.start t.is k.begins))
 
-  -- so in whatever order they stand, they settle
+  -- they settle in any order
   pub all_settle : (s : Start) → given p needs fresh root s.path ≡ Some s → MayBegin p needs s → (rs : List TaskResult)
       → Shuffled (below p needs fresh s.nest s) rs → settle (result_of (own p needs fresh s)) rs ≡ Some (comes_to p needs fresh s)
   all_settle s is may rs all =

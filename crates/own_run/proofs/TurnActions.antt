@@ -1,4 +1,4 @@
--- What a turn does, and that a task waits at the end of a finish.
+-- The actions of a turn; and a task waits at the end of a finish.
 use Rattle.std.proofs.Common.{◌≡◌, ℕ, zero, suc, List, [], ◌∷◌, ◌++◌, length, Option, None, Ok, Err, refl, sym, ap}
 use Rattle.std.proofs.Common.{◌∙◌, subst, arith}
 use Rattle.std.proofs.lemmas.List.{append-nil}
@@ -22,7 +22,7 @@ use Rattle.own_run.specs.Frames.{Frame, Rest, Again, AtEnd, Back, Standing, fram
 use Rattle.own_run.specs.Frames.{by_flow, turn, done_by, done_at, done_in, Follows}
 use Rattle.own_run.specs.Settling.{settle}
 
--- a statement that begins no task changes nothing of what is kept beside
+-- a statement that spawns no task changes nothing of what is kept in addition
 pub silent : {A : Type 0} (of : Own → A)
     → IsKept {X = Own}
     (record { stepped = λ l x. x; begin = λ l b st. st; enter = λ l st. st; leave = λ st out. out })
@@ -85,7 +85,7 @@ module _ (p : Program) (needs : Codes → Needs) (nest : ℕ) (close : State Own
   flow_does Faulted l s fs below st = sym (append-nil st.extra.actions)
   flow_does Stopped l s fs below st = sym (append-nil st.extra.actions)
 
-  -- a turn adds what it does to the actions
+  -- a turn appends its actions
   pub turn_does : (f : Frame Own) (fs : List (Frame Own)) (st : State Own)
       → acts (turn p r f fs st).state ≡ acts st ++ done_in needs nest f st
   turn_does (Rest End) fs st = sym (append-nil st.extra.actions)
@@ -123,7 +123,7 @@ module _ (p : Program) (needs : Codes → Needs) (nest : ℕ) (close : State Own
       let k = resume_waits fs (frame p r f st) h.waits in
       record { waits = k.waits; actions = k.actions ∙ h.actions }
 
-  -- at the end of a finish of which nothing has come it waits, with that end as its last action
+  -- at the end of a finish without a settled result it waits, with this end as its last action
   pub end_waits : (before : State Own) (fs : List (Frame Own)) (st : State Own) → st.extra.waits ≡ false → close st ≡ None
       → (is_waiting (resume p r (AtEnd before ∷ fs) st) ≡ true) × (acts (resume p r (AtEnd before ∷ fs) st) ≡ acts st ++ EndFinish ∷ [])
   end_waits before fs st w e =
@@ -134,7 +134,7 @@ module _ (p : Program) (needs : Codes → Needs) (nest : ℕ) (close : State Own
       let h = resume_waits fs (leave_with before noted None) refl in
       (ap (λ st. is_waiting (resume p r fs st)) left ∙ h.waits, ap (λ st. acts (resume p r fs st)) left ∙ h.actions)
 
--- a task at the end of a finish, by its receipts so far, waits there
+-- a task at the end of a finish waits there, by its receipts so far
 pub follower_waits : (p : Program) (needs : Codes → Needs) (fresh : ℕ) (root s : Start) (taken : List (List TaskResult))
     (before : State Own) (fs : List (Frame Own)) (st : State Own)
     → st.extra.waits ≡ false → Follows p needs fresh root s taken (record { frames = AtEnd before ∷ fs; state = st })

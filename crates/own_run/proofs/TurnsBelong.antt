@@ -1,4 +1,5 @@
--- What a turn leaves to do is of the program, and a task's places, with those that come back, stay the same.
+-- The work that a turn leaves belongs to the program, and a task's places stay the same, together
+-- with those that come back.
 use Rattle.std.proofs.Common.{◌≡◌, ℕ, zero, suc, List, [], ◌∷◌, ◌++◌, Ok, Err, refl, sym, ap, ◌∙◌, subst}
 use Rattle.std.proofs.Math.Bool.{or-false, or_assoc}
 use Rattle.std.specs.Prelude.{Bool, true, false, not, ◌&&◌, ◌||◌, Option, ok_or}
@@ -21,7 +22,7 @@ use Rattle.own_run.specs.Reached.{HasNeedsOf, HasNext}
 use Rattle.own_run.proofs.Lists.{each_last}
 
 -- ---- places
--- those that come back from what was listed around the open finishes
+-- the places that come back from children listed around the open finishes
 abbrev pub back_around : List (Frame Own) → Places
 back_around [] q = false
 back_around (Rest b ∷ fs) q = back_around fs q
@@ -50,13 +51,13 @@ gone_and_back false true false h = refl
 gone_and_back false false true h = sym (h refl)
 gone_and_back false false false h = refl
 
--- a finish begins: what was listed stands around it
+-- a finish starts: what was listed is around it now
 set_aside : (o b r : Bool) → ((o || false) || (b || r)) ≡ ((o || b) || r)
 set_aside true b r = refl
 set_aside false true r = refl
 set_aside false false r = refl
 
--- a finish ends: what was listed in it is back
+-- a finish ends: what was listed in it has come back
 got_back : (o b c r : Bool) → (((o || b) || c) || r) ≡ ((o || b) || (c || r))
 got_back true b c r = refl
 got_back false true c r = refl
@@ -65,16 +66,16 @@ got_back false false false r = refl
 
 -- ---- what a turn keeps
 module _ (p : Program) where
-  -- the blocks inside a statement are of the program
+  -- the blocks inside a statement belong to the program
   abbrev pub IsInner : Code → Type 0
   IsInner c = (b : Codes) → Block c b → IsPartOf p b
 
-  -- so is a child's body, and what it owns is what comes back from it
+  -- so does a child's body, and what the child owns is what comes back from it
   pub record Belongs (c : Child) : Type 0 where
     pub body : IsPartOf p c.start.body
     pub places : (q : Place) → c.start.owned q ≡ has c.listed.windows q
 
-  -- so is what is left to do, and so are the children around the open finishes
+  -- so does the remaining work, and so do the children around the open finishes
   abbrev pub AllBelong : List (Frame Own) → Type 0
   AllBelong [] = Unit {0}
   AllBelong (Rest b ∷ fs) = IsPartOf p b × AllBelong fs
@@ -82,7 +83,7 @@ module _ (p : Program) where
   AllBelong (AtEnd before ∷ fs) = Each Belongs before.extra.pending × AllBelong fs
   AllBelong (Back env ∷ fs) = AllBelong fs
 
-  -- a task with these places, where what is left to do and its children are of the program
+  -- a task with these places, whose remaining work and children belong to the program
   pub record IsOf (all : Places) (fs : List (Frame Own)) (o : Places) (cs : List Child) : Type 0 where
     pub frames : AllBelong fs
     pub children : Each Belongs cs
@@ -242,7 +243,7 @@ module _ (p : Program) where
         got_back (st.extra.owned q) (back_from st.extra.pending q) (back_from before.extra.pending q) (back_around fs q) ∙ k.places q;
   }
 
-  -- ---- a beginning
+  -- ---- a start
   nothing_listed : (o : Bool) → ((o || false) || false) ≡ o
   nothing_listed true = refl
   nothing_listed false = refl
@@ -250,7 +251,7 @@ module _ (p : Program) where
   pub begun_kept : (all : Places) (b : Codes) → IsPartOf p b → IsOf all (Rest b ∷ []) all []
   begun_kept all b i = record { frames = (i, tt); children = tt; places = λ q. nothing_listed (all q) }
 
-  -- at the end nothing stands around
+  -- at the end nothing is around
   at_end : (o b : Bool) → ((o || b) || false) ≡ (o || b)
   at_end true b = refl
   at_end false true = refl

@@ -41,7 +41,7 @@ abbrev IsPlain : Code → Type 0
 IsPlain (Async b) = ⊥
 IsPlain _ = Unit {0}
 
--- ---- the same of frames and standings as they are defined
+-- ---- the bounds for frames and configurations as they are defined
 abbrev cost : Frame Own → ℕ
 cost (Rest End) = 1
 cost (Rest (Then l s rest)) = 2
@@ -73,7 +73,7 @@ some_rate fresh (suc n) = omega arith
 abbrev pub left : (fresh n : ℕ) → Standing Own → ℕ
 left fresh n t = t.state.steps * rate fresh n + costs t.frames + stops t.state.flow + 1
 
--- what tasks that are begun may need
+-- the bounds of spawned tasks
 abbrev begun_left : (fresh : ℕ) → List Action → ℕ
 begun_left fresh [] = 0
 begun_left fresh (Spawn c ∷ rest) = left_of_start fresh c.nest + begun_left fresh rest
@@ -82,7 +82,7 @@ begun_left fresh (EnterFinish ∷ rest) = begun_left fresh rest
 begun_left fresh (EndFinish ∷ rest) = begun_left fresh rest
 begun_left fresh (EndTask ∷ rest) = begun_left fresh rest
 
--- no step is added, and frames cost at most so much more
+-- no step is added, and the cost of frames grows at most by this
 record Adds (most : ℕ) (fs : List (Frame Own)) (st : State Own) (t : Standing Own) : Type 0 where
   steps : t.state.steps ≤ st.steps
   frames : costs t.frames ≤ costs fs + most
@@ -120,7 +120,7 @@ module _ (fresh : ℕ) (p : Program) (needs : Codes → Needs) (close : State Ow
   abbrev rules : ℕ → Rules Own
   rules n = own_rules needs n close
 
-  -- where a statement goes, whose step was taken
+  -- the effect of a statement whose step was taken
   abbrev to : (n m l : ℕ) → Code → List (Frame Own) → State Own → Standing Own
   to n m l c fs st = acted p (rules n) l c fs (counted (rules n) l c (record st { steps = m }))
 
@@ -133,7 +133,7 @@ module _ (fresh : ℕ) (p : Program) (needs : Codes → Needs) (close : State Ow
   by_adds n most m l c fs st mid few none same a =
       let h = added_left fresh n most m fs mid (to n m l c fs st) few same a in omega (arith, none, h)
 
-  -- a statement other than an async begins no task
+  -- a statement other than an async spawns no task
   plain_pays : (n m l : ℕ) (c : Code) (fs : List (Frame Own)) (st : State Own) → ((b : Codes) → c ≡ Async b → ⊥)
       → begun_left fresh (done_by needs n (suc m) c st) ≡ 0 → Pays n m l c fs st
   plain_pays n m l (Do s) fs st other none =
@@ -167,7 +167,7 @@ module _ (fresh : ℕ) (p : Program) (needs : Codes → Needs) (close : State Ow
   no_async : {c : Code} → IsPlain c → (b : Codes) → c ≡ Async b → ⊥
   no_async {c = c} h b e = subst IsPlain e h
 
-  -- its step pays for what a statement leads to
+  -- its step covers the cost of what a statement leads to
   pays : (n m l : ℕ) (c : Code) (fs : List (Frame Own)) (st : State Own) → Pays n m l c fs st
   pays zero m l (Async b) fs st = omega arith
   pays (suc n) m l (Async b) fs st = omega arith
@@ -184,7 +184,7 @@ module _ (fresh : ℕ) (p : Program) (needs : Codes → Needs) (close : State Ow
   pays zero m l (Finish b) fs st = plain_pays zero m l (Finish b) fs st (no_async tt) refl
   pays (suc n) m l (Finish b) fs st = plain_pays (suc n) m l (Finish b) fs st (no_async tt) refl
 
-  -- where no step is left the task is stopped
+  -- if no step is left the task is stopped
   paid_left : (n m l : ℕ) (c : Code) (fs : List (Frame Own)) (st : State Own) → m ≡ st.steps
       → left fresh n (paid p (rules n) m l c fs st) + begun_left fresh (done_by needs n m c st) < st.steps * rate fresh n + costs fs + 2
   paid_left zero zero l c fs st e = omega arith
@@ -201,7 +201,7 @@ module _ (fresh : ℕ) (p : Program) (needs : Codes → Needs) (close : State Ow
   flow_left n Faulted l c fs below st w e le lt = omega (arith, lt)
   flow_left n Stopped l c fs below st w e le lt = omega (arith, lt)
 
-  -- a turn, but for the end of a finish, which waits
+  -- a turn, except the end of a finish, which waits
   abbrev Leaves : (n : ℕ) → Frame Own → List (Frame Own) → State Own → Type 0
   Leaves n f fs st =
       left fresh n (turn p (rules n) f fs st) + begun_left fresh (done_in needs n f st)
@@ -218,7 +218,7 @@ module _ (fresh : ℕ) (p : Program) (needs : Codes → Needs) (close : State Ow
   again_leaves n l t b fs st =
       let h = flow_left n st.flow l (While t b) fs fs st (1 + costs fs) refl (omega arith) (omega arith) in omega (arith, h)
 
-  -- quiet turns leave no more; at the end of a finish a turn is none
+  -- quiet turns leave no more; at the end of a finish there is no turn
   turn_no_more : (n : ℕ) (f : Frame Own) (fs : List (Frame Own)) (st : State Own)
       → left fresh n (turn p (rules n) f fs st) ≤ left fresh n (record { frames = f ∷ fs; state = st })
   turn_no_more n (Rest b) fs st = let h = rest_leaves n b fs st in omega (arith, h)
@@ -233,12 +233,12 @@ module _ (fresh : ℕ) (p : Program) (needs : Codes → Needs) (close : State Ow
       let g = turn_no_more n f fs st in
       omega (arith, h, g)
 
--- ---- the same of runs in Rust
+-- ---- the bounds for runs in Rust
 pub total_snoc : {A : Type 0} (f : A → ℕ) (xs : List A) (x : A) → total f (xs ++ x ∷ []) ≡ total f xs + f x
 total_snoc f [] x = omega arith
 total_snoc f (y ∷ ys) x = let h = total_snoc f ys x in omega (arith, h)
 
--- a sum over frames is one over what they show
+-- a sum over frames is the sum over the frames that they represent
 pub totals_same : (f : rFrame → ℕ) (g : Frame Own → ℕ) → ((top : rFrame) (t : Frame Own) → ShowsFrame top t → f top ≡ g t)
     → (gs : List rFrame) (fs : List (Frame Own)) → Stacked gs fs → total f gs ≡ total g fs
 totals_same f g same gs [] e = ap (total f) e
@@ -267,7 +267,7 @@ flow_same rOn = refl
 flow_same rFaulted = refl
 flow_same rStopped = refl
 
--- what a run in Rust has left is what its standing has
+-- the bound of a run in Rust is the bound of its configuration
 pub left_same : (r : Run) (fs : List (Frame Own)) (x : Own) → Shows r fs x
     → left_of r ≡ left r.plan.budget.steps r.thread.nest (record { frames = fs; state = with_own x (state_of r.thread) })
 left_same r fs x shows =
@@ -280,7 +280,7 @@ module _ (needs : Codes → Needs) (old : Run) where
   abbrev n : ℕ
   n = old.thread.nest
 
-  -- a run that stands so on the same plan has that left
+  -- a run with this configuration and the same plan has this bound
   pub goes_left : (next : Standing Own) (new : Run) → GoesTo old next new → left_of new ≡ left fresh n next
   goes_left next new g =
       left_same new next.frames g.stands.own g.stands.shows
@@ -348,7 +348,7 @@ module _ (needs : Codes → Needs) (old : Run) where
       let b = left_same old fs x shows in
       omega (arith, a, b)
 
--- a task at its beginning has as much left as was kept for it
+-- a task at its start has the bound that was reserved for it
 pub begins_within : (fresh : ℕ) (s : Start) (r : Run) → r.plan.budget.steps ≡ fresh → r.thread.nest ≡ s.nest → IsAt r (begun fresh s)
     → left_of r < left_of_start fresh s.nest
 begins_within fresh s r steps nest at =
@@ -359,7 +359,7 @@ begins_within fresh s r steps nest at =
     let e = block_costs s.body in
     omega (arith, a, b, c, d, e)
 
--- a task that goes on behind a finish has less left than it had at its end
+-- a task that continues after a finish has a smaller bound than at its end
 pub goes_on_within : (q : Paused) (r : Run) (fs : List (Frame Own)) (before st : State Own) (x : Settled) → r.plan ≡ q.plan
     → r.thread.nest ≡ q.nest → Waits q fs before st → IsAt r (record { frames = fs; state = handed before x st })
     → left_of r < left_of_paused q

@@ -1,4 +1,4 @@
--- A turn keeps what is left to do.
+-- A turn keeps the effect of the remaining work.
 use Rattle.std.proofs.Common.{◌≡◌, ℕ, zero, suc, List, ◌∷◌, Ok, Err, refl, sym, ap, ◌∙◌}
 use Rattle.std.specs.Prelude.{Bool, true, false, map, ok_or}
 use Rattle.sections.specs.Place.{sides_of}
@@ -32,7 +32,7 @@ module _ (p : Program) {X : Type 0} (r : Rules X) (thrifty : IsThrifty r) (enter
   after_block : (b : Codes) (st : State X) → go_on (m (Block b)) st ≡ go_on (block p r m b) st
   after_block b st = flow_block st.flow b st
 
-  -- a block on top of frames, where the flow is on
+  -- a block on top of frames, if the flow is on
   on_block : (b : Codes) (fs : List (Frame X)) (st : State X) → st.flow ≡ On → over (Rest b ∷ fs) st ≡ over fs (block p r m b st)
   on_block b fs st on = ap (over fs) (after_block b st ∙ ap (λ f. at_flow f st (block p r m b)) on)
 
@@ -81,7 +81,7 @@ module _ (p : Program) {X : Type 0} (r : Rules X) (thrifty : IsThrifty r) (enter
   flow_keeps Faulted l s fs below st go e h = refl
   flow_keeps Stopped l s fs below st go e h = refl
 
-  -- a turn keeps what is left to do
+  -- a turn keeps the effect of the remaining work
   pub turn_keeps : (f : Frame X) (fs : List (Frame X)) (st : State X) → of (turn p r f fs st) ≡ over (f ∷ fs) st
   turn_keeps (Rest End) fs st = ap (over fs) (sym (after_block End st ∙ ended st.flow))
     where

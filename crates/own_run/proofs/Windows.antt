@@ -64,7 +64,7 @@ pub sides_some : (o : Option (Window × Window)) (ws : Window × Window) → ok_
 sides_some None ws e = absurd (not_ok e)
 sides_some (Some v) ws e = ap Some (ok_same e)
 
--- both sides of a window lie in it
+-- both sides of a window are inside it
 pub sides_in : (w : Window) (v : ℤ) (l r : Window) → sides_of w v ≡ Some (l, r) → (q : Place) → (In l q → In w q) × (In r q → In w q)
 sides_in w (negsuc n) l r e q = absurd (none-some _ e)
 sides_in w (pos n) l r e q = by_test (nat_le n w.length) refl e
@@ -83,11 +83,11 @@ sides_in w (pos n) l r e q = by_test (nat_le n w.length) refl e
         )
     by_test false t e = absurd (none-some _ e)
 
--- nothing is nowhere
+-- no place is in the window `nowhere`
 pub not_nowhere : (q : Place) → In nowhere q → ⊥
 not_nowhere q i = let h = i.high in let l = i.low in omega (arith, h, l)
 
--- ---- the sections of a split, seen from around it
+-- ---- the sections of a split, seen from outside of it
 pub split_in : (s x y : ℕ) (v w : Window) (f : ℕ → Window) (q : Place) → (In v q → In (f s) q) → (In w q → In (f s) q)
     → (z : ℕ) → In (bind x v (bind y w f) z) q → In (f (past_split s x y z)) q
 split_in s x y v w f q g h z i = by_tests (nat_eq x z) (nat_eq y z) i
@@ -97,7 +97,7 @@ split_in s x y v w f q g h z i = by_tests (nat_eq x z) (nat_eq y z) i
     by_tests false true i = h i
     by_tests false false i = i
 
--- the sections of a call, seen from around it
+-- the sections of a call, seen from outside of it
 pub call_in : (f : ℕ → Window) (q : Place) (ss : List ℕ) (k : ℕ) → In (slice_index_or (map f ss) k nowhere) q → In (f (passed_for ss k)) q
 call_in f q [] k i = absurd (not_nowhere q i)
 call_in f q (s ∷ ss) zero i = i
@@ -109,7 +109,7 @@ passed_same f g [] k e = refl
 passed_same f g (s ∷ ss) zero e = e
 passed_same f g (s ∷ ss) (suc k) e = passed_same f g ss k e
 
--- ---- windows that agree where it matters
+-- ---- windows that agree on the names in question
 pub bind_other : {A : Type 0} (x : ℕ) (v : A) (f : ℕ → A) (z : ℕ) → (z ≡ x → ⊥) → bind x v f z ≡ f z
 bind_other {A} x v f z n = by_test (nat_eq x z) refl
   where
@@ -122,7 +122,7 @@ pub fits_top : (ms : List Bool) (env new : Environment) → ((s : ℕ) → s < l
 fits_top ms env new e h j k may lt ne q a b =
     h j k may lt ne q (subst (λ w. In w q) (e j (bit_inside ms j may)) a) (subst (λ w. In w q) (e k lt) b)
 
--- what fits does so by the windows in scope alone
+-- whether windows fit depends only on the windows in scope
 pub fits_same : (sc : Scope) (env new : Environment) → ((s : ℕ) → InScope sc s → new.windows s ≡ env.windows s) → FitsScope sc env
     → FitsScope sc new
 fits_same (Top ms) env new e h = fits_top ms env new e h
@@ -138,14 +138,14 @@ fits_same (Inside s x y around) env new e h = (
   ),
 )
 
--- around a split's body its sides are out of scope
+-- outside of a split's body its sides are out of scope
 pub around_split : (sc : Scope) (x y : ℕ) (ws : Window × Window) (env : Environment) → (InScope sc x → ⊥) → (InScope sc y → ⊥)
     → (z : ℕ) → InScope sc z → (with_sides x y ws env).windows z ≡ env.windows z
 around_split sc x y ws env nx ny z i =
     bind_other x ws.0 (bind y ws.1 env.windows) z (λ e. nx (subst (InScope sc) e i))
     ∙ bind_other y ws.1 env.windows z (λ e. ny (subst (InScope sc) e i))
 
--- what fits does so within a split
+-- what fits outside also fits within a split
 pub fits_split : (sc : Scope) (s x y : ℕ) (v : ℤ) (ws : Window × Window) (env : Environment) → InScope sc s → (InScope sc x → ⊥)
     → (InScope sc y → ⊥) → x ≢ y → sides_of (env.windows s) v ≡ Some ws → FitsScope sc env
     → FitsScope (Inside s x y sc) (with_sides x y ws env)
@@ -163,7 +163,7 @@ fits_split sc s x y v ws env is nx ny ne e h =
       ),
     )
 
--- two environments that agree on a section agree on it within a split, and do so on the sides
+-- two environments that agree on a section agree on it within a split too, and also on the sides
 pub split_agree : (x y : ℕ) (ws : Window × Window) (f g : ℕ → Window) (z : ℕ) → (z ≡ x) ⊎ (z ≡ y) ⊎ (f z ≡ g z)
     → bind x ws.0 (bind y ws.1 f) z ≡ bind x ws.0 (bind y ws.1 g) z
 split_agree x y ws f g z h = by_tests (nat_eq x z) (nat_eq y z) refl refl

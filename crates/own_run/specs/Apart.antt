@@ -1,4 +1,5 @@
--- Tasks apart: an async's body runs on what it needs; what it made is set aside for a while.
+-- Tasks apart: an async's body runs on what it needs, and what it made is set aside until the end
+-- of the finish.
 use Rattle.std.specs.Prelude.{ℕ, zero, suc, ◌+◌, List, ℤ, Bool, true, false, ◌||◌, if◌then◌else◌}
 use Rattle.types.specs.Code.{Codes, Program}
 use Rattle.types.specs.Contents.{Contents, held_by}
@@ -24,11 +25,11 @@ is_stopped Stopped = true
 is_stopped On = false
 is_stopped Faulted = false
 
--- whether it was stopped, or one of its tasks
+-- whether this task or one of its tasks was stopped
 abbrev pub stops_anywhere : State Aside → Bool
 stops_anywhere st = is_stopped st.flow || st.extra.stopped
 
--- what it has, and what its tasks have made
+-- what a task has, together with what its tasks have made
 abbrev pub merged : State Aside → Contents
 merged st = over st.extra.contents st.store
 
@@ -37,7 +38,7 @@ abbrev pub child_apart : (fresh : ℕ) → Needs → State Aside → State Aside
 child_apart fresh n st =
     record (child fresh st) { store = only (touched st.environment n) st.store; extra = nothing }
 
--- the parent goes on without what the child may write; what the child made is set aside
+-- the parent continues without what the child may write; what the child made is set aside
 abbrev pub set_aside : Needs → (before out : State Aside) → State Aside
 set_aside n before out =
     let places = written before.environment n in
@@ -53,7 +54,7 @@ set_aside n before out =
       };
     })
 
--- at the end of a finish all comes together
+-- at the end of a finish everything is merged
 abbrev pub gather : (before out : State Aside) → State Aside
 gather before out =
     joined before (record out {
@@ -72,7 +73,7 @@ apart_rules_by begin = record {
 }
 
 module _ (p : Program) (needs : Codes → Needs) where
-  -- an async where so many may stand inside one another; a child begins with `fresh` steps
+  -- an async, if asyncs may be nested `nest` levels deep; a child starts with `fresh` steps
   abbrev pub begin_apart : (fresh nest : ℕ) → Codes → State Aside → State Aside
   begin_apart fresh zero b st = stopped st
   begin_apart fresh (suc n) b st =
@@ -87,7 +88,7 @@ module _ (p : Program) (needs : Codes → Needs) where
   abbrev pub apart : (fresh nest : ℕ) → Work → State Aside → State Aside
   apart fresh nest = run p (apart_rules fresh nest)
 
-  -- the settled outcome; `main` stands in an outer finish
+  -- the settled outcome; `main` is inside an outer finish
   abbrev pub apart_outcome : (input : List (List ℤ)) → Budget → Outcome
   apart_outcome input b =
       let st = start nothing p b.steps (held_by input) in

@@ -1,4 +1,4 @@
--- A run a second time: in memory of its own, it stands for the same.
+-- Copies of runs: a copy represents the same task.
 use Rattle.std.specs.Prelude.{◌≡◌, List}
 use Rattle.types.specs.Run.{State}
 use Rattle.own_run.specs.Frames.{Frame}
@@ -8,14 +8,15 @@ use Rattle.own_run.specs.Standings.{Shows, state_of}
 use Rattle.own_run.specs.declared.run.Run.{Run}
 use Rattle.own_run.specs.declared.turn.Paused.{Paused}
 
--- it stands where the other does, and knows what that knows
+-- the copy is in the same state as the other run, and represents every task that the other one
+-- represents
 pub record IsCopy (old new : Run) : Type 0 where
   pub plan : new.plan ≡ old.plan
   pub nest : new.thread.nest ≡ old.thread.nest
   pub state : state_of new.thread ≡ state_of old.thread
   pub shows : (fs : List (Frame Own)) (x : Own) → Shows old fs x → Shows new fs x
 
--- it waits where the other does
+-- the copy waits where the other run waits
 pub record IsPausedCopy (old new : Paused) : Type 0 where
   pub plan : new.plan ≡ old.plan
   pub nest : new.nest ≡ old.nest

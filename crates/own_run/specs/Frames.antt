@@ -1,4 +1,4 @@
--- A task in the making: frames, the top one first, and where it stands; a turn of the top frame.
+-- A task in progress: its frames, the top one first, and its state; and a turn of the top frame.
 use Rattle.std.specs.Prelude.{ℕ, zero, suc, ◌≡◌, List, [], ◌∷◌, ◌++◌, length, map, Bool, true}
 use Rattle.std.specs.Prelude.{false, Some, Ok, Err, ok_or, slice_get}
 use Rattle.sections.specs.Place.{sides_of}
@@ -16,43 +16,43 @@ use Rattle.own_run.specs.OwnRun.{child_of, begun_by, go_on_with, own_rules, from
 use Rattle.own_run.specs.Given.{in_truth, own, given}
 use Rattle.own_run.specs.Lists.{Each}
 
--- what is left to do, piece by piece
+-- one piece of the work that is left
 pub data Frame (X : Type 0) : Type 0 where
   -- the statements that are left of a block
   Rest : Codes → Frame X
-  -- the next turn of a loop
+  -- the next iteration of a loop
   Again : (label : ℕ) → (guard : Truth) → (body : Codes) → Frame X
   -- the end of a finish that began at this state
   AtEnd : (before : State X) → Frame X
-  -- the end of a call, which comes back to this environment
+  -- the end of a call, which restores this environment
   Back : Environment → Frame X
 
--- a task in the making
+-- a task in progress: its configuration between two turns
 pub record Standing (X : Type 0) : Type 0 where
   pub frames : List (Frame X)
   pub state : State X
 
 module _ {X : Type 0} where
-  -- goes on with a value, or faults
+  -- continues with a value, or faults
   abbrev pub by_value : {A : Type 0} → (label : ℕ) → Valued A → (A → Standing X) → List (Frame X)
       → State X → Standing X
   by_value l (Ok x) go fs st = go x
   by_value l (Err f) go fs st = record { frames = fs; state = fault l f st }
 
-  -- a guard was evaluated
+  -- a condition was evaluated
   abbrev pub chosen : Bool → (body other : List (Frame X)) → State X → Standing X
   chosen true body other st = record { frames = body; state = st }
   chosen false body other st = record { frames = other; state = st }
 
 module _ (p : Program) {X : Type 0} (r : Rules X) where
-  -- what a frame does once those above it are done
+  -- the effect of a frame, once the frames above it are done
   abbrev pub frame : Frame X → State X → State X
   frame (Rest b) st = go_on (run p r (Block b)) st
   frame (Again l t b) st = go_on (run p r (Turn l t b)) st
   frame (AtEnd before) st = r.leave before st
   frame (Back env) st = record st { environment = env }
 
-  -- what is left to do
+  -- the effect of all the work that is left
   abbrev pub resume : List (Frame X) → State X → State X
   resume [] st = st
   resume (f ∷ fs) st = resume fs (frame f st)
@@ -80,19 +80,19 @@ module _ (p : Program) {X : Type 0} (r : Rules X) where
   acted l (Async b) fs st = record { frames = fs; state = r.begin l b st }
   acted l (Finish b) fs st = record { frames = Rest b ∷ AtEnd st ∷ fs; state = r.enter l st }
 
-  -- a statement before its step, with so many steps left
+  -- a statement before its step is taken, with `steps` steps left
   abbrev pub paid : (steps : ℕ) → (label : ℕ) → Code → List (Frame X) → State X → Standing X
   paid zero l s fs st = record { frames = fs; state = stopped st }
   paid (suc n) l s fs st = acted l s fs (counted r l s (record st { steps = n }))
 
-  -- a statement above frames, where the flow is on; else those below
+  -- a statement above frames if the flow is on; otherwise the frames below remain
   abbrev pub by_flow : Flow → (label : ℕ) → Code → (fs below : List (Frame X)) → State X
       → Standing X
   by_flow On l s fs below st = paid st.steps l s fs st
   by_flow Faulted l s fs below st = record { frames = below; state = st }
   by_flow Stopped l s fs below st = record { frames = below; state = st }
 
-  -- one turn of a frame above others; the end of a finish waits, and is no turn
+  -- one turn of a frame above others; the end of a finish waits, and takes no turn
   abbrev pub turn : Frame X → List (Frame X) → State X → Standing X
   turn (Rest End) fs st = record { frames = fs; state = st }
   turn (Rest (Then l s rest)) fs st = by_flow st.flow l s (Rest rest ∷ fs) fs st
@@ -100,11 +100,11 @@ module _ (p : Program) {X : Type 0} (r : Rules X) where
   turn (AtEnd before) fs st = record { frames = AtEnd before ∷ fs; state = st }
   turn (Back env) fs st = record { frames = fs; state = record st { environment = env } }
 
--- a finish at its end, of which this has come
+-- a task at the end of a finish continues with this settled result
 abbrev pub handed : (before : State Own) → Settled → State Own → State Own
 handed before s st = go_on_with before (record st { extra = notes EndFinish st.extra }) s
 
--- a task has begun another, whose number is this
+-- a task has spawned another, which has this number
 pub record IsBegun (nest : ℕ) (st : State Own) (c : Child) : Type 0 where
   pub number : ℕ
   pub path : c.start.path ≡ st.path ++ suc number ∷ []
@@ -112,12 +112,12 @@ pub record IsBegun (nest : ℕ) (st : State Own) (c : Child) : Type 0 where
   pub here : slice_get (begun_by st.extra.actions) number ≡ Some c.start
   pub deeper : suc c.start.nest ≡ nest
 
--- what a task lists it has begun, and it counts them
+-- a task has spawned the children that it lists, and counts all that it spawned
 pub record HasBegun (nest : ℕ) (st : State Own) : Type 0 where
   pub counted : length (begun_by st.extra.actions) ≡ st.spawned
   pub begun : Each (IsBegun nest st) st.extra.pending
 
--- so it has what it lists outside of its open finishes
+-- it has also spawned the children that it lists outside of its open finishes
 abbrev pub HasBegunBelow : (nest : ℕ) → State Own → List (Frame Own) → Type 0
 HasBegunBelow nest st [] = Unit {0}
 HasBegunBelow nest st (Rest b ∷ fs) = HasBegunBelow nest st fs
@@ -127,12 +127,12 @@ HasBegunBelow nest st (AtEnd before ∷ fs) =
 HasBegunBelow nest st (Back env ∷ fs) = HasBegunBelow nest st fs
 
 module _ (p : Program) (needs : Codes → Needs) (fresh : ℕ) (root : Start) where
-  -- a task that is listed is known by its path, and started with what that is given
+  -- a listed task is identified by its path, and started with the start given to this path
   pub record IsGivenChild (c : Child) : Type 0 where
     pub listed : c.listed.path ≡ c.start.path
     pub is : given p needs fresh root c.start.path ≡ Some c.start
 
-  -- a task that started so: what it has, followed by what is left, is its own run
+  -- a task with this start: what it has so far, followed by what is left, is its own run
   pub record IsTask (s : Start) (t : Standing Own) : Type 0 where
     pub comes : given p needs fresh root s.path ≡ Some s
     pub runs : resume p (own_rules needs s.nest (in_truth p needs fresh)) t.frames t.state
@@ -142,13 +142,13 @@ module _ (p : Program) (needs : Codes → Needs) (fresh : ℕ) (root : Start) wh
     pub fine : HasBegun s.nest t.state
     pub below : HasBegunBelow s.nest t.state t.frames
 
-  -- for all later receipts, its own run is what it has so far, followed by that of what remains
+  -- for all later receipts, its own run is what it has so far, followed by the run of what remains
   pub record Follows (s : Start) (taken : List (List TaskResult)) (t : Standing Own) : Type 0 where
     pub count : t.state.extra.ended ≡ length taken
     pub follows : (later : List (List TaskResult)) → run_by p needs fresh (taken ++ later) s
         ≡ resume p (own_rules needs s.nest (from_receipts (taken ++ later))) t.frames t.state
 
--- what a statement does, as others see it, where it has so many steps left
+-- the actions of a statement that other tasks can see, if this number of steps is left
 abbrev pub done_by : (needs : Codes → Needs) → (nest steps : ℕ) → Code → State Own → List Action
 done_by needs nest zero s st = []
 done_by needs zero (suc n) (Async b) st = []
@@ -160,13 +160,13 @@ done_by needs nest (suc n) (While t b) st = Step ∷ []
 done_by needs nest (suc n) (Split s e x y b) st = Step ∷ []
 done_by needs nest (suc n) (Call f es ss) st = Step ∷ []
 
--- where the flow is on
+-- the actions of a statement, by the flow
 abbrev pub done_at : (needs : Codes → Needs) → (nest : ℕ) → Flow → Code → State Own → List Action
 done_at needs nest On s st = done_by needs nest st.steps s st
 done_at needs nest Faulted s st = []
 done_at needs nest Stopped s st = []
 
--- what a turn does
+-- the actions of a turn
 abbrev pub done_in : (needs : Codes → Needs) → (nest : ℕ) → Frame Own → State Own → List Action
 done_in needs nest (Rest End) st = []
 done_in needs nest (Rest (Then l s rest)) st = done_at needs nest st.flow s st

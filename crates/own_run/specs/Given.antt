@@ -1,4 +1,4 @@
--- What comes of a start, what the task of each path is given, and what is told of a run.
+-- The settled result of a start, the start given to each path, and the outcome of a settled run.
 use Rattle.std.specs.Prelude.{ℕ, zero, suc, ◌≡◌, List, [], ◌∷◌, flat_map, ℤ, Option, Some}
 use Rattle.sections.specs.Covers.{has}
 use Rattle.types.specs.Code.{Codes, Program}
@@ -11,46 +11,47 @@ use Rattle.own_run.specs.Results.{TaskResult, Settled, none_yet, fill, complete,
 use Rattle.own_run.specs.OwnRun.{Start, Child, Own, beginning, result_of, begun_by, kth, flow_after, own_run}
 
 module _ (p : Program) (needs : Codes → Needs) (fresh : ℕ) where
-  -- what comes of a start
+  -- the settled result of a start
   abbrev pub comes_to : Start → Settled
   comes_to s =
       let out = apart p needs fresh s.nest (Block s.body) (beginning nothing fresh s) in
       record { stopped = stops_anywhere out; contents = merged out; lines = out.lines; faults = out.faults }
 
-  -- holes filled with what comes of each
+  -- holes filled with the settled result of each child
   abbrev pub filled : List Child → Settled → Settled
   filled [] so_far = so_far
   filled (c ∷ cs) so_far = filled cs (fill c.listed (comes_to c.start) so_far)
 
-  -- what really came of a finish
+  -- the real settled result of a finish
   abbrev pub in_truth : State Own → Option Settled
   in_truth st = Some (complete (result_of st) (filled st.extra.pending none_yet))
 
-  -- the own run of a task, where each finish goes on with what really came of it
+  -- the own run of a task, in which each finish continues with its real settled result
   abbrev pub own : Start → State Own
   own = own_run p needs fresh in_truth
 
-  -- what the task of a path starts with, below one with this start
+  -- the start given to a path, relative to a task with this start
   abbrev pub given : Start → List ℕ → Option Start
   given s [] = Some s
   given s (k ∷ path) = and_then (kth k (begun_by (own s).extra.actions)) (λ c. given c path)
 
-  -- a result is that of a task: its path is given a start, and the task's own run has it at its end
+  -- a result is that of a task: its path is given a start, and it is the result of the own run from
+  -- this start
   pub record IsOfOwnRun (root : Start) (r : TaskResult) : Type 0 where
     pub start : Start
     pub of_path : given root r.path ≡ Some start
     pub is : r ≡ result_of (own start)
 
-  -- a result is what its task has at the end of its own run, if its path is given a start
+  -- if its path is given a start, a result is the result of the own run from this start
   abbrev pub IsOwn : Start → TaskResult → Type 0
   IsOwn root r = (s : Start) → given root r.path ≡ Some s → r ≡ result_of (own s)
 
-  -- the results of all tasks below one, where no more than so many stand inside one another
+  -- the results of all tasks below a task, nested at most `nest` levels deep
   abbrev pub below : (nest : ℕ) → Start → List TaskResult
   below zero s = []
   below (suc n) s = flat_map (λ c. result_of (own c.start) ∷ below n c.start) (own s).extra.pending
 
--- what the root starts with
+-- the root's start
 abbrev pub root_of : Program → (input : List (List ℤ)) → (nest : ℕ) → Start
 root_of p input nest = record {
   body = p.main.body;
@@ -61,7 +62,7 @@ root_of p input nest = record {
   path = [];
 }
 
--- what is told of a run, once all has come
+-- the outcome of a settled run
 abbrev pub told_of : Program → Settled → Outcome
 told_of p s =
     outcome_by (flow_after s)

@@ -1,4 +1,5 @@
--- A task has what it touches up to its innermost finish's end, and owns where it may write.
+-- A task has all that it touches up to the end of its innermost finish, and owns all that it may
+-- write.
 use Rattle.std.specs.Prelude.{ℕ, ◌≡◌, ◌⊎◌, List, [], ◌∷◌, map, true}
 use Rattle.sections.specs.Covers.{has}
 use Rattle.sections.specs.Place.{Window, Place, In}
@@ -19,7 +20,7 @@ use Rattle.own_run.specs.Frames.{Frame, Rest, Again, AtEnd, Back, Standing}
 use Rattle.own_run.specs.Lists.{Each}
 use Rattle.own_run.specs.Settling.{Parted}
 
--- what is around a block of a task that has these contents and owns these places
+-- the surroundings of a block, for a task that has these contents and owns these places
 abbrev pub having : Scope → Environment → Contents → Places → Around
 having sc env c o =
     record {
@@ -30,13 +31,13 @@ having sc env c o =
       held = λ q. IsThere (c q);
     }
 
--- what was there, or owned, when a finish began is so now, or comes back from a child
+-- what was there or owned when a finish began is still so, or comes back from a child
 pub record Comes (st before : State Own) : Type 0 where
   pub there : (q : Place) → IsThere (before.store q)
       → IsThere (st.store q) ⊎ (back_from st.extra.pending q ≡ true)
   pub owned : (q : Place) → before.extra.owned q ≡ true
       → (st.extra.owned q ≡ true) ⊎ (back_from st.extra.pending q ≡ true)
-  -- and nothing else is owned, or comes back
+  -- nothing else is owned or comes back
   pub no_more : (q : Place) → (st.extra.owned q ≡ true) ⊎ (back_from st.extra.pending q ≡ true)
       → before.extra.owned q ≡ true
 
@@ -45,7 +46,8 @@ module _ (p : Program) (needs : Codes → Needs) where
   abbrev pub locked_after : Environment → (locked : Place → Type 0) → Codes → Place → Type 0
   locked_after env locked b q = locked q ⊎ Overwrites env (Pending p accesses b) q
 
-  -- a block that is left: its scope lies in `limit`, with the windows of `env`, off what is locked
+  -- a block that is left: its scope is within `limit`, with the windows of `env`, and it touches
+  -- nothing that is locked
   pub record Remains (windows : ℕ → Window) (limit : ℕ → Type 0) (c : Contents) (o : Places)
       (locked : Place → Type 0) (b : Codes) (sc : Scope)
       (env : Environment) : Type 0 where
@@ -53,7 +55,7 @@ module _ (p : Program) (needs : Codes → Needs) where
     pub known : (s : ℕ) → InScope sc s → windows s ≡ env.windows s
     pub ready : Ready p needs (having sc env c o) locked (locked_after env locked b) b
 
-  -- so is each block of a stack of frames, behind those above it
+  -- each block of a stack of frames remains in this way, after the blocks above it
   abbrev pub Stack : (ℕ → Window) → (limit : ℕ → Type 0) → Contents → Places
       → (locked : Place → Type 0) → List (Frame Own) → Type 0
   Stack f limit c o locked [] = Unit {0}
@@ -69,17 +71,17 @@ module _ (p : Program) (needs : Codes → Needs) where
       Stack f limit before.store before.extra.owned (λ q. ⊥) fs
   Stack f limit c o locked (Back env ∷ fs) = Stack env.windows (λ s. Unit {0}) c o locked fs
 
-  -- a task can begin
+  -- a task can start
   abbrev pub MayBegin : Start → Type 0
   MayBegin s =
       Stack s.environment.windows (λ s. Unit {0}) s.contents s.owned (λ q. ⊥) (Rest s.body ∷ [])
 
-  -- a child has what comes back from it, and can begin
+  -- a child has all places that come back from it, and can start
   pub record Carries (c : Child) : Type 0 where
     pub there : (q : Place) → has c.listed.windows q ≡ true → IsThere (c.start.contents q)
     pub begins : MayBegin c.start
 
-  -- so it is for the finishes around, and their children can begin
+  -- the finishes around get back their places, and their children can start
   abbrev pub Returns : State Own → List (Frame Own) → Type 0
   Returns st [] = Unit {0}
   Returns st (Rest b ∷ fs) = Returns st fs
@@ -90,7 +92,7 @@ module _ (p : Program) (needs : Codes → Needs) where
       × Returns before fs
   Returns st (Back env ∷ fs) = Returns st fs
 
-  -- a task has what it touches
+  -- a task has all that it touches
   pub record Holds (t : Standing Own) : Type 0 where
     pub stack : Stack t.state.environment.windows (λ s. Unit {0}) t.state.store t.state.extra.owned
         (λ q. ⊥) t.frames
@@ -98,14 +100,15 @@ module _ (p : Program) (needs : Codes → Needs) where
     pub parted : Parted t.state.extra.owned (map (λ c. c.listed) t.state.extra.pending)
     pub returns : Returns t.state t.frames
 
--- a statement's own accesses are to places that are there, and its writes to places that are owned
+-- a statement's own accesses are to places that are there, and its writes are to places that are
+-- owned
 abbrev pub HasOwn : State Own → (label : ℕ) → Code → Type 0
 HasOwn st l s =
     (y : Access) → Member y (own_accesses l s) → (q : Place)
     → In (st.environment.windows y.section) q
     → IsThere (st.store q) × (y.write ≡ true → st.extra.owned q ≡ true)
 
--- so are those that an async's body needs
+-- the places that an async's body needs are there, and those that it may write are owned
 pub record HasNeeds (st : State Own) (n : Needs) : Type 0 where
   pub there : (q : Place) → touched st.environment n q ≡ true → IsThere (st.store q)
   pub owned : (q : Place) → written st.environment n q ≡ true → st.extra.owned q ≡ true

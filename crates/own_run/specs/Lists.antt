@@ -1,12 +1,12 @@
--- What holds of each element of a list, and lists in another order.
+-- A property of each element of a list, and lists in another order.
 use Rattle.std.specs.Prelude.{List, [], ◌∷◌}
 
--- P holds of each
+-- P is true of each element
 abbrev pub Each : {A : Type 0} → (A → Type 0) → List A → Type 0
 Each P [] = Unit {0}
 Each P (x ∷ xs) = P x × Each P xs
 
--- zs is ys with x put in somewhere
+-- zs is ys with x inserted at some position
 pub data Inserted {A : Type 0} (x : A) : List A → List A → Type 0 where
   here : {ys : List A} → Inserted x ys (x ∷ ys)
   later : {y : A} {ys zs : List A} → Inserted x ys zs → Inserted x (y ∷ ys) (y ∷ zs)

@@ -1,4 +1,5 @@
--- A run in Rust of a program on an input: it stands for a task that may come to stand so.
+-- Runs in Rust of a program on an input: each represents a configuration that a task of the program
+-- may reach.
 use Rattle.std.specs.Prelude.{◌≡◌, ℤ, List, [], ◌∷◌}
 use Rattle.types.specs.Code.{Program}
 use Rattle.types.specs.Outcome.{Budget}
@@ -17,7 +18,7 @@ use Rattle.own_run.specs.declared.turn.Paused.{Paused}
 use Rattle.own_run.specs.declared.turn.Turn.{Turn}
 use Rattle.own_run.specs.declared.turn.Turn.TheVariants.{Going, Spawns, EntersFinish, EndsFinish, Ended, Over}
 
--- the run stands for a task of the program's, on this input and under this budget
+-- the run represents a task of the program, on this input and under this budget
 pub record MayRun (p : Program) (input : List (List ℤ)) (b : Budget) (r : Run) : Type 0 where
   pub program : program r.plan.program.now ≡ p
   pub start : Start
@@ -27,7 +28,7 @@ pub record MayRun (p : Program) (input : List (List ℤ)) (b : Budget) (r : Run)
   pub shows : Shows r frames own
   pub stands : MayStand p input b start (record { frames = frames; state = with_own own (state_of r.thread) })
 
--- a run waits at the end of a finish of a task of the program's, with what that has made so far
+-- a run waits at the end of a finish of a task of the program, with what the task has made so far
 pub record MayWait (p : Program) (input : List (List ℤ)) (b : Budget) (q : Paused)
     (so_far : TaskResult) : Type 0 where
   pub program : program q.plan.program.now ≡ p
@@ -41,21 +42,22 @@ pub record MayWait (p : Program) (input : List (List ℤ)) (b : Budget) (q : Pau
   pub made : task_result so_far ≡ result_of state
 
 module _ (p : Program) (input : List (List ℤ)) (b : Budget) where
-  -- a task of the program's starts so
+  -- a task of the program has this start
   abbrev pub MayStart : Start → Type 0
   MayStart s = MayStand p input b s (begun b.steps s)
 
-  -- a run of a task that started so
+  -- a run of the task with this start
   abbrev pub IsRunOf : Start → Run → Type 0
   IsRunOf s r = (m : MayRun p input b r) × (m.start ≡ s)
 
-  -- such a task came to its end with this result
+  -- the task with this start ended with this result
   abbrev pub IsEndOf : Start → TaskResult → Type 0
   IsEndOf s r =
       (st : State Own) × MayStand p input b s (record { frames = []; state = st })
       × (task_result r ≡ result_of st)
 
-  -- whatever a turn gives is of the task that started so, and a task that it began may start
+  -- a turn of the task with this start returns a value of the same task, and a spawned task is one
+  -- of the program
   abbrev pub Stays : Start → Turn → Type 0
   Stays s (Going r) = IsRunOf s r
   Stays s (Spawns r c) = IsRunOf s r × MayStart (start c)

@@ -1,4 +1,4 @@
--- A run whose next statement has code, and where that takes it.
+-- A run whose next statement has code, and its state after this code has run.
 use Rattle.std.specs.Prelude.{ℕ, ◌+◌, ◌<◌, ◌≤◌, ◌≡◌, List, [], ◌∷◌, ◌++◌, length, Some, slice_index_or}
 use Rattle.std.specs.Borrow.{Bor}
 use Rattle.types.specs.declared.code.Stmt.{Stmt}
@@ -21,8 +21,8 @@ use Rattle.own_run.specs.declared.run.Run.{Run}
 abbrev pub code_at : ProgramCode → (number : ℕ) → Flat → Type 0
 code_at c number f = slice_index_or c.codes.items number f ≡ f
 
--- the flow is on; the top frame is a block, whose first statement has code with this number, in which the
--- environment has room, and this is behind it
+-- The flow is on, and the top frame is a block. Its first statement has code with this number, for
+-- which the environment has room. `rest` is the rest of the block.
 pub record HasPiece (c : ProgramCode) (r : Run) (number : ℕ) (rest : Bor (List Stmt)) : Type 0 where
   pub on : r.thread.flow ≡ rOn
   pub below : List rFrame
@@ -38,8 +38,9 @@ pub record HasPiece (c : ProgramCode) (r : Run) (number : ℕ) (rest : Bor (List
   pub sections : (f : Flat) → code_at c number f
       → length r.thread.environment.windows.items ≤ f.limits.sections
 
--- the first statement of the top frame was done by the code with a number, and this was behind it:
--- whatever block that is the code of, the task stands where the block leaves it on one thread
+-- The code with this number has done the first statement of the top frame, and `rest` is the rest
+-- of the block. For each block that this is the code of, the task is in the state in which the
+-- block leaves it on one thread.
 pub record IsPassed (c : ProgramCode) (number : ℕ) (rest : Bor (List Stmt)) (old new : Run) : Type 0 where
   pub plan : new.plan ≡ old.plan
   pub nest : new.thread.nest ≡ old.thread.nest

@@ -1,4 +1,4 @@
--- What may run next, by what is around it.
+-- Blocks that may run next, given their surroundings.
 use Rattle.sections.specs.Place.{Place}
 use Rattle.types.specs.Code.{Codes, Program}
 use Rattle.types.specs.Contents.{Contents}
@@ -9,19 +9,20 @@ use Rattle.effects.specs.Needs.{Needs, ProvidesIn}
 use Rattle.race_checker.specs.Scope.{Scope, FitsScope, Scoped}
 use Rattle.race_checker.specs.Calm.{Calm}
 
--- what stays fixed along a block
+-- the surroundings, which stay fixed along a block
 pub record Around : Type 1 where
   pub scope : Scope
   -- the windows of the sections in scope
   pub env : Environment
-  -- the contents that one thread began with, and where it may have written since
+  -- the contents with which one thread started, and the places where it may have written since
   pub base : Contents
   pub wrote : Place → Type 0
-  -- where both runs have the same
+  -- the places at which both runs have the same contents
   pub held : Place → Type 0
 
 module _ (p : Program) (needs : Codes → Needs) where
-  -- a block may run next: within what is around, off what is locked; `final` is locked afterwards
+  -- A block may run next: it stays within the surroundings, and touches nothing that is locked.
+  -- `final` is locked afterwards.
   pub record Ready (x : Around) (locked final : Place → Type 0) (b : Codes) : Type 0 where
     pub fits : FitsScope x.scope x.env
     pub scoped : Scoped p x.scope b

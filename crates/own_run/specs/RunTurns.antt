@@ -1,4 +1,4 @@
--- What a turn of a run in Rust is: the turn of the task that it stands for.
+-- A turn of a run in Rust, defined as the turn of the task that it represents.
 use Rattle.std.specs.Prelude.{ℕ, ◌≡◌, ◌+◌, ◌<◌, ◌≤◌, ◌⊎◌, ⊤, List, [], ◌∷◌, ◌++◌, Option, ◌||◌, Bool, true}
 use Rattle.std.specs.Prelude.{false}
 use Rattle.sections.specs.Place.{Place}
@@ -34,29 +34,29 @@ use Rattle.own_run.specs.declared.turn.Step.TheVariants.{Did as rDid, AtEnd as r
 use Rattle.own_run.specs.declared.turn.Turn.{Turn}
 use Rattle.own_run.specs.declared.turn.Turn.TheVariants.{Going, Spawns, EntersFinish, EndsFinish, Ended, Over}
 
--- what becomes of frames and the state on top of them
+-- how frames and a state change
 abbrev pub Going_on : Type 0
 Going_on = List (Frame Own) → State Own → Standing Own
 
--- whatever the old run stands for, the new one stands for what becomes of it
+-- for each task that the old run represents, the new run represents the changed task
 pub record Turns (go : Going_on) (old new : Run) : Type 0 where
   pub plan : new.plan ≡ old.plan
   pub nest : new.thread.nest ≡ old.thread.nest
   pub stands : (fs : List (Frame Own)) (x : Own) → Shows old fs x
       → IsAt new (go fs (with_own x (state_of old.thread)))
 
--- this task was begun
+-- exactly this task was spawned
 abbrev pub BeginsAs : List Action → (over : Bool) → rStart → Type 0
 BeginsAs actions over s = (over ≡ false) × (actions ≡ Spawn (start s) ∷ [])
 
--- these actions were done; `over` where that went over the budget
+-- these actions were done; `over` means that the task went over the budget
 abbrev pub DoneAs : List Action → (over : Bool) → Done → Type 0
 DoneAs actions over Gone = (over ≡ false) × IsLittle actions
 DoneAs actions over (Spawned s) = BeginsAs actions over s.value
 DoneAs actions over Entered = (over ≡ false) × (actions ≡ EnterFinish ∷ [])
 DoneAs actions over Exceeded = over ≡ true
 
--- this was done, and the new run stands for what becomes of it
+-- this was done, and the new run represents the changed task
 pub record Did (go : Going_on) (actions : State Own → List Action) (over : State Own → Bool)
     (old : Run) (done : Done) (new : Run) : Type 0 where
   pub turns : Turns go old new
@@ -64,12 +64,12 @@ pub record Did (go : Going_on) (actions : State Own → List Action) (over : Sta
       let st = with_own x (state_of old.thread) in
       DoneAs (actions st) (over st) done
 
--- the flow is on, and the step of a statement was taken
+-- the flow is on, and the step of a statement has been taken
 pub record HasRoom (r : Run) : Type 0 where
   pub on : r.thread.flow ≡ rOn
   pub taken : r.thread.spawned + r.thread.steps < r.plan.budget.steps
 
--- a place that the body of an async may touch is held, and one that it may write is owned
+-- each place that the body of an async may touch is held, and each that it may write is owned
 pub record HasNeeded (n : Needs) (r : Run) : Type 0 where
   pub there : (q : Place) → touched (environment r.thread.environment) n q ≡ true
       → IsThere (contents_of r.thread.store.holdings q)
@@ -77,7 +77,7 @@ pub record HasNeeded (n : Needs) (r : Run) : Type 0 where
       → owned_by r.thread.store.holdings q ≡ true
 
 module _ (needs : Codes → Needs) (IsAsync : ℕ → Codes → Type 0) where
-  -- a run has what a statement needs
+  -- a run has all that a statement needs
   abbrev pub CanAct : (label : ℕ) → Code → Run → Type 0
   CanAct l (Do s) r =
       CanStore (program r.plan.program.now)
@@ -89,14 +89,14 @@ module _ (needs : Codes → Needs) (IsAsync : ℕ → Codes → Type 0) where
   CanAct l (Call f es ss) r = ⊤
   CanAct l (Finish b) r = ⊤
 
--- a statement whose step was taken
+-- a statement whose step has been taken
 abbrev pub Acts : (label : ℕ) → Code → (old new : Run) → Type 0
 Acts l c old new =
     (needs : Codes → Needs) (close : State Own → Option Settled)
     → Turns (acted (program old.plan.program.now) (own_rules needs old.thread.nest close) l c) old new
 
 module _ (needs : Codes → Needs) where
-  -- the same, noted among the actions
+  -- such a statement, with its actions
   abbrev pub DidAct : (label : ℕ) → Code → (old : Run) → Done → (new : Run) → Type 0
   DidAct l c old done new =
       (close : State Own → Option Settled) →
@@ -104,7 +104,7 @@ module _ (needs : Codes → Needs) where
       Did (λ fs st. acted (program old.plan.program.now) r l c fs (counted r l c st))
       (done_by needs old.thread.nest 1 c) (λ st. is_over old.thread.nest 1 c) old done new
 
-  -- the same before its step is taken; where the flow is off, what of the frames is left then
+  -- a statement before its step is taken; `rest` gives the frames that remain if the flow is off
   abbrev pub DidNext : (List (Frame Own) → List (Frame Own)) → (label : ℕ) → Code → (old : Run) → Done
       → (new : Run) → Type 0
   DidNext rest l c old done new =
@@ -119,7 +119,7 @@ abbrev pub below_top : List (Frame Own) → List (Frame Own)
 below_top [] = []
 below_top (f ∷ fs) = fs
 
--- the top frame is taken off; at the end of a call its environment comes back
+-- the top frame is taken off; at the end of a call the caller's environment comes back
 abbrev pub taken_off : Going_on
 taken_off [] st = record { frames = []; state = st }
 taken_off (Rest b ∷ fs) st = record { frames = fs; state = st }
@@ -137,18 +137,18 @@ pub record Waits (q : Paused) (fs : List (Frame Own)) (before st : State Own) : 
   pub spawned : q.spawned ≡ st.spawned
   pub few : q.spawned + q.steps ≤ q.plan.budget.steps
 
--- what was owned at the end of a finish is owned behind it, and what comes back
+-- after a finish, a task owns what it owned at the end of the finish, and the places that come back
 abbrev pub ComesBack : rSettled → State Own → Type 0
 ComesBack s st =
     owned_by s.holdings ≡ (λ q. st.extra.owned q || back_from st.extra.pending q)
 
--- a run stands so on the same program, with as much nest
+-- the new run represents this configuration, with the same program and nesting level
 pub record GoesTo (old : Run) (next : Standing Own) (new : Run) : Type 0 where
   pub plan : new.plan ≡ old.plan
   pub nest : new.thread.nest ≡ old.thread.nest
   pub stands : IsAt new next
 
--- where a turn goes on: so it stands then, with these actions done
+-- the turn continues in this configuration, after these actions
 abbrev pub GoesAs : (old : Run) → (next : Standing Own) → List Action → (over : Bool) → Turn → Type 0
 GoesAs old next actions over (Going r) = GoesTo old next r × DoneAs actions over Gone
 GoesAs old next actions over (Spawns r s) = GoesTo old next r × BeginsAs actions over s
@@ -157,14 +157,14 @@ GoesAs old next actions over (Over r) = GoesTo old next r × DoneAs actions over
 GoesAs old next actions over (EndsFinish q r) = ⊥
 GoesAs old next actions over (Ended r) = ⊥
 
--- it waits with what it made
+-- the turn ends a finish: the run waits, and the result is what it has made
 abbrev pub WaitsAs : (old : Run) → List (Frame Own) → (before st : State Own) → Turn → Type 0
 WaitsAs old fs before st (EndsFinish q r) =
     Waits q fs before st × (q.plan ≡ old.plan) × (q.nest ≡ old.thread.nest)
     × (task_result r ≡ result_of st)
 WaitsAs old fs before st _ = ⊥
 
--- it has ended with what it made
+-- the turn ends the task with the result that it has made
 abbrev pub EndsAs : State Own → Turn → Type 0
 EndsAs st (Ended r) = task_result r ≡ result_of st
 EndsAs st _ = ⊥
@@ -184,7 +184,7 @@ module _ (needs : Codes → Needs) (close : State Own → Option Settled) (old :
   TurnOf (Again l t b ∷ fs) st = GoesFrom (Again l t b) fs st
   TurnOf (Back env ∷ fs) st = GoesFrom (Back env) fs st
 
--- whatever the run stands for, that is its turn
+-- for each task that the run represents, this is the task's turn
 abbrev pub IsTurn : (Codes → Needs) → Run → Turn → Type 0
 IsTurn needs old turn =
     (close : State Own → Option Settled) (fs : List (Frame Own)) (x : Own) → Shows old fs x
@@ -203,18 +203,18 @@ IsAtEnd r =
     (r.frames.items ≡ [])
     ⊎ ((below : List rFrame) × (o : Outer) × (r.frames.items ≡ below ++ rEndFinish o ∷ []))
 
--- a turn in place: where it goes on, that is its turn; at the end of a finish, or at its own, the
--- run stays as it is
+-- A turn in place. If the run continues, this is its turn. At the end of a finish or at its own
+-- end, the run is unchanged.
 abbrev pub IsStep : (Codes → Needs) → (old : Run) → rStep → (new : Run) → Type 0
 IsStep needs old (rDid done) new = IsTurn needs old (turn_of new done)
 IsStep needs old rAtEnd new = (new ≡ old) × IsAtEnd old
 
--- the first statement of a block, where it is an async, is known
+-- if the first statement of a block is an async, it is known
 abbrev pub KnowsFirst : (IsAsync : ℕ → Codes → Type 0) → List (Frame Own) → Type 0
 KnowsFirst IsAsync (Rest (Then l (Async b) rest) ∷ fs) = IsAsync l b
 KnowsFirst IsAsync fs = ⊤
 
--- a run stands for a task that has what it does next
+-- the run represents a task that has all that its next statement needs
 pub record CanTurn (needs : Codes → Needs) (IsAsync : ℕ → Codes → Type 0) (r : Run) : Type 0 where
   pub frames : List (Frame Own)
   pub own : Own
@@ -231,7 +231,8 @@ IsEnding (EndsFinish q r) = ⊤
 IsEnding (Ended r) = ⊤
 IsEnding (Over r) = ⊥
 
--- whatever the one run stands for, the other stands for what comes of that by turns that nobody else sees
+-- for each task that the old run represents, the new run represents a configuration that the task
+-- reaches by quiet turns
 abbrev pub GoesOn : (needs : Codes → Needs) → (old new : Run) → Type 0
 GoesOn needs old new =
     (close : State Own → Option Settled) (fs : List (Frame Own)) (x : Own) → Shows old fs x
@@ -240,7 +241,7 @@ GoesOn needs old new =
     (record { frames = fs; state = with_own x (state_of old.thread) }) t
     × GoesTo old t new
 
--- a turn that somebody else sees: more than a step, and more than going over the budget
+-- a visible turn: it does more than a step, and more than going over the budget
 abbrev pub IsMore : Turn → Type 0
 IsMore (Going r) = ⊥
 IsMore (Spawns r s) = ⊤
@@ -249,32 +250,32 @@ IsMore (EndsFinish q r) = ⊤
 IsMore (Ended r) = ⊤
 IsMore (Over r) = ⊥
 
--- so, and then takes this turn, the first that is more
+-- quiet turns, and then this turn, the first visible one
 pub record GoesUpTo (needs : Codes → Needs) (old : Run) (t : Turn) : Type 0 where
   pub last : Run
   pub reached : GoesOn needs old last
   pub turn : IsTurn needs last t
   pub more : IsMore t
 
--- the same of a turn in place
+-- a visible step in place
 abbrev pub DoesMore : rStep → (new : Run) → Type 0
 DoesMore (rDid done) new = IsMore (turn_of new done)
 DoesMore rAtEnd new = ⊤
 
--- a run goes on in place, and takes the first turn that is more; at the end of a finish, or at its own,
--- it stays as it stands there
+-- Quiet turns in place, and then the first visible one. At the end of a finish or at its own end,
+-- the run stays in the configuration that it has reached.
 pub record StepsUpTo (needs : Codes → Needs) (old : Run) (s : rStep) (new : Run) : Type 0 where
   pub last : Run
   pub reached : GoesOn needs old last
   pub step : IsStep needs last s new
   pub more : DoesMore s new
 
--- the first statement of a block, where one is next, is the program's
+-- if the next item is a block's first statement, this statement is the program's
 abbrev pub FirstIsOf : Program → List (Frame Own) → Type 0
 FirstIsOf p (Rest (Then l s rest) ∷ fs) = HasStatement p l s
 FirstIsOf p fs = ⊤
 
--- a run stands for a task whose next statement is the program's
+-- the run represents a task whose next statement is the program's
 pub record NextIsOf (p : Program) (r : Run) : Type 0 where
   pub frames : List (Frame Own)
   pub own : Own

@@ -1,4 +1,4 @@
--- The tasks of a program's run on an input and under a budget, with the needs that are computed.
+-- The tasks of a program's run on an input and under a budget, with the computed needs.
 use Rattle.std.specs.Prelude.{ℤ, List}
 use Rattle.types.specs.Code.{Program}
 use Rattle.types.specs.Outcome.{Budget}
@@ -10,15 +10,15 @@ use Rattle.own_run.specs.Frames.{Standing}
 use Rattle.own_run.specs.Reached.{Reached, IsResult, CanSettle, CanEnd}
 
 module _ (p : Program) (input : List (List ℤ)) (b : Budget) where
-  -- what the root starts with
+  -- the root's start
   abbrev pub root : Start
   root = root_of p input b.nest
 
-  -- what the root has at the end of its own run
+  -- the result of the root's own run
   abbrev pub root_result : TaskResult
   root_result = result_of (own p (needs_of p) b.steps root)
 
-  -- what comes of the root once all is put in
+  -- the settled result of the root
   abbrev pub root_comes_to : Settled
   root_comes_to = comes_to p (needs_of p) b.steps root
 
@@ -26,15 +26,15 @@ module _ (p : Program) (input : List (List ℤ)) (b : Budget) where
   abbrev pub all_results : List TaskResult
   all_results = below p (needs_of p) b.steps b.nest root
 
-  -- a result is what the task of its path has at the end of its own run
+  -- a result is the result of the own run of its path's task
   abbrev pub IsOwnResult : TaskResult → Type 0
   IsOwnResult = IsOwn p (needs_of p) b.steps root
 
-  -- a task that started so may come to stand so
+  -- a task with this start can reach this configuration
   abbrev pub MayStand : Start → Standing Own → Type 0
   MayStand = Reached p (needs_of p) b.steps root
 
-  -- the result of a task that came to its end
+  -- the result of a task that has ended
   abbrev pub IsTaskResult : TaskResult → Type 0
   IsTaskResult = IsResult p (needs_of p) b.steps root
 
@@ -42,6 +42,6 @@ module _ (p : Program) (input : List (List ℤ)) (b : Budget) where
   abbrev pub MayGoOn : Standing Own → Type 0
   MayGoOn t = CanSettle p (needs_of p) b.steps root t.state
 
-  -- a task that started so can come to its end
+  -- a task with this start can reach its end
   abbrev pub MayEnd : Start → Type 0
   MayEnd = CanEnd p (needs_of p) b.steps root

@@ -1,5 +1,5 @@
--- What a task holds, as a memory of flat code: it has each place, since a read is 0 where nothing is held,
--- and a write asks for nothing. What is owned stays so.
+-- What a task holds, as a memory of flat code. It has every place: a read is 0 where nothing is
+-- held, and a write has no precondition. The set of owned places doesn't change.
 use Rattle.std.specs.Prelude.{⊤}
 use Rattle.serial_run.specs.Kind.{Kind}
 use Rattle.own_run.specs.Places.{Places}

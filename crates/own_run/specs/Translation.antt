@@ -1,4 +1,4 @@
--- The Rust types as plain records, without what says where they lie in memory.
+-- The Rust types as plain records, without their locations in memory.
 use Rattle.std.specs.Prelude.{map, is_some}
 use Rattle.sections.specs.Translation.{window}
 use Rattle.types.specs.Contents.{Contents}
@@ -22,7 +22,7 @@ contents_of h = numbers (held h)
 abbrev pub owned_by : Holdings → Places
 owned_by h q = is_some (owned (held h) q)
 
--- what is known of a task that was begun
+-- what is known of a task that was spawned
 abbrev pub listed : rListed → Listed
 listed c = record {
   path = c.path.turns.items;
@@ -43,7 +43,7 @@ task_result r = record {
   children = map listed r.children.items;
 }
 
--- what came of a task
+-- the settled result of a task
 abbrev pub settled : rSettled → Settled
 settled s = record {
   stopped = s.stopped;

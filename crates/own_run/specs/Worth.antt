@@ -1,4 +1,5 @@
--- What results are worth by a measure, and the children that a task lists at its open finishes.
+-- The worth of results and starts by a measure, and the children that a task lists at its open
+-- finishes.
 use Rattle.std.specs.Prelude.{ℕ, ◌+◌, ◌≡◌, List, [], ◌∷◌, ◌++◌, sum_by}
 use Rattle.types.specs.Code.{Codes, Program}
 use Rattle.types.specs.Outcome.{Budget}
@@ -9,32 +10,32 @@ use Rattle.own_run.specs.OwnRun.{Start, Child, Action, Step, Spawn, EnterFinish,
 use Rattle.own_run.specs.Given.{own, below}
 use Rattle.own_run.specs.Frames.{Frame, Rest, Again, AtEnd, Back, Standing}
 
--- what results come to by a measure
+-- the sum of a measure over results
 abbrev pub measured : (TaskResult → ℕ) → List TaskResult → ℕ
 measured f = sum_by f
 
 module _ (p : Program) (needs : Codes → Needs) (fresh : ℕ) (f : TaskResult → ℕ) where
-  -- all results that come of a start: that of its task, and those of all below it
+  -- the worth of a start: the measures of its task's result and of all results below it
   abbrev pub worth_by : Start → ℕ
   worth_by s = f (result_of (own p needs fresh s)) + measured f (below p needs fresh s.nest s)
 
 module _ (p : Program) (b : Budget) (f : TaskResult → ℕ) where
-  -- what a start is worth in a run of the program, with the needs that are computed
+  -- the worth of a start in a run of the program, with the computed needs
   abbrev pub worth : Start → ℕ
   worth = worth_by p (needs_of p) b.steps f
 
-  -- what those are worth that a task lists
+  -- the worth of the children that a task lists
   abbrev pub listed_worth : List Child → ℕ
   listed_worth = sum_by (λ c. worth c.start)
 
 -- ---- the children that a task lists
 pub record Lists : Type 0 where
-  -- at its innermost open finish, or where it has none open
+  -- in its innermost open finish, or in its body if it has none open
   pub inner : List Child
-  -- at those around, the innermost first, and outside of all last
+  -- in the finishes around, the innermost first, and last the children outside of all finishes
   pub outer : List (List Child)
 
--- at the open finishes around
+-- the children listed in the finishes around
 abbrev pub around : List (Frame Own) → List (List Child)
 around [] = []
 around (Rest b ∷ fs) = around fs
@@ -42,11 +43,11 @@ around (Again l t b ∷ fs) = around fs
 around (AtEnd before ∷ fs) = before.extra.pending ∷ around fs
 around (Back env ∷ fs) = around fs
 
--- all that a task lists where it stands
+-- all children that a task lists in a configuration
 abbrev pub lists : Standing Own → Lists
 lists t = record { inner = t.state.extra.pending; outer = around t.frames }
 
--- with one child more
+-- one more child is listed
 abbrev pub with_child : Child → Lists → Lists
 with_child c ls = record ls { inner = ls.inner ++ c ∷ [] }
 
@@ -60,7 +61,7 @@ pub record ListsChild (s : Start) (old new : Lists) : Type 0 where
   pub start : child.start ≡ s
   pub lists : new ≡ with_child child old
 
--- what a turn that does this makes of the lists
+-- how the lists change by a turn with these actions
 abbrev pub ListsAs : List Action → (old new : Lists) → Type 0
 ListsAs [] old new = new ≡ old
 ListsAs (Step ∷ []) old new = new ≡ old

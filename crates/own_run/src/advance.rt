@@ -38,8 +38,10 @@ impl<'p> Run<'p> {
     ghost use Rattle.own_run.specs.RunTurns.{IsEnding, IsStep, IsTurn, NextIsOf, StepsUpTo, below_top};
     ghost use Rattle.own_run.specs.declared.run.Run.{Run as AnyRun};
 
-    /// Turns on in place, as long as nobody else sees it, plain statements at once, and takes the first
-    /// turn that is more. At the end of a finish, or at its own, the run is left as it stands there.
+    /// Runs on in place up to the first visible turn, and takes this turn. A turn is visible if it
+    /// does more than a step and more than going over the budget. Plain statements with flat code
+    /// are run at once. At the end of a finish, or at its own end, the run stays in the
+    /// configuration that it has reached.
     pub fn go<N: Needed>(
         &mut self,
         needed: &N,
@@ -68,7 +70,7 @@ impl<'p> Run<'p> {
         }
     }
 
-    /// One turn: what the top frame says. Only want of memory is in its way.
+    /// Takes one turn of the top frame. The only error is out of memory.
     pub fn advance<N: Needed>(self, needed: &N) -> Result<Turn<'p>, HoldError>
         requires { CanTurn (N.needs needed.now) (N.IsAsync needed.now) self }
         ensures turn { IfOk result (IsTurn (N.needs needed.entry.now) self.entry) }
@@ -81,7 +83,7 @@ impl<'p> Run<'p> {
         }
     }
 
-    /// One turn in place. At the end of a finish, or at its own, the run is left as it is.
+    /// Takes one turn in place. At the end of a finish, or at its own end, the run is unchanged.
     pub fn step<N: Needed>(&mut self, needed: &N) -> Result<Step<'p>, HoldError>
         requires { CanTurn (N.needs needed.now) (N.IsAsync needed.now) self.old }
         ensures step { IfOk result (λ s. IsStep (N.needs needed.entry.now) self.old s self.new) }
@@ -116,8 +118,8 @@ impl<'p> Run<'p> {
         }
     }
 
-    /// The first statement of a block, whose rest is the top frame, where the flow is on and a step is
-    /// left.
+    /// Runs the first statement of a block, whose rest is the top frame, if the flow is on and a
+    /// step is left.
     fn first<N: Needed>(&mut self, needed: &N, stmt: &'p Stmt) -> Result<Done<'p>, HoldError>
         requires few { self.old.thread.spawned + self.old.thread.steps ≤ self.old.plan.budget.steps }
         requires can { CanAct (N.needs needed.now) (N.IsAsync needed.now) stmt.now.label
@@ -137,7 +139,7 @@ impl<'p> Run<'p> {
         }
     }
 
-    /// The next turn of a loop, where the flow is on and a step is left.
+    /// Starts the next iteration of a loop, if the flow is on and a step is left.
     fn again(
         &mut self,
         label: Label,
@@ -158,7 +160,7 @@ impl<'p> Run<'p> {
         }
     }
 
-    /// A statement, whose step was taken.
+    /// Runs a statement whose step has been taken.
     fn act<N: Needed>(&mut self, needed: &N, stmt: &'p Stmt) -> Result<Done<'p>, HoldError>
         requires room { HasRoom self.old }
         requires can { CanAct (N.needs needed.now) (N.IsAsync needed.now) stmt.now.label
@@ -202,8 +204,8 @@ impl<'p> Run<'p> {
         }
     }
 
-    /// A task of its own for the body of an async: it takes what the body may write, and copies of
-    /// what it may read.
+    /// Spawns a task for the body of an async. It takes what the body may write, and copies of what
+    /// the body may read.
     fn spawn<N: Needed>(
         &mut self,
         needed: &N,
@@ -240,7 +242,7 @@ impl<'p> Run<'p> {
         Ok(Done::Spawned(start))
     }
 
-    /// The turn of a run at the end of a finish, or at its own.
+    /// Takes the turn of a run at the end of a finish, or at its own end.
     pub fn end(self) -> Result<Turn<'p>, AllocError>
         requires { IsAtEnd self }
         ensures turn { IfOk result (λ t. (needs : Codes → Needs) → IsTurn needs self.entry t) }
@@ -259,7 +261,8 @@ impl<'p> Run<'p> {
         }
     }
 
-    /// What it has made since its innermost open finish began, or since its beginning.
+    /// Returns what the task has made since its innermost open finish began, or since its own
+    /// start.
     fn result(self) -> TaskResult
         ensures { (fs : List (Left Own)) (x : Own) → Shows self.entry fs x
             → task_result result ≡ result_of (with_own x (state_of self.entry.thread)) }
@@ -288,7 +291,7 @@ impl<'p> Run<'p> {
         }
     }
 
-    /// It waits at the end of a finish, apart from what it has made.
+    /// Splits the run at the end of a finish into the waiting run and its result.
     fn pause(self, outer: Outer) -> Result<(Paused<'p>, TaskResult), AllocError>
         ensures { IfOk result (λ t. (before : State Own) (fs : List (Left Own)) (x : Own)
             → IsEnd outer before → Shows self.entry fs x
@@ -338,8 +341,8 @@ impl<'p> Run<'p> {
 }
 
 impl<'p> Paused<'p> {
-    /// Goes on with what came of the finish: the places that were owned, and those that come back
-    /// from the tasks that were listed in it.
+    /// Continues with the settled result of the finish. The task owns the places that it owned
+    /// before, and those that come back from the tasks listed in the finish.
     pub fn go_on(self, settled: Settled) -> Result<Run<'p>, AllocError>
         ensures stands { IfOk result (λ r. (fs : List (Left Own)) (before st : State Own)
             → Waits self.entry fs before st → ComesBack settled st
@@ -375,7 +378,7 @@ impl<'p> Paused<'p> {
     }
 }
 
-/// The turn of a run that did this.
+/// Returns the turn of a run that did this.
 fn turned<'p>(run: Run<'p>, done: Done<'p>) -> Turn<'p>
     ensures { result ≡ turn_of run.entry done.entry }
 {
@@ -387,7 +390,7 @@ fn turned<'p>(run: Run<'p>, done: Done<'p>) -> Turn<'p>
     }
 }
 
-/// Whether a task goes on at all.
+/// Returns whether the flow is stopped.
 fn is_stopped(flow: Flow) -> bool
     ensures { result ≡ stops_all (flow_of flow) }
 {
@@ -397,7 +400,7 @@ fn is_stopped(flow: Flow) -> bool
     }
 }
 
-/// The flow behind a finish.
+/// Returns the flow after a finish.
 fn flow_behind(stopped: bool, faults: &[Fault]) -> Flow
     ensures { flow_of result
         ≡ (if stopped then Stopped else after_finish On (map fault_of faults.now)) }

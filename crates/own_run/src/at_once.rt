@@ -1,4 +1,4 @@
-//! Plain statements at once, by flat code.
+//! Plain statements that are run at once, by their flat code.
 
 ghost use Rattle.std.specs.Prelude.{◌≡◌, ◌+◌, ◌≤◌, IfSome, OnOk};
 ghost use Rattle.types.specs.Translation.{program as program_of};
@@ -19,8 +19,8 @@ use types::path::Path;
 use types::value::Environment;
 
 impl<'p> Run<'p> {
-    /// Where the code of the next statement stands, where it has any and the task goes on; and what of
-    /// its block is behind it.
+    /// Returns the number of the next statement's code, and the rest of its block. Returns None if
+    /// the statement has no code, or if the task doesn't continue.
     #[inline(always)]
     pub(crate) fn next_piece(&self, code: &ProgramCode<'p>) -> Option<(usize, &'p [Stmt])>
         ensures { IfSome result (λ t. HasPiece code.now self.now t.0 t.1) }
@@ -51,7 +51,7 @@ impl<'p> Run<'p> {
         }
     }
 
-    /// Does the next statement by its code; this is behind it.
+    /// Runs the next statement by its code. Afterwards `rest` is the rest of its block.
     pub(crate) fn do_at_once(
         &mut self,
         code: &ProgramCode<'p>,
@@ -73,7 +73,7 @@ impl<'p> Run<'p> {
     }
 }
 
-/// A thread that does nothing, in the place of one that is lent.
+/// Returns a thread that does nothing, as a replacement for one that is lent.
 fn idle(alloc: Global) -> Thread<TaskMemory>
     ensures { result.steps ≡ 0 }
 {

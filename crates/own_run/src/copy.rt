@@ -1,4 +1,4 @@
-//! Runs and results a second time, in memory of their own.
+//! Copies of runs and results, in their own memory.
 
 ghost use Rattle.std.specs.Prelude.{◌≡◌, IfOk, List, map};
 ghost use Rattle.types.specs.Run.{State};
@@ -20,7 +20,7 @@ use std::alloc::{AllocError, Global};
 use types::fault::Fault;
 
 impl<'p> Run<'p> {
-    /// An equal run: whatever this one stands for, that does.
+    /// Returns an equal run: the copy represents each task that this run represents.
     pub fn clone(&self) -> Result<Run<'p>, AllocError>
         ensures { IfOk result (IsCopy self.now) }
     {
@@ -35,7 +35,7 @@ impl<'p> Run<'p> {
 }
 
 impl<'p> Paused<'p> {
-    /// One that waits as this one does.
+    /// Returns an equal waiting run.
     pub fn clone(&self) -> Result<Paused<'p>, AllocError>
         ensures { IfOk result (IsPausedCopy self.now) }
     {
@@ -55,7 +55,7 @@ impl<'p> Paused<'p> {
 }
 
 impl<'p> Start<'p> {
-    /// An equal start.
+    /// Returns an equal start.
     pub fn clone(&self, alloc: Global) -> Result<Start<'p>, AllocError>
         ensures { IfOk result (λ s. start_of s ≡ start_of self.now) }
     {
@@ -70,7 +70,7 @@ impl<'p> Start<'p> {
 }
 
 impl TaskResult {
-    /// An equal result.
+    /// Returns an equal result.
     pub fn clone(&self, alloc: Global) -> Result<TaskResult, AllocError>
         ensures { IfOk result (λ r. task_result r ≡ task_result self.now) }
     {
@@ -86,7 +86,7 @@ impl TaskResult {
 }
 
 impl Listed {
-    /// The same again.
+    /// Returns an equal entry.
     fn clone(&self, alloc: Global) -> Result<Listed, AllocError>
         ensures { IfOk result (λ c. listed c ≡ listed self.now) }
     {
@@ -100,7 +100,7 @@ impl Listed {
 }
 
 impl<'p> Frame<'p> {
-    /// An equal frame.
+    /// Returns an equal frame.
     fn clone(&self, alloc: Global) -> Result<Frame<'p>, AllocError>
         ensures { IfOk result (λ g. (f : AnyFrame Own) → ShowsFrame self.now f → ShowsFrame g f) }
     {
@@ -121,7 +121,7 @@ impl<'p> Frame<'p> {
 }
 
 impl Outer {
-    /// The same again.
+    /// Returns an equal value.
     fn clone(&self, alloc: Global) -> Result<Outer, AllocError>
         ensures { IfOk result (λ o. (before : State Own) → IsEnd self.now before → IsEnd o before) }
     {
@@ -133,7 +133,7 @@ impl Outer {
     }
 }
 
-/// Where a run stands. Room for environments of calls is not copied.
+/// Copies the state of a run. Spare room for the environments of calls isn't copied.
 fn thread(alloc: Global, thread: &Thread<TaskMemory>) -> Result<Thread<TaskMemory>, AllocError>
     ensures state { IfOk result (λ t. state_of t ≡ state_of thread.now) }
     ensures owned { IfOk result (λ t. owned_by t.store.holdings
@@ -155,7 +155,7 @@ fn thread(alloc: Global, thread: &Thread<TaskMemory>) -> Result<Thread<TaskMemor
     })
 }
 
-/// Frames, in their order.
+/// Copies frames in their order.
 fn frames<'p>(alloc: Global, frames: &[Frame<'p>]) -> Result<Vec<Frame<'p>>, AllocError>
     ensures { IfOk result (λ v. (fs : List (AnyFrame Own)) → Stacked frames.now fs
         → Stacked v.items fs) }
@@ -168,7 +168,7 @@ fn frames<'p>(alloc: Global, frames: &[Frame<'p>]) -> Result<Vec<Frame<'p>>, All
     Ok(copies)
 }
 
-/// What is known of tasks that were begun.
+/// Copies what is known of spawned tasks.
 fn children(alloc: Global, children: &[Listed]) -> Result<Vec<Listed>, AllocError>
     ensures { IfOk result (λ v. map listed v.items ≡ map listed children.now) }
 {
@@ -180,7 +180,7 @@ fn children(alloc: Global, children: &[Listed]) -> Result<Vec<Listed>, AllocErro
     Ok(copies)
 }
 
-/// What was printed.
+/// Copies the printed lines.
 fn lines(alloc: Global, lines: &[Vec<i64>]) -> Result<Vec<Vec<i64>>, AllocError>
     ensures { IfOk result (λ v. map (λ l. l.items) v.items ≡ map (λ l. l.items) lines.now) }
 {
@@ -192,7 +192,7 @@ fn lines(alloc: Global, lines: &[Vec<i64>]) -> Result<Vec<Vec<i64>>, AllocError>
     Ok(copies)
 }
 
-/// What went wrong.
+/// Copies the faults.
 fn faults(alloc: Global, faults: &[Fault]) -> Result<Vec<Fault>, AllocError>
     ensures { IfOk result (λ v. map fault_of v.items ≡ map fault_of faults.now) }
 {

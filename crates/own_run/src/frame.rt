@@ -1,16 +1,16 @@
-//! What is left to do.
+//! The frames of a task: the work that is left.
 
 use crate::result::Listed;
 use types::code::{Label, Stmt, Truth};
 use types::fault::Fault;
 use types::value::Environment;
 
-/// What waits until the frames above it are done.
+/// Work that waits until the frames above it are done.
 #[derive(Drop)]
 pub enum Frame<'p> {
     /// The rest of a block.
     Rest(&'p [Stmt]),
-    /// The next turn of a loop.
+    /// The next iteration of a loop.
     Again {
         label: Label,
         guard: &'p Truth,
@@ -18,13 +18,13 @@ pub enum Frame<'p> {
     },
     /// The end of a finish.
     EndFinish(Outer),
-    /// The return of a call, to the caller's environment.
+    /// The return from a call to the caller's environment.
     EndCall {
         environment: Environment,
     },
 }
 
-/// What a task had told, and which tasks it had listed, when a finish began.
+/// The lines and faults of a task, and the tasks that it had listed, when a finish began.
 #[derive(Drop)]
 pub struct Outer {
     pub lines: Vec<Vec<i64>>,

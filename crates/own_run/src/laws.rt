@@ -1,4 +1,4 @@
-//! Laws of the definitions, each the contract of a function that does nothing.
+//! Theorems about the definitions, each the contract of an empty function.
 
 ghost use Rattle.std.specs.Prelude.{◌≡◌, ◌+◌, ◌<◌, ◌||◌, ℕ, ℤ, List, [], ◌∷◌, ◌++◌, Option, Some, true};
 ghost use Rattle.std.specs.Prelude.{false, length};
@@ -40,10 +40,10 @@ ghost use Rattle.own_run.specs.declared.run.Run.{Run};
 ghost use Rattle.own_run.specs.declared.turn.Paused.{Paused};
 ghost use Rattle.own_run.specs.declared.turn.Turn.{Turn};
 
-/// Of a sound and accepted program: tasks apart come to the one-thread outcome; results of own runs
-/// that settle, in whatever order they stand, are told as it; and the results of all tasks, each
-/// once and in whatever order, do settle where the input fits, to what comes of the root, which is
-/// told as it too.
+/// For a sound and accepted program, tasks apart have the one-thread outcome. If results of own
+/// runs settle, in any order, their outcome is the one-thread outcome too. If the input fits, the
+/// results of all tasks, each once and in any order, do settle. They settle to the settled result
+/// of the root, which also gives the one-thread outcome.
 pub fn accepted_programs_come_to_one_outcome()
     ensures apart { (p : Program) → IsSound p → IsAccepted p
         → (input : List (List ℤ)) (b : Budget)
@@ -61,10 +61,10 @@ pub fn accepted_programs_come_to_one_outcome()
         → told_of p (root_comes_to p input b) ≡ outcome p input b }
 {}
 
-/// No task of a sound and accepted program ever misses a place: wherever it may come to stand, what
-/// runs next has what it touches, an async has what its body needs, and no place comes back that is
-/// owned. At its end its result is that of its own run, so that what the results of any tasks
-/// settle to is told as the one-thread outcome.
+/// No task of a sound and accepted program ever misses a place. In each configuration that a task
+/// can reach, the next statement has all that it touches, an async has all that its body needs, and
+/// no place comes back that is already owned. At its end the result of the task is that of its own
+/// run. If results of any tasks settle the root's result, their outcome is the one-thread outcome.
 pub fn tasks_of_accepted_programs_miss_no_place()
     ensures next { (p : Program) → IsSound p → IsAccepted p
         → (input : List (List ℤ)) (b : Budget) → FitsArrays p.arrays input
@@ -86,8 +86,9 @@ pub fn tasks_of_accepted_programs_miss_no_place()
         → settle (result_of st) rs ≡ Some s → told_of p s ≡ outcome p input b }
 {}
 
-/// No task of a sound and accepted program is ever stuck: wherever it may come to stand, results of
-/// own runs settle what it has made so far, as at the end of a finish; and it can come to its end.
+/// No task of a sound and accepted program is ever stuck. In each configuration that a task can
+/// reach, results of own runs settle what it has made so far, as at the end of a finish. Each task
+/// can reach its end.
 pub fn tasks_of_accepted_programs_are_never_stuck()
     ensures settles { (p : Program) → IsSound p → IsAccepted p
         → (input : List (List ℤ)) (b : Budget) → FitsArrays p.arrays input
@@ -97,10 +98,10 @@ pub fn tasks_of_accepted_programs_are_never_stuck()
         → (s : Start) (t : Standing Own) → MayStand p input b s t → MayEnd p input b s }
 {}
 
-/// No result is lost, doubled or invented: a turn lists the child that it begins, and no other; at
-/// its end a task has made of its start what that is worth, its result and all that it lists; and
-/// in a sound and accepted program results of tasks settle wherever they are worth, by any measure,
-/// as much as all that is listed there.
+/// No result is lost, doubled or invented. A turn lists the child that it spawns, and no other. At
+/// its end, the task's own result and the children that it lists together are worth as much as its
+/// start. In a sound and accepted program, results of tasks settle if, by every measure, they are
+/// worth as much as all that the task lists.
 pub fn results_add_up()
     ensures lists { (p : Program) (needs : Codes → Needs) (close : State Own → Option Settled)
         → (nest : ℕ) (f : Frame Own) (fs : List (Frame Own)) (st : State Own)
@@ -119,9 +120,9 @@ pub fn results_add_up()
         → (x : Settled) × (settle (result_of t.state) rs ≡ Some x) }
 {}
 
-/// A task that may begin has a result that is settled where the results of all tasks below it are
-/// there, each once and in whatever order. Results of own runs settle any given task's result to
-/// nothing else, and only where they are those.
+/// A task that may start has a settled result, if the results of all tasks below it are there, each
+/// once and in any order. Results of own runs settle the result of a given task only to this
+/// settled result, and only if they are exactly the results of all tasks below it.
 pub fn results_settle()
     ensures complete { (p : Program) (needs : Codes → Needs) (fresh : ℕ) (root s : Start)
         → IsScoped p → IsCalm p → Provides p needs
@@ -139,8 +140,9 @@ pub fn results_settle()
         → Shuffled (below p needs fresh s.nest s) rs }
 {}
 
-/// From its beginning to its end, turn by turn, a task is its own run: what it lists is given its
-/// start, with results of own runs it goes on, and its result is that of its own run.
+/// From its start to its end, turn by turn, a task is its own run. Each child that it lists has the
+/// start that is given to the child's path. With results of own runs the task continues after a
+/// finish. Its result is that of its own run.
 pub fn tasks_are_own_runs()
     ensures begins { (p : Program) (needs : Codes → Needs) (fresh : ℕ) (root s : Start)
         → given p needs fresh root s.path ≡ Some s
@@ -168,8 +170,8 @@ pub fn tasks_are_own_runs()
         → (r : TaskResult) → IsOfOwnRun p needs fresh root r → IsOwn p needs fresh root r }
 {}
 
-/// For all later receipts the own run of a task's start is what it has so far, followed by the own
-/// run of what remains: so at its beginning, after each turn, and after each receipt.
+/// For all later receipts, the own run from a task's start is what the task has so far, followed by
+/// the own run of what remains. This is so at its start, after each turn, and after each receipt.
 pub fn tasks_follow_their_receipts()
     ensures begins { (p : Program) (needs : Codes → Needs) (fresh : ℕ) (root s : Start)
         → Follows p needs fresh root s []
@@ -189,8 +191,8 @@ pub fn tasks_follow_their_receipts()
         (record { frames = fs; state = handed before x st }) }
 {}
 
-/// A turn adds what it does to a task's actions, and these are the first of its own run's; at the
-/// end of a finish of which it has no receipt a task waits.
+/// A turn adds what it does to the actions of a task, and these are the first actions of its own
+/// run. At the end of a finish without a receipt a task waits.
 pub fn turns_are_actions()
     ensures adds { (p : Program) (needs : Codes → Needs) (fresh : ℕ) (s : Start)
         → (f : Frame Own) (fs : List (Frame Own)) (st : State Own)
@@ -209,8 +211,9 @@ pub fn turns_are_actions()
         × ((run_by p needs fresh taken s).extra.actions ≡ st.extra.actions ++ EndFinish ∷ []) }
 {}
 
-/// The next action of a task, by its receipts and the number of actions done, is what its next turn
-/// does that does something; at the end of a finish, or at its own, it is that end.
+/// The next action of a task is determined by its receipts and the number of actions done. It is
+/// the action of the next turn that has one. At the end of a finish, or at the task's own end, it
+/// is this end.
 pub fn turns_do_the_next_action()
     ensures done { (p : Program) (needs : Codes → Needs) (fresh : ℕ) (root s : Start)
         → (taken : List (List TaskResult)) (f : Frame Own) (fs : List (Frame Own)) (st : State Own)
@@ -230,8 +233,8 @@ pub fn turns_do_the_next_action()
         → next_action p needs fresh taken (length st.extra.actions) s ≡ Some (last_action st.path) }
 {}
 
-/// A task always has what it touches: at its beginning, after each turn, and after each finish. So
-/// no place is ever missing, and none is written that it doesn't own.
+/// A task always has what it touches: at its start, after each turn, and after each finish.
+/// Therefore no place is ever missing, and a task writes only places that it owns.
 pub fn tasks_have_what_they_touch()
     ensures root { (p : Program) (needs : Codes → Needs) (input : List (List ℤ)) (nest : ℕ)
         → IsScoped p → IsCalm p → Provides p needs
@@ -271,9 +274,10 @@ pub fn tasks_have_what_they_touch()
         → Holds p needs (record { frames = fs; state = st }) → IsParted (result_of st) }
 {}
 
-/// A turn stops a task exactly where what it does next is over the budget: it wants a step and none
-/// is left, or is an async with no nest left. A finish stops its owner exactly where that was
-/// stopped, or one of the tasks whose results it gathers. Nothing else stops a task.
+/// A turn stops a task exactly if its next statement is over the budget: it requires a step and
+/// none is left, or it is an async and no nesting level is left. A finish stops its owner exactly
+/// if the owner was stopped, or one of the tasks whose results it gathers. Nothing else stops a
+/// task.
 pub fn tasks_stop_over_the_budget()
     ensures turn { (p : Program) (needs : Codes → Needs) (nest : ℕ)
         → (close : State Own → Option Settled)
@@ -285,11 +289,12 @@ pub fn tasks_stop_over_the_budget()
         → is_stopped (handed before x st).flow ≡ (is_stopped st.flow || some_stopped rs) }
 {}
 
-/// A run in Rust of a sound and accepted program can take a turn: it has what it does next, and an
-/// async that is next is one of the program's. Whatever a turn gives is of the task that it was: a
-/// run, a run that waits at the end of a finish, or the task's result. The root, and each task that
-/// a turn began, may start: a run at such a beginning is the program's. So is a run behind the end
-/// of a finish, with what results of tasks settled to.
+/// A run in Rust of a sound and accepted program can take a turn: it has all that its next
+/// statement needs, and if the next statement is an async, it is one of the program's. The value
+/// that a turn returns belongs to the same task: a run, a run that waits at the end of a finish, or
+/// the task's result. The root, and each task that a turn spawned, may start, and a run at such a
+/// start is a run of the program. So is the run after a finish that continues with what results of
+/// tasks settled to.
 pub fn runs_stay_tasks()
     ensures next { (p : Program) → IsSound p → IsAccepted p
         → (input : List (List ℤ)) (b : Budget) → FitsArrays p.arrays input
@@ -312,9 +317,9 @@ pub fn runs_stay_tasks()
         → IsRunOf p input b w.start r }
 {}
 
-/// Runs end: a turn leaves fewer turns, counting those of a task that it begins; a task that begins
-/// has no more left than was kept for it, and one that goes on behind a finish less than it had
-/// there.
+/// Runs end: a turn decreases the bound of the number of turns that are left, including those of a
+/// task that it spawns. The bound of a task at its start is less than the one that was reserved for
+/// it. The bound of a task that continues after a finish is less than the bound of the waiting run.
 pub fn runs_end()
     ensures turns { (needs : Codes → Needs) (r : Run) (t : Turn) (fs : List (Frame Own)) (x : Own)
         → Shows r fs x → IsTurn needs r t → left_after r.plan.budget.steps t < left_of r }

@@ -1,4 +1,4 @@
-//! Tasks that run apart, and what they come to.
+//! Tasks that run apart, and their results.
 
 #![tactic(auto)]
 

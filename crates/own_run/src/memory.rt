@@ -1,4 +1,4 @@
-//! What a task reads and writes.
+//! The memory that a task reads and writes.
 
 ghost use Rattle.std.specs.Prelude.{◌≡◌, ◌&&◌, ◌++◌, ◌∷◌, [], true, not, map, IfOk, IfSome, OnOk};
 ghost use Rattle.sections.specs.Covers.{has};
@@ -47,7 +47,7 @@ impl Memory for TaskMemory {
         if self.holdings.set(place, value) {
             return Ok(());
         }
-        // The place is owned, so what can be missing is memory.
+        // The place is owned, so the only possible error is out of memory.
         match self.holdings.write(place.array, place.index, value) {
             Ok(()) => Ok(()),
             Err(_) => Err(AllocError),
@@ -57,9 +57,9 @@ impl Memory for TaskMemory {
     ghost reads = { λ s. refl };
 }
 
-/// A read is 0 where nothing is held, and a write asks for nothing: one to a place that isn't owned takes
-/// the number in as a copy, which no accepted program comes to. So lines of flat code need no word of what a
-/// task holds.
+/// A read is 0 where nothing is held. A write has no precondition: a write to a place that isn't
+/// owned stores the number as a copy, and no accepted program does this. Therefore flat code needs
+/// no facts about what a task holds.
 impl Arrays for TaskMemory {
     ghost use Rattle.std.specs.Prelude.{⊤, refl};
     ghost use Rattle.own_run.specs.TaskKind.{task_kind};
@@ -98,7 +98,7 @@ impl TaskMemory {
     ghost use Rattle.std.specs.Prelude.{IfErr};
     ghost use Rattle.holdings.specs.declared.error.HoldError.TheVariants.{OutOfMemory};
 
-    /// Takes the places of windows out, and copies of those of others, for a child.
+    /// Takes the places of `writes` out, and copies those of `reads`, for a child.
     pub fn part(
         &mut self,
         alloc: Global,
@@ -127,7 +127,8 @@ impl TaskMemory {
         }
     }
 
-    /// The same, where copies are wanted of the places of sections. One section wants no list of windows.
+    /// Takes the places of windows out, and copies those of sections, for a child. A single section
+    /// needs no list of windows.
     pub fn part_for(
         &mut self,
         alloc: Global,
@@ -159,7 +160,7 @@ impl TaskMemory {
     }
 }
 
-/// The section, where it is one alone.
+/// Returns the section if there is exactly one.
 fn only_one(sections: &[SectionId]) -> Option<SectionId>
     ensures { IfSome result (λ s. sections.now ≡ s ∷ []) }
 {

@@ -1,4 +1,4 @@
-//! What the asyncs of a program need.
+//! The needs of a program's asyncs.
 
 ghost use Rattle.std.specs.Prelude.{◌≡◌, ℕ, map};
 ghost use Rattle.sections.specs.Translation.{section};
@@ -14,22 +14,22 @@ use race_checker::accepted::Accepted;
 use sections::id::SectionId;
 use types::code::{Label, Stmt};
 
-/// What tells which sections the body of an async may write, and which others it may read.
+/// Provides the sections that the body of an async may write, and the others that it may read.
 pub trait Needed {
     ghost use Rattle.effects.specs.Needs.{Needs};
 
     /// What each body needs.
     ghost needs: { Self → Codes → Needs };
 
-    /// The async of this label has this body.
+    /// The async with this label has this body.
     ghost IsAsync: { Self → ℕ → Codes → Type 0 };
 
-    /// The sections that the async's body may write.
+    /// Returns the sections that the async's body may write.
     fn writes(&self, label: Label, body: &[Stmt]) -> &[SectionId]
         requires { IsAsync self.now label (codes_of body.now) }
         ensures { map section result.now ≡ (needs self.now (codes_of body.now)).writes };
 
-    /// The others that it may read.
+    /// Returns the other sections that it may read.
     fn reads(&self, label: Label, body: &[Stmt]) -> &[SectionId]
         requires { IsAsync self.now label (codes_of body.now) }
         ensures { map section result.now ≡ (needs self.now (codes_of body.now)).reads };
@@ -50,7 +50,7 @@ impl Needed for Accepted {
     }
 }
 
-/// What the async of a label needs.
+/// Returns the needs of the async with this label.
 fn needs_at<'a>(accepted: &'a Accepted, label: Label, _body: &[Stmt]) -> &'a AsyncNeeds
     requires { HasStatement (code_of accepted.now.typed) label (Async (codes_of _body.now)) }
     ensures { needs_in result.now ≡ needs_of (code_of accepted.now.typed) (codes_of _body.now) }

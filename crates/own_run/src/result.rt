@@ -1,23 +1,23 @@
-//! What tasks hand on at their ends, and what comes of them.
+//! The results of tasks.
 
 use holdings::holdings::Holdings;
 use sections::window::Window;
 use types::fault::Fault;
 use types::path::Path;
 
-/// What its parent knows of a task that it began.
+/// What a parent knows of a task that it spawned.
 #[derive(Drop)]
 pub struct Listed {
     pub path: Path,
-    /// Where it may write, and what comes back from it.
+    /// The places that it may write, and that come back from it.
     pub windows: Vec<Window>,
 
-    // What its parent told since the task that it began before: the hole is behind.
+    // The lines and faults of the parent since its previous child. The hole comes after them.
     pub lines: Vec<Vec<i64>>,
     pub faults: Vec<Fault>,
 }
 
-/// What a task has at its end, or at that of a finish.
+/// What a task has at its end, or at the end of a finish.
 #[derive(Drop)]
 pub struct TaskResult {
     pub path: Path,
@@ -25,18 +25,18 @@ pub struct TaskResult {
     pub stopped: bool,
     pub holdings: Holdings,
 
-    // What it told since the last task that it began.
+    // Its lines and faults since its last child.
     pub lines: Vec<Vec<i64>>,
     pub faults: Vec<Fault>,
 
-    /// The tasks that it began, in turn.
+    /// The tasks that it spawned, in order.
     pub children: Vec<Listed>,
 }
 
-/// What came of a task, with all tasks that it lists.
+/// The settled result of a task, with all tasks that it lists.
 #[derive(Drop)]
 pub struct Settled {
-    /// It was over its budget, or one of them was.
+    /// The task or one of the tasks below it was over its budget.
     pub stopped: bool,
     pub holdings: Holdings,
     pub lines: Vec<Vec<i64>>,

@@ -1,4 +1,4 @@
-//! A task that runs by itself, between two turns, and what its statements make of it.
+//! A task between two turns, and the effect of its statements.
 
 ghost use Rattle.std.specs.Prelude.{ℕ, ◌≡◌, ◌+◌, ◌-◌, ◌<◌, ◌++◌, [], ◌∷◌, IfOk, OnOk, map};
 ghost use Rattle.sections.specs.Translation.{section as section_of};
@@ -24,21 +24,21 @@ use types::code::{Label, Number, Procedure, Stmt, Truth};
 use types::ids::ProcedureId;
 use types::value::Environment;
 
-/// A task between two turns, on what it holds.
+/// A task between two turns, with what it holds.
 #[derive(Drop)]
 pub struct Run<'p> {
     pub plan: Plan<'p>,
     pub thread: Thread<TaskMemory>,
-    /// What is left to do, the next one last.
+    /// The work that is left, with the next frame last.
     pub frames: Vec<Frame<'p>>,
-    /// The tasks begun in the innermost open finish.
+    /// The tasks spawned in the innermost open finish.
     pub pending: Vec<Listed>,
 }
 
 impl<'p> Run<'p> {
     ghost use Rattle.own_run.specs.RunTurns.{Acts, Turns, taken_off};
 
-    /// A task at its beginning.
+    /// Creates the run of a task at its start.
     pub fn begin(plan: Plan<'p>, start: Start<'p>) -> Result<Run<'p>, AllocError>
         ensures begun { IfOk result (λ r. IsAt r (begun plan.entry.budget.steps (start_of start.entry))) }
         ensures plan { IfOk result (λ r. r.plan ≡ plan.entry) }
@@ -68,7 +68,7 @@ impl<'p> Run<'p> {
         })
     }
 
-    /// Takes the top frame off, which has nothing left to do but to bring back a caller's environment.
+    /// Takes the top frame off. This frame does nothing, or restores the caller's environment.
     pub(crate) fn take_off(&mut self) -> Result<(), AllocError>
         ensures { OnOk result (Turns taken_off self.old self.new) }
     {
@@ -85,7 +85,7 @@ impl<'p> Run<'p> {
         }
     }
 
-    /// The one block or the other, as the guard says.
+    /// Enters one of two blocks, depending on the condition.
     pub(crate) fn choose(
         &mut self,
         label: Label,
@@ -109,7 +109,8 @@ impl<'p> Run<'p> {
         }
     }
 
-    /// A guard of a loop: its body and a further turn, where it holds.
+    /// Evaluates the condition of a loop. If it is true, the body is next, and then another
+    /// iteration.
     pub(crate) fn turn_loop(
         &mut self,
         label: Label,
@@ -130,7 +131,7 @@ impl<'p> Run<'p> {
         }
     }
 
-    /// A block in which both sides of a section have names.
+    /// Enters a block in which both sides of a section have names.
     pub(crate) fn split(
         &mut self,
         label: Label,
@@ -153,7 +154,8 @@ impl<'p> Run<'p> {
         }
     }
 
-    /// The scalar arguments from left to right, then the body with the sections' windows.
+    /// Evaluates the scalar arguments from left to right. Then it enters the body with the windows
+    /// of the sections.
     pub(crate) fn call(
         &mut self,
         label: Label,
@@ -177,7 +179,7 @@ impl<'p> Run<'p> {
         Ok(())
     }
 
-    /// What the next child starts with, on these holdings.
+    /// Returns the start of the next child, with these holdings.
     pub(crate) fn start(
         &self,
         body: &'p [Stmt],
@@ -206,7 +208,8 @@ impl<'p> Run<'p> {
         })
     }
 
-    /// The body of a finish, above its end, which keeps what was told and listed before.
+    /// Enters the body of a finish. A frame below it keeps the earlier lines, faults and
+    /// listed tasks.
     pub(crate) fn enter(&mut self, body: &'p [Stmt]) -> Result<(), AllocError>
         ensures { OnOk result ((label : ℕ) → Acts label (Finish (codes_of body.entry.now))
             self.old self.new) }
@@ -223,7 +226,7 @@ impl<'p> Run<'p> {
     }
 }
 
-/// The procedure of a number, and its body. One that isn't there does nothing.
+/// Returns the procedure with this number and its body. A missing procedure does nothing.
 fn procedure_of<'p>(plan: Plan<'p>, procedure: ProcedureId) -> (&'p Procedure, &'p [Stmt])
     ensures { codes_of result.1.now
         ≡ (numbered (program_of plan.entry.program.now) procedure.number).body }

@@ -1,4 +1,4 @@
-//! What a task starts with.
+//! The start of a task.
 
 ghost use Rattle.std.specs.Prelude.{◌≡◌, IfOk};
 ghost use Rattle.types.specs.Contents.{FitsArrays};
@@ -16,20 +16,20 @@ use types::path::Path;
 use types::typed::Typed;
 use types::value::Environment;
 
-/// What a task starts with, but for its steps.
+/// What a task starts with, except its steps.
 #[derive(Drop)]
 pub struct Start<'p> {
     pub body: &'p [Stmt],
     pub environment: Environment,
-    /// What it may read, and what it owns to write.
+    /// What it may read, and what it owns and may write.
     pub holdings: Holdings,
-    /// How many asyncs may stand inside one another in it.
+    /// How many levels deep asyncs may be nested in it.
     pub nest: u32,
     pub path: Path,
 }
 
 impl<'p> Start<'p> {
-    /// What the root starts with: `main`, with all arrays.
+    /// Returns the start of the root: `main`, with all arrays.
     pub fn root(plan: Plan<'p>, typed: &Typed, input: &Input) -> Result<Start<'p>, AllocError>
         requires program { program_of plan.program.now ≡ code_of typed.now }
         requires fits { FitsArrays (code_of typed.now).arrays (lists_in input.now) }

@@ -1,4 +1,4 @@
-//! What a turn of a run gives.
+//! The values that a turn returns.
 
 use crate::frame::{Frame, Outer};
 use crate::result::TaskResult;
@@ -8,14 +8,14 @@ use statement_steps::thread::Plan;
 use types::path::Path;
 use types::value::Environment;
 
-/// What a run did, and where it stands after it.
+/// What a turn did, with the run after it.
 #[derive(Drop)]
 pub enum Turn<'p> {
-    /// It took a step, or none where a block was at its end or was left out.
+    /// It took a step. Or it took none, because a block ended or was skipped.
     Going(Run<'p>),
-    /// It began a task, which starts so.
+    /// It spawned a task with this start.
     Spawns(Run<'p>, Start<'p>),
-    /// It began a finish.
+    /// It started a finish.
     EntersFinish(Run<'p>),
     /// It is at the end of a finish, with what it has made since that began.
     EndsFinish(Paused<'p>, TaskResult),
@@ -25,7 +25,7 @@ pub enum Turn<'p> {
     Over(Run<'p>),
 }
 
-/// A run that waits at the end of a finish. What it made stands in its result.
+/// A run that waits at the end of a finish. What it made is in its result.
 #[derive(Drop)]
 pub struct Paused<'p> {
     pub plan: Plan<'p>,
@@ -36,27 +36,27 @@ pub struct Paused<'p> {
     pub nest: u32,
     pub spare: Vec<Environment>,
     pub frames: Vec<Frame<'p>>,
-    /// What it had told, and which tasks it had listed, when the finish began.
+    /// Its lines and faults, and the tasks that it had listed, when the finish began.
     pub outer: Outer,
 }
 
-/// What a step in place came to.
+/// What a step in place did.
 #[derive(Drop)]
 pub enum Step<'p> {
-    /// The run did this, and goes on.
+    /// The run did this, and continues.
     Did(Done<'p>),
-    /// It is at the end of a finish, or at its own, and did nothing.
+    /// It is at the end of a finish, or at its own end, and did nothing.
     AtEnd,
 }
 
-/// What a run did in a turn that goes on. It is small, so that a step hands it on at no cost.
+/// What a run did in a turn after which it continues. The type is small, so it is cheap to return.
 #[derive(Drop)]
 pub enum Done<'p> {
     /// A step, or nothing.
     Gone,
-    /// A task that starts so was begun.
+    /// A task with this start was spawned.
     Spawned(Box<Start<'p>>),
-    /// A finish was begun.
+    /// A finish was started.
     Entered,
     /// It went over its budget.
     Exceeded,

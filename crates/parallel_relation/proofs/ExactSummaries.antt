@@ -1,4 +1,5 @@
--- Where summaries are known to be those of a program, they are: what they say can be found from them.
+-- If summaries are known to be those of a program as a mere fact, they are; the facts can be
+-- recovered from them.
 use Rattle.std.proofs.Common.{◌≡◌, ℕ, refl, sym, subst, Some, None, Option}
 use Rattle.std.proofs.Math.Logic.{∥∥₁_elim, ∥∥₁_map}
 use Rattle.std.proofs.lemmas.Bool.{eq-eqb, eqb-true}
@@ -21,7 +22,7 @@ use Rattle.effects.specs.declared.summary.Summary.{Summary}
 use Rattle.parallel_relation.proofs.ReachedRounds.{all_found, pending_found}
 use denote.Struct.Props.{props}
 
--- ---- what sets have, has one proof at most
+-- ---- membership in a set has at most one proof
 HasLabel-prop : (s : LabelSet) (l : ℕ) → IsProp (HasLabel s l)
 unfolding HasLabel
 HasLabel-prop s l = hlevel props
@@ -34,7 +35,8 @@ HasAccess-prop : (s : _) (x : Access) → IsProp (HasAccess s x)
 unfolding HasAccess HasUse
 HasAccess-prop s x = HasIn-prop (slice_get (uses_of s x.write).sets.items x.section) x.label
 
--- a set that is known to have exactly these has them, where each that there is can be found
+-- a set that is known to contain exactly these items contains them, if each of them can be
+-- recovered
 exactly : {Has Does : Type 0} → (∥ Does ∥₁ → Does) → IsProp Has → ∥ Has ↔ Does ∥₁ → Has ↔ Does
 exactly does prop is = (λ h. does (∥∥₁_map is (λ i. i.0 h)), λ d. ∥∥₁_elim is prop (λ i. i.1 d))
 

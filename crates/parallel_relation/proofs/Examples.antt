@@ -7,7 +7,7 @@ use Rattle.effects.specs.Tables.{alls_after, pendings_after}
 use Rattle.parallel_relation.specs.Meetings.{met_in}
 use Rattle.parallel_relation.proofs.Programs.{split_in_loop, call_then_store}
 
--- the label pairs of a procedure, where calls go at most three deep
+-- the label pairs of a procedure, for calls that are nested at most three deep
 abbrev pairs : Program → Procedure → List (ℕ × ℕ)
 pairs p g =
     let alls = alls_after p labels 3 in
@@ -16,7 +16,8 @@ pairs p g =
 two_arrays_pairs : pairs two_arrays two_arrays.main ≡ (3, 4) ∷ []
 two_arrays_pairs = refl
 
--- the async inside the loop meets all of the loop's next turn, itself too, and what follows it in its own turn
+-- the async inside the loop meets all of the next iteration, itself too, and what follows it in its
+-- iteration
 split_in_loop_pairs : pairs split_in_loop split_in_loop.main
     ≡ (6, 3) ∷ (6, 4) ∷ (6, 5) ∷ (6, 6) ∷ (6, 7) ∷ (6, 7) ∷ []
 split_in_loop_pairs = refl

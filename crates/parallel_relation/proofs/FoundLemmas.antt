@@ -1,4 +1,4 @@
--- What is found, where more is found of one kind.
+-- The pairs found, if more pairs of one kind are found.
 use Rattle.std.proofs.Common.{◌⊎◌, inl, inr, ℕ, refl, subst}
 use Rattle.types.specs.Code.{Program}
 use Rattle.types.specs.Run.{procedure_of}

@@ -27,7 +27,7 @@ module _ (p : Program) where
   either l s rest x (All.here k) = inl (All.here k)
   either l s rest x (All.later k) = inr k
 
-  -- with those of the statements that are left, all are there: after one more
+  -- with those of the remaining statements, all are there: after one more statement
   pub one_less_left : {a c w : ℕ → Type 0} (l : ℕ) (s : Code) (rest : Codes) → Gains a (All p labels (Then l s rest)) w
       → Gains a (All p labels (one l s)) c → Gains c (All p labels rest) w
   one_less_left l s rest g h = record {
@@ -51,7 +51,7 @@ module _ (p : Program) where
     only = λ x k. g.keeps x k;
   }
 
-  -- behind the last statement
+  -- after the last statement
   pub nothing_behind : {a c : ℕ → Type 0} → Gains none a c → Gains a (All p labels End) c
   nothing_behind g = record {
     keeps = λ x k. g.has x k;
@@ -59,7 +59,7 @@ module _ (p : Program) where
     only = λ x k. elim (g.only x k) [ inl n ↦ absurd n | inr o ↦ inl o ];
   }
 
-  -- those behind a statement, and then its own
+  -- those after a statement, and then its own
   pub one_more : {a c e : ℕ → Type 0} (l : ℕ) (s : Code) (rest : Codes) → Gains a (All p labels rest) c
       → Gains c (All p labels (one l s)) e → Gains a (All p labels (Then l s rest)) e
   one_more l s rest g h = gains_joined (All p labels (Then l s rest)) g h

@@ -1,4 +1,4 @@
--- A number that passes a test is found, once it is known that there is one.
+-- A number that passes a test is found, if it is known that there is one.
 use Rattle.std.proofs.Common.{◌≡◌, ◌⊎◌, ℕ, zero, suc, ◌<◌, ◌≤◌, refl, sym, ◌∙◌, inl, inr, subst, arith}
 use Rattle.std.proofs.Math.Logic.{∥∥₁_elim}
 use Rattle.std.specs.Prelude.{Bool, true, false}

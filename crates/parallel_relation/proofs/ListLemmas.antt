@@ -170,7 +170,7 @@ module _ (end : ℕ) where
       ap (λ r. in_row r x y (end - y) ++ in_rows end (x + 1) rows) same
   at_row (r ∷ rows) (suc k) x y row e = at_row rows k x y row e
 
-  -- behind the rows
+  -- after the rows
   pub past_rows : (rows : List LabelSet) (k x y : ℕ) → slice_get rows k ≡ None → from_place end x y (drop k rows) ≡ []
   past_rows [] zero x y e = refl
   past_rows [] (suc k) x y e = refl

@@ -116,7 +116,7 @@ module _ (p : Program) where
             (sym got) (λ x. both_ways (pending x) (exact.pending x));
       }
 
-  -- of all procedures, and behind them there is none
+  -- the lists of all procedures; there is none after them
   pub lists_all : (lists : List Listed) (n : ℕ) → length lists ≡ n → n ≡ length p.procedures
       → ((f : ℕ) → f < n → IsListedAt p lists f) → AreListsOf p lists
   lists_all lists n number end below f = elim (cases_lt f n) [

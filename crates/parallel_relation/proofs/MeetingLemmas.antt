@@ -51,7 +51,7 @@ pub member_contained : {A : Type 0} {x : A} {xs : List A} → Member x xs → Co
 member_contained first = (0, omega arith, refl)
 member_contained (next h) = let r = member_contained h in let k : r.0 < _ = r.1 in (suc r.0, omega arith, r.2)
 
--- each stands before the later ones
+-- each comes before the later ones
 pub ascends : (ms : List rMeeting) → IsStrictlySortedBy (on key_in (slice_cmp nat_cmp)) ms → Ascends (map meeting ms)
 ascends [] h = tt
 ascends (m ∷ ms) h = (
@@ -90,7 +90,7 @@ same_meeting x y e =
     ap with_first (same_access x.first y.first (at 0) (at 2) (at 3))
     ∙ ap with_second (same_access x.second y.second (at 1) (at 4) (at 5))
 
--- what stands in either of two lists stands in both, as plain values too
+-- what is in either of two lists is in both, as plain values too
 pub through_members : (xs ys : List rMeeting) → ((m : rMeeting) → Member m xs → Member m ys) → ((m : rMeeting) → Member m ys → Member m xs)
     → (m : Meeting) → Member m (map meeting xs) ↔ Member m (map meeting ys)
 through_members xs ys to from m = (
@@ -100,7 +100,7 @@ through_members xs ys to from m = (
 
 -- Pairs
 
--- what is told of a list of pairs
+-- the meetings of a list of pairs
 told : (pairs : (x y : Access) → Type 0) (qs : List (Access × Access)) → ((q : Access × Access) → Member q qs → pairs q.0 q.1)
     → (m : Meeting) → Member m (map meeting_of qs) → IsMeeting pairs m
 told pairs qs are m h =
@@ -115,7 +115,7 @@ module _ (lists : List Listed) where
   abbrev pub those : Option ℕ → Codes → List Meeting
   those l b = map meeting_of (added_in accesses (alls_of lists) (pendings_of lists) (is_asked l) b)
 
-  -- those of a label in the first n procedures, where `main` comes behind the others
+  -- those of a label in the first n procedures, where `main` comes after the others
   abbrev pub those_below : Program → (label n : ℕ) → List Meeting
   those_below p l zero = []
   those_below p l (suc n) = those_below p l n ++ those (Some l) (body_of p n)
@@ -126,7 +126,7 @@ module _ (lists : List Listed) where
       e ∙ ap (λ ms. ms ++ those (Some l) b) is ∙ ap (λ c. those_below p l n ++ those (Some l) c) body
       ∙ ap (those_below p l) (let next : suc n ≡ n + 1 = omega arith in next)
 
--- `main` comes behind the procedures
+-- `main` comes after the procedures
 pub main_body : (p : Program) (n : ℕ) → n ≡ length p.procedures → body_of p n ≡ p.main.body
 main_body p n e = by (nat_eq n (length p.procedures)) (eq-eqb n (length p.procedures) e)
   where
@@ -177,7 +177,7 @@ module _ (p : Program) (lists : List Listed) (are : AreListsOf p lists) where
   asked : (l : ℕ) → is_asked (Some l) l ≡ true
   asked l = eq-eqb l l refl
 
-  -- behind `main` there is nothing
+  -- there is nothing after `main`
   nothing_behind : (f : ℕ) → length p.procedures < f → body_of p f ≡ End
   nothing_behind f h =
       by (nat_eq f (length p.procedures)) refl ∙ no_body p f (omega (arith, h))

@@ -136,7 +136,7 @@ module _ (p : Program) (subject : Subject) (alls pendings : Table subject) where
         in_left (added_inside subject alls pendings asked s ++ added_in subject alls pendings asked rest)
         (subst (λ (b : Bool). Member m (if b then added subject alls pendings l s rest else [])) (sym e) h)
 
-    -- what is added at such a label is listed
+    -- what is added at a requested label is listed
     pub added_listed : {l : ℕ} {b : Codes} {x y : subject.Item} → asked l ≡ true → AddedAt p subject l b x y
         → Member (x, y) (added_in subject alls pendings asked b)
     added_listed e (AddedAt.follows {l = l} {s = s} {rest = rest} {x = x} {y = y} f h) =

@@ -90,7 +90,7 @@ module _ (p : Program) where
   met_arises x y (LabelsMeet.in_main (inl k)) = inl (Arises.in_main k)
   met_arises x y (LabelsMeet.in_main (inr k)) = inr (Arises.in_main k)
 
-  -- rows of pairs, where each stands in the row of its smaller label
+  -- rows of pairs, where each pair is in the row of its smaller label
   pub pairs_are : (f : ℕ → ℕ → Type 0) (pairs : Pairs) → ((x y : ℕ) → f x y ↔ Arises p x y)
       → Adds f (Turns f) (HasAt pairs.rows) → (x y : ℕ) → HasPair pairs x y ↔ LabelsMeet p x y
   pairs_are f pairs found turned x y = (to, λ k. elim (met_arises x y k) [ inl a ↦ from x y a | inr a ↦ turn x y (from y x a) ])

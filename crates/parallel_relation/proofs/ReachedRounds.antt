@@ -1,4 +1,4 @@
--- What is derived is listed after some number of rounds. So where something is derived, it is found how.
+-- What is derived is listed after some number of rounds. So a derivation can be recovered.
 use Rattle.std.proofs.Common.{◌≡◌, ℕ, zero, suc, List, [], ◌++◌, sym, subst}
 use Rattle.std.proofs.Math.Logic.{∥∥₁_map}
 use Rattle.std.specs.List.{list_any}
@@ -18,7 +18,7 @@ module _ (p : Program) (subject : Subject) where
   abbrev alls : ℕ → Table subject
   alls = alls_after p subject
 
-  -- what is left pending, where All comes from as many rounds
+  -- what is left pending, where All comes from the same number of rounds
   abbrev pendings : ℕ → Table subject
   pendings zero f = []
   pendings (suc k) f = left_in subject (alls k) (pendings k) (procedure_of p f).body
@@ -93,7 +93,7 @@ module _ (p : Program) (subject : Subject) where
   pendings_derived (suc k) f x h =
       left p subject (alls k) (pendings k) (alls_derived p subject k) (pendings_derived k) (procedure_of p f).body x h
 
-  -- ---- where items can be compared, a derivation is found
+  -- ---- if items can be compared, a derivation is found
   module _ (same : subject.Item → subject.Item → Bool) (itself : (x : subject.Item) → same x x ≡ true)
       (are_same : (x y : subject.Item) → same x y ≡ true → x ≡ y) where
     found : (x : subject.Item) (xs : List subject.Item) → list_any (same x) xs ≡ true → Member x xs

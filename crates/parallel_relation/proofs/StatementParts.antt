@@ -116,7 +116,7 @@ module _ (p : Program) where
   met_of (Together.inside {l = l} {x = x} {y = y} i h) = inr (inl (met_inside i l x y h))
   met_of (Together.later h) = inr (inr h)
 
-  -- behind the last statement there are none
+  -- there are none after the last statement
   pub none_at_end : {A : Type 0} {x : ℕ} → All p labels End x → A
   none_at_end h = elim h [ ]
 

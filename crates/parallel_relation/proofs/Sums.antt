@@ -6,7 +6,7 @@ use Rattle.parallel_relation.specs.Around.{Adds, Gains}
 pub gains_union : {A : Type 0} (before more after : A → Type 0) → ((x : A) → after x ↔ (before x ⊎ more x)) → Gains before more after
 gains_union before more after h = record { keeps = λ x k. (h x).1 (inl k); has = λ x k. (h x).1 (inr k); only = λ x k. (h x).0 k }
 
--- some and then some more, where both together are known
+-- some and then some more, if the two together are known
 pub gains_joined : {A : Type 0} {a b c d e : A → Type 0} (m : A → Type 0) → Gains a b c → Gains c d e
     → ((x : A) → b x ⊎ d x → m x) → ((x : A) → m x → b x ⊎ d x) → Gains a m e
 gains_joined m g h to from = record {
@@ -25,7 +25,7 @@ gains_nothing a m empty = record { keeps = λ x k. k; has = λ x k. absurd (empt
 pub adds_nothing : (a m : ℕ → ℕ → Type 0) → ((x y : ℕ) → m x y → ⊥) → Adds a m a
 adds_nothing a m empty = record { keeps = λ x y k. k; has = λ x y k. absurd (empty x y k); only = λ x y k. inl k }
 
--- the same pairs in other words
+-- the same pairs, defined differently
 pub adds_same : {a b c : ℕ → ℕ → Type 0} (m : ℕ → ℕ → Type 0) → Adds a b c
     → ((x y : ℕ) → b x y → m x y) → ((x y : ℕ) → m x y → b x y) → Adds a m c
 adds_same m g to from = record {
@@ -34,7 +34,7 @@ adds_same m g to from = record {
   only = λ x y k. elim (g.only x y k) [ inl o ↦ inl o | inr n ↦ inr (to x y n) ];
 }
 
--- some and then some more, where both together are known
+-- some and then some more, if the two together are known
 pub adds_joined : {a b c d e : ℕ → ℕ → Type 0} (m : ℕ → ℕ → Type 0) → Adds a b c → Adds c d e
     → ((x y : ℕ) → b x y ⊎ d x y → m x y) → ((x y : ℕ) → m x y → b x y ⊎ d x y) → Adds a m e
 adds_joined m g h to from = record {

@@ -26,7 +26,7 @@ module _ (p : Program) where
   block_of e e' l l' b x y f g (BlockMeets.pending h k) = BlockMeets.pending h (g k)
   block_of e e' l l' b x y f g (BlockMeets.within h) = BlockMeets.within h
 
-  -- the same sets in other words
+  -- the same sets, defined differently
   pub adds_block : {f g : ℕ → ℕ → Type 0} (e e' l l' : ℕ → Type 0) (b : Codes) → Adds f (BlockMeets p e l b) g
       → ((y : ℕ) → e y → e' y) → ((y : ℕ) → e' y → e y) → ((y : ℕ) → l y → l' y) → ((y : ℕ) → l' y → l y)
       → Adds f (BlockMeets p e' l' b) g
@@ -60,7 +60,7 @@ module _ (p : Program) where
       (λ x y m. elim m [ inl o ↦ label_in_one p e k l s x y o | inr n ↦ inside_one p e k l s x y n ])
       (λ x y m. from_one p e k l s x y m)
 
-  -- the pairs behind a statement, and then its own
+  -- the pairs after a statement, and then its own
   pub adds_before : {f g h : ℕ → ℕ → Type 0} (e k behind : ℕ → Type 0) (l : ℕ) (s : Code) (rest : Codes)
       → Gains k (All p labels rest) behind → Adds f (BlockMeets p e k rest) g → Adds g (BlockMeets p e behind (one l s)) h
       → Adds f (BlockMeets p e k (Then l s rest)) h

@@ -7,7 +7,7 @@ use Rattle.parallel_relation.specs.Together.{Together}
 use Rattle.parallel_relation.specs.Rows.{HasAt}
 use Rattle.parallel_relation.specs.declared.found.Found.{Found}
 
--- x meets y: as a label, or where a procedure that does it is called, or behind such a call
+-- x meets y: as a label, or because a procedure that does x is called, or leaves x pending
 pub data FoundMeets (p : Program) (found : Found) (x y : ℕ) : Type 0 where
   label : HasAt found.labels x y → FoundMeets p found x y
   call : (f : ℕ) → All p labels (procedure_of p f).body x → HasAt found.calls f y
@@ -15,7 +15,7 @@ pub data FoundMeets (p : Program) (found : Found) (x y : ℕ) : Type 0 where
   end : (f : ℕ) → Pending p labels (procedure_of p f).body x → HasAt found.ends f y
       → FoundMeets p found x y
 
--- x may be pending where y is done, in a procedure or in `main`
+-- x may be pending while y is done, in a procedure or in `main`
 pub data Arises (p : Program) (x y : ℕ) : Type 0 where
   in_procedure : (f : ℕ) → Together p labels (procedure_of p f).body x y → Arises p x y
   in_main : Together p labels p.main.body x y → Arises p x y

@@ -17,11 +17,11 @@ use Rattle.parallel_relation.specs.declared.listing.Listed.{Listed}
 abbrev pub InList : List rAccess → Access → Type 0
 InList xs x = Member x (map access xs)
 
--- statements with these labels write a section, or read it
+-- the statements with these labels write, or read, this section
 abbrev pub IsUse : LabelSet → (section : ℕ) → (write : Bool) → Access → Type 0
 IsUse labels s w x = IsUseOf s w x × HasLabel labels x.label
 
--- all that is listed of a procedure; of none nothing
+-- everything that is listed for a procedure; nothing if there is no list
 abbrev pub all_listed : Option Listed → List Access
 all_listed None = []
 all_listed (Some x) = map access x.all.items
@@ -31,24 +31,24 @@ abbrev pub pending_listed : Option Listed → List Access
 pending_listed None = []
 pending_listed (Some x) = map access x.pending.items
 
--- the tables of what is listed by number
+-- the tables of what is listed for each number
 abbrev pub alls_of : List Listed → Table accesses
 alls_of lists f = all_listed (slice_get lists f)
 
 abbrev pub pendings_of : List Listed → Table accesses
 pendings_of lists f = pending_listed (slice_get lists f)
 
--- of the procedure of a number its accesses are listed, and those left pending
+-- the list for this number has the accesses of its procedure, and those that it leaves pending
 pub record IsListedAt (p : Program) (lists : List Listed) (f : ℕ) : Type 0 where
   pub all : (x : Access) → Member x (alls_of lists f) ↔ All p accesses (procedure_of p f).body x
   pub pending : (x : Access)
       → Member x (pendings_of lists f) ↔ Pending p accesses (procedure_of p f).body x
 
--- so they are of each procedure
+-- the lists have this for each procedure
 abbrev pub AreListsOf : Program → List Listed → Type 0
 AreListsOf p lists = (f : ℕ) → IsListedAt p lists f
 
--- whether a label is asked for: where none is named, each is
+-- whether the pairs of a label are requested: if no label is named, all are
 abbrev pub is_asked : Option ℕ → (label : ℕ) → Bool
 is_asked None l = true
 is_asked (Some k) l = nat_eq k l

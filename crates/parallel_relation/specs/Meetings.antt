@@ -1,4 +1,4 @@
--- The pairs that may run together as lists, over tables of what each procedure's body has.
+-- The pairs that may run together as lists, over tables of what each procedure's body contains.
 use Rattle.std.specs.Prelude.{ℕ, List, [], ◌∷◌, ◌++◌, map, Bool, true, if◌then◌else◌, ◌↔◌}
 use Rattle.sections.specs.Member.{Member}
 use Rattle.types.specs.Code.{Code, Do, If, While, Split, Call, Async, Finish, Codes, End, Then, Program}
@@ -7,25 +7,25 @@ use Rattle.effects.specs.Tables.{Table, all_of, all_in, left_by, IsDerived, IsDe
 use Rattle.effects.specs.Tables.{IsStable, IsStablePending}
 use Rattle.parallel_relation.specs.Together.{Together}
 
--- each of the first with each of the second
+-- each of the first items paired with each of the second
 abbrev pub crossed : {A : Type 0} → List A → List A → List (A × A)
 crossed [] ys = []
 crossed (x ∷ xs) ys = map (λ y. (x, y)) ys ++ crossed xs ys
 
 module _ (subject : Subject) (alls pendings : Table subject) where
-  -- a loop follows itself
+  -- the pairs of a loop with its next iteration
   abbrev pub turned : (label : ℕ) → Code → List (subject.Item × subject.Item)
   turned l (While t b) =
       crossed (left_by subject alls pendings (While t b)) (all_of subject alls l (While t b))
   turned l _ = []
 
-  -- the pairs that a statement adds in front of a list: what it leaves pending with all of the list,
-  -- and a loop with its next turn
+  -- the pairs that a statement adds in front of a list: what it leaves pending with everything in
+  -- the list, and a loop with its next iteration
   abbrev pub added : (label : ℕ) → Code → (rest : Codes) → List (subject.Item × subject.Item)
   added l s rest =
       crossed (left_by subject alls pendings s) (all_in subject alls rest) ++ turned l s
 
-  -- of the statements whose label is asked for
+  -- for the statements whose pairs are requested
   module _ (asked : ℕ → Bool) where
     abbrev mutual
       -- the pairs that they add inside a statement

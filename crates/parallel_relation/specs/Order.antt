@@ -1,4 +1,4 @@
--- The order of accesses, and of the pairs of them that are told.
+-- The order of accesses, and of the pairs of them that are listed.
 use Rattle.std.specs.Prelude.{ℕ, ◌≡◌, List, [], ◌∷◌, Bool, true, false, nat_eq, nat_lt, if◌then◌else◌}
 use Rattle.sections.specs.Member.{Member}
 use Rattle.effects.specs.Accesses.{Access}
@@ -17,12 +17,12 @@ is_less (x ∷ xs) (y ∷ ys) = if nat_eq x y then is_less xs ys else nat_lt x y
 abbrev pub access_key : Access → List ℕ
 access_key x = x.label ∷ x.section ∷ kind_number x.write ∷ []
 
--- two accesses that may run together, as they are told
+-- two accesses that may run together, as they are listed
 pub record Meeting : Type 0 where
   pub first : Access
   pub second : Access
 
--- of two accesses the lesser is told first
+-- the lesser of two accesses comes first
 abbrev pub meeting_of : Access × Access → Meeting
 meeting_of p =
     if is_less (access_key p.1) (access_key p.0)
@@ -35,20 +35,20 @@ meeting_key m =
     m.first.label ∷ m.second.label ∷ m.first.section ∷ kind_number m.first.write
     ∷ m.second.section ∷ kind_number m.second.write ∷ []
 
--- each stands before all that follow it
+-- each comes before all that follow it
 abbrev pub Ascends : List Meeting → Type 0
 Ascends [] = Unit {0}
 Ascends (m ∷ ms) =
     ((n : Meeting) → Member n ms → is_less (meeting_key m) (meeting_key n) ≡ true) × Ascends ms
 
--- one of these pairs, as it is told
+-- one of these pairs, as it is listed
 pub record IsMeeting (pairs : (x y : Access) → Type 0) (m : Meeting) : Type 0 where
   pub one : Access
   pub other : Access
   pub pair : pairs one other
   pub told : m ≡ meeting_of (one, other)
 
--- the meetings of these pairs, each once and in their order
+-- the meetings of these pairs, each once and in order
 pub record AreMeetings (pairs : (x y : Access) → Type 0) (ms : List Meeting) : Type 0 where
   pub only : (m : Meeting) → Member m ms → IsMeeting pairs m
   pub every : (m : Meeting) → IsMeeting pairs m → Member m ms

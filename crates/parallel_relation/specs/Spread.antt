@@ -1,4 +1,4 @@
--- Pairs the other way round.
+-- Pairs in reverse.
 use Rattle.std.specs.Prelude.{ℕ, ◌<◌}
 
 -- the larger label has the smaller

@@ -9,7 +9,8 @@ use Rattle.effects.specs.Summarized.{body_of}
 pub use Rattle.effects.specs.Statements.{Block}
 
 module _ (p : Program) (subject : Subject) where
-  -- x may be pending where y is done: at a later statement of a list, or at a later turn of a loop
+  -- x may be pending while y is done: at a later statement of a list, or in a later iteration of a
+  -- loop
   pub data Together : Codes → (x y : subject.Item) → Type 0 where
     follows : {l : ℕ} {s : Code} {rest : Codes} {x y : subject.Item}
         → PendingOf p subject s x → All p subject rest y → Together (Then l s rest) x y
@@ -21,7 +22,8 @@ module _ (p : Program) (subject : Subject) where
     later : {l : ℕ} {s : Code} {rest : Codes} {x y : subject.Item}
         → Together rest x y → Together (Then l s rest) x y
 
-  -- so, and the statement with this label adds the pair: it leaves x pending, or is that loop
+  -- x may be pending while y is done, and the statement with this label adds the pair: it leaves x
+  -- pending, or is that loop
   pub data AddedAt : (at : ℕ) → Codes → (x y : subject.Item) → Type 0 where
     follows : {l : ℕ} {s : Code} {rest : Codes} {x y : subject.Item}
         → PendingOf p subject s x → All p subject rest y → AddedAt l (Then l s rest) x y
@@ -44,6 +46,6 @@ pub data LabelsMeet (p : Program) (x y : ℕ) : Type 0 where
 
 -- two accesses may run together in a procedure, and the statement with this label adds the pair
 pub record AccessesAddedAt (p : Program) (label : ℕ) (x y : Access) : Type 0 where
-  -- the procedure, where `main` is numbered behind the others
+  -- the procedure; `main` is numbered after the others
   pub procedure : ℕ
   pub pair : AddedAt p accesses label (body_of p procedure) x y

@@ -8,6 +8,6 @@ use Rattle.parallel_relation.specs.declared.meeting.Meeting.{Meeting as rMeeting
 abbrev pub meeting : rMeeting → Meeting
 meeting m = record { first = access m.first; second = access m.second }
 
--- what it is ordered by
+-- the numbers by which it is ordered
 abbrev pub key_in : rMeeting → List ℕ
 key_in m = meeting_key (meeting m)

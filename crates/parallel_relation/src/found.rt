@@ -1,4 +1,4 @@
-//! What is found of the labels that may run together.
+//! What the walk finds about the labels that may run together.
 
 ghost use Rattle.std.specs.Prelude.{OnOk, ℕ};
 ghost use Rattle.types.specs.Code.{Program};
@@ -14,18 +14,18 @@ use types::ids::ProcedureId;
 /// Which labels may be done while others are pending.
 #[derive(Drop)]
 pub struct Found {
-    /// What each label meets.
+    /// The labels that each label meets.
     pub labels: Rows,
-    /// What each procedure meets with all that it does.
+    /// For each procedure, the labels that everything it does meets.
     pub calls: Rows,
-    /// What each procedure meets with all that it leaves pending.
+    /// For each procedure, the labels that what it leaves pending meets.
     pub ends: Rows,
 }
 
 impl Found {
     ghost use Rattle.parallel_relation.specs.Found.{FoundMeets};
 
-    /// Nothing yet.
+    /// Returns an empty result.
     pub fn new(alloc: Global) -> Found
         ensures { (p : Program) (x y : ℕ) → FoundMeets p result x y → ⊥ }
     {
@@ -36,7 +36,7 @@ impl Found {
         }
     }
 
-    /// A label meets all of these.
+    /// Records that a label meets all of these labels.
     pub fn add_label(
         &mut self,
         alloc: Global,
@@ -49,7 +49,8 @@ impl Found {
         self.labels.add(alloc, label as usize, those)
     }
 
-    /// At a call all that the procedure does meets `everything`, and what it leaves pending meets `later`.
+    /// Records a call: everything that the procedure does meets `everything`, and what it leaves
+    /// pending meets `later`.
     pub fn add_call(
         &mut self,
         alloc: Global,

@@ -14,14 +14,14 @@ use std::alloc::{AllocError, Global};
 use types::code::{Program, Stmt, StmtKind};
 use types::ids::ProcedureId;
 
-/// A copy of a set.
+/// Returns a copy of a set.
 pub fn copy_of(alloc: Global, set: &LabelSet) -> Result<LabelSet, AllocError>
     ensures { IfOk result (λ copy. Gains none (HasLabel set.now) (HasLabel copy)) }
 {
     set.copied(alloc)
 }
 
-/// The labels of two sets.
+/// Returns the labels of two sets.
 pub fn union_of(alloc: Global, one: &LabelSet, other: &LabelSet) -> Result<LabelSet, AllocError>
     ensures { IfOk result (λ union. Gains (HasLabel one.now) (HasLabel other.now) (HasLabel union)) }
 {
@@ -30,7 +30,7 @@ pub fn union_of(alloc: Global, one: &LabelSet, other: &LabelSet) -> Result<Label
     Ok(union)
 }
 
-/// Puts in the labels of a list of statements, of all that is inside, and of the calls.
+/// Adds the labels of a list of statements, of everything inside them, and of their calls.
 #[cycle(labels)]
 pub fn add_labels(
     code: &Program,
@@ -48,7 +48,7 @@ pub fn add_labels(
     Ok(())
 }
 
-/// Puts in the labels of a statement.
+/// Adds the labels of a statement.
 #[cycle(labels)]
 pub fn add_labels_of(
     code: &Program,
@@ -75,7 +75,7 @@ pub fn add_labels_of(
     }
 }
 
-/// Puts in the labels of a procedure.
+/// Adds the labels of a procedure.
 fn add_labels_of_call(
     code: &Program,
     summaries: &Summaries,

@@ -1,4 +1,4 @@
-//! Laws of the definitions, each the contract of a function that does nothing.
+//! Theorems about the definitions, each the contract of a function with an empty body.
 
 ghost use Rattle.std.specs.Prelude.{◌↔◌, ℕ};
 ghost use Rattle.types.specs.Code.{Codes, Program};
@@ -13,14 +13,14 @@ pub fn listed_meetings_are_exact()
     ensures labels { (p : Program) → ListsAreExact p labels }
 {}
 
-/// Where one of two may meet the other, the other may meet the one.
+/// If one of two may meet the other, the other may meet the one.
 pub fn pairs_have_no_order()
     ensures accesses { (p : Program) (b : Codes) (x y : Access)
         → MayMeet p accesses b x y → MayMeet p accesses b y x }
     ensures labels { (p : Program) (x y : ℕ) → LabelsMeet p x y → LabelsMeet p y x }
 {}
 
-/// Two accesses may run together exactly where some statement adds the pair.
+/// Two accesses may run together if and only if some statement adds the pair.
 pub fn statements_add_the_pairs()
     ensures { (p : Program) (b : Codes) (x y : Access)
         → Together p accesses b x y ↔ ((l : ℕ) × AddedAt p accesses l b x y) }

@@ -21,11 +21,11 @@ use types::ids::ProcedureId;
 #[derive(Drop)]
 pub struct Listed {
     pub all: Vec<Access>,
-    /// Those that it leaves pending.
+    /// The accesses that it leaves pending.
     pub pending: Vec<Access>,
 }
 
-/// The accesses of each procedure, in the order of the text.
+/// Returns the accesses of each procedure, in the order of the text.
 pub fn list_procedures(
     alloc: Global,
     code: &Program,
@@ -44,7 +44,7 @@ pub fn list_procedures(
     Ok(lists)
 }
 
-/// The accesses of a set.
+/// Returns the accesses of a set.
 fn items_of(alloc: Global, accesses: &Accesses) -> Result<Vec<Access>, AllocError>
     ensures { IfOk result (λ found. (x : PlainAccess)
         → InList found.items x ↔ HasAccess accesses.now x) }
@@ -76,7 +76,7 @@ fn add_uses(
     Ok(())
 }
 
-/// Adds the access of one statement, where its label is among these.
+/// Adds the access of one statement, if its label is in the set.
 fn add_use(
     labels: &LabelSet,
     label: usize,

@@ -15,8 +15,9 @@ ghost use Rattle.parallel_relation.specs.Translation.{meeting as plain, key_in};
 use effects::access::Access;
 use std::cmp::Ordering;
 
-/// Two accesses that may run together, in the names of the procedure in which they do. The first has the
-/// smaller label; with equal labels it has the smaller section, and then it is the read.
+/// Two accesses that may run together, in the names of the procedure in which they do. The first
+/// access has the smaller label. If the labels are equal, it has the smaller section. If the
+/// sections are equal too, it is the read.
 #[derive(Clone, Copy, Debug)]
 pub struct Meeting {
     pub first: Access,
@@ -24,7 +25,7 @@ pub struct Meeting {
 }
 
 impl Meeting {
-    /// The meeting of two accesses, in whichever order they come.
+    /// Returns the meeting of two accesses, given in either order.
     pub fn of(one: Access, other: Access) -> Meeting
         ensures { plain result ≡ meeting_of (access_of one, access_of other) }
     {
@@ -41,7 +42,7 @@ impl Meeting {
         }
     }
 
-    /// What it is ordered by: both labels, then what each access does.
+    /// Returns the numbers by which meetings are ordered: both labels, then what each access does.
     fn key(self) -> [usize; 6]
         ensures { result ≡ meeting_key (plain self) }
     {
@@ -56,14 +57,14 @@ impl Meeting {
     }
 }
 
-/// Whether an access stands before another in a meeting.
+/// Returns whether an access comes before another in a meeting.
 pub fn is_before(access: Access, other: Access) -> bool
     ensures { result ≡ is_less (access_key (access_of access)) (access_key (access_of other)) }
 {
     key_of(access) < key_of(other)
 }
 
-/// What accesses are ordered by.
+/// Returns the numbers by which accesses are ordered.
 fn key_of(access: Access) -> [usize; 3]
     ensures { result ≡ access_key (access_of access) }
 {
@@ -74,7 +75,7 @@ fn key_of(access: Access) -> [usize; 3]
     ]
 }
 
-/// Puts meetings in their order, each once.
+/// Sorts meetings, and removes duplicates.
 pub fn put_in_order(meetings: &mut Vec<Meeting>)
     ensures ascending { Ascends (map plain meetings.new.items) }
     ensures same { (m : PlainMeeting)

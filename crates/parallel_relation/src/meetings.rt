@@ -23,8 +23,8 @@ use types::code::{Label, Program, Stmt, StmtKind};
 use types::ids::ProcedureId;
 use types::typed::Typed;
 
-/// The pairs of accesses of a procedure that may run together, each once and in their order; `main` is
-/// numbered behind the others.
+/// Returns the pairs of accesses of a procedure that may run together, each once and in order;
+/// `main` is numbered after the others.
 pub fn meetings(
     alloc: Global,
     typed: &Typed,
@@ -44,8 +44,9 @@ pub fn meetings(
     Ok(found)
 }
 
-/// Those pairs that the statement with this label adds, each once and in their order: with what stands
-/// behind it in its list, and with its own next turn. Nothing for the label of no statement.
+/// Returns the pairs that the statement with this label adds, each once and in order: with what
+/// comes after it in its list, and with its own next iteration. Returns no pairs if no statement
+/// has this label.
 pub fn meetings_at(
     alloc: Global,
     typed: &Typed,
@@ -68,7 +69,8 @@ pub fn meetings_at(
     Ok(found)
 }
 
-/// The body of a procedure; `main` is numbered behind the others, and behind it is nothing.
+/// Returns the body of a procedure; `main` is numbered after the others, and larger numbers have an
+/// empty body.
 fn body_of(code: &Program, procedure: ProcedureId) -> &[Stmt]
     ensures { codes_of result.now ≡ plain_body_of (program code.now) procedure.number }
 {
@@ -81,7 +83,7 @@ fn body_of(code: &Program, procedure: ProcedureId) -> &[Stmt]
     }
 }
 
-/// Adds the pairs that the statements of a block add, all of them or those with one label.
+/// Adds the pairs that the statements of a block add: all of them, or those with one label.
 #[cycle(meetings)]
 fn add_meetings(
     alloc: Global,
@@ -103,7 +105,7 @@ fn add_meetings(
     Ok(())
 }
 
-/// Adds those that the statements inside a statement add.
+/// Adds the pairs that the statements inside a statement add.
 #[cycle(meetings)]
 fn add_meetings_inside(
     alloc: Global,
@@ -129,7 +131,7 @@ fn add_meetings_inside(
     }
 }
 
-/// Whether a label is asked for: where none is named, each is.
+/// Returns whether the pairs of a label are requested: if no label is named, all are.
 fn is_asked(asked: Option<Label>, label: Label) -> bool
     ensures { result ≡ asks asked label }
 {
@@ -139,7 +141,7 @@ fn is_asked(asked: Option<Label>, label: Label) -> bool
     }
 }
 
-/// Adds the pairs that a statement adds in front of the rest of its list.
+/// Adds the pairs that a statement in front of the rest of its list adds.
 fn add_pairs(
     alloc: Global,
     lists: &[Listed],
@@ -162,7 +164,7 @@ fn add_pairs(
     add_turned(alloc, lists, statement, &left, into)
 }
 
-/// Adds those of a loop with its next turn.
+/// Adds the pairs of a loop with its next iteration.
 fn add_turned(
     alloc: Global,
     lists: &[Listed],
@@ -192,7 +194,7 @@ fn add_turned(
     }
 }
 
-/// Adds each of the first with each of the second.
+/// Adds each of the first accesses paired with each of the second.
 fn add_crossed(
     firsts: &[Access],
     seconds: &[Access],
@@ -207,7 +209,7 @@ fn add_crossed(
     Ok(())
 }
 
-/// Adds an access with each of these.
+/// Adds an access paired with each of these.
 fn add_each(first: Access, seconds: &[Access], into: &mut Vec<Meeting>) -> Result<(), AllocError>
     ensures { OnOk result (map plain into.new.items ≡ map plain into.old.items ++ map meeting_of
         (map (λ y. (access_of first, y)) (map access_of seconds.now))) }

@@ -19,20 +19,21 @@ use types::typed::Typed;
 /// The pairs of labels of a program that may run together. A pair has no order.
 #[derive(Drop)]
 pub struct Pairs {
-    /// For each label the labels from it on with which it is a pair.
+    /// For each label, the labels not smaller than it with which it forms a pair.
     rows: Rows,
 }
 
-/// The pairs in order, the smaller label first.
+/// An iterator over the pairs in order, the smaller label first.
 #[derive(Drop)]
 pub struct PairList<'a> {
     pairs: &'a Pairs,
-    /// Where it goes on: the first labels of the next pair from here on.
+    /// The position of the iterator: the next pair is at or after these two labels.
     first: usize,
     second: usize,
 }
 
-/// The pairs of labels that may run together, in all procedures, called or not, and in `main`.
+/// Returns the pairs of labels that may run together, in all procedures, called or not, and in
+/// `main`.
 pub fn may_run_together(
     alloc: Global,
     typed: &Typed,
@@ -51,7 +52,7 @@ pub fn may_run_together(
 impl Pairs {
     ghost use Rattle.parallel_relation.specs.Pairs.{HasPair, AreListed, pairs_left};
 
-    /// Whether two labels may run together.
+    /// Returns whether two labels may run together.
     pub fn has(&self, one: Label, other: Label) -> bool
         ensures { IsTrue result ↔ HasPair self.now one other }
     {
@@ -62,7 +63,7 @@ impl Pairs {
         }
     }
 
-    /// Each pair once, the smaller label first, ascending.
+    /// Returns an iterator over each pair once, the smaller label first, in ascending order.
     pub fn list(&self) -> PairList<'_>
         ensures { AreListed (HasPair self.now) (pairs_left result) }
     {
@@ -74,7 +75,7 @@ impl Pairs {
     }
 }
 
-/// The least label of a row from one on.
+/// Returns the smallest label of a row that is at least `from`.
 fn next_in(row: &LabelSet, from: usize) -> Option<Label>
     ensures { IsLeast (λ l. (from ≤ l) × HasLabel row.now l) result }
 {

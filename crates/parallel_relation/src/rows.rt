@@ -9,7 +9,7 @@ use effects::label_set::LabelSet;
 use std::alloc::{AllocError, Global};
 use types::code::Label;
 
-/// A set of labels for each number, without labels at first.
+/// A set of labels for each number. At first each set is empty.
 #[derive(Drop)]
 pub struct Rows {
     rows: Vec<LabelSet>,
@@ -19,7 +19,7 @@ pub struct Rows {
 impl Rows {
     ghost use Rattle.parallel_relation.specs.Rows.{HasAt, rows_of};
 
-    /// Rows without labels. They take no memory.
+    /// Returns rows without labels. They take no memory.
     pub fn new(alloc: Global) -> Rows
         ensures { (i y : ℕ) → HasAt result i y → ⊥ }
     {
@@ -28,7 +28,7 @@ impl Rows {
         }
     }
 
-    /// How many rows there are; behind them no row has labels.
+    /// Returns the number of rows; rows past this number have no labels.
     pub fn len(&self) -> usize
         ensures len { result ≡ length (rows_of self.now) }
         ensures within { result ≤ 2 ^ 32 }
@@ -36,14 +36,14 @@ impl Rows {
         self.rows.len()
     }
 
-    /// The row of a number, where there is one.
+    /// Returns the row with this number, if there is one.
     pub fn get(&self, number: usize) -> Option<&LabelSet>
         ensures { option_copied result ≡ slice_get (rows_of self.now) number }
     {
         self.rows.get(number)
     }
 
-    /// Whether the row of a number has a label.
+    /// Returns whether the row with this number has a label.
     pub fn has(&self, number: usize, label: Label) -> bool
         ensures { IsTrue result ↔ HasAt self.now number label }
     {
@@ -53,7 +53,7 @@ impl Rows {
         }
     }
 
-    /// Adds labels to the row of a number.
+    /// Adds labels to the row with this number.
     pub fn add(&mut self, alloc: Global, number: usize, more: &LabelSet) -> Result<(), AllocError>
         ensures { OnOk result
             (Adds (HasAt self.old) (at number (HasLabel more.now)) (HasAt self.new)) }
@@ -63,7 +63,7 @@ impl Rows {
         Ok(())
     }
 
-    /// Adds a label to the row of a number.
+    /// Adds a label to the row with this number.
     pub fn put(&mut self, alloc: Global, number: usize, label: Label) -> Result<(), AllocError>
         ensures { OnOk result
             (Adds (HasAt self.old) (at number (λ y. y ≡ label)) (HasAt self.new)) }
@@ -73,7 +73,8 @@ impl Rows {
         Ok(())
     }
 
-    /// Makes a row for a number. More than 4,294,967,296 rows are refused as want of memory is.
+    /// Makes a row for a number. If more than 4,294,967,296 rows are needed, it fails with
+    /// `AllocError`.
     fn reach(&mut self, alloc: Global, number: usize) -> Result<(), AllocError>
         ensures there { OnOk result (number < length (rows_of self.new)) }
         ensures same { OnOk result ((i y : ℕ) → HasAt self.new i y ↔ HasAt self.old i y) }

@@ -1,4 +1,5 @@
-//! From what is found to pairs: what procedures meet, their labels meet, and each pair is kept once.
+//! From what is found to pairs: what procedures meet is given to their labels, and each pair is
+//! kept once.
 
 ghost use Rattle.std.specs.Prelude.{◌↔◌, ◌≡◌, ◌≤◌, ◌<◌, ◌^◌, ℕ, IfOk, OnOk};
 ghost use Rattle.types.specs.Translation.{program};
@@ -17,7 +18,7 @@ use std::alloc::{AllocError, Global};
 use types::code::{Label, Program};
 use types::ids::ProcedureId;
 
-/// What the labels meet, those in procedures too.
+/// Returns what the labels meet, including the labels in procedures.
 pub fn spread(
     alloc: Global,
     code: &Program,
@@ -41,7 +42,7 @@ pub fn spread(
     Ok(labels)
 }
 
-/// Each of these labels meets a row.
+/// Adds the labels of a row to the rows of each of these labels.
 fn add_row(
     alloc: Global,
     members: &LabelSet,
@@ -58,7 +59,7 @@ fn add_row(
     }
 }
 
-/// Each of these labels meets those of a set.
+/// Adds the labels of a set to the rows of each of these labels.
 fn add_to_each(
     alloc: Global,
     members: &LabelSet,
@@ -74,7 +75,7 @@ fn add_to_each(
     Ok(())
 }
 
-/// A label meets those of a set, where it is one of these.
+/// Adds the labels of a set to the row of a label, if the label is one of these.
 fn add_where(
     alloc: Global,
     members: &LabelSet,
@@ -92,7 +93,7 @@ fn add_where(
     rows.add(alloc, label, those)
 }
 
-/// Each pair is put into the row of its smaller label.
+/// Puts each pair into the row of its smaller label.
 pub fn turn(alloc: Global, rows: &mut Rows) -> Result<(), AllocError>
     ensures { OnOk result (Adds (HasAt rows.old) (Turns (HasAt rows.old)) (HasAt rows.new)) }
 {
@@ -102,7 +103,7 @@ pub fn turn(alloc: Global, rows: &mut Rows) -> Result<(), AllocError>
     Ok(())
 }
 
-/// The pairs of one row are put into the rows of smaller labels.
+/// Puts the pairs of one row into the rows of smaller labels.
 fn turn_row(alloc: Global, rows: &mut Rows, number: usize) -> Result<(), AllocError>
     requires { number < 2 ^ 32 }
     ensures { OnOk result (Adds (HasAt rows.old)
@@ -114,7 +115,8 @@ fn turn_row(alloc: Global, rows: &mut Rows, number: usize) -> Result<(), AllocEr
     Ok(())
 }
 
-/// A number below which the row of another has no labels, at most that other.
+/// Returns a number below which the row of another number has no labels; it is at most that other
+/// number.
 fn start_of(rows: &Rows, number: usize) -> usize
     ensures before { (y : ℕ) → HasAt rows.now number y → y < result → ⊥ }
     ensures within { result ≤ number }
@@ -125,7 +127,7 @@ fn start_of(rows: &Rows, number: usize) -> usize
     }
 }
 
-/// A number below which a set has no labels, at most another.
+/// Returns a number below which a set has no labels; it is at most the given number.
 fn least_below(row: &LabelSet, number: usize) -> usize
     ensures before { (y : ℕ) → HasLabel row.now y → y < result → ⊥ }
     ensures within { result ≤ number }
@@ -136,7 +138,7 @@ fn least_below(row: &LabelSet, number: usize) -> usize
     }
 }
 
-/// A pair is put into the row of its smaller label, where it stands in the other.
+/// Puts a pair into the row of its smaller label, if the row of the larger one has it.
 fn turn_pair(alloc: Global, rows: &mut Rows, number: usize, label: usize) -> Result<(), AllocError>
     requires smaller { label < number }
     requires within { number < 2 ^ 32 }

@@ -173,7 +173,7 @@ fn add_passed(
     Ok(())
 }
 
-/// An access of a procedure, in the names around a call with these sections.
+/// Returns an access of a procedure in the names around a call with these sections.
 fn passed(access: Access, sections: &[SectionId]) -> Access
     ensures { access_of result ≡ renamed (passed_for (map section_of sections.now)) (access_of access) }
 {

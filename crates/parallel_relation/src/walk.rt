@@ -14,7 +14,7 @@ use effects::summaries::Summaries;
 use std::alloc::{AllocError, Global};
 use types::code::{Program, Stmt, StmtKind};
 
-/// What the walk goes by.
+/// What the walk needs to know about the program.
 #[derive(Clone, Copy)]
 pub struct Guide<'p> {
     pub alloc: Global,
@@ -45,9 +45,9 @@ pub fn walk_all(alloc: Global, code: &Program, summaries: &Summaries) -> Result<
     Ok(found)
 }
 
-/// Finds the pairs of a block: all that it does meets `everything`, what it leaves pending meets `later`, and
-/// its statements meet one another. The statements are taken from the last to the first, so that what stands
-/// behind each is known.
+/// Finds the pairs of a block: everything that it does meets `everything`, what it leaves pending
+/// meets `later`, and its statements meet one another. It walks the statements from the last to the
+/// first, so what comes after each statement is known.
 #[cycle(walk)]
 pub fn walk(
     guide: Guide<'_>,

@@ -78,7 +78,7 @@ module _ (calm : List Bool) where
               | inr e ↦ reaches_behind p (block_reaches rest e)
             ]
 
-    -- so both together tell what is plain
+    -- so the two together decide what is plain
     tells : (b : Bool) (f : ℕ) → calm_at calm f ≡ b → AreMarked p calm → ArePlain p (procedure_of p f).body → calm_at calm f ≡ true
     tells true f e marked plain = e
     tells false f e marked plain = absurd (plain (marked f e))

@@ -21,7 +21,7 @@ marked_fewer (false ∷ bs) zero lt is = absurd (false≢true is)
 marked_fewer (true ∷ bs) (suc k) lt is = let h = marked_fewer bs k (omega (arith, lt)) is in omega (arith, h)
 marked_fewer (false ∷ bs) (suc k) lt is = marked_fewer bs k (omega (arith, lt)) is
 
--- a procedure that is there and calm
+-- a procedure that exists and is calm
 pub record IsThere (calm : List Bool) (k : ℕ) : Type 0 where
   pub below : k < length calm
   pub told : calm_at calm k ≡ true
@@ -38,7 +38,7 @@ abbrev AreLooked : Program → List Bool → (from : ℕ) → Type 0
 AreLooked p calm from =
     (f : ℕ) → from ≤ f → calm_at calm f ≡ true → are_plain_by calm (procedure_of p f).body ≡ true
 
--- where a round has come to
+-- the state of a round with this number of procedures left
 pub record Rounded (p : Program) (before calm : List Bool) (left : ℕ) (found : Bool) : Type 0 where
   pub within : left ≤ length p.procedures
   pub same : length calm ≡ length before

@@ -1,4 +1,4 @@
--- Plain work does under all rules what it does on one thread, and tells them each step.
+-- Plain work does under all rules what it does on one thread, and applies `stepped` for each step.
 use Rattle.std.proofs.Common.{◌≡◌, ℕ, zero, suc, ◌+◌, Ok, Err, refl, sym, ap, ◌∙◌, subst, arith}
 use Rattle.std.specs.Prelude.{ℤ, Bool, true, false, map, ok_or}
 use Rattle.sections.specs.Place.{Place, sides_of}
@@ -19,7 +19,7 @@ abbrev U : Type 0
 U = State (Unit {0})
 
 module _ {X : Type 0} where
-  -- what is kept beside is taken off again
+  -- extra data that is added is removed again
   pub bare_beside : (x : X) (u : U) → bare (beside x u) ≡ u
   bare_beside x u = refl
 
@@ -95,7 +95,7 @@ module _ (p : Program) {X : Type 0} (r : Rules X) (once : X → X) (same : (l : 
   primitive_alike l (Raise e) st =
       value_alike l (number_at st e) _ _ st (λ n. still st (fault l (Raised n) (bare st)) refl)
 
-  -- where it began in another environment
+  -- a run that started in another environment
   moved : (env : Environment) (st out : State X) (u : U) → At (record st { environment = env }) out u → At st out u
   moved env st out u k = record { taken = k.taken; steps = k.steps; is = k.is }
 

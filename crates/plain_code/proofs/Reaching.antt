@@ -1,4 +1,4 @@
--- What is plain of a block is plain of what stands in it.
+-- If a block is plain, so are the statements in it.
 use Rattle.std.proofs.Common.{ℕ}
 use Rattle.types.specs.Code.{Code, Do, If, While, Split, Call, Async, Finish, Codes, Then, Program}
 use Rattle.types.specs.Run.{procedure_of}
@@ -6,7 +6,7 @@ use Rattle.effects.specs.Statements.{Block, Stands}
 use Rattle.plain_code.specs.Plain.{ArePlain, Reaches}
 
 module _ (p : Program) where
-  -- where the statements of the one stand in the other too
+  -- if the statements of one block are also in the other
   reaches_more : {b c : Codes} → ((l : ℕ) (s : Code) → Stands b l s → Stands c l s) → Reaches p b → Reaches p c
   reaches_more h (Reaches.async at) = Reaches.async (h _ _ at)
   reaches_more h (Reaches.finish at) = Reaches.finish (h _ _ at)
@@ -25,11 +25,11 @@ module _ (p : Program) where
   plain_inside : {l : ℕ} {s : Code} {b rest : Codes} → Block s b → ArePlain p (Then l s rest) → ArePlain p b
   plain_inside k plain = plain_less (λ m t at. Stands.inside k at) plain
 
-  -- the statements behind one
+  -- the statements after one are plain
   pub plain_behind : (l : ℕ) (s : Code) (rest : Codes) → ArePlain p (Then l s rest) → ArePlain p rest
   plain_behind l s rest plain = plain_less (λ m t at. Stands.later at) plain
 
-  -- what a plain statement has inside, one level down
+  -- what a plain statement contains, one level down
   abbrev pub Inside : Code → Type 0
   Inside (Do s) = Unit {0}
   Inside (If t b c) = ArePlain p b × ArePlain p c

@@ -1,4 +1,4 @@
--- Plain code: from which no async and no finish can be reached, also not by a call.
+-- Plain code: no async and no finish can be reached from it, directly or by a call.
 use Rattle.std.specs.Prelude.{ℕ, List}
 use Rattle.types.specs.Code.{Number, Code, Call, Async, Finish, Codes, End, Then, Program}
 use Rattle.types.specs.Run.{Work, Block, Turn, procedure_of}
@@ -11,15 +11,15 @@ pub data Reaches (p : Program) : Codes → Type 0 where
   call : {b : Codes} {l f : ℕ} {es : List Number} {ss : List ℕ} → Stands b l (Call f es ss)
       → Reaches p (procedure_of p f).body → Reaches p b
 
--- none can
+-- none can be reached from a block
 abbrev pub ArePlain : Program → Codes → Type 0
 ArePlain p b = Reaches p b → ⊥
 
--- nor from a statement
+-- none can be reached from a statement
 abbrev pub IsPlain : Program → (label : ℕ) → Code → Type 0
 IsPlain p l c = ArePlain p (Then l c End)
 
--- nor in what is left to do
+-- none can be reached from what is left to do
 abbrev pub IsPlainWork : Program → Work → Type 0
 IsPlainWork p (Block b) = ArePlain p b
 IsPlainWork p (Turn l t b) = ArePlain p b

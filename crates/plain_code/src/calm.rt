@@ -8,18 +8,19 @@ ghost use Rattle.plain_code.specs.Calm.{AreCalm, AreMarked, are_plain_by, calm_c
 use std::alloc::{AllocError, Global};
 use types::code::{Program, Stmt, StmtKind};
 
-/// Whether each procedure is calm. All are taken to be at first, and one after the other is found not to be.
+/// Returns whether each procedure is calm. All procedures are assumed to be calm at first, and are
+/// then marked one after the other as not calm.
 pub fn calm_procedures(alloc: Global, program: &Program) -> Result<Vec<bool>, AllocError>
     ensures { IfOk result (λ c. AreCalm (program_of program.now) c.items) }
 {
     let mut calm = vec![in alloc; true; program.procedures.len()]?;
-    // Each round but the last finds one more, so the number of those that are left falls.
+    // Each round except the last marks one more, so the number of unmarked procedures decreases.
     'rounds: while round(program, &mut calm) {}
     Ok(calm)
 }
 
-/// Marks procedures that aren't calm, if those marked so far aren't; whether one was found. Where none
-/// was, all were looked at.
+/// Marks procedures that aren't calm, assuming that the procedures marked so far aren't calm.
+/// Returns whether it marked one. If it marked none, it has looked at all procedures.
 fn round(program: &Program, calm: &mut [bool]) -> bool
     requires count { length calm.old ≡ length program.now.procedures.items }
     requires marked { AreMarked (program_of program.now) calm.old }
@@ -29,7 +30,7 @@ fn round(program: &Program, calm: &mut [bool]) -> bool
 {
     let mut found = false;
     let mut left = program.procedures.len();
-    // From the last: a procedure mostly calls those before it, or itself.
+    // Start with the last procedure: a procedure mostly calls those before it, or itself.
     'procedures: while left > 0 {
         left -= 1;
         if calm[left] && !are_plain(calm, &program.procedures[left].body) {
@@ -40,7 +41,8 @@ fn round(program: &Program, calm: &mut [bool]) -> bool
     found
 }
 
-/// Whether each statement of a block is plain, if the procedures that are taken to be calm are.
+/// Returns whether each statement of a block is plain, if the procedures that `calm` takes to be
+/// calm are calm.
 #[cycle(plain)]
 pub fn are_plain(calm: &[bool], block: &[Stmt]) -> bool
     ensures { result ≡ are_plain_by calm.now (codes_of block.now) }
@@ -53,7 +55,7 @@ pub fn are_plain(calm: &[bool], block: &[Stmt]) -> bool
     true
 }
 
-/// Whether a statement is.
+/// Returns whether a statement is plain, under the same assumption as `are_plain`.
 #[cycle(plain)]
 pub fn is_plain(calm: &[bool], kind: &StmtKind) -> bool
     ensures { result ≡ is_plain_by calm.now (plain_code kind.now) }

@@ -1,4 +1,4 @@
-//! Laws of plain code, each the contract of a function that does nothing.
+//! Theorems about plain code, each the contract of a function with an empty body.
 
 ghost use Rattle.std.specs.Prelude.{◌≡◌, ℕ};
 ghost use Rattle.types.specs.Code.{Program};
@@ -7,9 +7,9 @@ ghost use Rattle.types.specs.Run.{Rules, State, Work, run};
 ghost use Rattle.plain_code.specs.Means.{IsAsOnOne, bare};
 ghost use Rattle.plain_code.specs.Plain.{IsPlainWork};
 
-/// Where no async and no finish can be reached, a run does under all rules what it does on one thread,
-/// whatever the fresh steps and the nest, and tells its rules of each step and of nothing else, where what
-/// is told is the same for all labels.
+/// If no async and no finish can be reached, a run under any rules does what it does on one thread,
+/// for any number of fresh steps and any nest. It calls the rules' `stepped` once for each step and
+/// calls nothing else. The theorem requires that `stepped` does the same for all labels.
 pub fn plain_work_means_the_same<X>()
     ensures { (p : Program) (r : Rules X) (once : X → X) → ((l : ℕ) (x : X) → r.stepped l x ≡ once x)
         → (fresh nest : ℕ) (w : Work) → IsPlainWork p w → (st : State X)

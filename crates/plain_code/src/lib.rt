@@ -1,4 +1,4 @@
-//! Plain statements: what they mean under all rules, and which of a program they are.
+//! Plain statements: what they mean under all rules, and which statements of a program are plain.
 
 #![tactic(auto)]
 

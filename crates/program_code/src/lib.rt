@@ -1,4 +1,4 @@
-//! The flat code of a program, for tasks: of each procedure, and of its plain statements.
+//! The flat code of a program, for tasks: the code of each procedure, and of its plain statements.
 
 #![tactic(auto)]
 

@@ -32,6 +32,6 @@ module _ (p : Program) (alls pendings : Table accesses)
       (record { writes = c.0; overlap = c.1 }))
   clash_stands g free false e = refl
 
-  -- the test says whether a procedure has a clash
+  -- the test decides whether a procedure has a clash
   pub has_clash-exact : (g : Procedure) → (has_clash alls pendings g ≡ false) ↔ HasNoClash p g
   has_clash-exact g = (clash_found g, λ h. clash_stands g h (has_clash alls pendings g) refl)

@@ -195,7 +195,7 @@ first_root : (origins : List Origin) (k : ℕ) → k < 1 → slice_get (Root ∷
 first_root origins zero h = refl
 first_root origins (suc k) h = absurd (omega arith)
 
--- a procedure that isn't there
+-- a procedure that doesn't exist
 pub missing_sound : (p : Program) → IsSoundIn p (no_procedure)
 missing_sound p = record {
   first = λ k h. absurd (omega arith);

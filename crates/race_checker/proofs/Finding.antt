@@ -68,7 +68,7 @@ module _ (p : Program) (sound : IsSound p) (origins : List Origin) where
       → x.section < length origins
   below_pending l s st x h = below_of l s st x (pending_of_all p h)
 
--- Statements that stand in a list, and blocks that stand in a statement
+-- Statements in a list, and blocks in a statement
 
 module _ (p : Program) (origins : List Origin) where
   stands_here : (l : ℕ) (s : Code) (b : Codes) → Stands p origins (Then l s b) → StandsOf p origins l s
@@ -273,7 +273,7 @@ module _ (p : Program) where
       least_race = least_none origins f (Together p accesses End) (race_found found.race) c none_together;
     }
 
-    -- of nothing but own accesses
+    -- the result if there are only own accesses
     pub found_inside_nothing : (s : Primitive) (found : Found) → kept_in found.all ≡ [] → kept_in found.pending ≡ []
         → race_found found.race ≡ None → IsFoundInside p origins f (Do s) found
     found_inside_nothing s found a b c = record {
@@ -391,7 +391,7 @@ module _ (p : Program) where
         pending : AreFirsts (PendingOf p accesses (While t b)) (kept_in once.pending)
         pending = pending_with_own l (While t b) inside once h with
 
-    -- what a turn of a loop finds is in range where the loop's is
+    -- what an iteration of a loop finds is in range if the loop's own result is
     pub all_of_turn : (l : ℕ) (k : Code) (t : Truth) (b : Codes) → k ≡ While t b → (own : List Access) → own ≡ own_accesses l k
         → (inside once : Found) → IsFoundIn p origins f b inside → IsWithOwn own inside once
         → AreFirsts (AllOf p accesses l k) (kept_in once.all)

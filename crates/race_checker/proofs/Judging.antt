@@ -33,7 +33,7 @@ numbered_main p = ap (λ b. if b then p.main else procedure_of p (length p.proce
 pub numbered_other : (p : Program) (f : ℕ) → f ≢ length p.procedures → numbered p f ≡ procedure_of p f
 numbered_other p f h = ap (λ b. if b then p.main else procedure_of p f) (ne_eqb f (length p.procedures) h)
 
--- Sound procedures stand
+-- Sound procedures follow the rules
 
 stands_in : (p : Program) (g h : Procedure) → IsSoundIn p g → g.sections ≡ h.sections → g.body ≡ h.body → Stands p h.sections h.body
 stands_in p g h sound e d =
@@ -122,7 +122,7 @@ none_together p g x y e h = ended (subst (λ (q : Procedure). Together p accesse
     ended : Together p accesses End x y → ⊥
     ended k = elim k [ ]
 
--- there is no race behind `main`
+-- there is no race after `main`
 race_is_numbered : (p : Program) (r : Race) → IsRace p r → r.procedure < length p.procedures + 1
 race_is_numbered p r c = by (nat_lt (length p.procedures) r.procedure) refl
   where

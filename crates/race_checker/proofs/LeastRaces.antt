@@ -1,4 +1,4 @@
--- The least of some races, put together from the least of parts.
+-- The least of some races, composed from the least of parts.
 use Rattle.std.proofs.Common.{◌≡◌, ◌⊎◌, inl, inr, ℕ, Bool, true, false, ◌&&◌, ◌||◌, List, [], ◌∷◌, map, fold}
 use Rattle.std.proofs.Common.{if◌then◌else◌, refl, sym, ap, ◌∙◌, subst, true≢false}
 use Rattle.std.specs.Prelude.{Option, None, Some}
@@ -26,7 +26,7 @@ pub record IsRaceAmong (origins : List Origin) (f : ℕ) (pairs : List (Access �
   pub clash : is_clash origins pair ≡ true
   pub told : race_of f pair ≡ r
 
--- of one race, the other before it isn't told later
+-- if one race is reported before the other, the other isn't reported before the first
 pub before_known : (r s : Race) → comes_before r s ≡ true → comes_before s r ≡ false
 before_known r s h = not_both_less (race_key r) (race_key s) h
 
@@ -71,7 +71,7 @@ least_of_both P Q (Some r) (Some s) h g = by (comes_before s r) refl
     }
 
 module _ (origins : List Origin) (f : ℕ) where
-  -- the race of one pair, where that clashes
+  -- the race of one pair, if that pair clashes
   pub record IsRaceOf (p : Access × Access) (r : Race) : Type 0 where
     pub clash : is_clash origins p ≡ true
     pub told : race_of f p ≡ r
@@ -155,7 +155,7 @@ module _ (origins : List Origin) (f : ℕ) where
       (λ x k. elim k [ inl a ↦ absurd a | inr o ↦ o ]) (λ x o. inr o)
       (subst (LeastOf (λ r. ⊥ ⊎ IsRaceAmong origins f ps r)) (sym e) (tell_all (λ r. ⊥) None ps (λ x a. a)))
 
--- each of the first stands with each of the second
+-- each of the first is paired with each of the second
 pub each_with-stands : (xs ys : List Access) (x y : Access) → Member x xs → Member y ys → Member (x, y) (each_with xs ys)
 each_with-stands [] ys x y m k = elim m [ ]
 each_with-stands (z ∷ xs) ys x y first k = in_left (each_with xs ys) (in_map (λ y. (z, y)) k)
@@ -192,7 +192,8 @@ clash_moved origins x y a b h g c = record {
   overlap = ap (λ s. overlap origins s b.section) h.section ∙ ap (overlap origins x.section) g.section ∙ c.overlap;
 }
 
--- what isn't told before two accesses in the order in which they come isn't told before their race
+-- what isn't reported before two accesses in the order in which they come isn't reported before
+-- their race
 told_either : (f : ℕ) (x y a b : Access)
     → (is_less (access_key b) (access_key a) ≡ true → comes_before (told f x y) (told f b a) ≡ false)
     → (is_less (access_key b) (access_key a) ≡ false → comes_before (told f x y) (told f a b) ≡ false)
@@ -204,7 +205,7 @@ told_either f x y a b turned as_given = by (is_less (access_key b) (access_key a
     by true e = turned e
     by false e = as_given e
 
--- a race isn't told before that of two earlier accesses, in whichever order they come
+-- a race isn't reported before that of two earlier accesses, given in either order
 earlier_race : (f : ℕ) (x y a b : Access) → Earlier a x → Earlier b y
     → is_less (access_key y) (access_key x) ≡ false
     → comes_before (told f x y) (race_of f (a, b)) ≡ false
@@ -239,7 +240,7 @@ module _ (origins : List Origin) (f : ℕ) (A B : Access → Type 0) (xs ys : Li
   abbrev pub Crossed : Access → Access → Type 0
   Crossed x y = A x × B y
 
-  -- a race that isn't told later than this one
+  -- a race that isn't reported later than this one
   record NoLater (r : Race) : Type 0 where
     pub race : Race
     pub among : IsRaceAmong origins f (each_with xs ys) race

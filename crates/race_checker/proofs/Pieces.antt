@@ -26,7 +26,7 @@ use Rattle.race_checker.specs.declared.found.Found.{Found}
 use Rattle.race_checker.proofs.Finding.{fronted_in, fronted_out, none_all, none_pending, none_together, least_map, least_pairs}
 use Rattle.race_checker.proofs.Finding.{crossing_least, in_range, below_all}
 
--- Two lists, one behind the other
+-- Two lists, one after the other
 
 -- what lists have, if the items of a list are those of its first statement and of its others
 module _ (of_list : Codes → Access → Type 0) (of_one : ℕ → Code → Access → Type 0)
@@ -74,7 +74,7 @@ module _ (p : Program) where
   pending_parted =
       parted (Pending p accesses) (λ l. PendingOf p accesses) (none_pending p) (pending_lists p accesses)
 
-  -- the pairs of a list that stands before another
+  -- the pairs of a list that comes before another
   abbrev pub Joined : (xs ys : List Stmt) → Access → Access → Type 0
   Joined xs ys x y =
       (Pending p accesses (codes xs) x × All p accesses (codes ys) y)
@@ -139,7 +139,7 @@ module _ (p : Program) where
           (race_found here.race) (race_found rest.race) h.least_race g.least_race)));
     }
 
-  -- where a list stands, its pieces stand
+  -- the pieces of a list follow the rules of the list's position
 
   follows_front : (g : Procedure) (scope : List ℕ) (xs ys : List Stmt) → Follows p g scope (codes (xs ++ ys)) → Follows p g scope (codes xs)
   follows_front g scope [] ys h = tt
@@ -175,7 +175,7 @@ size_back (s ∷ ss) ys = let h : size (codes ys) ≤ size (codes (ss ++ ys)) = 
 abbrev pub side_by_side : List (List Stmt) → List Stmt
 side_by_side = flat_map (λ l. l)
 
--- a piece stands where the list does, and is no larger
+-- a piece follows the rules of the list, and is no larger
 pub record IsPiece (p : Program) (origins : List Origin) (body piece : List Stmt) : Type 0 where
   pub stands : Stands p origins (codes piece)
   pub small : size (codes piece) ≤ size (codes body)

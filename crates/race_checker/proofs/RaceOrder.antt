@@ -10,7 +10,7 @@ use Rattle.std.specs.Cmp.Lexicographic.{slice_partial_cmp}
 use Rattle.effects.specs.Accesses.{Access}
 use Rattle.race_checker.specs.Races.{is_less, kind_number, access_key, Race, race_key, comes_before}
 
--- the first places, where the rest is in order
+-- the first numbers, if the rest is in order
 heads_trans : (x y z : ℕ) (a b c : Bool) → (a ≡ false → b ≡ false → c ≡ false)
     → (if nat_eq y x then a else nat_lt y x) ≡ false → (if nat_eq z y then b else nat_lt z y) ≡ false
     → (if nat_eq z x then c else nat_lt z x) ≡ false
@@ -41,7 +41,7 @@ not_less_itself xs = by (is_less xs xs) refl
     by true e = not_both_less xs xs e
     by false e = e
 
--- a first number that is no smaller, and a rest that isn't less where it is equal
+-- a first number that is no smaller, and a rest that isn't less if the first numbers are equal
 heads : (x y : ℕ) (b : Bool) → y ≤ x → (x ≡ y → b ≡ false) → (if nat_eq x y then b else nat_lt x y) ≡ false
 heads x y b h rest = grind (arith, nat_tests)
 
@@ -98,7 +98,7 @@ moved_same x y h = ap (λ s. with s x.write) h.section ∙ ap (with y.section) h
     with : ℕ → Bool → Access
     with s w = record { label = x.label; section = s; write = w }
 
--- the race of earlier accesses doesn't come behind, in the same order
+-- the race of earlier accesses isn't later, in the same order
 pub earlier_in_order : (f : ℕ) (x y a b : Access) → Earlier a x → Earlier b y
     → comes_before (told f x y) (told f a b) ≡ false
 earlier_in_order f x y a b h g =
@@ -106,7 +106,7 @@ earlier_in_order f x y a b h g =
     (ap (λ (z : Access). told f z (moved b y)) (sym (moved_same a x h)) ∙ ap (told f a) (sym (moved_same b y g)))
     (lower_labels f x.label y.label a.label b.label x.section y.section (kind_number x.write) (kind_number y.write) h.label g.label)
 
--- nor in the other order, where that is theirs
+-- nor is it later in the other order, if that is the order of the earlier accesses
 pub earlier_other_order : (f : ℕ) (x y a b : Access) → Earlier a x → Earlier b y
     → is_less (access_key y) (access_key x) ≡ false → is_less (access_key a) (access_key b) ≡ false
     → comes_before (told f x y) (told f b a) ≡ false

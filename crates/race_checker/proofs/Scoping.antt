@@ -1,4 +1,5 @@
--- A sound program names what is in scope, and environments that fit its scopes stand as the origins say.
+-- A sound program names what is in scope, and windows of environments that fit its scopes are
+-- related as the origins say.
 use Rattle.std.proofs.Common.{◌≡◌, ℕ, zero, suc, ◌+◌, ◌<◌, List, [], ◌∷◌, length, refl, sym, ap, ◌∙◌, subst, inl, inr}
 use Rattle.std.proofs.Common.{arith}
 use Rattle.std.specs.Prelude.{Bool, true, false, map, slice_index_or, slice_get, Some}
@@ -28,7 +29,7 @@ length_may_writes g = each g.parameters
     each [] = refl
     each (x ∷ xs) = ap suc (each xs)
 
--- where a list of truths has one that is true
+-- the position of a `true` in a list of booleans
 pub bit_inside : (ms : List Bool) (k : ℕ) → slice_index_or ms k false ≡ true → k < length ms
 bit_inside [] k h = false_true h
 bit_inside (m ∷ ms) zero h = omega arith
@@ -62,7 +63,7 @@ module _ (p : Program) (g : Procedure) where
     pub is_root : (k : ℕ) → Member k (parameters_of g) → origin_of g.sections k ≡ Root
     is_root k m = origin_from_get g.sections k (firsts k (numbers_from-below (length g.parameters) k m))
 
-    -- windows that fit a scope stand as the origins say
+    -- windows that fit a scope are related as the origins say
     pub fits_placed : {sc : Scope} {scope : List ℕ} → Lists g sc scope → (env : Environment) → FitsScope sc env
         → Placed (names_in g scope) env.windows
     fits_placed top env fits = record {

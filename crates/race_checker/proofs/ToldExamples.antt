@@ -1,4 +1,4 @@
--- Worked programs: the race that is told of each.
+-- Worked programs: the race that is reported for each.
 use Rattle.std.proofs.Common.{◌≡◌, ℕ, ◌+◌, [], ◌∷◌, refl, fold}
 use Rattle.std.specs.Prelude.{codes, Option, None, Some, true, false}
 use Rattle.syntax_tree.specs.declared.tree.ElementType.TheVariants.{Int}

@@ -11,7 +11,7 @@ use Rattle.effects.specs.Tables.{Table}
 use Rattle.effects.specs.Rounds.{summaries, pending_summaries}
 use Rattle.parallel_relation.specs.Meetings.{met_in}
 
--- one of the two writes, and their sections overlap
+-- one of the two accesses writes, and their sections overlap
 abbrev pub is_clash : List Origin → Access × Access → Bool
 is_clash origins m = (m.0.write || m.1.write) && overlap origins m.0.section m.1.section
 
@@ -24,7 +24,7 @@ module _ (p : Program) where
   abbrev pub accepts : Procedure → Bool
   accepts g = not (has_clash (summaries p) (pending_summaries p) g)
 
-  -- whether none of the first n procedures has one
+  -- whether none of the first n procedures has a clash
   abbrev pub accepts_below : ℕ → Bool
   accepts_below zero = true
   accepts_below (suc f) = accepts (procedure_of p f) && accepts_below f

@@ -9,7 +9,7 @@ use Rattle.effects.specs.Effects.{accesses, AllOf, All, PendingOf}
 use Rattle.effects.specs.Footprint.{Touches, Overwrites}
 use Rattle.race_checker.specs.Scope.{Scope, Top, Inside, FitsTop, FitsScope, may_writes, arrays_of}
 
--- no place that one of the two may write is one that the other may read or write
+-- neither of the two may write a place that the other may read or write
 pub record KeepApart (env : Environment) (first second : Access → Type 0) : Type 0 where
   pub writes_first : (q : Place) → Overwrites env first q → Touches env second q → ⊥
   pub writes_second : (q : Place) → Touches env first q → Overwrites env second q → ⊥
@@ -20,7 +20,8 @@ AlwaysApart sc xs ys = (env : Environment) → FitsScope sc env → KeepApart en
 
 module _ (p : Program) where
   abbrev mutual
-    -- what a loop leaves pending keeps apart from its next turn; a call passes windows that fit
+    -- what a loop leaves pending keeps apart from its next iteration; a call passes windows that
+    -- fit
     pub CalmOf : Scope → (label : ℕ) → Code → Type 0
     CalmOf sc l (Do s) = Unit {0}
     CalmOf sc l (If t b c) = Calm sc b × Calm sc c
@@ -34,13 +35,13 @@ module _ (p : Program) where
     CalmOf sc l (Async b) = Calm sc b
     CalmOf sc l (Finish b) = Calm sc b
 
-    -- and what a statement of a list leaves pending keeps apart from the later ones
+    -- and what a statement of a list leaves pending keeps apart from what the later statements do
     pub Calm : Scope → Codes → Type 0
     Calm sc End = Unit {0}
     Calm sc (Then l s rest) =
         CalmOf sc l s × Calm sc rest × AlwaysApart sc (PendingOf p accesses s) (All p accesses rest)
 
-  -- so it is in `main` and in each procedure
+  -- `main` and each procedure are calm
   pub record IsCalm : Type 0 where
     pub main : Calm (Top (arrays_of p)) p.main.body
     pub procedures : (f : ℕ) → Calm (Top (may_writes (procedure_of p f))) (procedure_of p f).body

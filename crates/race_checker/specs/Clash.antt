@@ -17,7 +17,7 @@ pub record Clash (origins : List Origin) (x y : Access) : Type 0 where
 abbrev pub HasNoClash : Program → Procedure → Type 0
 HasNoClash p f = (x y : Access) → Together p accesses f.body x y → Clash f.sections x y → ⊥
 
--- no procedure has a clash, `main` among them
+-- no procedure has a clash, nor has `main`
 pub record IsAccepted (p : Program) : Type 0 where
   pub procedures : (f : ℕ) → HasNoClash p (procedure_of p f)
   pub main : HasNoClash p p.main

@@ -1,4 +1,5 @@
--- What is found of statements: what they do and leave pending, by first labels, and their races.
+-- What is found of statements: what they do and leave pending, by first labels, and their least
+-- race.
 use Rattle.std.specs.Prelude.{ℕ, ◌≡◌, ◌<◌, ◌⊎◌, ◌++◌, List, map, length, fold, Option, None}
 use Rattle.sections.specs.Member.{Member}
 use Rattle.sections.specs.Origins.{Origin, IsNumbered}
@@ -14,7 +15,7 @@ use Rattle.race_checker.specs.Search.{tell, each_with, lesser_of}
 use Rattle.race_checker.specs.Translation.{found as race_found}
 use Rattle.race_checker.specs.declared.found.Found.{Found}
 
--- a procedure, and the sections that may be named at a place of it
+-- a procedure, and the sections that may be named at a position of it
 pub record Around (origins : List Origin) : Type 0 where
   pub procedure : Procedure
   pub scope : List ℕ
@@ -22,18 +23,19 @@ pub record Around (origins : List Origin) : Type 0 where
   pub numbered : IsNumbered procedure.sections
   pub below : (s : ℕ) → Member s scope → s < length origins
 
--- the names in a list of statements follow the rules where it stands
+-- the names in a list of statements follow the rules of the list's position
 pub record Stands (p : Program) (origins : List Origin) (b : Codes) : Type 0 where
   pub around : Around origins
   pub follows : Follows p around.procedure around.scope b
 
--- those in a statement do
+-- the names in a statement follow the rules of its position
 pub record StandsOf (p : Program) (origins : List Origin) (l : ℕ) (s : Code) : Type 0 where
   pub around : Around origins
   pub follows : FollowsOf p around.procedure around.scope s
 
 module _ (origins : List Origin) (f : ℕ) where
-  -- the firsts of these accesses, and of these that are left pending; the least clash of these pairs
+  -- `found` has the firsts of all accesses, the firsts of the pending ones, and the least clash of
+  -- the pairs
   pub record IsFound (all pending : Access → Type 0) (pairs : (x y : Access) → Type 0) (found : Found)
       : Type 0 where
     pub all_firsts : AreFirsts all (kept_in found.all)
@@ -74,19 +76,19 @@ module _ (p : Program) where
         IsFound origins f (AllOf p accesses l s) (PendingOf p accesses s)
         (λ x y. TogetherInTurn l s x y ⊎ TogetherInside s x y)
 
--- How what is found is put together
+-- How results are combined
 
 -- the least clash of what is pending with what comes later
 abbrev pub crossing : List Origin → (f : ℕ) → (pending later : List Access) → Option Race
 crossing origins f xs ys = fold (tell origins f) None (each_with xs ys)
 
--- of two blocks
+-- the result for two blocks
 pub record IsBoth (one other both : Found) : Type 0 where
   pub all_of_both : AreFirstsIn (kept_in other.all ++ kept_in one.all) (kept_in both.all)
   pub pending_of_both : AreFirstsIn (kept_in other.pending ++ kept_in one.pending) (kept_in both.pending)
   pub race_of_both : race_found both.race ≡ lesser_of (race_found one.race) (race_found other.race)
 
--- of a statement in front of a list
+-- the result for a statement in front of a list
 pub record IsInFront (origins : List Origin) (f : ℕ) (here rest front : Found) : Type 0 where
   pub all_in_front : AreFirstsIn (kept_in here.all ++ kept_in rest.all) (kept_in front.all)
   pub pending_in_front :
@@ -95,20 +97,20 @@ pub record IsInFront (origins : List Origin) (f : ℕ) (here rest front : Found)
       ≡ lesser_of (crossing origins f (kept_in here.pending) (kept_in rest.all))
       (lesser_of (race_found here.race) (race_found rest.race))
 
--- in other names
+-- the result in other names
 pub record IsRenamed (out : ℕ → ℕ) (inside outside : Found) : Type 0 where
   pub all_renamed : AreFirstsIn (map (renamed out) (kept_in inside.all)) (kept_in outside.all)
   pub pending_renamed :
       AreFirstsIn (map (renamed out) (kept_in inside.pending)) (kept_in outside.pending)
   pub race_stays : race_found outside.race ≡ race_found inside.race
 
--- with a statement's own accesses
+-- the result with a statement's own accesses
 pub record IsWithOwn (own : List Access) (inside whole : Found) : Type 0 where
   pub all_with_own : AreFirstsIn (own ++ kept_in inside.all) (kept_in whole.all)
   pub pending_is_kept : kept_in whole.pending ≡ kept_in inside.pending
   pub race_is_kept : race_found whole.race ≡ race_found inside.race
 
--- of a loop, whose next turn comes after what is pending
+-- the result for a loop, whose next iteration comes after what is pending
 pub record IsInTurn (origins : List Origin) (f : ℕ) (once loop : Found) : Type 0 where
   pub all_stays : kept_in loop.all ≡ kept_in once.all
   pub pending_stays : kept_in loop.pending ≡ kept_in once.pending

@@ -12,7 +12,7 @@ use Rattle.effects.specs.Accesses.{Access, own_accesses}
 use Rattle.types.specs.Sound.{passed_for}
 use Rattle.effects.specs.Sound.{SplitsWell, parameters_of}
 
--- the sections in scope: those of the procedure's beginning, written or not, and sides of splits
+-- the sections in scope: those at the start of the procedure, written or not, and sides of splits
 pub data Scope : Type 0 where
   Top : (may_write : List Bool) → Scope
   Inside : (section left right : ℕ) → (around : Scope) → Scope
@@ -28,7 +28,7 @@ FitsTop ms env =
     (j k : ℕ) → slice_index_or ms j false ≡ true → k < length ms → j ≢ k
     → Apart (env.windows j) (env.windows k)
 
--- an environment fits: besides, the two sides of a split are those of its section
+-- an environment fits: in addition, the two sides of a split are those of its section
 abbrev pub FitsScope : Scope → Environment → Type 0
 FitsScope (Top ms) env = FitsTop ms env
 FitsScope (Inside s l r around) env =

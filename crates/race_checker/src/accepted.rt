@@ -8,7 +8,8 @@ ghost use Rattle.race_checker.specs.Clash.{IsAccepted};
 use effects::summaries::Summaries;
 use types::typed::Typed;
 
-/// A program in which no two accesses clash, with the summaries of its procedures. `check` alone makes it.
+/// A program in which no two accesses clash, with the summaries of its procedures. Only `check`
+/// creates it.
 #[derive(Drop)]
 pub struct Accepted {
     pub(crate) typed: Typed,
@@ -18,7 +19,7 @@ pub struct Accepted {
 }
 
 impl Accepted {
-    /// The program.
+    /// Returns the program.
     pub fn typed(&self) -> &Typed
         ensures field { result.now ≡ self.now.typed }
         ensures no_clash { IsAccepted (code_of result.now) }
@@ -26,7 +27,7 @@ impl Accepted {
         &self.typed
     }
 
-    /// What its procedures do and leave pending.
+    /// Returns what its procedures do and leave pending.
     pub fn summaries(&self) -> &Summaries
         ensures field { result.now ≡ self.now.summaries }
         ensures exact { AreSummaries (code_of self.now.typed) result.now }

@@ -27,18 +27,18 @@ use types::typed::Typed;
 /// Why a program isn't accepted.
 #[derive(Drop)]
 pub enum Refused {
-    /// C1: two accesses clash, as 2 and 3 in `main { array a: int[1]; async { a[0] = 1; } a[0] = 2; }`. Of
-    /// all clashes this is the least.
+    /// C1: two accesses clash, and this is the least clash. For example, 2 and 3 clash in
+    /// `main { array a: int[1]; async { a[0] = 1; } a[0] = 2; }`.
     Race {
         race: Race,
-        /// The program, for the names in it.
+        /// The program, for its names.
         typed: Typed,
     },
-    /// C2: memory, as may be of `main { }`.
+    /// C2: out of memory, which can happen for `main { }` too.
     OutOfMemory,
 }
 
-/// Whether a program has a race: in a procedure, called or not, or in `main`.
+/// Returns the program as accepted, or its least race: in a procedure, called or not, or in `main`.
 pub fn check<R: Threads + Sync>(rt: &R, alloc: Global, typed: Typed) -> Result<Accepted, Refused>
     ensures accepted { IfOk result (λ accepted. accepted.typed ≡ typed) }
     ensures no_clash { OnOk result (IsAccepted (code_of typed)) }
@@ -51,7 +51,7 @@ pub fn check<R: Threads + Sync>(rt: &R, alloc: Global, typed: Typed) -> Result<A
     }
 }
 
-/// The same, with the summaries of the program.
+/// Decides as `check` does, with the summaries of the program.
 fn judge<R: Threads + Sync>(
     rt: &R,
     alloc: Global,
@@ -73,10 +73,11 @@ fn judge<R: Threads + Sync>(
     }
 }
 
-/// How many procedures one thread goes through at the least: small ones aren't worth a thread.
+/// The minimum number of procedures for one thread: a few small procedures aren't worth a thread.
 const FEW: usize = 16;
 
-/// The least clash of a program: that of its procedures and `main`, which threads share.
+/// Returns the least clash of a program: the least one of its procedures and `main`, which threads
+/// share.
 fn least_race<R: Threads + Sync>(
     rt: &R,
     alloc: Global,
@@ -104,7 +105,7 @@ fn least_race<R: Threads + Sync>(
     Ok(least_of(&races))
 }
 
-/// The least of the clashes that were found.
+/// Returns the least of the clashes that were found.
 fn least_of(races: &[Option<Race>]) -> Option<Race>
     ensures { found result ≡ fold lesser_of None (map found races.now) }
 {
@@ -115,7 +116,7 @@ fn least_of(races: &[Option<Race>]) -> Option<Race>
     least
 }
 
-/// The least clash of a procedure, or of `main`.
+/// Returns the least clash of a procedure, or of `main`.
 fn least_race_in<R: Threads + Sync>(
     rt: &R,
     alloc: Global,

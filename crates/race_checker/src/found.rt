@@ -1,4 +1,4 @@
-//! What is found of statements.
+//! What the walk finds of statements.
 
 ghost use Rattle.std.specs.Prelude.{◌≡◌, ◌<◌, [], All, IfOk, None, length, map};
 ghost use Rattle.sections.specs.Tree.{origins_of};
@@ -26,7 +26,7 @@ pub(crate) struct Found {
 }
 
 impl Found {
-    /// Of statements that do nothing.
+    /// Returns what is found of statements that do nothing.
     pub fn nothing(alloc: Global) -> Found
         ensures all { kept_in result.all ≡ [] }
         ensures pending { kept_in result.pending ≡ [] }
@@ -39,7 +39,7 @@ impl Found {
         }
     }
 
-    /// Of two blocks, of which one is run.
+    /// Combines two blocks, one of which is run.
     pub fn or(mut self, other: Found) -> Result<Found, AllocError>
         ensures { IfOk result (IsBoth self other) }
     {
@@ -49,7 +49,8 @@ impl Found {
         Ok(self)
     }
 
-    /// Of a list of statements with one more in front: what that leaves pending meets all of the list.
+    /// Puts one more statement in front of a list: what the statement leaves pending meets all of
+    /// the list.
     pub fn with_first(
         mut self,
         sections: &SectionTree,
@@ -69,7 +70,7 @@ impl Found {
         Ok(self)
     }
 
-    /// Of a statement with these blocks, and its own accesses.
+    /// Adds a statement's own accesses to what is found of its blocks.
     pub fn with_own(mut self, own: &[Access]) -> Result<Found, AllocError>
         ensures { IfOk result (IsWithOwn (map access_of own.now) self) }
     {
@@ -77,7 +78,8 @@ impl Found {
         Ok(self)
     }
 
-    /// Of a loop, which follows itself: what it leaves pending meets all of its next turn.
+    /// Makes a loop of these statements: what one iteration leaves pending meets all of the next
+    /// iteration.
     pub fn in_turn(mut self, sections: &SectionTree, procedure: ProcedureId) -> Found
         requires pending { All (λ x. x.section.number < length (origins_of sections.now))
             self.pending.items.items }
@@ -90,7 +92,7 @@ impl Found {
         self
     }
 
-    /// Of a split with these statements, in the names around it.
+    /// Makes a split of these statements, in the names around it.
     pub fn past_split(
         self,
         alloc: Global,
@@ -108,7 +110,7 @@ impl Found {
         })
     }
 
-    /// Of an async with these statements: all that they do is left pending.
+    /// Makes an async of these statements: everything that they do is left pending.
     pub fn in_async(mut self, alloc: Global) -> Result<Found, AllocError>
         ensures all { IfOk result (λ found. found.all ≡ self.all) }
         ensures pending { IfOk result (λ found. kept_in found.pending ≡ kept_in self.all) }
@@ -118,7 +120,7 @@ impl Found {
         Ok(self)
     }
 
-    /// Of a finish with these statements: it leaves nothing pending.
+    /// Makes a finish of these statements: it leaves nothing pending.
     pub fn in_finish(mut self, alloc: Global) -> Found
         ensures all { result.all ≡ self.all }
         ensures pending { kept_in result.pending ≡ [] }

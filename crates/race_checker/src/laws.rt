@@ -1,4 +1,4 @@
-//! Laws of the definitions, each the contract of a function that does nothing.
+//! Theorems about the definitions, each the contract of a function with an empty body.
 
 ghost use Rattle.std.specs.Prelude.{◌≡◌, ◌↔◌, ℕ, List, true, false};
 ghost use Rattle.sections.specs.Placed.{Placed};
@@ -16,8 +16,8 @@ ghost use Rattle.race_checker.specs.Calm.{IsCalm};
 
 use crate::accepted::Accepted;
 
-/// A procedure has a clash exactly where one of the listed pairs clashes, over tables that are the
-/// least solution; and whether a sound program is accepted is computed.
+/// Over tables that are the least solution, a procedure has a clash if and only if one of the
+/// listed pairs clashes. Whether a sound program is accepted is computed.
 pub fn acceptance_is_decided()
     ensures clash { (p : Program) (alls pendings : Table accesses)
         → IsDerived p accesses alls → IsStable p accesses alls
@@ -26,7 +26,7 @@ pub fn acceptance_is_decided()
     ensures accepted { (p : Program) → IsSound p → (is_accepted p ≡ true) ↔ IsAccepted p }
 {}
 
-/// Windows that fit a scope stand to one another as the origins of its names say.
+/// Windows that fit a scope are related as the origins of its names say.
 pub fn scopes_stand_as_origins_say()
     ensures { (p : Program) (g : Procedure) → IsSoundIn p g
         → (sc : Scope) (scope : List ℕ) → Lists g sc scope
@@ -38,14 +38,14 @@ pub fn sound_programs_are_scoped()
     ensures { (p : Program) → IsSound p → IsScoped p }
 {}
 
-/// From names to places: in a sound and accepted program, wherever what a statement leaves pending
-/// meets what a later statement of its list or a later turn of its loop does, in an environment
-/// that fits, no place that one of the two may write is one that the other may read or write.
+/// From names to places: in a sound and accepted program, what a statement leaves pending keeps
+/// apart from what a later statement of its list, or a later iteration of its loop, does. In each
+/// environment that fits, neither of the two may write a place that the other may read or write.
 pub fn accepted_programs_are_calm()
     ensures { (p : Program) → IsSound p → IsAccepted p → IsCalm p }
 {}
 
-/// The same of an accepted program at hand.
+/// `accepted_programs_are_calm` for a given accepted program.
 pub fn accepted_is_calm(accepted: &Accepted)
     ensures { IsCalm (code_of accepted.now.typed) }
 {}

@@ -1,4 +1,4 @@
-//! What is told of a clash.
+//! Races, in the order in which they are reported.
 
 ghost use Rattle.std.specs.Prelude.{◌≡◌};
 ghost use Rattle.effects.specs.Translation.{access as access_of};
@@ -10,8 +10,9 @@ use effects::access::Access;
 use parallel_relation::meeting::is_before;
 use types::ids::ProcedureId;
 
-/// Two accesses that clash, in the names of the procedure in which they do. The first has the smaller
-/// label; with equal labels it has the smaller section, and then it is the read.
+/// Two accesses that clash, in the names of the procedure in which they clash. The first access has
+/// the smaller label. If the labels are equal, it has the smaller section. If the sections are
+/// equal too, it is the read.
 #[derive(Clone, Copy, PartialEq, Eq, Debug)]
 pub struct Race {
     pub procedure: ProcedureId,
@@ -20,7 +21,7 @@ pub struct Race {
 }
 
 impl Race {
-    /// The race of two accesses, in whichever order they come.
+    /// Returns the race of two accesses, given in either order.
     pub(crate) fn of(procedure: ProcedureId, one: Access, other: Access) -> Race
         ensures { plain result ≡ race_of procedure.number (access_of one, access_of other) }
     {
@@ -39,15 +40,15 @@ impl Race {
         }
     }
 
-    /// Whether it is told before the other: ordered by both labels, then by procedure, then by what each
-    /// access does.
+    /// Returns whether this race is reported before the other. Races are ordered by both labels,
+    /// then by procedure, then by what each access does.
     pub(crate) fn is_before(self, other: Race) -> bool
         ensures { result ≡ comes_before (plain self) (plain other) }
     {
         self.key() < other.key()
     }
 
-    /// What it is ordered by.
+    /// Returns the numbers by which races are ordered.
     fn key(self) -> [usize; 7]
         ensures { result ≡ race_key (plain self) }
     {
@@ -63,7 +64,7 @@ impl Race {
     }
 }
 
-/// The lesser of two races that were found.
+/// Returns the lesser of two races that were found.
 pub(crate) fn lesser(one: Option<Race>, other: Option<Race>) -> Option<Race>
     ensures { found result ≡ lesser_of (found one) (found other) }
 {

@@ -12,7 +12,7 @@ use effects::access::Access;
 use sections::tree::SectionTree;
 use types::ids::ProcedureId;
 
-/// The least clash of a pending access with a later one, in the names of a procedure.
+/// Returns the least clash of a pending access with a later access, in the names of a procedure.
 pub(crate) fn least_clash(
     sections: &SectionTree,
     procedure: ProcedureId,
@@ -31,7 +31,7 @@ pub(crate) fn least_clash(
     race
 }
 
-/// The least of a race found before and the clashes of one access with later ones.
+/// Returns the least of a race found before and the clashes of one access with later accesses.
 fn least_clash_with(
     sections: &SectionTree,
     procedure: ProcedureId,
@@ -51,7 +51,7 @@ fn least_clash_with(
     race
 }
 
-/// The lesser of a race found before and a pair, where that clashes.
+/// Returns the lesser of a race found before and a pair, if that pair clashes.
 fn told(
     sections: &SectionTree,
     procedure: ProcedureId,
@@ -72,7 +72,7 @@ fn told(
     }
 }
 
-/// Whether a race is told before the one that was found.
+/// Returns whether a race is reported before the one that was found.
 fn is_told_first(race: Race, before: Option<Race>) -> bool
     ensures { result ≡ is_news (found before) (plain race) }
 {
@@ -82,7 +82,7 @@ fn is_told_first(race: Race, before: Option<Race>) -> bool
     }
 }
 
-/// Whether two accesses clash: one of them writes, and their sections overlap.
+/// Returns whether two accesses clash: one of them writes, and their sections overlap.
 fn clash(sections: &SectionTree, one: Access, other: Access) -> bool
     requires one { one.section.number < length (origins_of sections.now) }
     requires other { other.section.number < length (origins_of sections.now) }

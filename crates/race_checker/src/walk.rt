@@ -1,4 +1,4 @@
-//! What statements do and leave pending, and which of them clash: one pass over a procedure.
+//! What statements do and leave pending, and which of them clash, in one pass over a procedure.
 
 ghost use Rattle.std.specs.Prelude.{◌≡◌, ◌≤◌, length, map, IfOk, None};
 ghost use Rattle.std.specs.List.{AllZip};
@@ -29,7 +29,7 @@ use std::thread::Threads;
 use types::code::{Procedure, Program, Stmt, StmtKind};
 use types::ids::ProcedureId;
 
-/// The procedure of a number; `main` is numbered behind the others.
+/// Returns the procedure with this number; `main` is numbered after the others.
 pub(crate) fn procedure_of(program: &Program, procedure: ProcedureId) -> &Procedure
     requires { procedure.number ≤ length program.now.procedures.items }
     ensures { procedure_as result.now ≡ numbered (program_as program.now) procedure.number }
@@ -40,11 +40,11 @@ pub(crate) fn procedure_of(program: &Program, procedure: ProcedureId) -> &Proced
     }
 }
 
-/// How many statements of a list are one piece, which one thread goes through.
+/// The number of statements of a list that form one piece. One thread handles a piece.
 const PIECE: usize = 256;
 
-/// What is found of a list of statements: of its pieces, each for itself, put together from the last to
-/// the first.
+/// Returns what is found of a list of statements. Its pieces are walked separately, and the results
+/// are combined from the last piece to the first.
 #[cycle(walk)]
 pub(crate) fn found_in<R: Threads + Sync>(
     rt: &R,
@@ -87,7 +87,7 @@ pub(crate) fn found_in<R: Threads + Sync>(
     joined(alloc, code, procedure, body, pieces)
 }
 
-/// What is found of a piece of a list, from its end to its front.
+/// Returns what is found of a piece of a list, walked from its end to its start.
 #[cycle(walk)]
 fn found_in_piece<R: Threads + Sync>(
     rt: &R,
@@ -115,7 +115,7 @@ fn found_in_piece<R: Threads + Sync>(
     Ok(found)
 }
 
-/// What is found of a list of statements, from what is found of its pieces.
+/// Returns what is found of a list of statements, from what is found of its pieces.
 fn joined(
     alloc: Global,
     code: &Program,
@@ -142,7 +142,7 @@ fn joined(
     Ok(found)
 }
 
-/// What is found of a statement.
+/// Returns what is found of a statement.
 #[cycle(walk)]
 fn found_of<R: Threads + Sync>(
     rt: &R,
@@ -198,8 +198,8 @@ fn found_of<R: Threads + Sync>(
     }
 }
 
-/// What is found of a call: what its procedure does and leaves pending, in the names around the call. What
-/// clashes in there is found in that procedure.
+/// Returns what is found of a call: what its procedure does and leaves pending, in the names around
+/// the call. Clashes inside the procedure are found in that procedure.
 fn found_of_call(
     alloc: Global,
     code: &Program,
@@ -223,7 +223,7 @@ fn found_of_call(
         (kept_in found.pending)) }
     ensures race { IfOk result (λ found. race_found found.race ≡ None) }
 {
-    // Typed programs call no other procedure.
+    // Typed programs call only procedures that exist.
     if callee.number >= code.procedures.len() {
         return Ok(Found::nothing(alloc));
     }

@@ -1,4 +1,4 @@
--- Words that order are read as what they order.
+-- Arguments with an order are parsed as that order.
 use Rattle.std.proofs.Common.{◌≡◌, ℕ, ◌<◌, List, [], ◌∷◌, Option, Some, None, Bor, arith, length, map, refl, sym, ap, ◌∙◌, subst, codes}
 use Rattle.std.specs.Prelude.{Bool, true, false, option_map, IsTrue}
 use Rattle.std.specs.Str.{bytes_eq}
@@ -33,7 +33,7 @@ no_subject_is x is = cc
 pub subject_is : (x y : Subject) → Some x ≡ Some y → x ≡ y
 subject_is x y is = cc
 
--- a word that was found to be another
+-- an argument that was found to equal another text
 pub is_word : (b : Bool) (word other : List ℕ) → b ≡ bytes_eq word other → b ≡ true → word ≡ other
 is_word b word other of is = (bytes_eq-Decides word other).0 (sym of ∙ is)
 
@@ -52,7 +52,7 @@ object_is x y r a same is told =
     ap (λ (z : Subject). AsObject z r) (subject_is y x (is ∙ ap (λ (b : Asked). subject_of b.action) same ∙ told))
     ∙ ap (AsObject x) same
 
--- a form that is said doesn't stand in words that ask
+-- an explicit format doesn't occur in arguments with a request
 pub form_said : (command : List ℕ) (behind : List (List ℕ)) (a : Asked) (t : Option (Bor (List ℕ))) (form : Bor (List ℕ))
     → option_map (λ v. v.now) t ≡ (taken (codes "--format") behind).0 → t ≡ Some form → Asks (command ∷ behind) a → ⊥
 form_said command behind a t form said is asks =
@@ -61,7 +61,7 @@ form_said command behind a t form said is asks =
     (sym (ap (option_map (λ (v : Bor (List ℕ)). v.now)) is) ∙ said
     ∙ ap (λ (p : Option (List ℕ) × List (List ℕ)). p.0) lacks)
 
--- what is asked behind the form
+-- the request after the format
 pub object_asked : (command : List ℕ) (behind rest : List (List ℕ)) (x : Subject) (a : Asked)
     → rest ≡ (taken (codes "--format") behind).1 → (p : AsksForObject (command ∷ behind) x a) → Asks (command ∷ rest) a
 object_asked command behind rest x a is p =
@@ -71,9 +71,9 @@ object_asked command behind rest x a is p =
     subst (λ (ws : List (List ℕ)). Asks (command ∷ ws) a) (sym left)
     (subst (λ (c : List ℕ). Asks (c ∷ p.behind) a) (sym first) p.asks)
 
--- ---- no word
+-- ---- no arguments
 
--- no word orders what it asks
+-- the order is the request of these arguments, answered as text
 pub record IsAsked (words : List (List ℕ)) (o : Order) : Type 0 where
   pub a : Asked
   pub is : o ≡ AsText a
@@ -89,10 +89,10 @@ pub no_words : (ws : List (String Global)) → length ws < 1 → map string_byte
 no_words [] short = refl
 no_words (w ∷ ws) short = let never : ⊥ = omega arith in absurd never
 
--- ---- a program that is timed, and folders
+-- ---- programs that are timed, and folders
 
 module _ (command : List ℕ) (behind : List (List ℕ)) where
-  -- a command that asks nothing orders a timing or a test
+  -- a command without a request orders a timing or a test
   orders_else : (P : Order → Type 0) → ((others : List (List ℕ)) (a : Asked) → Asks (command ∷ others) a → ⊥)
       → ((a : Asked) → Orders (command ∷ behind) (Times a) → P (Times a))
       → ((folder : List ℕ) → Orders (command ∷ behind) (Tests folder) → P (Tests folder))

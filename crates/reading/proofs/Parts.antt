@@ -1,4 +1,4 @@
--- The word that says what share of a cost is told.
+-- The argument that selects the shares of a cost.
 use Rattle.std.proofs.Common.{◌≡◌, ℕ, ◌<◌, ◌≤◌, List, [], ◌∷◌, Option, Some, None, arith, length, get_or, map, sym, ap, ap₂, ◌∙◌, codes}
 use Rattle.std.proofs.Common.{Global, String}
 use Rattle.std.specs.Prelude.{Bool, if◌then◌else◌}
@@ -9,12 +9,12 @@ use Rattle.command_line.specs.declared.request.Action.TheVariants.{Answer}
 use Rattle.command_line.specs.declared.request.Command.TheVariants.{CostByLabel, CostByProcedure}
 use Rattle.reading.specs.Reading.{read_parts}
 
--- the parts by whether a word asks for those of labels, or of procedures
+-- the shares by whether an argument selects those of labels, or of procedures
 abbrev pub parts_if : (labels procedures : Bool) → Option Action
 parts_if labels procedures =
     if labels then Some (Answer CostByLabel) else (if procedures then Some (Answer CostByProcedure) else None)
 
--- one word is read so
+-- one argument is parsed in this way
 pub one_read : (ws : List (String Global)) (one d : String Global) (t u : List ℕ) (p q x y : Bool) → 1 ≤ length ws
     → length ws < 2 → one ≡ get_or ws 0 d → t ≡ string_bytes one → p ≡ bytes_eq t (codes "--by-line") → p ≡ x
     → u ≡ string_bytes one → q ≡ bytes_eq u (codes "--by-procedure") → q ≡ y

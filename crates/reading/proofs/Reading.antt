@@ -1,4 +1,4 @@
--- Words that ask plainly are read as what they ask.
+-- Plain arguments with a request are parsed as that request.
 use Rattle.std.proofs.Math.Bool.{and-false}
 use Rattle.std.proofs.lemmas.Bool.{false_from_ne_true}
 use Rattle.std.proofs.Common.{◌≡◌, ℕ, List, [], ◌∷◌, Option, Some, None, refl, sym, ap, ◌∙◌, subst, codes}
@@ -38,9 +38,9 @@ use Rattle.command_line.specs.Requests.{to_label, to_place, to_place_behind, to_
 use Rattle.command_line.specs.Requests.{by_no_word, to_run, to_run_on_one_thread, to_check, to_list, to_list_behind, to_pair, to_explore}
 use Rattle.facts.proofs.Truths.{if_false, if_true}
 
--- ---- options in their order
+-- ---- options in order
 
--- these words don't begin with an option and its value
+-- these arguments don't start with an option and its value
 abbrev pub Lacks : (option : List ℕ) → List (List ℕ) → Type 0
 Lacks option words = taken option words ≡ (None, words)
 
@@ -77,7 +77,7 @@ takes_flag : (option : List ℕ) (b : Bool) (behind : List (List ℕ)) → bytes
 takes_flag option false behind same lacks = lacks
 takes_flag option true behind same lacks = if_true (bytes_eq option option) _ _ same
 
--- what stands behind options doesn't begin with another one
+-- what follows options doesn't start with another one
 abbrev Differ : (others : List (List ℕ)) → (option : List ℕ) → Type 0
 Differ [] option = Unit {0}
 Differ (other ∷ others) option = (bytes_eq other option ≡ false) × Differ others option
@@ -121,7 +121,7 @@ module _ (arrays : Bool) where
     lacks_tasks option differ =
         lacks_valued option (codes "--tasks") tasks w0_words differ.0 (lacks_w0 option differ.1)
 
-    -- the words of options of a run as tasks are read as these options
+    -- the arguments for options of a parallel run are parsed as these options
     read_words : (input steps nest : Option (List ℕ))
         → (let t : Texts = record no_texts {
           input = input;
@@ -217,7 +217,7 @@ module _ (arrays : Bool) where
         (lacks_flag (codes "--arrays") (codes "--progress") progress refl))
         (rw (takes_flag (codes "--progress") progress [] refl refl) refl))))
 
--- those of a run that is measured, before a last word or none
+-- those of a run that is measured, before one last argument or none
 record IsLast (last : List (List ℕ)) : Type 0 where
   input : Lacks (codes "--input") last
   steps : Lacks (codes "--steps") last
@@ -241,13 +241,13 @@ read_measured_words file last lacks input steps nest =
 abbrev line : Action → (file : List ℕ) → Texts → Line
 line action file texts = record { action = action; file = file; texts = texts }
 
--- a command with right options
+-- a command with correct options
 read_with : (action : Action) (file : List ℕ) (texts : Texts) (read_as : Option Texts) → IsTrue (is_file_name file)
     → read_as ≡ Some texts → read_optioned action file read_as ≡ Some (line action file texts)
 read_with action file texts read_as named is =
     if_true (is_file_name file) _ _ named ∙ ap (option_map (line action file)) is
 
--- options of a run as tasks
+-- options of a parallel run
 run_options : (o : Options) → AreForRun o → read_texts (words_of (texts_by o)) ≡ Some (texts_by o)
 run_options o for =
     rw (for.choices, for.picture, for.progress)
@@ -274,12 +274,12 @@ measured_options file last lacks o for =
     (rw (for.trace.trace, for.trace.picture, for.arrays, for.progress)
     (read_measured_words file last lacks o.input (option_map decimal o.steps) (option_map decimal o.nest)))
 
--- what share is told
+-- which shares are shown
 read_part : (x : Parts) → read_parts (parts_word x ∷ []) ≡ Some (Answer (command_by x))
 read_part ByLabel = refl
 read_part ByProcedure = refl
 
--- how a trace is shown
+-- how to show a trace
 read_shown : (s : Showing) → read_showing (showing_words s) ≡ Some (Answer (command_for s), picture_of s)
 read_shown AsTable = refl
 read_shown ByNumbers = refl
@@ -292,7 +292,7 @@ shown_without_input ByNumbers = refl
 shown_without_input (AsPicture out) = refl
 shown_without_input (ForViewer out) = refl
 
--- a trace that is looked at
+-- a trace that is shown
 read_viewing : (file : List ℕ) (v : Viewing) → IsTrue (is_file_name file)
     → read_view file (viewing_words v) ≡ Some (line (Answer (command_for v.shown)) file (texts_by (viewing_options v)))
 read_viewing file v named =
@@ -304,12 +304,12 @@ read_named : (action : Action) (file : List ℕ) → IsTrue (is_file_name file)
     → read_file action file ≡ Some (bare action file)
 read_named action file named = if_true (is_file_name file) _ _ named
 
--- the words of a command, but for those that say how it is told
+-- the arguments of a command, without the reporting options
 abbrev read_plain : List (List ℕ) → Option Line
 read_plain [] = None
 read_plain (command ∷ words) = read_rest command words
 
--- the option of `check` may stand last
+-- the option of `check` can come last
 read_list_behind : (file : List ℕ) → IsTrue (is_file_name file)
     → read_plain (codes "check" ∷ file ∷ codes "--list" ∷ []) ≡ Some (bare (Answer Listing) file)
 read_list_behind file named =
@@ -371,9 +371,9 @@ read_write_behind file named =
     ∙ if_false (bytes_eq file (codes "--write") && false) _ _ (and-false (bytes_eq file (codes "--write")))
     ∙ read_named Rewrite file named
 
--- ---- plain words
+-- ---- plain arguments
 
--- what words that ask are read as, and for which options that stands
+-- how arguments with a request are parsed, and for which options
 pub record IsLineOf (words : List (List ℕ)) (a : Asked) : Type 0 where
   pub action : Action
   pub file : List ℕ
@@ -444,9 +444,9 @@ asks_line words a (to_cost_by file o parts named for is asked) =
     ∙ ap (measured_if file (texts_by o)) (read_part parts)
     ∙ read_with (Answer (command_by parts)) file (texts_by o) (Some (texts_by o)) named refl) asked
 
--- ---- how it is told
+-- ---- reporting options
 
--- these words say nothing of it at first, and no form
+-- these arguments start with no reporting option and no format
 record HasNoManner (words : List (List ℕ)) : Type 0 where
   pub explain : LacksFlag (codes "--explain") words
   pub color : Lacks (codes "--color") words
@@ -458,7 +458,7 @@ color_is_read (Some Auto) = refl
 color_is_read (Some Always) = refl
 color_is_read (Some Never) = refl
 
--- the words of a manner are read as it
+-- the arguments of reporting options are parsed as them
 read_manner_words : (m : Manner) (behind : List (List ℕ)) → HasNoManner behind
     → read_manner (manner_words m behind) ≡ Some (m, behind)
 read_manner_words m behind none =
@@ -469,7 +469,7 @@ read_manner_words m behind none =
     (rw (takes_value (codes "--color") color behind refl none.color)
     (ap (λ (c : Option (Option Color)). manner_if m.explain c behind) (color_is_read m.color)))
 
--- the name of a file says nothing of it
+-- the name of a file is no reporting option
 lacks_named : (option file : List ℕ) (behind : List (List ℕ)) → is_file_name option ≡ false → IsTrue (is_file_name file)
     → Lacks option (file ∷ behind)
 lacks_named option file [] dashed named = refl
@@ -483,7 +483,7 @@ named_first file behind named = record {
   form = lacks_named (codes "--format") file behind refl named;
 }
 
--- nor does what stands behind a command otherwise
+-- nor is what else follows a command
 abbrev BeginsPlainly : List (List ℕ) → Type 0
 BeginsPlainly [] = Unit {0}
 BeginsPlainly (command ∷ behind) = HasNoManner behind
@@ -518,7 +518,7 @@ plainly_begun words a (to_rewrite file named is asked) =
 
 -- ---- whole lines
 
--- what words that ask are read as, for which options that stands, and how it is told
+-- how arguments with a request are parsed, for which options, and with which reporting options
 record IsToldLineOf (words : List (List ℕ)) (a : Asked) : Type 0 where
   pub action : Action
   pub file : List ℕ
@@ -552,9 +552,9 @@ asks_told words a (by_command command m behind b asks is asked) =
       asked = asked ∙ ap (told_so m) l.asked;
     }
 
--- ---- words that ask nothing of one program, or say a form
+-- ---- arguments without a request for one program, or with a format
 
--- behind the command of words that ask stands no form
+-- in arguments with a request no format follows the command
 abbrev pub SaysNoForm : List (List ℕ) → Type 0
 SaysNoForm [] = Unit {0}
 SaysNoForm (command ∷ behind) = Lacks (codes "--format") behind
@@ -571,7 +571,7 @@ asks_no_form words a (by_no_word is asked) = subst SaysNoForm (sym is) tt
 asks_no_form words a (by_command command m behind b asks is asked) =
     subst SaysNoForm (sym is) (formless_manner m behind (plainly_begun (command ∷ behind) b asks))
 
--- no words behind this command ask
+-- no arguments after this command have a request
 abbrev IsNoCommand : List ℕ → Type 0
 IsNoCommand command = (words : List (List ℕ)) → read_rest command words ≡ None
 
@@ -598,19 +598,19 @@ test_asks_nothing behind a asks = asks_none (codes "test") behind a no_test asks
 pub bench_asks_nothing : (behind : List (List ℕ)) (a : Asked) → Asks (codes "bench" ∷ behind) a → ⊥
 bench_asks_nothing behind a asks = asks_none (codes "bench") behind a no_bench asks
 
--- what was read
+-- what was parsed
 abbrev IsRead : Line × Manner → Option (Line × Manner) → Type 0
 IsRead l (Some m) = m ≡ l
 IsRead l None = ⊥
 
--- words that ask are read
+-- arguments with a request are parsed
 pub asked_is_read : (words : List (List ℕ)) (a : Asked)
     → option_map told_line (let o : Option (rLine × Manner) = None in o) ≡ read words → Asks words a → ⊥
 asked_is_read words a unread asks =
     let l = asks_told words a asks in
     subst (IsRead (line l.action l.file (texts_by l.options), l.manner)) (sym (unread ∙ l.is_read)) refl
 
--- a line that was read, with the options that were asked, and told as was asked
+-- a line that was parsed, with the requested options and reporting options
 pub record IsAskedBy (l : rLine) (m : Manner) (a : Asked) : Type 0 where
   pub options : Options
   pub right : AreRight options
@@ -631,7 +631,7 @@ asked_by words a l m asks is =
           ∙ sym told.asked;
     }
 
--- a request that asks one thing asks what is the same
+-- a request for one thing is a request for an equal one
 pub is_some_and : {a b : Asked} (r : Option Request) → a ≡ b → IsSomeAnd r (λ q. asked_of q ≡ a)
     → IsSomeAnd r (λ q. asked_of q ≡ b)
 is_some_and r same asks = subst (λ (c : Asked). IsSomeAnd r (λ q. asked_of q ≡ c)) same asks
@@ -642,7 +642,7 @@ some_is_none text is = cc
 some_injective : (a b : List ℕ) → Some a ≡ Some b → a ≡ b
 some_injective a b is = cc
 
--- a number in decimal is parsed, and the usual one stands for none
+-- a number in decimal is parsed, and without one the default is used
 pub parsed : {E : Type 0} (n : Option ℕ) (usual : ℕ) (text : List ℕ) (r : Result ℕ E) (o : Option ℕ)
     → IfSome n (λ m. m < 2 ^ 64) → Some text ≡ option_map decimal n → ParsesUnsigned 64 10 text r → o ≡ result_ok r
     → o ≡ Some (unwrap_or n usual)
@@ -650,7 +650,7 @@ parsed None usual text r o small is parses ok = absurd (some_is_none text is)
 parsed (Some m) usual text r o small is parses ok =
     ok ∙ ap result_ok (parse-decimal 64 m text r small small (some_injective text (decimal m) is) parses)
 
--- the seed that a text says is parsed
+-- the seed in a text is parsed
 record IsSeed {E : Type 0} (c : Option Choosing) (r : Result ℕ E) : Type 0 where
   pub seed : ℕ
   pub chosen : c ≡ Some (Random seed)

@@ -1,5 +1,5 @@
--- What the words of a command line order: what they ask of one program, told as text or as one object;
--- that its runs are timed; or that the programs of a folder are tested.
+-- Orders of command lines: to answer for one program, as text or as one object; to time its runs; or to
+-- test the programs of a folder.
 use Rattle.std.specs.Prelude.{ℕ, ◌≡◌, Bool, true, List, [], ◌∷◌, Option, None, Some, IsTrue, codes}
 use Rattle.command_line.specs.Requests.{Asked, Asks, asked_of, is_file_name}
 use Rattle.command_line.specs.declared.request.Action.{Action}
@@ -27,7 +27,7 @@ order (rAsObject x request) = AsObject x (asked_of request)
 order (rTimes request) = Times (asked_of request)
 order (rTests folder) = Tests folder.now
 
--- a command whose answer can be told as one object
+-- a command whose answer can be written as one object
 abbrev pub answer_told : Command → Option Subject
 answer_told Run = Some RunTold
 answer_told Serial = Some SerialTold
@@ -47,7 +47,7 @@ command_of CheckTold = Check
 command_of CostTold = Cost
 command_of PairsTold = Pairs
 
--- the words ask this, with `--format json` behind the command
+-- the arguments request this, with `--format json` after the command
 pub record AsksForObject (words : List (List ℕ)) (x : Subject) (a : Asked) : Type 0 where
   pub command : List ℕ
   pub behind : List (List ℕ)
@@ -55,26 +55,26 @@ pub record AsksForObject (words : List (List ℕ)) (x : Subject) (a : Asked) : T
   pub told : subject_of a.action ≡ Some x
   pub words_are : words ≡ command ∷ codes "--format" ∷ codes "json" ∷ behind
 
--- behind `bench` stands what may stand behind `cost`, where no share is told
+-- `bench` is followed by what can follow `cost` without shares
 pub record AsksToTime (words : List (List ℕ)) (a : Asked) : Type 0 where
   pub behind : List (List ℕ)
   pub asks : Asks (codes "cost" ∷ behind) a
   pub measured : a.action ≡ Answer Cost
   pub words_are : words ≡ codes "bench" ∷ behind
 
--- behind `test` stands the name of a folder
+-- `test` is followed by the name of a folder
 pub record AsksToTest (words : List (List ℕ)) (folder : List ℕ) : Type 0 where
   pub named : IsTrue (is_file_name folder)
   pub words_are : words ≡ codes "test" ∷ folder ∷ []
 
--- the words order this
+-- the arguments order this
 abbrev pub Orders : (words : List (List ℕ)) → Order → Type 0
 Orders words (AsText a) = Asks words a
 Orders words (AsObject x a) = AsksForObject words x a
 Orders words (Times a) = AsksToTime words a
 Orders words (Tests folder) = AsksToTest words folder
 
--- it gives no name to two files
+-- it gives no two files the same name
 abbrev pub names_once : Order → Bool
 names_once (AsText a) = asks_once a
 names_once (AsObject x a) = asks_once a

@@ -1,4 +1,4 @@
--- How the words of a command line are read that name a command, a file and options behind it.
+-- How plain arguments are parsed: a command, a file and options.
 use Rattle.std.specs.Prelude.{ℕ, ◌&&◌, List, [], ◌∷◌, Bool, true, false, codes, if◌then◌else◌}
 use Rattle.std.specs.Prelude.{Option, Some, None, option_map}
 use Rattle.std.specs.Borrow.{Bor}
@@ -16,7 +16,7 @@ use Rattle.command_line.specs.declared.request.Command.TheVariants.{Cost, CostBy
 use Rattle.reading.specs.declared.plain.Line.{Line as rLine}
 use Rattle.reading.specs.declared.plain.Texts.{Texts as rTexts}
 
--- what is done, a file, and the texts behind options
+-- the action, a file, and the values of options
 pub record Line : Type 0 where
   pub action : Action
   pub file : List ℕ
@@ -42,15 +42,15 @@ texts_of t = record {
 abbrev pub line_of : rLine → Line
 line_of l = record { action = l.action; file = l.file.now; texts = texts_of l.texts }
 
--- a line and how it is told
+-- a line and its reporting options
 abbrev pub told_line : rLine × Manner → Line × Manner
 told_line told = (line_of told.0, told.1)
 
--- how a trace is shown, and the file in which it is drawn
+-- how to show a trace, and the file for its picture
 abbrev pub shown_of : Action × Option (Bor (List ℕ)) → Action × Option (List ℕ)
 shown_of shown = (shown.0, option_map (λ name. name.now) shown.1)
 
--- that there is no option
+-- the values for no options
 abbrev pub no_texts : Texts
 no_texts = texts_by no_options
 
@@ -58,25 +58,25 @@ no_texts = texts_by no_options
 abbrev pub bare : Action → (file : List ℕ) → Line
 bare action file = record { action = action; file = file; texts = no_texts }
 
--- the value behind an option that stands first, and the words behind both
+-- the value of an option that comes first, and the arguments after it
 abbrev pub taken : (option : List ℕ) → List (List ℕ) → Option (List ℕ) × List (List ℕ)
 taken option [] = (None, [])
 taken option (word ∷ []) = (None, word ∷ [])
 taken option (word ∷ value ∷ behind) =
     if bytes_eq word option then (Some value, behind) else (None, word ∷ value ∷ behind)
 
--- whether an option without a value stands first, and the words behind it
+-- whether an option without a value comes first, and the arguments after it
 abbrev pub flag_taken : (option : List ℕ) → List (List ℕ) → Bool × List (List ℕ)
 flag_taken option [] = (false, [])
 flag_taken option (word ∷ behind) =
     if bytes_eq word option then (true, behind) else (false, word ∷ behind)
 
--- what was read, where no word is left
+-- what was parsed, if no argument is left
 abbrev pub read_whole : Texts → (left : List (List ℕ)) → Option Texts
 read_whole texts [] = Some texts
 read_whole texts (word ∷ behind) = None
 
--- the options of a run as tasks
+-- the options of a parallel run
 abbrev pub read_texts : List (List ℕ) → Option Texts
 read_texts words =
     let input = taken (codes "--input") words in
@@ -133,7 +133,7 @@ read_choosing words =
       arrays = arrays.0;
     }) arrays.1
 
--- how a trace is shown, as words say it
+-- how to show a trace, as arguments specify it
 abbrev pub read_showing : List (List ℕ) → Option (Action × Option (List ℕ))
 read_showing [] = Some ((Answer View), None)
 read_showing (one ∷ []) = if bytes_eq one (codes "--summary") then Some ((Answer Summary), None) else None
@@ -142,7 +142,7 @@ read_showing (option ∷ out ∷ []) =
     (if bytes_eq option (codes "--chrome") then Some ((Answer Chrome), Some out) else None)
 read_showing (option ∷ out ∷ third ∷ behind) = None
 
--- the words behind a command that takes options: a file, and the texts that its options are read as
+-- the arguments after a command that takes options: a file, and the values of its options
 abbrev pub read_optioned : Action → (file : List ℕ) → (read : Option Texts) → Option Line
 read_optioned action file read =
     if is_file_name file
@@ -152,30 +152,30 @@ read_optioned action file read =
       texts = texts;
     } in line) read else None
 
--- a command with a file alone
+-- a command with only a file
 abbrev pub read_file : Action → (file : List ℕ) → Option Line
 read_file action file =
     if is_file_name file then Some (bare action file) else None
 
--- the two words behind a command, one of which is its option
+-- the two arguments after a command, one of which is its option
 abbrev pub read_flagged : (flag : List ℕ) → (flagged : Action) → (one other : List ℕ) → Option Line
 read_flagged flag flagged one other =
     if bytes_eq one flag && is_file_name other then Some (bare flagged other) else
     (if bytes_eq other flag then read_file flagged one else None)
 
--- the words behind a command with one option, by which another is meant
+-- the arguments after a command with one option, which selects another command
 abbrev pub read_flaggable : Action → (flag : List ℕ) → (flagged : Action) → (one : List ℕ)
     → (others : List (List ℕ)) → Option Line
 read_flaggable action flag flagged one [] = read_file action one
 read_flaggable action flag flagged one (other ∷ []) = read_flagged flag flagged one other
 read_flaggable action flag flagged one (other ∷ third ∷ behind) = None
 
--- the first of two lines, or the second where there is no first
+-- the first of two lines, or the second if there is no first
 abbrev pub either : Option Line → Option Line → Option Line
 either None second = second
 either (Some first) second = Some first
 
--- the words behind `fmt`
+-- the arguments after `fmt`
 abbrev pub read_format : (one : List ℕ) → (others : List (List ℕ)) → Option Line
 read_format one [] = read_file (Answer Format) one
 read_format one (other ∷ []) =
@@ -183,12 +183,12 @@ read_format one (other ∷ []) =
     (read_flagged (codes "--write") Rewrite one other)
 read_format one (other ∷ third ∷ behind) = None
 
--- the words behind a command that takes a file alone
+-- the arguments after a command that takes only a file
 abbrev pub read_alone : Action → (file : List ℕ) → (behind : List (List ℕ)) → Option Line
 read_alone action file [] = read_file action file
 read_alone action file (other ∷ behind) = None
 
--- the words behind the trace that is looked at, shown so
+-- the arguments after the trace to be shown, and how to show it
 abbrev pub shown_line : (file trace : List ℕ) → (input : Option (List ℕ)) → Action × Option (List ℕ)
     → Option Line
 shown_line file trace input shown =
@@ -200,14 +200,14 @@ abbrev pub shown_if : (file trace : List ℕ) → (input : Option (List ℕ))
 shown_if file trace input None = None
 shown_if file trace input (Some shown) = shown_line file trace input shown
 
--- the words behind the file of a program whose trace is looked at
+-- the arguments after the file of a program whose trace is shown
 abbrev pub read_view : (file : List ℕ) → (behind : List (List ℕ)) → Option Line
 read_view file [] = None
 read_view file (trace ∷ options) =
     let input = taken (codes "--input") options in
     shown_if file trace input.0 (read_showing input.1)
 
--- what share of the cost of a run is told, as words say it
+-- which shares of a cost are shown, as arguments specify it
 abbrev pub read_parts : List (List ℕ) → Option Action
 read_parts [] = Some (Answer Cost)
 read_parts (one ∷ []) =
@@ -215,7 +215,7 @@ read_parts (one ∷ []) =
     (if bytes_eq one (codes "--by-procedure") then Some (Answer CostByProcedure) else None)
 read_parts (one ∷ other ∷ behind) = None
 
--- the words behind the file of a program whose run is measured, where its parts are these
+-- the arguments after the file of a program whose run is measured, with these shares
 abbrev pub measured_if : (file : List ℕ) → Texts → Option Action → Option Line
 measured_if file texts None = None
 measured_if file texts (Some action) = read_optioned action file (Some texts)
@@ -228,7 +228,7 @@ read_cost file words =
     measured_if file (record no_texts { input = input.0; steps = steps.0; nest = nest.0 })
     (read_parts nest.1)
 
--- the words behind a command
+-- the arguments after a command
 abbrev pub read_behind : (command file : List ℕ) → (behind : List (List ℕ)) → Option Line
 read_behind command file behind =
     if bytes_eq command (codes "run") then read_optioned (Answer Run) file (read_texts behind) else
@@ -245,14 +245,14 @@ read_behind command file behind =
     (if bytes_eq command (codes "view") then read_view file behind else
     (if bytes_eq command (codes "cost") then read_cost file behind else None))))))))
 
--- the words behind a command, but for those that say how it is told
+-- the arguments after a command, without the reporting options
 abbrev pub read_rest : (command : List ℕ) → (words : List (List ℕ)) → Option Line
 read_rest command [] = None
 read_rest command (file ∷ behind) = read_behind command file behind
 
--- ---- how it is told
+-- ---- reporting options
 
--- the colour of a word, where there is one
+-- the color that an argument names, if it names one
 abbrev pub read_color : Option (List ℕ) → Option (Option Color)
 read_color None = Some None
 read_color (Some word) =
@@ -260,14 +260,14 @@ read_color (Some word) =
     (if bytes_eq word (codes "always") then Some (Some Always) else
     (if bytes_eq word (codes "never") then Some (Some Never) else None))
 
--- what was read, where the colour is one
+-- what was parsed, if the color is one
 abbrev pub manner_if : (explain : Bool) → Option (Option Color) → (left : List (List ℕ))
     → Option (Manner × List (List ℕ))
 manner_if explain None left = None
 manner_if explain (Some color) left =
     Some ((let m : Manner = record { explain = explain; color = color } in m), left)
 
--- what words say of how it is told, and the words behind that
+-- the reporting options that arguments specify, and the arguments after them
 abbrev pub read_manner : List (List ℕ) → Option (Manner × List (List ℕ))
 read_manner words =
     let explain = flag_taken (codes "--explain") words in
@@ -280,7 +280,7 @@ abbrev pub read_by : (command : List ℕ) → Option (Manner × List (List ℕ))
 read_by command None = None
 read_by command (Some read) = option_map (λ l. (l, read.0)) (read_rest command read.1)
 
--- the words of a command line, and how it is told
+-- the arguments of a command line, and its reporting options
 abbrev pub read : List (List ℕ) → Option (Line × Manner)
 read [] = Some (bare (Answer Run) (codes "-"), no_manner)
 read (command ∷ behind) = read_by command (read_manner behind)

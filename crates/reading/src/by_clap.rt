@@ -1,4 +1,4 @@
-//! The words of a command line that `clap` reads.
+//! Arguments of a command line that `clap` parses.
 
 use crate::order::{Order, Subject};
 use clap::error::ErrorKind;
@@ -9,7 +9,7 @@ use options::table::{CLOSING, commands};
 use std::alloc::{AllocError, Global};
 use types::budget::Budget;
 
-/// The order that `clap` finds in the words, or the reply to them.
+/// Returns the order that `clap` finds in the arguments, or the reply to them.
 pub fn order_by_clap<'w>(alloc: Global, words: &'w [String]) -> Result<Order<'w>, Reply> {
     let matches = reply::matched(alloc, words)?;
     let asked = matches.subcommand();
@@ -19,7 +19,7 @@ pub fn order_by_clap<'w>(alloc: Global, words: &'w [String]) -> Result<Order<'w>
     }
 }
 
-/// The reply to a command that asks nothing of a program, if this is one.
+/// Returns the reply to a command without an order, if this is one.
 fn replied(
     alloc: Global,
     asked: Option<(&str, &ArgMatches<'_>)>,
@@ -32,7 +32,7 @@ fn replied(
     }
 }
 
-/// What is written of all commands: the completions of the shell that is given, or the manual.
+/// Returns a text about all commands: the completions of the given shell, or the manual page.
 fn described(alloc: Global, given: Option<&ArgMatches<'_>>) -> Result<Reply, AllocError> {
     let program = commands(alloc)?;
     match given {
@@ -41,7 +41,7 @@ fn described(alloc: Global, given: Option<&ArgMatches<'_>>) -> Result<Reply, All
     }
 }
 
-/// The order of another command.
+/// Returns the order of another command.
 fn ordered<'w>(alloc: Global, asked: Option<(&str, &ArgMatches<'w>)>) -> Result<Order<'w>, Error> {
     match asked {
         Some(("bench", given)) => Ok(Order::Times(request(alloc, Command::Cost, given)?)),
@@ -50,7 +50,8 @@ fn ordered<'w>(alloc: Global, asked: Option<(&str, &ArgMatches<'w>)>) -> Result<
     }
 }
 
-/// A request, told in the form that is said; `clap` has seen that only what can be told as an object has one.
+/// Returns the order of a request, in the requested format. `clap` has checked that only commands
+/// that can be answered as an object have a format.
 fn told<'w>(asked: Option<(&str, &ArgMatches<'w>)>, request: Request<'w>) -> Order<'w> {
     let form = match asked {
         Some((_, given)) => given.get_str("format"),
@@ -62,7 +63,7 @@ fn told<'w>(asked: Option<(&str, &ArgMatches<'w>)>, request: Request<'w>) -> Ord
     }
 }
 
-/// The request of a command that asks something of a program.
+/// Returns the request of a command for a program.
 fn request_asked<'w>(
     alloc: Global,
     asked: Option<(&str, &ArgMatches<'w>)>,
@@ -76,7 +77,7 @@ fn request_asked<'w>(
     }
 }
 
-/// What a command asks to be done with a program, if this is one.
+/// Returns the action of a command for a program, if this is one.
 fn action_asked(word: &str, given: &ArgMatches<'_>) -> Option<Action> {
     Some(match word {
         "fmt" => formatting(given),
@@ -92,7 +93,7 @@ fn action_asked(word: &str, given: &ArgMatches<'_>) -> Option<Action> {
     })
 }
 
-/// What `check` tells.
+/// Returns which command `check` is.
 fn checking(given: &ArgMatches<'_>) -> Command {
     if given.get_flag("list") {
         Command::Listing
@@ -101,7 +102,7 @@ fn checking(given: &ArgMatches<'_>) -> Command {
     }
 }
 
-/// What `list` writes before each label.
+/// Returns which command `list` is.
 fn listing(given: &ArgMatches<'_>) -> Command {
     if given.get_flag("lines") {
         Command::Places
@@ -110,7 +111,7 @@ fn listing(given: &ArgMatches<'_>) -> Command {
     }
 }
 
-/// What `fmt` does with a text; `clap` has seen that at most one option says it.
+/// Returns the action of `fmt`. `clap` has checked that at most one option selects it.
 fn formatting(given: &ArgMatches<'_>) -> Action {
     if given.get_flag("check") {
         Action::Answer(Command::CheckFormat)
@@ -121,7 +122,7 @@ fn formatting(given: &ArgMatches<'_>) -> Action {
     }
 }
 
-/// What share `cost` tells; `clap` has seen that at most one option says it.
+/// Returns which command `cost` is. `clap` has checked that at most one option selects it.
 fn costing(given: &ArgMatches<'_>) -> Command {
     if given.get_flag("by-line") {
         Command::CostByLabel
@@ -132,7 +133,7 @@ fn costing(given: &ArgMatches<'_>) -> Command {
     }
 }
 
-/// How `view` shows a trace; `clap` has seen that at most one option says it.
+/// Returns which command `view` is. `clap` has checked that at most one option selects it.
 fn viewing(given: &ArgMatches<'_>) -> Command {
     if given.get_flag("summary") {
         Command::Summary
@@ -145,7 +146,7 @@ fn viewing(given: &ArgMatches<'_>) -> Command {
     }
 }
 
-/// The request of a command that was read.
+/// Returns the request of a command that was parsed.
 fn request<'w>(
     alloc: Global,
     command: Command,
@@ -154,7 +155,7 @@ fn request<'w>(
     asking(alloc, Action::Answer(command), given)
 }
 
-/// The request of what is to be done.
+/// Returns the request with an action.
 fn asking<'w>(alloc: Global, action: Action, given: &ArgMatches<'w>) -> Result<Request<'w>, Error> {
     Ok(Request {
         action,
@@ -173,7 +174,7 @@ fn asking<'w>(alloc: Global, action: Action, given: &ArgMatches<'w>) -> Result<R
     })
 }
 
-/// How a command is to tell; `clap` has seen that the words are some of their options'.
+/// Returns the reporting options. `clap` has checked that their values are possible ones.
 fn telling(given: &ArgMatches<'_>) -> Telling {
     Telling {
         explain: given.get_flag("explain"),
@@ -185,7 +186,7 @@ fn telling(given: &ArgMatches<'_>) -> Telling {
     }
 }
 
-/// How is chosen; `clap` has seen that at most one option says it.
+/// Returns the source of choices. `clap` has checked that at most one option names it.
 fn choosing<'w>(given: &ArgMatches<'w>) -> Option<Choosing<'w>> {
     if let Some(list) = given.get_str("choices") {
         return Some(Choosing::Listed(list));
@@ -196,7 +197,7 @@ fn choosing<'w>(given: &ArgMatches<'w>) -> Option<Choosing<'w>> {
     given.get_one("random").map(|seed| Choosing::Random(seed))
 }
 
-/// The file of the trace: that of an option of `run`, or the second one of `view`.
+/// Returns the file of the trace: that of an option of `run`, or the second file of `view`.
 fn trace<'w>(given: &ArgMatches<'w>) -> Option<&'w str> {
     match given.get_str("trace") {
         Some(file) => Some(file),
@@ -204,7 +205,7 @@ fn trace<'w>(given: &ArgMatches<'w>) -> Option<&'w str> {
     }
 }
 
-/// The file of a picture; `clap` has seen that at most one option names it.
+/// Returns the file of a picture. `clap` has checked that at most one option names it.
 fn picture<'w>(given: &ArgMatches<'w>) -> Option<&'w str> {
     match given.get_str("svg") {
         Some(file) => Some(file),
@@ -212,7 +213,7 @@ fn picture<'w>(given: &ArgMatches<'w>) -> Option<&'w str> {
     }
 }
 
-/// The budget that is given; `clap` has seen that its numbers are in their ranges.
+/// Returns the given budget. `clap` has checked that its numbers are in range.
 fn budget(alloc: Global, given: &ArgMatches<'_>) -> Result<Budget, Error> {
     let usual = Budget::usual();
     let steps = given.get_one("steps").unwrap_or(u64::from(usual.steps));
@@ -223,7 +224,7 @@ fn budget(alloc: Global, given: &ArgMatches<'_>) -> Result<Budget, Error> {
     }
 }
 
-/// How a run goes on worker threads; `clap` has seen that its numbers are in their ranges.
+/// Returns the tasks, weight and workers. `clap` has checked that these numbers are in range.
 fn spread(alloc: Global, given: &ArgMatches<'_>) -> Result<Spread, Error> {
     let usual = Spread::usual();
     let tasks = given.get_one("tasks").unwrap_or(usual.tasks);
@@ -235,7 +236,7 @@ fn spread(alloc: Global, given: &ArgMatches<'_>) -> Result<Spread, Error> {
     }
 }
 
-/// A mistake in the words.
+/// Returns a mistake in the arguments.
 fn mistake(alloc: Global, kind: ErrorKind, text: &'static str) -> Result<Error, AllocError> {
     commands(alloc)?.error(kind, text)
 }

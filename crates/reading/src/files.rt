@@ -1,4 +1,4 @@
-//! The names of files that a request gives.
+//! The file names in a request.
 
 ghost use Rattle.std.specs.Prelude.{◌≡◌, map, option_map};
 ghost use Rattle.command_line.specs.Requests.{asked_of, choosing, file_of};
@@ -8,9 +8,10 @@ ghost use Rattle.reading.specs.Files.{names_once as is_named_once, plain_name as
 
 use command_line::request::{Choosing, Request};
 
-/// Whether a request gives no name twice, `-` neither: nothing is read and written by the same name, and
-/// the standard input is read once. `run a.afx --trace ./a.afx` would lose the program. No file is looked
-/// up, so a name through another folder passes, as `x/../a.afx`, and a link.
+/// Returns whether a request gives no name twice, including `-`. Then no file is both read and
+/// written, and the standard input is read once. `run a.afx --trace ./a.afx` would overwrite the
+/// program. No file is looked up, so links and names through another folder, such as `x/../a.afx`,
+/// are accepted.
 pub fn names_once(request: &Request<'_>) -> bool
     ensures { result ≡ is_named_once (asked_of request.now) }
 {
@@ -24,7 +25,7 @@ pub fn names_once(request: &Request<'_>) -> bool
     ])
 }
 
-/// The file from which choices are read, if one is named.
+/// Returns the file from which choices are read, if one is named.
 fn file_of_choices<'w>(choices: Option<Choosing<'w>>) -> Option<&'w str>
     ensures { option_map (λ name. name.now) result ≡ file_of (option_map choosing choices.entry) }
 {
@@ -34,7 +35,7 @@ fn file_of_choices<'w>(choices: Option<Choosing<'w>>) -> Option<&'w str>
     }
 }
 
-/// Whether no name stands twice among these.
+/// Returns whether no name occurs twice among these.
 fn all_differ(names: &[Option<&str>]) -> bool
     ensures { result ≡ all_differ_in (map (option_map (λ name. name.now)) names.now) }
 {
@@ -45,7 +46,7 @@ fn all_differ(names: &[Option<&str>]) -> bool
     }
 }
 
-/// Whether a name stands among others.
+/// Returns whether a name occurs among others.
 fn is_among(name: &str, others: &[Option<&str>]) -> bool
     ensures { result ≡ is_among_in name.now (map (option_map (λ name. name.now)) others.now) }
 {
@@ -56,14 +57,14 @@ fn is_among(name: &str, others: &[Option<&str>]) -> bool
     }
 }
 
-/// Whether two names are of one file, as far as they show it.
+/// Returns whether two names are of one file, as far as the names show it.
 fn names_same(name: &str, other: &str) -> bool
     ensures { result ≡ bytes_eq (plain_name_in name.now) (plain_name_in other.now) }
 {
     plain_name(name.as_bytes()) == plain_name(other.as_bytes())
 }
 
-/// A name without `./` in front, however often that stands there.
+/// Returns a name without all `./` in front.
 fn plain_name(name: &[u8]) -> &[u8]
     ensures { result.now ≡ plain_name_in name.now }
 {

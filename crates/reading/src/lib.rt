@@ -1,4 +1,4 @@
-//! The words of a command line, read as what they ask.
+//! Parses the arguments of a command line as an order.
 
 #![tactic(auto)]
 

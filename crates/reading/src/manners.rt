@@ -1,4 +1,4 @@
-//! The words behind a command that say how it is to tell what it has to tell.
+//! The reporting options, which follow a command.
 
 ghost use Rattle.std.specs.Prelude.{◌≡◌, map, option_map};
 ghost use Rattle.std.specs.String.{string_bytes};
@@ -8,8 +8,8 @@ use crate::taking::{take, take_flag};
 use command_line::manner::Manner;
 use command_line::request::Color;
 
-/// What words say of how a command tells, and the words behind that: `--explain --color WHEN`, each of
-/// which may be left out. None where no colour has this name.
+/// Returns the reporting options, and the arguments after them. The options are `--explain --color
+/// WHEN`, each of which is optional. Returns None if no color has this name.
 pub fn manner_in<'w>(words: &'w [String]) -> Option<(Manner, &'w [String])>
     ensures { option_map (λ r. (r.0, map string_bytes r.1.now)) result
         ≡ read_manner (map string_bytes words.now) }
@@ -20,7 +20,7 @@ pub fn manner_in<'w>(words: &'w [String]) -> Option<(Manner, &'w [String])>
     Some((Manner { explain, color }, words))
 }
 
-/// The colour of a word, where there is one.
+/// Returns the color that an argument names, if it names one.
 fn color_named(word: Option<&str>) -> Option<Option<Color>>
     ensures { result ≡ read_color (option_map (λ w. w.now) word.entry) }
 {

@@ -1,4 +1,4 @@
-//! What words order.
+//! Orders.
 
 ghost use Rattle.std.specs.Prelude.{◌≡◌};
 ghost use Rattle.reading.specs.Orders.{names_once as names_once_in, order as order_said};
@@ -7,21 +7,21 @@ ghost use Rattle.reading.specs.Orders.{command_of, subject_of};
 use crate::files::names_once;
 use command_line::request::{Action, Command, Request};
 
-/// What the words of a command line order.
+/// The order that the arguments of a command line give.
 #[derive(Clone, Copy, PartialEq, Eq, Debug)]
 pub enum Order<'w> {
-    /// What is asked is told as lines of text.
+    /// A request, answered as lines of text.
     AsText(Request<'w>),
-    /// `--format json`: it is told as one object.
+    /// `--format json`: a request, answered as one object.
     AsObject(Subject, Request<'w>),
-    /// `bench`: the runs of a program are timed.
+    /// `bench`: a program whose runs are timed.
     Times(Request<'w>),
-    /// `test`: the programs of this folder are run, and what they tell is compared with what they should.
+    /// `test`: a folder whose programs are run; their results are compared with the expected ones.
     Tests(&'w str),
 }
 
 impl Order<'_> {
-    /// Whether it gives no name to two files.
+    /// Returns whether it gives no two files the same name.
     pub fn names_once(&self) -> bool
         ensures { result ≡ names_once_in (order_said self.now) }
     {
@@ -33,23 +33,23 @@ impl Order<'_> {
     }
 }
 
-/// What can be told as one object.
+/// Answers that can be written as one object.
 #[derive(Clone, Copy, PartialEq, Eq, Debug)]
 pub enum Subject {
-    /// What `run` answers.
+    /// The answer of `run`.
     Run,
-    /// What `serial` answers.
+    /// The answer of `serial`.
     Serial,
-    /// What `check` answers.
+    /// The answer of `check`.
     Check,
-    /// What `cost` answers.
+    /// The answer of `cost`.
     Cost,
-    /// What `mhp` answers.
+    /// The answer of `mhp`.
     Pairs,
 }
 
 impl Subject {
-    /// What is told of something that is to be done, if that can be told as one object.
+    /// Returns the answer of an action that can be written as one object, if it can.
     pub fn of(action: Action) -> Option<Subject>
         ensures { result ≡ subject_of action }
     {
@@ -66,7 +66,7 @@ impl Subject {
         }
     }
 
-    /// The command that answers it.
+    /// Returns the command with this answer.
     pub fn command(self) -> Command
         ensures { result ≡ command_of self }
     {

@@ -1,4 +1,4 @@
-//! Words that name a command, a file and options behind it, in their order.
+//! Plain arguments: a command, a file and options, in order.
 
 ghost use Rattle.std.specs.Prelude.{◌≡◌, ◌∷◌, [], map, option_map, Some};
 ghost use Rattle.std.specs.String.{string_bytes};
@@ -15,7 +15,7 @@ use command_line::manner::Manner;
 use command_line::request::Action::{self, Answer};
 use command_line::request::Command;
 
-/// A command line that names a command, a file and options behind it.
+/// A command line with a command, a file and options.
 #[derive(Clone, Copy)]
 pub struct Line<'w> {
     pub action: Action,
@@ -23,7 +23,7 @@ pub struct Line<'w> {
     pub texts: Texts<'w>,
 }
 
-/// What stands behind the options of a command line, as it is written.
+/// The values of the options of a command line, as they are written.
 #[derive(Clone, Copy)]
 pub struct Texts<'w> {
     pub input: Option<&'w str>,
@@ -42,7 +42,7 @@ pub struct Texts<'w> {
 }
 
 impl<'w> Texts<'w> {
-    /// That there is no option.
+    /// Returns the values for no options.
     fn none() -> Texts<'w>
         ensures { texts_of result ≡ no_texts }
     {
@@ -64,14 +64,14 @@ impl<'w> Texts<'w> {
     }
 }
 
-/// The line of no word, which is `run -`, and how it is to be told.
+/// Returns the line for no arguments, which is `run -`, and its reporting options.
 pub fn line_of_none<'w>() -> (Line<'w>, Manner)
     ensures { Some (told_line result) ≡ read [] }
 {
     (bare(Answer(Command::Run), "-"), Manner::none())
 }
 
-/// The line of a command and the words behind it, and how it is to be told.
+/// Returns the line of a command and the arguments after it, and its reporting options.
 pub fn line_in<'w>(command: &str, behind: &'w [String]) -> Option<(Line<'w>, Manner)>
     ensures { option_map told_line result ≡ read (command.now ∷ map string_bytes behind.now) }
 {
@@ -80,7 +80,7 @@ pub fn line_in<'w>(command: &str, behind: &'w [String]) -> Option<(Line<'w>, Man
     Some((line, manner))
 }
 
-/// The line of a command and the words behind it, but for those that say how it is told.
+/// Returns the line of a command and the arguments after it, without the reporting options.
 fn line_of_words<'w>(command: &str, words: &'w [String]) -> Option<Line<'w>>
     ensures { option_map line_of result ≡ read_rest command.now (map string_bytes words.now) }
 {
@@ -90,7 +90,7 @@ fn line_of_words<'w>(command: &str, words: &'w [String]) -> Option<Line<'w>>
     }
 }
 
-/// The line of a command, a file and the words behind it.
+/// Returns the line of a command, a file and the arguments after it.
 fn line_behind<'w>(command: &str, file: &'w str, behind: &'w [String]) -> Option<Line<'w>>
     ensures { option_map line_of result
         ≡ read_behind command.now file.now (map string_bytes behind.now) }
@@ -130,7 +130,7 @@ fn line_behind<'w>(command: &str, file: &'w str, behind: &'w [String]) -> Option
     }
 }
 
-/// A line of a command that takes options.
+/// Returns the line of a command that takes options.
 fn optioned_line<'w>(action: Action, file: &'w str, texts: Option<Texts<'w>>) -> Option<Line<'w>>
     ensures { option_map line_of result
         ≡ read_optioned action file.now (option_map texts_of texts.entry) }
@@ -147,8 +147,8 @@ fn optioned_line<'w>(action: Action, file: &'w str, texts: Option<Texts<'w>>) ->
     }
 }
 
-/// A line of `view`: behind the file of the program that of the trace, `--input FILE`, which may be left
-/// out, and how it is shown.
+/// Returns a line of `view`. After the file of the program come the file of the trace, `--input
+/// FILE`, which is optional, and how to show the trace.
 fn view_line<'w>(file: &'w str, behind: &'w [String]) -> Option<Line<'w>>
     ensures { option_map line_of result ≡ read_view file.now (map string_bytes behind.now) }
 {
@@ -168,8 +168,8 @@ fn view_line<'w>(file: &'w str, behind: &'w [String]) -> Option<Line<'w>>
     }
 }
 
-/// How a trace is shown, and the file in which it is drawn: by no word, `--summary`, `--svg OUT` or
-/// `--chrome OUT`.
+/// Returns how to show a trace, and the file for its picture: no argument, `--summary`, `--svg OUT`
+/// or `--chrome OUT`.
 fn showing<'w>(words: &'w [String]) -> Option<(Action, Option<&'w str>)>
     ensures { option_map shown_of result ≡ read_showing (map string_bytes words.now) }
 {
@@ -195,8 +195,8 @@ fn showing<'w>(words: &'w [String]) -> Option<(Action, Option<&'w str>)>
     }
 }
 
-/// The texts behind options: `--input FILE --steps N --nest N --tasks N --w0 N --workers N --trace FILE
-/// --arrays`, each of which may be left out.
+/// Returns the values of the options `--input FILE --steps N --nest N --tasks N --w0 N --workers N
+/// --trace FILE --arrays`, each of which is optional.
 fn texts_in<'w>(words: &'w [String]) -> Option<Texts<'w>>
     ensures { option_map texts_of result ≡ read_texts (map string_bytes words.now) }
 {
@@ -222,8 +222,8 @@ fn texts_in<'w>(words: &'w [String]) -> Option<Texts<'w>>
     whole(texts, words)
 }
 
-/// The texts behind options: `--input FILE --steps N --nest N --arrays --progress`, each of which may be
-/// left out.
+/// Returns the values of the options `--input FILE --steps N --nest N --arrays --progress`, each of
+/// which is optional.
 fn serial_texts_in<'w>(words: &'w [String]) -> Option<Texts<'w>>
     ensures { option_map texts_of result ≡ read_serial_texts (map string_bytes words.now) }
 {
@@ -243,8 +243,8 @@ fn serial_texts_in<'w>(words: &'w [String]) -> Option<Texts<'w>>
     whole(texts, words)
 }
 
-/// The texts behind options: `--input FILE --choices LIST --choices-from FILE --random SEED --arrays`,
-/// each of which may be left out.
+/// Returns the values of the options `--input FILE --choices LIST --choices-from FILE --random SEED
+/// --arrays`, each of which is optional.
 fn choosing_texts_in<'w>(words: &'w [String]) -> Option<Texts<'w>>
     ensures { option_map texts_of result ≡ read_choosing (map string_bytes words.now) }
 {
@@ -264,8 +264,8 @@ fn choosing_texts_in<'w>(words: &'w [String]) -> Option<Texts<'w>>
     whole(texts, words)
 }
 
-/// A line of `cost`: behind the file `--input FILE --steps N --nest N`, each of which may be left out, and
-/// what share is told.
+/// Returns a line of `cost`. After the file come `--input FILE --steps N --nest N`, each of which
+/// is optional, and the option for shares.
 fn cost_line<'w>(file: &'w str, behind: &'w [String]) -> Option<Line<'w>>
     ensures { option_map line_of result ≡ read_cost file.now (map string_bytes behind.now) }
 {
@@ -282,7 +282,8 @@ fn cost_line<'w>(file: &'w str, behind: &'w [String]) -> Option<Line<'w>>
     optioned_line(action, file, Some(texts))
 }
 
-/// What share of the cost of a run is told: by no word none, or by `--by-line` or `--by-procedure`.
+/// Returns which shares of a cost to show: none without an argument, or those of `--by-line` or
+/// `--by-procedure`.
 fn parts_in(words: &[String]) -> Option<Action>
     ensures { result ≡ read_parts (map string_bytes words.now) }
 {
@@ -301,7 +302,7 @@ fn parts_in(words: &[String]) -> Option<Action>
     }
 }
 
-/// These texts, where no word is left.
+/// Returns these values, if no argument is left.
 fn whole<'w>(texts: Texts<'w>, left: &[String]) -> Option<Texts<'w>>
     ensures { option_map texts_of result
         ≡ read_whole (texts_of texts.entry) (map string_bytes left.now) }
@@ -312,7 +313,7 @@ fn whole<'w>(texts: Texts<'w>, left: &[String]) -> Option<Texts<'w>>
     }
 }
 
-/// A line of a command with one option, which may stand before the file or behind it.
+/// Returns the line of a command with one option, which can come before or after the file.
 fn flagged_line<'w>(
     action: Action,
     flag: &str,
@@ -330,7 +331,7 @@ fn flagged_line<'w>(
     }
 }
 
-/// A line of a command with its option.
+/// Returns the line of a command with its option.
 fn flag_line<'w>(flag: &str, flagged: Action, one: &'w str, other: &'w str) -> Option<Line<'w>>
     ensures { option_map line_of result ≡ read_flagged flag.now flagged one.now other.now }
 {
@@ -343,7 +344,7 @@ fn flag_line<'w>(flag: &str, flagged: Action, one: &'w str, other: &'w str) -> O
     }
 }
 
-/// A line of `fmt`, with one of its options or with none.
+/// Returns a line of `fmt`, with one of its options or with none.
 fn format_line<'w>(one: &'w str, others: &'w [String]) -> Option<Line<'w>>
     ensures { option_map line_of result ≡ read_format one.now (map string_bytes others.now) }
 {
@@ -357,7 +358,7 @@ fn format_line<'w>(one: &'w str, others: &'w [String]) -> Option<Line<'w>>
     }
 }
 
-/// A line of a command that takes a file alone.
+/// Returns the line of a command that takes only a file.
 fn alone_line<'w>(action: Action, file: &'w str, behind: &'w [String]) -> Option<Line<'w>>
     ensures { option_map line_of result
         ≡ read_alone action file.now (map string_bytes behind.now) }
@@ -368,7 +369,7 @@ fn alone_line<'w>(action: Action, file: &'w str, behind: &'w [String]) -> Option
     }
 }
 
-/// A line of a command and a file alone.
+/// Returns the line of a command and a file.
 fn file_line<'w>(action: Action, file: &'w str) -> Option<Line<'w>>
     ensures { option_map line_of result ≡ read_file action file.now }
 {
@@ -379,7 +380,7 @@ fn file_line<'w>(action: Action, file: &'w str) -> Option<Line<'w>>
     }
 }
 
-/// A command and a file, without options.
+/// Returns a command and a file, without options.
 fn bare<'w>(action: Action, file: &'w str) -> Line<'w>
     ensures { line_of result ≡ bare_line action file.now }
 {
@@ -390,7 +391,7 @@ fn bare<'w>(action: Action, file: &'w str) -> Line<'w>
     }
 }
 
-/// Whether a word names a file: it begins with no `-`, or it is `-` alone.
+/// Returns whether an argument names a file: it doesn't start with `-`, or it is `-` alone.
 pub fn is_file_name(word: &str) -> bool
     ensures { result ≡ names_file word.now }
 {

@@ -1,4 +1,4 @@
-//! The settings that the texts behind options say.
+//! The settings that option values specify.
 
 ghost use Rattle.std.specs.Prelude.{◌≡◌, ◌<◌, ◌^◌, ℕ, Option, IfSome, IsSomeAnd, Some};
 ghost use Rattle.std.specs.Prelude.{option_map, true, unwrap_or};
@@ -13,7 +13,7 @@ use crate::plain::{Texts, is_file_name};
 use command_line::request::{Choosing, Settings, Spread};
 use types::budget::Budget;
 
-/// The settings that texts say, where they are right.
+/// Returns the settings that option values specify, if the values are correct.
 pub fn settings_in<'w>(texts: Texts<'w>) -> Option<Settings<'w>>
     ensures { (o : Options) → AreRight o → texts_of texts.entry ≡ texts_by o
         → IsSomeAnd result (λ s. settings_of s ≡ settings_by o) }
@@ -38,7 +38,7 @@ pub fn settings_in<'w>(texts: Texts<'w>) -> Option<Settings<'w>>
     })
 }
 
-/// How a run goes on worker threads, where its numbers are right.
+/// Returns the tasks, weight and workers, if these numbers are correct.
 fn spread_in(texts: Texts<'_>) -> Option<Spread>
     ensures { (o : Options) → AreRight o → texts_of texts.entry ≡ texts_by o
         → option_map spread_of result ≡ Some (settings_by o).spread }
@@ -49,7 +49,7 @@ fn spread_in(texts: Texts<'_>) -> Option<Spread>
     Spread::new(tasks, w0, workers)
 }
 
-/// How is chosen, where at most one of these texts says it.
+/// Returns the source of choices, if at most one of these values is given.
 fn choosing_in<'w>(
     list: Option<&'w str>,
     file: Option<&'w str>,
@@ -73,7 +73,7 @@ fn choosing_in<'w>(
     }
 }
 
-/// The name of a file, if it is one; or that none is named.
+/// Returns the name of a file, if it is one; or that no file is named.
 fn file_or_none<'w>(name: Option<&'w str>) -> Option<Option<&'w str>>
     ensures { let named = option_map (λ n. n.now) name.entry in
         IfSome named (λ n. names_file n ≡ true) → option_map (option_map (λ n. n.now)) result ≡ Some named }
@@ -84,7 +84,7 @@ fn file_or_none<'w>(name: Option<&'w str>) -> Option<Option<&'w str>>
     }
 }
 
-/// A number in decimal; the usual one where there is no text.
+/// Parses a number in decimal. Returns the default if there is no text.
 fn number_or(text: Option<&str>, usual: u64) -> Option<u64>
     ensures { (n : Option ℕ) → IfSome n (λ m. m < 2 ^ 64)
         → option_map (λ t. t.now) text.entry ≡ option_map decimal n

@@ -1,10 +1,10 @@
-//! Options taken from the front of words.
+//! Taking options from the front of arguments.
 
 ghost use Rattle.std.specs.Prelude.{◌≡◌, map, option_map};
 ghost use Rattle.std.specs.String.{string_bytes};
 ghost use Rattle.reading.specs.Reading.{flag_taken, taken};
 
-/// The value behind an option that stands first, and the words behind both.
+/// Returns the value of an option that comes first, and the arguments after it.
 pub fn take<'w>(option: &str, words: &'w [String]) -> (Option<&'w str>, &'w [String])
     ensures value { option_map (λ v. v.now) result.0
         ≡ (taken option.now (map string_bytes words.now)).0 }
@@ -24,7 +24,7 @@ pub fn take<'w>(option: &str, words: &'w [String]) -> (Option<&'w str>, &'w [Str
     }
 }
 
-/// Whether an option without a value stands first, and the words behind it.
+/// Returns whether an option without a value comes first, and the arguments after it.
 pub fn take_flag<'w>(option: &str, words: &'w [String]) -> (bool, &'w [String])
     ensures stands { result.0 ≡ (flag_taken option.now (map string_bytes words.now)).0 }
     ensures behind { map string_bytes result.1.now

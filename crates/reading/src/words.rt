@@ -1,4 +1,4 @@
-//! The words of a command line.
+//! The arguments of a command line.
 
 ghost use Rattle.std.specs.Prelude.{ℕ, ◌≡◌, ◌∷◌, [], codes, IfOk, IsErrAnd, IsOkAnd, IsSomeAnd, IsTrue, List, map, Some, true, false};
 ghost use Rattle.std.specs.String.{string_bytes};
@@ -21,9 +21,10 @@ use command_line::request::{Request, Telling};
 use options::reply::{self, Reply};
 use std::alloc::Global;
 
-/// Reads the words behind the program's name. What names a command, how it is told, a file and options
-/// behind it, in their order, is read here; all else, as other orders, help, pages and mistakes, by
-/// `clap`. Words that give the same name to two files are a mistake: `run a.afx --trace a.afx`.
+/// Parses the arguments after the program's name. It parses a command, its reporting options, a
+/// file and other options in this order itself. `clap` parses all other arguments: other orders,
+/// help, pages and mistakes. It is a mistake to give two files the same name: `run a.afx --trace
+/// a.afx`.
 pub fn order_of<'w>(alloc: Global, words: &'w [String]) -> Result<Order<'w>, Reply>
     ensures read { (o : OrderIn) → Orders (map string_bytes words.now) o → names_once o ≡ true
         → IsOkAnd result (λ r. order_said r ≡ o) }
@@ -42,7 +43,7 @@ pub fn order_of<'w>(alloc: Global, words: &'w [String]) -> Result<Order<'w>, Rep
     }
 }
 
-/// The order of words that stand in this order.
+/// Returns the order of plain arguments.
 fn order_in<'w>(words: &'w [String]) -> Option<Order<'w>>
     ensures { (o : OrderIn) → Orders (map string_bytes words.now) o
         → IsSomeAnd result (λ r. order_said r ≡ o) }
@@ -53,7 +54,7 @@ fn order_in<'w>(words: &'w [String]) -> Option<Order<'w>>
     }
 }
 
-/// The order of a command and the words behind it.
+/// Returns the order of a command and the arguments after it.
 fn order_behind<'w>(command: &str, behind: &'w [String]) -> Option<Order<'w>>
     ensures { (o : OrderIn) → Orders (command.now ∷ map string_bytes behind.now) o
         → IsSomeAnd result (λ r. order_said r ≡ o) }
@@ -67,7 +68,7 @@ fn order_behind<'w>(command: &str, behind: &'w [String]) -> Option<Order<'w>>
     }
 }
 
-/// The order of words that ask something of one program, told as text or as one object.
+/// Returns the order of arguments for one program, answered as text or as one object.
 fn told_in<'w>(command: &str, behind: &'w [String]) -> Option<Order<'w>>
     ensures text { (a : Asked) → Asks (command.now ∷ map string_bytes behind.now) a
         → IsSomeAnd result (λ r. order_said r ≡ AsText a) }
@@ -88,7 +89,7 @@ fn told_in<'w>(command: &str, behind: &'w [String]) -> Option<Order<'w>>
     }
 }
 
-/// The order of words that ask something of one program, told as one object.
+/// Returns the order of arguments for one program, answered as one object.
 fn object_in<'w>(command: &str, behind: &'w [String]) -> Option<Order<'w>>
     ensures { (x : SubjectOf) (a : Asked) → Asks (command.now ∷ map string_bytes behind.now) a
         → subject_of a.action ≡ Some x → IsSomeAnd result (λ r. order_said r ≡ AsObject x a) }
@@ -98,7 +99,8 @@ fn object_in<'w>(command: &str, behind: &'w [String]) -> Option<Order<'w>>
     Some(Order::AsObject(subject, request))
 }
 
-/// The order of the words behind `bench`: what may stand behind `cost`, but for what share is told.
+/// Returns the order of the arguments after `bench`: what can follow `cost`, except the option for
+/// shares.
 fn times_in<'w>(behind: &'w [String]) -> Option<Order<'w>>
     ensures { (a : Asked) → Asks (codes "cost" ∷ map string_bytes behind.now) a
         → a.action ≡ Answer Cost → IsSomeAnd result (λ r. order_said r ≡ Times a) }
@@ -110,7 +112,7 @@ fn times_in<'w>(behind: &'w [String]) -> Option<Order<'w>>
     }
 }
 
-/// The order of the words behind `test`.
+/// Returns the order of the arguments after `test`.
 fn tests_in<'w>(behind: &'w [String]) -> Option<Order<'w>>
     ensures { (folder : List ℕ) → IsTrue (names_file folder)
         → map string_bytes behind.now ≡ folder ∷ []
@@ -128,7 +130,7 @@ fn tests_in<'w>(behind: &'w [String]) -> Option<Order<'w>>
     }
 }
 
-/// The request of no word.
+/// Returns the request of no arguments.
 fn asked_by_none<'w>() -> Option<Request<'w>>
     ensures { (a : Asked) → Asks [] a → IsSomeAnd result (λ r. asked_of r ≡ a) }
 {
@@ -136,7 +138,7 @@ fn asked_by_none<'w>() -> Option<Request<'w>>
     request_in(line, manner.telling())
 }
 
-/// The request of a command and the words behind it, in their order.
+/// Returns the request of a command and the plain arguments after it.
 fn asked_in<'w>(command: &str, behind: &'w [String]) -> Option<Request<'w>>
     ensures { (a : Asked) → Asks (command.now ∷ map string_bytes behind.now) a
         → IsSomeAnd result (λ r. asked_of r ≡ a) }
@@ -145,7 +147,7 @@ fn asked_in<'w>(command: &str, behind: &'w [String]) -> Option<Request<'w>>
     request_in(line, manner.telling())
 }
 
-/// The request of a line, which is told so.
+/// Returns the request of a line with these reporting options.
 fn request_in<'w>(line: Line<'w>, telling: Telling) -> Option<Request<'w>>
     ensures { (o : Options) → AreRight o → (line_of line.entry).texts ≡ texts_by o → IsSomeAnd result
         (λ r. asked_of r ≡ record (acting line.entry.action line.entry.file.now o) { telling = telling }) }

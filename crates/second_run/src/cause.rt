@@ -1,13 +1,12 @@
-//! What makes a statement fault.
+//! The causes of faults.
 
 use sections::id::ArrayId;
 use sections::window::Window;
 use types::code::Operator;
 use types::fault::FaultKind;
 
-/// The values from which a fault comes. Of several elements or operators in one statement, `nth` is which
-/// one it was, from
-/// 0 in the order of the text.
+/// The values that cause a fault. If a statement has several elements or operators, `nth` is the
+/// number of the one at fault, from 0 in the order of the text.
 #[derive(Clone, Copy, PartialEq, Eq, Debug)]
 pub enum Cause {
     /// `a[5]`, where `a` has 3 elements.
@@ -48,7 +47,7 @@ pub enum Cause {
 }
 
 impl Cause {
-    /// The kind of the fault.
+    /// Returns the kind of the fault.
     pub fn kind(self) -> FaultKind {
         match self {
             Cause::Index { .. } => FaultKind::Index,

@@ -1,25 +1,25 @@
-//! What is left of a run behind what is done now.
+//! The work that is left after the current statement.
 
 use types::code::{Label, Stmt};
 use types::path::Path;
 use types::value::Environment;
 
-/// What is left of a run behind what is done now.
+/// One item of the work that is left after the current statement.
 #[derive(Drop)]
 pub enum Frame<'p> {
     /// The rest of a block.
     Block(&'p [Stmt]),
-    /// A loop once more.
+    /// Another iteration of a loop.
     Again(&'p Stmt),
-    /// The end of a call, with the frame of whoever called.
+    /// The end of a call, with the environment of the caller.
     Call { label: Label, caller: Environment },
-    /// The end of an async's body, with the task that began it.
+    /// The end of an async's body, with the task that spawned it.
     Task(Parent),
-    /// The end of a finish, and how many faults there were before it.
+    /// The end of a finish, and the number of faults before it.
     Finish { faults: u64 },
 }
 
-/// A task whose async runs.
+/// A task that waits while the body of its async runs.
 #[derive(Drop)]
 pub struct Parent {
     pub environment: Environment,

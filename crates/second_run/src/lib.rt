@@ -1,4 +1,5 @@
-//! A run on one thread once more, to see what its faults come from, and what was over its budget.
+//! A second run on one thread, which finds the causes of faults and the task that was over its
+//! budget.
 
 #![tactic(auto)]
 

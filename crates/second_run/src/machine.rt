@@ -16,22 +16,22 @@ use types::element::holds;
 use types::ids::ProcedureId;
 use types::input::Input;
 
-/// How many faults are told with what they come from.
+/// The maximum number of faults that are reported with their causes.
 const MOST_FAULTS: u64 = 4;
 
-/// A run on one thread, as far as it has come.
+/// The state of a run on one thread.
 #[derive(Drop)]
 pub struct Machine<'p> {
     plan: Plan<'p>,
-    /// The task whose statements are done now. What it tells is left out.
+    /// The task whose statements run now. What it prints is left out.
     thread: Thread<Store>,
-    /// What is left to do; the last comes first.
+    /// The work that is left, with the next item last.
     left: Vec<Frame<'p>>,
     seen: Seen,
 }
 
 impl<'p> Machine<'p> {
-    /// The root at its start.
+    /// Creates the machine at the start of the root task.
     pub fn new(plan: Plan<'p>, input: &Input) -> Result<Machine<'p>, AllocError> {
         let mut left = Vec::new(plan.alloc);
         left.push(Frame::Block(&plan.program.main.body))?;
@@ -47,12 +47,12 @@ impl<'p> Machine<'p> {
         })
     }
 
-    /// What was seen.
+    /// Returns what was seen.
     pub fn into_seen(self) -> Seen {
         self.seen
     }
 
-    /// Does what comes next, and tells whether there was anything.
+    /// Does the next item of work, and returns whether there was one.
     pub fn advance(&mut self) -> Result<bool, AllocError> {
         if self.seen.overrun.is_some() {
             return Ok(false);
@@ -72,7 +72,7 @@ impl<'p> Machine<'p> {
 
     // ---- ends
 
-    /// The end of an async's body: its parent goes on.
+    /// Ends an async's body: its parent continues.
     fn end_task(&mut self, parent: Parent) {
         let Parent {
             environment,
@@ -88,7 +88,7 @@ impl<'p> Machine<'p> {
         self.thread.nest = self.thread.nest.saturating_add(1);
     }
 
-    /// The end of a finish: behind faults its task doesn't go on.
+    /// Ends a finish: if there were faults in it, its task doesn't continue.
     fn end_finish(&mut self, faults: u64) {
         self.thread.flow = if self.seen.many > faults {
             Flow::Faulted
@@ -99,7 +99,7 @@ impl<'p> Machine<'p> {
 
     // ---- statements
 
-    /// The first statement of a block, and then the rest.
+    /// Runs the first statement of a block, and puts the rest on the list.
     fn block(&mut self, block: &'p [Stmt]) -> Result<(), AllocError> {
         if self.thread.flow != Flow::On {
             return Ok(());
@@ -113,7 +113,7 @@ impl<'p> Machine<'p> {
         }
     }
 
-    /// A statement, where a step is left for it.
+    /// Runs a statement if a step is left for it.
     fn statement(&mut self, stmt: &'p Stmt) -> Result<(), AllocError> {
         if self.thread.flow != Flow::On {
             return Ok(());
@@ -154,13 +154,13 @@ impl<'p> Machine<'p> {
         }
     }
 
-    /// A block comes next.
+    /// Puts a block on the list, as the next item.
     fn enter(&mut self, block: &'p [Stmt]) -> Result<(), AllocError> {
         self.left.push(Frame::Block(block))?;
         Ok(())
     }
 
-    /// A statement of one step.
+    /// Runs a statement of one step.
     fn primitive(&mut self, label: Label, primitive: &Primitive) -> Result<(), AllocError> {
         match primitive {
             Primitive::Skip => Ok(()),
@@ -190,7 +190,7 @@ impl<'p> Machine<'p> {
         }
     }
 
-    /// A block in which both sides of a section have names.
+    /// Enters a block in which both sides of a section have names.
     fn split(&mut self, label: Label, split: &Sides, body: &'p [Stmt]) -> Result<(), AllocError> {
         let Some(point) = self.number(label, &split.at)? else {
             return Ok(());
@@ -209,7 +209,7 @@ impl<'p> Machine<'p> {
         }
     }
 
-    /// A call with these numbers: the body comes next.
+    /// Enters a call with these arguments: the body is next.
     fn call(
         &mut self,
         label: Label,
@@ -227,7 +227,7 @@ impl<'p> Machine<'p> {
         self.enter(&procedure.body)
     }
 
-    /// An async: its body with fresh steps, and then the parent.
+    /// Enters an async: its body runs next with fresh steps, and then the parent continues.
     fn begin(&mut self, label: Label, body: &'p [Stmt]) -> Result<(), AllocError> {
         if self.thread.nest == 0 {
             return self.overrun(label, Part::Nest);
@@ -253,7 +253,7 @@ impl<'p> Machine<'p> {
 
     // ---- values
 
-    /// The value of a number expression; None where it faults.
+    /// Returns the value of a number expression, or None if it faults.
     fn number(&mut self, label: Label, number: &Number) -> Result<Option<i64>, AllocError> {
         if let Ok(value) = self.thread.number(number) {
             return Ok(Some(value));
@@ -262,7 +262,7 @@ impl<'p> Machine<'p> {
         self.no_value(label, tried.err())
     }
 
-    /// The value of a truth expression; None where it faults.
+    /// Returns the value of a boolean expression, or None if it faults.
     fn truth(&mut self, label: Label, truth: &Truth) -> Result<Option<bool>, AllocError> {
         if let Ok(value) = self.thread.truth(truth) {
             return Ok(Some(value));
@@ -271,7 +271,7 @@ impl<'p> Machine<'p> {
         self.no_value(label, tried.err())
     }
 
-    /// The values of several expressions; None where one faults.
+    /// Returns the values of several expressions, or None if one faults.
     fn numbers(
         &mut self,
         label: Label,
@@ -295,7 +295,8 @@ impl<'p> Machine<'p> {
         self.no_value(label, fault)
     }
 
-    /// Where a store writes, and what: the index, the value, F1 by the index, then F4 by the value.
+    /// Returns the place and the value of a store. An index can cause F1. After that, a value can
+    /// cause F4.
     fn stored(
         &self,
         section: SectionId,
@@ -318,12 +319,12 @@ impl<'p> Machine<'p> {
         }
     }
 
-    /// Expressions of a statement, before the first.
+    /// Returns an evaluator before the first expression of a statement.
     fn tried(&self) -> Tried<'_> {
         Tried::new(&self.thread.environment, &self.thread.store)
     }
 
-    /// Whether an array holds a number.
+    /// Returns whether a number fits in an element of an array.
     fn fits(&self, array: ArrayId, value: i64) -> bool {
         match self.plan.program.arrays.get(array.number) {
             Some(array) => holds(array.element, value),
@@ -331,7 +332,7 @@ impl<'p> Machine<'p> {
         }
     }
 
-    /// Writes a number to a place that is there.
+    /// Writes a number to a place, which has to exist.
     fn write(&mut self, place: Place, value: i64) {
         if let Some(contents) = self.thread.store.arrays.get_mut(place.array.number) {
             if let Some(element) = contents.get_mut(place.index) {
@@ -342,7 +343,7 @@ impl<'p> Machine<'p> {
 
     // ---- what is seen
 
-    /// A fault in place of a value, where there is a cause.
+    /// Records the fault if there is a cause, and returns no value.
     fn no_value<T>(&mut self, label: Label, cause: Option<Cause>) -> Result<Option<T>, AllocError> {
         if let Some(cause) = cause {
             self.fault(label, cause)?;
@@ -350,7 +351,7 @@ impl<'p> Machine<'p> {
         Ok(None)
     }
 
-    /// A fault of the task.
+    /// Records a fault of the task.
     fn fault(&mut self, label: Label, cause: Cause) -> Result<(), AllocError> {
         self.thread.flow = Flow::Faulted;
         if self.seen.many < MOST_FAULTS {
@@ -366,7 +367,7 @@ impl<'p> Machine<'p> {
         Ok(())
     }
 
-    /// The task is over its budget.
+    /// Records that the task is over its budget.
     fn overrun(&mut self, label: Label, part: Part) -> Result<(), AllocError> {
         self.seen.overrun = Some(Overrun {
             path: self.thread.path.copied(self.plan.alloc)?,
@@ -377,7 +378,7 @@ impl<'p> Machine<'p> {
         Ok(())
     }
 
-    /// The call in whose body the task stands.
+    /// Returns the call whose body the task is in.
     fn innermost_call(&self) -> Option<Label> {
         for frame in self.left.iter().rev() {
             if let Frame::Call { label, .. } = frame {
@@ -388,7 +389,7 @@ impl<'p> Machine<'p> {
     }
 }
 
-/// Both sides of a window, or None where it has no such point.
+/// Returns both sides of a window, or None if it has no such point.
 fn sides(window: Window, point: i64) -> Option<(Window, Window)> {
     match u64::try_from(point) {
         Ok(point) => window.split(point),

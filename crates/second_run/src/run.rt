@@ -8,8 +8,8 @@ use types::budget::Budget;
 use types::input::Input;
 use types::typed::Typed;
 
-/// Runs a program on one thread, each async's body where it stands, up to its end or to the first task
-/// that is over its budget, and tells what was seen.
+/// Runs a program on one thread, with each async's body in place, up to its end or to the first
+/// task that is over its budget. Returns what was seen.
 pub fn seen_again(
     alloc: Global,
     typed: &Typed,

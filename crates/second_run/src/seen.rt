@@ -1,17 +1,17 @@
-//! What is seen of a run.
+//! What was seen of a run.
 
 use crate::cause::Cause;
 use types::code::Label;
 use types::path::Path;
 
-/// A fault, with what it comes from.
+/// A fault with its cause.
 #[derive(Drop)]
 pub struct SeenFault {
     /// The task.
     pub path: Path,
     /// The statement.
     pub label: Label,
-    /// The call in whose body it stands, if it stands in one.
+    /// The call whose body contains the statement, if there is one.
     pub call: Option<Label>,
     pub cause: Cause,
 }
@@ -21,7 +21,7 @@ pub struct SeenFault {
 pub enum Part {
     /// The steps of a task.
     Steps,
-    /// How many asyncs stand inside one another.
+    /// The nesting depth of asyncs.
     Nest,
 }
 
@@ -30,19 +30,20 @@ pub enum Part {
 pub struct Overrun {
     /// The task.
     pub path: Path,
-    /// The statement that it didn't get to do.
+    /// The statement that the task had no budget for.
     pub label: Label,
-    /// The call in whose body it stands, if it stands in one.
+    /// The call whose body contains the statement, if there is one.
     pub call: Option<Label>,
     pub part: Part,
 }
 
-/// What is seen of a run: its faults, or the first task in depth-first order that was over its budget.
+/// What was seen of a run: its faults, or the first task in depth-first order that was over its
+/// budget.
 #[derive(Drop)]
 pub struct Seen {
-    /// The first of its faults, in depth-first order.
+    /// The first faults, in depth-first order.
     pub faults: Vec<SeenFault>,
-    /// How many faults there were.
+    /// The number of faults.
     pub many: u64,
     pub overrun: Option<Overrun>,
 }

@@ -1,4 +1,4 @@
-//! Expressions, evaluated up to a fault, of which it is told what it comes from.
+//! The evaluation of expressions up to a fault, with the cause of the fault.
 
 use crate::cause::Cause;
 use sections::id::SectionId;
@@ -7,8 +7,8 @@ use types::code::{Link, Number, Operator, Truth};
 use types::fault::FaultKind;
 use types::value::{Environment, Places, holds, operate};
 
-/// Where expressions of a statement are evaluated, and how many elements and operators stand before in its
-/// text.
+/// An evaluator for the expressions of one statement. It counts the elements and operators that
+/// come earlier in the statement's text.
 #[derive(Drop)]
 pub struct Tried<'e> {
     environment: &'e Environment,
@@ -18,7 +18,7 @@ pub struct Tried<'e> {
 }
 
 impl<'e> Tried<'e> {
-    /// Before the first expression of a statement.
+    /// Returns an evaluator before the first expression of a statement.
     pub fn new(environment: &'e Environment, store: &'e Store) -> Tried<'e> {
         Tried {
             environment,
@@ -28,21 +28,21 @@ impl<'e> Tried<'e> {
         }
     }
 
-    /// The number of the next element in the text.
+    /// Returns the number of the next element in the text.
     pub fn next_element(&mut self) -> usize {
         let nth = self.elements;
         self.elements = nth.saturating_add(1);
         nth
     }
 
-    /// The number of the next operator in the text.
+    /// Returns the number of the next operator in the text.
     fn next_operator(&mut self) -> usize {
         let nth = self.operators;
         self.operators = nth.saturating_add(1);
         nth
     }
 
-    /// The value of a number expression.
+    /// Returns the value of a number expression.
     #[cycle(value)]
     pub fn number(&mut self, number: &Number) -> Result<i64, Cause> {
         match number {
@@ -66,7 +66,7 @@ impl<'e> Tried<'e> {
         }
     }
 
-    /// The number of an element of a section.
+    /// Reads an element of a section.
     fn element(&self, nth: usize, section: SectionId, index: i64) -> Result<i64, Cause> {
         let window = self.environment.window(section);
         match window.place(index) {
@@ -75,7 +75,7 @@ impl<'e> Tried<'e> {
         }
     }
 
-    /// What becomes of a number by the operators and operands behind it.
+    /// Applies the operators and operands that follow a number to it.
     #[cycle(value)]
     fn chain(&mut self, first: i64, rest: &[Link]) -> Result<i64, Cause> {
         let mut value = first;
@@ -87,7 +87,7 @@ impl<'e> Tried<'e> {
         Ok(value)
     }
 
-    /// The value of a truth expression.
+    /// Returns the value of a boolean expression.
     #[cycle(truth)]
     pub fn truth(&mut self, truth: &Truth) -> Result<bool, Cause> {
         match truth {
@@ -107,8 +107,8 @@ impl<'e> Tried<'e> {
         }
     }
 
-    /// This value where one of several has it, and else the other. Those behind the first that has it are
-    /// only counted.
+    /// Returns `end` if one of the operands has this value, and otherwise the other value. The
+    /// operands after the first one with the value `end` are only counted.
     #[cycle(truth)]
     fn up_to(&mut self, operands: &[Truth], end: bool) -> Result<bool, Cause> {
         let mut value = !end;
@@ -166,7 +166,7 @@ impl<'e> Tried<'e> {
     }
 }
 
-/// What one operator makes of two numbers.
+/// Applies one operator to two numbers.
 fn operated(nth: usize, left: i64, operator: Operator, right: i64) -> Result<i64, Cause> {
     match operate(operator, left, right) {
         Ok(value) => Ok(value),

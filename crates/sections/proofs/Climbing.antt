@@ -53,7 +53,7 @@ overlap-ordered origins a b low high e f = elim (cases_lt a b) [
       overlap-sym origins a b ∙ ap (λ y. overlap origins y a) y ∙ ap (overlap origins low) x)
 ]
 
--- where the two that are reached are one, they overlap
+-- if the two sections that are reached are the same, they overlap
 pub met-overlap : (origins : List Origin) → IsNumbered origins → (low high : ℕ) → low ≤ high → high ≤ low
     → overlap origins low high ≡ true
 met-overlap origins numbered low high h k =

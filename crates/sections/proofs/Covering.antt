@@ -73,7 +73,7 @@ pub ends-at : (v w : Window) → v.array ≡ w.array → end_of v < w.at → end
 ends-at v w e h = or_right (nat_lt v.array w.array) (nat_eq v.array w.array && nat_lt (end_of v) w.at)
     (and_from (nat_eq v.array w.array) (nat_lt (end_of v) w.at) (eq-eqb v.array w.array e) (lt-ltb (end_of v) w.at h))
 
--- what ends before a window ends before those that begin no earlier
+-- what ends before a window ends before those that start no earlier
 pub ends-begins : (u v w : Window) → ends_before u v ≡ true → begins_no_later v w ≡ true → ends_before u w ≡ true
 ends-begins u v w h k = elim (in_turn (ends_cases u v h) (begins_cases v w k)) [
   | inl a ↦ ends-array u w a
@@ -146,7 +146,7 @@ joined_has_places v w h =
 
 -- ---- the whole list
 
--- what a window and those that begin no earlier come to when neighbours are joined
+-- the result of joining the neighbours of a window and of windows that start no earlier
 abbrev pub joined_from : Window → List Window → List Window
 joined_from v [] = v ∷ []
 joined_from v (w ∷ ws) = if meets v w then joined_from (joined v w) ws else v ∷ joined_from w ws
@@ -241,7 +241,7 @@ pub joined_from-unmet : (v w : Window) (ws : List Window) → meets v w ≡ fals
     → joined_from v (w ∷ ws) ≡ v ∷ joined_from w ws
 joined_from-unmet v w ws e = ap (λ b. if b then joined_from (joined v w) ws else v ∷ joined_from w ws) e
 
--- a turn that joins a window to the last one, and a turn that begins a new one
+-- an iteration that joins a window to the last one, and an iteration that starts a new one
 pub turn_met : (done : List Window) (v w u : Window) (ws whole : List Window) → u ≡ joined v w → meets v w ≡ true
     → done ++ joined_from v (w ∷ ws) ≡ whole → done ++ joined_from u ws ≡ whole
 turn_met done v w u ws whole e m h =
@@ -252,7 +252,7 @@ pub turn_unmet : (done : List Window) (v w : Window) (ws whole : List Window) �
 turn_unmet done v w ws whole m h =
     append_assoc done (v ∷ []) (joined_from w ws) ∙ ap (λ t. done ++ t) (sym (joined_from-unmet v w ws m)) ∙ h
 
--- what a cover of the joined windows is of the windows
+-- how a cover of the joined windows relates to the windows
 pub record Covers (windows cover : List Window) : Type 0 where
   pub places : (q : Place) → has cover q ≡ has windows q
   pub form : is_cover cover ≡ true

@@ -16,7 +16,7 @@ use Rattle.sections.specs.Translation.{window}
 use Rattle.sections.specs.declared.window.Window.{Window as rWindow}
 use Rattle.sections.proofs.Covering.{in_window, is_in-from, begins-at, ends_cases, ends-array, ends-at, ends-begins, cover_from}
 
--- ---- before and behind, by the arrays of the two windows
+-- ---- before and after, by the arrays of the two windows
 
 before-same : (w v : Window) → w.array ≡ v.array → before w v ≡ record w { length = min w.length (v.at - w.at) }
 before-same w v e = ap (λ b. if b then record w { length = min w.length (v.at - w.at) }
@@ -116,7 +116,7 @@ behind_ends w v n = elim (no_later_cases v w n) [
   | inr h ↦ subst (EndsWithin w) (sym (behind-same w v (sym h.0))) (record { array = refl; end = omega (arith, h.1) })
 ]
 
--- the parts of a window begin no earlier
+-- the parts of a window start no earlier
 behind_begins : (w v : Window) → begins_no_later w (behind w v) ≡ true
 behind_begins w v = go (nat_eq w.array v.array)
   where
@@ -132,7 +132,7 @@ ends-before u w v h = elim (cases_order w.array v.array) [
   | inr (inr k) ↦ subst (λ x. ends_before u x ≡ true) (sym (before-higher w v k)) h
 ]
 
--- between the parts before and behind a window is one place at least
+-- between the parts before and after a window there is at least one place
 before_behind : (w v : Window) → ends_no_later v w ≡ true → has_places (before w v) ≡ true → has_places v ≡ true
     → ends_before (before w v) (behind w v) ≡ true
 before_behind w v n h k = elim (no_later_cases v w n) [
@@ -186,7 +186,7 @@ module _ (q : Place) where
         | inr (inr k) ↦ inl k
       ]
 
-  -- whether q comes before a window begins, and before it ends
+  -- whether q comes before a window starts, and before it ends
   abbrev pub is_before : Window → Bool
   is_before w = precedes w.array w.at
 
@@ -225,7 +225,7 @@ module _ (q : Place) where
         ]
       ]
 
-  -- what comes before the end of a window is in none of those behind it
+  -- what comes before the end of a window is in none of those after it
   pub none_behind : (v : Window) (ws : List Window) → is_before_end v ≡ true → list_all (ends_before v) ws ≡ true → has ws q ≡ false
   none_behind v [] h all = refl
   none_behind v (w ∷ ws) h all =
@@ -243,7 +243,7 @@ module _ (q : Place) where
         | inr b ↦ (let l : w.at ≤ q.index = i.low in omega (arith, l, k.1, b.1))
       ]
 
-  -- what comes before the end of one comes before that of one that ends no earlier
+  -- what comes before the end of a window comes before the end of one that ends no earlier
   before_later_end : (v w : Window) → ends_no_later v w ≡ true → is_before_end v ≡ true → is_before_end w ≡ true
   before_later_end v w h k = elim (no_later_cases v w h) [
     | inl a ↦ elim (precedes_cases v.array (end_of v) k) [
@@ -267,7 +267,7 @@ module _ (q : Place) where
         | inr b ↦ precedes-index v.array (end_of v) (a ∙ sym b.0) (omega (arith, u, b.1))
       ]
 
-  -- the places before a window begins
+  -- the places before a window starts
   is_in-before : (w v : Window) → is_in (before w v) q ≡ (is_in w q && is_before v)
   is_in-before w v = elim (cases_order w.array v.array) [
     | inl e ↦ ap (λ x. is_in x q) (before-same w v e) ∙ same_truth (is_in (record w { length = min w.length (v.at - w.at) }) q)
@@ -314,7 +314,7 @@ module _ (q : Place) where
                 (record { array = a; low = l; high = omega (arith, l, u, b.1) })
           ]
 
-  -- the places behind the end of a window
+  -- the places after the end of a window
   is_in-behind : (w v : Window) → ends_no_later v w ≡ true → is_in (behind w v) q ≡ (is_in w q && not (is_before_end v))
   is_in-behind w v n = elim (no_later_cases v w n) [
     | inl h ↦ ap (λ x. is_in x q) (behind-higher w v h) ∙ same_truth (is_in w q) (is_in w q && not (is_before_end v))
@@ -361,7 +361,7 @@ module _ (q : Place) where
 
 -- ---- a window without the places of a cover
 
--- the parts of w that the windows gs leave, and what `go` makes of those gs that end later
+-- the parts of w that the windows gs leave; `go` gives the parts for those gs that end later
 abbrev pub cut_by : Window → (List Window → List Window) → List Window → List Window
 cut_by w go [] = unless_empty w ++ go []
 cut_by w go (g ∷ gs) =
@@ -389,7 +389,7 @@ module _ (q : Place) where
       go true e = refl
       go false e = ap (λ b. b || has ws q) (sym (is_in-no_places w e))
 
-  -- a place of w before v begins, one behind v, one of the windows behind w, one of those behind v
+  -- a place of w before v starts, one after v, one of the windows after w, one of those after v
   taken_within : (a s e h r : Bool) → (s ≡ true → e ≡ true) → (e ≡ true → h ≡ false) → (e ≡ true → r ≡ false)
       → ((a && s) || (((a && not e) || r) && not h)) ≡ ((a || r) && not ((not s && e) || h))
   taken_within a s true h r f g k = neither a s h r (g refl) (k refl)
@@ -415,7 +415,7 @@ module _ (q : Place) where
   taken_later true false true false false f g k = refl
   taken_later true s true true r f g k = absurd (true≢false (g refl))
 
-  -- what is behind w, and what of it the rest leaves
+  -- what is after w, and what the rest leaves of it
   pub record GoesOn (ws : List Window) (go : List Window → List Window) : Type 0 where
     pub rest : (gs : List Window) → is_cover gs ≡ true → has (go gs) q ≡ (has ws q && not (has gs q))
 
@@ -508,7 +508,7 @@ cover-unless_empty w xs h k = go (has_places w) refl
     go true e = cover_from w xs e (h e) k
     go false e = k
 
--- what the rest makes of the windows, behind w
+-- what the rest leaves of the windows after w
 record Ends (w : Window) (go : List Window → List Window) : Type 0 where
   cover : (gs : List Window) → is_cover gs ≡ true → is_cover (go gs) ≡ true
   all : (gs : List Window) → list_all (ends_before w) (go gs) ≡ true
@@ -564,7 +564,7 @@ module _ (gone : List rWindow) (next : ℕ) (there : next < length gone) where
   next_first g is = ap (map window) (drop_more gone next g there)
       ∙ ap (λ (x : rWindow). window x ∷ map window (drop (next + 1) gone)) (sym is)
 
-  -- one ends within w: the part before it is left, and the part behind it goes on
+  -- one ends within w: the part before it is left, and the loop continues with the part after it
   pub turn_within : (done : List Window) (w r : Window) (go : List Window → List Window) (g h : rWindow) (whole : List Window)
       → g ≡ get_or gone next g → h ≡ get_or gone next h → ends_no_later (window g) w ≡ true → r ≡ behind w (window h)
       → done ++ cut_by w go (map window (drop next gone)) ≡ whole
@@ -579,7 +579,7 @@ module _ (gone : List rWindow) (next : ℕ) (there : next < length gone) where
       ∙ ap (λ gs. done ++ cut_by w go gs) (sym (next_first h f))
       ∙ inv
 
-  -- it ends later: the part before it is left, and it goes on
+  -- it ends later: the part before it is left, and the loop continues with it
   pub turn_later : (done : List Window) (w r : Window) (go : List Window → List Window) (g h : rWindow) (whole : List Window)
       → g ≡ get_or gone next g → h ≡ get_or gone next h → ends_no_later (window g) w ≡ false → r ≡ before w (window h)
       → done ++ cut_by w go (map window (drop next gone)) ≡ whole
@@ -595,7 +595,7 @@ module _ (gone : List rWindow) (next : ℕ) (there : next < length gone) where
       ∙ ap (λ gs. done ++ cut_by w go gs) (sym (next_first h f))
       ∙ inv
 
--- none is left: the whole of w is left
+-- none is left: all of w is left
 pub turn_alone : (gone : List rWindow) (next : ℕ) → length gone ≤ next → (done : List Window) (w r : Window)
     (go : List Window → List Window) (whole : List Window) → r ≡ w
     → done ++ cut_by w go (map window (drop next gone)) ≡ whole

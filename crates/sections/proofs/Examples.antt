@@ -40,7 +40,7 @@ array_and_side_of_a_side = refl
 touching : joined_from (window 0 0 2) (window 0 2 2 ∷ []) ≡ window 0 0 4 ∷ []
 touching = refl
 
--- and are apart in no cover
+-- and they stay separate in no cover
 not_joined : is_cover (window 0 0 2 ∷ (window 0 2 2 ∷ [])) ≡ false
 not_joined = refl
 
@@ -52,7 +52,7 @@ two_arrays_are_parted = refl
 hole : minus (window 0 0 4 ∷ []) (window 0 1 2 ∷ []) ≡ window 0 0 1 ∷ (window 0 3 1 ∷ [])
 hole = refl
 
--- windows that reach over several
+-- windows that span several others
 several : minus (window 0 0 3 ∷ (window 0 5 4 ∷ (window 1 0 2 ∷ []))) (window 0 2 4 ∷ (window 0 8 9 ∷ []))
     ≡ window 0 0 2 ∷ (window 0 6 2 ∷ (window 1 0 2 ∷ []))
 several = refl

@@ -18,7 +18,7 @@ module _ (origins : List Origin) where
   beyond-side d go a s (left e) = ap (beyond d go) e
   beyond-side d go a s (right e) = ap (beyond d go) e
 
-  -- what stands in a line behind its first stands in the line of the parent
+  -- what is in a line after its first section is in the line of the parent
   pub record Behind (n a x : ℕ) : Type 0 where
     pub parent : ℕ
     pub side : IsSideOf origins parent a
@@ -78,7 +78,7 @@ module _ (origins : List Origin) where
         let m : r.parent < a = parent_below r.parent a r.side in
         omega (arith, k, m)
 
-    -- a line is whole after as many steps as the section's number
+    -- a line is complete after as many steps as the section's number
     line-enough : (n m x a : ℕ) → a ≤ m → Member x (line_within origins n a) → Member x (line_within origins m a)
     line-enough zero m x a h first = in_own_line m a
     line-enough zero m x a h (next k) = elim k [ ]
@@ -123,7 +123,7 @@ module _ (origins : List Origin) where
           ap (origin_of origins) (root_within-side n a s side) ∙ root_within_is_root n s (omega (arith, below, h)))
     ]
 
-    -- what a line ends in is a root
+    -- the last section of a line is a root
     pub root_is_root : (a : ℕ) → origin_of origins (root_of origins a) ≡ Root
     root_is_root a = root_within_is_root a a (le_refl a)
 
@@ -150,7 +150,7 @@ module _ (origins : List Origin) where
         let below : s < suc a = parent_below s (suc a) side in
         root_within-side a (suc a) s side ∙ root-enough a s s (omega (arith, below)) (le_refl s)
 
-    -- two sections of one line, one behind the other
+    -- two sections of one line, one after the other
     pub line_cases : (n x y a : ℕ) → Member x (line_within origins n a) → Member y (line_within origins n a)
         → ((t : ℕ) → IsSideOf origins t x → y ≤ t → ⊥) → ((t : ℕ) → IsSideOf origins t y → x ≤ t → ⊥) → x ≡ y
     line_cases zero x y a first first f g = refl

@@ -1,11 +1,11 @@
--- Tests of lists, and what stands in them.
+-- Tests of lists, and members of lists.
 use Rattle.std.proofs.Common.{◌≡◌, inl, inr, List, [], ◌∷◌}
 use Rattle.std.proofs.lemmas.Bool.{or_cases, or_left, or_right, false≢true}
 use Rattle.std.specs.Prelude.{Bool, true}
 use Rattle.std.specs.List.{list_any}
 use Rattle.sections.specs.Member.{Member, first, next}
 
--- what passes where a test of a list does
+-- an element of the list that passes the test
 pub record Passes {A : Type 0} (test : A → Bool) (xs : List A) : Type 0 where
   pub item : A
   pub member : Member item xs

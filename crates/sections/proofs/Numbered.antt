@@ -1,4 +1,4 @@
--- Numbered origins stay so as sections are added.
+-- Numbered origins stay numbered as sections are added.
 use Rattle.std.proofs.Common.{◌≡◌, ◌⊎◌, inl, inr, ℕ, zero, suc, ◌+◌, ◌-◌, ◌<◌, ◌≤◌, List, [], ◌∷◌, ◌++◌, length, refl}
 use Rattle.std.proofs.Common.{sym, ap, ◌∙◌, subst, arith}
 use Rattle.std.proofs.Math.ListN.{get_or-append}
@@ -9,7 +9,7 @@ use Rattle.sections.specs.Origins.{Origin, Root, Left, Right, origin_of, IsNumbe
 use Rattle.sections.specs.Translation.{origin}
 use Rattle.sections.specs.declared.origin.Origin.{Origin as rOrigin}
 
--- a section that comes from a split is there
+-- a section that comes from a split exists
 pub left_is_there : (os : List Origin) (a s : ℕ) → origin_of os a ≡ Left s → a < length os
 left_is_there [] a s e = cc
 left_is_there (o ∷ os) zero s e = omega arith
@@ -20,7 +20,7 @@ right_is_there [] a s e = cc
 right_is_there (o ∷ os) zero s e = omega arith
 right_is_there (o ∷ os) (suc a) s e = let h = right_is_there os a s e in omega (arith, h)
 
--- origins that may stand behind n numbered ones
+-- origins that can come after n numbered ones
 pub record Continues (n : ℕ) (ps : List Origin) : Type 0 where
   pub left : (b s : ℕ) → origin_of ps b ≡ Left s → s < n + b
   pub right : (b s : ℕ) → origin_of ps b ≡ Right s → s < n + b
@@ -34,7 +34,7 @@ below_or_behind n a = go (nat_lt a n) refl
     go true e = inl (ltb-true a n e)
     go false e = inr (a - n, (let h : n ≤ a = ltb-false a n e in omega arith))
 
--- a section comes from where it came from, as others are added behind it
+-- the origin of a section stays the same as others are added after it
 pub origin-prefix : (os ps : List Origin) (a : ℕ) → a < length os → origin_of (os ++ ps) a ≡ origin_of os a
 origin-prefix os ps a h = get_or-append os ps Root a h
 
@@ -74,7 +74,7 @@ module _ (os ps : List Origin) (numbered : IsNumbered os) (more : Continues (len
         behind (a - 1) k.0 (omega (arith, h, k.1)) ∙ k.2)
   ]
 
-  -- what may stand behind numbered origins leaves them numbered
+  -- what can come after numbered origins leaves them numbered
   pub continued : IsNumbered (os ++ ps)
   continued = record { left = left_in; right = right_in; right_behind = right_behind_in; left_before = left_before_in }
 

@@ -1,4 +1,4 @@
--- The laws of overlap.
+-- The theorems about overlap.
 use Rattle.std.proofs.Common.{◌≡◌, ◌≢◌, ◌⊎◌, inl, inr, ℕ, ◌+◌, ◌-◌, ◌<◌, ◌≤◌, List, refl, sym, ap, ◌∙◌, subst, arith, true≢false}
 use Rattle.std.proofs.lemmas.Bool.{eqb-true, eqb-false, eq-eqb, ne_eqb, and_parts, and_from, or_cases, or_left, or_right}
 use Rattle.std.proofs.lemmas.Bool.{not-true, not-false, not_from_false, false_from_ne_true, true_from_ne_false, false≢true, cases_order}
@@ -13,7 +13,7 @@ use Rattle.sections.proofs.Lines.{in_own_line, line-below, root_of-root, root-be
 use Rattle.sections.proofs.Lines.{root_of-side, line_cases}
 
 module _ (origins : List Origin) where
-  -- two sections, and the sides of one split under which they lie
+  -- two sections, and the sides of one split that they are under
   pub record Under (a b : ℕ) : Type 0 where
     pub over_a : ℕ
     pub over_b : ℕ
@@ -32,7 +32,7 @@ module _ (origins : List Origin) where
       member_any (λ x. list_any (are_opposite origins x) (line origins b)) (line origins a) u.a_lies
       (member_any (are_opposite origins u.over_a) (line origins b) u.b_lies u.opposite)
 
-  -- what disjoint sections are
+  -- what it means that two sections are disjoint
   pub disjoint_cases : (a b : ℕ) → overlap origins a b ≡ false → (root_of origins a ≢ root_of origins b) ⊎ Under a b
   disjoint_cases a b h =
       elim (or_cases (not (nat_eq (root_of origins a) (root_of origins b))) (under_opposite origins a b)
@@ -49,7 +49,7 @@ module _ (origins : List Origin) where
   under-disjoint a b u = ap not (or_right (not (nat_eq (root_of origins a) (root_of origins b))) (under_opposite origins a b)
       (under_opposite-from a b u))
 
-  -- two tests of overlap are the same where what is disjoint by one is so by the other
+  -- two tests of overlap are equal if sections that are disjoint by one are disjoint by the other
   same_overlap : (a b c d : ℕ) → (overlap origins a b ≡ false → overlap origins c d ≡ false)
       → (overlap origins c d ≡ false → overlap origins a b ≡ false) → overlap origins a b ≡ overlap origins c d
   same_overlap a b c d f g = by_falsehood (overlap origins a b) (overlap origins c d) f g
@@ -92,7 +92,7 @@ module _ (origins : List Origin) where
   pub sides-disjoint : (l r : ℕ) → are_sides origins l r ≡ true → overlap origins l r ≡ false
   sides-disjoint l r h = opposite-disjoint l r (or_left (are_sides origins l r) (are_sides origins r l) h)
 
-  -- what two sides of one split are
+  -- what it means to be two sides of one split
   pub record Sides (l r : ℕ) : Type 0 where
     pub turn : r ≡ l + 1
     pub parent : ℕ
@@ -147,7 +147,7 @@ module _ (origins : List Origin) where
       right_of = e;
     })
 
-    -- no two sides of one split stand in one line
+    -- no line contains both sides of one split
     sides_part : (l r a : ℕ) → Sides l r → Member l (line origins a) → Member r (line origins a) → ⊥
     sides_part l r a s h k =
         let same : l ≡ r =
@@ -226,7 +226,7 @@ module _ (origins : List Origin) where
       | inr u ↦ under-disjoint a s (under_parent a b s h side o u)
     ]
 
-    -- a side with the larger number overlaps what its parent does, but for the other side
+    -- a side with the larger number overlaps what its parent does, except the other side
     pub overlap-walks : (a b s : ℕ) → a < b → IsSideOf origins s b → are_opposite origins a b ≡ false
         → overlap origins a b ≡ overlap origins a s
     overlap-walks a b s h side o = same_overlap a b a s (disjoint_parent a b s h side o) (λ d.
@@ -248,7 +248,7 @@ module _ (origins : List Origin) where
     overlap-side s a side =
         overlap-walks s a s (parent_below origins numbered s a side) side (parent_not_opposite s a side) ∙ overlap-self s
 
-    -- sides of a section overlap where they aren't those of one split
+    -- sides of a section overlap if they aren't the sides of one split
     pub two_splits-overlap : (s a b : ℕ) → IsSideOf origins s a → IsSideOf origins s b → are_opposite origins a b ≡ false
         → overlap origins a b ≡ true
     two_splits-overlap s a b f g o = elim (cases_order a b) [

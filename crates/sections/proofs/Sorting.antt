@@ -1,4 +1,4 @@
--- What sorting gives: windows in the order of their first places.
+-- The result of sorting: windows in the order of their first places.
 use Rattle.std.proofs.Common.{◌≡◌, ◌⊎◌, inl, inr, ℕ, suc, ◌+◌, ◌<◌, ◌≤◌, List, [], ◌∷◌, length, refl, sym, ap, ◌∙◌, subst, arith}
 use Rattle.std.proofs.Common.{get_or, map, cond, take, drop, ◌-◌}
 use Rattle.std.proofs.Math.Seq.{take-length}
@@ -28,7 +28,7 @@ not_less x y o h = go (nat_lt x y) (nat_eq x y) refl refl h
     go false true e f h = inr (eqb-true x y f, h)
     go false false e f h = inl (let k : y ≤ x = ltb-false x y e in let ne = eqb-false x y f in omega (arith, k, ne))
 
--- a window that isn't less begins no earlier
+-- a window that isn't less starts no earlier
 pub begins-not_less : (v w : rWindow) (o : Ordering)
     → is_lt (ordering_then (nat_cmp w.array.number v.array.number) (ordering_then (nat_cmp w.at v.at) o)) ≡ false
     → begins_no_later (window v) (window w) ≡ true
@@ -55,7 +55,7 @@ ascending-neighbours (x ∷ (y ∷ ys)) all h =
     subst (λ n. begins_no_later (window (get_or (y ∷ ys) k d)) (window (get_or (x ∷ (y ∷ ys)) n d)) ≡ true) e
     (h (suc k) d (omega (arith, lt)))))))
 
--- a window without places has none
+-- a window without places contains no place
 pub is_in-empty : (w : Window) (q : Place) → has_places w ≡ false → is_in w q ≡ false
 is_in-empty w q h = false_from_ne_true (is_in w q) (λ k.
     (let i = in_window w q k in
@@ -123,7 +123,7 @@ sorted-filter ws kept sorted e moved h =
     begins-not_less (get_or sorted k d) (get_or sorted (k + 1) d) (nat_cmp (get_or sorted (k + 1) d).len (get_or sorted k d).len)
     (h k d (omega arith) lt))
 
--- where there is a first
+-- if there is a first window
 pub first_and_rest : (xs : List rWindow) (x : rWindow) → 1 ≤ length xs → x ≡ get_or xs 0 x
     → x ∷ take (length xs - 1) (drop 1 xs) ≡ xs
 first_and_rest [] x h e = absurd (omega (arith, h))

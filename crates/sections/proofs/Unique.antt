@@ -10,7 +10,7 @@ use Rattle.sections.proofs.Covering.{in_window, is_in-from, ends_cases}
 use Rattle.sections.proofs.Cutting.{covered, is_before, is_before_end, before_its_end, precedes-index, follows_cases}
 use Rattle.sections.proofs.Cutting.{is_in-between, none_behind}
 
--- where a window begins, and where it ends
+-- where a window starts, and where it ends
 abbrev start : Window → Place
 start w = record { array = w.array; index = w.at }
 
@@ -24,13 +24,13 @@ in_at_start w h = is_in-from w (start w) (record {
   high = let k : 0 < w.length = ltb-true 0 w.length h in omega (arith, k);
 })
 
--- nothing of a cover comes before its first window
+-- no place of a cover comes before its first window
 none_before : (q : Place) (w : Window) (ws : List Window) → is_cover (w ∷ ws) ≡ true → is_before q w ≡ true → has (w ∷ ws) q ≡ false
 none_before q w ws cover h =
     ap (λ b. b || has ws q) (is_in-between q w ∙ ap (λ b. not b && is_before_end q w) h)
     ∙ none_behind q w ws (before_its_end q w h) (covered w ws cover).all
 
--- nor stands where it ends
+-- nor is there a place of the cover where the first window ends
 none_at_finish : (w : Window) (ws : List Window) → list_all (ends_before w) ws ≡ true → has ws (finish w) ≡ false
 none_at_finish w [] all = refl
 none_at_finish w (x ∷ ws) all =
@@ -62,13 +62,13 @@ same_window v w h =
 
 module _ (v w : Window) (vs ws : List Window) (f : is_cover (v ∷ vs) ≡ true) (g : is_cover (w ∷ ws) ≡ true)
     (same : (q : Place) → has (v ∷ vs) q ≡ has (w ∷ ws) q) where
-  -- the other one begins no later
+  -- the other one starts no later
   begins_no_earlier : is_before (start v) w ≡ false
   begins_no_earlier = false_from_ne_true (is_before (start v) w) (λ h. true≢false
       (sym (or_left (is_in v (start v)) (has vs (start v)) (in_at_start v (covered v vs f).places))
       ∙ same (start v) ∙ none_before (start v) w ws g h))
 
-  -- and ends no later, where both begin at one place
+  -- and ends no later, if both start at one place
   ends_no_earlier : v.array ≡ w.array → v.at ≡ w.at → end_of v < end_of w → ⊥
   ends_no_earlier a s h = true≢false
       (sym (or_left (is_in w (finish v)) (has ws (finish v)) (is_in-from w (finish v) (record {

@@ -1,4 +1,4 @@
--- Windows of disjoint sections share no place, where they stand as the sections' origins say.
+-- Windows of disjoint sections share no place if they agree with the origins of the sections.
 use Rattle.std.proofs.Common.{◌≡◌, ◌≢◌, ◌⊎◌, inl, inr, ℕ, zero, suc, ◌+◌, ◌-◌, ◌<◌, ◌≤◌, Option, Some, None, ℤ, pos, negsuc}
 use Rattle.std.proofs.Common.{refl, sym, ap, ◌∙◌, subst, arith}
 use Rattle.std.proofs.lemmas.Bool.{leb-true, eqb-true, and_parts}
@@ -33,7 +33,7 @@ sides_of-cut w a b (pos n) h = go (nat_le n w.length) refl h
     }
     go false e h = absurd cc
 
--- the places of a side are places of the whole
+-- the places of a side are places of the whole window
 pub left_inside : {w a b : Window} → IsCut w a b → (q : Place) → In a q → In w q
 left_inside {w} {a} {b} c q h =
     let i : In (first_places c.at w) q = subst (λ a. In a q) c.left h in
@@ -47,7 +47,7 @@ right_inside {w} {a} {b} c q h =
     let high : q.index < w.at + c.at + (w.length - c.at) = i.high in
     record { array = i.array; low = omega (arith, low); high = omega (arith, c.fits, high) }
 
--- and each is in one side alone
+-- and each is in only one side
 pub sides_apart : {w a b : Window} → IsCut w a b → Apart a b
 sides_apart {w} {a} {b} c q h k = parted (subst (λ a. In a q) c.left h) (subst (λ b. In b q) c.right k)
   where
@@ -61,7 +61,7 @@ pub apart-sym : {v w : Window} → Apart v w → Apart w v
 apart-sym h q x y = h q y x
 
 module _ (names : Names) (windows : ℕ → Window) (numbered : IsNumbered names.origins) (placed : Placed names windows) where
-  -- a section in scope that has all places of another
+  -- a section in scope that contains all places of another
   pub record Above (a x : ℕ) : Type 0 where
     pub in_scope : Member x names.scope
     pub places : (q : Place) → In (windows a) q → In (windows x) q
@@ -84,7 +84,7 @@ module _ (names : Names) (windows : ℕ → Window) (numbered : IsNumbered names
         places = λ q h. right_inside cut q (subst (λ r. In (windows r) q) l.turn h);
       }
 
-  -- the sections of a line have all places of its first
+  -- the sections of a line contain all places of its first section
   above : (n x a : ℕ) → Member x (line_within names.origins n a) → Member a names.scope → Above a x
   above zero x a first m = above_itself a m
   above zero x a (next h) m = elim h [ ]

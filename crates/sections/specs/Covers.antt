@@ -1,4 +1,5 @@
--- Places of lists of windows, and the one form in which windows stand for a set of places.
+-- The places of lists of windows, and covers: the one form in which windows represent a set of
+-- places.
 use Rattle.std.specs.Prelude.{◌+◌, List, [], ◌∷◌, Bool, true, ◌&&◌, ◌||◌, nat_eq, nat_lt, nat_le}
 use Rattle.std.specs.List.{list_any, list_all}
 use Rattle.sections.specs.Place.{Place, Window}
@@ -15,7 +16,7 @@ has ws q = list_any (λ w. is_in w q) ws
 abbrev pub has_places : Window → Bool
 has_places w = nat_lt 0 w.length
 
--- whether v ends before w begins, with a place between them if they are of one array
+-- whether v ends before w starts, with a place between them if they are in one array
 abbrev pub ends_before : Window → Window → Bool
 ends_before v w =
     nat_lt v.array w.array || (nat_eq v.array w.array && nat_lt (v.at + v.length) w.at)

@@ -1,14 +1,14 @@
--- Where the sections of a procedure come from. They are numbered in the order in which they appear.
+-- The origins of the sections of a procedure. They are numbered in the order in which they appear.
 use Rattle.std.specs.Prelude.{ℕ, ◌+◌, ◌-◌, ◌<◌, ◌≡◌, List, slice_index_or}
 
--- where a section comes from: it is an array or a parameter, or a side of a split
+-- the origin of a section: it is an array or a parameter, or a side of a split
 pub data Origin : Type 0 where
   Root : Origin
   Left : (parent : ℕ) → Origin
   Right : (parent : ℕ) → Origin
 
 module _ (origins : List Origin) where
-  -- where the section of a number comes from
+  -- the origin of the section with a number
   abbrev pub origin_of : ℕ → Origin
   origin_of a = slice_index_or origins a Root
 
@@ -17,11 +17,11 @@ module _ (origins : List Origin) where
     left : origin_of a ≡ Left s → IsSideOf s a
     right : origin_of a ≡ Right s → IsSideOf s a
 
-  -- the sides of each split are numbered in turn, behind their parent
+  -- the sides of each split have consecutive numbers, after their parent
   pub record IsNumbered : Type 0 where
     pub left : (a s : ℕ) → origin_of a ≡ Left s → s < a
     pub right : (a s : ℕ) → origin_of a ≡ Right s → s < a
-    -- next to a left side stands the right side of the same split
+    -- next to a left side is the right side of the same split
     pub right_behind : (a s : ℕ) → origin_of a ≡ Left s → origin_of (a + 1) ≡ Right s
-    -- and just before a right side its left one
+    -- right before a right side is its left side
     pub left_before : (a s : ℕ) → origin_of a ≡ Right s → origin_of (a - 1) ≡ Left s

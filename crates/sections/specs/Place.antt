@@ -1,4 +1,4 @@
--- Places of arrays, and windows, which are rows of places.
+-- Places of arrays, and windows, which are contiguous places of one array.
 use Rattle.std.specs.Prelude.{ℕ, ◌+◌, ◌-◌, ◌<◌, ◌≤◌, ◌≡◌, ℤ, pos, negsuc, Bool, ◌&&◌, nat_eq}
 use Rattle.std.specs.Prelude.{nat_lt, nat_le, Option, Some, None, if◌then◌else◌}
 
@@ -7,7 +7,7 @@ pub record Place : Type 0 where
   pub array : ℕ
   pub index : ℕ
 
--- `length` places of an array, from its place `at` on
+-- `length` places of an array, starting at its place `at`
 pub record Window : Type 0 where
   pub array : ℕ
   pub at : ℕ
@@ -27,7 +27,7 @@ same_place p q = nat_eq p.array q.array && nat_eq p.index q.index
 abbrev pub nowhere : Window
 nowhere = record { array = 0; at = 0; length = 0 }
 
--- the place of the element i of a window, where it has one
+-- the place of the element i of a window, if the window has one
 abbrev pub place_in : Window → ℤ → Option Place
 place_in w (negsuc n) = None
 place_in w (pos i) =
@@ -37,11 +37,11 @@ place_in w (pos i) =
 abbrev pub first_places : ℕ → Window → Window
 first_places n w = record w { length = n }
 
--- the places behind the first n
+-- the places after the first n
 abbrev pub places_behind : ℕ → Window → Window
 places_behind n w = record w { at = w.at + n; length = w.length - n }
 
--- the first n places of a window and the others, where it has that many
+-- the first n places of a window and the others, if it has that many
 abbrev pub sides_of : Window → ℤ → Option (Window × Window)
 sides_of w (negsuc n) = None
 sides_of w (pos n) =

@@ -1,4 +1,4 @@
--- Which windows stand to one another as their sections' origins say.
+-- Windows that agree with the origins of their sections.
 use Rattle.std.specs.Prelude.{ℕ, ◌+◌, ◌≡◌, ◌≢◌, List, Bool, true, ℤ, Some}
 use Rattle.sections.specs.Member.{Member}
 use Rattle.sections.specs.Origins.{Origin, Root, Left, Right, origin_of}
@@ -8,7 +8,7 @@ use Rattle.sections.specs.Place.{Place, Window, In, sides_of}
 abbrev pub Apart : Window → Window → Type 0
 Apart v w = (q : Place) → In v q → In w q → ⊥
 
--- the sections of a procedure that may be named at a place of it
+-- the sections that can be named at one point of a procedure
 pub record Names : Type 0 where
   pub origins : List Origin
   -- whether a root may be written
@@ -30,13 +30,13 @@ pub record HasLeft (names : Names) (s r : ℕ) : Type 0 where
   pub in_scope : Member left names.scope
   pub origin : origin_of names.origins left ≡ Left s
 
--- the windows of the sections in scope stand to one another as their origins say
+-- the windows of the sections in scope agree with the origins of the sections
 pub record Placed (names : Names) (windows : ℕ → Window) : Type 0 where
   -- a root that may be written shares no place with another root
   pub apart : (r s : ℕ) → r ≢ s → Member r names.scope → Member s names.scope
       → origin_of names.origins r ≡ Root → origin_of names.origins s ≡ Root
       → names.may_write r ≡ true → Apart (windows r) (windows s)
-  -- the sides of a split are those of their parent's window
+  -- the windows of the sides of a split are the sides of their parent's window
   pub left : (s l : ℕ) → Member l names.scope → origin_of names.origins l ≡ Left s
       → AreSidesOf names windows s l
   pub right : (s r : ℕ) → Member r names.scope → origin_of names.origins r ≡ Right s

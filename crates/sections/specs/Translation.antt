@@ -17,7 +17,7 @@ section s = s.number
 abbrev pub array : ArrayId → ℕ
 array a = a.number
 
--- where a section comes from
+-- the origin of a section
 abbrev pub origin : rOrigin → Origin
 origin rRoot = Root
 origin (rLeft s) = Left (section s)

@@ -1,4 +1,4 @@
--- What a section tree shows: where each section comes from, by number.
+-- The contents of a section tree: the origin of each section, by number.
 use Rattle.std.specs.Prelude.{List, map}
 use Rattle.sections.specs.Origins.{Origin}
 use Rattle.sections.specs.Translation.{origin}

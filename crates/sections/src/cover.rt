@@ -11,8 +11,8 @@ ghost use Rattle.sections.specs.Translation.{window as window_of};
 use crate::window::Window;
 use std::alloc::{AllocError, Global};
 
-/// The places of some windows, which stand in any order, as windows in ascending order, none empty
-/// and none touching another.
+/// Returns the cover of some windows: their places as windows in ascending order, none empty and
+/// none touching another. The windows can be in any order.
 pub fn cover(alloc: Global, windows: &[Window]) -> Result<Vec<Window>, AllocError>
     ensures places { IfOk result (λ c. (q : PlaceOf)
         → has (map window_of c.items) q ≡ has (map window_of windows.now) q) }
@@ -26,7 +26,7 @@ pub fn cover(alloc: Global, windows: &[Window]) -> Result<Vec<Window>, AllocErro
     }
 }
 
-/// The places of some windows that aren't places of others, as a cover.
+/// Returns the cover of the places of some windows that aren't places of others.
 pub fn less(alloc: Global, windows: &[Window], others: &[Window]) -> Result<Vec<Window>, AllocError>
     ensures places { IfOk result (λ c. (q : PlaceOf) → has (map window_of c.items) q
         ≡ (has (map window_of windows.now) q && not (has (map window_of others.now) q))) }
@@ -37,14 +37,14 @@ pub fn less(alloc: Global, windows: &[Window], others: &[Window]) -> Result<Vec<
     cut(alloc, &kept, &gone)
 }
 
-/// The windows that have a place.
+/// Returns the windows that have a place.
 fn with_places(alloc: Global, windows: &[Window]) -> Result<Vec<Window>, AllocError>
     ensures { IfOk result (λ v. v.items ≡ filter (λ w. has_places (window_of w)) windows.now) }
 {
     windows.iter().filter(|w| w.len > 0).copied().collect(alloc)
 }
 
-/// The cover of windows in the order of their first places, of which there is one at least.
+/// Returns the cover of one or more windows, which are in the order of their first places.
 fn join(alloc: Global, first: Window, rest: &[Window]) -> Result<Vec<Window>, AllocError>
     requires { is_ascending (map window_of (first ∷ rest.now)) ≡ true }
     ensures places { IfOk result (λ c. (q : PlaceOf)
@@ -65,7 +65,8 @@ fn join(alloc: Global, first: Window, rest: &[Window]) -> Result<Vec<Window>, Al
     Ok(cover)
 }
 
-/// The places of one cover that aren't places of another one, as a cover. Each window is met once.
+/// Returns the cover of the places of one cover that aren't places of another. Visits each window
+/// once.
 fn cut(alloc: Global, kept: &[Window], gone: &[Window]) -> Result<Vec<Window>, AllocError>
     requires kept { is_cover (map window_of kept.now) ≡ true }
     requires gone { is_cover (map window_of gone.now) ≡ true }
@@ -91,7 +92,7 @@ fn cut(alloc: Global, kept: &[Window], gone: &[Window]) -> Result<Vec<Window>, A
     Ok(left)
 }
 
-/// Adds a window, unless it is empty.
+/// Adds a window unless it is empty.
 fn add(windows: &mut Vec<Window>, window: Window) -> Result<(), AllocError>
     ensures { OnOk result (map window_of windows.new.items
         ≡ map window_of windows.old.items ++ unless_empty (window_of window)) }

@@ -1,13 +1,13 @@
 //! The numbers of arrays and of sections.
 
-/// An array of a program, in the order of their declarations.
+/// An array of a program, numbered in the order of declaration.
 #[derive(Clone, Copy, PartialEq, Eq, PartialOrd, Ord, Hash, Debug)]
 pub struct ArrayId {
     pub number: usize,
 }
 
-/// A section of a procedure: parameters or arrays first, then the sides of splits, in the order of
-/// the text.
+/// A section of a procedure. Parameters or arrays come first, then the sides of splits in the order
+/// of the text.
 #[derive(Clone, Copy, PartialEq, Eq, PartialOrd, Ord, Hash, Debug)]
 pub struct SectionId {
     pub number: usize,

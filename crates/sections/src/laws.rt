@@ -1,4 +1,4 @@
-//! Laws of sections, each the contract of a function that does nothing.
+//! Theorems about sections, each stated as the contract of an empty function.
 
 ghost use Rattle.std.specs.Prelude.{◌≡◌, ◌⊎◌, ◌↔◌, ◌+◌, ◌-◌, ℕ, List, true, false};
 ghost use Rattle.sections.specs.Covers.{is_in, has, is_cover};
@@ -8,7 +8,7 @@ ghost use Rattle.sections.specs.Overlap.{overlap, root_of, are_sides, are_opposi
 ghost use Rattle.sections.specs.Place.{Place, Window, In};
 ghost use Rattle.sections.specs.Placed.{Apart, Names, Placed};
 
-/// Overlap has no order, and a section overlaps itself and its sides.
+/// States that overlap is symmetric, and that a section overlaps itself and its sides.
 pub fn overlap_is_near()
     ensures symmetric { (origins : List Origin) (a b : ℕ)
         → overlap origins a b ≡ overlap origins b a }
@@ -18,7 +18,7 @@ pub fn overlap_is_near()
         → IsSideOf origins s a → overlap origins s a ≡ true }
 {}
 
-/// Next to each side stands the other one of its split.
+/// States that the other side of a split is numbered right next to each side.
 pub fn sides_stand_together()
     ensures left { (origins : List Origin) → IsNumbered origins → (l s : ℕ)
         → origin_of origins l ≡ Left s → are_sides origins l (l + 1) ≡ true }
@@ -26,8 +26,8 @@ pub fn sides_stand_together()
         → origin_of origins r ≡ Right s → are_sides origins (r - 1) r ≡ true }
 {}
 
-/// The two sides of one split are disjoint, and what is disjoint from a section is disjoint from
-/// its sides. Sides of two different splits of one section overlap.
+/// States that the two sides of one split are disjoint, and that what is disjoint from a section is
+/// disjoint from its sides. Sides of two different splits of one section overlap.
 pub fn overlap_follows_the_splits()
     ensures sides { (origins : List Origin) (l r : ℕ)
         → are_sides origins l r ≡ true → overlap origins l r ≡ false }
@@ -38,8 +38,8 @@ pub fn overlap_follows_the_splits()
         → overlap origins a b ≡ true }
 {}
 
-/// Where the windows of sections stand as the origins say, disjoint sections share no place, if one
-/// of them may be written.
+/// States that two disjoint sections share no place if one of them may be written, provided that
+/// the windows of the sections agree with their origins.
 pub fn disjoint_sections_share_no_place()
     ensures { (names : Names) (windows : ℕ → Window)
         → IsNumbered names.origins → Placed names windows
@@ -50,7 +50,7 @@ pub fn disjoint_sections_share_no_place()
         → Apart (windows a) (windows b) }
 {}
 
-/// A set of places has one cover, so `cover` and `less` have no choice.
+/// States that a set of places has one cover, so the results of `cover` and `less` are unique.
 pub fn covers_are_unique()
     ensures tested { (w : Window) (q : Place) → (is_in w q ≡ true) ↔ In w q }
     ensures unique { (vs ws : List Window) → is_cover vs ≡ true → is_cover ws ≡ true

@@ -1,5 +1,5 @@
-//! Sections of arrays: where they come from, which of them may share places, and the windows that
-//! they stand for.
+//! Sections of arrays: where they come from, which of them can share places, and the windows that
+//! they denote.
 
 #![tactic(auto)]
 

@@ -10,8 +10,8 @@ use crate::id::SectionId;
 use crate::origin::Origin;
 use std::alloc::{AllocError, Global};
 
-/// Where each section of a procedure comes from. Sections are numbered from 0 as they are made, the
-/// left side of a split just before its right one.
+/// The origin of each section of a procedure. Sections are numbered from 0 in the order in which
+/// they are added, the left side of a split right before its right side.
 #[derive(Drop)]
 pub struct SectionTree {
     origins: Vec<Origin>,
@@ -21,7 +21,7 @@ pub struct SectionTree {
 impl SectionTree {
     ghost use Rattle.sections.specs.Tree.{origins_of};
 
-    /// No section yet. It takes no memory.
+    /// Returns a tree without sections. It allocates nothing.
     pub fn new(alloc: Global) -> SectionTree
         ensures { origins_of result ≡ [] }
     {
@@ -30,14 +30,14 @@ impl SectionTree {
         }
     }
 
-    /// How many sections there are.
+    /// Returns the number of sections.
     pub fn len(&self) -> usize
         ensures { result ≡ length (origins_of self.now) }
     {
         self.origins.len()
     }
 
-    /// Where a section comes from.
+    /// Returns where a section comes from.
     pub fn origin(&self, section: SectionId) -> Origin
         requires { section.number < length (origins_of self.now) }
         ensures { origin_as result ≡ origin_of (origins_of self.now) section.number }
@@ -45,7 +45,7 @@ impl SectionTree {
         self.origins[section.number]
     }
 
-    /// A new array or parameter.
+    /// Adds an array or a parameter.
     pub fn root(&mut self) -> Result<SectionId, AllocError>
         ensures number { IfOk result (λ s. s.number ≡ length (origins_of self.old)) }
         ensures ok { OnOk result (origins_of self.new ≡ origins_of self.old ++ Root ∷ []) }
@@ -56,7 +56,7 @@ impl SectionTree {
         Ok(SectionId { number })
     }
 
-    /// The two sides of a new split of a section.
+    /// Adds the two sides of a new split of a section.
     pub fn split(&mut self, parent: SectionId) -> Result<(SectionId, SectionId), AllocError>
         requires { parent.number < length (origins_of self.old) }
         ensures left { IfOk result (λ r. r.0.number ≡ length (origins_of self.old)) }
@@ -73,8 +73,8 @@ impl SectionTree {
         Ok((left, right))
     }
 
-    /// Whether two sections may share a place: walks up from the one with the larger number until
-    /// both are one, or are disjoint at sight. It takes no memory.
+    /// Returns whether two sections can share a place. Walks up from the section with the larger
+    /// number until both are the same or are obviously disjoint. It allocates nothing.
     pub fn overlap(&self, a: SectionId, b: SectionId) -> bool
         requires first { a.number < length (origins_of self.now) }
         requires second { b.number < length (origins_of self.now) }
@@ -96,8 +96,9 @@ impl SectionTree {
         true
     }
 
-    /// The parent of the section with the larger number. None where the two are disjoint at sight:
-    /// that one is a root, or the right side next to its left one.
+    /// Returns the parent of the section with the larger number. Returns `None` if the two sections
+    /// are obviously disjoint: the one with the larger number is a root, or it is the right side
+    /// next to its left side.
     fn above(&self, low: usize, high: usize) -> Option<usize>
         requires order { low < high }
         requires there { high < length (origins_of self.now) }

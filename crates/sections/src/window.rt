@@ -1,13 +1,13 @@
-//! Parts of arrays.
+//! Windows, which are parts of arrays.
 
 ghost use Rattle.std.specs.Prelude.{◌≡◌, ◌≤◌, ◌<◌, ◌↔◌, ◌+◌, ◌-◌, IsNone, IfSome, MatchOption, Some, None};
 
 use crate::id::ArrayId;
 
-/// How many elements all arrays of a program have together, at most.
+/// The maximum number of elements of all arrays of a program together.
 pub const MOST_ELEMENTS: usize = 4_194_304;
 
-/// `len` places of an array, from the place `at` on.
+/// `len` places of an array, starting at place `at`.
 #[derive(Clone, Copy, PartialEq, Eq, PartialOrd, Ord, Debug)]
 pub struct Window {
     pub array: ArrayId,
@@ -30,14 +30,14 @@ impl Window {
     ghost use Rattle.sections.specs.Place.{place_in};
     ghost use Rattle.sections.specs.Translation.{place as place_of, window as window_of};
 
-    /// The window of no place.
+    /// Returns the window without places.
     pub const NOWHERE: Window = Window {
         array: ArrayId { number: 0 },
         at: 0,
         len: 0,
     };
 
-    /// A whole array.
+    /// Returns the window of a whole array.
     pub fn of_array(array: ArrayId, length: usize) -> Window
         requires { length ≤ 4194304 }
         ensures array { result.array ≡ array }
@@ -51,7 +51,7 @@ impl Window {
         }
     }
 
-    /// The first `n` places and the rest, or None where there are less than `n`.
+    /// Returns the first `n` places and the rest, or `None` if there are fewer than `n` places.
     pub fn split(self, n: u64) -> Option<(Window, Window)>
         ensures none { IsNone result ↔ (self.len < n) }
         ensures array { IfSome result (λ r. (r.0.array ≡ self.array) × (r.1.array ≡ self.array)) }
@@ -75,8 +75,8 @@ impl Window {
         Some((left, right))
     }
 
-    /// The place of the element `index`, or None where the window has none: in a few instructions, as runs
-    /// ask for it at each access.
+    /// Returns the place of the element `index`, or `None` if the window has no such element. It
+    /// takes a few instructions, because runs call it for each access.
     #[inline(always)]
     pub fn place(self, index: i64) -> Option<Place>
         ensures { MatchOption result (place_in (window_of self) index ≡ None)
@@ -95,21 +95,21 @@ impl Window {
         })
     }
 
-    /// The place behind the last one.
+    /// Returns the place after the last one.
     fn end(self) -> usize
         ensures { result ≡ end_of (window_of self) }
     {
         self.at + self.len
     }
 
-    /// Whether a window that begins no earlier begins within this one or right behind it.
+    /// Returns whether a window that starts no earlier starts within this one or right after it.
     pub(crate) fn meets(self, later: Window) -> bool
         ensures { result ≡ meets_as (window_of self) (window_of later) }
     {
         self.array == later.array && later.at <= self.end()
     }
 
-    /// This window and one that meets it, as one.
+    /// Joins this window and one that meets it.
     pub(crate) fn joined(self, later: Window) -> Window
         ensures { window_of result ≡ joined_as (window_of self) (window_of later) }
     {
@@ -121,14 +121,14 @@ impl Window {
         }
     }
 
-    /// Whether this window ends before another one does, or where it does.
+    /// Returns whether this window ends before another one or at the same place.
     pub(crate) fn ends_no_later(self, other: Window) -> bool
         ensures { result ≡ ends_no_later_as (window_of self) (window_of other) }
     {
         self.array < other.array || (self.array == other.array && self.end() <= other.end())
     }
 
-    /// The places before another window begins.
+    /// Returns the places of this window before another window starts.
     pub(crate) fn before(self, other: Window) -> Window
         ensures { window_of result ≡ before_as (window_of self) (window_of other) }
     {
@@ -146,7 +146,7 @@ impl Window {
         }
     }
 
-    /// The places behind the end of another window, which ends no later.
+    /// Returns the places of this window after the end of another window, which ends no later.
     pub(crate) fn behind(self, other: Window) -> Window
         ensures { window_of result ≡ behind_as (window_of self) (window_of other) }
     {

@@ -17,7 +17,7 @@ use Rattle.statement_steps.specs.Lists.{lengths_of, lists_of}
 use Rattle.statement_steps.specs.Primitive.{CanStore, fitting, halves, target}
 use Rattle.statement_steps.proofs.Ends.{fits_too}
 
--- a list that stands for an array has its length
+-- a list that represents an array has its length
 pub length-row : (arrays : List Array) (lists : List (List ℤ)) → FitsArrays arrays lists
     → (a : ℕ) → length (slice_index_or lists a []) ≡ (slice_index_or arrays a no_array).length
 length-row [] [] no_more a = refl
@@ -45,7 +45,7 @@ module _ (p : Program) where
   sides_lie w (negsuc n) ws lies e = absurd (let bad : ⊥ = cc in bad)
   sides_lie w (pos n) ws lies e = some_sides_lie w n (nat_le n w.length) ws refl lies e
 
-  -- both sides of a section lie where it lies
+  -- both sides of a section lie in the array of the section
   pub halves_lie : (st : State (Unit {0})) (s : ℕ) (e : Number) (ws : Window × Window) → LiesInArrays p st.environment
       → Ok ws ≡ halves st s e → LiesInArray p ws.0 × LiesInArray p ws.1
   halves_lie st s e ws lies is = by_value (number_at st e) is
@@ -69,7 +69,7 @@ module _ (p : Program) where
   with_sides_lies x y ws env sides lies =
       bind_lies x ws.0 (bind y ws.1 env.windows) sides.0 (bind_lies y ws.1 env.windows sides.1 lies)
 
-  -- an environment in which a procedure begins, on sections of its caller
+  -- the environment in which a procedure starts, on sections of its caller
   pub entry_lies : (values : List ℤ) (env : Environment) (ss : List ℕ) → LiesInArrays p env
       → LiesInArrays p (entry values (map env.windows ss))
   entry_lies values env ss lies = listed ss
@@ -105,7 +105,7 @@ module _ (p : Program) where
   element_lies w (negsuc n) q lies e = absurd (let bad : ⊥ = cc in bad)
   element_lies w (pos i) q lies e = some_element_lies w i (nat_lt i w.length) q refl lies e
 
-  -- a store writes where an element of its section is
+  -- a store writes to an element of its section
   pub target_of : (st : State (Unit {0})) (s : ℕ) (i e : Number) (q : Place) (v : ℤ) → Ok (q, v) ≡ target p st s i e
       → (at : ℤ) × (Ok q ≡ element_of (st.environment.windows s) at)
   target_of st s i e q v is = by_index (number_at st i) is
@@ -139,24 +139,24 @@ module _ (p : Program) where
       by_index (Ok at) is = by_number at (number_at st e) is
       by_index (Err f) is = absurd (let bad : ⊥ = cc in bad)
 
-  -- where a store writes, its array has a place
+  -- an array has each place that a store writes
   pub target_lies : (st : State (Unit {0})) (s : ℕ) (i e : Number) (q : Place) (v : ℤ) → LiesInArrays p st.environment
       → Ok (q, v) ≡ target p st s i e → q.index < (array_of p q.array).length
   target_lies st s i e q v lies is =
       let element = target_of st s i e q v is in element_lies (st.environment.windows s) element.0 q (lies s) element.1
 
-  -- such a place is one of the store
+  -- such a place is a place of the store
   pub store_has_place : (t : Thread Store) (q : Place) → IsInBounds p t → q.index < (array_of p q.array).length → HasPlace t.store q
   store_has_place t q bounds lies = omega (arith, lies, length-row p.arrays (lists_of t.store) bounds.store q.array)
 
-  -- who keeps the windows and the lengths stays in bounds
+  -- a task that keeps its windows and the lengths stays in bounds
   pub bounds_kept : (old new : Thread Store) → KeepsTask lengths_of old new → IsInBounds p old → IsInBounds p new
   bounds_kept old new kept bounds = record {
     store = fits_too p.arrays (lists_of old.store) (lists_of new.store) bounds.store kept.memory;
     windows = subst (λ (ws : ℕ → Window). (s : ℕ) → LiesInArray p (ws s)) (sym kept.windows) bounds.windows;
   }
 
-  -- so a statement of one step writes where the store has a place
+  -- so a statement of one step writes to a place that the store has
   pub can_store : (t : Thread Store) (s : Primitive) → IsInBounds p t → CanStore p (HasPlace t.store) (state_of t) s
   can_store t Skip bounds = tt
   can_store t (Assign x e) bounds = tt

@@ -1,4 +1,4 @@
--- From the standing at the end to the outcome.
+-- From the state at the end to the outcome.
 use Rattle.std.proofs.Common.{◌≡◌, List, [], ◌∷◌, length, refl, sym, ap, ◌∙◌}
 use Rattle.std.specs.Prelude.{ℤ, map}
 use Rattle.types.specs.Code.{Array, Program}
@@ -19,7 +19,7 @@ fits_too (a ∷ arrays) (x ∷ xs) (y ∷ ys) (also here rest) e =
     let same : length y ≡ length x = cc in let others : map length ys ≡ map length xs = cc in
     also (same ∙ here) (fits_too arrays xs ys rest others)
 
--- the outer finish changes no outcome
+-- the outer finish doesn't change the outcome
 outer : (f : Flow) (faults : List Fault) (e : Ending) → outcome_by f e ≡ outcome_by (after_finish f faults) e
 outer On [] e = refl
 outer On (x ∷ xs) e = refl
@@ -28,7 +28,7 @@ outer Faulted (x ∷ xs) e = refl
 outer Stopped [] e = refl
 outer Stopped (x ∷ xs) e = refl
 
--- a state at the end, whose lists are these, tells the outcome
+-- a state at the end, with these lists, gives the outcome
 pub outcome_at : (p : Program) (input lists : List (List ℤ)) (b : Budget) (st : State (Unit {0}))
     → FitsArrays p.arrays lists → st.store ≡ held_by lists
     → st ≡ one p b.steps b.nest (Block p.main.body) (start tt p b.steps (held_by input))

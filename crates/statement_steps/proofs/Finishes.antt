@@ -1,4 +1,4 @@
--- The faults since the beginning of a finish.
+-- The faults since the start of a finish.
 use Rattle.std.proofs.Common.{◌≡◌, ℕ, zero, suc, ◌<◌, ◌≤◌, List, [], ◌∷◌, length, drop, refl, arith}
 use Rattle.std.specs.Prelude.{map}
 use Rattle.types.specs.declared.fault.Fault.{Fault as rFault}

@@ -26,7 +26,7 @@ module _ (env : Environment) (read : Place → ℤ) (first : Box rNumber Global)
       ∙ ap (λ r. then_try r (λ y. then_try (operate l.operator x y) (links env read Done))) right
       ∙ ap (λ r. then_try r (links env read Done)) applied
 
-  -- the same for what machine integers gave
+  -- the same statement for the results of machine integers
   pub pair_value : (n operand : rNumber) (slice : List rLink) (x y : ℤ) (given : Option ℤ)
       → n ≡ rChain first rest
       → slice ≡ rest.items → slice ≡ l ∷ [] → operand ≡ first.value

@@ -1,4 +1,4 @@
--- A store that faults.
+-- A store statement that faults.
 use Rattle.std.proofs.Common.{◌≡◌, ℕ, Ok, Err, ap, sym, ◌∙◌}
 use Rattle.std.specs.Prelude.{ℤ, Bool, true, false}
 use Rattle.types.specs.declared.fault.FaultKind.{FaultKind}
@@ -40,7 +40,7 @@ module _ (p : Program) (l : ℕ) (f : FaultKind) (st : State (Unit {0})) where
       by_index (Err k) is = let same : f ≡ k = cc in ap (λ k. fault l k st) same
 
 module _ (p : Program) (st : State (Unit {0})) where
-  -- the index and the value were found, the place is there, and its array holds the value
+  -- the index and the value were computed, the place exists, and the value fits in its array
   pub store_found : (s : ℕ) (i e : Number) (at v : ℤ) (q : Place) → number_at st i ≡ Ok at → number_at st e ≡ Ok v
       → element_of (st.environment.windows s) at ≡ Ok q → true ≡ holds_number (array_of p q.array).element v
       → target p st s i e ≡ Ok (q, v)

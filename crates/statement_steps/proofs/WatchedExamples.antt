@@ -1,11 +1,11 @@
--- Worked counts of steps, and what a watch is told of a run that keeps each count in a list.
+-- Worked counts of steps, and calls of a watch that keeps each count in a list.
 use Rattle.std.proofs.Common.{◌≡◌, ℕ, ◌≤◌, ◌-◌, ◌^◌, List, [], ◌∷◌, ◌++◌, Result, Ok, Err, true, false, refl, arith, inl}
 use Rattle.statement_steps.specs.Watched.{AreApart, Watches, steps_between}
 
 steps_are_counted : steps_between 5 70000 ≡ 69995
 steps_are_counted = refl
 
--- behind the largest count comes 0
+-- after the largest count comes 0
 steps_wrap : steps_between (2 ^ 64 - 1) 65535 ≡ 65536
 steps_wrap = refl
 
@@ -18,14 +18,14 @@ three_apart = (far, (far, tt))
 pub too_near : AreApart (65536 ∷ 131071 ∷ []) → ⊥
 too_near apart = let near : 65536 ≤ 65535 = apart.0 in omega (arith, near)
 
--- a run that ends, and one that fails
+-- a run that succeeds, and one that fails
 abbrev ends : Result ℕ ℕ
 ends = Ok 0
 
 abbrev fails : Result ℕ ℕ
 fails = Err 0
 
--- whoever keeps what he is told
+-- a watch that keeps the counts of its calls
 abbrev Keeps : List ℕ → List ℕ → List ℕ → Type 0
 Keeps counts old new = new ≡ old ++ counts
 
@@ -35,7 +35,7 @@ told_to_its_end = record { counts = 65536 ∷ 131072 ∷ []; last = 131075; told
 pub told_until_it_failed : Watches Keeps true fails [] (65536 ∷ [])
 told_until_it_failed = inl (record { counts = 65536 ∷ []; told = refl; apart = tt })
 
--- a run that is watched tells something, and one that isn't tells nothing
+-- a watched run makes a call, and one that isn't watched makes none
 pub never_silent : Watches Keeps true ends [] [] → ⊥
 never_silent t = by t.counts t.told
   where

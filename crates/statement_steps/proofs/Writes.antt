@@ -19,13 +19,13 @@ row_at [] a row lt at = absurd (omega (arith, lt))
 row_at (r ∷ rows) zero row lt at = sym (ap numbers at)
 row_at (r ∷ rows) (suc a) row lt at = row_at rows a row (omega (arith, lt)) at
 
--- where a place is, there is its array
+-- if a place exists, its array exists
 pub array_is_there : (rows : List Row) (a i : ℕ) → i < length (slice_index_or (map numbers rows) a []) → a < length rows
 array_is_there [] a i lt = absurd (omega (arith, lt))
 array_is_there (r ∷ rows) zero i lt = omega arith
 array_is_there (r ∷ rows) (suc a) i lt = omega (arith, array_is_there rows a i lt)
 
--- and the place in its row
+-- and the place in the array's row exists
 pub place_is_there : (rows : List Row) (row : Row) (a i : ℕ) → i < length (slice_index_or (map numbers rows) a [])
     → row ≡ get_or rows a row → i < length row.items
 place_is_there rows row a i lt at = subst (λ l. i < length l) (row_at rows a row (array_is_there rows a i lt) at) lt

@@ -22,7 +22,7 @@ LiesInArrays p env = (section : ℕ) → LiesInArray p (env.windows section)
 abbrev pub HasPlace : Store → Place → Type 0
 HasPlace s q = q.index < length (slice_index_or (lists_of s) q.array [])
 
--- there is a number for each element of each array, and the task's windows lie in these
+-- there is a number for each element of each array, and the task's windows lie in the arrays
 pub record IsInBounds (p : Program) (t : Thread Store) : Type 0 where
   pub store : FitsArrays p.arrays (lists_of t.store)
   pub windows : LiesInArrays p (environment t.environment)

@@ -1,4 +1,4 @@
--- What the lists of a store hold.
+-- The contents of the lists of a store.
 use Rattle.std.specs.Prelude.{ℕ, ℤ, List, map, length}
 use Rattle.types.specs.Contents.{Contents, held_by}
 use Rattle.statement_steps.specs.declared.store.Store.{Store}
@@ -11,6 +11,6 @@ lists_of s = map (λ v. v.items) s.arrays.items
 abbrev pub contents_of : Store → Contents
 contents_of s = held_by (lists_of s)
 
--- how many numbers each array has
+-- the number of elements of each array
 abbrev pub lengths_of : Store → List ℕ
 lengths_of s = map length (lists_of s)

@@ -1,4 +1,4 @@
--- What a statement wants to know before it does anything.
+-- What a statement evaluates before it does anything.
 use Rattle.std.specs.Prelude.{ℕ, ℤ, ◌≡◌, ⊤, List, Bool, true, false, Result, Ok, Err, Vec, ok_or}
 use Rattle.std.specs.Global.{Global}
 use Rattle.types.specs.declared.fault.FaultKind.{FaultKind}
@@ -11,12 +11,12 @@ use Rattle.sections.specs.Translation.{place, window}
 use Rattle.types.specs.Run.{State, number_at, window_at, array_of}
 use Rattle.types.specs.Value.{Valued, then_try, element_of, holds_number}
 
--- a place and a number, where the element type holds the number
+-- a place and a number, if the number fits in the element type
 abbrev pub fitting : (fits : Bool) → Place → ℤ → Valued (Place × ℤ)
 fitting true q v = Ok (q, v)
 fitting false q v = Err OutOfElement
 
--- where a store writes, and what
+-- where a store writes, and the value
 abbrev pub target : Program → State (Unit {0}) → (section : ℕ) → (index value : Number)
     → Valued (Place × ℤ)
 target p st s i e =
@@ -25,17 +25,17 @@ target p st s i e =
     then_try (element_of (st.environment.windows s) at) (λ q.
     fitting (holds_number (array_of p q.array).element v) q v)))
 
--- the same of what the code answers
+-- the plain value of the target that the code returns
 abbrev pub found : Result (rPlace × ℤ) FaultKind → Valued (Place × ℤ)
 found (Ok t) = Ok (place t.0, t.1)
 found (Err f) = Err f
 
--- the numbers that the code answers
+-- the numbers that the code returns
 abbrev pub listed : Result (Vec ℤ Global) FaultKind → Valued (List ℤ)
 listed (Ok vs) = Ok vs.items
 listed (Err f) = Err f
 
--- where it writes, `Writable` holds
+-- `Writable` holds for the place that a statement writes
 abbrev pub CanStore : Program → (Writable : Place → Type 0) → State (Unit {0}) → Primitive → Type 0
 CanStore p Writable st (Store s i e) =
     (q : Place) (v : ℤ) → Ok (q, v) ≡ target p st s i e → Writable q
@@ -44,11 +44,11 @@ CanStore p Writable st (Assign x e) = ⊤
 CanStore p Writable st (Print es) = ⊤
 CanStore p Writable st (Raise e) = ⊤
 
--- both sides of a section, split where an expression says
+-- both sides of a section, split at the value of an expression
 abbrev pub halves : State (Unit {0}) → (section : ℕ) → Number → Valued (Window × Window)
 halves st s e = then_try (number_at st e) (λ v. ok_or (sides_of (window_at st s) v) SplitPoint)
 
--- the sides that the code answers
+-- the sides that the code returns
 abbrev pub cut : Result (rWindow × rWindow) FaultKind → Valued (Window × Window)
 cut (Ok ws) = Ok (window ws.0, window ws.1)
 cut (Err f) = Err f

@@ -1,4 +1,4 @@
-//! Whether a task goes on.
+//! Whether a task continues.
 
 use types::fault::Fault;
 
@@ -9,7 +9,7 @@ pub enum Flow {
     On,
     /// Nothing, up to the end of its finish, because of a fault.
     Faulted,
-    /// Nothing any more: a task was over its budget.
+    /// Nothing any more, because a task exceeded its budget.
     Stopped,
 }
 
@@ -19,7 +19,7 @@ impl Flow {
     ghost use Rattle.types.specs.Translation.{fault as fault_of};
     ghost use Rattle.statement_steps.specs.Standing.{flow as flow_of};
 
-    /// The flow behind an async: a fault ends its body alone.
+    /// Returns the flow after an async. A fault ends only the body of the async.
     #[inline(always)]
     pub fn behind_async(self) -> Flow
         ensures { flow_of result ≡ after_async (flow_of self) }
@@ -30,7 +30,8 @@ impl Flow {
         }
     }
 
-    /// The flow behind a finish, before which there were so many faults: further ones end it abruptly.
+    /// Returns the flow after a finish. `before` faults occurred before the finish; further faults
+    /// end it abruptly.
     #[tactic(auto, using(crate::proofs::Finishes::gathered_on, crate::proofs::Finishes::gathered_faulted, crate::proofs::Finishes::none_on, crate::proofs::Finishes::none_faulted))]
     #[inline(always)]
     pub fn behind_finish(self, before: usize, faults: &[Fault]) -> Flow

@@ -1,4 +1,4 @@
-//! The statements of one step, on a memory.
+//! The statements of one step, executed on a memory.
 
 #![tactic(auto)]
 

@@ -1,4 +1,4 @@
-//! What a run reads and writes.
+//! The memory of a run.
 
 ghost use Rattle.std.specs.Prelude.{◌≡◌, OnOk};
 ghost use Rattle.sections.specs.Translation.{place as place_of};
@@ -8,28 +8,29 @@ use sections::window::Place;
 use std::alloc::AllocError;
 use types::value::Places;
 
-/// The numbers that a run stands on: all arrays on one thread, what it holds in a task of its own.
+/// The numbers that a run reads and writes: all arrays on one thread, or the places that a task of
+/// its own holds.
 pub trait Memory: Places {
     ghost use Rattle.sections.specs.Place.{Place as PlainPlace};
 
-    /// The number at each place that is there.
+    /// The number at each existing place.
     ghost contents: { Self → Contents };
 
     /// The places that can be written.
     ghost Writable: { Self → PlainPlace → Type 0 };
 
-    /// What a write leaves as it was.
+    /// What a write leaves unchanged.
     ghost Shape: { Type 0 };
 
     ghost shape: { Self → Shape };
 
-    /// Writes the number at a place, for which a memory that is shared may want room.
+    /// Writes the number at a place. A shared memory may need to allocate for it.
     fn write(&mut self, place: Place, value: i64) -> Result<(), AllocError>
         requires { Writable self.old (place_of place) }
         ensures written { OnOk result
             (contents self.new ≡ written (place_of place) value (contents self.old)) }
         ensures shape { OnOk result (shape self.new ≡ shape self.old) };
 
-    /// It is read where it is there, and 0 elsewhere.
+    /// An existing place is read; elsewhere the value is 0.
     ghost reads: { (s : Self) → Self.numbers s ≡ read_of (contents s) };
 }

@@ -59,7 +59,7 @@ impl Store {
     ghost use Rattle.statement_steps.specs.Bounds.{HasPlace};
     ghost use Rattle.statement_steps.specs.Lists.{contents_of, lengths_of, lists_of};
 
-    /// The contents as a run begins.
+    /// Returns the contents at the start of a run.
     pub fn of_input(alloc: Global, input: &Input) -> Result<Store, AllocError>
         ensures { IfOk result (λ s. lists_of s ≡ lists_in input.now) }
     {
@@ -70,7 +70,7 @@ impl Store {
         Ok(Store { arrays })
     }
 
-    /// Writes the number at a place, which needs no memory.
+    /// Writes the number at a place, without allocating.
     pub fn write(&mut self, place: Place, value: i64)
         requires { HasPlace self.old (place_of place) }
         ensures written { contents_of self.new

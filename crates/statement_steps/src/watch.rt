@@ -1,13 +1,13 @@
-//! Who looks at a run.
+//! Observers of a run's progress.
 
-/// Is told now and then how far a run has come.
+/// An observer that is called now and then with the progress of a run.
 pub trait Watch {
     ghost use Rattle.std.specs.Prelude.{ℕ, List, [], ◌∷◌, ◌++◌};
 
-    /// To be told these counts, one behind the other, makes of the one the other.
+    /// Calls with these counts, in order, change the first state into the second.
     ghost Told: { List ℕ → Self → Self → Type 0 };
 
-    /// So many steps are done, by all tasks together.
+    /// Receives the number of steps that all tasks together have executed.
     fn look(&mut self, steps: u64)
         ensures { Told (steps ∷ []) self.old self.new };
 
@@ -17,7 +17,7 @@ pub trait Watch {
         → Told (counts ++ count ∷ []) a c };
 }
 
-/// Nobody looks.
+/// An observer that does nothing.
 #[derive(Drop)]
 pub struct Unwatched;
 

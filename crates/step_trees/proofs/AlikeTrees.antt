@@ -1,4 +1,4 @@
--- Trees that are alike have the same steps, and the same is told of them.
+-- Trees that are alike have the same steps and the same results.
 use Rattle.std.proofs.Common.{◌≡◌, ℕ, ◌+◌, ◌≤◌, List, [], ◌∷◌, ◌++◌, Some, refl, sym, ap, ◌∙◌, subst, arith}
 use Rattle.std.proofs.lemmas.List.{append_assoc}
 use Rattle.std.proofs.Math.Bool.{and_assoc}
@@ -31,7 +31,7 @@ alike-back (AreAlike.through g h) = AreAlike.through (alike-back h) (alike-back 
 pub alike-is : {t u : Tree} → t ≡ u → AreAlike t u
 alike-is {t} e = subst (AreAlike t) e AreAlike.same
 
--- as many leaves may step, and all are done in both or in neither
+-- the number of leaves that may step is equal, and all leaves are done in both trees or in neither
 
 pub alike-ready : {t u : Tree} → AreAlike t u → ready t ≡ ready u
 alike-ready AreAlike.same = refl
@@ -50,7 +50,7 @@ alike-done (AreAlike.sides {u = u} {v = v} g h) =
 alike-done (AreAlike.waits g) = refl
 alike-done (AreAlike.through g h) = alike-done g ∙ alike-done h
 
--- what leaves tell from the left to the right, each as `told`
+-- what leaves give from left to right, with `told` for each tree
 
 alike-told : {A : Type 0} (told : Tree → List A) → ((t u : Tree) → told (Beside t u) ≡ told t ++ told u)
     → ((t : Tree) (k : Leaf) → told (AndThen t k) ≡ told t) → {t u : Tree} → AreAlike t u → told t ≡ told u
@@ -80,7 +80,7 @@ alike-owner (AreAlike.sides g h) = alike-owner h
 alike-owner (AreAlike.waits g) = refl
 alike-owner (AreAlike.through g h) = alike-owner g ∙ alike-owner h
 
--- what waits for their end goes on as the same
+-- what waits for their end continues in the same way
 alike-closed : {t u : Tree} (k : Leaf) → AreAlike t u → closed t k ≡ closed u k
 alike-closed {t} {u} k g =
     ap (λ (o : Leaf). with (task_environment o) o.spawned (lines_of t) (faults_of t)) (alike-owner g)
@@ -108,7 +108,7 @@ pub alike-inside : (xs : List Around) {t u : Tree} → AreAlike t u → AreAlike
 alike-inside [] g = g
 alike-inside (x ∷ xs) g = alike-within x (alike-inside xs g)
 
--- a tree of two sides, of which each is put to what stands beside it
+-- a tree of two sides, each of which is joined with its neighbour
 pub alike-parted : {t u l r v w f s : Tree} → t ≡ Beside v w → v ≡ Beside l f → w ≡ Beside s r → u ≡ Beside f s
     → AreAlike t (Beside l (Beside u r))
 alike-parted {t} {u} {l} {r} {v} {w} {f} {s} e g h i =
@@ -152,7 +152,7 @@ module _ (p : Program) where
       let r = alike-step g s in let q = alike-step h r.step in
       record { tree = q.tree; step = q.step; alike = AreAlike.through r.alike q.alike }
 
-  -- so it is of the n-th leaf that may step
+  -- the same fact, for the n-th leaf that may step
   pub record ComesAlike (n : ℕ) (u : Tree) (a : Contents) (v : Tree) (b : Contents) : Type 0 where
     pub tree : Tree
     pub step : step p n u a ≡ Some (tree, b)
@@ -164,7 +164,7 @@ module _ (p : Program) where
       let r = alike-step g (step_from p t n a v b e).1 in
       record { tree = r.tree; step = step_to p r.step; alike = r.alike }
 
-  -- windows that lie in their arrays do so in both
+  -- if the windows of one tree lie in their arrays, so do the windows of the other
   pub alike-lies : {t u : Tree} → AreAlike t u → TreeLies p t → TreeLies p u
   alike-lies AreAlike.same l = l
   alike-lies AreAlike.left_first l = (l.0.0, (l.0.1, l.1))
@@ -173,7 +173,7 @@ module _ (p : Program) where
   alike-lies (AreAlike.waits g) l = (alike-lies g l.0, l.1)
   alike-lies (AreAlike.through g h) l = alike-lies h (alike-lies g l)
 
-  -- the same is told of both
+  -- both trees have the same result
 
   alike-telling : {t u : Tree} (a : Contents) → AreAlike t u → told p t a ≡ told p u a
   alike-telling {t} {u} a g =

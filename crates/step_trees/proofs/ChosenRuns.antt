@@ -1,4 +1,4 @@
--- What is told of a run by given choices is told of a run.
+-- The result of given choices is the result of a run.
 use Rattle.std.proofs.Common.{◌≡◌, ℕ, zero, suc, ◌+◌, ◌<◌, List, [], ◌∷◌, length, Option, Some, None, refl, ap, ◌∙◌, subst, arith}
 use Rattle.std.specs.Prelude.{ℤ, Bool, true, false, replicate, if◌then◌else◌}
 use Rattle.types.specs.Code.{Program}
@@ -42,7 +42,7 @@ module _ (p : Program) where
   told_open t a m true h e = cc
   told_open t a m false h e = (h, ap (leaves_or m) e)
 
-  -- a tree that a run of so many steps comes to, of which this is told
+  -- a run of this number of steps leads to a tree with this result
   abbrev Told : (count : ℕ) → Tree → Contents → Explored → Type 0
   Told n t a (Ends o) = EndsBy p n t a o
   Told n t a (Open m) = OpensBy p n t a m
@@ -120,7 +120,7 @@ module _ (p : Program) where
       → MissesBy p cs n t a
   misses_by cs n t a e = let r = missed cs 0 n t a e in subst (λ m. MissesBy p cs m t a) (let same : 0 + r.0 ≡ n = r.1 in omega (arith, same)) r.2
 
-  -- something is open only where a leaf may step
+  -- a result is open only if a leaf may step
   pub open_has_leaf : (input : List (List ℤ)) (cs : List ℕ) (m : ℕ) → explored p input cs ≡ Open m → 0 < m
   open_has_leaf input cs m e =
       let r = opens_by cs 0 (first_tree p) (held_by input) m e in
@@ -162,14 +162,14 @@ module _ (p : Program) where
           let r = f x.0 x.1 e in
           record { tree = r.tree; store = r.store; runs = LeftRun.goes (step_from p t 0 a x.0 x.1 h).1 r.runs; done = r.done; same = r.same }
 
-  -- of every program, where the first leaf always steps, what is told is the one-thread outcome
+  -- for every program: if the first leaf always steps, the result is the one-thread outcome
   pub first_leaves_end : (input : List (List ℤ)) (n : ℕ) (o : Outcome) → explored p input (replicate n 0) ≡ Ends o
       → (b : Budget) → IsLarger b (record { steps = n; nest = n }) → outcome p input b ≡ o
   first_leaves_end input n o e b larger =
       let r = left_ends n 0 (first_tree p) (held_by input) o e in
       left_run_ends p input n r.tree r.store r.runs r.done b larger ∙ r.same
 
--- of an accepted program, what is told of any choices is the one-thread outcome
+-- for an accepted program, the result of any choices is the one-thread outcome
 pub choices_end : (p : Program) → IsSound p → IsAccepted p → (input : List (List ℤ)) (cs : List ℕ) (o : Outcome)
     → explored p input cs ≡ Ends o
     → (b : Budget) → IsLarger b (record { steps = length cs; nest = length cs }) → outcome p input b ≡ o

@@ -1,4 +1,4 @@
--- Steps of two leaves commute, so all runs that end come to one end.
+-- Steps of two leaves commute, so all runs that end have one end.
 use Rattle.std.proofs.Common.{◌≡◌, ◌⊎◌, inl, inr, ℕ, suc, ◌+◌, ◌<◌, List, [], ◌∷◌, Some, None, refl, sym, ap, ◌∙◌, subst, arith}
 use Rattle.facts.proofs.Truths.{true_false}
 use Rattle.std.specs.Prelude.{ℤ, Bool, true, false, if◌then◌else◌}
@@ -88,7 +88,7 @@ module _ (p : Program) where
     pub second : Step p number j u b tree store
     pub first : Step p m k v c tree store
 
-  -- the leaf k stands left of j
+  -- the leaf k is to the left of j
   pub commute : {m n : ℕ} {k j : Leaf} {t u v : Tree} {a b c : Contents} → Step p m k t a u b → Step p n j t a v c
       → m < n
       → (keep : List ℕ) → Good p keep t → Orders m k j u b v c
@@ -130,7 +130,7 @@ either_way : (m n : ℕ) → (m < n) ⊎ ((n < m) ⊎ (m ≡ n))
 either_way m n = grind arith
 
 module _ (p : Program) where
-  -- a run goes on to an end, in so many steps less one, from another tree
+  -- a run continues to an end from another tree, in one step less
   abbrev pub EndsFrom : ℕ → Tree → Contents → Tree → Contents → Type 0
   EndsFrom n u b e z = (r : ℕ) × (n ≡ suc r) × Runs p r u b e z
 
@@ -157,7 +157,7 @@ module _ (p : Program) where
       (r, refl, subst (λ b. Runs p r u b e z) (sym i.1) (subst (λ u. Runs p r u c e z) (sym i.0) rest))
 
 module _ (p : Program) (sound : IsSound p) (accepted : IsAccepted p) where
-  -- where one leaf can step otherwise, the run goes on to the same end
+  -- if another leaf can step, the run continues to the same end
   pub one_step : {n : ℕ} {t e : Tree} {a z : Contents} → Runs p n t a e z → all_done e ≡ true → (keep : List ℕ)
       → Good p keep t
       → (m : ℕ) (k : Leaf) (u : Tree) (b : Contents) → Step p m k t a u b → EndsFrom p n u b e z
@@ -166,7 +166,7 @@ module _ (p : Program) (sound : IsSound p) (accepted : IsAccepted p) where
       let x = step_from p t n a v c h in
       other_way p s x.1 keep g rest (one_step rest d keep (step_kept p sound (is_calm p sound accepted) x.1 keep g).good) (either_way m n)
 
-  -- where one run ends, each run can go on to the same end, and ends there after as many steps
+  -- if one run ends, each run can continue to the same end, and ends there after as many steps
   pub ends_alike : {m : ℕ} {t u : Tree} {a b : Contents} → Runs p m t a u b → (n : ℕ) (e : Tree) (z : Contents)
       → Runs p n t a e z → all_done e ≡ true
       → (keep : List ℕ) → Good p keep t → (r : ℕ) × (m + r ≡ n) × Runs p r u b e z

@@ -1,4 +1,4 @@
--- Choices that are drawn name leaves, and are as many as may be where the run hasn't ended.
+-- Choices that are drawn name leaves. If the run hasn't ended, their number is the maximum.
 use Rattle.std.proofs.Common.{◌≡◌, ℕ, zero, suc, ◌+◌, ◌<◌, ◌≤◌, List, [], ◌∷◌, length, Some, refl, sym, ap, ◌∙◌, arith}
 use Rattle.std.proofs.lemmas.Bool.{eq-eqb}
 use Rattle.std.proofs.lemmas.Bool.Decides.{nat_tests}
@@ -25,12 +25,12 @@ pub picked-below : (number leaves : ℕ) → 0 < leaves → picked number leaves
 picked-below number leaves h = mod-lt (number / 4294967296) h
 
 module _ (p : Program) where
-  -- nothing is drawn where nothing more may be
+  -- nothing is drawn after the last choice
   drawn-over : (n : ℕ) (t : Tree) (a : Contents) → drawn p zero n t a ≡ []
   unfolding drawn
   drawn-over n t a = refl
 
-  -- nor where no leaf may step
+  -- nothing is drawn if no leaf may step
   drawn-none : (m n : ℕ) (t : Tree) (a : Contents) → ready t ≡ 0 → drawn p m n t a ≡ []
   unfolding drawn
   drawn-none zero n t a e = refl
@@ -52,7 +52,7 @@ module _ (p : Program) where
       ∙ ap (λ x. x ∷ behind (drawn p m (next_number n)) (step p x t a)) (sym e)
       ∙ ap (λ o. c ∷ behind (drawn p m (next_number n)) o) s
 
-  -- the same is drawn of trees that are alike
+  -- the same choices are drawn for trees that are alike
   alike-drawn : (m n : ℕ) (t u : Tree) (a : Contents) → AreAlike t u → drawn p m n t a ≡ drawn p m n u a
   alike-drawn zero n t u a g = drawn-over n t a ∙ sym (drawn-over n u a)
   alike-drawn (suc m) n t u a g = by (ready t) refl (alike-drawn m (next_number n))
@@ -70,13 +70,13 @@ module _ (p : Program) where
           ∙ ap (λ l. c ∷ l) (more s.tree q.tree s.store q.alike)
           ∙ sym (drawn-step m n c u q.tree a s.store (omega (arith, some, same)) (ap (picked (next_number n)) same) q.step)
 
-  -- and told of it
+  -- and the results are equal
   pub drawn-alike : (i m n : ℕ) (t u : Tree) (a : Contents) → AreAlike t u
       → explored_from p i (drawn p m n t a) t a ≡ explored_from p i (drawn p m n u a) u a
   drawn-alike i m n t u a g =
       alike-explored p i (drawn p m n t a) t u a g ∙ ap (λ l. explored_from p i l u a) (alike-drawn m n t u a g)
 
-  -- what is told where no more is drawn
+  -- the result if no more choices are drawn
   pub told-over : (i n : ℕ) (t : Tree) (a : Contents) → explored_from p i (drawn p zero n t a) t a ≡ told p t a
   told-over i n t a = ap (λ l. explored_from p i l t a) (drawn-over n t a)
 
@@ -123,7 +123,7 @@ module _ (p : Program) where
           f s.tree s.store
           (sym (drawn-goes i m n c t s.tree a s.store some refl s.step) ∙ e)
 
-  -- and they are as many as may be where the run hasn't ended
+  -- if the run hasn't ended, their number is the maximum
   used : (i m n leaves : ℕ) (t : Tree) (a : Contents) → Awake t → explored_from p i (drawn p m n t a) t a ≡ Open leaves
       → length (drawn p m n t a) ≡ m
   used i zero n leaves t a w e = ap length (drawn-over n t a)

@@ -1,4 +1,5 @@
--- A worked program, and what the laws say of it: the recursion that doubles the halves of an array.
+-- A worked program, and what the theorems state about it: the recursion that doubles the halves of
+-- an array.
 use Rattle.std.proofs.Common.{◌≡◌, ℕ, List, [], ◌∷◌, refl}
 use Rattle.std.specs.Prelude.{pos}
 use Rattle.types.specs.Outcome.{Budget, IsLarger, Outcome, Ended, outcome}
@@ -16,7 +17,7 @@ doubled = Ended (record { arrays = (pos 2 ∷ pos 4 ∷ []) ∷ []; lines = []; 
 right_half_first_doubles : explored (doubling 2) ((pos 1 ∷ pos 2 ∷ []) ∷ []) right_half_first ≡ Ends doubled
 right_half_first_doubles = refl
 
--- it is sound and accepted, so that is what one thread comes to, with 13 steps and nest 13 or more
+-- it is sound and accepted, so this is the one-thread outcome with 13 steps and nest 13 or more
 one_thread_doubles : (b : Budget) → IsLarger b (record { steps = 13; nest = 13 })
     → outcome (doubling 2) ((pos 1 ∷ pos 2 ∷ []) ∷ []) b ≡ doubled
 one_thread_doubles =

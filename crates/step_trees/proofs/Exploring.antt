@@ -1,4 +1,4 @@
--- What is told of choices, choice by choice.
+-- The result of choices, choice by choice.
 use Rattle.std.proofs.Common.{◌≡◌, ℕ, ◌+◌, ◌≤◌, List, ◌∷◌, Some, sym, ap, ◌∙◌, subst}
 use Rattle.std.specs.Prelude.{ℤ, Bool, true, false, if◌then◌else◌}
 use Rattle.types.specs.Code.{Program}
@@ -17,7 +17,7 @@ use Rattle.step_trees.specs.Windows.{TreeLies}
 use Rattle.step_trees.proofs.LyingTrees.{first-lies}
 use Rattle.step_trees.proofs.Steps.{others_stay}
 
--- what is held where a run of a program begins
+-- what is stored at the start of a run of a program
 pub held_first : (plan : Plan) (c : Course) (q : Program) (lists : List (List ℤ))
     → program plan.program.now ≡ q → IsPlace c.place → whole c.place ≡ first_tree (program plan.program.now)
     → lists_of c.store ≡ lists → FitsArrays q.arrays lists → IsHeld plan c
@@ -31,7 +31,7 @@ held_first plan c q lists code place start store fits =
           (subst (λ (r : Program). FitsArrays r.arrays lists) (sym code) fits);
     }
 
--- what is told from there on is told of the whole run
+-- the result from the start of a run is the result of the whole run
 pub from_beginning : (p : Program) (input : List (List ℤ)) (r : Plan × Course) → Begins p input r
     → (tell : Program → Tree → Contents → Explored)
     → tell (program r.0.program.now) (whole r.1.place) (contents_of r.1.store) ≡ tell p (first_tree p) (held_by input)

@@ -45,7 +45,7 @@ module _ (p : Program) where
   stuck e ended = (refl, refl, refl)
   stuck e (goes s r) = absurd (let h = step_below p s in omega arith)
 
-  -- A run of a tree to its end, and what comes behind it in the steps that are left
+  -- A run of a tree to its end, and what comes after it in the remaining steps
 
   pub record Ended (n : ℕ) (t : Tree) (a : Contents) (Behind : ℕ → Tree → Contents → Type 0) : Type 0 where
     pub first_count : ℕ
@@ -127,7 +127,7 @@ module _ (p : Program) where
       one_more s (finished n u j (all_done u) refl b e z (subst (λ w. LeftRun n w b e z) q r) d)
 
 module _ (p : Program) (sound : IsSound p) (accepted : IsAccepted p) where
-  -- where a run ends, the first leaves lead to the same end in as many steps
+  -- if a run ends, the first leaves lead to the same end in as many steps
   pub leftmost : (n : ℕ) {t e : Tree} {a z : Contents} → Runs p n t a e z → all_done e ≡ true → (keep : List ℕ)
       → Good p keep t → LeftRun p n t a e z
   leftmost zero here d keep g = LeftRun.ended

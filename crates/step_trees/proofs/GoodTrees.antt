@@ -1,4 +1,4 @@
--- What holds of each reachable tree of an accepted program: environments fit, and sides keep apart.
+-- Facts about each reachable tree of an accepted program: environments fit, and sides are separate.
 use Rattle.std.proofs.Common.{◌≡◌, inr, ℕ, List, [], ◌∷◌, ◌++◌, map, Option, Some, None, refl, sym, ap, ◌∙◌, subst}
 use Rattle.std.specs.Prelude.{ℤ, Bool, true, false, ok_or, Ok, Err, if◌then◌else◌}
 use Rattle.sections.specs.Place.{Window, sides_of}
@@ -282,7 +282,7 @@ module _ (p : Program) where
         by Faulted = kept_trans m.same m.within (done_kept keep m.scope j.rest j _ m.stack)
         by Stopped = kept_trans m.same m.within (done_kept keep m.scope j.rest j _ m.stack)
 
-    -- behind the statement, with what the place where it stands says
+    -- after the statement, with the facts that its position gives
     past_with : {scope : List ℕ} {env : Environment} {l : ℕ} {s : Code} {rest : Codes} (P : List ℕ → Type 0)
         → ((keep : List ℕ) (f : Focus p keep env l s rest) → P f.scope) → Moves scope env (Then l s rest) env rest P
     past_with {env = env} {l = l} {s = s} {rest = rest} P h keep k =
@@ -300,7 +300,7 @@ module _ (p : Program) where
         by None e = cc
         by (Some x) e = cc
 
-    -- the loop again, behind its body
+    -- the loop again, after its body
     again : {scope : List ℕ} {env : Environment} {l : ℕ} {t : Truth} {b rest : Codes}
         → Moves scope env (Then l (While t b) rest) env (append b (Then l (While t b) rest)) (λ x. Unit {0})
     again {env = env} {l = l} {t = t} {b = b} {rest = rest} keep k =

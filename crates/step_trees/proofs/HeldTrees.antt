@@ -1,4 +1,4 @@
--- Trees as they are held: the numbers in them, and their ends.
+-- Trees in their Rust form: the numbers in them, and their ends.
 use Rattle.std.proofs.Common.{◌≡◌, ℕ, suc, ◌+◌, List, [], ◌∷◌, ◌++◌, length, refl, sym, ap, ◌∙◌, arith}
 use Rattle.std.proofs.lemmas.List.{append_assoc}
 use Rattle.std.proofs.lemmas.Bool.{and_from, and_parts}
@@ -17,14 +17,14 @@ use Rattle.step_trees.specs.declared.tree.Tree.{Tree as rTree}
 use Rattle.step_trees.specs.declared.tree.Tree.TheVariants.{Single as rSingle, AndThen' as rAndThen, Beside' as rBeside}
 use Rattle.step_trees.specs.Held.{tree_of, IsLeftOf}
 
--- a leaf is done where no block is left
+-- a leaf is done if no block is left
 pub done_by : (k : rLeaf) (b : Bool) → nat_eq (length k.rest.items) 0 ≡ b → is_done (leaf_of k).rest ≡ b
 done_by k b e = sym (done_is_none k.rest.items) ∙ e
 
 pub ready_by : (k : rLeaf) (b : Bool) → nat_eq (length k.rest.items) 0 ≡ b → ready (Single (leaf_of k)) ≡ (if b then 0 else 1)
 ready_by k b e = ap (λ (z : Bool). let n : ℕ = if z then 0 else 1 in n) (done_by k b e)
 
--- how many trees and leaves a tree has
+-- the number of trees and leaves in a tree
 abbrev pub weight : rTree → ℕ
 weight (rSingle k) = 1
 weight (rAndThen p t k n) = suc (weight t)
@@ -48,7 +48,8 @@ pub with_rights-push : (bs : List (Box rTree Global)) (b : Box rTree Global) (t 
 with_rights-push [] b t = refl
 with_rights-push (x ∷ bs) b t = ap (λ u. Beside u (tree_of x.value)) (with_rights-push bs b t)
 
--- what trees tell from the left to the right, each as `told`: what the leftmost tells comes first
+-- what trees give from left to right, with `told` for each tree: what the leftmost gives comes
+-- first
 told-beside : {A : Type 0} (told : Tree → List A) → ((t u : Tree) → told (Beside t u) ≡ told t ++ told u)
     → (bs : List (Box rTree Global)) (t u : Tree)
     → told (with_rights bs (Beside t u)) ≡ told t ++ told (with_rights bs u)
@@ -72,7 +73,7 @@ pub rightmost-beside : (bs : List (Box rTree Global)) (t u : Tree)
 rightmost-beside [] t u = refl
 rightmost-beside (x ∷ bs) t u = refl
 
--- where all is done, so is the first
+-- if all is done, so is the first
 pub done-first : (bs : List (Box rTree Global)) (t : Tree) → all_done (with_rights bs t) ≡ true → all_done t ≡ true
 done-first [] t e = e
 done-first (x ∷ bs) t e = done-first bs t (and_parts (all_done (with_rights bs t)) (all_done (tree_of x.value)) e).0
@@ -80,14 +81,14 @@ done-first (x ∷ bs) t e = done-first bs t (and_parts (all_done (with_rights bs
 pub no_then : (bs : List (Box rTree Global)) (t : Tree) (k : Leaf) → all_done (with_rights bs (AndThen t k)) ≡ true → ⊥
 no_then bs t k e = let bad : false ≡ true = done-first bs (AndThen t k) e in cc
 
--- and what stands right of it
+-- and what is to the right of it
 pub done-rights : (bs : List (Box rTree Global)) (t u : Tree) → all_done (with_rights bs (Beside t u)) ≡ true → all_done (with_rights bs u) ≡ true
 done-rights [] t u e = (and_parts (all_done t) (all_done u) e).1
 done-rights (x ∷ bs) t u e =
     let c = all_done (with_rights bs (Beside t u)) in let d = all_done (tree_of x.value) in
     and_from (all_done (with_rights bs u)) d (done-rights bs t u (and_parts c d e).0) (and_parts c d e).1
 
--- what waited for the end of a tree of which this is left
+-- what waited for the end of a tree of which this remains
 module _ (t : Tree) (k : Leaf) (r : Remains) (left : IsLeftOf t r) where
   abbrev with : Environment → ℕ → List (List ℤ) → List Fault → Leaf
   with e n ls fs = record k { environment = e; spawned = n; lines = ls; faults = fs }

@@ -1,4 +1,5 @@
--- Labels before which two leaves of one reachable tree stand may run together, whatever the program.
+-- Labels that two leaves of one reachable tree are about to run may run together, for every
+-- program.
 use Rattle.std.proofs.Common.{◌≡◌, ◌≢◌, ◌⊎◌, inl, inr, ℕ, ◌<◌, List, [], ◌∷◌, ◌++◌, map, Some, refl, sym, subst, arith}
 use Rattle.std.specs.Prelude.{Bool, true, false, ok_or, Ok, Err, if◌then◌else◌}
 use Rattle.sections.specs.Place.{sides_of}
@@ -22,7 +23,7 @@ abbrev Labels : Type 1
 Labels = ℕ → Type 0
 
 module _ (p : Program) where
-  -- x stands left of y, and may be pending there
+  -- x is to the left of y, and may be pending there
   data Met (x y : ℕ) : Type 0 where
     in_procedure : (f : ℕ) → Together p labels (procedure_of p f).body x y → Met x y
     in_main : Together p labels p.main.body x y → Met x y
@@ -318,7 +319,7 @@ module _ (p : Program) where
   met_together x y (Met.in_procedure f h) = LabelsMeet.in_procedure f (inl h)
   met_together x y (Met.in_main h) = LabelsMeet.in_main (inl h)
 
-  -- two leaves of one reachable tree stand before labels that may run together
+  -- two leaves of one reachable tree are about to run labels that may run together
   pub labels_known : (input : Contents) (t : Tree) (a : Contents) → Reachable p input t a → (m n : ℕ) → m ≢ n
       → (j k : Leaf) → leaf_at m t ≡ Some j → leaf_at n t ≡ Some k
       → (x y : ℕ) → StandsBefore j x → StandsBefore k y → LabelsMeet p x y

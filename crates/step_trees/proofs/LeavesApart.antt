@@ -1,4 +1,4 @@
--- Leaves of a reachable tree of an accepted program: what they stand before, and where.
+-- Leaves of a reachable tree of an accepted program: what they are about to do, and where they are.
 use Rattle.std.proofs.Common.{◌≡◌, ◌≢◌, ◌⊎◌, inl, inr, ℕ, ◌<◌, List, [], ◌∷◌, Some, arith}
 use Rattle.sections.specs.Place.{Place}
 use Rattle.sections.specs.Member.{Member}
@@ -84,7 +84,7 @@ module _ (p : Program) (sound : IsSound p) where
   owner_in k (ThenIn.right i) keep (Good.is_beside g h apart) = owner_in k i keep h
 
 module _ (p : Program) (sound : IsSound p) (accepted : IsAccepted p) (input : Contents) (t : Tree) (a : Contents) (r : Reachable p input t a) where
-  -- no two leaves stand before one place that one of them writes
+  -- no two leaves are about to access one place that one of them writes
   pub no_race : (m n : ℕ) → m ≢ n → (j k : Leaf) → leaf_at m t ≡ Some j → leaf_at n t ≡ Some k → (q : Place)
       → Member q (next_writes j a) → Member q (next_reads k a) ⊎ Member q (next_writes k a) → ⊥
   no_race m n ne j k e f q w h =
@@ -99,7 +99,7 @@ module _ (p : Program) (sound : IsSound p) (accepted : IsAccepted p) (input : Co
       sides : (m n : ℕ) → m ≢ n → (m < n) ⊎ (n < m)
       sides m n ne = grind arith
 
-  -- each leaf's environment fits the procedure in which it stands
+  -- each leaf's environment fits its procedure
   pub leaf_fits : (n : ℕ) (k : Leaf) → leaf_at n t ≡ Some k → LeafFits p k
   leaf_fits n k e =
       let s = step_at p t n k a e in
@@ -112,6 +112,6 @@ module _ (p : Program) (sound : IsSound p) (accepted : IsAccepted p) (input : Co
         in_scope = all_scoped p sound placed;
       }
 
-  -- the environment with which a `<k>` goes on is its own, but for scalars
+  -- the environment with which a `<k>` continues is its own, except for scalars
   pub owner_keeps : (u : Tree) (k : Leaf) → ThenIn u k t → OwnerKeeps p u k
   owner_keeps u k i = owner_in p sound k i [] (reachable_good p sound accepted input t a r)

@@ -49,7 +49,7 @@ update_of (Prints vs) = None
 update_of (Fails f) = None
 
 module _ (env : Environment) (a c : Contents) where
-  -- the same at each place that these accesses name
+  -- the stores have the same numbers at each place that these accesses name
   abbrev Agrees : List Access → Type 0
   Agrees xs = (q : Place) → Touches env (λ x. Member x xs) q → a q ≡ c q
 
@@ -112,7 +112,7 @@ deed_hits p env r l (Store s i e) =
 deed_hits p env r l (Print es) = value_hits _ (numbers env r es) Prints (λ v h. tt)
 deed_hits p env r l (Raise e) = value_hits _ (number env r e) _ (λ v h. tt)
 
--- a deed changes a leaf whatever the store is, and the store at one place
+-- a deed changes a leaf in the same way for every store, and changes the store at one place
 pub did_tree : (l : ℕ) (d : Deed) (k : Leaf) (a c : Contents)
     → with_state k (did l d (as_state k a)) ≡ with_state k (did l d (as_state k c))
 did_tree l Nothing k a c = refl
@@ -200,7 +200,7 @@ module _ (p : Program) where
   local_after l (Async b) k a = record { update = None; writes = tt; store = refl; elsewhere = λ c h. (refl, refl) }
   local_after l (Finish b) k a = record { update = None; writes = tt; store = refl; elsewhere = λ c h. (refl, refl) }
 
-  -- a step of a leaf, over each store that is the same where the tree may still touch it
+  -- a step of a leaf, over each store with the same numbers where the tree may still touch it
   pub record Local (n : ℕ) (k : Leaf) (t : Tree) (a : Contents) (u : Tree) (b : Contents) : Type 0 where
     pub update : Update
     pub writes : Hits (still p t).writes update

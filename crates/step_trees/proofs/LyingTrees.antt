@@ -15,7 +15,7 @@ use Rattle.step_trees.specs.Windows.{CallersLie, LeafLies, TreeLies}
 use Rattle.step_trees.proofs.Steps.{Step, step_from, step_at}
 
 module _ (p : Program) where
-  -- back behind calls
+  -- the leaf after a return from calls
   returned_to : (fs : List Caller) (k : Leaf) → LiesInArrays p k.environment → CallersLie p fs → LeafLies p (return_to fs k)
   returned_to [] k h g = (h, tt)
   returned_to (f ∷ fs) k h g = by f.rest (returned_to fs (record k { environment = f.environment }) g.0 g.1)
@@ -41,7 +41,7 @@ module _ (p : Program) where
   done_lies : (k : Leaf) → LeafLies p k → LeafLies p (done k)
   done_lies k h = (outermost_lies k.callers k.environment h.0 h.1, tt)
 
-  -- of the end of a finish
+  -- the windows at the end of a finish
   rightmost_lies : (t : Tree) → TreeLies p t → LeafLies p (rightmost t)
   rightmost_lies (Single k) h = h
   rightmost_lies (AndThen t k) h = h.1

@@ -1,4 +1,4 @@
--- A run in which the first leaf always steps does what the one-thread meaning says.
+-- A run in which the first leaf always steps follows the one-thread meaning.
 use Rattle.std.proofs.Common.{◌≡◌, ℕ, zero, suc, ◌+◌, ◌<◌, ◌≤◌, List, [], ◌∷◌, ◌++◌, map, refl, sym, ap, ◌∙◌, subst, arith, append_assoc}
 use Rattle.std.proofs.lemmas.List.{append-nil}
 use Rattle.std.specs.Prelude.{ℤ, Bool, true, false, Ok, Err, ok_or, if◌then◌else◌}
@@ -34,7 +34,7 @@ behind l f st = record st { lines = l ++ st.lines; faults = f ++ st.faults }
 abbrev Adds : (S → S) → Type 0
 Adds go = (l : List (List ℤ)) (f : List Fault) (st : S) → go (behind l f st) ≡ behind l f (go st)
 
--- nothing was told before
+-- nothing was printed before
 behind-nothing : (l : List (List ℤ)) (f : List Fault) (st : S)
     → behind l f (hushed st) ≡ record st { lines = l; faults = f }
 behind-nothing l f st = same_told st (l ++ []) l (f ++ []) f (append-nil l) (append-nil f)
@@ -75,7 +75,7 @@ end_state path t a flow left = record {
   extra = tt;
 }
 
--- a state is that of an ended tree which took at most n steps, and isn't stopped
+-- a state is the state of an ended tree after at most n steps, and isn't stopped
 record ComesTo (n steps : ℕ) (path : List ℕ) (t : Tree) (a : Contents) (out : S) : Type 0 where
   flow : Flow
   goes : flow ≡ Stopped → ⊥
@@ -153,7 +153,7 @@ module _ (p : Program) (fresh : ℕ) where
       ap (λ x. calls nest fs (flow_goes x (record st { environment = f.environment }) (blk nest f.rest))) e
       ∙ faulted_calls nest fs (record st { environment = f.environment }) e
 
-  -- a leaf that goes back to its callers means the same
+  -- a leaf that returns to its callers means the same
   back_by : (nest : ℕ) (k : Leaf) (a : Contents) (n : ℕ) (env : Environment) (fs : List Caller) (c : Codes)
       → (calls nest fs (state_of (record k { environment = env }) a n)
       ≡ (let j = return_to fs (record k { environment = env }) in task nest j.rest j.callers (state_of j a n)))
@@ -175,7 +175,7 @@ module _ (p : Program) (fresh : ℕ) where
   returned_by-task nest End k a n e = back nest k.callers k a n
   returned_by-task nest (Then l s rest) k a n e = ap (λ c. task nest c k.callers (state_of k a n)) (sym e)
 
-  -- the end of a finish, where nothing was faulted before
+  -- the end of a finish, if nothing has faulted before
   finish_is : (nest l : ℕ) (b : Codes) (st : S) → st.faults ≡ []
       → doing nest l (Finish b) st ≡ (let out = blk nest b st in record out { flow = after_finish out.flow out.faults })
   finish_is nest l b st e =
@@ -183,7 +183,7 @@ module _ (p : Program) (fresh : ℕ) where
       ap (λ fs. record (joined st h) { flow = after_finish h.flow fs }) (sym (ap (λ fs. fs ++ h.faults) e))
       ∙ ap (λ (out : S). record out { flow = after_finish out.flow out.faults }) (sym (block_adds nest b st.lines st.faults (hushed st)) ∙ ap (blk nest b) (behind-nothing st.lines st.faults st))
 
-  -- a leaf of which no statement is left came to its end
+  -- a leaf without remaining statements has reached its end
   done_comes : (n steps : ℕ) (k : Leaf) (a : Contents) (flow : Flow) (t : Tree) (z : Contents) (out : S)
       → (flow ≡ Stopped → ⊥)
       → k.rest ≡ End → LeftRun p n (Single k) a t z → out ≡ end_state k.path (Single k) a flow steps → ComesTo n steps k.path t z out
@@ -211,18 +211,18 @@ module _ (p : Program) (fresh : ℕ) where
       done_comes n steps (failed l f k) a Faulted t z (calls nest k.callers (fault l f (state_of k a steps))) faulted_on refl r
       (faulted_calls nest k.callers (fault l f (state_of k a steps)) refl)
 
-  -- what is promised of all runs of so many steps
+  -- the claim about all runs of this number of steps
   abbrev Claim : ℕ → Type 0
   Claim n = (nest steps : ℕ) (k : Leaf) (a : Contents) (t : Tree) (z : Contents) → n ≤ fresh → n ≤ nest → n ≤ steps → k.faults ≡ []
       → LeftRun p n (Single (returned k)) a t z → all_done t ≡ true → ComesTo n steps k.path t z (task nest k.rest k.callers (state_of k a steps))
 
   module _ (n : ℕ) (deeper : (m : ℕ) → m ≤ n → Claim m) (nest steps : ℕ) (in_fresh : suc n ≤ fresh) (in_nest : suc n ≤ nest) (in_steps : n ≤ steps)
       (l : ℕ) (k : Leaf) (faultless : k.faults ≡ []) (t : Tree) (z : Contents) (d : all_done t ≡ true) where
-    -- so goes on what was done to the leaf's state
+    -- what was done to the leaf's state continues in this way
     abbrev Comes : S → Type 0
     Comes out = ComesTo n steps k.path t z (calls nest k.callers (go_on (blk nest k.rest) out))
 
-    -- the leaf k with another environment and lines goes on
+    -- the leaf k continues with another environment and lines
     goes_on : (j : Leaf) (a : Contents) → j.faults ≡ [] → LeftRun p n (Single (returned j)) a t z
         → ComesTo n steps j.path t z (task nest j.rest j.callers (state_of j a steps))
     goes_on j a e r = deeper n (omega arith) nest steps j a t z (omega arith) (omega arith) in_steps e r d
@@ -311,7 +311,7 @@ module _ (p : Program) (fresh : ℕ) where
         right_less : h.second_count ≤ n
         right_less = let c = h.count in omega arith
 
-        -- the state behind the async, by what the body's run from the lines so far comes to
+        -- the state after the async, given the result of the body's run from the lines so far
         behind_it : S → S
         behind_it out = record (state_of k a steps) {
           flow = after_async out.flow;
@@ -383,7 +383,7 @@ module _ (p : Program) (fresh : ℕ) where
         left_by : S → S
         left_by out = record out { flow = after_finish out.flow out.faults }
 
-        -- the leaf behind the finish
+        -- the leaf after the finish
         j : Leaf
         j = record k {
           environment = owner_environment f.tree;
@@ -440,7 +440,7 @@ module _ (p : Program) (fresh : ℕ) where
   is_end End e = refl
   is_end (Then l s rest) e = cc
 
-  -- where nothing is left of a leaf, nothing waits for its calls
+  -- if nothing is left of a leaf, nothing waits for its calls
   landed_by : (k : Leaf) (env : Environment) (fs : List Caller) (c : Codes)
       → (let j = return_to fs (record k { environment = env }) in j.rest ≡ End → j.callers ≡ [])
       → (let j = elim c as (λ c. Leaf) [

@@ -1,4 +1,4 @@
--- Statements as they stand in a leaf: blocks of one procedure, the innermost first, each in its scope.
+-- Statements as a leaf has them: blocks of one procedure, the innermost first, each in its scope.
 use Rattle.std.proofs.Common.{◌≡◌, inl, inr, ℕ, List, [], ◌∷◌, refl, sym, ap, subst}
 use Rattle.sections.specs.Member.{Member}
 use Rattle.sections.specs.Origins.{IsNumbered}
@@ -29,7 +29,7 @@ abbrev pub flat : List Part → Codes
 flat [] = End
 flat (b ∷ bs) = append b.code (flat bs)
 
--- the scope of the first of them; `keep` where there is none
+-- the scope of the first block, or `keep` if there is none
 abbrev pub top : (keep : List ℕ) → List Part → List ℕ
 top keep [] = keep
 top keep (b ∷ bs) = b.scope
@@ -66,7 +66,7 @@ module _ (p : Program) where
     pub calm : Calm p names b
 
   module _ (g : Procedure) (env : Environment) (keep : List ℕ) where
-    -- a block fits where it stands before others, and what it leaves pending keeps apart from them
+    -- a block fits before other blocks, and what it leaves pending is separate from them
     pub record Stands (scope : List ℕ) (b : Codes) (bs : List Part) : Type 0 where
       pub block : FitsIn g env scope b
       pub outer : Among (top keep bs) scope
@@ -76,7 +76,7 @@ module _ (p : Program) where
       none : Parts []
       also : {b : Part} {bs : List Part} → Stands b.scope b.code bs → Parts bs → Parts (b ∷ bs)
 
-  -- statements of one procedure, of which the first stand in a scope, in an environment
+  -- statements of one procedure, the first of which are in a scope, in an environment
   pub record IsPlaced (keep scope : List ℕ) (env : Environment) (c : Codes) : Type 0 where
     pub procedure : Procedure
     pub is_sound : IsSoundIn p procedure
@@ -131,9 +131,9 @@ module _ (p : Program) where
     same_parts same none = none
     same_parts same (also s r) = also (same_stands r same s) (same_parts (λ x m. same x (s.outer x m)) r)
 
-  -- A statement that stands first
+  -- The first statement
 
-  -- the first statement of some that are placed, with the blocks that it stands in
+  -- the first statement of some that are placed, with the blocks that contain it
   pub record Focus (keep : List ℕ) (env : Environment) (l : ℕ) (s : Code) (rest : Codes) : Type 0 where
     pub procedure : Procedure
     pub is_sound : IsSoundIn p procedure
@@ -170,7 +170,7 @@ module _ (p : Program) where
       focus_in keep env k.procedure k.is_sound l s rest scope k.code k.parts k.stands k.standing k.flat
       (focus_parts keep env k.procedure k.is_sound l s rest k.parts)
 
-  -- a block fits where the first statement stands
+  -- a block fits at the position of the first statement
   abbrev pub fits_there : {keep : List ℕ} {env : Environment} {l : ℕ} {s : Code} {rest : Codes} → (f : Focus keep env l s rest)
       → {b : Codes} → Follows p f.procedure f.scope b → Calm p f.stands.block.names b → FitsIn f.procedure env f.scope b
   fits_there f follows calm = record {
@@ -181,7 +181,7 @@ module _ (p : Program) where
     calm = calm;
   }
 
-  -- what is placed lets the windows of `keep` alone
+  -- what is placed doesn't change the windows of `keep`
   pub keep_below : {keep scope : List ℕ} {env : Environment} {c : Codes} → IsPlaced keep scope env c
       → Among keep scope
   keep_below {keep = keep} {env = env} k = λ x m. k.stands.outer x (keep_among k.procedure env keep k.standing x m)
@@ -246,7 +246,7 @@ module _ (p : Program) where
         → Within (pending p other c) (pending p env c)
     same_pending same k = shifted (λ x h. all_scoped k x (pending_all p h)) same
 
-  -- behind the first statement
+  -- after the first statement
   abbrev pub rest_placed : {keep : List ℕ} {env : Environment} {l : ℕ} {s : Code} {rest : Codes}
       → (f : Focus keep env l s rest) → IsPlaced keep f.scope env rest
   rest_placed {env = env} {l = l} {s = s} f = record {

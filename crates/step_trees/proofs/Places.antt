@@ -1,4 +1,5 @@
--- A place in a tree: how many leaves may step round it, and which of the whole stand there.
+-- A position in a tree: the number of leaves around it that may step, and which leaves of the whole
+-- tree are there.
 use Rattle.std.proofs.Common.{◌≡◌, ℕ, ◌+◌, ◌<◌, List, [], ◌∷◌, ◌++◌, Option, Some, None, refl, ap, ◌∙◌, arith}
 use Rattle.std.proofs.lemmas.Bool.{and_parts, lt-ltb, le-ltb}
 use Rattle.std.specs.Prelude.{Bool, true, false, ◌&&◌, if◌then◌else◌}
@@ -24,7 +25,7 @@ pub rights-push : (xs : List Around) (x : Around) → rights (xs ++ x ∷ []) �
 rights-push [] x = omega arith
 rights-push (y ∷ xs) x = let more = rights-push xs x in omega (arith, more)
 
--- where all leaves are done none may step
+-- if all leaves are done, none may step
 pub done_ready : (t : Tree) → all_done t ≡ true → ready t ≡ 0
 done_ready (Single k) e = ap (λ (z : Bool). let n : ℕ = if z then 0 else 1 in n) e
 done_ready (AndThen t k) e = absurd (let bad : ⊥ = cc in bad)
@@ -37,11 +38,11 @@ going_by : (t : Tree) (b : Bool) → all_done t ≡ b → 0 < ready t → b ≡ 
 going_by t false e h = refl
 going_by t true e h = let none = done_ready t e in absurd (omega (arith, none, h))
 
--- so one that has such a leaf isn't done
+-- so a tree with a leaf that may step isn't done
 pub ready_going : (t : Tree) → 0 < ready t → all_done t ≡ false
 ready_going t h = going_by t (all_done t) refl h
 
--- what waits for the end of such a tree waits on
+-- what waits for the end of such a tree continues to wait
 pub then_going : (t : Tree) (k : Leaf) → all_done t ≡ false → and_then t k ≡ AndThen t k
 then_going t k e = ap (λ (z : Bool). if z then Single (closed t k) else AndThen t k) e
 
@@ -61,7 +62,7 @@ within_ready (Behind k) t e =
 within_ready (Right u) t e = omega arith
 within_ready (Left u) t e = omega arith
 
--- how many leaves may step in all
+-- the total number of leaves that may step
 pub inside_ready : (xs : List Around) (t : Tree) → all_done t ≡ false → ready (inside xs t) ≡ (lefts xs + ready t) + rights xs
 inside_ready [] t e = omega arith
 inside_ready (x ∷ xs) t e =
@@ -127,7 +128,7 @@ module _ (m : ℕ) (t : Tree) (below : m < ready t) where
       ∙ ap (in_tree (λ w. Beside v w)) (inside_step p a xs)
       ∙ in_tree-in (λ w. Beside v w) (inside xs) (step p m t a)
 
--- what is held of a place tells how many leaves may step in all
+-- the stored numbers of a place give the total number of leaves that may step
 pub placed_ready : (r : Round) (t : Tree) (n here : ℕ) → IsRound r → (all_done t ≡ true → r.around.items ≡ [])
     → here ≡ ready t → n ≡ (r.left + here) + r.right → n ≡ ready (inside r.around.items t)
 placed_ready r t n here h settled e f = by (all_done t) refl
@@ -143,7 +144,7 @@ placed_ready r t n here h settled e f = by (all_done t) refl
         let all = inside_ready r.around.items t is in let l = h.left in let g = h.right in
         omega (arith, all, l, g, e, f)
 
--- where a leaf may step a place isn't done
+-- if a leaf may step, a place isn't done
 pub place_going : (c : Place) → IsPlace c → 0 < ready (whole c) → all_done (tree_of c.tree) ≡ false
 place_going c h some = by (all_done (tree_of c.tree)) refl
   where

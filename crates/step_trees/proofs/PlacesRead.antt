@@ -26,7 +26,7 @@ after_twice (Ok v) f go = refl
 after_twice (Err e) f go = refl
 
 module _ (env : Environment) (r o : Place → ℤ) where
-  -- the same numbers at these places
+  -- the stores have the same numbers at these places
   abbrev Same : List Place → Type 0
   Same ps = (q : Place) → Member q ps → r q ≡ o q
 
@@ -36,7 +36,7 @@ module _ (env : Environment) (r o : Place → ℤ) where
   right : (ps qs : List Place) → Same (ps ++ qs) → Same qs
   right ps qs h q m = h q (in_right ps m)
 
-  -- what goes on with a value is the same, where it does nothing with one that there isn't
+  -- what continues with a value is the same, if it does nothing without a value
   same_value : {A B : Type 0} (go : Valued A → (A → B) → B) → ((a : A) (f : A → B) → go (Ok a) f ≡ f a)
       → ((e : FaultKind) (f g : A → B) → go (Err e) f ≡ go (Err e) g) → (x y : Valued A) (f g : A → B)
       (reads : A → List Place) → x ≡ y → Same (after x reads)
@@ -53,7 +53,7 @@ module _ (env : Environment) (r o : Place → ℤ) where
   same_try x y f g reads e h k =
       same_value (λ x f. then_try x f) (λ a f. refl) (λ e f g. refl) x y f g reads e h k
 
-  -- the same of a value by which first the places of its own are read
+  -- the same fact, for a value for which its own places are read first
   same_first : {A B : Type 0} (x y : Valued A) (f g : A → Valued B) (own : List Place) (reads : A → List Place)
       → (Same own → x ≡ y) → Same (own ++ after x reads)
       → ((a : A) → Same (reads a) → f a ≡ g a) → then_try x f ≡ then_try y g
@@ -126,7 +126,7 @@ module _ (env : Environment) (r o : Place → ℤ) where
   deed_by p (Print es) h = ap (λ v. by_value v Prints) (numbers_by es h)
   deed_by p (Raise e) h = ap (λ v. by_value v (λ v. Fails (Raised v))) (number_by e h)
 
--- what a deed writes is what the step stands before
+-- what a deed writes is what the step is about to write
 module _ (env : Environment) (r : Place → ℤ) where
   value_writes : {A : Type 0} (P : Place → Type 0) (x : Valued A) (d : A → Deed) (go : A → List Place)
       → ((q : Place) → Member q (after x go) → P q)

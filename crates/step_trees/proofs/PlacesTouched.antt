@@ -40,7 +40,7 @@ module _ (env : Environment) (contents : Place → ℤ) (q : Place) where
       → (Member q ys → A) → A
   parts xs h f g = elim (in_parts xs h) [ inl h ↦ f h | inr h ↦ g h ]
 
-  -- it is read first, or behind a value that comes of what is read first
+  -- it is read first, or after a value that depends on what is read first
   either_in : {A : Type 0} (x : Valued A) (go : A → List Place) (own : List Place) (ss ts : List ℕ) → (Member q own → LiesIn ss)
       → ((v : A) → Member q (go v) → LiesIn ts) → Member q (own ++ after x go) → LiesIn (ss ++ ts)
   either_in x go own ss ts early later h = parts own h

@@ -1,4 +1,4 @@
--- What holds of the reachable trees of an accepted program.
+-- Facts about the reachable trees of an accepted program.
 use Rattle.std.proofs.Common.{◌≡◌, ℕ, ◌<◌, List, [], Some, sym, ◌∙◌}
 use Rattle.std.specs.Prelude.{true, ℤ}
 use Rattle.types.specs.Code.{Program}

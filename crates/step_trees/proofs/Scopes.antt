@@ -1,4 +1,4 @@
--- Windows that stand as the origins of a scope's names say fit the scope.
+-- Windows that are related as the origins of a scope's names specify fit the scope.
 use Rattle.std.proofs.Common.{◌≡◌, ℕ, ◌+◌, ◌<◌, List, ◌∷◌, Option, Some, refl, sym, ap, ◌∙◌, subst, arith}
 use Rattle.sections.specs.Member.{Member, first, next}
 use Rattle.sections.specs.Origins.{Right, origin_of}
@@ -56,7 +56,7 @@ module _ (p : Program) (g : Procedure) (is_sound : IsSoundIn p g) where
         };
   }
 
-  -- windows that stand so fit
+  -- windows that are related in this way fit
   pub fits_scope : {sc : Scope} {scope : List ℕ} → Lists g sc scope → (env : Environment)
       → Placed (names_in g scope) env.windows → FitsScope sc env
   fits_scope Lists.top env placed = λ j k may lt ne.

@@ -77,7 +77,7 @@ module _ (k : Leaf) (n : ℕ) (below : n < ready (Single k)) where
   pub single-step : (p : Program) (a : Contents) → step p n (Single k) a ≡ leaf_step p k.rest k a
   single-step p a = ap (λ (m : ℕ). step p m (Single k) a) (only_leaf k.rest n below).0
 
--- on the way to the n-th leaf that may step: of what stands in there, it is the m-th
+-- on the way to the n-th leaf that may step, which is the m-th leaf of the inner tree
 pub record Way (n : ℕ) (whole : Tree) (xs : List Around) (m : ℕ) (t : rTree) : Type 0 where
   pub counted : IsCounted t
   pub below : m < ready (tree_of t)
@@ -125,13 +125,13 @@ module _ (n : ℕ) (whole : Tree) (xs : List Around) (m : ℕ) where
             ∙ in_tree-push xs (Left b) (step p k (tree_of g) a);
       }
 
--- on the way up: inside of what stands round it, a tree is like the whole
+-- on the way up: a tree together with what surrounds it is like the whole
 pub record IsLike (whole : Tree) (r : Round) (t : rTree) : Type 0 where
   pub round : IsRound r
   pub tree : IsCounted t
   pub same : AreAlike (inside r.around.items (tree_of t)) whole
 
--- back up by one
+-- one level up
 pub up-by : (whole : Tree) (r s : Round) (x : Around) (t u : rTree) → r.around.items ≡ s.around.items ++ x ∷ [] → IsRound s
     → IsCounted u → AreAlike (tree_of u) (within x (tree_of t)) → IsLike whole r t → IsLike whole s u
 up-by whole r s x t u e round tree g h = record {

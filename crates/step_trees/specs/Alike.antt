@@ -1,7 +1,7 @@
--- Trees with the same leaves in the same order, of which some are put together otherwise.
+-- Trees with the same leaves in the same order, whose sides may be grouped differently.
 use Rattle.types.specs.Trees.{Leaf, Tree, AndThen, Beside}
 
--- `(t par u) par v` is like `t par (u par v)`, wherever it stands
+-- `(t par u) par v` is like `t par (u par v)`, at any position in a tree
 pub data AreAlike : Tree → Tree → Type 0 where
   same : {t : Tree} → AreAlike t t
   left_first : {t u v : Tree} → AreAlike (Beside (Beside t u) v) (Beside t (Beside u v))

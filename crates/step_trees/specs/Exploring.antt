@@ -1,4 +1,4 @@
--- Steps of trees as they are held, and what is told of given choices.
+-- Steps of trees in their Rust form, and the result of given choices.
 use Rattle.std.specs.Prelude.{ℕ, ℤ, ◌≡◌, List, Some}
 use Rattle.types.specs.Code.{Program}
 use Rattle.types.specs.Contents.{FitsArrays, held_by}
@@ -16,21 +16,22 @@ use Rattle.step_trees.specs.Alike.{AreAlike}
 use Rattle.step_trees.specs.Places.{whole, IsPlace}
 use Rattle.step_trees.specs.Windows.{TreeLies}
 
--- what is held of a place is so, the windows of its tree lie in their arrays, and these have a
--- number for each element
+-- the stored numbers of a place are correct, the windows of its tree lie in their arrays, and these
+-- arrays have a number for each element
 pub record IsHeld (plan : Plan) (c : Course) : Type 0 where
   pub place : IsPlace c.place
   pub windows : TreeLies (program plan.program.now) (whole c.place)
   pub store : FitsArrays (program plan.program.now).arrays (lists_of c.store)
 
--- a run of a program on an input at its beginning
+-- a run of a program on an input, at its start
 pub record Begins (p : Program) (input : List (List ℤ)) (r : Plan × Course) : Type 0 where
   pub held : IsHeld r.0 r.1
   pub code : program r.0.program.now ≡ p
   pub tree : whole r.1.place ≡ first_tree p
   pub store : contents_of r.1.store ≡ held_by input
 
--- the step of the n-th leaf that may step, to a tree like the one that is held, and a run is held as before
+-- the step of the n-th leaf that may step leads to a tree like the stored one, and the run is
+-- stored correctly again
 pub record StepsTree (plan : Plan) (c : Course) (n : ℕ) (next : Course) : Type 0 where
   pub tree : Tree
   pub alike : AreAlike (whole next.place) tree
@@ -38,7 +39,7 @@ pub record StepsTree (plan : Plan) (c : Course) (n : ℕ) (next : Course) : Type
       ≡ Some (tree, contents_of next.store)
   pub held : IsHeld plan next
 
--- what is told
+-- the plain value of a result
 abbrev pub explored_of : rExplored → Explored
 explored_of (rEnded o) = Ends (outcome o)
 explored_of (rOpen leaves) = Open leaves

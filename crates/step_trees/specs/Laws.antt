@@ -1,4 +1,4 @@
--- What is said of step trees.
+-- The statements of the theorems about step trees.
 use Rattle.std.specs.Prelude.{ℕ, ◌+◌, ◌≡◌, ◌⊎◌, List, length, true, false, Some, None, slice_get}
 use Rattle.sections.specs.Place.{Place}
 use Rattle.sections.specs.Member.{Member}
@@ -14,14 +14,14 @@ use Rattle.effects.specs.Effects.{All, accesses}
 use Rattle.effects.specs.Fits.{Fits}
 use Rattle.effects.specs.Kept.{SameWindows}
 
--- `t par u` stands in a tree
+-- `t par u` is part of a tree
 pub data ParIn (t u : Tree) : Tree → Type 0 where
   here : ParIn t u (Beside t u)
   first : {v : Tree} {k : Leaf} → ParIn t u v → ParIn t u (AndThen v k)
   left : {v w : Tree} → ParIn t u v → ParIn t u (Beside v w)
   right : {v w : Tree} → ParIn t u w → ParIn t u (Beside v w)
 
--- `t then <k>` stands in a tree
+-- `t then <k>` is part of a tree
 pub data ThenIn (t : Tree) (k : Leaf) : Tree → Type 0 where
   here : ThenIn t k (AndThen t k)
   first : {v : Tree} {j : Leaf} → ThenIn t k v → ThenIn t k (AndThen v j)
@@ -34,8 +34,8 @@ pub record StepsTo (p : Program) (n : ℕ) (t : Tree) (a : Contents) : Type 0 wh
   pub store : Contents
   pub step : step p n t a ≡ Some (tree, store)
 
--- of t, the m-th leaf steps to u and the n-th, which stands right of it, to v: each still may after
--- the other, and both orders lead to one tree and store
+-- in t, the m-th leaf steps to u, and the n-th leaf, to its right, steps to v. Each leaf still may
+-- step after the other, and both orders lead to one tree and store
 pub record Commutes (p : Program) (m n : ℕ) (t u : Tree) (b : Contents) (v : Tree) (c : Contents)
     : Type 0 where
   pub tree : Tree
@@ -47,29 +47,29 @@ pub record Commutes (p : Program) (m n : ℕ) (t u : Tree) (b : Contents) (v : T
   pub second : step p number u b ≡ Some (tree, store)
   pub first : step p m v c ≡ Some (tree, store)
 
--- a run of m steps goes on to an end, which it reaches after n
+-- a run of m steps continues to an end, which it reaches after n steps
 pub record GoesOn (p : Program) (m n : ℕ) (u : Tree) (b : Contents) (end : Tree) (z : Contents)
     : Type 0 where
   pub more : ℕ
   pub count : m + more ≡ n
   pub runs : Runs p more u b end z
 
--- a leaf's environment fits the procedure in which its next statement stands, in a scope that has
--- the sections of all that it has left of it
+-- a leaf's environment fits the procedure of its next statement, in a scope with all sections that
+-- the leaf's remaining statements name
 pub record LeafFits (p : Program) (k : Leaf) : Type 0 where
   pub procedure : Procedure
   pub scope : List ℕ
   pub fits : Fits p procedure scope k.environment
   pub in_scope : (x : Access) → All p accesses k.rest x → Member x.section scope
 
--- the owner of t has left the windows of the names in scope at `<k>` as they were
+-- the owner of t has not changed the windows of the names in scope at `<k>`
 pub record OwnerKeeps (p : Program) (t : Tree) (k : Leaf) : Type 0 where
   pub scope : List ℕ
   pub in_scope : (x : Access) → All p accesses k.rest x → Member x.section scope
   pub same : SameWindows scope k.environment (owner_environment t)
 
--- the leaf that steps to u over the store a, to the store b, does so over c: each place is in both
--- as it was, or is one that the step writes, and then has the same number in both
+-- the leaf that steps to u over the store a, giving the store b, also steps to u over c. Each place
+-- is unchanged in both stores, or is written by the step, and then has the same number in both
 pub record SameStep (p : Program) (k : Leaf) (a : Contents) (u : Tree) (b c : Contents)
     : Type 0 where
   pub store : Contents
@@ -78,7 +78,7 @@ pub record SameStep (p : Program) (k : Leaf) (a : Contents) (u : Tree) (b c : Co
       ⊎ (Member q (next_writes k a) × (b q ≡ store q))
 
 module _ (p : Program) where
-  -- a run of so many steps ends, with this outcome
+  -- a run of this number of steps ends with this outcome
   pub record EndsBy (count : ℕ) (t : Tree) (a : Contents) (o : Outcome) : Type 0 where
     pub tree : Tree
     pub store : Contents
@@ -86,7 +86,8 @@ module _ (p : Program) where
     pub done : all_done tree ≡ true
     pub same : Ended (tree_ending p tree store) ≡ o
 
-  -- a run of so many steps comes to a tree that hasn't ended, in which so many leaves may step
+  -- a run of this number of steps leads to a tree that hasn't ended, with this number of leaves
+  -- that may step
   pub record OpensBy (count : ℕ) (t : Tree) (a : Contents) (leaves : ℕ) : Type 0 where
     pub tree : Tree
     pub store : Contents
@@ -94,7 +95,7 @@ module _ (p : Program) where
     pub open_yet : all_done tree ≡ false
     pub same : ready tree ≡ leaves
 
-  -- a run by the first n choices comes to a tree in which the next one names no leaf
+  -- a run by the first n choices leads to a tree in which the next choice names no leaf
   pub record MissesBy (choices : List ℕ) (n : ℕ) (t : Tree) (a : Contents) : Type 0 where
     pub tree : Tree
     pub store : Contents
@@ -103,7 +104,7 @@ module _ (p : Program) where
     pub given : slice_get choices n ≡ Some choice
     pub missing : step p choice tree store ≡ None
 
-  -- so many choices lead there
+  -- n choices lead to this tree and store
   pub record Chosen (n : ℕ) (t : Tree) (a : Contents) (u : Tree) (b : Contents) : Type 0 where
     pub choices : List ℕ
     pub count : length choices ≡ n

@@ -1,4 +1,4 @@
--- A place in a tree, and what stands round it.
+-- A position in a tree, and what surrounds it.
 use Rattle.std.specs.Prelude.{ℕ, ◌+◌, ◌<◌, ◌≤◌, ◌≡◌, ◌++◌, List, [], ◌∷◌, true, Option, Some, None}
 use Rattle.types.specs.Trees.{Tree, all_done, ready}
 use Rattle.step_trees.specs.declared.tree.Tree.{Tree as rTree}
@@ -9,19 +9,19 @@ use Rattle.step_trees.specs.declared.tree.Round.{Round}
 use Rattle.step_trees.specs.Alike.{AreAlike}
 use Rattle.step_trees.specs.Held.{tree_of, inside, IsCounted, IsCountedRound, AreCounted}
 
--- how many leaves may step left of a place, of what stands round it
+-- the number of leaves that may step to the left of a position, in one surrounding part
 abbrev pub ready_left : Around → ℕ
 ready_left (Behind k) = 0
 ready_left (Right u) = 0
 ready_left (Left u) = ready (tree_of u.value)
 
--- and right of it
+-- the number of leaves that may step to the right of a position, in one surrounding part
 abbrev pub ready_right : Around → ℕ
 ready_right (Behind k) = 0
 ready_right (Right u) = ready (tree_of u.value)
 ready_right (Left u) = 0
 
--- of all that stands round it
+-- the number to the left, in all surrounding parts
 abbrev pub lefts : List Around → ℕ
 lefts [] = 0
 lefts (x ∷ xs) = ready_left x + lefts xs
@@ -30,13 +30,13 @@ abbrev pub rights : List Around → ℕ
 rights [] = 0
 rights (x ∷ xs) = ready_right x + rights xs
 
--- what is held of these numbers is so
+-- the stored numbers are correct
 pub record IsRound (r : Round) : Type 0 where
   pub counted : AreCounted r.around.items
   pub left : r.left ≡ lefts r.around.items
   pub right : r.right ≡ rights r.around.items
 
--- the nearest is taken off, or none is there
+-- the nearest surrounding part is removed, or there is none
 abbrev pub Pops : Option Around → (old new : List Around) → Type 0
 Pops None old new = (old ≡ []) × (new ≡ [])
 Pops (Some x) old new = (old ≡ new ++ x ∷ []) × IsCountedRound x
@@ -45,14 +45,14 @@ Pops (Some x) old new = (old ≡ new ++ x ∷ []) × IsCountedRound x
 abbrev pub whole : Place → Tree
 whole c = inside c.round.around.items (tree_of c.tree)
 
--- what is held of a place is so, and where all leaves are done nothing stands round it
+-- the stored numbers of a place are correct, and if all its leaves are done, nothing surrounds it
 pub record IsPlace (c : Place) : Type 0 where
   pub round : IsRound c.round
   pub tree : IsCounted c.tree
   pub settled : all_done (tree_of c.tree) ≡ true → c.round.around.items ≡ []
   pub ready : c.ready ≡ ready (whole c)
 
--- the n-th leaf of t that may step is inside of a tree with this round it, in one that is alike
+-- the n-th leaf of t that may step is in the inner tree of a tree that is like t
 pub record IsRaised (t : Tree) (n : ℕ) (r : Round × rTree) : Type 0 where
   pub round : IsRound r.0
   pub tree : IsCounted r.1

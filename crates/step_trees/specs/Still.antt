@@ -8,7 +8,7 @@ use Rattle.effects.specs.Accesses.{Access}
 use Rattle.effects.specs.Effects.{All, accesses}
 use Rattle.effects.specs.Footprint.{Touches, Overwrites}
 
--- the places that something may touch, and those of them that it may write
+-- the places that something may touch, and those that it may write
 pub record Footprint : Type 1 where
   pub touches : Place → Type 0
   pub writes : Place → Type 0
@@ -17,7 +17,7 @@ pub record Footprint : Type 1 where
 abbrev pub nothing : Footprint
 nothing = record { touches = λ q. ⊥; writes = λ q. ⊥ }
 
--- the places of the one and of the other
+-- the places of two footprints together
 abbrev pub both : Footprint → Footprint → Footprint
 both f g = record {
   touches = λ q. f.touches q ⊎ g.touches q;
@@ -28,26 +28,26 @@ both f g = record {
 abbrev pub foot : Environment → (Access → Type 0) → Footprint
 foot env xs = record { touches = Touches env xs; writes = Overwrites env xs }
 
--- no place that one of the two may write is one that the other may touch
+-- no place that one of the two may write is a place that the other may touch
 pub record Separate (f g : Footprint) : Type 0 where
   pub writes_first : (q : Place) → f.writes q → g.touches q → ⊥
   pub writes_second : (q : Place) → f.touches q → g.writes q → ⊥
 
 module _ (p : Program) where
-  -- of a list of statements
+  -- the footprint of a list of statements
   abbrev pub all : Environment → Codes → Footprint
   all env b = foot env (All p accesses b)
 
-  -- of what waits for calls to end
+  -- the footprint of what waits for calls to return
   abbrev pub waiting : List Caller → Footprint
   waiting [] = nothing
   waiting (f ∷ fs) = both (all f.environment f.rest) (waiting fs)
 
-  -- of all that a leaf has left
+  -- the footprint of all that a leaf has left to do
   abbrev pub left_of : Leaf → Footprint
   left_of k = both (all k.environment k.rest) (waiting k.callers)
 
-  -- of all that a tree has left, the `<k>` behind a `then` among it
+  -- the footprint of all that a tree has left to do, with each `<k>` after a `then`
   abbrev pub still : Tree → Footprint
   still (Single k) = left_of k
   still (AndThen t k) = both (still t) (left_of k)

@@ -5,16 +5,16 @@ use Rattle.types.specs.Trees.{Caller, Leaf, Tree, Single, AndThen, Beside}
 use Rattle.statement_steps.specs.Bounds.{LiesInArrays}
 
 module _ (p : Program) where
-  -- those of what waits for calls to end
+  -- the windows of what waits for calls to return lie in their arrays
   abbrev pub CallersLie : List Caller → Type 0
   CallersLie [] = Unit {0}
   CallersLie (f ∷ fs) = LiesInArrays p f.environment × CallersLie fs
 
-  -- those of a leaf, and of its callers
+  -- the windows of a leaf, and of its callers, lie in their arrays
   abbrev pub LeafLies : Leaf → Type 0
   LeafLies k = LiesInArrays p k.environment × CallersLie k.callers
 
-  -- those of all leaves of a tree, and of what waits behind a `then`
+  -- the windows of all leaves of a tree, and of what waits after a `then`, lie in their arrays
   abbrev pub TreeLies : Tree → Type 0
   TreeLies (Single k) = LeafLies k
   TreeLies (AndThen t k) = TreeLies t × LeafLies k

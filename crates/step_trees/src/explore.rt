@@ -1,4 +1,4 @@
-//! Runs by given choices, and by those that a generator draws.
+//! Runs by given choices, and by choices that a random number generator draws.
 
 ghost use Rattle.std.specs.Prelude.{◌≡◌, ◌≢◌, ◌<◌, ℕ, IfOk, length};
 ghost use Rattle.types.specs.Contents.{FitsArrays};
@@ -33,29 +33,31 @@ use types::laws::typed_programs_are_sound;
 use types::outcome::Outcome;
 use types::path::Path;
 
-/// What is told of a run by given choices.
+/// The result of a run by given choices.
 #[derive(PartialEq, Eq, Debug, Drop)]
 pub enum Explored {
-    /// It has ended.
+    /// The run has ended.
     Ended(Outcome),
-    /// It hasn't, and so many leaves may step.
+    /// The run hasn't ended, and this number of leaves may step.
     Open { leaves: u32 },
-    /// The first choice that names no leaf, numbered from 0.
+    /// The index of the first choice that names no leaf, counted from 0.
     NoSuchChoice(usize),
 }
 
-/// How far a run has come.
+/// The state of a run.
 #[derive(Drop)]
 pub struct Course<'p> {
     pub store: Store,
     pub place: Place<'p>,
 }
 
-/// The run of an accepted program by choices, each the number of a leaf that steps next, from the
-/// left and from 0, of those that may. The input has a list for each array, of its length.
+/// Runs an accepted program by choices. Each choice is the number of the leaf that steps next,
+/// counted from the left and from 0, among the leaves that may step. The input has a list for each
+/// array, of its length.
 ///
-/// What is told to be open has a leaf that may step, and what is told to have ended is the outcome of
-/// one thread, with as many steps and as much nest as there are choices or with more.
+/// If the result is `Open`, there is a leaf that may step. If it is `Ended`, it is the outcome of
+/// one thread, under every budget of at least as many steps, and as much nest, as there are
+/// choices.
 pub fn explore(
     alloc: Global,
     accepted: &Accepted,
@@ -75,7 +77,7 @@ pub fn explore(
     by_choices(plan, course, choices)
 }
 
-/// What is told of a run that goes on by choices.
+/// Continues a run by choices.
 fn by_choices<'p>(
     plan: Plan<'p>,
     course: Course<'p>,
@@ -97,14 +99,15 @@ fn by_choices<'p>(
     told(plan, course)
 }
 
-/// The most choices that are drawn.
+/// The maximum number of choices that are drawn.
 const MOST_DRAWN: u32 = 1_000_000;
 
-/// The run of an accepted program by choices that a generator draws, from a seed on, until no leaf may
-/// step or 1,000,000 leaves have. The input has a list for each array, of its length.
+/// Runs an accepted program by choices that a generator draws from a seed, until no leaf may step
+/// or 1,000,000 leaves have. The input has a list for each array, of its length.
 ///
-/// Each choice names a leaf, so what is told is the outcome of one thread, with 1,000,000 steps and as
-/// much nest or with more, or how many leaves may step behind 1,000,000 choices.
+/// Each choice names a leaf. So the result is the outcome of one thread, under every budget of at
+/// least 1,000,000 steps and as much nest, or the number of leaves that may step after 1,000,000
+/// choices.
 pub fn explore_random(
     alloc: Global,
     accepted: &Accepted,
@@ -128,7 +131,7 @@ pub fn explore_random(
     by_draws(plan, course, seed)
 }
 
-/// What is told of a run that goes on by choices that are drawn.
+/// Continues a run by choices that are drawn.
 fn by_draws<'p>(plan: Plan<'p>, course: Course<'p>, seed: u64) -> Result<Explored, AllocError>
     requires { IsHeld plan course }
     ensures { let p = program_of plan.entry.program.now in
@@ -150,7 +153,7 @@ fn by_draws<'p>(plan: Plan<'p>, course: Course<'p>, seed: u64) -> Result<Explore
     told(plan, course)
 }
 
-/// The generator's number behind this one.
+/// Returns the generator's next number after this one.
 fn next_number(number: u64) -> u64
     ensures { result ≡ number_behind number }
 {
@@ -158,7 +161,8 @@ fn next_number(number: u64) -> u64
     ((product + 1_442_695_040_888_963_407) % 18_446_744_073_709_551_616) as u64
 }
 
-/// The leaf that a number names, of so many: by its upper half.
+/// Returns the leaf that a number names, among this number of leaves. The upper half of the number
+/// decides.
 fn picked(number: u64, leaves: u32) -> u32
     requires { 0 < leaves }
     ensures named { result < leaves }
@@ -167,7 +171,7 @@ fn picked(number: u64, leaves: u32) -> u32
     (number / 4_294_967_296 % u64::from(leaves)) as u32
 }
 
-/// A run of an accepted program on an input, at its beginning.
+/// Returns a run of an accepted program on an input, at its start.
 fn begun<'p>(
     alloc: Global,
     accepted: &'p Accepted,
@@ -186,7 +190,7 @@ fn begun<'p>(
     Ok((plan, Course { store, place }))
 }
 
-/// Where a run begins.
+/// Returns the place where a run starts.
 fn start<'p>(plan: Plan<'p>) -> Result<Place<'p>, AllocError>
     ensures tree { IfOk result (λ c. whole c ≡ first_tree (program_of plan.entry.program.now)) }
     ensures place { IfOk result IsPlace }
@@ -195,7 +199,7 @@ fn start<'p>(plan: Plan<'p>) -> Result<Place<'p>, AllocError>
     placed(Round::nothing(plan.alloc), tree)
 }
 
-/// `main` at its beginning.
+/// Returns the tree of `main` at its start.
 fn first<'p>(plan: Plan<'p>) -> Result<Tree<'p>, AllocError>
     ensures tree { IfOk result (λ t. tree_of t ≡ first_tree (program_of plan.entry.program.now)) }
     ensures counted { IfOk result IsCounted }
@@ -214,7 +218,7 @@ fn first<'p>(plan: Plan<'p>) -> Result<Tree<'p>, AllocError>
     Ok(Tree::Single(returned(leaf)))
 }
 
-/// One step of the leaf with a number, of those that may step.
+/// Runs one step of the leaf with a number, among the leaves that may step.
 fn step<'p>(plan: Plan<'p>, course: Course<'p>, choice: u32) -> Result<Course<'p>, AllocError>
     requires held { IsHeld plan course }
     requires choice { choice < ready_leaves (whole course.place) }
@@ -227,7 +231,7 @@ fn step<'p>(plan: Plan<'p>, course: Course<'p>, choice: u32) -> Result<Course<'p
     Ok(Course { store, place })
 }
 
-/// The tree that a leaf becomes by a step.
+/// Returns the tree that a leaf becomes by a step.
 fn grown<'p>(alloc: Global, becomes: Becomes<'p>) -> Result<Tree<'p>, AllocError>
     ensures tree { IfOk result (λ t. tree_of t ≡ becomes_tree becomes.entry) }
     ensures counted { IfOk result IsCounted }
@@ -243,7 +247,7 @@ fn grown<'p>(alloc: Global, becomes: Becomes<'p>) -> Result<Tree<'p>, AllocError
     }
 }
 
-/// What is told of a tree once all choices are used.
+/// Returns the result for a tree once all choices are used.
 fn told<'p>(plan: Plan<'p>, course: Course<'p>) -> Result<Explored, AllocError>
     requires { IsHeld plan course }
     ensures { IfOk result (λ e. explored_of e ≡ told_of (program_of plan.entry.program.now)

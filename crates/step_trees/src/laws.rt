@@ -1,4 +1,4 @@
-//! Laws of the definitions, each the contract of a function that does nothing.
+//! Theorems about the definitions. Each is the contract of a function that does nothing.
 
 ghost use Rattle.std.specs.Prelude.{◌≡◌, ◌≢◌, ◌<◌, ◌≤◌, ◌⊎◌, ℕ, ℤ, List, Some, None, true};
 ghost use Rattle.std.specs.Prelude.{false, length, replicate};
@@ -18,8 +18,8 @@ ghost use Rattle.step_trees.specs.Still.{Separate, still};
 ghost use Rattle.step_trees.specs.Laws.{ParIn, ThenIn, StepsTo, Commutes, GoesOn, LeafFits};
 ghost use Rattle.step_trees.specs.Laws.{OwnerKeeps, SameStep, EndsBy, OpensBy, MissesBy, Chosen};
 
-/// No tree of any program is ever stuck: one that a run meets and that hasn't ended has a leaf that
-/// may step, so that what is told to be open has one too.
+/// States that no tree of any program is ever stuck. If a run reaches a tree that hasn't ended, the
+/// tree has a leaf that may step. So an `Open` result has such a leaf too.
 pub fn trees_are_never_stuck()
     ensures ready { (p : Program) (input : Contents) (t : Tree) (a : Contents)
         → Reachable p input t a → all_done t ≡ false → 0 < ready t }
@@ -27,7 +27,7 @@ pub fn trees_are_never_stuck()
         → explored p input choices ≡ Open leaves → 0 < leaves }
 {}
 
-/// The leaves that may step are numbered from 0, and only they may.
+/// States that the leaves that may step are numbered from 0, and that no others may step.
 pub fn ready_leaves_may_step()
     ensures may { (p : Program) (n : ℕ) (t : Tree) (a : Contents)
         → n < ready t → StepsTo p n t a }
@@ -35,15 +35,15 @@ pub fn ready_leaves_may_step()
         → ready t ≤ n → step p n t a ≡ None }
 {}
 
-/// In each `t par u` of a tree that a run of an accepted program meets, no place that one side may
-/// still write is one that the other may still read or write.
+/// States that in each `t par u` of a tree that a run of an accepted program reaches, no place that
+/// one side may still write is one that the other may still read or write.
 pub fn sides_keep_apart()
     ensures { (p : Program) → IsSound p → IsAccepted p
         → (input : Contents) (v : Tree) (a : Contents) → Reachable p input v a
         → (t u : Tree) → ParIn t u v → Separate (still p t) (still p u) }
 {}
 
-/// So no two leaves stand before one place that one of them writes.
+/// States that no two leaves are about to access one place that one of them writes.
 pub fn leaves_do_not_race()
     ensures { (p : Program) → IsSound p → IsAccepted p
         → (input : Contents) (t : Tree) (a : Contents) → Reachable p input t a
@@ -53,8 +53,8 @@ pub fn leaves_do_not_race()
         → (Member q (next_reads k a)) ⊎ (Member q (next_writes k a)) → ⊥ }
 {}
 
-/// What a leaf stands before is all that its step depends on: over a store with the same numbers at
-/// the places that it reads it does the same, and it changes only the places that it writes.
+/// States that a step depends only on the numbers at the places that it reads. Over a store with
+/// the same numbers there, it does the same. It changes only the places that it writes.
 pub fn steps_keep_to_their_places()
     ensures { (p : Program) (k : Leaf) (a : Contents) (u : Tree) (b c : Contents)
         → leaf_step p k.rest k a ≡ Some (u, b)
@@ -62,8 +62,8 @@ pub fn steps_keep_to_their_places()
         → SameStep p k a u b c }
 {}
 
-/// Of two leaves that may step in a tree that a run of an accepted program meets, each still may
-/// after a step of the other, and both orders give the same tree and store.
+/// States that if two leaves may step in a tree that a run of an accepted program reaches, each
+/// still may after a step of the other, and both orders give the same tree and store.
 pub fn steps_commute()
     ensures { (p : Program) → IsSound p → IsAccepted p
         → (input : Contents) (t : Tree) (a : Contents) → Reachable p input t a
@@ -72,9 +72,9 @@ pub fn steps_commute()
         → Commutes p m n t u b v c }
 {}
 
-/// Where one run of an accepted program ends after n steps, every run can go on to the same end, and
-/// ends there after n steps; and that is what one thread comes to with n steps and nest n, and under
-/// every larger budget.
+/// States that if one run of an accepted program ends after n steps, every run can continue to the
+/// same end, and ends there after n steps. This end is the one-thread outcome with n steps and nest
+/// n, and under every larger budget.
 pub fn runs_end_as_one_thread()
     ensures alike { (p : Program) → IsSound p → IsAccepted p
         → (input : Contents) (n : ℕ) (t : Tree) (a : Contents)
@@ -88,9 +88,9 @@ pub fn runs_end_as_one_thread()
         → outcome p input b ≡ Ended (tree_ending p t a) }
 {}
 
-/// What is told of given choices is told of a run with as many steps, and each run is told of by
-/// some choices. What is told to have ended is the one-thread outcome: whatever the choices, where
-/// the program is accepted, and of every program where the first leaf always steps.
+/// States that the result of given choices is the result of a run with as many steps, and that some
+/// choices lead to each run. An `Ended` result is the one-thread outcome, for all choices if the
+/// program is accepted, and for every program if the first leaf always steps.
 pub fn choices_tell_of_runs()
     ensures ends { (p : Program) (input : List (List ℤ)) (choices : List ℕ) (o : Outcome)
         → explored p input choices ≡ Ends o
@@ -113,7 +113,8 @@ pub fn choices_tell_of_runs()
         → (b : Budget) → IsLarger b (record { steps = n; nest = n }) → outcome p input b ≡ o }
 {}
 
-/// Two labels before which two leaves of one tree stand may run together, whatever the program.
+/// States that if two leaves of one tree are about to run two labels, these labels may run
+/// together, for every program.
 pub fn labels_of_leaves_meet()
     ensures { (p : Program) (input : Contents) (t : Tree) (a : Contents) → Reachable p input t a
         → (m n : ℕ) → m ≢ n
@@ -121,9 +122,9 @@ pub fn labels_of_leaves_meet()
         → (x y : ℕ) → StandsBefore j x → StandsBefore k y → LabelsMeet p x y }
 {}
 
-/// In a tree that a run of an accepted program meets, the environment of each leaf that may step
-/// fits; and the environment of its owner, with which a `<k>` goes on, has its own windows for all
-/// names in scope there, so that it is as if the scalars alone were handed on.
+/// States that in a tree that a run of an accepted program reaches, the environment of each leaf
+/// that may step fits. The environment of its owner, with which a `<k>` continues, has the windows
+/// of `<k>` for all names in scope there. So it is as if only the scalars were passed on.
 pub fn environments_stay_fit()
     ensures leaf { (p : Program) → IsSound p → IsAccepted p
         → (input : Contents) (t : Tree) (a : Contents) → Reachable p input t a

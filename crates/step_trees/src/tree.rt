@@ -1,4 +1,4 @@
-//! Step trees, and what stands round a place in one.
+//! Step trees, and what surrounds a position in one.
 
 ghost use Rattle.std.specs.Prelude.{◌≡◌, ◌<◌, ◌+◌, ◌++◌, ◌∷◌, [], IfOk, OnOk, true};
 ghost use Rattle.types.specs.Trees.{all_done, ready as ready_leaves, and_then as then_tree};
@@ -15,7 +15,7 @@ use std::alloc::{AllocError, Global};
 use types::fault::Fault;
 use types::value::Environment;
 
-/// A step tree, held so that a leaf is found by its number in as many steps as it is deep.
+/// A step tree. Its numbers lead to a leaf in as many steps as the tree is deep.
 pub enum Tree<'p> {
     /// One leaf.
     Single(Leaf<'p>),
@@ -23,57 +23,58 @@ pub enum Tree<'p> {
     AndThen {
         first: Box<Tree<'p>>,
         behind: Leaf<'p>,
-        /// How many leaves may step.
+        /// The number of leaves that may step.
         ready: u32,
     },
-    /// Two trees, whose tasks run beside each other.
+    /// Two trees whose tasks run in parallel.
     Beside {
         left: Box<Tree<'p>>,
         right: Box<Tree<'p>>,
-        /// How many leaves may step.
+        /// The number of leaves that may step.
         ready: u32,
-        /// Whether all are done.
+        /// Whether all leaves are done.
         done: bool,
-        /// How many leaves it keeps, done or not, where the body of a finish counts as one.
+        /// The number of leaves, done or not. The body of a finish counts as one.
         size: u32,
     },
 }
 
-/// What is left of a tree whose leaves are all done.
+/// What remains of a tree whose leaves are all done.
 #[derive(Drop)]
 pub struct Remains {
-    // Of the task that spawned the others.
+    // These belong to the task that spawned the others.
     pub environment: Environment,
     pub spawned: u32,
 
-    // What all of them told, from left to right.
+    // The output of all leaves, from left to right.
     pub lines: Vec<Vec<i64>>,
     pub faults: Vec<Fault>,
 }
 
-/// What stands round a tree within another.
+/// What surrounds a tree within another.
 #[derive(Drop)]
 pub enum Around<'p> {
-    /// It is the body of a finish, and this waits for its end.
+    /// The tree is the body of a finish, and this leaf waits for its end.
     Behind(Leaf<'p>),
-    /// This stands right of it.
+    /// This tree is to the right.
     Right(Box<Tree<'p>>),
-    /// This stands left of it.
+    /// This tree is to the left.
     Left(Box<Tree<'p>>),
 }
 
-/// All that stands round a place in a tree.
+/// All that surrounds a position in a tree.
 #[derive(Drop)]
 pub struct Round<'p> {
-    /// The nearest last.
+    /// The surrounding parts. The nearest is last.
     pub around: Vec<Around<'p>>,
-    /// How many leaves may step left of the place.
+    /// The number of leaves that may step to the left of the position.
     pub left: u32,
-    /// And right of it.
+    /// The number of leaves that may step to the right of the position.
     pub right: u32,
 }
 
-/// By a loop, without memory: what is left to drop hangs in the boxes of what is gone.
+/// Drops a tree in a loop, without memory: the parts that remain are kept in the boxes of those
+/// already dropped.
 impl Drop for Tree<'_> {
     fn drop(mut self) {
         let mut others: Option<Box<Self>> = None;
@@ -120,7 +121,7 @@ impl Drop for Tree<'_> {
 }
 
 impl<'p> Tree<'p> {
-    /// How many leaves may step.
+    /// Returns the number of leaves that may step.
     pub fn ready(&self) -> u32
         requires { IsCounted self.now }
         ensures { result ≡ ready_leaves (tree_of self.now) }
@@ -132,7 +133,7 @@ impl<'p> Tree<'p> {
         }
     }
 
-    /// Whether all leaves are done.
+    /// Returns whether all leaves are done.
     pub fn is_done(&self) -> bool
         requires { IsCounted self.now }
         ensures { result ≡ all_done (tree_of self.now) }
@@ -144,7 +145,7 @@ impl<'p> Tree<'p> {
         }
     }
 
-    /// How many leaves it keeps, where the body of a finish counts as one.
+    /// Returns the number of leaves. The body of a finish counts as one.
     pub fn size(&self) -> u32 {
         match self {
             Tree::Single(_) => 1,
@@ -153,7 +154,8 @@ impl<'p> Tree<'p> {
         }
     }
 
-    /// Goes down to the leaf with a number, from the left and from 0, of those that may step.
+    /// Goes down to the leaf with a number, counted from the left and from 0, among the leaves that
+    /// may step.
     pub fn leaf(
         mut self,
         round: Round<'p>,
@@ -199,7 +201,7 @@ impl<'p> Tree<'p> {
         }
     }
 
-    /// Takes a tree apart, all of whose leaves are done.
+    /// Takes apart a tree whose leaves are all done.
     pub fn take_apart(mut self, alloc: Global) -> Result<Remains, AllocError>
         requires { all_done (tree_of self) ≡ true }
         ensures { IfOk result (IsLeftOf (tree_of self.entry)) }
@@ -250,7 +252,8 @@ impl<'p> Tree<'p> {
         }
     }
 
-    /// Beside a smaller tree at its left, to which it gives its left side, or half of that.
+    /// Joins a smaller tree on the left with this tree. This tree gives its left side, or half of
+    /// it, to the smaller tree.
     fn giving_left(self, alloc: Global, smaller: Box<Tree<'p>>) -> Result<Tree<'p>, AllocError>
         requires tree { IsCounted self }
         requires smaller { IsCounted smaller.value }
@@ -276,7 +279,8 @@ impl<'p> Tree<'p> {
         }
     }
 
-    /// Beside a smaller tree at its right, to which it gives its right side, or half of that.
+    /// Joins this tree with a smaller tree on the right. This tree gives its right side, or half of
+    /// it, to the smaller tree.
     fn giving_right(self, alloc: Global, smaller: Box<Tree<'p>>) -> Result<Tree<'p>, AllocError>
         requires tree { IsCounted self }
         requires smaller { IsCounted smaller.value }
@@ -302,7 +306,8 @@ impl<'p> Tree<'p> {
         }
     }
 
-    /// Stands between two others, of which each gets a side where there are sides.
+    /// Joins this tree with two trees around it. If this tree has two sides, each neighbour gets
+    /// one.
     fn between(
         self,
         alloc: Global,
@@ -337,7 +342,7 @@ impl<'p> Tree<'p> {
 }
 
 impl<'p> Around<'p> {
-    /// A tree in the place that this stands round.
+    /// Puts a tree into the position that this surrounds.
     pub fn within(self, alloc: Global, tree: Tree<'p>) -> Result<Tree<'p>, AllocError>
         requires around { IsCountedRound self }
         requires tree { IsCounted tree }
@@ -352,7 +357,7 @@ impl<'p> Around<'p> {
         }
     }
 
-    /// How many of its leaves may step left of the place.
+    /// Returns the number of leaves that may step to the left of the position.
     fn left(&self) -> u32
         requires { IsCountedRound self.now }
         ensures { result ≡ ready_left self.now }
@@ -364,7 +369,7 @@ impl<'p> Around<'p> {
         }
     }
 
-    /// And right of it.
+    /// Returns the number of leaves that may step to the right of the position.
     fn right(&self) -> u32
         requires { IsCountedRound self.now }
         ensures { result ≡ ready_right self.now }
@@ -378,7 +383,7 @@ impl<'p> Around<'p> {
 }
 
 impl<'p> Round<'p> {
-    /// Nothing.
+    /// Returns a position with nothing around it.
     pub fn nothing(alloc: Global) -> Round<'p>
         ensures none { result.around.items ≡ [] }
         ensures round { IsRound result }
@@ -390,7 +395,7 @@ impl<'p> Round<'p> {
         }
     }
 
-    /// What stands nearer than the rest.
+    /// Adds a part nearer than all others.
     fn push(&mut self, around: Around<'p>) -> Result<(), AllocError>
         requires round { IsRound self.old }
         requires around { IsCountedRound around }
@@ -410,7 +415,7 @@ impl<'p> Round<'p> {
         Ok(())
     }
 
-    /// Whether what stands nearest waits for the end of a finish.
+    /// Returns whether the nearest part waits for the end of a finish.
     pub fn waits(&self) -> bool {
         match self.around.last() {
             Some(Around::Behind(_)) => true,
@@ -420,7 +425,7 @@ impl<'p> Round<'p> {
         }
     }
 
-    /// Takes off what stands nearest.
+    /// Removes the nearest part.
     pub fn pop(&mut self) -> Option<Around<'p>>
         requires { IsRound self.old }
         ensures popped { Pops result self.old.around.items self.new.around.items }
@@ -437,8 +442,8 @@ impl<'p> Round<'p> {
     }
 }
 
-/// Two trees beside each other, of which one with more than three times the other's leaves gives some to
-/// it: so a way down is as long as a logarithm of how many leaves there are, where they come one by one.
+/// Joins two trees side by side. If one has more than three times the leaves of the other, it gives
+/// some to it. So the depth is logarithmic in the number of leaves, if leaves are added one by one.
 fn balanced<'p>(
     alloc: Global,
     left: Box<Tree<'p>>,
@@ -461,7 +466,7 @@ fn balanced<'p>(
     beside(left, right)
 }
 
-/// Two trees beside each other.
+/// Joins two trees side by side.
 pub fn beside<'p>(left: Box<Tree<'p>>, right: Box<Tree<'p>>) -> Result<Tree<'p>, AllocError>
     requires left { IsCounted left.value }
     requires right { IsCounted right.value }
@@ -483,7 +488,7 @@ pub fn beside<'p>(left: Box<Tree<'p>>, right: Box<Tree<'p>>) -> Result<Tree<'p>,
     })
 }
 
-/// Two trees as one that others may hold.
+/// Joins two trees side by side, in a box that other trees can hold.
 fn together<'p>(
     alloc: Global,
     left: Box<Tree<'p>>,
@@ -499,7 +504,8 @@ fn together<'p>(
     Ok(Box::new(alloc, both)?)
 }
 
-/// A tree and what waits for its end, which goes on at once where all leaves are done.
+/// Joins a tree with the leaf that waits for its end. The leaf continues at once if all leaves of
+/// the tree are done.
 pub fn and_then<'p>(
     alloc: Global,
     first: Tree<'p>,
@@ -522,7 +528,7 @@ pub fn and_then<'p>(
     })
 }
 
-/// What waited for the end of a tree, all of whose leaves are done.
+/// Returns the leaf that waited for the end of a tree, whose leaves are all done.
 fn closed<'p>(alloc: Global, first: Tree<'p>, behind: Leaf<'p>) -> Result<Leaf<'p>, AllocError>
     requires { all_done (tree_of first) ≡ true }
     ensures { IfOk result (λ k. leaf_of k ≡ closed_leaf (tree_of first.entry) (leaf_of behind.entry)) }

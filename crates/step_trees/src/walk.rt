@@ -1,4 +1,4 @@
-//! A place in a tree, where a run stands: from there to a leaf, and to the next place.
+//! The position of a run in a tree: ways from there to a leaf, and to the next position.
 
 ghost use Rattle.std.specs.Prelude.{◌≡◌, ◌<◌, ◌+◌, [], IfOk, true, false};
 ghost use Rattle.types.specs.Trees.{all_done, ready as ready_leaves};
@@ -11,16 +11,18 @@ use crate::tree::{Round, Tree};
 use leaf_steps::leaf::Leaf;
 use std::alloc::{AllocError, Global};
 
-/// A tree within another, where the last step was. It isn't done, unless it is the whole.
+/// A tree within another, at the position of the last step. It isn't done, unless it is the whole
+/// tree.
 #[derive(Drop)]
 pub struct Place<'p> {
     pub round: Round<'p>,
     pub tree: Tree<'p>,
-    /// How many leaves may step, of the whole.
+    /// The number of leaves in the whole tree that may step.
     pub ready: u32,
 }
 
-/// Goes to the leaf with a number, from the left and from 0, of those that may step.
+/// Goes to the leaf with a number, counted from the left and from 0, among the leaves that may
+/// step.
 pub fn found<'p>(
     alloc: Global,
     place: Place<'p>,
@@ -40,7 +42,7 @@ pub fn found<'p>(
     tree.leaf(round, inside)
 }
 
-/// Goes up to where the leaf with a number is inside.
+/// Goes up until the leaf with a number is inside.
 fn raised<'p>(
     alloc: Global,
     round: Round<'p>,
@@ -66,8 +68,8 @@ fn raised<'p>(
     }
 }
 
-/// Goes up while all leaves are done, so that what waits for their end goes on; and behind a spawn to all
-/// tasks of its finish, so that they stay balanced.
+/// Goes up while all leaves are done, so what waits for their end continues. After a spawn, goes up
+/// to all tasks of the spawning task's finish, to keep them balanced.
 pub fn settled<'p>(alloc: Global, round: Round<'p>, tree: Tree<'p>) -> Result<Place<'p>, AllocError>
     requires round { IsRound round }
     requires tree { IsCounted tree }
@@ -89,7 +91,7 @@ pub fn settled<'p>(alloc: Global, round: Round<'p>, tree: Tree<'p>) -> Result<Pl
     }
 }
 
-/// A place, with how many leaves may step.
+/// Returns a place, with the number of leaves that may step.
 pub fn placed<'p>(round: Round<'p>, tree: Tree<'p>) -> Result<Place<'p>, AllocError>
     requires round { IsRound round }
     requires tree { IsCounted tree }
@@ -105,7 +107,7 @@ pub fn placed<'p>(round: Round<'p>, tree: Tree<'p>) -> Result<Place<'p>, AllocEr
     Ok(Place { round, tree, ready })
 }
 
-/// How many leaves may step in all, of those left of a place, there and right of it.
+/// Returns the total number of leaves that may step: left of a position, there, and right of it.
 fn in_all(left: u32, here: u32, right: u32) -> Result<u32, AllocError>
     ensures { IfOk result (λ n. n ≡ left + here + right) }
 {

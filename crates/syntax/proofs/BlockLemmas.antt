@@ -1,4 +1,4 @@
--- What spells statements and blocks.
+-- How statements and blocks are spelled.
 use Rattle.std.proofs.Common.{◌≡◌, List, [], ◌∷◌, ◌++◌, Some, None, Vec, String, Global, refl, ap, sym}
 use Rattle.std.specs.String.{string_bytes}
 use Rattle.syntax_tree.specs.declared.tree.Expr.{Expr as rExpr}

@@ -40,7 +40,7 @@ program_of m = record { procedures = []; main = Some m }
 abbrev main_of : List Array → Block → Main
 main_of arrays body = record { arrays = arrays; body = body }
 
--- two arrays, of which a task writes one and the owner the other
+-- two arrays: a task writes one of them, and its owner the other
 abbrev two_arrays : Program
 two_arrays =
     let inside = Then (Async (Then (Store a (number 0) (number 7)) End)) (Then (Store b (number 0) (number 8)) End) in

@@ -1,4 +1,4 @@
--- What spells a chain, with one more operand behind it.
+-- How a chain is spelled, with one more operand after it.
 use Rattle.std.proofs.Common.{◌≡◌, List, [], ◌∷◌, ◌++◌, Some, None, true, false, Box, Vec, Global, refl, ap, sym, ◌∙◌, append_assoc, append-nil}
 use Rattle.syntax_tree.specs.declared.tree.Expr.{Expr as rExpr, roll-Expr}
 use Rattle.syntax_tree.specs.declared.tree.Conj.{Conj as rConj, roll-Conj}
@@ -22,15 +22,15 @@ use Rattle.syntax.specs.Spelling.{relation_mark, prod_then, terms_then, unary_th
 use Rattle.syntax.specs.Spelling.{sign_mark, operator_mark}
 use Rattle.syntax_tree.proofs.RowLemmas.{expr_built, conj_built, neg_built, cmp_alone, cmp_compared, sum_built, term_built, prod_built}
 
--- tokens that are equal are equal behind one token
+-- equal tokens are equal after one more token
 pub behind : {t : Token} {ts us : List Token} → ts ≡ us → t ∷ ts ≡ t ∷ us
 behind {t} e = ap (λ l. t ∷ l) e
 
--- tokens that begin with one token, in two ways, are equal behind it
+-- tokens that start with one token, in two ways, are equal after it
 pub behind_first : {t u : Token} {ts us vs : List Token} → ts ≡ t ∷ us → ts ≡ u ∷ vs → us ≡ vs
 behind_first found same = cc
 
--- one more item was read and put behind those of a list
+-- one more item was read and added to those of a list
 pub read_more : {X : Type 0} (spell : List X → List Token → List Token) (xs : List X) (x : X) (r : List Token) {ys : List X}
     {ts before used : List Token} → ts ≡ spell xs before → before ≡ used → spell (xs ++ x ∷ []) r ≡ spell xs used
     → ys ≡ xs ++ x ∷ [] → ts ≡ spell ys r
@@ -61,7 +61,7 @@ unfolding more_then
 more_then-push [] e r = refl
 more_then-push (d ∷ es) e r = ap (λ l. MarkToken Comma ∷ expr_then (expr d) l) (more_then-push es e r)
 
--- a term, and a chain behind it
+-- a term, and a chain after it
 term_then : (t : rTerm) (ts us : List Token) (rest more : Terms) → terms_then rest ts ≡ terms_then more us
     → terms_then (term t rest) ts ≡ terms_then (term t more) us
 unfolding terms_then term
@@ -74,7 +74,7 @@ unfolding terms_then
 terms_then-push [] sign p r = ap (λ t. terms_then t r) (term_built sign p NoTerm)
 terms_then-push (t ∷ ts) sign p r = term_then t _ _ _ _ (terms_then-push ts sign p r)
 
--- What spells a value is what spells its parts.
+-- A value is spelled by the tokens that spell its parts.
 
 pub expr_then_built : (c : rConj) (v : Vec rConj Global) (r : List Token)
     → conj_then (conj c) (conjs_then (conjs v.items) r) ≡ expr_then (expr (roll-Expr (record { first = c; rest = v }))) r
@@ -122,7 +122,7 @@ pub prod_then_built : (u : rUnary) (v : Vec rFactor Global) (r : List Token)
 unfolding prod_then
 prod_then_built u v r = ap (λ e. prod_then e r) (sym (prod_built u v))
 
--- One more operand was read and put behind the chain.
+-- One more operand was read and added to the chain.
 module _ (ts before after r : List Token) where
   pub conjs_read : (first : rConj) (cs ds : List rConj) (c : rConj)
       → ts ≡ conj_then (conj first) (conjs_then (conjs cs) before) → before ≡ WordToken WordOr ∷ after

@@ -1,4 +1,4 @@
--- A text opens too many brackets for the first time at one place.
+-- The first position at which too many brackets of a text are open is unique.
 use Rattle.std.proofs.Common.{◌≡◌, ℕ, ◌<◌, ◌⊎◌, inl, inr, ⊎_elim, List, [], ◌∷◌, ◌++◌, length, drop, refl, ap, sym, ◌∙◌, subst, arith}
 use Rattle.std.specs.List.{flat_map}
 use Rattle.std.proofs.lemmas.List.{length-drop}
@@ -9,7 +9,7 @@ use Rattle.syntax.specs.Refusals.{IsTooDeep}
 use Rattle.syntax.proofs.Pieces.{one_piece, piece_is_some}
 use Rattle.syntax.proofs.Shallow.{shallow_up_to}
 
--- behind pieces up to this rest, others go on with what stands first in it
+-- after pieces up to this rest, others continue with what comes first in the rest
 record GoesOn (rest : List ℕ) (ps qs : List Piece) : Type 0 where
   next : Piece
   more : List Piece
@@ -26,7 +26,7 @@ one_further rest p q ps qs same on = record {
   whole = ap (λ x. x ∷ qs) (sym same) ∙ ap (λ l. p ∷ l) on.whole;
 }
 
--- of two cuts of a text one goes on behind the other, or both end at one place
+-- of two cuts of a text, one continues after the other, or both end at the same position
 cuts_compare : (text : List ℕ) (ps qs : List Piece) (r s : List ℕ) → AreCut text ps r → AreCut text qs s
     → GoesOn r ps qs ⊎ (GoesOn s qs ps ⊎ (r ≡ s))
 cuts_compare text [] [] r s c d = inr (inr (sym c ∙ d))
@@ -41,7 +41,7 @@ cuts_compare text (p ∷ ps) (q ∷ qs) r s c d =
     (⊎_elim (λ on. inr (inl (one_further s q p qs ps (sym same.0) on))) (λ e. inr (inr e)))
     (cuts_compare c.0 ps qs r s c.2 (subst (λ t. AreCut t qs s) (sym same.1) d.2))
 
--- where too many are open at a token, they are behind it, too
+-- if too many brackets are open at a token, too many are open after it, too
 no_deeper : (text : List ℕ) (at other : ℕ) (here : IsTooDeep text at) (there : IsTooDeep text other)
     → GoesOn (drop at text) here.stands.read.pieces there.stands.read.pieces → ⊥
 no_deeper text at other here there on =

@@ -1,4 +1,4 @@
--- No two expressions are spelled alike, where what stands behind them does not go on with them.
+-- No two expressions have the same spelling if the tokens after them don't continue them.
 use Rattle.std.proofs.Common.{◌≡◌, ◌<◌, ◌≤◌, ℕ, List, ◌∷◌, refl, ap, arith}
 use Rattle.syntax_tree.specs.declared.tree.Relation.{Relation}
 use Rattle.syntax_tree.specs.declared.tree.Relation.TheVariants.{Less as IsLess, AtMost as IsAtMost, Greater as IsGreater}
@@ -19,7 +19,7 @@ use Rattle.syntax.specs.Spelling.{neg_then, cmp_then, sum_then, terms_then, prod
 use Rattle.syntax.specs.Spelling.{atom_then}
 use Rattle.syntax.specs.Reading.{binds, or_level, and_level, relation_level, sign_level, operator_level, bracket_level}
 
--- Each operator is known by its mark, and binds as its level does.
+-- Each operator is determined by its mark, and binds as its level does.
 
 pub relation_binds : (o : Relation) (r : List Token) → binds (MarkToken (relation_mark o) ∷ r) ≡ relation_level
 relation_binds IsLess r = refl
@@ -53,7 +53,7 @@ operator_one Over Over e = refl
 operator_one Modulo Modulo e = refl
 operator_one _ _ e = cc
 
--- What stands behind an operand binds less tightly than what would go on with the operand.
+-- What follows an operand binds less tightly than what would continue the operand.
 
 pub conjs_bind : (cs : Conjs) (r : List Token) → binds r < or_level → binds (conjs_then cs r) < and_level
 unfolding conjs_then
@@ -75,7 +75,7 @@ unfolding factors_then
 factors_bind NoFactor r ends = omega arith
 factors_bind (MultiplyFactor o u fs) r ends = omega (arith, operator_binds o (unary_then u (factors_then fs r)))
 
--- What an expression begins with: an atom 3, a sign 2, `not` 1, any other token 0.
+-- What an expression starts with: an atom 3, a sign 2, `not` 1, any other token 0.
 
 abbrev pub begins : List Token → ℕ
 begins (NameToken _ ∷ _) = 3

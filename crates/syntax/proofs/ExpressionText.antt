@@ -1,4 +1,4 @@
--- The text of the tokens of each production of an expression is that of its parts.
+-- The text of the tokens of each production of an expression consists of the texts of its parts.
 use Rattle.std.proofs.Common.{◌≡◌, ℕ, Bool, true, false, if◌then◌else◌, List, [], ◌∷◌, ◌++◌, codes, Result, Ok, Err}
 use Rattle.std.proofs.Common.{OnOk, is_ok, Some, None, Box, String, Global, refl, ap, sym, ◌∙◌, append_assoc}
 use Rattle.std.proofs.Common.{append-nil, ◌+◌, ◌<◌, ◌≤◌, length, drop, get_or}
@@ -40,17 +40,17 @@ pub then_adds : (before first second : List ℕ) {between behind : List ℕ} →
     → behind ≡ before ++ (first ++ second)
 then_adds before first second e f = f ∙ ap (λ l. l ++ second) e ∙ append_assoc before first second
 
--- what is added and what is left, where a part of that is added
+-- what is added and what is left, if a part of that is added
 pub adds_part : (before part rest : List ℕ) {behind left all : List ℕ} → before ++ left ≡ all → behind ≡ before ++ part → left
     ≡ part ++ rest → behind ++ rest ≡ all
 adds_part before part rest was added parts =
     ap (λ l. l ++ rest) added ∙ append_assoc before part rest ∙ ap (λ l. before ++ l) (sym parts) ∙ was
 
--- where nothing is left, all is added
+-- if nothing is left, everything is added
 pub adds_all : (now : List ℕ) {left all : List ℕ} → now ++ left ≡ all → left ≡ [] → now ≡ all
 adds_all now was none = sym (append-nil now) ∙ ap (λ l. now ++ l) (sym none) ∙ was
 
--- The texts of the items of a list, one behind the other.
+-- The texts of the items of a list, one after the other.
 module _ {A : Type 0} (text : List A → List ℕ) where
   -- what is written, and the text of the items that are left, are what was written before, and these tokens
   abbrev pub IsWriting : List A → ℕ → String Global → String Global → List Token → Type 0
@@ -88,7 +88,7 @@ pub ok_adds_equal : {X E : Type 0} (r : Result X E) (before now : List ℕ) {tex
     → OnOk r (now ≡ before ++ whole)
 ok_adds_equal r before now h e = on_ok_weaker r (λ f. f ∙ ap (λ l. before ++ l) (sym e)) h
 
--- the texts of what stands behind first operands
+-- the texts of what follows first operands
 
 abbrev pub conjs_text : List rConj → List ℕ
 conjs_text cs = laid (at_left line Operand) (conjs_then (conjs cs) [])

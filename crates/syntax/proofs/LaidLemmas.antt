@@ -1,4 +1,4 @@
--- A layout inside a line goes production by production.
+-- Formatting within a line goes production by production.
 use Rattle.std.proofs.Common.{◌≡◌, ℕ, List, [], ◌∷◌, ◌++◌, None, refl, ap, sym, ◌∙◌, append_assoc, append-nil}
 use Rattle.std.specs.Fmt.{decimal}
 use Rattle.syntax_tree.specs.declared.tree.Relation.{Relation}
@@ -22,7 +22,7 @@ use Rattle.syntax_tree.specs.Tree.{Alone, Compare, Sum, Add, Terms, NoTerm, AddT
 use Rattle.syntax_tree.specs.Tree.{MultiplyFactor, Unary, Positive, Negative, Atom, Number, True, False, Name, Element}
 use Rattle.syntax_tree.specs.Tree.{Length, Parens}
 
--- the same place with something else to the left
+-- the same state with something else to the left
 abbrev pub at_left : Place → Left → Place
 at_left at l = record at { left = l }
 
@@ -30,18 +30,18 @@ at_left at l = record at { left = l }
 abbrev pub line : Place
 line = record { depth = 0; label = None; left = Opening }
 
--- what stands behind a name stands as behind an operand
+-- what follows a name is formatted as after an operand
 abbrev pub Follows : Place → List Token → Type 0
 Follows at r = laid (at_left at Called) r ≡ laid (at_left at Operand) r
 
--- what two texts begin with and what follows in one of them
+-- the common start of two texts, and what follows it in one of them
 pub append_joined : (a b c x y z : List ℕ) → a ≡ x ++ b → c ≡ x ++ y → b ≡ y ++ z → a ≡ c ++ z
 append_joined a b c x y z p q s = p ∙ ap (λ l. x ++ l) s ∙ sym (append_assoc x y z) ∙ ap (λ l. l ++ z) (sym q)
 
 pub append_under : (x a c z : List ℕ) → a ≡ c ++ z → x ++ a ≡ (x ++ c) ++ z
 append_under x a c z e = ap (λ l. x ++ l) e ∙ sym (append_assoc x c z)
 
--- the same behind a word or a mark and a space
+-- the same lemma after a word or a mark and a space
 pub append_apart : (w x y z : List ℕ) {a b c d e : List ℕ} → d ≡ 32 ∷ a → e ≡ 32 ∷ c → a ≡ x ++ b → c ≡ x ++ y → b ≡ y ++ z
     → w ++ d ≡ (w ++ e) ++ z
 append_apart w x y z {e = e} apart alone p q s =
@@ -53,7 +53,7 @@ before_nil x z = ap (λ l. l ++ z) (sym (append-nil x))
 mutual
   unfolding laid expr_then conj_then conjs_then neg_then negs_then cmp_then sum_then terms_then prod_then factors_then unary_then atom_then
 
-  -- behind a word or an operator stands one space
+  -- one space follows a word or an operator
   pub expr_apart : (at : Place) (e : Expr) (r : List Token) → laid (at_left at Other) (expr_then e r)
       ≡ 32 ∷ laid (at_left at Opening) (expr_then e r)
   expr_apart at (Or c cs) r = conj_apart at c (conjs_then cs r)
@@ -90,7 +90,7 @@ mutual
   atom_apart at (Number n) r = refl
   atom_apart at _ r = refl
 
--- a relation, a sign and an operator stand between two spaces
+-- a relation, a sign and an operator are between two spaces
 pub relation_laid : (at : Place) (o : Relation) (ts us : List Token) → laid (at_left at Other) ts ≡ 32 ∷ laid (at_left at Opening) us
     → laid (at_left at Operand) (MarkToken (relation_mark o) ∷ ts)
     ≡ (32 ∷ (mark_text (relation_mark o) ++ 32 ∷ [])) ++ laid (at_left at Opening) us
@@ -117,7 +117,7 @@ operator_laid at Times ts us e = ap (λ l. 32 ∷ 42 ∷ l) e
 operator_laid at Over ts us e = ap (λ l. 32 ∷ 47 ∷ l) e
 operator_laid at Modulo ts us e = ap (λ l. 32 ∷ 37 ∷ l) e
 
--- chains: what stands behind the first operand may stand behind it
+-- chains: what follows the first operand can follow the chain
 pub factors_follow : (at : Place) (fs : Factors) (r : List Token) → Follows at r → Follows at (factors_then fs r)
 unfolding laid factors_then
 factors_follow at NoFactor r f = f
@@ -249,7 +249,7 @@ mutual
       ap (λ l. 40 ∷ l) (append_joined _ _ _ _ _ _ (expr_laid at e (MarkToken RightParen ∷ r) refl) (expr_laid line e
       (MarkToken RightParen ∷ []) refl) refl)
 
--- behind a comma
+-- after a comma
 pub more_follow : (at : Place) (es : List Expr) (r : List Token) → Follows at r → Follows at (more_then es r)
 unfolding laid more_then
 more_follow at [] r f = f
@@ -264,13 +264,13 @@ more_laid at (e ∷ es) r f =
     append_apart (44 ∷ []) _ _ _ (expr_apart at e rest) (expr_apart line e none) (expr_laid at e rest (more_follow at es r f))
     (expr_laid line e none (more_follow line es [] (end_follows line))) (more_laid at es r f)
 
--- a comma stands at an operand as at the beginning of a line
+-- a comma is formatted after an operand as at the start of a line
 more_begun : (es : List Expr) → laid (at_left line Operand) (more_then es []) ≡ in_line (more_then es [])
 unfolding laid more_then
 more_begun [] = refl
 more_begun (e ∷ es) = refl
 
--- an expression, and others behind commas
+-- an expression, and others after commas
 pub more_behind : (e : Expr) (es : List Expr)
     → in_line (expr_then e (more_then es [])) ≡ in_line (expr_then e []) ++ in_line (more_then es [])
 more_behind e es =

@@ -1,4 +1,4 @@
--- The tokens of tokens laid out are the same again.
+-- The tokens of the formatted text of some tokens are these tokens.
 use Rattle.std.proofs.Common.{◌≡◌, ◌≢◌, ◌≤◌, ◌<◌, ◌+◌, ◌-◌, ◌*◌, ℕ, zero, suc, Bool, true, false, if◌then◌else◌, ◌&&◌}
 use Rattle.std.proofs.Common.{◌||◌, List, [], ◌∷◌, ◌++◌, codes, replicate, length, fold, Option, Some, None}
 use Rattle.std.proofs.Common.{refl, ap, subst, ◌∙◌, arith}
@@ -31,7 +31,7 @@ use Rattle.syntax.specs.Spelling.{spelling}
 use Rattle.syntax_tree.specs.Tree.{Program}
 use Rattle.syntax.proofs.MarkLemmas.{IsNeither, bracket_stands, minus_stands, paren_stands, quiet_mark}
 
--- blanks
+-- white space
 
 pub blanks : (k : ℕ) → list_all is_blank (replicate k 32) ≡ true
 blanks zero = refl
@@ -78,9 +78,9 @@ pub label_none : (n : Option ℕ) → n ≡ None → (b : Bool) → (if b then o
 label_none n e true = ap (option_map (λ k. k + 1)) e
 label_none n e false = e
 
--- what stands apart
+-- what is separated
 
--- what stands to the left is no opening, and ended no line
+-- what is to the left is no opening, and ended no line
 abbrev IsApart : Left → Type 0
 IsApart Called = Unit {0}
 IsApart Operand = Unit {0}
@@ -126,7 +126,7 @@ no_letter d n Margin ts a = absurd a
 no_letter d n Opening ts a = absurd a
 no_letter d n Ended ts a = absurd a
 
--- what stands behind a mark that is no opening begins with no `=` and no `/`
+-- what follows a mark that is no opening starts with no `=` and no `/`
 
 abbrev IsQuiet : Left → Type 0
 IsQuiet Operand = Unit {0}
@@ -216,7 +216,7 @@ no_digit (c ∷ cs) e = (or_parts (begins_name c) (is_ascii_digit c) e).1
 
 -- the tokens that a text can have
 
--- letters that are a name: it begins as one, goes on as one, and is no reserved word
+-- letters that are a name: they start and continue like a name, and are no reserved word
 pub record AreName (cs : List ℕ) : Type 0 where
   pub begins : starts begins_name cs ≡ true
   pub in_name : list_all is_in_name cs ≡ true
@@ -306,6 +306,6 @@ laid_tokens (t ∷ ts) d n left none fit =
     let rest = laid_tokens ts behind.depth behind.label behind.left (label_none n none (begins_line left t && begins_statement t)) fit.1 in
     with_blanks (before at t) _ (t ∷ ts) (before_blank at t none) (with_token behind.depth behind.label left t ts fit.0 rest)
 
--- the canonical text of what some text spells has the same tokens
+-- the canonical text of what some text spells has the tokens of that text
 pub canonical_tokens : (text : List ℕ) (p : Program) → AreTokensOf text (spelling p) → AreTokensOf (canonical p) (spelling p)
 canonical_tokens text p has = laid_tokens (spelling p) 0 None Margin refl (tokens_writable text (spelling p) has)

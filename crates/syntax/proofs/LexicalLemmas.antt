@@ -1,4 +1,4 @@
--- What stands first in a text, and what pieces leave.
+-- What comes first in a text, and what pieces leave.
 use Rattle.std.proofs.Common.{◌≡◌, ℕ, zero, suc, ◌+◌, ◌<◌, ◌⊎◌, ⊎_elim, lit<, Bool, true, false, cond, ◌&&◌}
 use Rattle.std.proofs.Common.{◌==◌, List, [], ◌∷◌, ◌++◌, take, drop, refl, ap, sym, ◌∙◌, subst, take-append-drop}
 use Rattle.std.proofs.Common.{append-nil, append_assoc, arith}
@@ -16,7 +16,7 @@ module _ (p : ℕ → Bool) where
   passes_more x xs true e all = ap (λ b. b && list_all p xs) e ∙ all
   passes_more x xs false e all = refl
 
-  -- all of the longest front of characters that pass do
+  -- all characters of the longest prefix of characters that pass do pass
   pub front_passes : (xs : List ℕ) → list_all p (take (prefix_len p xs) xs) ≡ true
   front_passes [] = refl
   front_passes (x ∷ xs) = ap (list_all p) (take_while-cons p x xs) ∙ passes_more x (take (prefix_len p xs) xs) (p x) refl (front_passes xs)
@@ -28,7 +28,7 @@ module _ (p : ℕ → Bool) where
       ap (λ n. starts p (drop n (x ∷ xs))) next ∙ stops
   stops_more x xs false e stops = e
 
-  -- and what stands behind it doesn't begin with one that passes
+  -- and what follows the prefix doesn't start with one that passes
   pub rest_stops : (xs : List ℕ) → starts p (drop (prefix_len p xs) xs) ≡ false
   rest_stops [] = refl
   rest_stops (x ∷ xs) = stops_more x xs (p x) refl (rest_stops xs)

@@ -31,7 +31,7 @@ use Rattle.syntax.specs.Writing.{place, with_rest, Adds, IsCounted}
 use Rattle.syntax.proofs.LaidLemmas.{at_left, line, Follows, append_joined, append_apart, append_under, before_nil}
 use Rattle.syntax.proofs.LaidLemmas.{end_follows, expr_apart, expr_laid, more_behind, more_follow, more_laid}
 
--- text that a layout begins with is written
+-- text that the formatted text starts with is written
 pub wrote : (old new : Lines) (from to : Left) (ts us : List Token) (t : List ℕ) (d : ℕ) (n : Option ℕ) → string_bytes new.text
     ≡ string_bytes old.text ++ t → new.depth ≡ d → new.label ≡ n → laid (place old from) ts
     ≡ t ++ laid (record { depth = d; label = n; left = to }) us → with_rest old from ts ≡ with_rest new to us
@@ -51,7 +51,7 @@ pub wrote_text : (old : Lines) (now : String Global) (from to : Left) (ts us : L
     ≡ with_rest (record old { text = now }) to us
 wrote_text old now from to ts us t text e = wrote old (record old { text = now }) from to ts us t old.depth old.label text refl refl e
 
--- what is counted stays so while text is added
+-- a count stays correct while text is added
 pub counted_by : (old new : Lines) (t : List ℕ) → string_bytes new.text ≡ string_bytes old.text ++ t → new.depth ≡ old.depth → new.label
     ≡ old.label → IsCounted old → IsCounted new
 counted_by old new t text depth label counted =
@@ -70,7 +70,7 @@ pub wrote_simple : (old new : Lines) (s : Stmt) (t : List ℕ)
 wrote_simple old new s t e text depth label r = wrote old new Opening Operand (stmt_then s r)
     (MarkToken Semicolon ∷ r) t old.depth old.label text depth label (e (place old Opening) r)
 
--- a statement begins its line
+-- a statement starts its line
 pub stmt_begins : (d : ℕ) (n : Option ℕ) (s : Stmt) (r : List Token) → laid (record { depth = d; label = n; left = Margin }) (stmt_then s r)
     ≡ (statement_margin n ++ indent d) ++ laid (record { depth = d; label = option_map (λ k. k + 1) n; left = Opening }) (stmt_then s r)
 unfolding laid stmt_then
@@ -88,7 +88,7 @@ stmt_begins d n (Call f es) r = refl
 stmt_begins d n (Async b) r = refl
 stmt_begins d n (Finish b) r = refl
 
--- what stands behind an end begins a line
+-- what follows the end of a line starts a line
 abbrev pub BeginsLine : List Token → Type 0
 BeginsLine ts = (d : ℕ) (n : Option ℕ) → laid (record { depth = d; label = n; left = Ended }) ts
     ≡ 10 ∷ laid (record { depth = d; label = n; left = Margin }) ts
@@ -178,7 +178,7 @@ pub laid_Finish : (at : Place) (b : Block) (r : List Token) → laid (at_left at
 unfolding laid stmt_then
 laid_Finish at b r = refl
 
--- an expression and what follows it, behind a word
+-- an expression and what follows it, after a word
 pub expr_behind : (at : Place) (e : Expr) (r q : List Token) (z : List ℕ) → Follows at r → Follows line q → laid (at_left at Operand) r
     ≡ laid (at_left line Operand) q ++ z → laid (at_left at Other) (expr_then e r) ≡ laid (at_left line Other) (expr_then e q) ++ z
 expr_behind at e r q z f g tail =
@@ -415,7 +415,7 @@ pub laid_main : (d : ℕ) (n : Option ℕ) (ts : List Token)
 unfolding laid
 laid_main d n ts = append_under (plain_margin n ++ indent d) _ (codes "main") _ refl
 
--- a label right in five places
+-- a label, right-aligned in five columns
 
 padded_shape : (p k : ℕ) (digits : List ℕ) → p ≡ k
     → ((((repeat {A = ℕ} p (32 ∷ []) ++ []) ++ []) ++ []) ++ (digits ++ repeat {A = ℕ} (p - p) (32 ∷ []))) ++ (32 ∷ [])
@@ -434,7 +434,7 @@ pub label_padded : (n : ℕ) → styled_decimal (format_spec 32 3 0 5 1844674407
 unfolding padded_integral char_count lib.Utf8.encode
 label_padded n = padded_shape (5 - length (decimal n) - 0 - 0) (5 - length (decimal n)) (decimal n) (omega arith)
 
--- where nothing is written yet, all is laid out from the start
+-- if nothing is written yet, everything is formatted from the start
 pub begins_text : (lines : Lines) (ts : List Token) (n : Option ℕ) {text : List ℕ} → string_bytes lines.text ≡ [] → lines.depth ≡ 0
     → lines.label ≡ n → with_rest lines Margin ts ≡ text → text ≡ laid (record { depth = 0; label = n; left = Margin }) ts
 begins_text lines ts n none depth label all =

@@ -1,4 +1,4 @@
--- No two lists are spelled alike, where each item begins with a token that goes on with the list.
+-- No two lists have the same spelling if each item starts with a token that continues the list.
 use Rattle.std.proofs.Common.{◌≡◌, ◌<◌, ◌≤◌, List, [], ◌∷◌, refl, ap, sym, ◌∙◌, arith}
 use Rattle.syntax.specs.Token.{Token}
 use Rattle.syntax.specs.Reading.{binds, list_level}

@@ -1,4 +1,4 @@
--- Which texts a mark may stand before, so that it is cut from them as it is.
+-- The texts that a mark can come before, so the mark is cut from them as it is.
 use Rattle.std.proofs.Common.{◌≡◌, ◌≢◌, ◌+◌, ◌*◌, ℕ, false, ◌==◌, ◌&&◌, List, [], ◌∷◌, ◌++◌}
 use Rattle.std.proofs.Common.{fold, refl, ap, sym, ◌∙◌, arith}
 use Rattle.std.proofs.lemmas.Bool.{false≢true}
@@ -6,11 +6,11 @@ use Rattle.syntax.specs.declared.token.Mark.{Mark}
 use Rattle.syntax.specs.declared.token.Mark.TheVariants.{LeftParen, LeftBracket, Comma, Minus, Slash}
 use Rattle.syntax.specs.Lexical.{begins_comment, mark_text, starts, IsMark}
 
--- a text begins with neither `=` nor `/`
+-- a text starts with neither `=` nor `/`
 abbrev pub IsNeither : List ℕ → Type 0
 IsNeither cs = (starts (λ c. c == 61) cs ≡ false) × (starts (λ c. c == 47) cs ≡ false)
 
--- a text as one number, to tell texts apart
+-- a text as one number, to distinguish texts
 abbrev key : List ℕ → ℕ
 key cs = fold (λ k c. k * 1000 + c) 0 cs
 
@@ -40,7 +40,7 @@ quiet_mark m rest q = record {
   no_comment = no_comment m rest q.1;
 }
 
--- ---- marks that may stand before any text: none is longer, and no comment begins so
+-- ---- marks that can come before any text: none is longer, and no comment starts like this
 pub begins_none : (c : ℕ) (rest : List ℕ) → (c == 47) ≡ false → begins_comment (c ∷ rest) ≡ false
 begins_none c [] other = refl
 begins_none c (d ∷ rest) other = ap (λ b. b && (d == 47)) other

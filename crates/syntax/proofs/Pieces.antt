@@ -1,4 +1,4 @@
--- A text begins with one piece at most, so it is cut into pieces in one way.
+-- A text starts with at most one piece, so it is cut into pieces in one way.
 use Rattle.std.proofs.Common.{◌≡◌, ℕ, ◌+◌, ◌*◌, ◌<◌, ◌≤◌, ◌⊎◌, inl, inr, map, ⊎_elim, Bool, true, false, cond, ◌&&◌, ◌||◌, ◌==◌, List, []}
 use Rattle.std.proofs.Common.{◌∷◌, ◌++◌, length, take, drop, fold, refl, ap, sym, ◌∙◌, subst, arith}
 use Rattle.std.specs.List.{prefix_len, list_all, flat_map}
@@ -24,7 +24,7 @@ use Rattle.syntax.specs.Lexical.{WordPiece, MarkPiece, letters, token_of, IsMark
 use Rattle.syntax.specs.Lexical.{BeginsNoPiece, BeginsLargeNumber, StopsAt}
 use Rattle.syntax.proofs.MarkLemmas.{begins_none}
 
--- Words and marks are told apart by their characters.
+-- Words and marks are distinguished by their characters.
 
 code : List ℕ → ℕ
 code = fold (λ n c. n * 128 + c) 0
@@ -79,7 +79,7 @@ pub word_in_name : (w : Word) → list_all is_in_name (word_text w) ≡ true
 word_in_name And = refl
 word_in_name _ = refl
 
--- What stands first, and its characters, as the text alone tells.
+-- What comes first, and its characters, determined by the text alone.
 
 data Kind : Type 0 where
   IsBlank : Kind
@@ -102,7 +102,7 @@ record Look : Type 0 where
 abbrev looked : Kind → List ℕ → Look
 looked k cs = record { kind = k; front = cs }
 
--- which of five, by what a text begins with
+-- which of five cases, by what a text starts with
 module _ {A : Type 0} (blank comment word number other : A) where
   abbrev by_first : Bool → Bool → Bool → Bool → A
   by_first true c n d = blank
@@ -161,7 +161,7 @@ look text =
     (starts begins_name text)
     (starts is_ascii_digit text)
 
--- what passes, and behind it nothing that does, is the longest front that passes
+-- characters that pass, followed by none that does, are the longest prefix that passes
 front_is : (p : ℕ → Bool) (cs rest : List ℕ) → list_all p cs ≡ true → starts p rest ≡ false → front_of p (cs ++ rest) ≡ cs
 front_is p [] [] all ends = refl
 front_is p [] (c ∷ rest) all ends = take_while-cons p c rest ∙ ap (λ b. cond b (c ∷ front_of p rest) []) ends
@@ -174,7 +174,7 @@ pub starts-append : (q : ℕ → Bool) (cs rest : List ℕ) → starts q cs ≡ 
 starts-append q [] rest begins = absurd (false≢true begins)
 starts-append q (c ∷ cs) rest begins = begins
 
--- where one test passes of what stands first, another doesn't
+-- if one test passes what comes first, another test doesn't
 starts-not : (q r : ℕ → Bool) (cs rest : List ℕ) → ((c : ℕ) → q c ≡ true → r c ≡ false) → starts q cs ≡ true → starts r (cs ++ rest) ≡ false
 starts-not q r [] rest apart begins = absurd (false≢true begins)
 starts-not q r (c ∷ cs) rest apart begins = apart c begins
@@ -214,7 +214,7 @@ digit_begins_no_name c e =
     let bounds = in_range 48 57 c e in
     or_from _ _ (or_from _ _ (before_range 65 90 c (omega arith)) (before_range 97 122 c (omega arith))) (ne_eqb c 95 (λ e. omega arith))
 
--- a word or a name that stands first is what the text tells
+-- a word or a name that comes first is what the text determines
 look-word : (cs rest : List ℕ) → starts begins_name cs ≡ true → list_all is_in_name cs ≡ true
     → starts is_in_name rest ≡ false → look (cs ++ rest) ≡ looked IsWord cs
 unfolding look
@@ -269,7 +269,7 @@ look-mark m rest fits =
     let other = mark_is_other m rest in
     by_first-other _ _ _ _ _ _ _ _ _ other.blank fits.no_comment other.name other.digit ∙ ap (looked IsOther) (mark_is_first m rest fits)
 
--- a piece that stands first is what the text tells
+-- a piece that comes first is what the text determines
 look-piece : (p : Piece) (rest : List ℕ) → MayStand p rest → look (letters p ++ rest) ≡ looked (kind p) (letters p)
 unfolding look
 look-piece (BlankPiece c) rest fits = by_first-blank _ _ _ _ _ _ _ _ _ fits
@@ -282,7 +282,7 @@ look-piece (MarkPiece m) rest fits = look-mark m rest fits
 look-begins : (text : List ℕ) (p : Piece) (rest : List ℕ) → Begins text p rest → look text ≡ looked (kind p) (letters p)
 look-begins text p rest begins = ap look begins.spelled ∙ look-piece p rest begins.fits
 
--- two pieces of one kind with the same characters are one
+-- two pieces of one kind with the same characters are equal
 same_piece : (p q : Piece) (r s : List ℕ) → MayStand p r → MayStand q s → kind p ≡ kind q → letters p ≡ letters q → p ≡ q
 same_piece (BlankPiece c) (BlankPiece d) r s f g k l = cc
 same_piece (CommentPiece cs) (CommentPiece ds) r s f g k l = cc
@@ -294,7 +294,7 @@ same_piece (NumberPiece cs) (NumberPiece ds) r s f g k l = ap NumberPiece l
 same_piece (MarkPiece m) (MarkPiece n) r s f g k l = ap MarkPiece (mark_text-injective m n l)
 same_piece p q r s f g k l = cc
 
--- a text begins with one piece at most
+-- a text starts with at most one piece
 pub one_piece : (text : List ℕ) (p q : Piece) (r s : List ℕ) → Begins text p r → Begins text q s → (p ≡ q) × (r ≡ s)
 one_piece text p q r s b c =
     let looks = sym (look-begins text p r b) ∙ look-begins text q s c in
@@ -350,7 +350,7 @@ one_place text at other here there =
     let left = ap length cuts.1 in
     omega (arith, bound, bound_there, left, length-drop at text, length-drop other text)
 
--- What begins with no piece.
+-- What starts with no piece.
 
 fits_in_number : (p : Piece) (rest digits : List ℕ) → MayStand p rest → kind p ≡ IsNumber → letters p ≡ digits
     → number_of digits ≤ 9223372036854775807

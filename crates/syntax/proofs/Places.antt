@@ -1,4 +1,4 @@
--- The line and the column behind one more character.
+-- The line and the column after one more character.
 use Rattle.std.proofs.Common.{◌≡◌, ℕ, ◌+◌, ◌<◌, Bool, true, false, cond, ◌==◌, List, [], ◌∷◌, ◌++◌, take, length}
 use Rattle.std.proofs.Common.{get_or, reverse, ap, sym, ◌∙◌, arith}
 use Rattle.std.specs.List.{prefix_len}
@@ -37,7 +37,7 @@ module _ (text : List ℕ) (i c : ℕ) (within : i < length text) (there : get_o
 abbrev place : ℕ → ℕ → Place
 place line column = record { line = line; column = column }
 
--- the place behind the characters of one front is that behind the same of another
+-- equal prefixes of a text give equal positions after them
 pub is_place : (text : List ℕ) (i at line column : ℕ) → line ≡ line_behind (take i text)
     → column ≡ column_behind (take i text) → take i text ≡ take at text → place line column ≡ place_at text at
 is_place text i at line column line_is column_is same =

@@ -1,4 +1,4 @@
--- What spells lists of arrays, parameters and procedures, with one more behind them.
+-- How lists of arrays, parameters and procedures are spelled, with one more item after them.
 use Rattle.std.proofs.Common.{◌≡◌, ◌<◌, List, [], ◌∷◌, ◌++◌, length, map, refl, ap, ◌∙◌, arith}
 use Rattle.syntax_tree.specs.declared.tree.Array.{Array as rArray}
 use Rattle.syntax_tree.specs.declared.tree.Parameter.{Parameter as rParameter}
@@ -46,7 +46,7 @@ pub parameters_then-one : (x : rParameter) (r : List Token) → parameter_then (
 unfolding parameters_then more_parameters_then
 parameters_then-one x r = refl
 
--- One more was read and put behind the others.
+-- One more item was read and added to the others.
 module _ (ts before after r : List Token) where
   pub arrays_read : (xs ys : List rArray) (x : rArray) → ts ≡ arrays_then (map array xs) before
       → before ≡ WordToken WordArray ∷ after → WordToken WordArray ∷ after ≡ arrays_then (array x ∷ []) r

@@ -1,4 +1,5 @@
--- What the first tokens of a list of arrays, parameters or procedures say of what the tokens spell.
+-- What the first tokens of a list of arrays, parameters or procedures imply about what the tokens
+-- spell.
 use Rattle.std.proofs.Common.{◌≡◌, ◌≢◌, ◌<◌, ℕ, List, [], ◌∷◌, Option, Some, None, length, refl, ap, arith}
 use Rattle.syntax.specs.declared.token.Spanned.{Spanned}
 use Rattle.syntax_tree.specs.declared.tree.ElementType.{ElementType}

@@ -1,4 +1,5 @@
--- A refusal that is passed on, and what the first token says of the tree that the tokens spell.
+-- An error that is passed on, and what the first token implies about the tree that the tokens
+-- spell.
 pub use Rattle.facts.proofs.Lists.{same_rest}
 use Rattle.std.proofs.Common.{◌≡◌, ◌≢◌, ◌<◌, ◌⊎◌, inl, inr, ℕ, List, [], ◌∷◌, Result, refl, ap, ◌∙◌, arith}
 use Rattle.std.specs.Result.{IsErrAnd, IfErr}
@@ -23,21 +24,22 @@ use Rattle.syntax.specs.Spelling.{atom_then, more_then}
 use Rattle.syntax.specs.Reading.{binds, list_level, or_level, and_level, relation_level, sign_level, operator_level, bracket_level}
 use Rattle.syntax.proofs.ExprSpellings.{begins, atom_begins, cmp_begins, relation_binds, sign_binds, operator_binds}
 
--- whatever chain the tokens spell, with anything behind it that binds less tightly, these spell the chain's end
+-- for any chain that the tokens spell, if what follows it binds less tightly, these tokens spell
+-- the end of the chain
 abbrev pub LeavesEnd : {First More : Type 0} → (First → List Token → List Token) → (More → List Token → List Token) → ℕ
     → List Token → List Token → Type 0
 LeavesEnd {First} {More} first others level tokens left =
     (x : First) (all : More) (rest : List Token) → binds rest < level → tokens ≡ first x (others all rest)
     → (end : More) × (left ≡ others end rest)
 
--- what `?` returns is refused where what it was given is
+-- what holds for the error of an operand of `?` holds for the error that `?` returns
 pub passed_on : {T A : Type 0} (r : Result T Stuck) (e : Stuck) → IsErrAnd r (λ y. y ≡ e) → (e ≢ OutOfMemory → A)
     → IfErr r (λ stuck. stuck ≢ OutOfMemory → A)
 passed_on r e failed refusal =
     let exit = err_from_is_err_and r failed in
     rw exit.1 (λ room. refusal (λ is. room (exit.2 ∙ is)))
 
--- What follows the token that an atom begins with.
+-- What follows the first token of an atom.
 
 pub true_atom : (a : Atom) (ts r : List Token) → WordToken WordTrue ∷ ts ≡ atom_then a r → ts ≡ r
 unfolding atom_then
@@ -81,7 +83,7 @@ unfolding atom_then
 marked_atom (Parens e) m ts r same = (e, same)
 marked_atom _ m ts r same = cc
 
--- no token stands first that an atom begins with
+-- the first token is none that an atom starts with
 pub record BeginsNoAtom (ts : List Token) : Type 0 where
   pub number : (n : ℕ) (rest : List Token) → ts ≢ NumberToken n ∷ rest
   pub is_true : (rest : List Token) → ts ≢ WordToken WordTrue ∷ rest
@@ -100,7 +102,8 @@ no_atom ts none (Element x e) r same = none.name _ _ same
 no_atom ts none (Length x) r same = none.is_length _ same
 no_atom ts none (Parens e) r same = none.mark _ _ same
 
--- What an operand leaves of its chain: another operand behind a word or mark of the chain, or what stands behind the chain.
+-- What an operand leaves of its chain: another operand after a word or mark of the chain, or what
+-- follows the chain.
 
 pub expr_opened : (e : Expr) (ts r : List Token) → ts ≡ expr_then e r → (d : Conj) × (ds : Conjs) × (ts ≡ conj_then d (conjs_then ds r))
 unfolding expr_then
@@ -143,7 +146,7 @@ unfolding neg_then
 neg_denied (Plainly c) ts r same = absurd (omega (arith, ap begins same, cmp_begins c r))
 neg_denied (Not c) ts r same = (c, same_rest same)
 
--- what stands behind the left side of a comparison, or behind a sum alone
+-- what follows the left side of a comparison, or a sum alone
 pub record Compared (ts r : List Token) : Type 0 where
   pub left : Sum
   pub after : List Token

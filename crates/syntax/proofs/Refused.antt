@@ -1,4 +1,4 @@
--- A text is refused for one reason, and for none where it spells a program.
+-- A text is rejected for one reason, and for none if it spells a program.
 use Rattle.std.proofs.Common.{◌≡◌, ◌≢◌, ℕ, Result, Ok, Err, IfOk, IfErr, MatchResult, List, drop, refl, ap, sym, ◌∙◌, subst}
 use Rattle.std.specs.Char.{is_ascii_digit}
 use Rattle.std.proofs.lemmas.Bool.{both_ways}

@@ -1,4 +1,4 @@
--- How many brackets are open behind some tokens.
+-- The number of brackets that are open after some tokens.
 use Rattle.std.proofs.Common.{◌≡◌, ℕ, ◌+◌, ◌<◌, ◌≤◌, List, [], ◌∷◌, ◌++◌, length, get_or, take, drop, refl, ap, sym}
 use Rattle.std.proofs.Common.{◌∙◌, subst, take-append-drop}
 use Rattle.std.proofs.lemmas.List.{map-append, take_more, drop_more}
@@ -29,7 +29,7 @@ pub shallow_up_to : (n : ℕ) (ts : List Token) (t : Token) (us : List Token) �
 shallow_up_to n [] t us shallow = (shallow.0, tt)
 shallow_up_to n (u ∷ ts) t us shallow = (shallow.0, shallow_up_to (open_behind n u) ts t us shallow.1)
 
--- where a token opens too many, the tokens aren't shallow
+-- if too many brackets are open at a token, the tokens aren't shallow
 pub opens_too_many : (text : List ℕ) (found : List Spanned) (at : ℕ) → AreTokensOf text (plain found)
     → ArePlaced text found → OpensTooMany found at → IsTooDeep text at
 opens_too_many text found at read placed opens =

@@ -1,4 +1,5 @@
--- What the first tokens of a statement, a block or a list of arguments say of the tree that the tokens spell.
+-- What the first tokens of a statement, a block or a list of arguments imply about the tree that
+-- the tokens spell.
 use Rattle.std.proofs.Common.{◌≡◌, ◌≢◌, ◌<◌, ◌⊎◌, inl, inr, ℕ, List, [], ◌∷◌, refl, ap, sym, ◌∙◌, arith}
 use Rattle.std.proofs.lemmas.Bool.{eqb-false}
 use Rattle.syntax.specs.declared.cursor.Stuck.{Stuck}
@@ -19,7 +20,7 @@ use Rattle.syntax.proofs.ExprSpellings.{begins, expr_begins}
 use Rattle.syntax.proofs.StmtSpellings.{stmt_begins_with_no_brace, more_bind, kind}
 use Rattle.syntax.proofs.RefusalLemmas.{same_rest}
 
--- an expression, and others behind commas
+-- an expression, and others after commas
 pub record Several (ts r : List Token) : Type 0 where
   pub first : Expr
   pub after : List Token
@@ -44,7 +45,7 @@ unfolding block_then
 block_opened End ts r none same = absurd (none _ same)
 block_opened (Then s c) ts r none same = (s, c, same)
 
--- an `if`, up to where its `else` may stand
+-- an `if`, up to where its `else` can come
 pub record Conditional (ts r : List Token) : Type 0 where
   pub guard : Expr
   pub body : Block
@@ -104,7 +105,7 @@ split_opened _ ts r same = absurd (eqb-false _ _ refl (ap kind same))
 abbrev pub braced : Block → List Token → List Token
 braced b r = MarkToken LeftBrace ∷ block_then b r
 
--- behind this word stands a block, where a statement is spelled
+-- a block follows this word, if a statement is spelled
 abbrev pub OpensBlock : Word → Type 0
 OpensBlock word = (s : Stmt) (ts r : List Token) → WordToken word ∷ ts ≡ stmt_then s r → (b : Block) × (ts ≡ braced b r)
 
@@ -118,7 +119,7 @@ unfolding stmt_then
 finish_opened (Finish b) ts r same = (b, same_rest same)
 finish_opened _ ts r same = absurd (eqb-false _ _ refl (ap kind same))
 
--- a word was read, and a block behind it
+-- a word was read, and a block after it
 pub block_read : {tokens after left : List Token} {first word : Word} {b : Block} {s : Stmt}
     → tokens ≡ WordToken first ∷ after → first ≡ word → IsReadClosed braced after b left
     → WordToken word ∷ braced b left ≡ stmt_then s left → OpensBlock word → IsRead stmt_then else_level tokens s left
@@ -129,7 +130,7 @@ block_read {after = after} found is read spelled opened =
       whole = λ t r ends same. let body = opened t _ r (sym worded ∙ same) in read.whole body.0 r body.1;
     }
 
--- a word was read, and no block behind it
+-- a word was read, and no block after it
 pub block_refused : {tokens after : List Token} {first word : Word} {stuck : Stuck}
     → tokens ≡ WordToken first ∷ after → first ≡ word → RefusesClosed braced after stuck → OpensBlock word
     → Refuses stmt_then else_level tokens stuck
@@ -197,7 +198,7 @@ assign_opened (Store y i e) x ts r bracket paren same = absurd (bracket _ (same_
 assign_opened (Call f es) x ts r bracket paren same = absurd (paren _ (same_rest same))
 assign_opened _ x ts r bracket paren same = cc
 
--- where neither a word nor a name stands
+-- if neither a word nor a name comes first
 pub no_statement : (ts : List Token) → ((w : Word) (rest : List Token) → ts ≢ WordToken w ∷ rest)
     → ((x : List ℕ) (rest : List Token) → ts ≢ NameToken x ∷ rest) → (s : Stmt) (r : List Token) → ts ≢ stmt_then s r
 unfolding stmt_then
@@ -215,7 +216,7 @@ no_statement ts word name (Call f es) r same = name _ _ same
 no_statement ts word name (Async b) r same = word _ _ same
 no_statement ts word name (Finish b) r same = word _ _ same
 
--- a word stands first that no statement begins with
+-- a word comes first that no statement starts with
 pub record BeginsNoStatement (ts : List Token) : Type 0 where
   pub word : Word
   pub rest : List Token

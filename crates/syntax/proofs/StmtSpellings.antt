@@ -1,4 +1,4 @@
--- No two statements, and no two blocks, are spelled alike, where no `else` stands behind them.
+-- No two statements, and no two blocks, have the same spelling if no `else` follows them.
 use Rattle.std.proofs.Common.{◌≡◌, ◌≢◌, ◌<◌, ℕ, List, [], ◌∷◌, refl, ap, sym, arith}
 use Rattle.std.proofs.lemmas.Bool.{eqb-false}
 use Rattle.syntax.specs.declared.token.Word.{Word}
@@ -44,7 +44,7 @@ exprs_one (e ∷ es) (f ∷ fs) r s ends other closed closes same =
     let more = more_one es fs r s ends other first.1 in
     (cc (first.0, more.0), more.1)
 
--- expressions before a mark that doesn't go on with them
+-- expressions before a mark that doesn't continue them
 closed_one : (e f : Expr) (m : Mark) (ts us : List Token) → mark_binds m ≡ 0
     → expr_then e (MarkToken m ∷ ts) ≡ expr_then f (MarkToken m ∷ us) → (e ≡ f) × (ts ≡ us)
 closed_one e f m ts us loose same =
@@ -57,7 +57,7 @@ unfolding stmt_then
 stmt_binds Skip r = refl
 stmt_binds _ r = refl
 
--- no statement begins with the brace that closes its block
+-- no statement starts with the brace that closes its block
 pub stmt_begins_with_no_brace : (x : Stmt) (r : List Token) {s : List Token} → MarkToken RightBrace ∷ s ≢ stmt_then x r
 unfolding stmt_then
 stmt_begins_with_no_brace Skip r same = cc
@@ -68,7 +68,7 @@ unfolding block_then
 block_binds End r = refl
 block_binds (Then s b) r = stmt_binds s (block_then b r)
 
--- which kind of statement begins with these tokens
+-- which kind of statement starts with these tokens
 abbrev pub word_kind : Word → ℕ
 word_kind WordSkip = 1
 word_kind WordVar = 2

@@ -1,4 +1,4 @@
--- Where a text stops being read, and where its tokens stand.
+-- Where reading a text stops, and where its tokens are.
 use Rattle.std.proofs.Common.{◌≡◌, ℕ, ◌+◌, ◌-◌, ◌<◌, ◌⊎◌, inl, inr, ⊎_elim, List, [], ◌∷◌, ◌++◌, length, drop, refl, ap}
 use Rattle.std.proofs.Common.{sym, ◌∙◌, subst, append_assoc, arith}
 use Rattle.std.specs.Char.{is_ascii_digit}
@@ -24,7 +24,7 @@ module _ (text rest : List ℕ) (ts : List Token) (has : HasTokens text ts rest)
       let front = cut_front text has.pieces rest has.cut in
       (length front.0, ap length front.1 ∙ length-append front.0 rest)
 
-  -- what is left of a text stands behind as many characters as are no longer left
+  -- the rest of a text comes after as many characters as were read
   rest_is_behind : drop (length text - length rest) text ≡ rest
   rest_is_behind =
       let front = cut_front text has.pieces rest has.cut in
@@ -39,7 +39,7 @@ module _ (text rest : List ℕ) (ts : List Token) (has : HasTokens text ts rest)
       let here = sym (behind_at at number) in
       record { behind = after; read = subst (HasTokens text ts) here has; stands = subst (λ l. Reads l (t ∷ []) after) here reads }
 
-  -- where no token stands first in what is left, the text has none
+  -- if no token comes first in the rest, the text has none
   pub tells_unread : (unread : Unread) → 0 < length rest → BeginsNoToken rest unread → TellsUnread text unread
   tells_unread (NotACharacter left) some why =
       let here = behind_at (length text - left) (ap (λ n. length text - n) why.all_left) in
@@ -65,7 +65,8 @@ module _ (text rest : List ℕ) (ts : List Token) (has : HasTokens text ts rest)
       }
   tells_unread OutOfMemory some why = tt
 
--- a list with one more at its end, parted at some place: it is parted at the end, or the list is parted
+-- a list with one more item at its end, split somewhere: it is split at the end, or the list is
+-- split
 split_last : {A : Type 0} (xs : List A) (x : A) (before : List A) (s : A) (after : List A)
     → xs ++ x ∷ [] ≡ before ++ s ∷ after → ((before ≡ xs) × (s ≡ x)) ⊎ ((more : List A) × (xs ≡ before ++ s ∷ more))
 split_last [] x [] s after e = inl (refl, cc)
@@ -84,7 +85,7 @@ pub none_are_placed : (text : List ℕ) → ArePlaced text []
 none_are_placed text [] s after e = cc
 none_are_placed text (b ∷ before) s after e = cc
 
--- one more token stands where it says
+-- one more token is at its recorded position
 pub one_more_placed : (text rest after : List ℕ) (found : List Spanned) (s : Spanned)
     → HasTokens text (plain found) rest → Reads rest (token s.token ∷ []) after → s.at ≡ length text - length rest
     → ArePlaced text found → ArePlaced text (found ++ s ∷ [])

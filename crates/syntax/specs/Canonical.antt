@@ -1,5 +1,5 @@
--- The canonical text of a program: its tokens laid out in lines; and its listing, with labels before the
--- lines.
+-- The canonical text of a program, which is its tokens formatted in lines; and its listing, with
+-- labels before the lines.
 use Rattle.std.specs.Prelude.{ℕ, ◌+◌, ◌-◌, ◌*◌, Bool, true, false, not, ◌||◌, ◌&&◌, if◌then◌else◌, List, []}
 use Rattle.std.specs.Prelude.{◌++◌, ◌∷◌, length, replicate, codes, Option, None, Some}
 use Rattle.std.specs.Fmt.{decimal}
@@ -19,14 +19,14 @@ use Rattle.syntax.specs.Spelling.{spelling}
 use Rattle.syntax.specs.Token.{Token, NameToken, NumberToken, WordToken, MarkToken}
 use Rattle.syntax_tree.specs.Tree.{Program}
 
--- where a layout stands: how many blocks are open, the label of the last statement, if labels are
--- written, and what stands to the left
+-- the state of the formatting: the number of open blocks, the label of the last statement if labels
+-- are written, and what is to the left
 pub record Place : Type 0 where
   pub depth : ℕ
   pub label : Option ℕ
   pub left : Left
 
--- a `-` behind an operand is no unary's
+-- a `-` after an operand is no unary sign
 abbrev pub left_by_minus : Left → Left
 left_by_minus Called = Other
 left_by_minus Operand = Other
@@ -43,7 +43,7 @@ left_by_mark left RightBrace = Ended
 left_by_mark left Minus = left_by_minus left
 left_by_mark left _ = Other
 
--- what a token is to the one behind it
+-- what a token is to the token after it
 abbrev pub left_by : Left → Token → Left
 left_by left (NameToken x) = Called
 left_by left (NumberToken n) = Operand
@@ -55,7 +55,7 @@ left_by left (WordToken WordFalse) = Operand
 left_by left (WordToken _) = Other
 left_by left (MarkToken m) = left_by_mark left m
 
--- no space stands before these
+-- no space comes before these
 abbrev pub is_closing : Token → Bool
 is_closing (MarkToken Comma) = true
 is_closing (MarkToken Semicolon) = true
@@ -64,7 +64,7 @@ is_closing (MarkToken RightParen) = true
 is_closing (MarkToken RightBracket) = true
 is_closing _ = false
 
--- no space stands between a name and these
+-- no space comes between a name and these
 abbrev pub is_opening : Token → Bool
 is_opening (MarkToken LeftParen) = true
 is_opening (MarkToken LeftBracket) = true
@@ -80,13 +80,13 @@ abbrev pub is_else : Token → Bool
 is_else (WordToken WordElse) = true
 is_else _ = false
 
--- only `else` goes on with a line that was ended
+-- only `else` continues a line that was ended
 abbrev pub begins_line : Left → Token → Bool
 begins_line Margin t = true
 begins_line Ended t = not (is_else t)
 begins_line _ t = false
 
--- what begins a line begins a statement, but for these
+-- a token that starts a line starts a statement, except for these
 abbrev pub begins_statement : Token → Bool
 begins_statement (WordToken WordProc) = false
 begins_statement (WordToken WordMain) = false
@@ -94,16 +94,16 @@ begins_statement (WordToken WordArray) = false
 begins_statement (MarkToken RightBrace) = false
 begins_statement _ = true
 
--- a label right in five places, and a space
+-- a label, right-aligned in five columns, and a space
 abbrev pub label_text : ℕ → List ℕ
 label_text n = replicate (5 - length (decimal n)) 32 ++ (decimal n ++ codes " ")
 
--- what a listing puts before the line of a statement: the label behind the last
+-- what a listing puts before the line of a statement: the label after the last one
 abbrev pub statement_margin : Option ℕ → List ℕ
 statement_margin None = []
 statement_margin (Some n) = label_text (n + 1)
 
--- what it puts before another line
+-- what a listing puts before another line
 abbrev pub plain_margin : Option ℕ → List ℕ
 plain_margin None = []
 plain_margin (Some n) = codes "      "
@@ -112,23 +112,23 @@ plain_margin (Some n) = codes "      "
 abbrev pub indent : ℕ → List ℕ
 indent depth = replicate (2 * depth) 32
 
--- a closing brace stands as its block's header
+-- a closing brace is indented like the header of its block
 abbrev pub indentation : ℕ → Token → List ℕ
 indentation depth (MarkToken RightBrace) = indent (depth - 1)
 indentation depth _ = indent depth
 
--- what stands before the line that a token begins
+-- what comes before the line that a token starts
 abbrev pub line_start : Place → Token → List ℕ
 line_start at t =
     (if begins_statement t then statement_margin at.label else plain_margin at.label)
     ++ indentation at.depth t
 
--- the line feed behind a line
+-- the line feed after a line
 abbrev pub line_end : Left → List ℕ
 line_end Ended = codes "\n"
 line_end _ = []
 
--- what stands between a token and the one to its left
+-- what comes between a token and the token to its left
 abbrev pub before : Place → Token → List ℕ
 before at t = if begins_line at.left t
     then line_end at.left ++ line_start at t
@@ -139,7 +139,7 @@ depth_by depth (MarkToken LeftBrace) = depth + 1
 depth_by depth (MarkToken RightBrace) = depth - 1
 depth_by depth _ = depth
 
--- where a layout stands behind a token
+-- the state of the formatting after a token
 abbrev pub next : Place → Token → Place
 next at t = record {
   depth = depth_by at.depth t;
@@ -156,19 +156,20 @@ token_text (NumberToken n) = decimal n
 token_text (WordToken w) = word_text w
 token_text (MarkToken m) = mark_text m
 
--- tokens laid out from a place on
+-- tokens formatted, starting in a state
 unfoldable pub laid : Place → List Token → List ℕ
 laid at [] = line_end at.left
 laid at (t ∷ ts) = before at t ++ (token_text t ++ laid (next at t) ts)
 
--- tokens laid out inside a line
+-- tokens formatted within a line
 abbrev pub in_line : List Token → List ℕ
 in_line = laid (record { depth = 0; label = None; left = Opening })
 
--- the tokens of a program laid out, with no labels
+-- the formatted tokens of a program, without labels
 abbrev pub canonical : Program → List ℕ
 canonical p = laid (record { depth = 0; label = None; left = Margin }) (spelling p)
 
--- the same, with the label of the statement that begins there before each line
+-- the formatted tokens of a program, where each line has the label of the statement that starts
+-- there
 abbrev pub listed : Program → List ℕ
 listed p = laid (record { depth = 0; label = Some 0; left = Margin }) (spelling p)

@@ -1,5 +1,5 @@
--- The tokens of a text: a text is cut into pieces, each the longest that stands there, and a piece is
--- a token, a blank or a comment.
+-- The tokens of a text. A text is cut into pieces, each as long as possible, and a piece is a
+-- token, a white space character or a comment.
 use Rattle.std.specs.Prelude.{◌≡◌, ◌≢◌, ◌+◌, ◌*◌, ◌<◌, ◌≤◌, ℕ, Bool, true, false, not, ◌==◌, ◌||◌, ◌&&◌, List}
 use Rattle.std.specs.Prelude.{[], ◌∷◌, ◌++◌, codes, drop, fold, length}
 use Rattle.std.specs.Char.{is_ascii_alphabetic, is_ascii_digit, digit_value}
@@ -75,23 +75,23 @@ mark_text Differs = codes "!="
 abbrev pub is_blank : ℕ → Bool
 is_blank c = c == 32 || (c == 9 || (c == 13 || c == 10))
 
--- a name begins with a letter or `_`, and digits may follow
+-- a name starts with a letter or `_`, and digits can follow
 abbrev pub begins_name : ℕ → Bool
 begins_name c = is_ascii_alphabetic c || c == 95
 
 abbrev pub is_in_name : ℕ → Bool
 is_in_name c = begins_name c || is_ascii_digit c
 
--- a comment goes to the end of its line
+-- a comment extends to the end of its line
 abbrev pub is_in_line : ℕ → Bool
 is_in_line c = not (c == 10)
 
--- whether some characters stand first, the first of which passes
+-- whether there is a first character, and it passes
 abbrev pub starts : (ℕ → Bool) → List ℕ → Bool
 starts p [] = false
 starts p (c ∷ cs) = p c
 
--- `//` begins a comment
+-- `//` starts a comment
 abbrev pub begins_comment : List ℕ → Bool
 begins_comment [] = false
 begins_comment (c ∷ []) = false
@@ -101,7 +101,7 @@ begins_comment (c ∷ d ∷ cs) = c == 47 && d == 47
 abbrev pub number_of : List ℕ → ℕ
 number_of digits = fold (λ n c. n * 10 + digit_value c) 0 digits
 
--- what a text is cut into
+-- the pieces of a text
 pub data Piece : Type 0 where
   BlankPiece : ℕ → Piece
   CommentPiece : List ℕ → Piece
@@ -119,7 +119,7 @@ letters (NumberPiece cs) = cs
 letters (WordPiece w) = word_text w
 letters (MarkPiece m) = mark_text m
 
--- its token, if it is no blank and no comment
+-- its token, unless it is white space or a comment
 abbrev pub token_of : Piece → List Token
 token_of (BlankPiece c) = []
 token_of (CommentPiece cs) = []
@@ -128,27 +128,27 @@ token_of (NumberPiece cs) = NumberToken (number_of cs) ∷ []
 token_of (WordPiece w) = WordToken w ∷ []
 token_of (MarkPiece m) = MarkToken m ∷ []
 
--- a name is no reserved word, and goes as far as it can
+-- a name is no reserved word, and is as long as possible
 pub record IsName (cs rest : List ℕ) : Type 0 where
   pub begins : starts begins_name cs ≡ true
   pub in_name : list_all is_in_name cs ≡ true
   pub ends : starts is_in_name rest ≡ false
   pub no_word : (word : Word) → word_text word ≢ cs
 
--- a number is not too large, and goes as far as it can
+-- a number is not too large, and is as long as possible
 pub record IsNumber (cs rest : List ℕ) : Type 0 where
   pub begins : starts is_ascii_digit cs ≡ true
   pub digits : list_all is_ascii_digit cs ≡ true
   pub ends : starts is_ascii_digit rest ≡ false
   pub fits : number_of cs ≤ 9223372036854775807
 
--- where `=` stands behind a mark, the two together are no mark; and a comment is no mark
+-- if `=` follows a mark, the two together are no mark; and a comment is no mark
 pub record IsMark (m : Mark) (rest : List ℕ) : Type 0 where
   pub longest : starts (λ c. c == 61) rest ≡ true → (longer : Mark)
       → mark_text longer ≢ mark_text m ++ 61 ∷ []
   pub no_comment : begins_comment (mark_text m ++ rest) ≡ false
 
--- a piece may stand before the rest of a text, and could be no longer there
+-- a piece can come before the rest of a text, and can't be longer there
 abbrev pub MayStand : Piece → List ℕ → Type 0
 MayStand (BlankPiece c) rest = is_blank c ≡ true
 MayStand (CommentPiece cs) rest = (list_all is_in_line cs ≡ true) × (starts is_in_line rest ≡ false)
@@ -157,17 +157,17 @@ MayStand (NumberPiece cs) rest = IsNumber cs rest
 MayStand (WordPiece w) rest = starts is_in_name rest ≡ false
 MayStand (MarkPiece m) rest = IsMark m rest
 
--- a text begins with a piece, behind which the rest stands
+-- a text starts with a piece, which the rest follows
 pub record Begins (text : List ℕ) (p : Piece) (rest : List ℕ) : Type 0 where
   pub spelled : text ≡ letters p ++ rest
   pub fits : MayStand p rest
 
--- a text begins with pieces, one behind the other, behind which the rest stands
+-- a text starts with consecutive pieces, which the rest follows
 abbrev pub AreCut : List ℕ → List Piece → List ℕ → Type 0
 AreCut text [] rest = text ≡ rest
 AreCut text (p ∷ ps) rest = (behind : List ℕ) × Begins text p behind × AreCut behind ps rest
 
--- a text begins with a piece whose tokens are these
+-- a text starts with a piece that has these tokens
 pub record Reads (text : List ℕ) (ts : List Token) (rest : List ℕ) : Type 0 where
   pub piece : Piece
   pub begins : Begins text piece rest
@@ -183,22 +183,22 @@ pub record HasTokens (text : List ℕ) (ts : List Token) (rest : List ℕ) : Typ
 abbrev pub AreTokensOf : List ℕ → List Token → Type 0
 AreTokensOf text ts = HasTokens text ts []
 
--- letters are the word or the name of a token, where no more letters follow
+-- letters are the word or the name of a token, if no more letters follow
 pub record SpellsWord (cs : List ℕ) (t : Token) : Type 0 where
   pub piece : Piece
   pub spelled : cs ≡ letters piece
   pub tokens : token_of piece ≡ t ∷ []
   pub stands : (rest : List ℕ) → starts is_in_name rest ≡ false → MayStand piece rest
 
--- no piece stands first
+-- no piece comes first
 abbrev pub BeginsNoPiece : List ℕ → Type 0
 BeginsNoPiece text = (p : Piece) (rest : List ℕ) → Begins text p rest → ⊥
 
--- no mark stands first
+-- no mark comes first
 abbrev pub BeginsNoMark : List ℕ → Type 0
 BeginsNoMark text = (m : Mark) (rest : List ℕ) → Begins text (MarkPiece m) rest → ⊥
 
--- digits stand first whose number is too large
+-- digits come first whose number is too large
 pub record BeginsLargeNumber (text : List ℕ) : Type 0 where
   pub digits : List ℕ
   pub behind : List ℕ
@@ -208,7 +208,8 @@ pub record BeginsLargeNumber (text : List ℕ) : Type 0 where
   pub ends : starts is_ascii_digit behind ≡ false
   pub over : 9223372036854775807 < number_of digits
 
--- so many characters of a text are cut into pieces, and others stand behind that begin with no piece
+-- this many characters of a text are cut into pieces, and the characters after them start with no
+-- piece
 pub record StopsAt (text : List ℕ) (at : ℕ) : Type 0 where
   pub tokens : List Token
   pub read : HasTokens text tokens (drop at text)

@@ -1,4 +1,4 @@
--- What it means that tokens were read as a tree, and which tokens go on with what stands before them.
+-- What it means that tokens were read as a tree, and which tokens continue what comes before them.
 use Rattle.std.specs.Prelude.{◌≡◌, ◌≢◌, ◌<◌, ℕ, List, [], ◌∷◌, ◌++◌}
 use Rattle.std.specs.Borrow.{Bor}
 use Rattle.syntax.specs.declared.cursor.Stuck.{Stuck}
@@ -16,13 +16,13 @@ use Rattle.syntax.specs.Spelling.{more_then}
 use Rattle.syntax.specs.Token.{Token, NameToken, NumberToken, WordToken, MarkToken, plain}
 use Rattle.syntax_tree.specs.Tree.{exprs}
 
--- behind the earlier expressions stand others, which are spelled with a comma before each
+-- other expressions follow the earlier ones, and each is spelled with a comma before it
 pub record AddsExprs (earlier all : List Expr) (before rest : List Token) : Type 0 where
   pub others : List Expr
   pub added : all ≡ earlier ++ others
   pub spelled : before ≡ more_then (exprs others) rest
 
--- What goes on with what stands before it, the looser first.
+-- What continues what comes before it, the loosest first.
 
 -- a comma, `array`, `proc`: one more in a list
 abbrev pub list_level : ℕ
@@ -48,7 +48,7 @@ sign_level = 5
 abbrev pub operator_level : ℕ
 operator_level = 6
 
--- `[`, behind a name
+-- `[`, after a name
 abbrev pub bracket_level : ℕ
 bracket_level = 7
 
@@ -56,7 +56,7 @@ bracket_level = 7
 abbrev pub else_level : ℕ
 else_level = 8
 
--- how tightly a word binds what stands before it; 0 where it does not go on with it
+-- how tightly a word binds to what comes before it; 0 if it doesn't continue it
 abbrev pub word_binds : Word → ℕ
 word_binds WordArray = list_level
 word_binds WordProc = list_level
@@ -65,7 +65,7 @@ word_binds WordAnd = and_level
 word_binds WordElse = else_level
 word_binds _ = 0
 
--- the same of a mark
+-- how tightly a mark binds to what comes before it
 abbrev pub mark_binds : Mark → ℕ
 mark_binds Comma = list_level
 mark_binds Less = relation_level
@@ -82,7 +82,7 @@ mark_binds Percent = operator_level
 mark_binds LeftBracket = bracket_level
 mark_binds _ = 0
 
--- the same of the first of these tokens
+-- how tightly the first of these tokens binds to what comes before it
 abbrev pub binds : List Token → ℕ
 binds [] = 0
 binds (NameToken _ ∷ _) = 0
@@ -90,37 +90,37 @@ binds (NumberToken _ ∷ _) = 0
 binds (WordToken w ∷ _) = word_binds w
 binds (MarkToken m ∷ _) = mark_binds m
 
--- how trees are spelled, with other tokens behind them
+-- how trees are spelled, with other tokens after them
 abbrev pub Spells : Type 0 → Type 0
 Spells Tree = Tree → List Token → List Token
 
--- the tokens spell no tree, with anything behind it that binds less tightly
+-- the tokens spell no tree, if what follows it binds less tightly
 abbrev pub SpellsNone : {Tree : Type 0} → Spells Tree → ℕ → List Token → Type 0
 SpellsNone spell level tokens =
     (tree : _) (rest : List Token) → binds rest < level → tokens ≢ spell tree rest
 
--- whatever tree the tokens spell, with anything behind it that binds less tightly, these stand behind
+-- for any tree that the tokens spell, if what follows it binds less tightly, these tokens follow it
 abbrev pub Leaves : {Tree : Type 0} → Spells Tree → ℕ → List Token → List Token → Type 0
 Leaves spell level tokens left =
     (tree : _) (rest : List Token) → binds rest < level → tokens ≡ spell tree rest → left ≡ rest
 
--- these tokens were read as this tree: they spell it, up to those that are left, and no other, nor more
--- or less of it
+-- these tokens were read as this tree: they spell it up to the remaining tokens, and they spell no
+-- other tree, and no more or less of it
 pub record IsRead {Tree : Type 0} (spell : Spells Tree) (level : ℕ) (tokens : List Token) (tree : Tree)
     (left : List Token) : Type 0 where
   pub spelled : tokens ≡ spell tree left
   pub whole : Leaves spell level tokens left
 
--- what was read of these tokens, with those that are left, is this of a tree
+-- the result of reading these tokens, with the remaining tokens, represents a tree
 abbrev pub ReadsAs : {T Tree : Type 0} → (T → Tree) → Spells Tree → ℕ → List Token
     → T × Bor (List Spanned) → Type 0
 ReadsAs tree spell level tokens read = IsRead spell level tokens (tree read.0) (plain read.1.now)
 
--- tokens are refused only where they spell no tree, memory aside
+-- tokens are rejected only if they spell no tree, unless memory runs out
 abbrev pub Refuses : {Tree : Type 0} → Spells Tree → ℕ → List Token → Stuck → Type 0
 Refuses spell level tokens stuck = stuck ≢ OutOfMemory → SpellsNone spell level tokens
 
--- The same of trees that end by a token of their own, behind which anything may stand.
+-- The same definitions for trees that end with their own token, after which anything can follow.
 
 abbrev pub SpellsNoneClosed : {Tree : Type 0} → Spells Tree → List Token → Type 0
 SpellsNoneClosed spell tokens = (tree : _) (rest : List Token) → tokens ≢ spell tree rest

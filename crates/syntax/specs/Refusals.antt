@@ -1,4 +1,4 @@
--- What an error says of a text.
+-- What an error states about a text.
 use Rattle.std.specs.Prelude.{◌≡◌, ◌≢◌, ◌-◌, ◌<◌, ℕ, false, List, [], ◌∷◌, ◌++◌, Option, Some, None}
 use Rattle.std.specs.Prelude.{codes, drop, length}
 use Rattle.std.specs.Char.{is_ascii_digit}
@@ -20,52 +20,52 @@ use Rattle.syntax.specs.Spelling.{spelling}
 use Rattle.syntax.specs.Token.{Token, token, plain}
 use Rattle.syntax_tree.specs.Tree.{Program}
 
--- S1: a text can be read up to this character, which begins no piece and is no digit
+-- S1: a text can be read up to this character, which starts no piece and is no digit
 pub record IsNoCharacter (text : List ℕ) (at : ℕ) : Type 0 where
   pub stops : StopsAt text at
   pub no_digit : starts is_ascii_digit (drop at text) ≡ false
 
--- S3: a text can be read up to this character, where a number begins that is too large
+-- S3: a text can be read up to this character, where a number starts that is too large
 pub record IsLargeNumber (text : List ℕ) (at : ℕ) : Type 0 where
   pub stops : StopsAt text at
   pub large : BeginsLargeNumber (drop at text)
 
--- so many characters are left, of which the first begins no piece and is no digit
+-- this many characters are left, of which the first starts no piece and is no digit
 pub record BeginsNoCharacter (left : ℕ) (text : List ℕ) : Type 0 where
   pub all_left : left ≡ length text
   pub no_piece : BeginsNoPiece text
   pub no_digit : starts is_ascii_digit text ≡ false
 
--- why no token stands first, where so many characters are left
+-- why no token comes first if these characters are left
 abbrev pub BeginsNoToken : List ℕ → Unread → Type 0
 BeginsNoToken text (Unreadable left) = BeginsNoCharacter left text
 BeginsNoToken text (OverLimit left) = (left ≡ length text) × BeginsLargeNumber text
 BeginsNoToken text NoMemory = Unit {0}
 
--- why a text has no tokens, where so many characters are left
+-- why a text has no tokens, by the number of characters that are left
 abbrev pub TellsUnread : List ℕ → Unread → Type 0
 TellsUnread text (Unreadable left) = IsNoCharacter text (length text - left)
 TellsUnread text (OverLimit left) = IsLargeNumber text (length text - left)
 TellsUnread text NoMemory = Unit {0}
 
--- a token stands in a text behind these, from the character with this number on
+-- a token is in a text after these tokens, and starts at the character with this number
 pub record StandsAt (text : List ℕ) (before : List Token) (t : Token) (at : ℕ) : Type 0 where
   pub behind : List ℕ
   pub read : HasTokens text before (drop at text)
   pub stands : Reads (drop at text) (t ∷ []) behind
 
--- some token begins with this character, or the text ends before it
+-- some token starts at this character, or the text ends before it
 pub data BeginsToken (text : List ℕ) (at : ℕ) : Type 0 where
   at_token : (before : List Token) (t : Token) → StandsAt text before t at → BeginsToken text at
   at_end : at ≡ length text → BeginsToken text at
 
--- each token stands in the text where it says, behind those before it
+-- each token is in the text at its recorded position, after the tokens before it
 abbrev pub ArePlaced : List ℕ → List Spanned → Type 0
 ArePlaced text found =
     (before : List Spanned) (s : Spanned) (after : List Spanned) → found ≡ before ++ s ∷ after
     → StandsAt text (plain before) (token s.token) s.at
 
--- by the token that begins with this character, and none before it, more than 100 brackets are open
+-- the token that starts at this character is the first by which more than 100 brackets are open
 pub record OpensTooMany (found : List Spanned) (at : ℕ) : Type 0 where
   pub before : List Spanned
   pub last : Spanned
@@ -75,7 +75,8 @@ pub record OpensTooMany (found : List Spanned) (at : ℕ) : Type 0 where
   pub deep : AreShallow 0 (plain before ++ token last.token ∷ []) → ⊥
   pub there : at ≡ last.at
 
--- S4: a text has tokens, and by the one at this character, as the first, more than 100 brackets are open
+-- S4: a text has tokens, and the one at this character is the first by which more than 100 brackets
+-- are open
 pub record IsTooDeep (text : List ℕ) (at : ℕ) : Type 0 where
   pub tokens : List Token
   pub read : AreTokensOf text tokens
@@ -86,7 +87,7 @@ pub record IsTooDeep (text : List ℕ) (at : ℕ) : Type 0 where
   pub deep : AreShallow 0 (before ++ last ∷ []) → ⊥
   pub all_deep : AreShallow 0 tokens → ⊥
 
--- S2: a text has tokens, by which at most 100 brackets are open, and they spell no program
+-- S2: a text has tokens by which at most 100 brackets are open, and they spell no program
 pub record SpellsNoProgram (text : List ℕ) (at : ℕ) : Type 0 where
   pub tokens : List Token
   pub read : AreTokensOf text tokens
@@ -94,13 +95,13 @@ pub record SpellsNoProgram (text : List ℕ) (at : ℕ) : Type 0 where
   pub no_program : (p : Program) → tokens ≢ spelling p
   pub begins : BeginsToken text at
 
--- a fact of a character of a text, which stands at this place
+-- a fact about a character of a text, whose position this is
 pub record IsPlace (text : List ℕ) (Fact : ℕ → Type 0) (place : Place) : Type 0 where
   pub at : ℕ
   pub fact : Fact at
   pub there : place ≡ place_at text at
 
--- what an error says of the characters of a text
+-- what an error states about the characters of a text
 abbrev pub TellsOf : List ℕ → SyntaxError → Type 0
 TellsOf text (NotACharacter place) = IsPlace text (IsNoCharacter text) place
 TellsOf text (UnexpectedToken place) = IsPlace text (SpellsNoProgram text) place
@@ -109,7 +110,7 @@ TellsOf text (TooDeep place) = IsPlace text (IsTooDeep text) place
 TellsOf text TooLong = ⊥
 TellsOf text OutOfMemory = Unit {0}
 
--- what an error says of a text
+-- what an error states about a text
 abbrev pub Tells : List ℕ → SyntaxError → Type 0
 Tells text (NotACharacter place) = TellsOf (chars text) (NotACharacter place)
 Tells text (UnexpectedToken place) = TellsOf (chars text) (UnexpectedToken place)
@@ -127,7 +128,7 @@ error_code (TooDeep place) = codes "S4"
 error_code TooLong = codes "S5"
 error_code OutOfMemory = codes "S6"
 
--- the place that an error names
+-- the position that an error names
 abbrev pub place_of : SyntaxError → Option Place
 place_of (NotACharacter place) = Some place
 place_of (UnexpectedToken place) = Some place
@@ -135,11 +136,11 @@ place_of (NumberTooLarge place) = Some place
 place_of (TooDeep place) = Some place
 place_of _ = None
 
--- `at` and the place, if there is one
+-- `at` and the position, if there is one
 abbrev pub at_text : Option Place → List ℕ
 at_text None = []
 at_text (Some place) = codes " at " ++ place_text place
 
--- the text of an error: its code, and `at` its place where it names one
+-- the text of an error: its code, and `at` with its position if it names one
 abbrev pub error_text : SyntaxError → List ℕ
 error_text e = error_code e ++ at_text (place_of e)

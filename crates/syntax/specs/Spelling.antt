@@ -1,4 +1,4 @@
--- The tokens that spell a program: for each production its tokens, with other tokens behind them.
+-- The tokens that spell a program: for each production its tokens, followed by other tokens.
 use Rattle.std.specs.Prelude.{List, [], ◌∷◌, Option, None, Some}
 use Rattle.syntax_tree.specs.declared.tree.ElementType.{ElementType}
 use Rattle.syntax_tree.specs.declared.tree.ElementType.TheVariants.{Int as IntElement, Byte as ByteElement}

@@ -1,4 +1,4 @@
--- Tokens, without what says where they lie in memory or in a text.
+-- Tokens, without their representation in memory and without their positions.
 use Rattle.std.specs.Prelude.{ℕ, List, map}
 use Rattle.std.specs.String.{string_bytes}
 use Rattle.syntax.specs.declared.token.Word.{Word}
@@ -20,6 +20,6 @@ token (rNumber n) = NumberToken n
 token (rWord w) = WordToken w
 token (rMark m) = MarkToken m
 
--- tokens without their places
+-- tokens without their positions
 abbrev pub plain : List Spanned → List Token
 plain = map (λ s. token s.token)

@@ -8,11 +8,11 @@ use Rattle.syntax.specs.Token.{Token}
 use Rattle.syntax_tree.specs.Tree.{Stmt, Skip, Var, Assign, Store, Print, Fault, If, IfElse, While, Split}
 use Rattle.syntax_tree.specs.Tree.{Call, Async, Finish}
 
--- where the writer stands, with this to the left
+-- the state of the writer, with this to the left
 abbrev pub place : Lines → Left → Place
 place lines left = record { depth = lines.depth; label = lines.label; left = left }
 
--- what is written, and what would be of tokens to come
+-- what is written, followed by the text of the tokens to come
 abbrev pub with_rest : Lines → Left → List Token → List ℕ
 with_rest lines left ts = string_bytes lines.text ++ laid (place lines left) ts
 
@@ -22,7 +22,7 @@ pub record Adds (old new : Lines) (added : List ℕ) : Type 0 where
   pub depth : new.depth ≡ old.depth
   pub label : new.label ≡ old.label
 
--- each open block and each statement has written something, so that their numbers fit
+-- each open block and each statement has written something, so their numbers don't overflow
 pub record IsCounted (lines : Lines) : Type 0 where
   pub blocks : lines.depth ≤ length (string_bytes lines.text)
   pub statements : unwrap_or lines.label 0 ≤ length (string_bytes lines.text)

@@ -1,4 +1,4 @@
-//! Programs as canonical text: a line for each declaration and each statement.
+//! Programs as canonical text, with one line for each declaration and each statement.
 
 ghost use Rattle.std.specs.Prelude.{◌≡◌, ℕ, ◌+◌, ◌-◌, [], ◌∷◌, ◌++◌, codes, if◌then◌else◌, List, Option};
 ghost use Rattle.std.specs.Prelude.{IfOk, OnOk, IsTrue, map};
@@ -27,7 +27,8 @@ use crate::expression_text as expressions;
 use std::alloc::{AllocError, Global};
 use syntax_tree::tree::{Array, ElementType, Expr, Parameter, Procedure, Program, Stmt};
 
-/// The canonical text of a program, whose tokens are those of any text that spells the program.
+/// Returns the canonical text of a program. Its tokens are those of any text that spells the
+/// program.
 pub fn format(alloc: Global, program: &Program) -> Result<String, AllocError>
     ensures text { IfOk result (λ text. string_bytes text ≡ canonical (program_tree program.now)) }
     ensures tokens { IfOk result (λ text. (source : List ℕ)
@@ -39,7 +40,8 @@ pub fn format(alloc: Global, program: &Program) -> Result<String, AllocError>
     Ok(lines.text)
 }
 
-/// The canonical lines of a program, each behind the label of the statement that begins on it.
+/// Returns the canonical lines of a program. A line on which a statement starts has its label in
+/// front.
 pub fn listing(alloc: Global, program: &Program) -> Result<String, AllocError>
     ensures { IfOk result (λ text. string_bytes text ≡ listed (program_tree program.now)) }
 {
@@ -48,11 +50,11 @@ pub fn listing(alloc: Global, program: &Program) -> Result<String, AllocError>
     Ok(lines.text)
 }
 
-/// The lines so far.
+/// The lines written so far.
 #[derive(Drop)]
 struct Lines {
     text: String,
-    /// How many blocks are open.
+    /// The number of open blocks.
     depth: usize,
     /// The label of the last statement, if labels are written.
     label: Option<u64>,
@@ -71,7 +73,7 @@ impl Lines {
         }
     }
 
-    /// Begins a line on which no statement begins.
+    /// Starts a line on which no statement starts.
     fn begin(&mut self) -> Result<(), AllocError>
         ensures { OnOk result (Adds self.old self.new
             (plain_margin self.old.label ++ indent self.old.depth)) }
@@ -82,7 +84,7 @@ impl Lines {
         self.indent()
     }
 
-    /// Begins the line of the next statement.
+    /// Starts the line of the next statement.
     fn begin_statement(&mut self) -> Result<(), AllocError>
         requires { IsCounted self.old }
         ensures counted { OnOk result (IsCounted self.new) }
@@ -108,7 +110,7 @@ impl Lines {
         Ok(())
     }
 
-    /// Ends a header's line and opens its block.
+    /// Ends the line of a header and opens its block.
     fn open(&mut self) -> Result<(), AllocError>
         requires { IsCounted self.old }
         ensures counted { OnOk result (IsCounted self.new) }
@@ -122,7 +124,7 @@ impl Lines {
         Ok(())
     }
 
-    /// Writes the line that closes a block, but for its end.
+    /// Writes the line that closes a block, except its end.
     fn close(&mut self) -> Result<(), AllocError>
         requires { IsCounted self.old }
         ensures counted { OnOk result (IsCounted self.new) }
@@ -198,7 +200,7 @@ impl Lines {
     }
 }
 
-/// Parameters with a comma between each two.
+/// Writes parameters, separated by commas.
 fn parameters(parameters: &[Parameter], out: &mut String) -> Result<(), AllocError>
     ensures { OnOk result (string_bytes out.new ≡ string_bytes out.old
         ++ in_line (parameters_then (map parameter_tree parameters.now) [])) }
@@ -247,7 +249,7 @@ fn element_type(element: ElementType) -> &'static str
     }
 }
 
-/// The lines of the statements of a block.
+/// Writes the lines of the statements of a block.
 #[cycle(stmt)]
 fn statements(body: &[Stmt], lines: &mut Lines) -> Result<(), AllocError>
     requires { IsCounted lines.old }
@@ -264,7 +266,7 @@ fn statements(body: &[Stmt], lines: &mut Lines) -> Result<(), AllocError>
     Ok(())
 }
 
-/// A header's block with its braces.
+/// Writes the block of a header, with its braces.
 #[cycle(stmt)]
 fn block(body: &[Stmt], lines: &mut Lines) -> Result<(), AllocError>
     requires { IsCounted lines.old }
@@ -278,7 +280,7 @@ fn block(body: &[Stmt], lines: &mut Lines) -> Result<(), AllocError>
     lines.close()
 }
 
-/// A statement from its first token to its last.
+/// Writes a statement from its first token to its last.
 #[cycle(stmt)]
 fn line(statement: &Stmt, lines: &mut Lines) -> Result<(), AllocError>
     requires { IsCounted lines.old }
@@ -324,7 +326,7 @@ fn line(statement: &Stmt, lines: &mut Lines) -> Result<(), AllocError>
     }
 }
 
-/// A conditional with the block of its `else`, if it has one.
+/// Writes a conditional, with the block of its `else` if it has one.
 #[cycle(stmt)]
 fn conditional(
     guard: &Expr,
@@ -380,7 +382,7 @@ fn split(
     out.push_str(right.as_str())
 }
 
-/// A statement without a block, up to its semicolon.
+/// Writes a statement without a block, up to its semicolon.
 fn simple(statement: &Stmt, lines: &mut Lines) -> Result<(), AllocError>
     requires simple { IsTrue (is_simple (stmt_tree statement.now)) }
     requires counted { IsCounted lines.old }

@@ -1,4 +1,4 @@
-//! Reading what stands first among the tokens that are left.
+//! Reading the first of the remaining tokens.
 
 ghost use Rattle.std.specs.Prelude.{◌≡◌, ◌≢◌, ◌<◌, ℕ, List, [], ◌∷◌, length, IfOk, IfErr, IfSome, IfNone};
 ghost use Rattle.std.specs.String.{string_bytes};
@@ -10,13 +10,13 @@ ghost use Rattle.syntax.specs.Token.{MarkToken, token, plain};
 use crate::token::{Mark, Spanned, Token, Word};
 use std::alloc::{AllocError, AllocFailed};
 
-/// Why no more can be read.
+/// The reason why reading can't continue.
 #[derive(Clone, Copy, Debug)]
 pub enum Stuck {
-    /// A token may not stand where so many are left, with itself, 1 of `main { skip }`; with none left
-    /// the text ends, as of `main`.
+    /// A token isn't allowed here. `left` is the number of remaining tokens, including this one: 1
+    /// for `main { skip }`. It is 0 if the text ends too early, as in `main`.
     Unexpected { left: usize },
-    /// Of `main { skip; }` where memory is refused.
+    /// Memory ran out.
     OutOfMemory,
 }
 
@@ -36,14 +36,14 @@ impl<T: Drop> From<AllocFailed<T>> for Stuck {
     }
 }
 
-/// The first of these tokens may not stand here.
+/// Returns the error that the first of these tokens isn't allowed here.
 pub fn unexpected(tokens: &[Spanned]) -> Stuck
     ensures { result ≡ Stuck.Unexpected (length tokens.now) }
 {
     Stuck::Unexpected { left: tokens.len() }
 }
 
-/// The first token.
+/// Returns the first token.
 pub fn peek(tokens: &[Spanned]) -> Option<&Token>
     ensures found { IfSome result (λ first.
         (rest : List PlainToken) × (plain tokens.now ≡ token first.now ∷ rest)) }
@@ -55,7 +55,7 @@ pub fn peek(tokens: &[Spanned]) -> Option<&Token>
     }
 }
 
-/// The tokens behind a mark, if it stands first.
+/// Returns the tokens after a mark, if it comes first.
 pub fn after_mark(tokens: &[Spanned], wanted: Mark) -> Option<&[Spanned]>
     ensures shorter { IfSome result (λ rest. length rest.now < length tokens.now) }
     ensures found { IfSome result (λ rest. plain tokens.now ≡ MarkToken wanted ∷ plain rest.now) }
@@ -69,7 +69,7 @@ pub fn after_mark(tokens: &[Spanned], wanted: Mark) -> Option<&[Spanned]>
     }
 }
 
-/// The tokens behind a word, if it stands first.
+/// Returns the tokens after a word, if it comes first.
 pub fn after_word(tokens: &[Spanned], wanted: Word) -> Option<&[Spanned]>
     ensures shorter { IfSome result (λ rest. length rest.now < length tokens.now) }
     ensures found { IfSome result (λ rest. plain tokens.now ≡ WordToken wanted ∷ plain rest.now) }
@@ -83,7 +83,7 @@ pub fn after_word(tokens: &[Spanned], wanted: Word) -> Option<&[Spanned]>
     }
 }
 
-/// The word that stands first, and the tokens behind it.
+/// Returns the word that comes first, and the tokens after it.
 pub fn first_word(tokens: &[Spanned]) -> Option<(Word, &[Spanned])>
     ensures shorter { IfSome result (λ read. length read.1.now < length tokens.now) }
     ensures found { IfSome result (λ read. plain tokens.now ≡ WordToken read.0 ∷ plain read.1.now) }
@@ -97,7 +97,7 @@ pub fn first_word(tokens: &[Spanned]) -> Option<(Word, &[Spanned])>
     }
 }
 
-/// The tokens behind a mark that has to stand here.
+/// Returns the tokens after a mark, which must come first.
 pub fn mark(tokens: &[Spanned], wanted: Mark) -> Result<&[Spanned], Stuck>
     ensures shorter { IfOk result (λ rest. length rest.now < length tokens.now) }
     ensures found { IfOk result (λ rest. plain tokens.now ≡ MarkToken wanted ∷ plain rest.now) }
@@ -111,7 +111,7 @@ pub fn mark(tokens: &[Spanned], wanted: Mark) -> Result<&[Spanned], Stuck>
     }
 }
 
-/// The tokens behind a word that has to stand here.
+/// Returns the tokens after a word, which must come first.
 pub fn word(tokens: &[Spanned], wanted: Word) -> Result<&[Spanned], Stuck>
     ensures shorter { IfOk result (λ rest. length rest.now < length tokens.now) }
     ensures found { IfOk result (λ rest. plain tokens.now ≡ WordToken wanted ∷ plain rest.now) }
@@ -125,7 +125,7 @@ pub fn word(tokens: &[Spanned], wanted: Word) -> Result<&[Spanned], Stuck>
     }
 }
 
-/// A name that has to stand here.
+/// Reads a name, which must come first.
 pub fn name(tokens: &[Spanned]) -> Result<(String, &[Spanned]), Stuck>
     ensures shorter { IfOk result (λ read. length read.1.now < length tokens.now) }
     ensures found { IfOk result (λ read.
@@ -146,7 +146,7 @@ pub fn name(tokens: &[Spanned]) -> Result<(String, &[Spanned]), Stuck>
     }
 }
 
-/// A number that has to stand here.
+/// Reads a number, which must come first.
 pub fn number(tokens: &[Spanned]) -> Result<(u64, &[Spanned]), Stuck>
     ensures shorter { IfOk result (λ read. length read.1.now < length tokens.now) }
     ensures found { IfOk result (λ read. plain tokens.now ≡ NumberToken read.0 ∷ plain read.1.now) }

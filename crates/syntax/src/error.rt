@@ -1,4 +1,4 @@
-//! Why a text is no program.
+//! Syntax errors.
 
 ghost use Rattle.std.specs.Prelude.{◌≡◌, Some};
 ghost use Rattle.syntax.specs.Refusals.{error_code, error_text, place_of};
@@ -9,25 +9,25 @@ use std::alloc::AllocError;
 use std::error::Error;
 use std::fmt;
 
-/// Why a text is no program.
+/// The reason why a text is no program.
 #[derive(Clone, Copy, PartialEq, Eq, Debug)]
 pub enum SyntaxError {
-    /// `S1 at 1:1` of `!`: a character outside of a comment that begins no token.
+    /// `S1 at 1:1` for `!`: a character outside a comment that starts no token.
     NotACharacter { place: Place },
-    /// `S2 at 1:13` of `main { skip }`: a token that may not stand here, or the end of the text.
+    /// `S2 at 1:13` for `main { skip }`: a token that isn't allowed here, or the end of the text.
     UnexpectedToken { place: Place },
-    /// `S3 at 1:1` of `9223372036854775808`: a number over 9,223,372,036,854,775,807.
+    /// `S3 at 1:1` for `9223372036854775808`: a number over 9,223,372,036,854,775,807.
     NumberTooLarge { place: Place },
-    /// `S4 at 1:101` of 101 `(`: the bracket by which more than 100 are open.
+    /// `S4 at 1:101` for 101 times `(`: the bracket that makes more than 100 open.
     TooDeep { place: Place },
-    /// `S5` of 1,048,577 spaces: a text over 1,048,576 bytes.
+    /// `S5` for 1,048,577 spaces: a text longer than 1,048,576 bytes.
     TooLong,
-    /// `S6` of `main { }` where memory is refused.
+    /// `S6`: memory ran out.
     OutOfMemory,
 }
 
 impl SyntaxError {
-    /// The code that the program prints.
+    /// Returns the code that the program prints.
     pub fn code(&self) -> &'static str
         ensures { result.now ≡ error_code self.now }
     {
@@ -41,7 +41,7 @@ impl SyntaxError {
         }
     }
 
-    /// Where the text goes wrong, unless it is too long or memory ran out.
+    /// Returns the position of the error, unless the text is too long or memory ran out.
     pub fn place(&self) -> Option<Place>
         ensures { result ≡ place_of self.now }
     {

@@ -133,7 +133,7 @@ fn atom(e: &Atom, out: &mut String) -> Result<(), AllocError>
     }
 }
 
-/// Expressions with a comma between each two.
+/// Writes expressions, separated by commas.
 pub fn listed(exprs: &[Expr], out: &mut String) -> Result<(), AllocError>
     ensures { OnOk result (string_bytes out.new
         ≡ string_bytes out.old ++ in_line (exprs_then (expr_trees exprs.now) [])) }
@@ -145,7 +145,7 @@ pub fn listed(exprs: &[Expr], out: &mut String) -> Result<(), AllocError>
     more(rest, out)
 }
 
-/// Expressions with a comma before each.
+/// Writes expressions, each after a comma.
 pub fn more(exprs: &[Expr], out: &mut String) -> Result<(), AllocError>
     ensures { OnOk result (string_bytes out.new
         ≡ string_bytes out.old ++ in_line (more_then (expr_trees exprs.now) [])) }

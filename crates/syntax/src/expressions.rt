@@ -196,7 +196,7 @@ fn atom(alloc: Global, tokens: &[Spanned]) -> Result<(Atom, &[Spanned]), Stuck>
     }
 }
 
-/// An atom that a name begins.
+/// Reads an atom that starts with a name.
 #[cycle(expr)]
 fn named(alloc: Global, tokens: &[Spanned]) -> Result<(Atom, &[Spanned]), Stuck>
     ensures shorter { IfOk result (λ read. length read.1.now < length tokens.now) }
@@ -222,7 +222,7 @@ fn named(alloc: Global, tokens: &[Spanned]) -> Result<(Atom, &[Spanned]), Stuck>
     }
 }
 
-/// An expression and the bracket that closes it.
+/// Reads an expression and the bracket that closes it.
 #[cycle(expr)]
 fn enclosed(
     alloc: Global,
@@ -247,7 +247,7 @@ fn enclosed(
     Ok((Box::new(alloc, inner)?, rest))
 }
 
-/// An atom that holds no expression and begins with no name.
+/// Reads an atom that contains no expression and doesn't start with a name.
 fn constant(tokens: &[Spanned]) -> Result<(Atom, &[Spanned]), Stuck>
     ensures shorter { IfOk result (λ read. length read.1.now < length tokens.now) }
     ensures read { IfOk result (ReadsAs atom_tree atom_then bracket_level (plain tokens.now)) }
@@ -273,7 +273,7 @@ fn constant(tokens: &[Spanned]) -> Result<(Atom, &[Spanned]), Stuck>
     Ok((Atom::Number(value), rest))
 }
 
-/// A relation, if one stands first, and the tokens behind it.
+/// Reads a relation, if one comes first. Returns it with the tokens after it.
 fn relation(tokens: &[Spanned]) -> Option<(Relation, &[Spanned])>
     ensures shorter { IfSome result (λ read. length read.1.now < length tokens.now) }
     ensures found { IfSome result (λ read.
@@ -296,7 +296,7 @@ fn relation(tokens: &[Spanned]) -> Option<(Relation, &[Spanned])>
     }
 }
 
-/// A sign, if one stands first, and the tokens behind it.
+/// Reads a sign, if one comes first. Returns it with the tokens after it.
 fn sign(tokens: &[Spanned]) -> Option<(Sign, &[Spanned])>
     ensures shorter { IfSome result (λ read. length read.1.now < length tokens.now) }
     ensures found { IfSome result (λ read.
@@ -315,7 +315,7 @@ fn sign(tokens: &[Spanned]) -> Option<(Sign, &[Spanned])>
     }
 }
 
-/// An operator of a product, if one stands first, and the tokens behind it.
+/// Reads an operator of a product, if one comes first. Returns it with the tokens after it.
 fn operator(tokens: &[Spanned]) -> Option<(Operator, &[Spanned])>
     ensures shorter { IfSome result (λ read. length read.1.now < length tokens.now) }
     ensures found { IfSome result (λ read.
@@ -335,7 +335,7 @@ fn operator(tokens: &[Spanned]) -> Option<(Operator, &[Spanned])>
     }
 }
 
-/// Expressions behind commas, put behind those that were read earlier.
+/// Reads expressions after commas, and adds them to those that were read earlier.
 pub fn more(
     alloc: Global,
     tokens: &[Spanned],

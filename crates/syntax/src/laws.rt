@@ -1,4 +1,5 @@
-//! Laws of the definitions and of the calls, each the contract of a function that no program needs.
+//! Theorems about the definitions and the calls, each stated as the contract of a function that no
+//! program needs.
 
 ghost use Rattle.std.specs.Prelude.{◌≡◌, ◌≢◌, ◌≤◌, ℕ, List, length, MatchResult};
 ghost use Rattle.syntax.specs.Canonical.{canonical};
@@ -15,8 +16,9 @@ use crate::{canonical, parser};
 use std::alloc::Global;
 use syntax_tree::tree::Program;
 
-/// What is written is read as what it was: this reads the canonical text of a program. A `Program`
-/// that is made by hand may hold a name that is none; no text spells it, and the law is silent.
+/// Parses the canonical text of a program; the result is that program. A `Program` that was built
+/// by hand can contain a name that is no identifier. No text spells such a program, and the theorem
+/// states nothing about it.
 pub fn read_again(alloc: Global, program: &Program) -> Result<Program, SyntaxError>
     ensures { IsSpelled (program_tree program.now)
         → length (canonical (program_tree program.now)) ≤ 1048576
@@ -27,8 +29,8 @@ pub fn read_again(alloc: Global, program: &Program) -> Result<Program, SyntaxErr
     parser::parse(alloc, text.as_str())
 }
 
-/// A text has one list of tokens at most; one that can't be read to its end has none, and it can't
-/// be read at one place alone.
+/// States that a text has at most one list of tokens. A text that can't be read to its end has
+/// none, and reading always stops at the same position.
 pub fn texts_are_read_in_one_way()
     ensures one { (text : List ℕ) (ts us : List Token)
         → AreTokensOf text ts → AreTokensOf text us → ts ≡ us }
@@ -38,8 +40,9 @@ pub fn texts_are_read_in_one_way()
         → StopsAt text at → StopsAt text other → at ≡ other }
 {}
 
-/// All errors that tell of one text have one code, memory aside; so it doesn't matter which is
-/// looked for first. And too many brackets are open for the first time at one place alone.
+/// States that all errors that are true of one text have one code, apart from `OutOfMemory`. So the
+/// order of the checks doesn't matter. There is also only one position at which too many brackets
+/// are open for the first time.
 pub fn texts_are_refused_for_one_reason()
     ensures one { (text : List ℕ) (e f : AnyError) → TellsOf text e → TellsOf text f
         → e ≢ SyntaxError.OutOfMemory → f ≢ SyntaxError.OutOfMemory → error_code e ≡ error_code f }
@@ -47,7 +50,7 @@ pub fn texts_are_refused_for_one_reason()
         → IsTooDeep text at → IsTooDeep text other → at ≡ other }
 {}
 
-/// No two programs have one spelling.
+/// States that no two programs have the same spelling.
 pub fn one_spelling()
     ensures { (p q : ProgramTree) → spelling p ≡ spelling q → p ≡ q }
 {}

@@ -1,4 +1,4 @@
-//! Texts as tokens.
+//! The lexer: texts as tokens.
 
 ghost use Rattle.std.specs.Prelude.{◌≡◌, ◌<◌, ◌≤◌, true, false, [], ◌∷◌, length, IfOk, IfErr, IfSome, IfNone};
 ghost use Rattle.std.specs.Char.{is_ascii_digit};
@@ -17,14 +17,15 @@ use std::alloc::{AllocError, AllocFailed, Global};
 /// The largest number: 2^63 - 1.
 const MOST: u64 = 9_223_372_036_854_775_807;
 
-/// Why a text has no tokens.
+/// The reason why a text has no tokens.
 #[derive(Clone, Copy, Debug)]
 pub enum Unread {
-    /// No token begins where this many characters are left: 1 of `!`.
+    /// No token starts where this many characters are left: 1 for `!`.
     NotACharacter { left: usize },
-    /// A number too large begins where this many characters are left: 19 of `9223372036854775808`.
+    /// A number that is too large starts where this many characters are left: 19 for
+    /// `9223372036854775808`.
     NumberTooLarge { left: usize },
-    /// Of `skip` where memory is refused.
+    /// Memory ran out.
     OutOfMemory,
 }
 
@@ -44,7 +45,7 @@ impl<T: Drop> From<AllocFailed<T>> for Unread {
     }
 }
 
-/// The tokens of a text, or the first place where there is none.
+/// Returns the tokens of a text, or the first position at which no token starts.
 pub fn tokens(alloc: Global, text: &[char]) -> Result<Vec<Spanned>, Unread>
     ensures read { IfOk result (λ found. AreTokensOf text.now (plain found.items)) }
     ensures placed { IfOk result (λ found. ArePlaced text.now found.items) }
@@ -65,7 +66,7 @@ pub fn tokens(alloc: Global, text: &[char]) -> Result<Vec<Spanned>, Unread>
     Ok(tokens)
 }
 
-/// The characters behind the blank or the comment that stands first.
+/// Returns the characters after a white space character or a comment, if one comes first.
 fn blank(chars: &[char]) -> Option<&[char]>
     ensures shorter { IfSome result (λ rest. length rest.now < length chars.now) }
     ensures found { IfSome result (λ rest. Reads chars.now [] rest.now) }
@@ -84,21 +85,21 @@ fn blank(chars: &[char]) -> Option<&[char]>
     None
 }
 
-/// Whether this character stands between tokens.
+/// Returns whether this character is white space.
 pub fn is_blank(c: char) -> bool
     ensures { result ≡ is_blank c }
 {
     c == ' ' || c == '\t' || c == '\r' || c == '\n'
 }
 
-/// How many characters stand before the first line feed.
+/// Returns the number of characters before the first line feed.
 pub fn line_length(chars: &[char]) -> usize
     ensures { result ≡ prefix_len is_in_line chars.now }
 {
     chars.iter().take_while(|c| **c != '\n').count()
 }
 
-/// The token that stands first, the longest, and the characters behind it.
+/// Returns the longest token that comes first, and the characters after it.
 fn token(alloc: Global, chars: &[char]) -> Result<(Token, &[char]), Unread>
     requires no_blank { starts is_blank chars.now ≡ false }
     requires no_comment { begins_comment chars.now ≡ false }
@@ -128,35 +129,35 @@ fn token(alloc: Global, chars: &[char]) -> Result<(Token, &[char]), Unread>
     Ok((Token::Mark(mark), rest))
 }
 
-/// Whether a name may begin with this character.
+/// Returns whether a name can start with this character.
 fn begins_name(c: char) -> bool
     ensures { result ≡ begins_name c }
 {
     c.is_ascii_alphabetic() || c == '_'
 }
 
-/// Whether this character may stand in a name.
+/// Returns whether this character can be part of a name.
 fn is_in_name(c: char) -> bool
     ensures { result ≡ is_in_name c }
 {
     begins_name(c) || c.is_ascii_digit()
 }
 
-/// How many characters that may stand in a name stand first.
+/// Returns the number of characters at the start that can be part of a name.
 fn name_length(chars: &[char]) -> usize
     ensures { result ≡ prefix_len is_in_name chars.now }
 {
     chars.iter().take_while(|c| is_in_name(**c)).count()
 }
 
-/// How many digits stand first.
+/// Returns the number of digits at the start.
 pub fn digits_length(chars: &[char]) -> usize
     ensures { result ≡ prefix_len is_ascii_digit chars.now }
 {
     chars.iter().take_while(|c| c.is_ascii_digit()).count()
 }
 
-/// The word that these letters spell, or else the name.
+/// Returns the reserved word with these letters, or otherwise the name.
 fn word_or_name(alloc: Global, letters: &[char]) -> Result<Token, AllocError>
     requires begins { starts begins_name letters.now ≡ true }
     requires in_name { list_all is_in_name letters.now ≡ true }
@@ -169,7 +170,7 @@ fn word_or_name(alloc: Global, letters: &[char]) -> Result<Token, AllocError>
     }
 }
 
-/// The text of these letters.
+/// Returns the text of these letters.
 fn text_of(alloc: Global, letters: &[char]) -> Result<String, AllocError>
     requires { list_all is_in_name letters.now ≡ true }
     ensures { IfOk result (λ text. string_bytes text ≡ letters.now) }
@@ -177,7 +178,7 @@ fn text_of(alloc: Global, letters: &[char]) -> Result<String, AllocError>
     letters.iter().copied().collect(alloc)
 }
 
-/// The number that these digits spell, unless it is too large.
+/// Returns the number that these digits spell, unless it is too large.
 fn value_of(digits: &[char]) -> Option<u64>
     ensures found { IfSome result (λ value. value ≡ number_of digits.now) }
     ensures small { IfSome result (λ value. value ≤ 9223372036854775807) }
@@ -192,7 +193,7 @@ fn value_of(digits: &[char]) -> Option<u64>
     if value > MOST { None } else { Some(value) }
 }
 
-/// The mark that stands first, the longest, and the characters behind it.
+/// Returns the longest mark that comes first, and the characters after it.
 fn mark(chars: &[char]) -> Option<(Mark, &[char])>
     requires { begins_comment chars.now ≡ false }
     ensures found { IfSome result (λ read. Begins chars.now (MarkPiece read.0) read.1.now) }

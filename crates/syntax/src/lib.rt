@@ -1,4 +1,4 @@
-//! Texts and programs.
+//! The parser and the formatter: texts as programs, and programs as texts.
 
 #![tactic(auto)]
 

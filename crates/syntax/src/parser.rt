@@ -1,4 +1,4 @@
-//! Texts as programs.
+//! The parser: texts as programs.
 
 ghost use Rattle.std.specs.Prelude.{◌≡◌, ◌≢◌, ◌↔◌, ◌<◌, ◌≤◌, ◌^◌, length, vec_len, IfOk, IfErr, IfNone};
 ghost use Rattle.std.specs.Prelude.{IfSome, MatchResult};
@@ -19,13 +19,13 @@ use crate::{lexer, programs};
 use std::alloc::{AllocError, Global};
 use syntax_tree::tree::Program;
 
-/// The most bytes of a text.
+/// The maximum number of bytes of a text.
 const MOST_BYTES: usize = 1_048_576;
 
-/// The most brackets that may be open at once.
+/// The maximum number of brackets that can be open at once.
 const MOST_OPEN: usize = 100;
 
-/// The program that a text spells.
+/// Returns the program that a text spells.
 pub fn parse(alloc: Global, text: &str) -> Result<Program, SyntaxError>
     ensures spelled { IfOk result (λ read.
         AreTokensOf (chars text.now) (spelling (program_tree read))) }
@@ -43,7 +43,7 @@ pub fn parse(alloc: Global, text: &str) -> Result<Program, SyntaxError>
     program(alloc, &characters)
 }
 
-/// The characters of a text.
+/// Returns the characters of a text.
 fn characters(alloc: Global, text: &str) -> Result<Vec<char>, AllocError>
     ensures value { IfOk result (λ found. found.items ≡ chars text.now) }
     ensures short { IfOk result (λ found. vec_len found ≤ length text.now) }
@@ -51,7 +51,7 @@ fn characters(alloc: Global, text: &str) -> Result<Vec<char>, AllocError>
     text.chars().collect(alloc)
 }
 
-/// The program that these characters spell.
+/// Returns the program that these characters spell.
 fn program(alloc: Global, text: &[char]) -> Result<Program, SyntaxError>
     requires { length text.now < 2 ^ 31 }
     ensures spelled { IfOk result (λ read. AreTokensOf text.now (spelling (program_tree read))) }
@@ -73,7 +73,7 @@ fn program(alloc: Global, text: &[char]) -> Result<Program, SyntaxError>
     }
 }
 
-/// Where the text has no token.
+/// Returns the error for a text that has no tokens.
 fn no_tokens(text: &[char], unread: Unread) -> SyntaxError
     requires short { length text.now < 2 ^ 31 }
     requires told { TellsUnread text.now unread }
@@ -91,7 +91,7 @@ fn no_tokens(text: &[char], unread: Unread) -> SyntaxError
     }
 }
 
-/// Where the tokens spell no program.
+/// Returns the error for tokens that spell no program.
 fn no_program(text: &[char], tokens: &[Spanned], stuck: Stuck) -> SyntaxError
     requires short { length text.now < 2 ^ 31 }
     requires read { AreTokensOf text.now (plain tokens.now) }
@@ -110,7 +110,7 @@ fn no_program(text: &[char], tokens: &[Spanned], stuck: Stuck) -> SyntaxError
     }
 }
 
-/// Where the token begins from which on so many are left, or where the text ends.
+/// Returns the position of the token with which this many are left, or the end of the text.
 fn beginning(text: &[char], tokens: &[Spanned], left: usize) -> usize
     requires { ArePlaced text.now tokens.now }
     ensures { BeginsToken text.now result }
@@ -121,7 +121,7 @@ fn beginning(text: &[char], tokens: &[Spanned], left: usize) -> usize
     }
 }
 
-/// The bracket by which too many are open.
+/// Returns the position of the first bracket that makes too many open.
 fn too_deep(tokens: &[Spanned]) -> Option<usize>
     ensures none { IfNone result (AreShallow 0 (plain tokens.now)) }
     ensures some { IfSome result (OpensTooMany tokens.now) }
@@ -136,7 +136,7 @@ fn too_deep(tokens: &[Spanned]) -> Option<usize>
     None
 }
 
-/// How many brackets are open behind a token.
+/// Returns the number of brackets that are open after a token.
 fn open_behind(count: usize, token: &Token) -> usize
     requires { count ≤ 100 }
     ensures { result ≡ open_behind count (token_tree token.now) }

@@ -1,11 +1,11 @@
-//! Places in a text.
+//! Positions in a text.
 
 ghost use Rattle.std.specs.Prelude.{◌≡◌, ◌<◌, ◌^◌, length};
 ghost use Rattle.syntax.specs.Place.{place_at};
 
 use std::fmt;
 
-/// A line and a column, both from 1. A line ends at a line feed alone; columns count characters.
+/// A line and a column, both from 1. Only a line feed ends a line; columns count characters.
 #[derive(Clone, Copy, PartialEq, Eq, Debug)]
 pub struct Place {
     pub line: u32,
@@ -27,7 +27,8 @@ impl fmt::Display for Place {
 }
 
 impl Place {
-    /// The place of the character with this number from 0, or the one just behind the text.
+    /// Returns the position of the character with this number, counted from 0. The number of
+    /// characters gives the position right after the text.
     pub fn of(text: &[char], at: usize) -> Place
         requires { length text.now < 2 ^ 31 }
         ensures { result ≡ place_at text.now at }

@@ -152,7 +152,7 @@ fn procedure(alloc: Global, tokens: &[Spanned]) -> Result<(Procedure, &[Spanned]
     ))
 }
 
-/// The parameters of a procedure and the parenthesis that closes them.
+/// Reads the parameters of a procedure and the parenthesis that closes them.
 fn parameters(alloc: Global, tokens: &[Spanned]) -> Result<(Vec<Parameter>, &[Spanned]), Stuck>
     ensures shorter { IfOk result (λ read. length read.1.now < length tokens.now) }
     ensures read { IfOk result (λ read.
@@ -198,7 +198,7 @@ fn parameter(tokens: &[Spanned]) -> Result<(Parameter, &[Spanned]), Stuck>
     Ok((Parameter::Scalar { name }, rest))
 }
 
-/// The name and the element type of an array or a section.
+/// Reads the name and the element type of an array or a section.
 fn section(tokens: &[Spanned]) -> Result<(String, ElementType, &[Spanned]), Stuck>
     ensures shorter { IfOk result (λ read. length read.2.now < length tokens.now) }
     ensures spelled { IfOk result (λ read.

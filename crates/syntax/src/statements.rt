@@ -155,7 +155,7 @@ fn split(alloc: Global, tokens: &[Spanned]) -> Result<(Stmt, &[Spanned]), Stuck>
     ))
 }
 
-/// A statement without a block that a word begins.
+/// Reads a statement without a block that starts with a word.
 fn simple(alloc: Global, tokens: &[Spanned]) -> Result<(Stmt, &[Spanned]), Stuck>
     ensures shorter { IfOk result (λ read. length read.1.now < length tokens.now) }
     ensures read { IfOk result (ReadsAs stmt stmt_then else_level (plain tokens.now)) }
@@ -182,7 +182,7 @@ fn simple(alloc: Global, tokens: &[Spanned]) -> Result<(Stmt, &[Spanned]), Stuck
     Ok((Stmt::Fault { value }, rest))
 }
 
-/// An expression and the semicolon that ends its statement.
+/// Reads an expression and the semicolon that ends its statement.
 fn ended(alloc: Global, tokens: &[Spanned]) -> Result<(Expr, &[Spanned]), Stuck>
     ensures shorter { IfOk result (λ read. length read.1.now < length tokens.now) }
     ensures read { IfOk result
@@ -232,7 +232,7 @@ fn printed(alloc: Global, tokens: &[Spanned]) -> Result<(Stmt, &[Spanned]), Stuc
     ))
 }
 
-/// A statement that a name begins.
+/// Reads a statement that starts with a name.
 fn named(alloc: Global, tokens: &[Spanned]) -> Result<(Stmt, &[Spanned]), Stuck>
     ensures shorter { IfOk result (λ read. length read.1.now < length tokens.now) }
     ensures read { IfOk result (ReadsAs stmt stmt_then else_level (plain tokens.now)) }
@@ -274,7 +274,7 @@ fn named(alloc: Global, tokens: &[Spanned]) -> Result<(Stmt, &[Spanned]), Stuck>
     Ok((Stmt::Assign { name, value }, rest))
 }
 
-/// The arguments of a call and the parenthesis that closes them.
+/// Reads the arguments of a call and the parenthesis that closes them.
 fn arguments(alloc: Global, tokens: &[Spanned]) -> Result<(Vec<Expr>, &[Spanned]), Stuck>
     ensures shorter { IfOk result (λ read. length read.1.now < length tokens.now) }
     ensures read { IfOk result (λ read.

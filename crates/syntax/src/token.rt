@@ -1,4 +1,4 @@
-//! What a text is made of.
+//! The tokens of a text.
 
 /// A token with the number of its first character, counted from 0.
 #[derive(Drop, Debug)]
@@ -20,10 +20,10 @@ pub enum Token {
     Mark(Mark),
 }
 
-/// What stands to the left of a token, in a text or in a line that is written.
+/// What is to the left of a token, in a text or in a line that is written.
 #[derive(Clone, Copy, PartialEq, Eq, Debug)]
 pub enum Left {
-    /// Nothing in its line.
+    /// Nothing in the line.
     Margin,
     /// `(`, `[`, or the `-` of `-1`
     Opening,
@@ -37,7 +37,7 @@ pub enum Left {
     Other,
 }
 
-/// A word that is no name.
+/// A reserved word.
 #[derive(Clone, Copy, PartialEq, Eq, Debug)]
 pub enum Word {
     And,
@@ -122,7 +122,7 @@ impl Word {
     ghost use Rattle.syntax.specs.declared.token.Word.{Word};
     ghost use Rattle.syntax.specs.Lexical.{word_text};
 
-    /// The word that a name would be, if it is reserved.
+    /// Returns the reserved word with these letters, if there is one.
     pub fn of(name: &str) -> Option<Word>
         ensures found { IfSome result (λ word. word_text word ≡ name.now) }
         ensures absent { IfNone result ((word : Word) → word_text word ≢ name.now) }
@@ -166,7 +166,7 @@ impl Mark {
     ghost use Rattle.syntax.specs.declared.token.Mark.{Mark};
     ghost use Rattle.syntax.specs.Lexical.{mark_text};
 
-    /// The mark of one character.
+    /// Returns the mark of one character.
     pub fn of_one(character: char) -> Option<Mark>
         ensures found { IfSome result (λ mark. mark_text mark ≡ character ∷ []) }
         ensures absent { IfNone result ((mark : Mark) → mark_text mark ≢ character ∷ []) }
@@ -193,7 +193,7 @@ impl Mark {
         })
     }
 
-    /// The mark of two characters, the second of which is always `=`.
+    /// Returns the mark of two characters. The second one is always `=`.
     pub fn of_two(first: char) -> Option<Mark>
         ensures found { IfSome result (λ mark. mark_text mark ≡ first ∷ 61 ∷ []) }
         ensures absent { IfNone result ((mark : Mark) → mark_text mark ≢ first ∷ 61 ∷ []) }

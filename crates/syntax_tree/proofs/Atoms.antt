@@ -1,4 +1,4 @@
--- The lone atom of each level is that of the next, where nothing stands beside it.
+-- If a level has no operator, its single atom is that of the next level.
 use Rattle.std.proofs.Common.{◌≡◌, ◌≢◌, List, [], ◌∷◌, length, Option, Some, None, Bool, true, false, refl, sym, ap, ◌∙◌, arith}
 use Rattle.syntax_tree.specs.Tree.{Atom, Or, And, Cmp, Alone, Compare, Add, Prod, Multiply, expr, conj, neg}
 use Rattle.syntax_tree.specs.Tree.{cmp, sum, term, prod, unary, conjs, negs, terms, factors, negated}
@@ -13,12 +13,12 @@ use Rattle.syntax_tree.specs.declared.tree.Term.{Term as rTerm, Term' as rSigned
 use Rattle.syntax_tree.specs.declared.tree.Prod.{Prod as rProd, out-Prod, roll-out-Prod}
 use Rattle.syntax_tree.proofs.RowLemmas.{expr_built, conj_built, neg_built, cmp_alone, cmp_compared, sum_built, prod_built}
 
--- What is known of the lone atom of a level, by how many operands stand behind the first.
+-- What is known about the single atom of a level, by the number of operands after the first.
 pub record IsLevel {Operand : Type 0} (rest : List Operand) (first whole : Option Atom) : Type 0 where
   pub alone : length rest ≡ 0 → first ≡ whole
   pub beside : length rest ≢ 0 → None ≡ whole
 
--- whatever operands stand behind the first, the lone atom goes by whether there are any
+-- the single atom depends only on whether operands follow the first one
 level : {Operand : Type 0} {whole : Option Atom} (rest : List Operand) (lone : List Operand → Option Atom)
     → ((r : Operand) (l : List Operand) → None ≡ lone (r ∷ l)) → whole ≡ lone rest
     → IsLevel rest (lone []) whole

@@ -1,4 +1,4 @@
--- The tree of a value is that of its parts.
+-- The tree of a value consists of the trees of its parts.
 use Rattle.std.proofs.Common.{◌≡◌, Some, None, Bool, Box, Vec, String, Global, refl, ap, ◌∙◌}
 use Rattle.std.specs.String.{string_bytes}
 use mathlib.Core.Former.{Count}

@@ -1,4 +1,4 @@
--- Programs as plain trees, without what says where they lie in memory; names are the bytes of their letters.
+-- Programs as plain trees, without their representation in memory. A name is the list of its bytes.
 use Rattle.std.specs.Prelude.{ℕ, Bool, true, false, List, [], ◌∷◌, Option, None, Some, map}
 use Rattle.std.specs.Option.{option_map}
 use Rattle.std.specs.String.{string_bytes}
@@ -43,7 +43,7 @@ mutual
   pub data Expr : Type 0 where
     Or : Conj → Conjs → Expr
 
-  -- what stands behind the first operand, each behind an `or`
+  -- the operands after the first, each after an `or`
   pub data Conjs : Type 0 where
     NoConj : Conjs
     OrConj : Conj → Conjs → Conjs
@@ -275,7 +275,7 @@ main m = record { arrays = map array m.arrays.items; body = block m.body.items }
 abbrev pub program : rProgram → Program
 program p = record { procedures = map procedure p.procedures.items; main = option_map main p.main }
 
--- The lone atom of an expression without operators, `not`, sign or comparison.
+-- The atom of an expression that is a single atom, without operators, `not`, sign or comparison.
 
 abbrev pub atom_of_unary : Unary → Option Atom
 atom_of_unary (Positive a) = Some a

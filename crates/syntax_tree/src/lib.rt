@@ -1,4 +1,4 @@
-//! Programs as texts spell them.
+//! Programs as their texts spell them.
 
 #![tactic(auto)]
 

@@ -1,5 +1,5 @@
-//! Programs as texts spell them: one type for each level of precedence, so that a program has exactly one
-//! list of tokens.
+//! Programs as their texts spell them. There is one type for each level of precedence, so a program
+//! has exactly one list of tokens.
 
 /// A whole text. The empty text is a program with no procedure and no `main`.
 #[derive(Drop)]
@@ -23,10 +23,10 @@ pub struct Array {
     pub length: u64,
 }
 
-/// What an array or a section holds.
+/// The element type of an array or a section.
 #[derive(Clone, Copy, PartialEq, Eq, Debug)]
 pub enum ElementType {
-    /// `int`: 64 bits with sign.
+    /// `int`: a signed 64-bit integer.
     Int,
     /// `byte`: 0 to 255.
     Byte,
@@ -81,7 +81,7 @@ pub enum Stmt {
     Fault {
         value: Expr,
     },
-    /// `if x < 2 { skip; } else { }`; no `else` and an empty one differ.
+    /// `if x < 2 { skip; } else { }`. No `else` and an empty `else` are different trees.
     If {
         guard: Expr,
         body: Vec<Stmt>,
@@ -115,7 +115,7 @@ pub enum Stmt {
     },
 }
 
-/// `a < 1 or b < 1`: the first operand and those behind an `or`.
+/// `a < 1 or b < 1`: the first operand, and the operands that follow an `or`.
 #[derive(Drop)]
 #[cycle(expr)]
 pub struct Expr {
@@ -128,7 +128,8 @@ impl Expr {
     ghost use Rattle.std.specs.Option.{option_map};
     ghost use Rattle.syntax_tree.specs.Tree.{expr, atom, lone_atom};
 
-    /// The lone atom of an expression without operators, `not`, sign or comparison.
+    /// Returns the atom if the expression is a single atom, without operators, `not`, sign or
+    /// comparison.
     pub fn as_atom(&self) -> Option<&Atom>
         ensures { option_map atom (option_copied result) ≡ lone_atom (expr self.now) }
     {
@@ -140,7 +141,7 @@ impl Expr {
     }
 }
 
-/// `a < 1 and b < 1`: the first operand and those behind an `and`.
+/// `a < 1 and b < 1`: the first operand, and the operands that follow an `and`.
 #[derive(Drop)]
 #[cycle(expr)]
 pub struct Conj {
@@ -153,7 +154,7 @@ impl Conj {
     ghost use Rattle.std.specs.Option.{option_map};
     ghost use Rattle.syntax_tree.specs.Tree.{conj, atom, atom_of_conj};
 
-    /// Its lone atom.
+    /// Returns the atom if this is a single atom.
     fn as_atom(&self) -> Option<&Atom>
         ensures { option_map atom (option_copied result) ≡ atom_of_conj (conj self.now) }
     {
@@ -178,7 +179,7 @@ impl Neg {
     ghost use Rattle.std.specs.Option.{option_map};
     ghost use Rattle.syntax_tree.specs.Tree.{neg, atom, atom_of_neg};
 
-    /// Its lone atom.
+    /// Returns the atom if this is a single atom.
     fn as_atom(&self) -> Option<&Atom>
         ensures { option_map atom (option_copied result) ≡ atom_of_neg (neg self.now) }
     {
@@ -200,7 +201,7 @@ pub struct Cmp {
     pub right: Option<Compared>,
 }
 
-/// The relation of a comparison and what stands behind it; boxed, since few expressions compare.
+/// The relation of a comparison and its right operand. It is boxed because few expressions compare.
 #[derive(Drop)]
 #[cycle(expr)]
 pub struct Compared {
@@ -208,7 +209,7 @@ pub struct Compared {
     pub right: Box<Sum>,
 }
 
-/// `a + 1 - b`: the first operand and those behind a sign.
+/// `a + 1 - b`: the first operand, and the operands that follow a sign.
 #[derive(Drop)]
 #[cycle(expr)]
 pub struct Sum {
@@ -221,7 +222,7 @@ impl Sum {
     ghost use Rattle.std.specs.Option.{option_map};
     ghost use Rattle.syntax_tree.specs.Tree.{sum, atom, atom_of_sum};
 
-    /// Its lone atom.
+    /// Returns the atom if this is a single atom.
     fn as_atom(&self) -> Option<&Atom>
         ensures { option_map atom (option_copied result) ≡ atom_of_sum (sum self.now) }
     {
@@ -241,7 +242,7 @@ pub struct Term {
     pub operand: Prod,
 }
 
-/// `a * 2 % b`: the first operand and those behind an operator.
+/// `a * 2 % b`: the first operand, and the operands that follow an operator.
 #[derive(Drop)]
 #[cycle(expr)]
 pub struct Prod {
@@ -254,7 +255,7 @@ impl Prod {
     ghost use Rattle.std.specs.Option.{option_map};
     ghost use Rattle.syntax_tree.specs.Tree.{prod, atom, atom_of_prod};
 
-    /// Its lone atom.
+    /// Returns the atom if this is a single atom.
     fn as_atom(&self) -> Option<&Atom>
         ensures { option_map atom (option_copied result) ≡ atom_of_prod (prod self.now) }
     {
@@ -287,7 +288,7 @@ impl Unary {
     ghost use Rattle.std.specs.Option.{option_map};
     ghost use Rattle.syntax_tree.specs.Tree.{unary, atom, atom_of_unary};
 
-    /// Its lone atom.
+    /// Returns the atom if this is a single atom.
     fn as_atom(&self) -> Option<&Atom>
         ensures { option_map atom (option_copied result) ≡ atom_of_unary (unary self.now) }
     {
@@ -299,7 +300,7 @@ impl Unary {
     }
 }
 
-/// What stands in an expression without an operator.
+/// An operand without an operator.
 #[derive(Drop)]
 #[cycle(expr)]
 pub enum Atom {
@@ -319,7 +320,7 @@ pub enum Atom {
     Parens(Box<Expr>),
 }
 
-/// A relation of two numbers.
+/// A relation between two numbers.
 #[derive(Clone, Copy, PartialEq, Eq, Debug)]
 pub enum Relation {
     /// `<`

@@ -1,4 +1,4 @@
--- What a turn makes of the finishes that are open, and of the steps that are left.
+-- How a turn changes the open finishes and the steps that are left.
 use Rattle.std.proofs.Common.{◌≡◌, ℕ, zero, suc, ◌+◌, ◌≤◌, List, [], ◌∷◌, Option, None, Ok, Err, refl, sym, ap}
 use Rattle.std.proofs.Common.{◌∙◌, arith, inl, inr, le_refl}
 use Rattle.std.specs.Prelude.{Bool, true, false, ok_or}
@@ -30,7 +30,7 @@ use Rattle.own_run.proofs.TurnsLeft.{totals_same}
 use Rattle.task_machine.specs.Finishes.{ends_finish, open_finishes}
 use Rattle.types.proofs.Solutions.{primitive_less}
 
--- ---- the same of frames as they are defined
+-- ---- frames as they are defined
 abbrev ends : Frame Own → ℕ
 ends (Rest b) = 0
 ends (Again l t b) = 0
@@ -40,7 +40,7 @@ ends (Back env) = 0
 abbrev opens : List (Frame Own) → ℕ
 opens = total ends
 
--- how many finishes are begun
+-- the number of finishes that are started
 abbrev entered : List Action → ℕ
 entered [] = 0
 entered (EnterFinish ∷ rest) = 1 + entered rest
@@ -74,7 +74,7 @@ entered_by needs (suc n) m (Split s e x y b) st = refl
 entered_by needs zero m (Call f es ss) st = refl
 entered_by needs (suc n) m (Call f es ss) st = refl
 
--- so many finishes are opened, and no step is added
+-- so many finishes are started, and no step is added
 record Adds (n : ℕ) (fs : List (Frame Own)) (st : State Own) (t : Standing Own) : Type 0 where
   steps : t.state.steps ≤ st.steps
   finishes : opens t.frames ≡ opens fs + n
@@ -126,7 +126,7 @@ module _ (p : Program) (needs : Codes → Needs) (close : State Own → Option S
       let a = value_adds l (numbers_at mid es) _ fs mid (λ vs. record { steps = le_refl mid.steps; finishes = omega arith }) in
       record { steps = a.steps; finishes = a.finishes }
 
-  -- a finish that is begun took a step
+  -- starting a finish took a step
   record Counts (done : List Action) (fs : List (Frame Own)) (st : State Own) (t : Standing Own) : Type 0 where
     steps : t.state.steps + entered done ≤ st.steps
     finishes : opens t.frames ≡ opens fs + entered done
@@ -176,7 +176,7 @@ module _ (p : Program) (needs : Codes → Needs) (close : State Own → Option S
   turn_counts n (AtEnd before) fs st = record { steps = omega arith; finishes = omega arith }
   turn_counts n (Back env) fs st = record { steps = omega arith; finishes = omega arith }
 
-  -- quiet turns begin and end no finish
+  -- quiet turns start and end no finish
   record QuietCounts (a t : Standing Own) : Type 0 where
     steps : t.state.steps ≤ a.state.steps
     finishes : opens t.frames ≡ opens a.frames
@@ -197,7 +197,7 @@ module _ (p : Program) (needs : Codes → Needs) (close : State Own → Option S
       let j = h.finishes in
       record { steps = omega (arith, s, e, i); finishes = omega (arith, t, e, j) }
 
--- ---- the same of runs in Rust
+-- ---- runs in Rust
 frame_same : (g : rFrame) (f : Frame Own) → ShowsFrame g f → ends_finish g ≡ ends f
 frame_same (rRest b) f e = ap ends (sym e)
 frame_same (rAgain l t b) f e = ap ends (sym e)
@@ -207,16 +207,16 @@ frame_same (rEndCall env) f e = ap ends (sym e)
 opens_same : (gs : List rFrame) (fs : List (Frame Own)) → Stacked gs fs → open_finishes gs ≡ opens fs
 opens_same = totals_same ends_finish ends frame_same
 
--- a task at its beginning has no finish open
+-- a task at its start has no finish open
 pub none_open : (r : Run) (b : Codes) → Stacked r.frames.items (Rest b ∷ []) → open_finishes r.frames.items ≡ 0
 none_open r b h = let a = opens_same r.frames.items (Rest b ∷ []) h in omega (arith, a)
 
--- behind a finish one less is open than at its end
+-- after a finish one less is open than at its end
 pub open_behind : (gs hs : List rFrame) (fs : List (Frame Own)) → Stacked gs fs → Stacked hs fs → open_finishes gs ≡ open_finishes hs
 open_behind gs hs fs g h = opens_same gs fs g ∙ sym (opens_same hs fs h)
 
 module _ (old : Run) where
-  -- so many finishes were begun, each by a step
+  -- so many finishes were started, each by a step
   pub record Opened (n : ℕ) (r : Run) : Type 0 where
     pub plan : r.plan ≡ old.plan
     pub steps : r.thread.steps + n ≤ old.thread.steps
@@ -257,7 +257,7 @@ module _ (old : Run) where
         let d = opens_same old.frames.items (f ∷ fs) shows in
         record { plan = g.plan; steps = omega (arith, s, b, e, same); finishes = omega (arith, t, c, d, e) }
 
-    -- a run that goes on opens none
+    -- a run that continues starts none
     pub goes_on_opened : (r : Run) (fs : List (Frame Own)) (x : Own) → Shows old fs x → GoesOn needs old r → Opened 0 r
     goes_on_opened r fs x shows far =
         let on = far close fs x shows in
@@ -307,6 +307,6 @@ module _ (old : Run) where
     by_frames t (Again l g b ∷ fs) st same shows h = by_turn t (Again l g b) fs st same shows h
     by_frames t (Back env ∷ fs) st same shows h = by_turn t (Back env) fs st same shows h
 
-    -- a turn changes what is open, and what is left, so
+    -- a turn changes the open finishes and the steps left in this way
     pub changes : (t : Turn) (fs : List (Frame Own)) (x : Own) → Shows old fs x → IsTurn needs old t → Changes t
     changes t fs x shows is = by_frames t fs (with_own x (state_of old.thread)) refl shows.frames (is close fs x shows)

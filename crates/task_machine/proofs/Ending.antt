@@ -1,4 +1,4 @@
--- What comes of the ends of finishes, and of `main`.
+-- What follows at the ends of finishes, and of `main`.
 use Rattle.std.proofs.Common.{◌≡◌, ℕ, List, [], ◌∷◌, ◌++◌, length, refl, sym, ap, ◌∙◌, subst, arith}
 use Rattle.std.proofs.lemmas.List.{length_push}
 use Rattle.std.proofs.lemmas.Option.{same_Some}
@@ -44,11 +44,11 @@ module _ (j : Job) (outer : List Stake) (n : ℕ) (old : Run) (g : GoesBy j oute
   abbrev ended : IsEndOf (program_of j) (lists_of j) (budget_of j) g.may.start made
   ended = stays (program_of j) (lists_of j) (budget_of j) old (Ended made) g.may is
 
-  -- a task that has ended has made its result
+  -- a task that has finished has made its result
   pub is_result : IsResultOf j made
   is_result = record { start = g.may.start; state = ended.0; ended = ended.1; is = ended.2 }
 
-  -- the one that ends with the empty path is the root
+  -- the one that finishes with the empty path is the root
   pub root_ends : made.path.turns.items ≡ [] → EndsMain j made
   root_ends e = record {
     state = ended.0;
@@ -78,7 +78,7 @@ module _ (j : Job) (outer : List Stake) (n : ℕ) (old : Run) (g : GoesBy j oute
           same_Some _ _ (sym task.comes
           ∙ ap (given (program_of j) (needs_of (program_of j)) (budget_of j).steps (root (program_of j) (lists_of j) (budget_of j))) path)
 
--- what the root came to is told as the one-thread outcome
+-- the settled result of the root is reported as the one-thread outcome
 pub main_told : (w : Waiting) (s : Settled) → w.owner ≡ Main → Comes w s → told_of (program_of w.job) (settled s) ≡ outcome_of w.job
 main_told w s at c =
     told (program_of w.job) ok.sound ok.accepted (lists_of w.job) (budget_of w.job) (fits w.job ok) ends.state ends.stands c.results
@@ -103,7 +103,7 @@ module _ (w : Waiting) (s : Settled) (q : Paused) (at : w.owner ≡ Finish q) (c
       comes_back ends.may.state s
       (λ p. c.owned p ∙ ap (λ (r : TaskResult). all_owned r p) ends.may.made)
 
-  -- the run that goes on is of the task that waited
+  -- the run that continues is of the task that waited
   pub goes_on : (r : Run) → r.plan ≡ q.plan → r.thread.nest ≡ q.nest
       → ((fs : List (Frame Own)) (before st : State Own) → Waits q fs before st → ComesBack s st
       → IsAt r (record { frames = fs; state = handed before (settled s) st }))

@@ -1,4 +1,4 @@
--- A task whose run goes on where it lies.
+-- A task whose run continues in place.
 use Rattle.std.proofs.Common.{◌≡◌, ℕ, ◌+◌, Option, Some, refl, sym, ap, subst, ◌∙◌}
 use Rattle.std.proofs.lemmas.Option.{same_Some}
 use Rattle.types.specs.Code.{Codes}
@@ -51,12 +51,12 @@ module _ (b : Body) (d : Done) (h : HasDone b d) where
     pub spawned_may : MayStart (program_of b.job) (lists_of b.job) (budget_of b.job) (start s)
     spawned_may = child_starts b.job b.outer.items b.opened h.run h.goes h.after s is
 
--- ---- what becomes of the task
+-- ---- what the task becomes
 pub by_done : (b : Body) (u : ℕ) (r : Run) (d e : Done) (t : Turn) → d ≡ e
     → Becomes (turning b) u (turn_of r e) t → Becomes (turning b) u (turn_of r d) t
 by_done b u r d e t to h = subst (λ (d : Done). Becomes (turning b) u (turn_of r d) t) (sym to) h
 
--- the run lies where it was
+-- the run is where it was
 with_run : (b : Body) (r : Run) → b.run ≡ Some r → b ≡ record b { run = Some r }
 with_run b r has = ap (λ (o : Option Run). record b { run = o }) has
 
@@ -78,7 +78,7 @@ pub parts_become : (b : Body) (u : ℕ) (s : Start) (r : Run) (t : Turn) → b.r
     → Becomes (turning b) u (RunSpawns r s) t
 parts_become b u s r t has h = parted b u s r t (subst (λ (x : Body). Parts x u s t) (with_run b r has) h)
 
--- ---- where the run went on
+-- ---- if the run continued
 units_stay : (Takes : Run → Run → Type 0) (b new : Body) (u : ℕ) → InPlace Takes b new
     → u + held new.outer.items ≡ u + held b.outer.items
 units_stay Takes b new u went = ap (λ (x : Body). u + held x.outer.items) went.is
@@ -88,7 +88,7 @@ own_run : (Takes : Run → Run → Type 0) (b new : Body) (went : InPlace Takes 
 own_run Takes b new went is =
     subst (GoesBy b.job b.outer.items b.opened) (same_Some _ _ (sym is.has ∙ went.has)) is.goes
 
--- its run is at an end
+-- its run has reached an end
 runs_to_end : (b new : Body) (last after : Run) → new ≡ record b { run = Some after } → GoesBy b.job b.outer.items b.opened last
     → after ≡ last → IsAtEnd last → RunsToEnd new
 runs_to_end b new last after is goes same end = subst RunsToEnd (sym is) (record {
@@ -165,7 +165,7 @@ module _ (b new : Body) (s : RunStep) (went : TurnsInPlace b s new) where
       let stays = subst One to went.takes in
       runs_to_end b new went.run went.after went.is (goes_by is) stays.0 stays.1
 
--- ---- where the run is at an end
+-- ---- if the run has reached an end
 module _ (b : Body) (h : RunsToEnd b) (run : Run) (same : run ≡ h.run) (turn : RunTurn)
     (is : (needs : Codes → Needs) → IsTurn needs run turn) where
   pub its_turn : (t : RunTurn) → turn ≡ t → IsTurn (needs_of (program_of b.job)) h.run t

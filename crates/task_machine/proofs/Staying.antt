@@ -1,4 +1,4 @@
--- Whatever a turn gives is of the job's tasks.
+-- All results of a turn are of the job's tasks.
 use Rattle.std.proofs.Common.{◌≡◌, ℕ, ◌+◌, ◌≤◌, List, [], length, sym, ap, ◌∙◌, subst, arith}
 use Rattle.types.specs.Contents.{FitsArrays}
 use Rattle.types.specs.Run.{State}
@@ -32,7 +32,7 @@ pub fits : (j : Job) → IsJob j → FitsArrays (program_of j).arrays (lists_of 
 fits j ok = ok.fits
 
 module _ (j : Job) where
-  -- a run that stands for the same task, with so many finishes begun
+  -- a run that represents the same task, with so many finishes started
   goes_by : (outer more : List Stake) (n k : ℕ) (old r : Run) → GoesBy j outer n old → Opened old k r
       → MayRun (program_of j) (lists_of j) (budget_of j) r → length more ≡ length outer + k → GoesBy j more (n + k) r
   goes_by outer more n k old r g o may e =
@@ -81,7 +81,7 @@ module _ (j : Job) where
         goes_by outer more n 1 old r g (changed (EntersFinish r) is)
         (stays (program_of j) (lists_of j) (budget_of j) old (EntersFinish r) g.may is).0 e
 
-    -- so there is room to count the finish
+    -- therefore there is room to count the finish
     pub few_opened : (r : Run) → Taken (EntersFinish r) → n + 1 ≤ j.budget.steps
     few_opened r is =
         let a = g.opened in
@@ -102,11 +102,11 @@ module _ (j : Job) where
           opened = omega (arith, a, b);
         }
 
-    -- at its end a task stands in no finish
+    -- a task that has finished is in no finish
     pub none_held : (made : Made) → Taken (Ended made) → length outer ≡ 0
     none_held made is = g.scopes ∙ changed (Ended made) is
 
-  -- ---- turns that go on
+  -- ---- turns that continue
   pub goes_far : (outer : List Stake) (n : ℕ) (old new : Run) → GoesBy j outer n old
       → GoesOn (needs_of (program_of j)) old new → GoesBy j outer n new
   goes_far outer n old new g far =
@@ -126,7 +126,7 @@ module _ (j : Job) where
       next_is_of (program_of j) g.job.sound g.job.accepted (lists_of j) (budget_of j) (fits j g.job) new
       (goes_far outer n old new g far).may
 
-  -- ---- a task at its beginning
+  -- ---- a task at its start
   pub first_goes : (ok : IsJob j) (s : Given) (r : Run) (b : Body) (scope : ScopeMark)
       → MayStart (program_of j) (lists_of j) (budget_of j) s → r.plan.budget ≡ j.budget → program r.plan.program.now ≡ program_of j
       → r.thread.nest ≡ s.nest → IsAt r (begun j.budget.steps s) → IsFirst j r scope b → GoesBy b.job b.outer.items b.opened r

@@ -1,4 +1,4 @@
--- What a turn gives, once the weights are where they go.
+-- The results of a turn, once the weights have moved.
 use Rattle.std.proofs.Common.{◌≡◌, ℕ, ◌+◌, List, [], ◌∷◌, length, refl, sym, ap, subst, ◌∙◌, arith}
 use Rattle.std.proofs.lemmas.List.{length_push}
 use Rattle.std.proofs.lemmas.List.Sums.{sum_by_push}
@@ -27,7 +27,7 @@ use Rattle.task_machine.specs.declared.turn.Turn.TheVariants.{EndsFinish, Ended,
 use Rattle.task_machine.proofs.Ending.{is_result, root_ends}
 use Rattle.task_machine.proofs.Staying.{entering, none_held as none_open}
 
--- a task that began another, and that one
+-- a task that spawned another, and that one
 pub parts_tasks : (b : Body) (u : ℕ) (s : Start) (t : Turn) → Parts b u s t → IsBody b
     → MayStart (program_of b.job) (lists_of b.job) (budget_of b.job) (start s) → AreTasks t
 parts_tasks b u s (Spawns t c) h is may = (
@@ -51,7 +51,7 @@ parts_tasks b u s (EndsFinish e) h is may = absurd h
 parts_tasks b u s (Ended r) h is may = absurd h
 parts_tasks b u s (Over t) h is may = absurd h
 
--- a task that began a finish
+-- a task that started a finish
 pub opens_task : (b : Body) (u : ℕ) (r : Run) (new : Body) → Opens b u r new → (old : Run)
     → GoesBy b.job b.outer.items b.opened old → IsTurn (needs_of (program_of b.job)) old (RunEntersFinish r) → IsBody new
 opens_task b u r new o old g is = record {
@@ -82,18 +82,18 @@ ends_task b u o x e h at =
     (subst (λ (ss : List Stake). IsAtEnd b.job o x ss p.opened) (sym (ap (λ (v : _). v.items) h.outer))
     (subst (λ (n : ℕ). IsAtEnd b.job o x b.outer.items n) (sym h.opened) at))))
 
--- what it holds is what it held
+-- the weight that it holds is unchanged
 pub ends_units : (b : Body) (u : ℕ) (o : Owner) (x : Made) (e : Ending) → IsEndOf b u o x e
     → e.share.weight + held e.parked.value.outer.items ≡ u + held b.outer.items
 ends_units b u o x e h =
     ap (λ (n : ℕ). n + held e.parked.value.outer.items) h.weight ∙ ap (λ (v : _). u + held v.items) h.outer
 
--- where no finish is open there is no weight beside that of the innermost scope
+-- if no finish is open, its only weight is that in the innermost scope
 pub none_held : (stakes : List Stake) → length stakes ≡ 0 → held stakes ≡ 0
 none_held [] e = refl
 none_held (s ∷ stakes) e = absurd (omega (arith, e))
 
--- a task at its end
+-- a task that has finished
 module _ (b : Body) (u : ℕ) (x : Made) (run : Run) (g : GoesBy b.job b.outer.items b.opened run)
     (is : IsTurn (needs_of (program_of b.job)) run (RunEnded x)) where
   pub ended_tasks : (t : Turn) → Becomes b u (RunEnded x) t → AreTasks t

@@ -1,4 +1,4 @@
--- Tasks at the ends of finishes, and what comes of these.
+-- Tasks at the ends of finishes, and how they continue.
 use Rattle.std.specs.Prelude.{ℕ, ◌≡◌, ◌+◌, ◌≤◌, length, List, [], ◌∷◌, ◌++◌, Some}
 use Rattle.sections.specs.Place.{Place}
 use Rattle.types.specs.Run.{State}
@@ -27,15 +27,15 @@ use Rattle.task_machine.specs.declared.finish.Waiting.{Waiting}
 use Rattle.task_machine.specs.declared.stake.Stake.{Stake}
 use Rattle.task_machine.specs.declared.task.Task.{Task}
 
--- the root is at the end of `main`, with what it has made
+-- the root is at the end of `main`, with its result
 pub record EndsMain (j : Job) (made : Made) : Type 0 where
   pub state : State Own
   pub stands : MayStand (program_of j) (lists_of j) (budget_of j)
       (root (program_of j) (lists_of j) (budget_of j)) (record { frames = []; state = state })
   pub is : task_result made ≡ result_of state
 
--- a task of the job's is at the end of a finish, with what it has made since that began; it holds a
--- weight in the scope that it was begun in, and in each finish that is open around
+-- a task of the job is at the end of a finish, with the result of what it has done since that started; it
+-- holds a weight in the scope that it was started in, and in each surrounding open finish
 pub record EndsFinish (j : Job) (q : Paused) (made : Made) (outer : List Stake)
     (count : ℕ) : Type 0 where
   pub may : MayWait (program_of j) (lists_of j) (budget_of j) q made
@@ -43,7 +43,7 @@ pub record EndsFinish (j : Job) (q : Paused) (made : Made) (outer : List Stake)
   pub scopes : length outer ≡ open_finishes q.frames.items + 1
   pub opened : count + q.steps ≤ j.budget.steps
 
--- the one or the other
+-- either of the two
 abbrev pub EndsSo : Job → Owner → Made → List Stake → (count : ℕ) → Type 0
 EndsSo j Main made outer count = EndsMain j made
 EndsSo j (Finish q) made outer count = EndsFinish j q made outer count
@@ -51,7 +51,7 @@ EndsSo j (Finish q) made outer count = EndsFinish j q made outer count
 abbrev pub IsAtEnd : Job → Owner → Made → List Stake → (count : ℕ) → Type 0
 IsAtEnd j o made outer count = IsJob j × EndsSo j o made outer count
 
--- a task that is parked at the end of a finish, or of `main`, is its job's
+-- a task that is parked at the end of a finish, or of `main`, is of its job
 abbrev pub IsParked : Parked → Type 0
 IsParked p = IsAtEnd p.job p.owner p.made p.outer.items p.opened
 
@@ -63,7 +63,7 @@ IsAtFinish w = (q : Paused) × (w.owner ≡ Finish q)
 abbrev pub IsAtMain : Waiting → Type 0
 IsAtMain w = w.owner ≡ Main
 
--- this is what came of what it had made, with results of tasks of its job
+-- its own result settled to this, with results of tasks of its job
 pub record Comes (w : Waiting) (s : Settled) : Type 0 where
   pub made : Made
   pub waits : IsAtEnd w.job w.owner made w.outer.items w.opened
@@ -72,7 +72,7 @@ pub record Comes (w : Waiting) (s : Settled) : Type 0 where
   pub settles : Some (settled s) ≡ settle (task_result made) results
   pub owned : (q : Place) → owned_by s.holdings q ≡ all_owned (task_result made) q
 
--- a task goes on behind the finish, in the scope around it, with its weight there
+-- a task continues after the finish, in the surrounding scope, with its weight there
 pub record GoesBehind (w : Waiting) (s : Settled) (t : Task) : Type 0 where
   pub paused : Paused
   pub run : Run

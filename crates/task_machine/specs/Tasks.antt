@@ -1,4 +1,4 @@
--- What is true of tasks: they are of their job, with a weight in each scope in which they stand.
+-- Invariants of tasks: they are of their job, with a weight in each scope that they belong to.
 use Rattle.std.specs.Prelude.{ℕ, ◌≡◌, ◌+◌, ◌≤◌, List, length, [], Some}
 use Rattle.own_run.specs.MayRun.{MayRun, MayStart}
 use Rattle.own_run.specs.Reached.{begun}
@@ -16,8 +16,8 @@ use Rattle.task_machine.specs.declared.task.Body.{Body}
 use Rattle.task_machine.specs.declared.task.Child.{Child}
 use Rattle.task_machine.specs.declared.task.Task.{Task}
 
--- a task goes by a run of its job's; beside its innermost scope it holds a weight in one more for
--- each finish that is open, and each finish that it began took a step
+-- a task follows a run of its job; apart from its innermost scope it holds a weight in one more scope for
+-- each open finish, and each finish that it started took a step
 pub record GoesBy (j : Job) (outer : List Stake) (count : ℕ) (r : Run) : Type 0 where
   pub job : IsJob j
   pub may : MayRun (program_of j) (lists_of j) (budget_of j) r
@@ -25,7 +25,7 @@ pub record GoesBy (j : Job) (outer : List Stake) (count : ℕ) (r : Run) : Type 
   pub scopes : length outer ≡ open_finishes r.frames.items
   pub opened : count + r.thread.steps ≤ j.budget.steps
 
--- it is between two turns
+-- a body between two turns
 pub record IsBody (b : Body) : Type 0 where
   pub run : Run
   pub has : b.run ≡ Some run
@@ -34,12 +34,12 @@ pub record IsBody (b : Body) : Type 0 where
 abbrev pub IsTask : Task → Type 0
 IsTask t = IsBody t.body.value
 
--- a task that was begun is one of its job's
+-- a spawned task is one of its job
 pub record IsChild (c : Child) : Type 0 where
   pub job : IsJob c.job
   pub may : MayStart (program_of c.job) (lists_of c.job) (budget_of c.job) (start c.start.value)
 
--- a result is that of one of the job's tasks
+-- a result is that of a task of the job
 abbrev pub IsResultOf : Job → Made → Type 0
 IsResultOf j made = IsTaskResult (program_of j) (lists_of j) (budget_of j) (task_result made)
 
@@ -51,7 +51,7 @@ pub record IsFirst (j : Job) (r : Run) (at : ScopeMark) (b : Body) : Type 0 wher
   pub outer : b.outer.items ≡ []
   pub opened : b.opened ≡ 0
 
--- the root at its beginning
+-- the root at its start
 pub record IsRootBody (j : Job) (b : Body) : Type 0 where
   pub run : Run
   pub first : IsFirst j run (record { depth = 0; number = 0 }) b
@@ -62,7 +62,7 @@ pub record IsRootBody (j : Job) (b : Body) : Type 0 where
 abbrev pub IsRoot : Job → Task → Type 0
 IsRoot j t = IsRootBody j t.body.value
 
--- a child at its beginning, with its weight
+-- a child at its start, with its weight
 pub record IsBegun (c : Child) (t : Task) : Type 0 where
   pub run : Run
   pub first : IsFirst c.job run c.scope t.body.value

@@ -1,4 +1,4 @@
--- The turns of tasks: those of their runs, with the weights that go with them.
+-- The turns of tasks: turns of their runs, with the weights moved accordingly.
 use Rattle.std.specs.Prelude.{ℕ, ◌≡◌, ◌≢◌, ◌+◌, ◌/◌, ◌≤◌, [], ◌∷◌, ◌++◌, length, Some, None}
 use Rattle.effects.specs.Rounds.{needs_of}
 use Rattle.own_run.specs.MayRun.{MayStart}
@@ -31,12 +31,12 @@ use Rattle.task_machine.specs.declared.turn.Turn.TheVariants.{Going, Spawns, Wan
 use Rattle.task_machine.specs.declared.turn.Turn.TheVariants.{EndsFinish, Ended, Over}
 use Rattle.task_machine.specs.declared.turn.Wanting.{Wanting}
 
--- a task keeps its scopes and what it holds there
+-- a task keeps its scopes and its weights there
 pub record Keeps (b : Body) (units : ℕ) (r : Run) (t : Task) : Type 0 where
   pub body : t.body.value ≡ record b { run = Some r }
   pub weight : t.share.weight ≡ units
 
--- a task that holds this much begins another: that has half of it, rounded down, and stands in the
+-- a task that holds this much spawns another: the child has half of it, rounded down, and belongs to the
 -- same scope
 pub record Divides (b : Body) (units : ℕ) (s : Start) (t : Task) (c : Child) : Type 0 where
   pub enough : 2 ≤ units
@@ -47,20 +47,20 @@ pub record Divides (b : Body) (units : ℕ) (s : Start) (t : Task) (c : Child) :
   pub start : c.start.value ≡ s
   pub scope : c.scope ≡ b.scope
 
--- it holds 1, and has begun another
+-- it holds 1, and has spawned a child
 pub record Wants (b : Body) (units : ℕ) (s : Start) (w : Wanting) : Type 0 where
   pub one : units ≡ 1
   pub body : w.body.value ≡ b
   pub weight : w.share.weight ≡ 1
   pub start : w.start.value ≡ s
 
--- the one or the other
+-- either of the two
 abbrev pub Parts : Body → (units : ℕ) → Start → Turn → Type 0
 Parts b units s (Spawns t c) = Divides b units s t c
 Parts b units s (WantsWeight w) = Wants b units s w
 Parts b units s _ = ⊥
 
--- it stands in the scope of one more finish, and keeps what it holds in the others
+-- it belongs to the scope of one more finish, and keeps its weights in the others
 pub record Opens (b : Body) (units : ℕ) (r : Run) (new : Body) : Type 0 where
   pub run : new.run ≡ Some r
   pub job : new.job ≡ b.job
@@ -72,7 +72,7 @@ pub record Opens (b : Body) (units : ℕ) (r : Run) (new : Body) : Type 0 where
   pub scope : stake.scope ≡ b.scope
   pub weight : stake.share.weight ≡ units
 
--- it is at an end, with all that it holds
+-- it is at an end, with all its weights
 pub record IsEndOf (b : Body) (units : ℕ) (o : Owner) (x : Made) (e : Ending) : Type 0 where
   pub job : e.parked.value.job ≡ b.job
   pub owner : e.parked.value.owner ≡ o
@@ -82,7 +82,7 @@ pub record IsEndOf (b : Body) (units : ℕ) (o : Owner) (x : Made) (e : Ending) 
   pub opened : e.parked.value.opened ≡ b.opened
   pub weight : e.share.weight ≡ units
 
--- it has ended, and isn't the root
+-- it has finished, and isn't the root
 pub record EndsWith (b : Body) (units : ℕ) (x : Made) (r : TaskResult) : Type 0 where
   pub below : x.path.turns.items ≢ []
   pub job : r.job ≡ b.job
@@ -107,7 +107,7 @@ Becomes b units _ _ = ⊥
 abbrev pub turning : Body → Body
 turning b = record b { run = None }
 
--- the run of a task becomes another where it lies, and all else stays
+-- the run of a task becomes another in place, and all else is unchanged
 pub record InPlace (Takes : (old new : Run) → Type 0) (old new : Body) : Type 0 where
   pub run : Run
   pub has : old.run ≡ Some run
@@ -132,14 +132,14 @@ pub record HasDone (b : Body) (d : Done) : Type 0 where
   pub has : b.run ≡ Some after
   pub turn : IsTurn (needs_of (program_of b.job)) run (turn_of after d)
 
--- it is at the end of a finish, or at its own
+-- it is at the end of a finish, or has finished
 pub record RunsToEnd (b : Body) : Type 0 where
   pub run : Run
   pub has : b.run ≡ Some run
   pub goes : GoesBy b.job b.outer.items b.opened run
   pub end : IsRunAtEnd run
 
--- that end is its turn, and this became of the task
+-- that end is its turn, and the task became this
 pub record EndsBy (b : Body) (units : ℕ) (new : Turn) : Type 0 where
   pub run : Run
   pub has : b.run ≡ Some run
@@ -148,7 +148,7 @@ pub record EndsBy (b : Body) (units : ℕ) (new : Turn) : Type 0 where
   pub ending : IsEnding turn
   pub becomes : Becomes (turning b) units turn new
 
--- the run of a task came so to a turn, and this became of the task, whose run was taken out
+-- the run of a task came to a turn in this way, and the task, whose run was taken out, became this
 pub record TakesSo (Comes : Run → RunTurn → Type 0) (old : Task) (new : Turn) : Type 0 where
   pub run : Run
   pub has : old.body.value.run ≡ Some run
@@ -156,20 +156,20 @@ pub record TakesSo (Comes : Run → RunTurn → Type 0) (old : Task) (new : Turn
   pub goes : Comes run turn
   pub becomes : Becomes (record old.body.value { run = None }) old.share.weight turn new
 
--- it went on up to the turn
+-- it continued up to the turn
 abbrev pub TakesTurn : (old : Task) → (new : Turn) → Type 0
 TakesTurn old new = TakesSo (GoesUpTo (needs_of (program_of old.body.value.job))) old new
 
--- it took that turn alone
+-- it took only that turn
 abbrev pub TakesOneTurn : (old : Task) → (new : Turn) → Type 0
 TakesOneTurn old new = TakesSo (IsTurn (needs_of (program_of old.body.value.job))) old new
 
--- a task wants weight for one that it began, and that starts so
+-- a task needs weight for a child that it spawned, and that has this start
 pub record IsWanting (b : Body) (s : Start) : Type 0 where
   pub body : IsBody b
   pub may : MayStart (program_of b.job) (lists_of b.job) (budget_of b.job) (start s)
 
--- what a turn gives is of the job's tasks
+-- the results of a turn are of the job's tasks
 abbrev pub AreTasks : Turn → Type 0
 AreTasks (Going t) = IsTask t
 AreTasks (Spawns t c) = IsTask t × IsChild c

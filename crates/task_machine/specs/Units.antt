@@ -1,4 +1,4 @@
--- How much weight is held.
+-- The amount of weight that is held.
 use Rattle.std.specs.Prelude.{ℕ, ◌+◌, List, sum_by}
 use Rattle.task_machine.specs.declared.stake.Stake.{Stake}
 use Rattle.task_machine.specs.declared.task.Task.{Task}
@@ -14,7 +14,7 @@ held stakes = sum_by (λ s. s.share.weight) stakes
 abbrev pub units_of : Task → ℕ
 units_of t = t.share.weight + held t.body.value.outer.items
 
--- by all that a turn gives
+-- by all results of a turn
 abbrev pub units_after : Turn → ℕ
 units_after (Going t) = units_of t
 units_after (Spawns t c) = units_of t + c.share.weight

@@ -22,8 +22,8 @@ use program_code::pieces::ProgramCode;
 use std::alloc::AllocError;
 
 impl<'p> Task<'p> {
-    /// Turns on, as long as nobody else sees it; gives the first turn that is more. It goes by the
-    /// program's flat code where it may.
+    /// Takes turns as long as nobody else sees them. Returns the first turn that is more. Uses the
+    /// program's flat code where it can.
     pub fn go(self, code: &ProgramCode<'p>) -> Result<Turn<'p>, AllocError>
         requires task { IsTask self }
         requires code { IsCodeOfProgram (program_of self.body.value.job) code.now }
@@ -38,7 +38,7 @@ impl<'p> Task<'p> {
         }
     }
 
-    /// One turn.
+    /// Takes one turn.
     pub fn advance(self) -> Result<Turn<'p>, AllocError>
         requires task { IsTask self }
         ensures turn { IfOk result (TakesOneTurn self.entry) }
@@ -54,7 +54,7 @@ impl<'p> Task<'p> {
 }
 
 impl<'p> Body<'p> {
-    /// Its run turns on where it lies.
+    /// Runs on in place, as far as nobody else sees it.
     fn go(&mut self, code: &ProgramCode<'p>) -> Result<Step<'p>, AllocError>
         requires body { IsBody self.old }
         requires code { IsCodeOfProgram (program_of self.old.job) code.now }
@@ -70,7 +70,7 @@ impl<'p> Body<'p> {
         }
     }
 
-    /// Its run takes one turn where it lies.
+    /// Takes one turn of its run in place.
     fn advance(&mut self) -> Result<Step<'p>, AllocError>
         requires { IsBody self.old }
         ensures { IfOk result (λ s. TurnsInPlace self.old s self.new) }
@@ -86,7 +86,7 @@ impl<'p> Body<'p> {
     }
 }
 
-/// What a turn of its run makes of a task that goes on.
+/// Returns what a turn of its run makes of a task that continues.
 fn did<'p>(body: Box<Body<'p>>, share: Share, done: Done<'p>) -> Result<Turn<'p>, AllocError>
     requires done { HasDone body.value done }
     ensures becomes { IfOk result (λ t. (r : AnyRun) → body.entry.value.run ≡ Some r
@@ -103,7 +103,8 @@ fn did<'p>(body: Box<Body<'p>>, share: Share, done: Done<'p>) -> Result<Turn<'p>
     }
 }
 
-/// A task that began another gives it half of what it holds; at 1 it wants more first.
+/// Gives half of the task's weight to the child that it spawned. At a weight of 1 the task needs
+/// more first.
 fn spawned<'p>(body: Box<Body<'p>>, share: Share, start: Box<Start<'p>>) -> Turn<'p>
     ensures { Parts body.entry.value share.weight start.entry.value result }
 {
@@ -121,7 +122,7 @@ fn spawned<'p>(body: Box<Body<'p>>, share: Share, start: Box<Start<'p>>) -> Turn
     }
 }
 
-/// A task that began a finish: it stands in one more scope.
+/// Adds a scope to a task that started a finish.
 fn entered<'p>(body: Box<Body<'p>>, share: Share) -> Result<Entering<'p>, AllocError>
     requires run { (r : AnyRun) × (body.value.run ≡ Some r) }
     requires few { body.value.opened < 4294967295 }
@@ -141,7 +142,7 @@ fn entered<'p>(body: Box<Body<'p>>, share: Share) -> Result<Entering<'p>, AllocE
     Ok(Entering { body })
 }
 
-/// What becomes of a task whose run is at the end of a finish, or at its own.
+/// Returns the turn of a task whose run is at the end of a finish, or has finished.
 fn at_end<'p>(body: Box<Body<'p>>, share: Share) -> Result<Turn<'p>, AllocError>
     requires end { RunsToEnd body.value }
     ensures ends { IfOk result (EndsBy body.entry.value share.weight) }
@@ -165,7 +166,7 @@ fn at_end<'p>(body: Box<Body<'p>>, share: Share) -> Result<Turn<'p>, AllocError>
     }
 }
 
-/// A task at the end of a finish, or of `main`.
+/// Returns a task at the end of a finish, or of `main`.
 #[inline(never)]
 fn ending<'p>(
     body: Box<Body<'p>>,
@@ -196,7 +197,7 @@ fn ending<'p>(
     })
 }
 
-/// A task at its end: the root is at that of `main`.
+/// Returns the turn of a task that has finished. The root is at the end of `main`.
 fn ended<'p>(body: Box<Body<'p>>, share: Share, made: RunResult) -> Result<Turn<'p>, AllocError>
     ensures { IfOk result (Becomes body.entry.value share.weight (Ended made)) }
 {

@@ -1,4 +1,4 @@
-//! Tasks at the beginnings and the ends of finishes.
+//! Tasks at the starts and ends of finishes.
 
 ghost use Rattle.std.specs.Prelude.{◌≡◌, IfOk};
 ghost use Rattle.types.specs.Translation.{outcome as outcome_in};
@@ -18,13 +18,13 @@ use types::outcome::Outcome;
 use types::path::Path;
 use weights::weight::Weight;
 
-/// A task that began a finish, and has no weight of its scope yet.
+/// A task that started a finish, and has no weight of its scope yet.
 #[derive(Drop)]
 pub struct Entering<'p> {
     pub body: Box<Body<'p>>,
 }
 
-/// Who waits until all tasks of a scope have ended.
+/// The owner that waits until all tasks of a scope have finished.
 #[derive(Drop)]
 pub enum Owner<'p> {
     /// The root, at the end of `main`.
@@ -33,8 +33,8 @@ pub enum Owner<'p> {
     Finish(RunPaused<'p>),
 }
 
-/// A task at the end of a finish, or of `main`, with its weight in that scope. What it is lies in a box,
-/// so that a turn is small, and so is whatever it is parked in.
+/// A task at the end of a finish, or of `main`, with its weight in that scope. The rest of it is in
+/// a box, to keep turns and the type that it is parked in small.
 #[derive(Drop)]
 pub struct Ending<'p> {
     pub parked: Box<Parked<'p>>,
@@ -47,13 +47,13 @@ pub struct Ending<'p> {
 pub struct Parked<'p> {
     pub job: Job<'p>,
     pub owner: Owner<'p>,
-    /// What it has made since the finish began.
+    /// The result of what it has done since the finish started.
     pub made: RunResult,
     pub outer: Vec<Stake>,
     pub opened: u32,
 }
 
-/// A task that waits for what its scope comes to.
+/// A task that waits for the settled results of its scope.
 #[derive(Drop)]
 pub struct Waiting<'p> {
     pub job: Job<'p>,
@@ -63,7 +63,7 @@ pub struct Waiting<'p> {
 }
 
 impl<'p> Entering<'p> {
-    /// The task, with the weight that the scope issued.
+    /// Returns the task, with the weight that the scope issued.
     pub fn enter(self, weight: Weight) -> Task<'p>
         ensures body { result.body ≡ self.entry.body }
         ensures weight { result.share.weight ≡ weight }
@@ -76,7 +76,7 @@ impl<'p> Entering<'p> {
 }
 
 impl<'p> Ending<'p> {
-    /// Its weight in the scope, which goes back, and the task that is to be parked there.
+    /// Returns its weight in the scope, which goes back, and the task to be parked there.
     pub fn set_down(self) -> (Weight, Box<Parked<'p>>)
         ensures weight { result.0 ≡ self.entry.share.weight }
         ensures parked { result.1 ≡ self.entry.parked }
@@ -87,14 +87,14 @@ impl<'p> Ending<'p> {
 }
 
 impl<'p> Parked<'p> {
-    /// Whose it is.
+    /// Returns its path.
     pub fn path(&self) -> &Path
         ensures { result.now ≡ self.now.made.path }
     {
         &self.made.path
     }
 
-    /// The task, and what is to be settled with the results of the scope.
+    /// Returns the task, and the result that is to be settled with the results of the scope.
     pub fn open(parked: Box<Parked<'p>>) -> (Waiting<'p>, RunResult)
         ensures made { result.1 ≡ parked.entry.value.made }
         ensures job { result.0.job ≡ parked.entry.value.job }
@@ -120,7 +120,7 @@ impl<'p> Parked<'p> {
 }
 
 impl<'p> Waiting<'p> {
-    /// Goes on behind the finish, with what came of it.
+    /// Continues after the finish, with the settled results.
     pub fn go_on(self, settled: Settled) -> Result<Task<'p>, AllocError>
         requires finish { IsAtFinish self }
         requires comes { Comes self settled }
@@ -154,7 +154,7 @@ impl<'p> Waiting<'p> {
         })
     }
 
-    /// What the run came to: the root goes no further.
+    /// Returns the outcome of the run. The root doesn't continue.
     pub fn outcome(self, settled: Settled) -> Result<Outcome, AllocError>
         requires main { IsAtMain self }
         requires comes { Comes self settled }

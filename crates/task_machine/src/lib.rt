@@ -1,7 +1,7 @@
 //! Tasks with their weights.
 //!
-//! A task is a run that has a weight in each scope in which it stands. A turn of it is a turn of
-//! its run, and the weights go with it.
+//! A task is a run that has a weight in each scope that it belongs to. One turn of a task is one
+//! turn of its run, and moves the weights accordingly.
 
 #![tactic(auto)]
 

@@ -1,4 +1,4 @@
-//! What a run came to.
+//! The outcome of a run.
 
 ghost use Rattle.std.specs.Prelude.{◌≡◌, IfOk};
 ghost use Rattle.types.specs.Translation.{outcome as outcome_of};
@@ -12,7 +12,7 @@ use own_run::result::Settled;
 use std::alloc::AllocError;
 use types::outcome::Outcome;
 
-/// What is told of a run of the job in which all this has come.
+/// Returns the outcome of a run of the job whose results settled to this.
 pub fn outcome(job: Job<'_>, settled: Settled) -> Result<Outcome, AllocError>
     ensures told { IfOk result (λ o. outcome_of o
         ≡ told_of (code_of job.entry.accepted.now.typed) (settled_of settled)) }

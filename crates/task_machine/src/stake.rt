@@ -1,24 +1,24 @@
-//! What a task holds in a scope.
+//! Weights that a task holds in scopes.
 
 ghost use Rattle.std.specs.Prelude.{◌≡◌, ◌+◌, ◌/◌, ◌≤◌, IfErr, IfOk};
 
 use weights::weight::Weight;
 
-/// A scope, told by a task that stands in it: its owner is that task or one above it.
+/// A scope, identified relative to a task in it: its owner is that task or one above it.
 #[derive(Clone, Copy, PartialEq, Eq, Debug)]
 pub struct ScopeMark {
-    /// How many of the task's turns from the root down are its owner's path.
+    /// The number of the task's turns, from the root down, that make up its owner's path.
     pub depth: usize,
-    /// 0 is the root scope; the finishes of a task count from 1.
+    /// 0 is the root scope; the finishes of a task are numbered from 1.
     pub number: u32,
 }
 
-/// A weight that is forfeited where it is let go.
+/// A weight that is forfeited if it is dropped.
 pub struct Share {
     pub weight: Weight,
 }
 
-/// What a task holds in a scope.
+/// A weight that a task holds in a scope.
 #[derive(Drop)]
 pub struct Stake {
     pub scope: ScopeMark,
@@ -26,7 +26,7 @@ pub struct Stake {
 }
 
 impl Share {
-    /// The weight, to be given back.
+    /// Returns the weight, to be given back.
     pub fn into_weight(self) -> Weight
         ensures { result ≡ self.weight }
     {
@@ -34,7 +34,8 @@ impl Share {
         weight
     }
 
-    /// A child's half, rounded down, and the rest. A weight of 1 can't be divided, and comes back.
+    /// Returns a child's half, rounded down, and the rest. A weight of 1 can't be divided: it is
+    /// returned as the error.
     pub fn divide(self) -> Result<(Share, Share), Share>
         ensures ok { IfOk result (λ p. (2 ≤ self.weight) × (p.0.weight ≡ self.weight / 2)
             × (p.0.weight + p.1.weight ≡ self.weight)) }

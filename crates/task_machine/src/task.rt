@@ -1,4 +1,4 @@
-//! Tasks, and those that they begin.
+//! Tasks, and the children that they spawn.
 
 ghost use Rattle.std.specs.Prelude.{◌≡◌, IfErr, IfOk, IfSome};
 ghost use Rattle.gather.specs.Jobs.{IsJob};
@@ -12,42 +12,42 @@ use std::alloc::AllocError;
 use types::path::Path;
 use weights::weight::Weight;
 
-/// A task: a run, with a weight in each scope in which it stands.
+/// A task: a run, with a weight in each scope that it belongs to.
 #[derive(Drop)]
 pub struct Task<'p> {
     pub body: Box<Body<'p>>,
-    /// What it holds in its innermost scope.
+    /// The weight in its innermost scope.
     pub share: Share,
 }
 
-/// What a task is, but for its weight in its innermost scope.
+/// A task without its weight in its innermost scope.
 #[derive(Drop)]
 pub struct Body<'p> {
     pub job: Job<'p>,
-    /// None once it is at an end.
+    /// None once it has reached an end.
     pub run: Option<Run<'p>>,
 
-    // The scopes in which it stands.
+    // The scopes that it belongs to.
     /// The innermost.
     pub scope: ScopeMark,
-    /// What it holds in the others, the innermost last.
+    /// The weights in the others, the innermost last.
     pub outer: Vec<Stake>,
-    /// How many finishes it has begun.
+    /// The number of finishes that it has started.
     pub opened: u32,
 }
 
-/// A task that was begun and has had no turn.
+/// A task that was spawned and has taken no turn.
 #[derive(Drop)]
 pub struct Child<'p> {
     pub job: Job<'p>,
     pub start: Box<Start<'p>>,
-    /// The scope that it was begun in.
+    /// The scope that it was started in.
     pub scope: ScopeMark,
     pub share: Share,
 }
 
 impl<'p> Task<'p> {
-    /// The root at its beginning, with its weight in the root scope.
+    /// Returns the root at its start, with its weight in the root scope.
     pub fn root(job: Job<'p>, weight: Weight) -> Result<Task<'p>, Weight>
         requires job { IsJob job }
         ensures task { IfOk result (IsRoot job.entry) }
@@ -63,7 +63,7 @@ impl<'p> Task<'p> {
         }
     }
 
-    /// Whose it is.
+    /// Returns its path.
     pub fn path(&self) -> &Path
         requires task { IsTask self.now }
         ensures { IfSome self.now.body.value.run (λ r. result.now ≡ r.thread.path) }
@@ -74,7 +74,7 @@ impl<'p> Task<'p> {
         &run.thread.path
     }
 
-    /// How many steps it may still do.
+    /// Returns the number of steps that it may still take.
     pub fn steps(&self) -> u32
         requires task { IsTask self.now }
         ensures { IfSome self.now.body.value.run (λ r. result ≡ r.thread.steps) }
@@ -87,7 +87,7 @@ impl<'p> Task<'p> {
 }
 
 impl<'p> Child<'p> {
-    /// The task, before its first turn.
+    /// Returns the task, before its first turn.
     pub fn begin(self) -> Result<Task<'p>, AllocError>
         requires child { IsChild self }
         ensures task { IfOk result (IsBegun self.entry) }
@@ -104,7 +104,7 @@ impl<'p> Child<'p> {
     }
 }
 
-/// The root's body.
+/// Returns the root's body.
 fn root_body<'p>(job: Job<'p>) -> Result<Box<Body<'p>>, AllocError>
     requires { IsJob job }
     ensures { IfOk result (λ b. IsRootBody job.entry b.value) }
@@ -117,7 +117,7 @@ fn root_body<'p>(job: Job<'p>) -> Result<Box<Body<'p>>, AllocError>
     first_body(job, run, scope)
 }
 
-/// A task that has begun no finish.
+/// Returns the body of a task that has started no finish.
 fn first_body<'p>(job: Job<'p>, run: Run<'p>, scope: ScopeMark) -> Result<Box<Body<'p>>, AllocError>
     ensures { IfOk result (λ b. IsFirst job.entry run.entry scope b.value) }
 {

@@ -1,4 +1,4 @@
-//! What a turn of a task gives.
+//! Results of a turn of a task.
 
 ghost use Rattle.std.specs.Prelude.{◌≡◌, ◌≤◌};
 ghost use Rattle.task_machine.specs.Turns.{Parts};
@@ -12,42 +12,42 @@ use own_run::result::TaskResult as RunResult;
 use own_run::start::Start;
 use weights::weight::Weight;
 
-/// What a task did, and where it stands after it. Each state of a task is a type of its own.
+/// What a task did, and its state after it. Each state of a task is a separate type.
 #[derive(Drop)]
 pub enum Turn<'p> {
-    /// It took a step, or none where a block was at its end or was left out.
+    /// It took a step, or none if a block was at its end or was skipped.
     Going(Task<'p>),
-    /// It began a task, which has half of its weight.
+    /// It spawned a task, which has half of its weight.
     Spawns(Task<'p>, Child<'p>),
-    /// It began a task, and has a weight of 1: the scope is to issue more.
+    /// It spawned a task, and has a weight of 1: the scope must issue more.
     WantsWeight(Wanting<'p>),
-    /// It began a finish, and wants a weight of its scope.
+    /// It started a finish, and needs a weight of its scope.
     EntersFinish(Entering<'p>),
-    /// It is at the end of a finish; the root also at that of `main`.
+    /// It is at the end of a finish; or it is the root, at the end of `main`.
     EndsFinish(Ending<'p>),
-    /// It has ended, with what it has made.
+    /// It has finished, with this result.
     Ended(TaskResult<'p>),
-    /// It went over its budget, and is stopped.
+    /// It is over its budget, and is stopped.
     Over(Task<'p>),
 }
 
-/// A task that has too little weight for the one that it began.
+/// A task that has too little weight for the child that it spawned.
 #[derive(Drop)]
 pub struct Wanting<'p> {
     pub body: Box<Body<'p>>,
-    /// What the task that it began starts with.
+    /// The start of the child.
     pub start: Box<Start<'p>>,
     pub share: Share,
 }
 
-/// The same while its weight is with the scope.
+/// The same task while its weight is with the scope.
 #[derive(Drop)]
 pub struct Paused<'p> {
     pub body: Box<Body<'p>>,
     pub start: Box<Start<'p>>,
 }
 
-/// What a task has made, with its weight in the scope that it was begun in.
+/// The result of a task, with its weight in the scope that it was started in.
 #[derive(Drop)]
 pub struct TaskResult<'p> {
     pub job: Job<'p>,
@@ -57,7 +57,7 @@ pub struct TaskResult<'p> {
 }
 
 impl<'p> Wanting<'p> {
-    /// Its weight, to which the scope adds.
+    /// Returns its weight, to which the scope adds, and the rest of the task.
     pub fn take_weight(self) -> (Weight, Paused<'p>)
         ensures weight { result.0 ≡ self.entry.share.weight }
         ensures body { result.1.body ≡ self.entry.body }
@@ -69,7 +69,7 @@ impl<'p> Wanting<'p> {
 }
 
 impl<'p> Paused<'p> {
-    /// The task with more weight, and the one that it began with half of it.
+    /// Returns the task with more weight, and its child with half of that.
     pub fn with_weight(self, weight: Weight) -> (Task<'p>, Child<'p>)
         requires enough { 2 ≤ weight }
         ensures parts { Parts self.entry.body.value weight self.entry.start.value
@@ -91,7 +91,7 @@ impl<'p> Paused<'p> {
 }
 
 impl<'p> TaskResult<'p> {
-    /// The weight that goes back to its scope, and the result.
+    /// Returns the weight that goes back to its scope, and the result.
     pub fn take_weight(self) -> (Weight, RunResult)
         ensures weight { result.0 ≡ self.entry.share.weight }
         ensures made { result.1 ≡ self.entry.made }

@@ -8,7 +8,7 @@ use Rattle.atomic_table.proofs.Lists.{at_set, at_snoc}
 use Rattle.tickets.specs.declared.rule.Share.{Share}
 use Rattle.tickets.specs.Shares.{share, times, one_below, IsWithinDraws}
 
--- a share changes, and the sum with it
+-- if a share changes, the sum changes with it
 pub sum_by-set_share : (f : Share → ℕ) (shares : List Share) (i : ℕ) (v w : Share) → get_elem? shares i ≡ some v
     → sum_by f (set shares i w) + f v ≡ sum_by f shares + f w
 sum_by-set_share f [] i v w e = absurd (some-ne-none v (sym e))
@@ -18,7 +18,7 @@ sum_by-set_share f (u ∷ us) zero v w e =
 sum_by-set_share f (u ∷ us) (suc i) v w e =
     omega (arith, sum_by-set_share f us i v w e, sum_by-cons f u us, sum_by-cons f u (set us i w))
 
--- below n + 1 stand the numbers below n, and n
+-- the numbers below n + 1 are the numbers below n, and n
 pub one_below-suc : (x n : ℕ) → one_below x (n + 1) ≡ one_below x n + cond (n == x) 1 0
 one_below-suc x n = grind arith
 
@@ -34,7 +34,7 @@ pub first_word : (ws : List ℕ) (n : ℕ) → get_elem? ws 0 ≡ some n → sli
 first_word [] n e = absurd (some-ne-none n (sym e))
 first_word (w ∷ ws) n e = some-injective w n e
 
--- all shares together are within the draws of all seats
+-- the draws of all shares are within the limits of all seats
 pub draws_le : (shares : List Share) → IsWithinDraws shares
     → sum_by (λ v. length v.drawn) shares ≤ sum_by (λ v. v.seats) shares * 4294967296
 draws_le [] within = omega arith
@@ -58,7 +58,7 @@ within_draws-push shares w fits within j u e =
     ⊎_elim (λ (t : get_elem? shares j ≡ some u). within j u t)
     (λ (t : w ≡ u). subst (λ (z : Share). length z.drawn ≤ z.seats * 4294967296) t fits) (at_snoc shares w u j e)
 
--- where no share has a seat, nothing was drawn
+-- if no share has a seat, nothing was drawn
 nothing_drawn : (x : ℕ) (shares : List Share) → IsWithinDraws shares → sum_by (λ v. v.seats) shares ≡ 0
     → sum_by (λ v. times x v.drawn) shares ≡ 0
 nothing_drawn x [] within none = refl
@@ -75,7 +75,7 @@ nothing_drawn x (v ∷ vs) within none =
     never [] e = refl
     never (y ∷ ys) e = absurd (omega (arith, e))
 
--- a share of every seat has drawn all that was drawn
+-- a share that represents every seat lists all that was drawn
 pub share_of_all : (x : ℕ) (shares : List Share) (i : ℕ) (v : Share) → IsWithinDraws shares
     → get_elem? shares i ≡ some v → sum_by (λ u. u.seats) shares ≡ v.seats
     → sum_by (λ u. times x u.drawn) shares ≡ times x v.drawn

@@ -1,4 +1,4 @@
--- Each step of the ticket word keeps its rule.
+-- Each step of the ticket word preserves its invariant.
 use Rattle.std.proofs.Common.{◌≡◌, ◌≢◌, ℕ, ◌+◌, ◌-◌, ◌%◌, ◌^◌, ◌<◌, List, [], ◌∷◌, ◌++◌, length, slice_index, set}
 use Rattle.std.proofs.Common.{sym, refl, ap, ◌∙◌, ⊎_elim, arith, rules, length-append}
 use Rattle.std.proofs.lemmas.List.Sums.{sum_by-append, sum_by_push}
@@ -12,7 +12,7 @@ use Rattle.tickets.specs.Shares.{share, times, one_below, DrawsOnce}
 use Rattle.tickets.proofs.ShareLemmas.{sum_by-set_share, one_below-suc, first_word, first_word-set, length-set_word, draws_le}
 use Rattle.tickets.proofs.ShareLemmas.{within_draws-set, within_draws-push, share_of_all}
 
--- a draw: the word is one more, and the share lists what it was
+-- a draw: the word is one more, and the share lists its old value
 pub draw_keeps : (seats slots id : ℕ) (me : Me (Unit {0}) Share) → me.0.seats ≡ 1 → length me.0.drawn < 4294967296
     → Allows (DrawsOnce seats) slots id me 0 (λ n. (n + 1) % 2 ^ 64)
     (λ n w. w ≡ (share me.0.seats (me.0.drawn ++ n ∷ []), me.1))
@@ -71,7 +71,7 @@ split_keeps seats id v left_over none s was at =
       within = within_draws-push cut right (omega arith) (within_draws-set s.views id left (omega (arith, empty)) was.within);
     }
 
--- a share is added to another, and nothing is left of it
+-- a share is joined to another, and becomes empty
 pub join_keeps : (seats id : ℕ) (v : Share) (other : ℕ) (w : Share)
     → Joins (DrawsOnce seats) id v other w (share (v.seats + w.seats) (v.drawn ++ w.drawn)) (share 0 [])
 join_keeps seats id v other w s was at two there =
@@ -103,7 +103,7 @@ join_keeps seats id v other w s was at two there =
           (within_draws-set s.views id both (omega (arith, long, was.within id v at, was.within other w before)) was.within);
     }
 
--- at the end a share of every seat has drawn the numbers below the word
+-- at the end a share that represents every seat has drawn the numbers below the word
 pub closing : (seats id : ℕ) (v : Share) (ws : List ℕ) (xs : List (Unit {0})) → v.seats ≡ seats
     → Final (Seen (DrawsOnce seats) id v) ws xs → (n : ℕ) → get_elem? ws 0 ≡ some n → (x : ℕ)
     → times x v.drawn ≡ one_below x n

@@ -1,4 +1,4 @@
--- What a clause says of a seat and of the word.
+-- Definitions that contracts use for seats and for the word.
 use Rattle.std.specs.Prelude.{◌≡◌, ℕ, List, flat_map}
 use Rattle.tickets.specs.declared.word.Seat.{Seat}
 use Rattle.tickets.specs.declared.word.Tickets.{Tickets}
@@ -15,6 +15,6 @@ drawn_by = flat_map drawn_of
 abbrev pub IsSeatOf : Tickets → Seat → Type 0
 IsSeatOf t s = s.place.table_id ≡ t.table.shared.table_id
 
--- how many seats the word has
+-- the number of seats of the word
 abbrev pub seats_of : Tickets → ℕ
 seats_of t = t.table.shared.key

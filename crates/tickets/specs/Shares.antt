@@ -6,24 +6,24 @@ use lib.ListN.{get_elem?}
 use Rattle.atomic_table.specs.Table.{State}
 use Rattle.tickets.specs.declared.rule.Share.{Share}
 
--- a share of so many seats, and the numbers that were drawn on it
+-- a share of so many seats, with the numbers that were drawn on it
 abbrev pub share : (seats : ℕ) → (drawn : List ℕ) → Share
 share seats drawn = record { seats = seats; drawn = drawn }
 
--- how often x stands in the list
+-- the number of times that x is in the list
 abbrev pub times : ℕ → List ℕ → ℕ
 times x = sum_by (λ y. if y == x then 1 else 0)
 
--- once where x is below n, and else not at all
+-- 1 if x is below n, and 0 otherwise
 abbrev pub one_below : (x n : ℕ) → ℕ
 one_below x n = if nat_lt x n then 1 else 0
 
--- a seat draws 2^32 times at most
+-- a seat draws at most 2^32 times
 abbrev pub IsWithinDraws : List Share → Type 0
 IsWithinDraws shares = (i : ℕ) (v : Share) → get_elem? shares i ≡ some v
     → length v.drawn ≤ v.seats * 4294967296
 
--- the word is how many numbers were drawn: those below it, each once
+-- the word is the number of draws: the shares list the numbers below it, each once
 pub record DrawsOnce (seats : ℕ) (s : State (Unit {0}) Share) : Type 0 where
   pub word : length s.words ≡ 1
   pub most : seats ≤ 64

@@ -9,14 +9,14 @@ use crate::word::{Seat, Tickets};
 use atomic_table::{Seat as Place, Table};
 use std::alloc::{AllocError, Global};
 
-/// A drawn number. `Tickets::draw` alone makes one.
+/// A drawn number. Only `Tickets::draw` creates one.
 #[derive(Debug, Drop, PartialEq, Eq)]
 pub struct Ticket {
     number: u64,
 }
 
 impl Ticket {
-    /// The number that was drawn.
+    /// Returns the number that was drawn.
     pub fn number(&self) -> u64
         ensures { result ≡ self.now.number }
     {
@@ -25,7 +25,7 @@ impl Ticket {
 }
 
 impl Tickets {
-    /// A word from which nothing was drawn, and all of its seats.
+    /// Returns a word from which nothing was drawn, and all of its seats.
     pub fn new(alloc: Global, seats: u64) -> Result<(Tickets, Vec<Seat>), AllocError>
         requires { (1 ≤ seats) × (seats ≤ 64) }
         ensures seats { IfOk result (λ r. (seats_of r.0 ≡ seats) × (vec_len r.1 ≡ seats)) }
@@ -42,7 +42,7 @@ impl Tickets {
         Ok((Tickets { table }, made))
     }
 
-    /// The next number, from 0 on: the one step that the word takes.
+    /// Draws the next number, starting at 0. This is one atomic step.
     pub fn draw(&self, seat: &mut Seat) -> Ticket
         requires of { IsSeatOf self.now seat.old }
         requires left { length (drawn_of seat.old) < 4294967296 }
@@ -53,7 +53,8 @@ impl Tickets {
         Ticket { number }
     }
 
-    /// How many numbers were drawn, told by all seats: they drew the numbers below it, each once.
+    /// Returns n, the number of draws on all seats together: they drew the numbers below n, each
+    /// once.
     pub fn close(self, mut seats: Vec<Seat>) -> u64
         requires all { vec_len seats ≡ seats_of self }
         requires each { All (IsSeatOf self) seats.items }

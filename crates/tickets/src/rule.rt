@@ -1,16 +1,16 @@
-//! The one word, what its seats know of it, and the rule that every step keeps.
+//! The atomic word, what its seats know of it, and the invariant that every step preserves.
 
 use atomic_table::{Join, Play, Split, TableRule};
 use std::collections::LinkedList;
 
-/// What a seat stands for, and what was drawn on it. Only proofs have values of it.
+/// The seats that a share represents, and the numbers drawn on it. Only proofs have values of it.
 pub struct Share {
-    /// How many of the word's seats it is: one, but while they are joined.
+    /// The number of seats that the share represents: one, except while seats are joined.
     pub seats: u64,
     pub drawn: LinkedList<u64>,
 }
 
-/// Each number below the word was drawn once.
+/// The invariant: each number below the word was drawn once.
 pub struct DrawnOnce;
 
 impl TableRule<(), Share, u64> for DrawnOnce {
@@ -22,7 +22,7 @@ impl TableRule<(), Share, u64> for DrawnOnce {
     ghost first = { λ seats. share seats [] };
 }
 
-/// A draw: the share lists the number that the word had.
+/// A draw: it appends the word's old value to the share.
 pub struct Draw;
 
 impl Play<(), Share> for Draw {
@@ -32,7 +32,7 @@ impl Play<(), Share> for Draw {
     ghost then = { λ s v n w. w ≡ (share v.0.seats (v.0.drawn ++ n ∷ []), v.1) };
 }
 
-/// One seat is taken off a share, or a share is added to another.
+/// Splits one seat off a share, or joins a share to another.
 pub struct Parting;
 
 impl Split<Share> for Parting {

@@ -6,7 +6,7 @@ use crate::rule::{DrawnOnce, Share};
 use atomic_table::{Seat as Place, Table};
 use std::alloc::Global;
 
-/// The next number that a seat will draw. It is shared by reference.
+/// The next number to be drawn. Threads share it by reference.
 #[derive(Drop)]
 pub struct Tickets {
     pub(crate) table: Table<(), Share, u64, DrawnOnce, Global>,
@@ -15,7 +15,8 @@ pub struct Tickets {
     ghost some_seat: { 1 ≤ table.shared.key },
 }
 
-/// The right to draw, at most 2^32 times. A thread moves its seat in and hands it back at its end.
+/// The right to draw, at most 2^32 times. A thread takes ownership of its seat and returns it at
+/// its end.
 #[derive(Drop)]
 pub struct Seat {
     pub(crate) place: Place<(), Share>,

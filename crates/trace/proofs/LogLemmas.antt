@@ -16,11 +16,11 @@ use Rattle.interleave.proofs.Staying.{stays_shown}
 use Rattle.interleave.proofs.Walking.{replayed_on}
 use Rattle.trace.specs.Logs.{IsClean, Recorded}
 
--- what a log of these shows
+-- the log of a world and events
 abbrev pub recorded : World → List Event → Recorded
 recorded world events = record { world = world; events = events }
 
--- an event more
+-- one event more
 pub clean_more : (old new : World) (es : List Event) (e : Event) → IsClean (recorded old es) → Becomes (event e) old new
     → new.job ≡ old.job → IsClean (recorded new (es ++ e ∷ []))
 clean_more old new es e clean b same = record {
@@ -29,7 +29,7 @@ clean_more old new es e clean b same = record {
       (replayed_on old.job es e old new clean.replayed b same);
 }
 
--- a world that stays
+-- a world that is unchanged
 pub stayed_by : (e : Event) (old new : World) (x : EventError) → Refuses (event e) old new x → WorldStays old new
 stayed_by e old new IsIllegal r = r.0
 stayed_by e old new IsNoMemory r = r
@@ -48,7 +48,7 @@ clean_still old new es clean stays =
       });
     }
 
--- events that were refused
+-- events that were rejected
 pub refused_by : (j k : WeightedJob) (es fs : List Event) (x : ReplayError) (n : ℕ) → IsRefused j es x → x ≡ IllegalAt n → j ≡ k
     → es ≡ fs → (m : ℕ) × (comes k fs ≡ IsIllegalAt m)
 refused_by j k es fs x n r is same items = (

@@ -1,4 +1,4 @@
--- Logs: the events of a run so far, and the world that they led to.
+-- Logs: the events of a run so far, and the world that they lead to.
 use Rattle.std.specs.Prelude.{ℕ, ◌≡◌, List}
 use Rattle.std.specs.Borrow.{Bor}
 use Rattle.std.specs.Global.{Global}
@@ -15,7 +15,7 @@ use Rattle.events.specs.declared.event.Event.{Event}
 use Rattle.interleave.specs.declared.job.WeightedJob.{WeightedJob}
 use Rattle.interleave.specs.declared.world.World.{World}
 
--- the job of a run that is asked for so
+-- the job of a run with these arguments
 abbrev pub job_of : Global → Bor Accepted → Bor Input → Budget → (w0 : ℕ) → WeightedJob
 job_of alloc accepted input budget w0 = record {
   job = record { alloc = alloc; accepted = accepted; input = input; budget = budget };
@@ -27,18 +27,18 @@ pub record Recorded : Type 0 where
   pub world : World
   pub events : List Event
 
--- the log is clean: its events are legal from the start of its world's job, one behind the other, and
--- its world is the one that they lead to
+-- the log is clean: its events are legal in order from the start of its world's job, and its world is the
+-- one that they lead to
 pub record IsClean (l : Recorded) : Type 0 where
   pub job : IsWeightedJob l.world.job
   pub replayed : IsReplayed l.world.job l.events l.world
 
--- an error leaves the log as it was; where it calls the event illegal it was
+-- an error leaves the log as it was; if it calls the event illegal, the event was illegal
 pub record Leaves (e : Event) (old new : Recorded) (error : EventError) : Type 0 where
   pub events : new.events ≡ old.events
   pub world : Refuses (event e) old.world new.world error
 
--- events that lead to no log: some first one isn't legal; or memory was missing
+-- events that lead to no log: one of them isn't legal; or memory ran out
 abbrev pub IsRefusedBy : WeightedJob → List Event → EventError → Type 0
 IsRefusedBy j es Illegal = (n : ℕ) × (comes j es ≡ IllegalAt n)
 IsRefusedBy j es NoMemory = Unit {0}

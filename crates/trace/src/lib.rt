@@ -1,4 +1,4 @@
-//! What a run did so far, event by event, with the world that it led to.
+//! Logs of runs: the events so far, with the world that they lead to.
 
 #![tactic(auto)]
 

@@ -1,4 +1,4 @@
-//! What happened in a run so far, with the world that it led to.
+//! The events of a run so far, with the world that they lead to.
 
 ghost use Rattle.std.specs.Prelude.{◌≡◌, ◌∷◌, ◌++◌, [], IfErr, IfOk, OnOk};
 ghost use Rattle.types.specs.Contents.{FitsArrays};
@@ -20,8 +20,8 @@ use std::marker::Model;
 use trace_text::header::Header;
 use types::input::Input;
 
-/// The events of a run, in the order in which they were recorded, and the world that they lead to. It holds
-/// whenever a lock round it is free that these events are legal and lead to that world.
+/// The events of a run, in the order in which they were recorded, and the world that they lead to.
+/// Whenever a lock around the log is free, the events are legal and lead to that world.
 #[derive(Drop)]
 pub struct Log<'p> {
     world: World<'p>,
@@ -44,7 +44,7 @@ impl<'p> Model for Log<'p> {
 }
 
 impl<'p> Log<'p> {
-    /// The log of a run at its start.
+    /// Returns the log of a run at its start.
     pub fn new(
         alloc: Global,
         header: &Header,
@@ -67,8 +67,8 @@ impl<'p> Log<'p> {
         })
     }
 
-    /// The log of a run that is over, whose events are these. No task is copied before it acts, as it is
-    /// where they are recorded one by one.
+    /// Returns the log of a run that is over, with these events. It copies no task before the task
+    /// acts, unlike `record`.
     pub fn of_events(
         alloc: Global,
         header: &Header,
@@ -93,7 +93,7 @@ impl<'p> Log<'p> {
         }
     }
 
-    /// An event happens: it is added to the list, and the world goes on by it.
+    /// Appends an event to the list, and moves the world by it.
     pub fn record(&mut self, event: Event) -> Result<(), EventError>
         ensures recorded { OnOk result (self.new.events ≡ self.old.events ++ event ∷ []) }
         ensures moved { OnOk result (Becomes (event_of event) self.old.world self.new.world) }
@@ -107,14 +107,14 @@ impl<'p> Log<'p> {
         Ok(())
     }
 
-    /// The events, in the order in which they were recorded.
+    /// Returns the events, in the order in which they were recorded.
     pub fn events(&self) -> &[Event]
         ensures { result.now ≡ self.now.events }
     {
         self.events.as_slice()
     }
 
-    /// The world that they lead to.
+    /// Returns the world that they lead to.
     pub fn world(&self) -> &World<'p>
         ensures world { result.now ≡ self.now.world }
         ensures clean { IsClean self.now }

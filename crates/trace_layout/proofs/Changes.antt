@@ -1,4 +1,4 @@
--- Spells behind one event more.
+-- Spells after one more event.
 use Rattle.std.proofs.Common.{◌≡◌, ℕ, ◌+◌, ◌-◌, ◌<◌, ◌≤◌, List, [], ◌∷◌, ◌++◌, length, get_or, set, Option, Some, None, ap, sym, ◌∙◌, refl, subst, arith, ⊎_elim, inl, inr}
 use Rattle.std.specs.Prelude.{◌⊎◌, All}
 use Rattle.std.proofs.lemmas.Bool.{cases_eq, cases_lt}
@@ -39,7 +39,7 @@ all_later es n m last workers ss le h = record {
   held = h.held;
 }
 
--- ---- which have ended
+-- ---- spells that have ended
 ended_or_going : (es : List Event) (n last : ℕ) (s : Spell) (e : Ending) → IsEndingSoFar es n last s e → (s.last < n) ⊎ (e ≡ Going)
 ended_or_going es n last s Parked h = inl h.1
 ended_or_going es n last s Ended h = inl h.1
@@ -102,7 +102,7 @@ changed es n m last workers ss k t le there keeps is h =
           };
     }
 
--- ---- a spell that begins
+-- ---- a spell that starts
 began_going : (n last : ℕ) (es : List Event) (workers : List (Option ℕ)) (ss : List Spell) (s : Spell) → n ≤ last
     → s.worker < length workers
     → All (λ t. t.worker ≡ s.worker → t.last < n) ss → AreSpellsSoFar es n last workers ss
@@ -159,7 +159,7 @@ began es n last workers ss s le hand first is past h = record {
   held = began_held n last es workers ss s hand h;
 }
 
--- ---- a hand that is left
+-- ---- a hand that is emptied
 pub is_going_or_not : (e : Ending) → (e ≡ Going) ⊎ (e ≡ Going → ⊥)
 is_going_or_not Parked = inr (λ h. cc)
 is_going_or_not Ended = inr (λ h. cc)
@@ -195,7 +195,7 @@ left_is es n last s next le at same h =
       within = omega arith;
     }
 
--- what is left in a worker's hand changes so
+-- a spell that its worker leaves changes in this way
 pub record IsLeft (n : ℕ) (s t : Spell) : Type 0 where
   pub going : s.ending ≡ Going → t ≡ record s { ending = Left; last = n - 1 }
   pub ended : (s.ending ≡ Going → ⊥) → t ≡ s

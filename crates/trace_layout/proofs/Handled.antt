@@ -1,4 +1,4 @@
--- What is in hands behind one event more.
+-- The tasks in hands after one more event.
 use Rattle.std.proofs.Common.{◌≡◌, ℕ, zero, suc, ◌+◌, ◌-◌, ◌<◌, ◌≤◌, List, [], ◌∷◌, ◌++◌, length, get_or, set, take, Option, Some, None, Bool, true, false, ap, sym, ◌∙◌, refl, subst, arith}
 use Rattle.std.specs.Prelude.{All, cond, count_by, replicate, slice_get}
 use Rattle.std.specs.Cmp.Lexicographic.{pointwise}
@@ -25,7 +25,7 @@ use Rattle.trace_layout.proofs.Turns.{latest_kept, latest_more, turns_began, tur
 use Rattle.trace_layout.specs.declared.spells.Ending.{Ending}
 use Rattle.trace_layout.specs.declared.spells.Ending.TheVariants.{Parked, Ended, Left, Going}
 
--- ---- at first
+-- ---- at the start
 none_at : (n w : ℕ) → get_or (replicate {A = Option ℕ} n None) w None ≡ None
 none_at zero w = refl
 none_at (suc n) zero = refl
@@ -52,7 +52,7 @@ hands_at_first es h last items tasks workers = record {
   count = ap length items;
 }
 
--- ---- how many spells there are
+-- ---- the number of spells
 pub as_many : (es : List Event) (n : ℕ) (e : Event) → slice_get es n ≡ Some e → is_taking e ≡ false
     → count_by is_taking (take (n + 1) es) ≡ count_by is_taking (take n es)
 as_many es n e at is =
@@ -66,7 +66,7 @@ one_more es n e at is =
     (ap is_taking (get_or_from_slice_get es n e e at) ∙ is)
 
 -- ---- no spell changes
--- no worker takes a task that has come so far
+-- no worker takes a task that was taken before
 latest_on : (es : List Event) (n : ℕ) (e : Event) → slice_get es n ≡ Some e → is_taking e ≡ false
     → (s : Spell) → IsLatest es s n → IsLatest es s (n + 1)
 latest_on es n e at is s =
@@ -128,7 +128,7 @@ hands_changed es n m h g k t le there keeps is many on turns items tasks workers
   count = ap length items ∙ length-set h.spells.items k t ∙ was.count ∙ sym many;
 }
 
--- ---- a spell begins
+-- ---- a spell starts
 task_stays : (es : List Event) (n : ℕ) (ss : List Spell) (s : Spell) (path : List ℕ) (j : ℕ)
     → ((worker : ℕ) → taken_at es n ≡ Some (record { worker = worker; path = path }) → ⊥)
     → IsOfTask es n ss path j → IsOfTask es (n + 1) (ss ++ s ∷ []) path j
@@ -151,7 +151,7 @@ new_task es n ss s first = record {
       (λ m worker behind before takes. absurd (omega arith));
 }
 
--- by one event no other task is taken
+-- at one event no other task is taken
 takes_one : (es : List Event) (n worker other : ℕ) (key path : List ℕ) → pointwise nat_eq key path ≡ false
     → taken_at es n ≡ Some (record { worker = worker; path = key }) → taken_at es n ≡ Some (record { worker = other; path = path }) → ⊥
 takes_one es n worker other key path never takes others =
@@ -269,7 +269,7 @@ hands_went_on es n h g k own s there at items tasks workers last was =
     (subst (IsInTurn es n (get is_path h.tasks) k) (at s) (was.turns k s there)) was.turns)
     items tasks workers last was
 
--- ---- a worker leaves what it has in its hand
+-- ---- a worker leaves the task in its hand
 past_last : (es : List Event) (n : ℕ) (y : Hold) (h : Hands) → taken_at es n ≡ Some y → AreHands es n h → n ≤ h.last + 1
 past_last es n y h at was =
     let number = taking_at es n y at in

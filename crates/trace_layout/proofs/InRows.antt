@@ -8,13 +8,13 @@ use Rattle.std.proofs.lemmas.List.Sums.{prefix_len_stops, prefix_len-le-length}
 use Rattle.trace_layout.specs.Rows.{AreApart, ends_after, first_free, rows_from, rows_of}
 use Rattle.trace_layout.specs.declared.stretch.Stretch.{Stretch}
 
--- a row that is there and free ends before the place
+-- an existing row that is free ends before the position
 free_ends : (ends : List ℕ) (first : ℕ) → first_free ends first < length ends → get_or ends (first_free ends first) 0 < first
 free_ends ends first there =
     let stops = prefix_len_stops (λ e. nat_le first e) ends 0 there in
     grind (arith, nat_tests)
 
--- ---- the ends once something ends in the first free row
+-- ---- the ends, once something ends in the first free row
 in_row : (b : Bool) (ends : List ℕ) (row last : ℕ) → nat_lt row (length ends) ≡ b → row ≤ length ends
     → get_or (if b then set ends row last else ends ++ last ∷ []) row 0 ≡ last
 in_row true ends row last is le =
@@ -37,7 +37,7 @@ is_there true ends row last is le =
     let there : row < length ends = grind (arith, nat_tests) in omega (arith, length-set ends row last)
 is_there false ends row last is le = omega (arith, length_push ends last)
 
--- what is put into a row that is there begins behind its end
+-- what is put into an existing row starts after its end
 behind : (ends : List ℕ) (ss : List Stretch) (k : ℕ) (d : Stretch) (r : ℕ) → k < length ss → r < length ends
     → get_or (rows_from ends ss) k 0 ≡ r → get_or ends r 0 < (get_or ss k d).first
 behind ends [] k d r within there is = absurd (omega arith)
@@ -99,7 +99,7 @@ pub placed_all : (ss : List Stretch) (i : ℕ) (ends rows : List ℕ) → length
 placed_all ss i ends rows past was =
     sym (append-nil rows) ∙ ap (λ (l : List Stretch). rows ++ rows_from ends l) (sym (drop_all i ss past)) ∙ was
 
--- a row too many is one of the rows
+-- a row too many is among the rows
 pub too_many : (ss : List Stretch) (i : ℕ) (s d : Stretch) (ends rows : List ℕ) (row most : ℕ) → i < length ss → s ≡ get_or ss i d
     → row ≡ first_free ends s.first → most ≤ row → ArePlaced ss i ends rows → Any (λ r. most ≤ r) (rows_of ss)
 too_many ss i s d ends rows row most there is free many was =

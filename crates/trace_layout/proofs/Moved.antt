@@ -1,4 +1,4 @@
--- Steals behind one event more.
+-- Steals after one more event.
 use Rattle.std.proofs.Common.{◌≡◌, ℕ, ◌+◌, ◌<◌, List, ◌++◌, length, drop, get_or, ap, sym, ◌∙◌, append_assoc}
 use Rattle.std.proofs.lemmas.List.{drop_more}
 use Rattle.events.specs.declared.event.Event.{Event}

@@ -1,4 +1,4 @@
--- Scopes behind one event more.
+-- Scopes after one more event.
 use Rattle.std.proofs.Common.{◌≡◌, ℕ, zero, suc, ◌+◌, ◌<◌, ◌≤◌, List, [], ◌∷◌, ◌++◌, length, get_or, set, take, Option, Some, None, Bool, true, false, ap, sym, ◌∙◌, refl, subst, arith, ⊎_elim}
 use Rattle.std.specs.Prelude.{cond, count_by, slice_get, unwrap_or}
 use Rattle.std.specs.Cmp.Lexicographic.{pointwise}
@@ -24,14 +24,14 @@ use Rattle.trace_layout.specs.declared.finishes.Scopes.{Scopes}
 finish_later : (es : List Event) (n k : ℕ) (f : Finish) → IsFinishSoFar es n k f → IsFinishSoFar es (n + 1) k f
 finish_later es n k f h = record { is = h.is; before = omega (arith, h.before); opened = λ there. omega (arith, h.opened there) }
 
--- each is the scope of its number
+-- each is the scope with its number
 abbrev pub AreSoFar : List Event → (n : ℕ) → List Finish → Type 0
 AreSoFar es n fs = (k : ℕ) (d : Finish) → k < length fs → IsFinishSoFar es n k (get_or fs k d)
 
 all_later : (es : List Event) (n : ℕ) (fs : List Finish) → AreSoFar es n fs → AreSoFar es (n + 1) fs
 all_later es n fs h k d there = finish_later es n k (get_or fs k d) (h k d there)
 
--- ---- how many scopes a task has opened
+-- ---- the number of scopes that a task has opened
 opens_none : (e : Event) (path : List ℕ) → is_opening e ≡ false → opens path e ≡ false
 opens_none (Open other) path is = absurd (let both : true ≡ false = is in cc)
 opens_none _ path is = refl
@@ -46,7 +46,7 @@ opens_by : (e : Event) (key path : List ℕ) → opener e ≡ Some key → opens
 opens_by (Open other) key path h = ap (λ (p : List ℕ). pointwise nat_eq p path) (same_Some other.turns.items key h)
 opens_by _ key path h = absurd (none-some key h)
 
--- by an event by which this key opens one
+-- at an event at which this key opens one
 opened_one : (es : List Event) (n count : ℕ) (e : Event) (key path : List ℕ) (b : Bool) (old : Option ℕ) → slice_get es n ≡ Some e → opener e ≡ Some key
     → pointwise nat_eq key path ≡ b → (key ≡ path → count ≡ unwrap_or old 0 + 1)
     → unwrap_or old 0 ≡ count_by (opens path) (take n es)
@@ -142,8 +142,8 @@ passes es n k f h = record {
   opened = h.opened;
 }
 
--- ---- a scope begins
--- the event of a number, by which a task opens a scope
+-- ---- a scope starts
+-- the event with a number, at which a task opens a scope
 opener_is : (e : Event) (y : List ℕ) → opener e ≡ Some y → is_opening e ≡ true
 opener_is (Open path) y h = refl
 opener_is _ y h = absurd (none-some y h)
@@ -181,7 +181,7 @@ order_added fs f was earlier i j d behind lt there =
     subst (λ (x : Finish). (get_or fs i d).first < x.first) (sym (get_or_push fs f d j at)) (earlier i d behind (omega arith)))
     (cases_lt j (length fs)))
 
--- behind the root's
+-- after the root's
 opened_number : (es : List Event) (n count k : ℕ) (f : Finish) → k ≡ count + 1 → IsOpened es f
     → f.first ≤ f.last → f.first < n → IsFinishSoFar es n k f
 opened_number es n count k f is opens forward before =

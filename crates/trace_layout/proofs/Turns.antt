@@ -18,7 +18,7 @@ use Rattle.trace_layout.specs.declared.spells.Spell.{Spell}
 use Rattle.trace_layout.proofs.Changes.{IsLeft, Keeps, going_to_last, is_going_or_not, past_or_going}
 use Rattle.trace_layout.proofs.WhichEvent.{leaves_one, never_going, taking_leaves_none}
 
--- ---- whether a worker takes the task once more
+-- ---- whether a worker takes the task again
 pub latest_more : (es : List Event) (n : ℕ) (s : Spell) → ((worker : ℕ) → taken_at es n ≡ Some (record { worker = worker; path = s.path.turns.items }) → ⊥)
     → IsLatest es s n → IsLatest es s (n + 1)
 latest_more es n s never latest m worker behind before takes =
@@ -35,7 +35,7 @@ latest_kept es n s t keeps latest m worker behind before takes =
     latest m worker (omega (arith, keeps.first)) before
     (takes ∙ ap (λ (p : List ℕ). Some (record { worker = worker; path = p })) keeps.path)
 
--- ---- an event more
+-- ---- one more event
 turn_more : (es : List Event) (n : ℕ) (found new : Path → Option ℕ) (k : ℕ) (s : Spell)
     → ((e : Ending) → s.first ≤ n → IsLeaving es n s.path.turns.items e → IsLatest es s n → IsOver s n e)
     → ((path : Path) → path.turns.items ≡ s.path.turns.items → IsLatest es s (n + 1) → found path ≡ Some k → new path ≡ Some k)
@@ -53,14 +53,14 @@ turn_more es n found new k s this still was = record {
   named = λ path same latest. still path same latest (was.named path same (latest_less es n s latest));
 }
 
--- by which no task leaves its worker's hand, nor comes into one
+-- one at which no task leaves its worker's hand, nor comes into one
 pub turns_later : (es : List Event) (n : ℕ) (found : Path → Option ℕ) (ss : List Spell)
     → ((path : List ℕ) (e : Ending) → IsLeaving es n path e → ⊥) → AreInTurn es n found ss → AreInTurn es (n + 1) found ss
 turns_later es n found ss never was k d there =
     turn_more es n found found k (get_or ss k d) (λ e behind leaves latest. absurd (never (get_or ss k d).path.turns.items e leaves))
     (λ path same latest is. is) (was k d there)
 
--- by which a task would leave its worker's hand if it were in one
+-- one at which a task would leave its worker's hand if it were in one
 pub turns_past : (es : List Event) (n last : ℕ) (found : Path → Option ℕ) (ss : List Spell) (path : Path) (e : Ending) → IsLeaving es n path.turns.items e
     → ((k : ℕ) (d : Spell) → found path ≡ Some k → k < length ss → (get_or ss k d).ending ≡ Going → ⊥)
     → ((k : ℕ) (d : Spell) → k < length ss → IsSpellSoFar es n last (get_or ss k d))
@@ -75,7 +75,7 @@ turns_past es n last found ss path e leaving none each was k d there =
     (past_or_going es n last s (each k d there)))
     (λ other same latest is. is) (was k d there)
 
--- ---- one that goes on has passed none
+-- ---- an open spell has passed none
 passed_none : (es : List Event) (n last : ℕ) (found : Path → Option ℕ) (k : ℕ) (s : Spell) → n ≤ last + 1 → s.ending ≡ Going → IsSpellSoFar es n last s
     → IsInTurn es n found k s → (m : ℕ) (e : Ending) → m < n → s.first ≤ m → IsLeaving es m s.path.turns.items e → IsLatest es s m → ⊥
 passed_none es n last found k s le going is was m e before behind leaves latest =
@@ -162,7 +162,7 @@ turns_left es n last found ss k s t le there left is this was =
     (is_going_or_not s.ending))
     (λ j d within other turn. turn) was
 
--- ---- a spell begins
+-- ---- a spell starts
 found_still : (b : Bool) (found : Option ℕ) (k place : ℕ) → (b ≡ true → ⊥) → found ≡ Some k → cond b (Some place) found ≡ Some k
 found_still true found k place never is = absurd (never refl)
 found_still false found k place never is = is

@@ -9,7 +9,7 @@ use Rattle.trace_layout.specs.Spells.{Hold, IsLeaving, ended, is_taking, parked,
 use Rattle.trace_layout.specs.declared.spells.Ending.{Ending}
 use Rattle.trace_layout.specs.declared.spells.Ending.TheVariants.{Parked, Ended, Left, Going}
 
--- the event of a number, and whether it is a take or resume
+-- the event with a number, and whether it is a take or resume
 pub record IsAtNumber (es : List Event) (n : ℕ) (b : Bool) : Type 0 where
   pub event : Event
   pub at : slice_get es n ≡ Some event
@@ -71,7 +71,7 @@ taken_stays (Take worker path) y h = refl
 taken_stays (Resume worker path) y h = refl
 taken_stays _ y h = absurd (none-some y h)
 
--- by an event that is no park or end no task leaves its worker's hand
+-- at an event that is no park or end no task leaves its worker's hand
 pub leaves_none : (es : List Event) (n : ℕ) (x : Event) (path : List ℕ) (e : Ending) → slice_get es n ≡ Some x → is_leaving x ≡ false
     → IsLeaving es n path e → ⊥
 leaves_none es n x path Parked at never h = not_both (parked_leaves x path (ap (option_and_then parked) (sym at) ∙ h)) never
@@ -93,7 +93,7 @@ parks_and_ends : (es : List Event) (n : ℕ) (p q : List ℕ) → IsLeaving es n
 parks_and_ends es n p q a b = option_and_then_some {P = ⊥} parked (slice_get es n) p a
     (λ x at is. parks_or_ends x p q is (ap (option_and_then ended) (sym at) ∙ b))
 
--- by one event one task leaves its worker's hand, in one way
+-- at one event only one task leaves its worker's hand, in one way
 pub leaves_one : (es : List Event) (n : ℕ) (p q : List ℕ) (e f : Ending) → IsLeaving es n p e → IsLeaving es n q f → (p ≡ q) × (e ≡ f)
 leaves_one es n p q Parked Parked a b = (same_Some p q (sym a ∙ b), refl)
 leaves_one es n p q Parked Ended a b = absurd (parks_and_ends es n p q a b)

@@ -1,4 +1,4 @@
--- What holds of all so far, and of one more.
+-- What is true of all so far, and of one more.
 use Rattle.std.proofs.Common.{◌≡◌, ℕ, ◌+◌, ◌<◌, List, length, get_or, take, subst}
 use Rattle.std.specs.Prelude.{All}
 use Rattle.std.proofs.lemmas.List.Elements.{All-more, All-weaker}

@@ -1,8 +1,8 @@
--- Where events stand from left to right, in tenths of a pixel.
+-- Horizontal coordinates of events, in tenths of a pixel.
 use Rattle.std.specs.Prelude.{ℕ, ◌+◌, ◌*◌, ◌/◌, min, if◌then◌else◌, nat_le}
 
--- where the column of an event begins, of so many: columns of 14 pixels up to 107 events, and 1,500 pixels
--- for more; what comes behind the last event stands where that one's column ends
+-- the start of an event's column: columns are 14 pixels wide for up to 107 events, and all take 1,500
+-- pixels for more; a number after the last event has the end of the last column
 abbrev pub x_of : (events event : ℕ) → ℕ
 x_of events event =
     let n = min event events in

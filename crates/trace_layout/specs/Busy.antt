@@ -1,12 +1,12 @@
--- How many tasks are in hands.
+-- The number of tasks in hands.
 use Rattle.std.specs.Prelude.{ℕ, ◌≡◌, ◌<◌, List, length, Bool, ◌&&◌, nat_le, count_by, slice_index}
 use Rattle.trace_layout.specs.declared.spells.Spell.{Spell}
 
--- whether an event stands in a spell
+-- whether an event is in a spell
 abbrev pub covers : ℕ → Spell → Bool
 covers n s = nat_le s.first n && nat_le n s.last
 
--- of each of so many events how many spells there are in which it stands
+-- for each of this many events, the number of spells that contain it
 pub record AreInHands (spells : List Spell) (events : ℕ) (counts : List ℕ) : Type 0 where
   pub each : (n : ℕ) → n < events → slice_index counts n ≡ count_by (covers n) spells
   pub many : length counts ≡ events

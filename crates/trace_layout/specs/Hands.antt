@@ -1,4 +1,4 @@
--- What is in the workers' hands behind so many events.
+-- The tasks in the workers' hands after so many events.
 use Rattle.std.specs.Prelude.{ℕ, ◌≡◌, ◌-◌, ◌<◌, ◌≤◌, List, length, take, Option, Some, None}
 use Rattle.std.specs.Prelude.{All, count_by, slice_index_or}
 use Rattle.std.specs.HashMap.{get}
@@ -12,7 +12,7 @@ use Rattle.trace_layout.specs.declared.spells.Ending.{Ending}
 use Rattle.trace_layout.specs.declared.spells.Ending.TheVariants.{Parked, Ended, Left, Going}
 use Rattle.trace_layout.specs.declared.spells.Spell.{Spell}
 
--- behind n events a spell has ended by one of them, or goes on to the last of the list
+-- after n events, a spell was ended by one of them, or continues to the last event of the list
 abbrev pub IsEndingSoFar : List Event → (n last : ℕ) → Spell → Ending → Type 0
 IsEndingSoFar es n last s Parked = IsEnding es s Parked × (s.last < n)
 IsEndingSoFar es n last s Ended = IsEnding es s Ended × (s.last < n)
@@ -26,12 +26,12 @@ pub record IsSpellSoFar (es : List Event) (n last : ℕ) (s : Spell) : Type 0 wh
   pub before : s.first < n
   pub within : s.last ≤ last
 
--- the spell of a number is a worker's
+-- the spell with a number is a worker's
 pub record IsOfWorker (ss : List Spell) (worker k : ℕ) : Type 0 where
   pub there : k < length ss
   pub same : (d : Spell) → (slice_index_or ss k d).worker ≡ worker
 
--- one that goes on is in its worker's hand, where each worker's latest is named
+-- an open spell is in its worker's hand, which names each worker's latest
 pub record AreSpellsSoFar (es : List Event) (n last : ℕ) (workers : List (Option ℕ))
     (ss : List Spell) : Type 0 where
   pub each : All (IsSpellSoFar es n last) ss
@@ -41,13 +41,13 @@ pub record AreSpellsSoFar (es : List Event) (n last : ℕ) (workers : List (Opti
       → slice_index_or workers (slice_index_or ss k d).worker None ≡ Some k
   pub held : (w k : ℕ) → slice_index_or workers w None ≡ Some k → IsOfWorker ss w k
 
--- the spell of a number is a task's latest
+-- the spell with a number is a task's latest
 pub record IsOfTask (es : List Event) (n : ℕ) (ss : List Spell) (path : List ℕ) (k : ℕ) : Type 0 where
   pub there : k < length ss
   pub same : (d : Spell) → (slice_index_or ss k d).path.turns.items ≡ path
   pub latest : (d : Spell) → IsLatest es (slice_index_or ss k d) n
 
--- the spell of a number has passed no park or end of its task, and is found where it is the task's latest
+-- the spell with a number has passed no park or end of its task, and is found if it is the task's latest
 pub record IsInTurn (es : List Event) (n : ℕ) (found : Path → Option ℕ) (k : ℕ) (s : Spell) : Type 0 where
   pub inside : (m : ℕ) (e : Ending) → m < n → s.first ≤ m → IsLeaving es m s.path.turns.items e
       → IsLatest es s m → IsOver s m e

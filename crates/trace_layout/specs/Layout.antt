@@ -1,4 +1,4 @@
--- What is drawn of a list of events.
+-- The layout of a list of events.
 use Rattle.std.specs.Prelude.{◌≡◌, List, length}
 use Rattle.events.specs.declared.event.Event.{Event}
 use Rattle.trace_layout.specs.Busy.{AreInHands}

@@ -5,7 +5,7 @@ use Rattle.events.specs.declared.event.Event.TheVariants.{Take, Steal as Steals,
 use Rattle.events.specs.declared.event.Event.TheVariants.{Open, Park, End, Pass, Resume}
 use Rattle.trace_layout.specs.declared.moves.Steal.{Steal}
 
--- the steal that the event of a number is, if it is one
+-- the steal that the event with a number is, if it is one
 abbrev pub steal_of : ℕ → Event → List Steal
 steal_of n (Take worker path) = []
 steal_of n (Steals worker from path) = record { at = n; worker = worker; from = from } ∷ []
@@ -18,7 +18,7 @@ steal_of n (End path) = []
 steal_of n (Pass scope) = []
 steal_of n (Resume worker path) = []
 
--- all steals of events that count from a number on
+-- all steals of events that are numbered from a number on
 abbrev pub steals_from : ℕ → List Event → List Steal
 steals_from n [] = []
 steals_from n (e ∷ es) = steal_of n e ++ steals_from (n + 1) es

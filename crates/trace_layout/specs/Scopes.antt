@@ -1,4 +1,4 @@
--- The scopes behind so many events.
+-- The scopes after so many events.
 use Rattle.std.specs.Prelude.{ℕ, ◌≡◌, ◌+◌, ◌-◌, ◌<◌, ◌≤◌, ◌++◌, ◌∷◌, [], List, length, take, None, false}
 use Rattle.std.specs.Prelude.{count_by, slice_index_or, unwrap_or}
 use Rattle.std.specs.HashMap.{get}
@@ -10,7 +10,7 @@ use Rattle.trace_layout.specs.Finishes.{AreOpenedInOrder, IsFinish, is_opening, 
 use Rattle.trace_layout.specs.declared.finishes.Finish.{Finish}
 use Rattle.trace_layout.specs.declared.finishes.Scopes.{Scopes}
 
--- the scope of a number, behind n events
+-- the scope with a number, after n events
 pub record IsFinishSoFar (es : List Event) (n k : ℕ) (f : Finish) : Type 0 where
   pub is : IsFinish es k f
   pub before : f.first ≤ n
@@ -22,11 +22,11 @@ pub record AreScopes (es : List Event) (n : ℕ) (s : Scopes) : Type 0 where
       → IsFinishSoFar es n k (slice_index_or s.all.items k d)
   pub order : AreOpenedInOrder s.all.items
   pub count : length s.all.items ≡ count_by is_opening (take n es) + 1
-  -- how many each task has opened
+  -- the number of scopes that each task has opened
   pub opened : (path : Path) → unwrap_or (get is_path s.opened path) 0
       ≡ count_by (opens path.turns.items) (take n es)
 
--- a scope of this name is there from an event on
+-- a scope with this name is added, starting at an event
 pub record IsAdded (number : ℕ) (name : ScopeId) (old new : Scopes) : Type 0 where
   pub all : new.all.items ≡ old.all.items
       ++ record { name = name; first = number; last = old.last; is_passed = false; parked = None }

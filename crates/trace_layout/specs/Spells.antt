@@ -13,7 +13,7 @@ pub record Hold : Type 0 where
   pub worker : ℕ
   pub path : List ℕ
 
--- what is in a hand from this event on
+-- the task that is in a hand from this event on
 abbrev pub taken : Event → Option Hold
 taken (Take worker path) = Some (record { worker = worker; path = path.turns.items })
 taken (Resume worker path) = Some (record { worker = worker; path = path.turns.items })
@@ -29,12 +29,12 @@ abbrev pub parked : Event → Option (List ℕ)
 parked (Park path) = Some path.turns.items
 parked _ = None
 
--- the task that ends
+-- the task that has finished
 abbrev pub ended : Event → Option (List ℕ)
 ended (End path) = Some path.turns.items
 ended _ = None
 
--- the same of the event with a number
+-- the task taken by the event with a number
 abbrev pub taken_at : List Event → ℕ → Option Hold
 taken_at es n = option_and_then taken (slice_get es n)
 
@@ -44,45 +44,44 @@ parked_at es n = option_and_then parked (slice_get es n)
 abbrev pub ended_at : List Event → ℕ → Option (List ℕ)
 ended_at es n = option_and_then ended (slice_get es n)
 
--- what stands at the end of a spell, or right behind it
+-- the event at the end of a spell, or right after it
 abbrev pub IsEnding : List Event → Spell → Ending → Type 0
 IsEnding es s Parked = parked_at es s.last ≡ Some s.path.turns.items
 IsEnding es s Ended = ended_at es s.last ≡ Some s.path.turns.items
 IsEnding es s Left = (next : Hold) × (taken_at es (s.last + 1) ≡ Some next) × (next.worker ≡ s.worker)
 IsEnding es s Going = s.last + 1 ≡ length es
 
--- by the event of this number a task leaves its worker's hand
+-- at the event with this number, a task leaves its worker's hand
 abbrev pub IsLeaving : List Event → (n : ℕ) → (path : List ℕ) → Ending → Type 0
 IsLeaving es n path Parked = parked_at es n ≡ Some path
 IsLeaving es n path Ended = ended_at es n ≡ Some path
 IsLeaving es n path Left = ⊥
 IsLeaving es n path Going = ⊥
 
--- between its first event and this one no worker takes its task once more
+-- no worker takes its task again between its first event and this one
 abbrev pub IsLatest : List Event → Spell → (n : ℕ) → Type 0
 IsLatest es s n = (m worker : ℕ) → s.first < m → m < n
     → taken_at es m ≡ Some (record { worker = worker; path = s.path.turns.items }) → ⊥
 
--- it is over before an event, or ends so by that one
+-- it is over before an event, or ends in this way at that event
 abbrev pub IsOver : Spell → (n : ℕ) → Ending → Type 0
 IsOver s n e = (s.last < n) ⊎ ((s.last ≡ n) × (s.ending ≡ e))
 
 -- a spell of a list of events
 pub record IsSpell (es : List Event) (s : Spell) : Type 0 where
-  -- it begins with the take or resume of its task by its worker
+  -- it starts with the take or resume of its task by its worker
   pub begins : taken_at es s.first ≡ Some (record { worker = s.worker; path = s.path.turns.items })
-  -- and ends as it says
+  -- and ends as its field states
   pub ends : IsEnding es s s.ending
   pub forward : s.first ≤ s.last
   pub within : s.last < length es
-  -- it goes no further than to the next park or end of its task, unless a worker takes the task once more
-  -- before that
+  -- it doesn't go past the next park or end of its task, unless a worker takes the task again before that
   pub inside : (n : ℕ) (e : Ending) → s.first ≤ n → IsLeaving es n s.path.turns.items e → IsLatest es s n
       → IsOver s n e
-  -- nor does it end by a park or end that comes behind such a take
+  -- nor does it end by a park or end that comes after such a take
   pub latest : IsLeaving es s.last s.path.turns.items s.ending → IsLatest es s s.last
 
--- the earlier begins first
+-- the earlier one starts first
 abbrev pub AreInOrder : List Spell → Type 0
 AreInOrder = AllPairs (λ s t. s.first < t.first)
 

@@ -1,19 +1,21 @@
-//! The axis: where events stand from left to right. Places are in tenths of a pixel.
+//! The axis: horizontal coordinates of events, in tenths of a pixel.
 
 ghost use Rattle.std.specs.Prelude.{◌≡◌, ◌+◌, ◌/◌, ◌<◌, ◌≤◌, ◌↔◌, IsTrue};
 ghost use Rattle.trace_layout.specs.Axis.{x_of};
 
-/// Where the first event's column begins.
+/// The start of the first event's column.
 pub const LEFT: u32 = 960;
 
-/// The axis of so many events: columns of 14 pixels, or as wide as go into 1,500.
+/// The axis of this many events: columns of 14 pixels, or narrower ones that together fit into
+/// 1,500 pixels.
 #[derive(Clone, Copy, Debug)]
 pub struct Axis {
     pub events: usize,
 }
 
 impl Axis {
-    /// Where an event's column begins; of what comes behind the last event, where that one's ends.
+    /// Returns the start of an event's column. If there is no such event, it returns the end of the
+    /// last event's column.
     pub fn x(self, event: usize) -> u32
         ensures place { result ≡ x_of self.events event }
         ensures within { result ≤ 15960 }
@@ -25,7 +27,7 @@ impl Axis {
         LEFT + (event as u128 * 15000 / self.events as u128) as u32
     }
 
-    /// Where an event's column ends.
+    /// Returns the end of an event's column.
     pub fn end(self, event: usize) -> u32
         ensures place { event < self.events → result ≡ x_of self.events (event + 1) }
         ensures within { result ≤ 15960 }
@@ -33,7 +35,7 @@ impl Axis {
         self.x(event.saturating_add(1))
     }
 
-    /// The middle of an event's column.
+    /// Returns the middle of an event's column.
     pub fn middle(self, event: usize) -> u32
         ensures place { event < self.events
             → result ≡ (x_of self.events event + x_of self.events (event + 1)) / 2 }
@@ -42,14 +44,16 @@ impl Axis {
         (self.x(event) + self.end(event)) / 2
     }
 
-    /// Whether columns are at least 3 pixels wide, so that each event has a mark.
+    /// Returns whether columns are at least 3 pixels wide, which is enough for a mark for each
+    /// event.
     pub fn is_wide(self) -> bool
         ensures { IsTrue result ↔ (self.events ≤ 500) }
     {
         self.events <= 500
     }
 
-    /// How many events apart grid lines stand: 10, 20, 50, 100, .. , so that it is at least 60 pixels.
+    /// Returns the number of events between grid lines: 10, 20, 50, 100, .., the first that is at
+    /// least 60 pixels wide.
     pub fn grid(self) -> usize {
         let mut ten: usize = 10;
         for _ in 0..18 {

@@ -1,4 +1,4 @@
-//! How many tasks are in hands.
+//! The number of tasks in hands.
 
 ghost use Rattle.std.specs.Prelude.{ℕ, ◌≡◌, ◌+◌, ◌<◌, ◌&&◌, IfOk, if◌then◌else◌, length, nat_le, slice_index};
 ghost use Rattle.trace_layout.specs.Busy.{AreInHands};
@@ -6,7 +6,7 @@ ghost use Rattle.trace_layout.specs.Busy.{AreInHands};
 use crate::spells::Spell;
 use std::alloc::{AllocError, Global};
 
-/// Of each of so many events how many tasks are in workers' hands.
+/// Returns the number of tasks in workers' hands for each of this many events.
 pub fn in_hands(alloc: Global, spells: &[Spell], events: usize) -> Result<Vec<usize>, AllocError>
     ensures { IfOk result (λ counts. AreInHands spells.now events counts.items) }
 {
@@ -17,7 +17,7 @@ pub fn in_hands(alloc: Global, spells: &[Spell], events: usize) -> Result<Vec<us
     Ok(counts)
 }
 
-/// One more from somewhere to somewhere, both included.
+/// Adds one to each count from `first` to `last`, inclusive.
 fn count_one(counts: &mut [usize], first: usize, last: usize)
     requires { (n : ℕ) → slice_index counts.old n < 18446744073709551615 }
     ensures { (n : ℕ) → n < length counts.old → slice_index counts.new n

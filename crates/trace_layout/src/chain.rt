@@ -1,4 +1,4 @@
-//! The longest chain of steps: which events are on it.
+//! The longest chain of steps, and which events are on it.
 
 ghost use Rattle.std.specs.Prelude.{◌≡◌, [], IfOk, length};
 
@@ -12,15 +12,16 @@ use types::path::Path;
 /// The last step of each chain, and the step before each.
 #[derive(Drop)]
 struct Links {
-    /// Of each task the last step of the longest chain that leads to where it is.
+    /// For each task, the last step of the longest chain that leads to its current state.
     tasks: HashMap<Path, usize>,
-    /// Of each scope, by its number, the last step of the longest chain that came back to it.
+    /// For each scope, by its number, the last step of the longest chain that came back to it.
     scopes: Vec<Option<usize>>,
-    /// Of each event, where it is a step, the one before it on the longest chain that leads to it.
+    /// For each event that is a step, the step before it on the longest chain that leads to it.
     before: Vec<Option<usize>>,
 }
 
-/// Of each event whether it is on the longest chain of steps that came back to the root's scope.
+/// Returns, for each event, whether it is on the longest chain of steps that came back to the
+/// root's scope.
 pub fn longest_chain(alloc: Global, events: &[Event]) -> Result<Vec<bool>, AllocError>
     ensures { IfOk result (λ marks. length marks.items ≡ length events.now) }
 {
@@ -35,7 +36,7 @@ pub fn longest_chain(alloc: Global, events: &[Event]) -> Result<Vec<bool>, Alloc
 }
 
 impl Links {
-    /// Nothing has been done.
+    /// Returns links without any steps.
     fn start(alloc: Global) -> Result<Links, AllocError>
         ensures { IfOk result (λ links. links.before.items ≡ []) }
     {
@@ -48,7 +49,7 @@ impl Links {
         })
     }
 
-    /// An event happens, before which chains have come so far: the step before it, where it is one.
+    /// Records an event, with the chains before it, and returns the step before it if it is a step.
     fn happens(
         &mut self,
         number: usize,
@@ -80,14 +81,14 @@ impl Links {
         }
     }
 
-    /// A task does a step: the one before it.
+    /// Records a task's step, and returns the step before it.
     fn step(&mut self, number: usize, path: &Path) -> Result<Option<usize>, AllocError>
         ensures { self.new.before ≡ self.old.before }
     {
         Ok(self.tasks.insert(path.clone()?, number)?)
     }
 
-    /// What leads to a task comes back to its innermost scope, and stays there if no longer chain came
+    /// Returns a task's chain to its innermost scope, where it stays if no longer chain came back
     /// before.
     fn come_back(&mut self, path: &Path, chains: &Chains)
         ensures { self.new.before ≡ self.old.before }
@@ -104,7 +105,7 @@ impl Links {
         }
     }
 
-    /// A task goes on behind its innermost scope.
+    /// Continues a task after its innermost scope.
     fn leave(&mut self, path: &Path, chains: &Chains) -> Result<(), AllocError>
         ensures { self.new.before ≡ self.old.before }
     {
@@ -119,7 +120,7 @@ impl Links {
         Ok(())
     }
 
-    /// Of each event whether it is on the chain that came back to the root's scope.
+    /// Returns, for each event, whether it is on the chain that came back to the root's scope.
     fn followed(&self, alloc: Global) -> Result<Vec<bool>, AllocError>
         ensures { IfOk result (λ marks. length marks.items ≡ length self.now.before.items) }
     {

@@ -1,4 +1,4 @@
-//! Finish scopes: from where to where they stand, and what comes back to them.
+//! Finish scopes: when they are open, and what comes back to them.
 
 ghost use Rattle.std.specs.Prelude.{ℕ, ◌≡◌, ◌+◌, List, IfOk, OnOk, Some, length, slice_get};
 ghost use Rattle.events.specs.declared.event.Event.{Event as AnyEvent};
@@ -16,16 +16,16 @@ use types::scope_id::ScopeId;
 #[derive(Debug, Drop)]
 pub struct Finish {
     pub name: ScopeId,
-    /// The number of the event that opened it, 0 of the root's.
+    /// The number of the event that opened it, 0 for the root's scope.
     pub first: usize,
     /// The number of its `pass`, or of the list's last event.
     pub last: usize,
     pub is_passed: bool,
-    /// The number of the event by which its owner parked there.
+    /// The number of the event at which its owner parked there.
     pub parked: Option<usize>,
 }
 
-/// The `end` of a task, by which its weight comes back to a scope.
+/// The `end` of a task, at which its weight comes back to a scope.
 #[derive(Clone, Copy, PartialEq, Eq, Debug)]
 pub struct Return {
     /// The number of the event.
@@ -37,7 +37,7 @@ pub struct Return {
 /// The scopes of a list of events.
 #[derive(Debug, Drop)]
 pub struct Finishes {
-    /// The root's, and then all others as they were opened.
+    /// The root's, and then all others in the order of their `open`s.
     pub all: Vec<Finish>,
     pub returns: Vec<Return>,
 }
@@ -48,13 +48,13 @@ struct Scopes {
     all: Vec<Finish>,
     returns: Vec<Return>,
     numbers: HashMap<ScopeId, usize>,
-    /// How many finishes each task has opened.
+    /// The number of finishes that each task has opened.
     opened: HashMap<Path, u32>,
     /// The number of the list's last event.
     last: usize,
 }
 
-/// The scopes of a list of events, in whatever order they stand.
+/// Returns the scopes of a list of events, in any order.
 pub fn finishes_of(alloc: Global, events: &[Event]) -> Result<Finishes, AllocError>
     ensures { IfOk result (AreFinishes events.now) }
 {
@@ -71,7 +71,7 @@ pub fn finishes_of(alloc: Global, events: &[Event]) -> Result<Finishes, AllocErr
 }
 
 impl Scopes {
-    /// There is the root's scope, before a list of so many events.
+    /// Returns the root's scope, before a list of this many events.
     fn start(alloc: Global, events: usize) -> Result<Scopes, AllocError>
         ensures { IfOk result (λ s. (es : List AnyEvent) → length es ≡ events → AreScopes es 0 s) }
     {
@@ -92,7 +92,7 @@ impl Scopes {
         Ok(scopes)
     }
 
-    /// An event happens, before which chains have come so far.
+    /// Records an event, with the chains before it.
     fn happens(&mut self, number: usize, event: &Event, chains: &Chains) -> Result<(), AllocError>
         ensures { OnOk result ((es : List AnyEvent) → slice_get es number ≡ Some event.now
             → AreScopes es number self.old → AreScopes es (number + 1) self.new) }
@@ -118,13 +118,13 @@ impl Scopes {
         }
     }
 
-    /// A task opens its next finish.
+    /// Records that a task opens its next finish.
     fn open(&mut self, number: usize, path: &Path) -> Result<(), AllocError>
         ensures { OnOk result ((es : List AnyEvent) → opener_at es number ≡ Some path.now.turns.items
             → AreScopes es number self.old → AreScopes es (number + 1) self.new) }
     {
         let before = self.opened.get(path).copied().unwrap_or(0);
-        // A scope's name has no larger number.
+        // A scope's name can't contain a larger number.
         let Some(count) = before.checked_add(1) else {
             return Err(AllocError);
         };
@@ -138,7 +138,7 @@ impl Scopes {
         )
     }
 
-    /// A scope is there from an event on.
+    /// Adds a scope that starts at an event.
     fn begin(&mut self, number: usize, name: ScopeId) -> Result<(), AllocError>
         ensures { OnOk result (IsAdded number name self.old self.new) }
     {
@@ -153,7 +153,7 @@ impl Scopes {
         Ok(())
     }
 
-    /// Its owner is at the end of a finish.
+    /// Records that its owner is at the end of a finish.
     fn park(&mut self, number: usize, finish: usize)
         ensures { (es : List AnyEvent) (n : ℕ) → AreScopes es n self.old → AreScopes es n self.new }
     {
@@ -163,7 +163,7 @@ impl Scopes {
         }
     }
 
-    /// A scope passes.
+    /// Records that a scope passes.
     fn pass(&mut self, number: usize, name: &ScopeId)
         ensures { (es : List AnyEvent) → AreScopes es number self.old → AreScopes es number self.new }
     {
@@ -179,8 +179,8 @@ impl Scopes {
     }
 }
 
-/// The numbers of at most so many scopes, in ascending order: no scope that is left out stands longer than
-/// one of these.
+/// Returns the numbers of at most `most` scopes, in ascending order. No scope that is left out is
+/// open longer than one of these.
 pub fn longest(alloc: Global, all: &[Finish], most: usize) -> Result<Vec<usize>, AllocError> {
     let mut numbers: Vec<usize> = (0..all.len()).collect(alloc)?;
     numbers.sort_by_key(|number| {

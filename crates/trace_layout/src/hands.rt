@@ -1,4 +1,4 @@
-//! What is in the workers' hands, event by event.
+//! The tasks in the workers' hands, event by event.
 
 ghost use Rattle.std.specs.Prelude.{ℕ, ◌≡◌, ◌+◌, ◌-◌, ◌<◌, ◌↔◌, List, IfNone, IfSome, IsTrue, None, OnOk, Some};
 ghost use Rattle.std.specs.Prelude.{IfOk, length, slice_get, slice_index_or};
@@ -16,7 +16,7 @@ use std::alloc::{AllocError, Global};
 use std::collections::HashMap;
 use types::path::Path;
 
-/// The spells of a list of events, in whatever order they stand.
+/// Returns the spells of a list of events, in any order.
 pub fn spells_of(alloc: Global, events: &[Event]) -> Result<Spells, AllocError>
     ensures { IfOk result (AreSpells events.now) }
 {
@@ -32,20 +32,20 @@ pub fn spells_of(alloc: Global, events: &[Event]) -> Result<Spells, AllocError>
     })
 }
 
-/// The spells so far, and what is in each hand.
+/// The spells so far, and the task in each hand.
 #[derive(Drop)]
 pub struct Hands {
     pub spells: Vec<Spell>,
-    /// Of each task the number of its latest spell.
+    /// For each task, the number of its latest spell.
     tasks: HashMap<Path, usize>,
-    /// Of each worker the number of its latest spell.
+    /// For each worker, the number of its latest spell.
     workers: [Option<usize>; 64],
     /// The number of the list's last event.
     last: usize,
 }
 
 impl Hands {
-    /// All hands are empty, before a list of so many events.
+    /// Returns empty hands, before a list of this many events.
     pub fn start(alloc: Global, events: usize) -> Hands
         ensures { (es : List AnyEvent) → length es ≡ events → AreHands es 0 result }
     {
@@ -57,7 +57,7 @@ impl Hands {
         }
     }
 
-    /// An event happens: the number of the spell to which it belongs.
+    /// Records an event, and returns the number of the spell that it belongs to.
     pub fn happens(&mut self, number: usize, event: &Event) -> Result<Option<usize>, AllocError>
         ensures { OnOk result ((es : List AnyEvent) → slice_get es number ≡ Some event.now
             → AreHands es number self.old → AreHands es (number + 1) self.new) }
@@ -75,7 +75,7 @@ impl Hands {
         }
     }
 
-    /// A worker takes a task into its hand.
+    /// Records that a worker takes a task into its hand.
     fn begin(
         &mut self,
         number: usize,
@@ -103,7 +103,7 @@ impl Hands {
         Ok(Some(place))
     }
 
-    /// Before this event a worker's hand is empty.
+    /// Empties a worker's hand before this event.
     fn leave(&mut self, number: usize, worker: WorkerId)
         ensures { (es : List AnyEvent) (path : List ℕ)
             → taken_at es number ≡ Some (record { worker = worker; path = path })
@@ -118,7 +118,7 @@ impl Hands {
         }
     }
 
-    /// An event of a task, which stays in the hand.
+    /// Records an event of a task that stays in the hand.
     fn go_on(&mut self, path: &Path) -> Option<usize>
         ensures { (es : List AnyEvent) (n : ℕ) → AreHands es n self.old → AreHands es n self.new }
     {
@@ -128,7 +128,7 @@ impl Hands {
         Some(place)
     }
 
-    /// The event by which a task leaves its worker's hand.
+    /// Records the event at which a task leaves its worker's hand.
     fn end(&mut self, number: usize, path: &Path, ending: Ending) -> Option<usize>
         ensures { (es : List AnyEvent) → IsLeaving es number path.now.turns.items ending
             → AreHands es number self.old → AreHands es (number + 1) self.new }
@@ -141,7 +141,7 @@ impl Hands {
         Some(place)
     }
 
-    /// The number of a task's spell, where that goes on.
+    /// Returns the number of a task's spell, if that is still open.
     fn going(&self, path: &Path) -> Option<usize>
         ensures none { IfNone result ((k : ℕ) (d : AnySpell) → get is_path self.now.tasks path.now ≡ Some k
             → k < length self.now.spells.items
@@ -161,14 +161,14 @@ impl Hands {
 }
 
 impl Spell {
-    /// Whether no event has ended it.
+    /// Returns whether no event has ended it.
     fn is_going(&self) -> bool
         ensures { IsTrue result ↔ (self.now.ending ≡ Ending.Going) }
     {
         matches!(self.ending, Ending::Going)
     }
 
-    /// It has ended before this event.
+    /// Ends it before this event.
     fn leave(&mut self, number: usize)
         ensures going { self.old.ending ≡ Ending.Going
             → self.new ≡ record self.old { ending = Ending.Left; last = number - 1 } }

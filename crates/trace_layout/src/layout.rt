@@ -1,4 +1,4 @@
-//! All that is drawn of a trace.
+//! The whole layout of a trace.
 
 ghost use Rattle.std.specs.Prelude.{◌≡◌, ◌+◌, ◌<◌, ◌≤◌, All, IfOk};
 ghost use Rattle.trace_layout.specs.Layout.{IsLayout};
@@ -13,19 +13,19 @@ use events::event::Event;
 use events::worker_id::{MOST_WORKERS, WorkerId};
 use std::alloc::{AllocError, Global};
 
-/// What is drawn of a list of events.
+/// The layout of a list of events.
 #[derive(Debug, Drop)]
 pub struct Layout {
     pub spells: Spells,
     pub moves: Moves,
     pub finishes: Finishes,
-    /// Of each event whether it is on the longest chain.
+    /// For each event, whether it is on the longest chain.
     pub chain: Vec<bool>,
-    /// Of each event how many tasks are in hands.
+    /// For each event, the number of tasks in hands.
     pub in_hands: Vec<usize>,
 }
 
-/// What is drawn of a list of events, in whatever order they stand.
+/// Returns the layout of a list of events, in any order.
 pub fn layout_of(alloc: Global, events: &[Event]) -> Result<Layout, AllocError>
     ensures { IfOk result (IsLayout events.now) }
 {
@@ -44,7 +44,8 @@ pub fn layout_of(alloc: Global, events: &[Event]) -> Result<Layout, AllocError>
 }
 
 impl Layout {
-    /// How many lanes there are: of all workers of a run of so many, and of any other that an event names.
+    /// Returns the number of lanes: enough for a run with this many workers, and for any other
+    /// worker that an event names.
     pub fn lanes(&self, workers: u32) -> u32
         ensures few { result ≤ 64 }
         ensures run { workers ≤ 64 → workers ≤ result }
@@ -64,7 +65,7 @@ impl Layout {
     }
 }
 
-/// How many lanes there are up to a worker's.
+/// Returns the number of lanes up to a worker's.
 fn lanes_with(worker: WorkerId) -> u32
     ensures same { result ≡ worker + 1 }
     ensures few { result ≤ 64 }

@@ -1,4 +1,4 @@
-//! A trace as what is drawn of it: plain data, with the numbers of events for times.
+//! The layout of a trace's picture: plain data, with the numbers of events as times.
 
 #![tactic(auto)]
 

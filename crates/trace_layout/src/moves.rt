@@ -1,4 +1,4 @@
-//! How tasks go from worker to worker: spawned, stolen, taken.
+//! Moves of tasks from worker to worker: spawned, stolen, taken.
 
 ghost use Rattle.std.specs.Prelude.{◌≡◌, [], ◌++◌, IfOk, OnOk};
 ghost use Rattle.trace_layout.specs.Moves.{steal_of, steals_from};
@@ -31,14 +31,14 @@ pub struct Birth {
     pub child: Path,
 }
 
-/// Where a task came into a queue: by which event, and whose queue it is.
+/// How a task came into a queue: the event, and whose queue it is.
 #[derive(Clone, Copy, PartialEq, Eq, Debug)]
 pub struct Arrival {
     pub at: usize,
     pub worker: WorkerId,
 }
 
-/// `take 1 0.2`, and how the task came into the worker's queue: by its `spawn` or the last `steal`.
+/// `take 1 0.2`, and how the task came into the worker's queue: by its `spawn` or its last `steal`.
 #[derive(Clone, Copy, PartialEq, Eq, Debug)]
 pub struct Taking {
     /// The number of the event.
@@ -47,7 +47,7 @@ pub struct Taking {
     pub came: Arrival,
 }
 
-/// All that moves, in the order of the events.
+/// All moves, in the order of the events.
 #[derive(Debug, Drop)]
 pub struct Moves {
     pub steals: Vec<Steal>,
@@ -55,14 +55,14 @@ pub struct Moves {
     pub takings: Vec<Taking>,
 }
 
-/// What moved so far, and where each task came into a queue last.
+/// The moves so far, and how each task last came into a queue.
 #[derive(Drop)]
 struct Queues {
     moves: Moves,
     tasks: HashMap<Path, Arrival>,
 }
 
-/// What moves in a list of events with these spells.
+/// Returns the moves in a list of events with these spells.
 pub fn moves_of(alloc: Global, events: &[Event], spells: &Spells) -> Result<Moves, AllocError>
     ensures { IfOk result (λ m. m.steals.items ≡ steals_from 0 events.now) }
 {
@@ -76,7 +76,7 @@ pub fn moves_of(alloc: Global, events: &[Event], spells: &Spells) -> Result<Move
 }
 
 impl Queues {
-    /// Nothing has moved.
+    /// Returns queues without any moves.
     fn start(alloc: Global) -> Queues
         ensures { result.moves.steals.items ≡ [] }
     {
@@ -90,7 +90,7 @@ impl Queues {
         }
     }
 
-    /// An event happens, before which chains have come so far.
+    /// Records an event, with the chains before it.
     fn happens(
         &mut self,
         number: usize,
@@ -122,7 +122,7 @@ impl Queues {
         }
     }
 
-    /// A worker's task spawns another.
+    /// Records that a worker's task spawns another.
     fn spawn(&mut self, number: usize, worker: WorkerId, child: Path) -> Result<(), AllocError>
         ensures { self.new.moves.steals ≡ self.old.moves.steals }
     {
@@ -135,7 +135,7 @@ impl Queues {
         Ok(())
     }
 
-    /// A task comes into a worker's queue.
+    /// Records that a task comes into a worker's queue.
     fn arrive(&mut self, number: usize, worker: WorkerId, path: &Path) -> Result<(), AllocError>
         ensures { self.new.moves ≡ self.old.moves }
     {
@@ -144,7 +144,7 @@ impl Queues {
         Ok(())
     }
 
-    /// A worker takes a task.
+    /// Records that a worker takes a task.
     fn take(&mut self, number: usize, worker: WorkerId, path: &Path) -> Result<(), AllocError>
         ensures { self.new.moves.steals ≡ self.old.moves.steals }
     {

@@ -6,8 +6,8 @@ ghost use Rattle.trace_layout.specs.Rows.{AreApart, first_free as first_free_row
 use crate::stretch::Stretch;
 use std::alloc::{AllocError, Global};
 
-/// The row of each stretch: the first that is free where it begins. None where that takes more rows than
-/// there may be.
+/// Returns the row of each stretch: the first that is free at its start. Returns None if that takes
+/// more rows than `most`.
 pub fn rows_of(
     alloc: Global,
     stretches: &[Stretch],
@@ -35,7 +35,8 @@ pub fn rows_of(
     Ok(Some(rows))
 }
 
-/// The first row that is free from somewhere on, of rows that end so; else the row behind the last.
+/// Returns the first row that is free from `first` on, given the ends of the rows; or the row after
+/// the last.
 fn first_free(ends: &[usize], first: usize) -> usize
     ensures { result ≡ first_free_row ends.now first }
 {

@@ -3,7 +3,7 @@
 use events::worker_id::WorkerId;
 use types::path::Path;
 
-/// How a spell begins.
+/// The event at which a spell starts.
 #[derive(Clone, Copy, PartialEq, Eq, Debug)]
 pub enum Beginning {
     /// By `take 1 0.2`.
@@ -12,46 +12,46 @@ pub enum Beginning {
     Resumed,
 }
 
-/// How a spell ends.
+/// The way in which a spell ends.
 #[derive(Clone, Copy, PartialEq, Eq, Debug)]
 pub enum Ending {
     /// By `park 0`.
     Parked,
     /// By `end 0.1`.
     Ended,
-    /// Before the worker's next spell, as in no list that a run makes.
+    /// Before the worker's next spell. This happens in no list that a run produces.
     Left,
     /// By no event: the list breaks off.
     Going,
 }
 
-/// A task in a worker's hand, from a `take` or `resume` to the next `park` or `end` of that task, both
-/// included.
+/// A task in a worker's hand, from a `take` or `resume` to the next `park` or `end` of that task,
+/// inclusive.
 #[derive(Debug, Drop)]
 pub struct Spell {
     pub path: Path,
     pub worker: WorkerId,
     pub beginning: Beginning,
     pub ending: Ending,
-    /// The number of the event by which it begins.
+    /// The number of its first event.
     pub first: usize,
-    /// The number of its last event, included.
+    /// The number of its last event, inclusive.
     pub last: usize,
-    /// How many of the events from the first to the last are the task's own.
+    /// The number of the task's own events from the first to the last.
     pub own: usize,
 }
 
 /// The spells of a list of events.
 #[derive(Debug, Drop)]
 pub struct Spells {
-    /// In the order in which they begin.
+    /// In the order of their first events.
     pub all: Vec<Spell>,
-    /// Of each event the number of the spell to which it belongs.
+    /// For each event, the number of the spell that it belongs to.
     pub places: Vec<Option<usize>>,
 }
 
 impl Spells {
-    /// The spell to which an event belongs.
+    /// Returns the spell that an event belongs to.
     pub fn of_event(&self, number: usize) -> Option<&Spell> {
         match self.places.get(number) {
             Some(Some(place)) => self.all.get(*place),

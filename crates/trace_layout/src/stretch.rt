@@ -1,8 +1,8 @@
-//! From where to where something is drawn.
+//! Horizontal stretches.
 
 ghost use Rattle.std.specs.Prelude.{◌≡◌, ◌≤◌, max};
 
-/// From where to where something is drawn, both included.
+/// The start and the end of something that is drawn, inclusive.
 #[derive(Clone, Copy, PartialEq, Eq, Debug)]
 pub struct Stretch {
     pub first: usize,
@@ -11,7 +11,7 @@ pub struct Stretch {
 }
 
 impl Stretch {
-    /// From here to there, or here alone where there comes before.
+    /// Returns the stretch from `first` to `last`, or `first` alone if `last` comes before it.
     pub fn new(first: usize, last: usize) -> Stretch
         ensures first { result.first ≡ first }
         ensures last { result.last ≡ max first last }

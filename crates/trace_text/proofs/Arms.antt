@@ -1,4 +1,4 @@
--- The text of an event's line kind by kind, and what of it tells which event it is.
+-- The text of an event's line for each kind, and the part of it that identifies the event.
 use Rattle.std.proofs.Common.{◌≡◌, ℕ, true, arith, List, [], ◌∷◌, ◌++◌, Option, Some, refl, ap, sym, ◌∙◌, append-nil, codes}
 use Rattle.std.specs.Prelude.{sum, nat_eq, if◌then◌else◌}
 use Rattle.std.specs.Fmt.{decimal}
@@ -17,7 +17,7 @@ use Rattle.trace_text.specs.declared.kind.Kind.TheVariants.{Pass as IsPass, Resu
 use Rattle.trace_text.proofs.Marks.{above, Lacks-above}
 use Rattle.trace_text.proofs.Texts.{text_of_header, text_of_pass, text_of_steal, text_of_task, text_of_worker}
 
--- a text with nothing behind it
+-- a text with nothing after it
 bare : {text words : List ℕ} → text ++ [] ≡ words → text ≡ words
 bare {text} {words} same = sym (append-nil text) ∙ same
 
@@ -55,11 +55,11 @@ named_is : (k : Kind) → named (sum (kind_name k)) all_kinds ≡ k
 named_is IsTake = refl
 named_is _ = refl
 
--- a kind is known by its name
+-- a kind is determined by its name
 pub same_kind : (j k : Kind) → kind_name j ≡ kind_name k → j ≡ k
 same_kind j k e = sym (named_is j) ∙ ap (λ (name : List ℕ). named (sum name) all_kinds) e ∙ named_is k
 
--- the text of an event's line: the kind, and the fields behind it
+-- the text of an event's line: the kind, and the fields after it
 pub text_of_event : (e : Event)
     → compact_text (event_object e) ≡ codes "{\"e\":\"" ++ (kind_name (kind_of e) ++ (34 ∷ fields e))
 text_of_event (Take worker path) = bare (text_of_worker IsTake worker path [])
@@ -68,7 +68,7 @@ text_of_event (Resume worker path) = bare (text_of_worker IsResume worker path [
 text_of_event (Pass scope) = bare (text_of_pass scope.number scope.owner [])
 text_of_event e = bare (text_of_task (kind_of e) (task_of e) [])
 
--- what is told of a line's fields is told of the one event that has them
+-- what is known of a line's fields is known of the one event that has them
 pub told_take : (rest : List ℕ) (o : Option Event)
     → ((w : ℕ) (p : List ℕ) → IsWorkers w p → rest ≡ worker_fields w p → o ≡ Some (Take w p))
     → (e : Event) → IsSpelled e → IsTake ≡ kind_of e → rest ≡ fields e → o ≡ Some e

@@ -1,4 +1,4 @@
--- Texts that are cut at the first place of a byte, and the pieces of a path.
+-- Texts that are cut at the first occurrence of a byte, and the pieces of a path.
 use Rattle.std.proofs.Common.{◌≡◌, ℕ, zero, suc, ◌<◌, List, [], ◌∷◌, ◌++◌, Option, Some, None, Bor}
 use Rattle.std.proofs.Common.{refl, ap, ap₂, sym, subst, ◌∙◌, arith, append-nil, codes}
 use Rattle.std.specs.Prelude.{IsSomeAnd, MatchOption, drop}
@@ -10,7 +10,7 @@ use Rattle.types.specs.Names.{path_text}
 use Rattle.trace_text.specs.Spelled.{IsCut, IsCutAt, Lacks}
 use Rattle.trace_text.proofs.Marks.{Lacks-number, turns_text}
 
--- what `split_once` says at a character
+-- the result of `split_once` at a character
 pub cut_found : (c : ℕ) (text : List ℕ) (r : Option (Bor (List ℕ) × Bor (List ℕ))) → IsSplitOnceResult c text r → c < 128
     → MatchOption r (Lacks c text) (λ x. IsCutAt c x.0.now x.1.now text)
 cut_found c text None h small = split_parts c text None h small
@@ -18,7 +18,7 @@ cut_found c text (Some x) h small =
     let p = split_parts c text (Some x) h small in
     record { parts = p.0; first = p.1 }
 
--- what `strip_prefix` says at a text
+-- the result of `strip_prefix` at a text
 pub front_stripped : (front text : List ℕ) (r : Option (Bor (List ℕ)))
     → MatchOption r (FindsTextPrefix front text None) (λ x. StripsPrefix (FindsTextPrefix front) text x.now)
     → (more : List ℕ) → text ≡ front ++ more → IsSomeAnd r (λ x. x.now ≡ more)
@@ -43,12 +43,12 @@ one_cut c (a ∷ more) b (x ∷ xs) y la lx e =
     let rest = one_cut c more b xs y (lacks_tail c a more la) (lacks_tail c x xs lx) tails in
     (ap₂ (λ (h : ℕ) (t : List ℕ). h ∷ t) heads rest.0, rest.1)
 
--- a text in which a byte stands doesn't lack it
+-- a text in which a byte occurs doesn't lack it
 pub not_lacking : (c : ℕ) (a b : List ℕ) → Lacks c (a ++ (c ∷ b)) → ⊥
 not_lacking c [] b h = not_first c c b h refl
 not_lacking c (a ∷ more) b h = not_lacking c more b (lacks_tail c a (more ++ (c ∷ b)) h)
 
--- so whoever knows how a text can be cut knows how it is cut
+-- therefore a known way to cut a text is the only one
 pub cut_given : (c : ℕ) (text : List ℕ) (r : Option (Bor (List ℕ) × Bor (List ℕ)))
     → MatchOption r (Lacks c text) (λ x. IsCutAt c x.0.now x.1.now text) → (piece behind : List ℕ) → Lacks c piece
     → text ≡ piece ++ (c ∷ behind) → IsSomeAnd r (λ x. (x.0.now ≡ piece) × (x.1.now ≡ behind))
@@ -57,7 +57,7 @@ cut_given c text (Some x) h piece behind lacks same =
     one_cut c x.0.now x.1.now piece behind h.first lacks (sym h.parts ∙ same)
 
 -- ---- the pieces of a path
--- what is left behind a piece and its dot, where turns are left
+-- what is left after a piece and its dot, if turns are left
 abbrev pub left_text : List ℕ → Option (List ℕ)
 left_text [] = None
 left_text (n ∷ ns) = Some (decimal n ++ turns_text ns)

@@ -1,4 +1,4 @@
--- What a line is, and what stands first in a text.
+-- What a line is, and which line a text starts with.
 use Rattle.std.proofs.Common.{◌≡◌, ◌≢◌, ℕ, ◌+◌, ◌<◌, List, [], ◌∷◌, ◌++◌, length, Option, Some, None, map}
 use Rattle.std.proofs.Common.{refl, ap, sym, subst, ◌∙◌, arith, append_assoc, append-nil, length-append, codes, inr}
 use Rattle.std.specs.List.{All, flat_map}
@@ -43,12 +43,12 @@ first_line text before rest behind d lacks same cut =
     let both = one_cut 10 before rest (compact_text d) behind cut.first lacks (sym cut.parts ∙ same ∙ line_then d behind) in
     line_is before d both.0
 
--- no line stands first in a text without a line feed
+-- a text without a line feed doesn't start with a line
 pub no_line : (text behind : List ℕ) (d : Data) → text ≡ line d ++ behind → Lacks 10 text → ⊥
 no_line text behind d same lacks =
     not_lacking 10 (compact_text d) behind (subst (Lacks 10) (same ∙ line_then d behind) lacks)
 
--- no header's line stands first in a text whose first line is none, and no event's
+-- a text whose first line is wrong starts neither with a header's line nor with an event's
 pub no_header_first : (text before rest : List ℕ) → IsCutAt 10 before rest text
     → ((h : TraceHeader) → IsHeader h → before ++ codes "\n" ≡ header_line h → ⊥) → BeginsWithHeader text → ⊥
 no_header_first text before rest cut none b =
@@ -61,8 +61,8 @@ no_event_first text before rest cut none b =
     none b.event b.spelled
     (first_line text before rest b.behind (event_object b.event) (Lacks-event b.event) b.parts cut)
 
--- ---- lines one behind the other
--- the lines of events stand in front of what is left of a text
+-- ---- lines one after the other
+-- the lines of events precede what is left of a text
 pub record Front (text rest : List ℕ) (es : List Event) : Type 0 where
   pub spelled : All IsSpelled es
   pub parts : text ≡ flat_map event_line es ++ rest
@@ -86,7 +86,7 @@ front_more text rest before behind es e front cut spelled same =
           ∙ ap (λ (l : List ℕ). l ++ behind) (sym (flat_map-append event_line es (e ∷ [])));
     }
 
--- the same of events in Rust, of which one is pushed
+-- events in Rust, of which one is pushed
 pub front_pushed : (text rest before behind : List ℕ) (es pushed : List rEvent) (e : rEvent) → Front text rest (map event es)
     → IsCutAt 10 before behind rest → IsSpelled (event e) → before ++ codes "\n" ≡ event_line (event e)
     → pushed ≡ es ++ e ∷ [] → Front text behind (map event pushed)
@@ -94,7 +94,7 @@ front_pushed text rest before behind es pushed e front cut spelled same is =
     subst (Front text behind) (sym (ap (λ (l : List rEvent). map event l) is ∙ map-append event es (e ∷ [])))
     (front_more text rest before behind (map event es) (event e) front cut spelled same)
 
--- something is left in which no event's line stands first
+-- something is left that doesn't start with an event's line
 pub front_bad : (text rest : List ℕ) (es : List rEvent) → Front text rest (map event es) → rest ≢ []
     → (BeginsWithEvent rest → ⊥) → IsBadEvent (length es + 2) text
 front_bad text rest es front some bad =
@@ -118,26 +118,26 @@ cut_some text before behind cut none =
 pub long_some : (text : List ℕ) → 0 < length text → text ≢ []
 long_some text long none = absurd (omega (arith, ap length none))
 
--- what is wrong behind a header's line is wrong in the whole
+-- what is wrong after a header's line is wrong in the whole text
 pub refused_behind : (text rest : List ℕ) (h : TraceHeader) (e : TraceError) → IsHeader h → text ≡ header_line h ++ rest
     → IsEventRefusal rest e → IsRefusal text e
 refused_behind text rest h (NotALine n) fits parts bad =
     inr (record { first = record { header = h; behind = rest; fits = fits; parts = parts }; later = bad })
 refused_behind text rest h NoMemory fits parts bad = bad
 
--- ---- a line that is written again
--- what a text tells, as a header or an event, if it is the line of any
+-- ---- a line that is formatted again
+-- the header or event that a text represents, if it is the line of any
 module _ {A : Type 0} (Fits : A → Type 0) (object : A → Data) (text : List ℕ) (o : Option A)
     (told : (a : A) → Fits a → text ≡ compact_text (object a) → o ≡ Some a) where
-  -- whatever a line is, it is that which its text tells
+  -- if a line is the text of something, that is what was found in it
   told_by_line : (a : A) → Fits a → text ++ codes "\n" ≡ line (object a) → o ≡ Some a
   told_by_line a h same = told a h (body_is text (object a) same)
 
-  -- what is known of a line that isn't what its text tells
+  -- a line in which nothing was found
   pub not_told : o ≡ None → (a : A) → Fits a → text ++ codes "\n" ≡ line (object a) → ⊥
   not_told none a h same = let one : o ≡ Some a = told_by_line a h same in cc
 
-  -- a line that isn't spelled as what its text tells
+  -- a line that isn't the text of what was found in it
   pub misspelled : (found : A) (b : Bool) → o ≡ Some found
       → (text ++ codes "\n" ≡ line (object found) → IsTrue b) → b ≡ false
       → (a : A) → Fits a → text ++ codes "\n" ≡ line (object a) → ⊥
@@ -146,13 +146,13 @@ module _ {A : Type 0} (Fits : A → Type 0) (object : A → Data) (text : List �
       let both : a ≡ found = cc in
       let yes : b ≡ true = decides (same ∙ ap (λ (x : A). line (object x)) both) in cc
 
--- what is let go where a test fails
+-- what is dropped if a test fails
 pub if_let_go : {A : Type 0} {P : Type 0} (same : Bool) (x : A) (o : Option A) → o ≡ then_some same x
     → (same ≡ false → P) → IfNone o P
 if_let_go {A} {P} true x o is holds = subst (λ (v : Option A). IfNone v P) (sym is) tt
 if_let_go {A} {P} false x o is holds = subst (λ (v : Option A). IfNone v P) (sym is) (holds refl)
 
--- whether a line with its line feed is a text that ends by one
+-- whether a line with its line feed equals a text that ends with one
 pub line_decided : (front text again : List ℕ) (r : Bool) → again ≡ front ++ (10 ∷ []) → r ≡ bytes_eq front text
     → (IsTrue r → text ++ codes "\n" ≡ again) × (text ++ codes "\n" ≡ again → IsTrue r)
 line_decided front text again r is equal =

@@ -17,7 +17,7 @@ IsDigit x = (48 ≤ x) × (x ≤ 57)
 abbrev pub IsMark : ℕ → Type 0
 IsMark x = (46 ≤ x) × (x ≤ 57)
 
--- ---- what a number is written with
+-- ---- the bytes of a number
 glyph_is_digit : (d : ℕ) → d < 10 → IsDigit (digit_glyph false d)
 glyph_is_digit d small =
     let is : digit_glyph false d ≡ 48 + d = ap (λ (b : Bool). cond b (48 + d) (87 + d)) (lt-ltb d 10 small) in
@@ -52,7 +52,7 @@ marks_from_digits (x ∷ xs) h =
 pub marks_of_number : (n : ℕ) → All IsMark (decimal n)
 marks_of_number n = marks_from_digits (decimal n) (digits_of_number n)
 
--- the numbers of a path, each behind a dot
+-- the numbers of a path, each after a dot
 abbrev pub turns_text : List ℕ → List ℕ
 turns_text turns = flat_map (λ n. codes "." ++ decimal n) turns
 
@@ -71,7 +71,7 @@ marks_of_turns (n ∷ ns) =
 pub marks_of_path : (turns : List ℕ) → All IsMark (path_text turns)
 marks_of_path turns = All-cons IsMark 48 (turns_text turns) root_mark (marks_of_turns turns)
 
--- ---- texts of marks stand in a line as they are
+-- ---- texts of marks are unchanged in a line
 escape_mark : (x : ℕ) → IsMark x → escape_byte x ≡ x ∷ []
 escape_mark x h =
     let low : 46 ≤ x = h.0 in
@@ -86,7 +86,7 @@ escape-marks (x ∷ xs) h =
 pub escape-path : (turns : List ℕ) → escape (path_text turns) ≡ path_text turns
 escape-path turns = escape-marks (path_text turns) (marks_of_path turns)
 
--- ---- what stands in no text of marks
+-- ---- bytes that occur in no text of marks
 pub Lacks-marks : (c : ℕ) (xs : List ℕ) → All IsMark xs → (IsMark c → ⊥) → Lacks c xs
 Lacks-marks c xs h other i within e =
     let mark : IsMark (get_or xs i 0) = All-get_or IsMark xs i 0 within h in
@@ -110,7 +110,7 @@ number_then_comma n = Lacks-marks 44 (decimal n) (marks_of_number n) comma_other
 pub number_then_brace : (n : ℕ) → Lacks 125 (decimal n)
 number_then_brace n = Lacks-marks 125 (decimal n) (marks_of_number n) brace_other
 
--- ---- no control character stands in a line
+-- ---- no control character occurs in a line
 abbrev pub above : ℕ → List ℕ → Bool
 above low xs = list_all (λ x. leb low x) xs
 
@@ -130,7 +130,7 @@ visible-path turns = visible-marks (path_text turns) (marks_of_path turns)
 pub visible-number : (n : ℕ) → visible (decimal n) ≡ true
 visible-number n = visible-marks (decimal n) (marks_of_number n)
 
--- the bytes in front are visible, so all are where the others are
+-- the bytes in front are visible, therefore all are if the others are
 pub visible-append : (xs ys : List ℕ) → visible xs ≡ true → visible ys ≡ true → visible (xs ++ ys) ≡ true
 visible-append [] ys h k = k
 visible-append (x ∷ xs) ys h k =
@@ -148,7 +148,7 @@ Lacks-above low c xs h under i within e = let bound = low_bound low xs h i withi
 pub Lacks-visible : (xs : List ℕ) → visible xs ≡ true → Lacks 10 xs
 Lacks-visible xs h = Lacks-above 32 10 xs h (omega arith)
 
--- no dot stands in a number
+-- no dot occurs in a number
 pub Lacks-number : (n : ℕ) → Lacks 46 (decimal n)
 Lacks-number n i within e =
     let digit : IsDigit (get_or (decimal n) i 0) = All-get_or IsDigit (decimal n) i 0 within (digits_of_number n) in

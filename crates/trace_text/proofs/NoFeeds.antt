@@ -1,4 +1,4 @@
--- No line feed stands in the object of a line.
+-- No line feed occurs in the object of a line.
 use Rattle.std.proofs.Common.{◌≡◌, ℕ, true, List, [], ◌++◌, codes, refl, ap, sym, ◌∙◌, append-nil}
 use Rattle.std.specs.Fmt.{decimal}
 use Rattle.types.specs.Names.{path_text}
@@ -17,7 +17,7 @@ visible_kind : (k : Kind) → visible (kind_name k) ≡ true
 visible_kind IsTake = refl
 visible_kind _ = refl
 
--- a text with nothing behind it is visible words
+-- a text with nothing after it is visible
 lacks_as : (text words : List ℕ) → text ++ [] ≡ words → visible words ≡ true → Lacks 10 text
 lacks_as text words same seen =
     Lacks-visible text (ap visible (sym (append-nil text) ∙ same) ∙ seen)
@@ -28,7 +28,7 @@ lacks_task kind path =
     (visible-append (kind_name kind) (codes "\",\"path\":\"" ++ (path_text path ++ codes "\"}")) (visible_kind kind)
     (visible-append (path_text path) (codes "\"}") (visible-path path) refl))
 
--- what stands behind the key of a path, where a worker is named too
+-- the text after the key of a path, if a worker is named too
 visible_worker : (worker : ℕ) (path : List ℕ)
     → visible (path_text path ++ (codes "\",\"worker\":" ++ (decimal worker ++ codes "}"))) ≡ true
 visible_worker worker path =

@@ -1,4 +1,4 @@
--- A path that is read turn by turn.
+-- A path that is parsed turn by turn.
 use Rattle.std.proofs.Common.{◌≡◌, ℕ, suc, ◌^◌, ◌<◌, ◌≤◌, List, [], ◌∷◌, ◌++◌, length, Option, Some, None, Result, Ok}
 use Rattle.std.proofs.Common.{refl, ap, sym, subst, ◌∙◌, arith, append_assoc, length-append}
 use Rattle.std.specs.Fmt.{decimal}
@@ -11,13 +11,13 @@ use Rattle.trace_text.specs.Spelled.{IsCut, IsPath, IsTurn}
 use Rattle.trace_text.proofs.Cuts.{left_text, root_is, turn_is}
 use Rattle.trace_text.proofs.Marks.{turns_text}
 
--- turns that are left of a path, and what is left of its text
+-- remaining turns of a path, and the rest of its text
 pub record IsLeft (turns : List ℕ) (rest : Option (List ℕ)) (p : List ℕ) : Type 0 where
   pub left : List ℕ
   pub parts : p ≡ turns ++ left
   pub text : rest ≡ left_text left
 
--- these turns were read of whatever path a text spells
+-- these turns were parsed from the path that a text spells, if it spells one
 pub record ReadSoFar (turns : List ℕ) (rest : Option (List ℕ)) (text : List ℕ) : Type 0 where
   pub few : length turns ≤ 1000
   pub fit : All IsTurn turns
@@ -91,7 +91,7 @@ read_more turns more piece text behind r turn so_far cut parses parsed fits few 
           };
     }
 
--- how much is left
+-- the length of the rest
 abbrev pub left_length : Option (List ℕ) → ℕ
 left_length None = 0
 left_length (Some rest) = suc (length rest)

@@ -9,7 +9,7 @@ use Rattle.trace_text.specs.Kinds.{kind_name, kind_of}
 use Rattle.trace_text.specs.Table.{column, deed, left_in, right_in, table_line}
 use Rattle.trace_text.specs.declared.kind.Kind.{Kind}
 
--- spaces, the empty texts that a format puts around them, and a numeral with nothing behind it
+-- spaces, the empty texts that a format puts around them, and a numeral with nothing after it
 right_shape : (p : ℕ) (numeral : List ℕ)
     → (((repeat {A = ℕ} p (32 ∷ []) ++ []) ++ []) ++ []) ++ (numeral ++ repeat {A = ℕ} (p - p) (32 ∷ []))
     ≡ replicate p 32 ++ numeral
@@ -26,7 +26,7 @@ right_in_places most numeral =
     let same : most - length numeral - 0 - 0 ≡ most - length numeral = omega arith in
     ap (λ m. replicate m 32 ++ numeral) same
 
--- a number right in two places, and in eight
+-- a number right-aligned in two columns, and in eight
 pub right_in_two : (n : ℕ) → styled_decimal (format_spec 32 3 0 2 18446744073709551615) n ≡ right_in 2 (decimal n)
 unfolding padded_integral char_count lib.Utf8.encode
 right_in_two n = right_shape (2 - length (decimal n) - 0 - 0) (decimal n) ∙ right_in_places 2 (decimal n)

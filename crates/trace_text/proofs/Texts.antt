@@ -14,7 +14,7 @@ use Rattle.trace_text.specs.Lines.{line, text_under, number_under, task_object, 
 use Rattle.trace_text.specs.declared.kind.Kind.{Kind}
 use Rattle.trace_text.specs.declared.kind.Kind.TheVariants.{Take, Steal, Pass}
 
--- what stands in a line as it is
+-- bytes that are unchanged in a line
 abbrev pub IsPlain : List ℕ → Type 0
 IsPlain s = escape s ≡ s
 
@@ -52,7 +52,7 @@ number_then : (later : Bool) (k rest : List ℕ) (n : ℕ) (ms : Members) → Is
     ≡ comma_if later ++ (34 ∷ (k ++ (34 ∷ (58 ∷ (decimal n ++ (members_text true ms ++ rest))))))
 number_then later k rest n ms plain_key = member_then later k (decimal n) (members_text true ms) rest plain_key
 
--- the kind stands first
+-- the kind comes first
 kind_then : (kind : Kind) (rest : List ℕ) (ms : Members)
     → compact_text (object (text_under (codes "e") (kind_name kind) ms)) ++ rest
     ≡ codes "{\"e\":\"" ++ (kind_name kind ++ (34 ∷ (members_text true ms ++ rest)))
@@ -60,14 +60,14 @@ unfolding escape_byte
 kind_then kind rest ms =
     ap (λ (l : List ℕ). 123 ∷ l) (text_then false (codes "e") (kind_name kind) rest ms refl (IsPlain-kind kind))
 
--- a task stands last
+-- a task comes last
 task_then : (path rest : List ℕ)
     → members_text true (text_under (codes "path") (path_text path) no_members) ++ rest
     ≡ codes ",\"path\":\"" ++ (path_text path ++ (codes "\"}" ++ rest))
 unfolding escape_byte
 task_then path rest = text_then true (codes "path") (path_text path) rest no_members refl (escape-path path)
 
--- a task and a worker stand last
+-- a task and a worker come last
 worker_then : (worker : ℕ) (path rest : List ℕ)
     → members_text true (text_under (codes "path") (path_text path) (number_under (codes "worker") worker no_members)) ++ rest
     ≡ codes ",\"path\":\"" ++ (path_text path ++ (codes "\",\"worker\":" ++ (decimal worker ++ (codes "}" ++ rest))))
@@ -78,7 +78,7 @@ worker_then worker path rest =
     ∙ ap (λ (l : List ℕ). codes ",\"path\":\"" ++ (path_text path ++ (34 ∷ l)))
     (number_then true (codes "worker") rest worker no_members refl)
 
--- ---- lines, with what stands behind the object
+-- ---- lines, with the text after the object
 abbrev pub task_words : (kind path rest : List ℕ) → List ℕ
 task_words kind path rest =
     codes "{\"e\":\"" ++ (kind ++ (codes "\",\"path\":\"" ++ (path ++ (codes "\"}" ++ rest))))

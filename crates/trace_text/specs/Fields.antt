@@ -1,4 +1,4 @@
--- What stands in the line of an event behind the name of its kind.
+-- The fields in the line of an event after the name of its kind.
 use Rattle.std.specs.Prelude.{ℕ, List, ◌++◌, codes}
 use Rattle.std.specs.Fmt.{decimal}
 use Rattle.types.specs.Names.{path_text}

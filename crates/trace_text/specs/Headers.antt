@@ -1,4 +1,4 @@
--- What a run was asked for, as the first line of a trace tells it.
+-- The settings of a run, in the first line of a trace.
 use Rattle.std.specs.Prelude.{ℕ, ◌≤◌}
 use Rattle.trace_text.specs.declared.header.Header.{Header}
 

@@ -8,7 +8,7 @@ use Rattle.trace_text.specs.declared.kind.Kind.TheVariants.{Replenish as IsReple
 use Rattle.trace_text.specs.declared.kind.Kind.TheVariants.{Open as IsOpen, Park as IsPark, End as IsEnd}
 use Rattle.trace_text.specs.declared.kind.Kind.TheVariants.{Pass as IsPass, Resume as IsResume}
 
--- what happens, and to which task: of `pass`, to the owner of the scope
+-- what happens, and to which task; for `pass`, to the owner of the scope
 abbrev pub deed_of : Event → Kind × List ℕ
 deed_of (Take worker path) = (IsTake, path)
 deed_of (Steal worker from path) = (IsSteal, path)

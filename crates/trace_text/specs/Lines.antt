@@ -10,7 +10,7 @@ use Rattle.trace_text.specs.Kinds.{kind_name, kind_of, task_of}
 use Rattle.trace_text.specs.declared.kind.Kind.{Kind}
 use Rattle.trace_text.specs.declared.kind.Kind.TheVariants.{Pass as IsPass, Steal as IsSteal}
 
--- a text or a number under a key, before the keys behind it
+-- a text or a number under a key, before the keys after it
 abbrev pub text_under : (key text : List ℕ) → Members → Members
 text_under key text more = member key (string text) more
 

@@ -1,4 +1,4 @@
--- Which text is a trace, and which is the first line of another that is none.
+-- Which text is a trace, and which line of another text is the first wrong one.
 use Rattle.std.specs.Prelude.{ℕ, ◌≡◌, ◌≢◌, ◌+◌, ◌⊎◌, List, [], ◌++◌, length, All, codes}
 use Rattle.std.specs.Fmt.{decimal}
 use Rattle.std.specs.List.{flat_map}
@@ -20,22 +20,22 @@ pub record IsTrace (h : TraceHeader) (es : List Event) (text : List ℕ) : Type 
   pub spelled : All IsSpelled es
   pub lines : text ≡ trace_text h es
 
--- a header's line stands first in a text
+-- a text starts with a header's line
 pub record BeginsWithHeader (text : List ℕ) : Type 0 where
   pub header : TraceHeader
   pub behind : List ℕ
   pub fits : IsHeader header
   pub parts : text ≡ header_line header ++ behind
 
--- an event's line stands first in a text
+-- a text starts with an event's line
 pub record BeginsWithEvent (text : List ℕ) : Type 0 where
   pub event : Event
   pub behind : List ℕ
   pub spelled : IsSpelled event
   pub parts : text ≡ event_line event ++ behind
 
--- something stands behind the lines of events, and no event's line stands first in it; n is the number of
--- what stands there, where these lines are counted from 2
+-- there is more text after the lines of events, and it doesn't start with an event's line; n is the number
+-- of its first line, if the lines of events are counted from 2
 pub record IsBadEvent (n : ℕ) (text : List ℕ) : Type 0 where
   pub events : List Event
   pub before : List ℕ
@@ -46,21 +46,21 @@ pub record IsBadEvent (n : ℕ) (text : List ℕ) : Type 0 where
   pub some : rest ≢ []
   pub bad : ¬ BeginsWithEvent rest
 
--- the same, behind a header's line
+-- there is such a line after a header's line
 pub record IsBadBehind (n : ℕ) (text : List ℕ) : Type 0 where
   pub first : BeginsWithHeader text
   pub later : IsBadEvent n first.behind
 
--- the line of this number, from 1, is the first that is none
+-- the line with this number, counted from 1, is the first wrong one
 abbrev pub IsFirstBad : ℕ → List ℕ → Type 0
 IsFirstBad n text = ((n ≡ 1) × ¬ BeginsWithHeader text) ⊎ IsBadBehind n text
 
--- why lines of events aren't read; of want of memory nothing is said
+-- why lines of events aren't parsed; out of memory isn't limited
 abbrev pub IsEventRefusal : List ℕ → TraceError → Type 0
 IsEventRefusal text (NotALine n) = IsBadEvent n text
 IsEventRefusal text NoMemory = Unit {0}
 
--- why a text isn't read
+-- why a text isn't parsed
 abbrev pub IsRefusal : List ℕ → TraceError → Type 0
 IsRefusal text (NotALine n) = IsFirstBad n text
 IsRefusal text NoMemory = Unit {0}

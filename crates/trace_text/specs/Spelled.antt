@@ -1,10 +1,10 @@
--- Which events a trace can spell: their workers, paths and scopes are in the ranges of the format.
+-- Events that a trace can express: their workers, paths and scopes are in the ranges of the format.
 use Rattle.std.specs.Prelude.{ℕ, ◌≡◌, ◌≢◌, ◌^◌, ◌<◌, ◌≤◌, List, ◌∷◌, ◌++◌, length, All, slice_index}
 use Rattle.std.specs.Prelude.{Option, None, Some}
 use Rattle.events.specs.Events.{Event, Take, Steal, Pass, Resume, ScopeId}
 use Rattle.trace_text.specs.Kinds.{task_of}
 
--- the number of a child on the way to a task: from 1, of 32 bits
+-- the number of a child on the way to a task: at least 1, of 32 bits
 abbrev pub IsTurn : ℕ → Type 0
 IsTurn n = (1 ≤ n) × (n < 2 ^ 32)
 
@@ -32,16 +32,16 @@ IsSpelled (Resume worker path) = IsWorkers worker path
 IsSpelled (Pass scope) = IsScope scope
 IsSpelled e = IsPath (task_of e)
 
--- a byte stands nowhere in a text
+-- a byte doesn't occur in a text
 abbrev pub Lacks : ℕ → List ℕ → Type 0
 Lacks c text = (i : ℕ) → i < length text → slice_index text i ≢ c
 
--- a text is cut at the first place where a byte stands
+-- a text is cut at the first occurrence of a byte
 pub record IsCutAt (c : ℕ) (before behind text : List ℕ) : Type 0 where
   pub parts : text ≡ before ++ c ∷ behind
   pub first : Lacks c before
 
--- a text is cut at its first dot, or has none
+-- a text is cut at its first dot, or has no dot
 abbrev pub IsCut : (piece : List ℕ) → (behind : Option (List ℕ)) → (text : List ℕ) → Type 0
 IsCut piece None text = (piece ≡ text) × Lacks 46 piece
 IsCut piece (Some behind) text = IsCutAt 46 piece behind text

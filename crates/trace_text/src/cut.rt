@@ -1,9 +1,9 @@
-//! Where a text is cut.
+//! Cuts of a text.
 
 ghost use Rattle.std.specs.Prelude.{◌≡◌, ◌<◌, ◌∷◌, ◌++◌, ℕ, List, IsSomeAnd, MatchOption};
 ghost use Rattle.trace_text.specs.Spelled.{IsCutAt, Lacks};
 
-/// What stands before the first place where an ASCII character stands, and behind it.
+/// Returns the text before the first occurrence of an ASCII character, and the text after it.
 pub fn cut_at(text: &str, mark: char) -> Option<(&str, &str)>
     requires { mark < 128 }
     ensures { MatchOption result (Lacks mark text.now)
@@ -12,8 +12,9 @@ pub fn cut_at(text: &str, mark: char) -> Option<(&str, &str)>
     text.split_once(mark)
 }
 
-/// What stands between a text's front and the next place of an ASCII character, and behind that: `0` and
-/// `}` of `,"path":"0"}`, where the front is `,"path":"` and the character `"`.
+/// Returns the text between a front and the next occurrence of an ASCII character, and the text
+/// after that. Example: `0` and `}` of `,"path":"0"}`, if the front is `,"path":"` and the
+/// character `"`.
 pub fn between<'a>(text: &'a str, front: &str, mark: char) -> Option<(&'a str, &'a str)>
     requires { mark < 128 }
     ensures { (piece behind : List ℕ) → Lacks mark piece

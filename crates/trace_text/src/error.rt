@@ -1,4 +1,4 @@
-//! Why a text is no trace.
+//! Reasons why a text is not a trace.
 
 ghost use Rattle.std.specs.Prelude.{◌≡◌, Some};
 ghost use Rattle.trace_text.specs.Reading.{trace_error_text};
@@ -8,13 +8,13 @@ use std::alloc::{AllocError, AllocFailed};
 use std::error::Error;
 use std::fmt;
 
-/// Why a text is no trace.
+/// The reason why a text is not a trace.
 #[derive(Clone, Copy, PartialEq, Eq, Debug)]
 pub enum TraceError {
-    /// `J1 line 1`: the line of this number, from 1, is the first that isn't spelled as a line there is:
-    /// 1 of the empty text.
+    /// `J1 line 1`: the line with this number, counted from 1, is the first one that isn't the text
+    /// of a header or an event. Example: line 1 of the empty text.
     NotALine(usize),
-    /// `J2`, want of memory: as may be of any text.
+    /// `J2`: out of memory, which can happen with any text.
     NoMemory,
 }
 

@@ -1,26 +1,26 @@
-//! The first line of a trace: what its run was asked for.
+//! The first line of a trace: the settings of its run.
 
 ghost use Rattle.std.specs.Prelude.{◌≡◌, ◌<◌, ◌≤◌, ◌⊎◌, ◌↔◌, IsNone, IfSome};
 
 use events::worker_id::MOST_WORKERS;
 use types::budget::Budget;
 
-/// The weight that a scope issues at a time, at most.
+/// The maximum weight that a scope issues at a time.
 pub const MOST_WEIGHT: u64 = 4_294_967_296;
 
-/// What a run was asked for.
+/// The settings of a run.
 #[derive(Clone, Copy, PartialEq, Eq, Debug)]
 pub struct Header {
     pub budget: Budget,
     /// The weight that a scope issues at a time, 1 to 4294967296.
     pub w0: u64,
-    /// How many workers the run has, 1 to 64.
+    /// The number of workers, 1 to 64.
     pub workers: u32,
     ghost in_range: { (1 ≤ w0) × (w0 ≤ 4294967296) × (1 ≤ workers) × (workers ≤ 64) },
 }
 
 impl Header {
-    /// The header of these numbers, or None where the weight or the workers are out of their range.
+    /// Returns a header with these numbers, or None if the weight or the workers are out of range.
     pub fn new(budget: Budget, w0: u64, workers: u32) -> Option<Header>
         ensures none { IsNone result ↔ ((w0 < 1) ⊎ (4294967296 < w0) ⊎ (workers < 1) ⊎ (64 < workers)) }
         ensures some { IfSome result

@@ -8,7 +8,7 @@ ghost use Rattle.trace_text.specs.declared.kind.Kind.{Kind as AnyKind};
 
 use events::event::Event;
 
-/// What kind of event it is.
+/// The kind of an event.
 #[derive(Clone, Copy, PartialEq, Eq, Debug)]
 pub enum Kind {
     /// `take`, as of `take 1 0.2`
@@ -34,7 +34,7 @@ pub enum Kind {
 }
 
 impl Kind {
-    /// The kind of an event.
+    /// Returns the kind of an event.
     pub fn of(event: &Event) -> Kind
         ensures { result ≡ kind_of (event_of event.now) }
     {
@@ -52,7 +52,7 @@ impl Kind {
         }
     }
 
-    /// Its name.
+    /// Returns its name.
     pub fn name(self) -> &'static str
         ensures { result.now ≡ kind_name self }
     {
@@ -70,7 +70,7 @@ impl Kind {
         }
     }
 
-    /// Its name, with as many spaces as fill the column of a table.
+    /// Returns its name, padded with spaces to the width of its column in the table.
     pub fn in_column(self) -> &'static str
         ensures { result.now ≡ left_in 9 (kind_name self) }
     {
@@ -88,7 +88,7 @@ impl Kind {
         }
     }
 
-    /// The kind of this name.
+    /// Returns the kind with this name.
     pub fn named(name: &str) -> Option<Kind>
         ensures { MatchOption result ((k : AnyKind) → name.now ≡ kind_name k → ⊥)
             (λ k. name.now ≡ kind_name k) }

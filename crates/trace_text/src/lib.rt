@@ -1,4 +1,4 @@
-//! The text of a trace: what a run was asked for and its events, as lines of JSON, and as a table.
+//! The text of a trace: the settings of a run and its events, as lines of JSON, and as a table.
 
 #![tactic(auto)]
 

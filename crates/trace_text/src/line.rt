@@ -1,4 +1,4 @@
-//! How a header and an event are spelled.
+//! Formatting a header and an event.
 
 ghost use Rattle.std.specs.Prelude.{◌≡◌, ◌++◌, OnOk};
 ghost use Rattle.std.specs.String.{string_bytes};
@@ -15,7 +15,7 @@ use std::alloc::AllocError;
 use types::path::Path;
 use types::scope_id::ScopeId;
 
-/// Adds the line of a header.
+/// Appends the line of a header.
 pub fn push_header(text: &mut String, header: &Header) -> Result<(), AllocError>
     ensures { OnOk result (string_bytes text.new
         ≡ string_bytes text.old ++ header_line (header_of header.now)) }
@@ -30,7 +30,7 @@ pub fn push_header(text: &mut String, header: &Header) -> Result<(), AllocError>
     )
 }
 
-/// Adds the line of an event.
+/// Appends the line of an event.
 pub fn push_event(text: &mut String, event: &Event) -> Result<(), AllocError>
     ensures { OnOk result (string_bytes text.new
         ≡ string_bytes text.old ++ event_line (event_of event.now)) }

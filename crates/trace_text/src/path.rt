@@ -1,4 +1,4 @@
-//! How the path of a task is read.
+//! Parsing the path of a task.
 
 ghost use Rattle.std.specs.Prelude.{◌≡◌, ℕ, List, Some, IfOk, IfSome, option_map};
 ghost use Rattle.types.specs.Names.{path_text};
@@ -10,8 +10,8 @@ use types::budget::MOST_NEST;
 use types::child_number::ChildNumber;
 use types::path::Path;
 
-/// The path that a text spells, where its numbers are in their range. None of a text that spells none; but
-/// leading zeros and plus signs pass, since whoever asks writes the path again.
+/// Parses a path, if its numbers are in range. Returns None if the text isn't a path. It accepts
+/// leading zeros and plus signs, because the caller formats the path again.
 pub fn read_path(alloc: Global, text: &str) -> Result<Option<Path>, AllocError>
     ensures path { IfOk result (λ o. IfSome o (λ p. IsPath p.turns.items)) }
     ensures spelled { IfOk result (λ o. (p : List ℕ) → IsPath p → text.now ≡ path_text p
@@ -39,7 +39,7 @@ pub fn read_path(alloc: Global, text: &str) -> Result<Option<Path>, AllocError>
     Ok(Some(Path { turns }))
 }
 
-/// What stands before the first dot of a text, or the whole text, and what stands behind that dot.
+/// Returns the text before the first dot, or the whole text, and the text after that dot.
 fn cut_at_dot(text: &str) -> (&str, Option<&str>)
     ensures { IsCut result.0.now (option_map (λ b. b.now) result.1) text.now }
 {

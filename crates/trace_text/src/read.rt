@@ -1,4 +1,4 @@
-//! How a trace is read.
+//! Parsing a trace.
 
 ghost use Rattle.std.specs.Prelude.{◌≡◌, ◌<◌, ◌+◌, ◌∷◌, ◌++◌, ◌↔◌, ◌^◌, ℕ, List, IfErr};
 ghost use Rattle.std.specs.Prelude.{IfNone, IfOk, IfSome, IsSomeAnd, IsTrue, Some, codes, length, map, option_map};
@@ -27,7 +27,7 @@ use types::budget::Budget;
 use types::path::Path;
 use types::scope_id::ScopeId;
 
-/// The header and the events of a trace.
+/// Parses the header and the events of a trace.
 pub fn read_lines(alloc: Global, text: &str) -> Result<(Header, Vec<Event>), TraceError>
     ensures read { IfOk result
         (λ r. IsTrace (header_of r.0) (map event_of r.1.items) text.now) }
@@ -43,7 +43,7 @@ pub fn read_lines(alloc: Global, text: &str) -> Result<(Header, Vec<Event>), Tra
     Ok((header, events))
 }
 
-/// The events of the lines behind the first.
+/// Parses the events in the lines after the first.
 fn read_events(alloc: Global, text: &str) -> Result<Vec<Event>, TraceError>
     ensures read { IfOk result (λ es. AreEvents (map event_of es.items) text.now) }
     ensures refused { IfErr result (IsEventRefusal text.now) }
@@ -64,14 +64,14 @@ fn read_events(alloc: Global, text: &str) -> Result<Vec<Event>, TraceError>
     Ok(events)
 }
 
-/// The line behind those of a header and of these events is none.
+/// Returns the error for the line after those of the header and of these events.
 fn no_line_behind(events: &[Event]) -> TraceError
     ensures { result ≡ TraceError.NotALine (length events.now + 2) }
 {
     TraceError::NotALine(events.len() + 2)
 }
 
-/// The header of a line, given without its line feed.
+/// Parses the header in a line, given without its line feed.
 fn read_header(alloc: Global, line: &str) -> Result<Option<Header>, AllocError>
     ensures read { IfOk result (λ o. IfSome o (λ h. IsHeader (header_of h)
         × (line.now ++ codes "\n" ≡ header_line (header_of h)))) }
@@ -87,8 +87,8 @@ fn read_header(alloc: Global, line: &str) -> Result<Option<Header>, AllocError>
     Ok(same.then_some(header))
 }
 
-/// The event of a line, given without its line feed. It is written again into `again`, whatever stands
-/// there: one text serves for all lines.
+/// Parses the event in a line, given without its line feed. It formats the event into `again`, and
+/// overwrites that text: one buffer serves for all lines.
 fn read_event(alloc: Global, line: &str, again: &mut String) -> Result<Option<Event>, AllocError>
     ensures read { IfOk result (λ o. IfSome o (λ e. IsSpelled (event_of e)
         × (line.now ++ codes "\n" ≡ event_line (event_of e)))) }
@@ -104,7 +104,7 @@ fn read_event(alloc: Global, line: &str, again: &mut String) -> Result<Option<Ev
     Ok(same.then_some(event))
 }
 
-/// Whether a line, with its line feed, is this text.
+/// Returns whether a line, with its line feed, equals this text.
 fn is_line(line: &str, text: &str) -> bool
     ensures { IsTrue result ↔ (line.now ++ codes "\n" ≡ text.now) }
 {
@@ -114,7 +114,7 @@ fn is_line(line: &str, text: &str) -> bool
     }
 }
 
-/// The header that a line may tell: whoever asks writes it again.
+/// Returns the header that a line may be the text of. The caller formats it again to check.
 fn header_in(line: &str) -> Option<Header>
     ensures { (h : TraceHeader) → IsHeader h → line.now ≡ compact_text (header_object h)
         → option_map header_of result ≡ Some h }
@@ -127,7 +127,7 @@ fn header_in(line: &str) -> Option<Header>
     Header::new(budget, w0, u32::try_from(workers).ok()?)
 }
 
-/// The event that a line may tell: whoever asks writes it again.
+/// Returns the event that a line may be the text of. The caller formats it again to check.
 fn event_in(alloc: Global, line: &str) -> Result<Option<Event>, AllocError>
     ensures spelled { IfOk result (λ o. IfSome o (λ e. IsSpelled (event_of e))) }
     ensures told { IfOk result (λ o. (e : AnyEvent) → IsSpelled e
@@ -142,7 +142,7 @@ fn event_in(alloc: Global, line: &str) -> Result<Option<Event>, AllocError>
     event_behind(alloc, kind, rest)
 }
 
-/// The event of a kind that what stands behind the kind's name may tell.
+/// Returns the event of a kind whose fields the text after the kind's name may be.
 fn event_behind(alloc: Global, kind: Kind, rest: &str) -> Result<Option<Event>, AllocError>
     ensures spelled { IfOk result (λ o. IfSome o (λ e. IsSpelled (event_of e))) }
     ensures told { IfOk result (λ o. (e : AnyEvent) → IsSpelled e → kind ≡ kind_of e
@@ -168,7 +168,7 @@ fn event_behind(alloc: Global, kind: Kind, rest: &str) -> Result<Option<Event>, 
     }
 }
 
-/// The worker and the task behind a text's front: `0.1","worker":0}`
+/// Returns the worker and the task after a text's front: `0.1","worker":0}`
 fn by_worker_in(
     alloc: Global,
     text: &str,
@@ -188,7 +188,7 @@ fn by_worker_in(
     Ok(read_path(alloc, path)?.map(|path| (worker, path)))
 }
 
-/// `,"from":0,"path":"0.1","worker":1}`
+/// Parses `,"from":0,"path":"0.1","worker":1}`
 fn steal_in(alloc: Global, rest: &str) -> Result<Option<Event>, AllocError>
     ensures spelled { IfOk result (λ o. IfSome o (λ e. IsSpelled (event_of e))) }
     ensures told { IfOk result (λ o. (w f : ℕ) (p : List ℕ) → IsTheft w f p
@@ -204,7 +204,7 @@ fn steal_in(alloc: Global, rest: &str) -> Result<Option<Event>, AllocError>
     Ok(by.map(|(worker, path)| Event::Steal { worker, from, path }))
 }
 
-/// `,"number":1,"owner":"0"}`
+/// Parses `,"number":1,"owner":"0"}`
 fn pass_in(alloc: Global, rest: &str) -> Result<Option<Event>, AllocError>
     ensures spelled { IfOk result (λ o. IfSome o (λ e. IsSpelled (event_of e))) }
     ensures told { IfOk result (λ o. (id : AnyScopeId) → IsScope id
@@ -224,7 +224,7 @@ fn pass_in(alloc: Global, rest: &str) -> Result<Option<Event>, AllocError>
     }))
 }
 
-/// `,"path":"0.1"}`
+/// Parses `,"path":"0.1"}`
 fn path_in(alloc: Global, rest: &str) -> Result<Option<Path>, AllocError>
     ensures path { IfOk result (λ o. IfSome o (λ p. IsPath p.turns.items)) }
     ensures spelled { IfOk result (λ o. (p : List ℕ) → IsPath p → rest.now ≡ task_fields p
@@ -236,7 +236,7 @@ fn path_in(alloc: Global, rest: &str) -> Result<Option<Path>, AllocError>
     read_path(alloc, path)
 }
 
-/// `,"worker":0}`
+/// Parses `,"worker":0}`
 fn worker_in(rest: &str) -> Option<WorkerId>
     ensures { (w : ℕ) → w < 64 → rest.now ≡ worker_field w → result ≡ Some w }
 {
@@ -244,15 +244,15 @@ fn worker_in(rest: &str) -> Option<WorkerId>
     worker_of(number)
 }
 
-/// The worker of a number.
+/// Returns the worker with a number.
 fn worker_of(number: u64) -> Option<WorkerId>
     ensures { number < 64 → result ≡ Some number }
 {
     WorkerId::new(u32::try_from(number).ok()?)
 }
 
-/// The number between a text's front and the next place of an ASCII character, and what stands behind that;
-/// leading zeros and plus signs pass.
+/// Returns the number between a text's front and the next occurrence of an ASCII character, and the
+/// text after that. It accepts leading zeros and plus signs.
 fn number_between<'a>(text: &'a str, front: &str, mark: char) -> Option<(u64, &'a str)>
     requires { mark < 128 }
     ensures { (n : ℕ) (behind : List ℕ) → n < 2 ^ 64 → Lacks mark (decimal n)

@@ -12,8 +12,8 @@ use events::worker_id::WorkerId;
 use std::alloc::{AllocError, Global};
 use types::path::Path;
 
-/// The table of events, one on each line: its number, its kind, the worker, from whom it stole, and the task
-/// or the scope.
+/// Returns the table of events, one per line: its number, its kind, the worker, the worker that it
+/// stole from, and the task or the scope.
 pub fn view(alloc: Global, events: &[Event]) -> Result<String, AllocError>
     ensures { IfOk result (λ text. string_bytes text ≡ table_text (map event_of events.now)) }
 {
@@ -24,7 +24,7 @@ pub fn view(alloc: Global, events: &[Event]) -> Result<String, AllocError>
     Ok(text)
 }
 
-/// The line of an event.
+/// Appends the line of an event.
 fn push_row(text: &mut String, number: usize, event: &Event) -> Result<(), AllocError>
     ensures { OnOk result (string_bytes text.new
         ≡ string_bytes text.old ++ table_line number (event_of event.now)) }
@@ -34,7 +34,7 @@ fn push_row(text: &mut String, number: usize, event: &Event) -> Result<(), Alloc
     push_deed(text, event)
 }
 
-/// Who does it to what.
+/// Appends the workers and the task or scope of an event.
 fn push_deed(text: &mut String, event: &Event) -> Result<(), AllocError>
     ensures { OnOk result (string_bytes text.new
         ≡ string_bytes text.old ++ deed (event_of event.now)) }
@@ -53,7 +53,7 @@ fn push_deed(text: &mut String, event: &Event) -> Result<(), AllocError>
     }
 }
 
-/// The worker, and the task.
+/// Appends the worker, and the task.
 fn push_by_worker(text: &mut String, worker: WorkerId, path: &Path) -> Result<(), AllocError>
     ensures { OnOk result (string_bytes text.new
         ≡ string_bytes text.old ++ (column (Some worker) ++ (column None
@@ -63,7 +63,7 @@ fn push_by_worker(text: &mut String, worker: WorkerId, path: &Path) -> Result<()
     write!(text, "{worker:>2}    {path}\n")
 }
 
-/// The worker, from whom it stole, and the task.
+/// Appends the worker, the worker that it stole from, and the task.
 fn push_steal(
     text: &mut String,
     worker: WorkerId,
@@ -79,7 +79,7 @@ fn push_steal(
     write!(text, "{worker:>2} {from:>2} {path}\n")
 }
 
-/// The task alone.
+/// Appends the task alone.
 fn push_of_task(text: &mut String, path: &Path) -> Result<(), AllocError>
     ensures { OnOk result (string_bytes text.new
         ≡ string_bytes text.old ++ (column None ++ (column None

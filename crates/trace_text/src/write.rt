@@ -1,4 +1,4 @@
-//! How a trace is written.
+//! Formatting a trace.
 
 ghost use Rattle.std.specs.Prelude.{◌≡◌, IfOk, map};
 ghost use Rattle.std.specs.String.{string_bytes};
@@ -11,7 +11,7 @@ use crate::line::{push_event, push_header};
 use events::event::Event;
 use std::alloc::{AllocError, Global};
 
-/// The lines of a trace: the header's, and one for each event.
+/// Returns the lines of a trace: the header's, and one for each event.
 pub fn write_lines(alloc: Global, header: &Header, events: &[Event]) -> Result<String, AllocError>
     ensures { IfOk result (λ text. string_bytes text
         ≡ trace_text (header_of header.now) (map event_of events.now)) }

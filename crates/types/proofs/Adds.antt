@@ -11,7 +11,7 @@ use Rattle.types.proofs.Views.{View, viewed, same_told, Never, surely, Follows, 
 abbrev S : Type 0
 S = State (Unit {0})
 
--- lines and faults that were told before
+-- lines and faults from before
 pub record Told : Type 0 where
   pub lines : List (List ℤ)
   pub faults : List Fault
@@ -19,19 +19,19 @@ pub record Told : Type 0 where
 abbrev telling : View Told (Unit {0}) (Unit {0})
 telling = record { lines = λ t x. t.lines; faults = λ t x. t.faults; steps = λ t n. n; extra = λ t x. x }
 
--- a state with these before its own
+-- a state with these before its own lines and faults
 abbrev behind : Told → S → S
 behind = viewed telling
 
 abbrev Grows : (S → S) → Type 0
 Grows go = Follows telling Never go go
 
--- what is joined to what is behind others stays behind them
+-- joining commutes with adding lines and faults in front
 joined_behind : (t : Told) (before out : S) → joined (behind t before) out ≡ behind t (joined before out)
 joined_behind t before out =
     same_told out _ _ _ _ (append_assoc t.lines before.lines out.lines) (append_assoc t.faults before.faults out.faults)
 
--- the same without anything before it
+-- the same state without anything in front of it
 alone : (go to : S → S) → Follows telling Never go to → (st : S) → to st ≡ go st
 alone go to h st = surely (h (record { lines = []; faults = [] }) st)
 
@@ -54,7 +54,7 @@ begin_grows : (p : Program) (fresh nest : ℕ) (b : Codes) → Grows (begin_one 
 begin_grows p fresh zero b t st = inr refl
 begin_grows p fresh (suc n) b t st = inr (joined_behind t st _)
 
--- what a statement leaves is what was there, followed by what it tells
+-- what a statement leaves is the old output, followed by its own output
 pub only_adds : (p : Program) (fresh nest : ℕ) (w : Work) → OnlyAdds (one p fresh nest w)
 only_adds p fresh nest w st =
     ap (one p fresh nest w) (same_told st _ _ _ _ (sym (append-nil st.lines)) (sym (append-nil st.faults)))

@@ -1,4 +1,4 @@
--- What a name stands for once it is bound, and the place of an element.
+-- The meaning of a bound number, and the place of an element.
 use Rattle.std.proofs.Common.{◌≡◌, ℕ, ◌+◌, ◌≢◌, Some, None, Ok, Err, Bool, true, false, refl, ap, subst, arith}
 use Rattle.std.proofs.lemmas.Bool.{ltb-true, eq-eqb, ne_eqb}
 use Rattle.std.specs.Prelude.{ℤ, pos, negsuc, nat_lt, ok_or, if◌then◌else◌}

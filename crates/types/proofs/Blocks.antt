@@ -1,4 +1,4 @@
--- The code of a statement is that of its blocks.
+-- The code of a statement consists of the code of its blocks.
 use Rattle.std.proofs.Common.{◌≡◌, List, [], ◌∷◌, ◌++◌, Vec, Global, refl, ap, ◌∙◌}
 use mathlib.Core.Former.{Count}
 use Rattle.types.specs.Code.{If, While, Split, Async, Finish, Codes, End, Then}

@@ -51,7 +51,7 @@ pub one_taken : {A : Type 0} {all whole after : List A} (before one more : List 
 one_taken before one more e f g =
     e ∙ ap (λ l. before ++ l) f ∙ sym (append_assoc before one more) ∙ ap (λ l. l ++ more) (sym g)
 
--- ---- the sections that are passed are there
+-- ---- the sections that are passed exist
 module _ (n : ℕ) where
   abbrev IsThere : Passed → Type 0
   IsThere p = p.0 < n
@@ -62,7 +62,7 @@ module _ (n : ℕ) where
   there_passed (Some (AScalar k)) w rest known all = all
   there_passed (Some (ASection s)) w rest known all = All-cons IsThere (s, w) rest (known s refl) all
 
-  -- the first of those that are passed, and the others
+  -- the first of the passed sections, and the others
   pub front_passed : {ps later : List rPassed} {one : rPassed} → ps ≡ one ∷ later
       → All IsThere (map passed_by ps) → IsThere (passed_by one) × All IsThere (map passed_by later)
   front_passed {ps} {later} {one} front all =
@@ -93,7 +93,7 @@ module _ (n : ℕ) where
     passed_are_there (Read x t ∷ ps) (e ∷ es) = there_named (lone_atom e) false (passed names ps es) (passed_are_there ps es)
     passed_are_there (Scalar x ∷ ps) (e ∷ es) = passed_are_there ps es
 
--- ---- the procedure of a name stands where the name does
+-- ---- the procedure of a name is at the position of the name
 abbrev numbered : ℕ → rProcedure → ℕ × List Declared
 numbered n f = (n, map parameter f.parameters.items)
 
@@ -158,7 +158,7 @@ module _ {Z : Type 0} where
   name_any b [] = refl
   name_any b (k ∷ ks) = ap (λ o. pointwise nat_eq b (string_bytes k) || o) (name_any b ks)
 
-  -- a clone of a name is new among these just where the name is
+  -- a clone of a name is new among these exactly if the name is
   pub declared_before : (x k : String Z) (ks : List (String Z)) (added : Bool) → string_bytes k ≡ string_bytes x
       → added ≡ not (list_any (string_eq k) ks)
       → list_any (pointwise nat_eq (string_bytes x)) (map string_bytes ks) ≡ not added
@@ -171,7 +171,7 @@ module _ {Z : Type 0} where
   new_key k ks added e new =
       ap (λ b. if b then ks else ks ++ k ∷ []) (sym (not_not (list_any (string_eq k) ks)) ∙ ap not (sym e ∙ new))
 
--- ---- an argument that is there
+-- ---- an argument that exists
 pub there_at : (n : ℕ) (ps : List rPassed) (i : ℕ) (d : rPassed) → i < length ps → All (λ p. p.0 < n) (map passed_by ps)
     → (slice_index_or ps i d).section.number < n
 there_at n ps i d inside all =

@@ -28,7 +28,7 @@ use Rattle.types.proofs.Prefixes.{root-prefix, overlap-prefix}
 use Rattle.types.proofs.LabelLimit.{none_left, none_right}
 use Rattle.types.proofs.Refused.{refused, test_passed, test_failed}
 
--- the kinds of the section parameters, and how many scalar ones there are
+-- the kinds of the section parameters, and the number of scalar ones
 abbrev pub section_kinds : List Declared → List Parameter
 section_kinds [] = []
 section_kinds (Written x t ∷ ps) = record { may_write = true; element = t } ∷ section_kinds ps
@@ -41,7 +41,7 @@ scalar_count (Written x t ∷ ps) = scalar_count ps
 scalar_count (Read x t ∷ ps) = scalar_count ps
 scalar_count (Scalar x ∷ ps) = suc (scalar_count ps)
 
--- the procedure of a number is one with these parameters
+-- the procedure with a number has these parameters
 pub record Callable (p : Program) (k : ℕ) (ps : List Declared) : Type 0 where
   pub there : k < length p.procedures
   pub parameters : (procedure_of p k).parameters ≡ section_kinds ps
@@ -64,7 +64,7 @@ section a = a.0
 
 module _ (label : ℕ) (here : Scope) (scope : List ℕ)
     (known : (x : List ℕ) (s : ℕ) → meant x here.names ≡ Some (ASection s) → Member s scope) where
-  -- an argument that suits a parameter
+  -- an argument that fits a parameter
   record Suits (k : Parameter) (a : Passed) : Type 0 where
     marked : a.1 ≡ k.may_write
     in_scope : Member a.0 scope

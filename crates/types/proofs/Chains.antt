@@ -1,4 +1,4 @@
--- A chain stands for what its operands in turn stand for.
+-- A chain represents what its operands, in order, represent.
 use Rattle.std.proofs.Common.{◌≡◌, ℕ, suc, ◌<◌, List, length, drop, get_or, Vec, Box, Global, Ok, refl, sym, ap, ◌∙◌}
 use Rattle.std.proofs.Math.Seq.{drop-cons}
 use Rattle.std.specs.Prelude.{ℤ, Bool, true, false}
@@ -49,7 +49,7 @@ truth-Either operands =
     let row = operands_in (rEither operands) in ap Either (truths_are row.0 row.1 ∙ ap truths
     (items_hidden-the_row-Truth-0 operands))
 
--- where those that are left begin with an operand
+-- if the remaining operands start with an operand
 operands_from : (ts : List rTruth) (i : ℕ) (t : rTruth) → i < length ts → t ≡ get_or ts i t
     → truths (drop i ts) ≡ Also (truth t) (truths (drop (suc i) ts))
 operands_from ts i t lt at = ap truths (drop-cons ts i t lt) ∙ ap (λ u. Also (truth u) (truths (drop (suc i) ts))) (sym at)
@@ -63,7 +63,7 @@ module _ (env : Environment) (read : Place → ℤ) where
   any-true NoMore = refl
   any-true (Also t rest) = refl
 
-  -- a chain's value is that of all its operands, or of any
+  -- the value of a chain is whether all its operands, or any of them, are true
   pub value-Both : {t : rTruth} {row : List rTruth} (operands : Vec rTruth Global) → t ≡ rBoth operands
       → row ≡ operands.items → all env read (truths row) true ≡ truth_value env read (truth t)
   value-Both operands is at = ap (λ ts. all env read (truths ts) true) at
@@ -74,19 +74,19 @@ module _ (env : Environment) (read : Place → ℤ) where
   value-Either operands is at = ap (λ ts. any env read (truths ts) false) at
       ∙ ap (truth_value env read) (sym (ap truth is ∙ truth-Either operands))
 
-  -- an operand that is known, before those behind it
+  -- an operand whose value is known, before those after it
   decided : (b : Bool) (t : rTruth) (rest : Bool → Valued Bool) → Ok b ≡ truth_value env read (truth t) → Ok b ≡ rest b
       → Ok b ≡ then_try (truth_value env read (truth t)) rest
   decided b t rest e ends = ends ∙ ap (λ v. then_try v rest) e
 
-  -- the first operand that doesn't hold ends it
+  -- the first operand that is false ends the evaluation
   pub all_end : (ts : List rTruth) (i : ℕ) (t : rTruth) → i < length ts → t ≡ get_or ts i t
       → Ok false ≡ truth_value env read (truth t) → Ok false ≡ all env read (truths (drop i ts)) true
   all_end ts i t lt at e =
       let rest = truths (drop (suc i) ts) in
       decided false t (all env read rest) e (all-false rest) ∙ ap (λ l. all env read l true) (sym (operands_from ts i t lt at))
 
-  -- the first operand that holds ends it
+  -- the first operand that is true ends the evaluation
   pub any_ends : (ts : List rTruth) (i : ℕ) (t : rTruth) → i < length ts → t ≡ get_or ts i t
       → Ok true ≡ truth_value env read (truth t) → Ok true ≡ any env read (truths (drop i ts)) false
   any_ends ts i t lt at e =

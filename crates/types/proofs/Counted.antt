@@ -1,4 +1,5 @@
--- What holds of a state whether its rules were told of a statement's step or not, holds behind that.
+-- A property that holds for a state, whether or not its rules were informed of a statement's step,
+-- holds after `counted`.
 use Rattle.std.proofs.Common.{◌≡◌, ℕ, refl}
 use Rattle.types.specs.Code.{Code, Do, If, While, Split, Call, Async, Finish}
 use Rattle.types.specs.Run.{State, Rules, counted}

@@ -1,4 +1,4 @@
--- What worked programs come to, computed.
+-- The outcomes of worked programs, computed.
 use Rattle.std.proofs.Common.{◌≡◌, ℕ, zero, suc, ◌+◌, ◌*◌, List, [], ◌∷◌, refl}
 use Rattle.std.specs.Prelude.{ℤ, pos, negsuc, replicate}
 use Rattle.types.specs.declared.code.Operator.TheVariants.{Over, Modulo}
@@ -88,7 +88,7 @@ three_faults_end : outcome three_faults [] usual ≡ fails []
     ∷ record { path = []; label = 6; kind = Raised (z 3) } ∷ [])
 three_faults_end = refl
 
--- a child's fault leaves its parent alone up to the finish
+-- a child's fault doesn't affect its parent up to the finish
 child_faults_end : outcome child_faults [] usual ≡ fails ((z 8 ∷ []) ∷ []) (record { path = 1 ∷ []; label = 3; kind = Raised (z 1) } ∷ [])
 child_faults_end = refl
 
@@ -99,7 +99,7 @@ fault_after_async_end = refl
 nested_tasks_end : outcome nested_tasks [] usual ≡ prints ((z 1 ∷ []) ∷ (z 2 ∷ []) ∷ (z 3 ∷ []) ∷ [])
 nested_tasks_end = refl
 
--- a child's child has its path behind the child's
+-- the path of a child's child extends the child's path
 nested_faults_end : outcome nested_faults [] usual
     ≡ fails [] (record { path = 1 ∷ 1 ∷ []; label = 4; kind = Raised (z 1) }
     ∷ record { path = 1 ∷ []; label = 5; kind = Raised (z 2) } ∷ [])
@@ -116,7 +116,7 @@ past_the_end_faults = refl
 endless_stops : outcome endless [] (budget 100 100) ≡ Stopped
 endless_stops = refl
 
--- toward zero, and with the sign of the dividend
+-- division rounds toward zero, and `%` has the sign of the dividend
 signs_end : outcome signs [] usual ≡ fails ((negsuc 2 ∷ negsuc 0 ∷ []) ∷ []) (record { path = []; label = 2; kind = Overflow } ∷ [])
 signs_end = refl
 
@@ -134,7 +134,7 @@ least_negative = refl
 by_zero_faults : outcome by_zero [] usual ≡ fails [] (record { path = []; label = 1; kind = ZeroDivisor } ∷ [])
 by_zero_faults = refl
 
--- 1 step for the assignment, 6 for the guard, 5 for the body and 1 for the print
+-- 1 step for the assignment, 6 for the condition, 5 for the body and 1 for the print
 counts_to_5 : outcome (count_to 5) [] (budget 13 0) ≡ prints ((z 5 ∷ []) ∷ [])
 counts_to_5 = refl
 
@@ -154,6 +154,6 @@ no_nest_stops = refl
 one_nest_suffices : outcome one_async [] (budget 100 1) ≡ prints ((z 1 ∷ []) ∷ (z 2 ∷ []) ∷ [])
 one_nest_suffices = refl
 
--- a child begins with all steps, whatever its parent has left
+-- a child starts with all steps, no matter how many its parent has left
 late_async_ends : outcome late_async [] (budget 3 1) ≡ prints []
 late_async_ends = refl

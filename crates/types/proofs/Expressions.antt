@@ -1,4 +1,4 @@
--- Expressions as chains of their operands: what is found so far, and what is left.
+-- Expressions as chains of their operands: what was resolved so far, and what remains.
 use Rattle.std.proofs.Common.{◌≡◌, ◌≢◌, ◌⊎◌, inl, inr, ℕ, Bool, List, [], ◌∷◌, ◌++◌, length, map, refl, sym, ap, ◌∙◌, arith, true, false, Some, None, String, Box, Global}
 use Rattle.std.specs.String.{string_bytes}
 use Rattle.syntax_tree.specs.Tree.{Or, And, Add, Multiply, Cmp, Conj, NoConj}
@@ -29,7 +29,7 @@ use Rattle.types.specs.Rows.{links, truths}
 use Rattle.types.specs.Scope.{Names}
 use Rattle.types.specs.Translation.{number, truth}
 
--- ---- links and truth values so far, before others
+-- ---- links and booleans so far, before others
 abbrev pub linked : List rLink → Links → Links
 linked [] more = more
 linked (l ∷ ls) more = Link l.operator (number l.operand) (linked ls more)
@@ -60,7 +60,7 @@ pub term_is : (t : rTerm) (rest : Terms) → term t rest ≡ AddTerm (out-Term t
 term_is t rest = ap (λ u. term u rest) (sym (roll-out-Term t)) ∙ term_built (out-Term t).sign (out-Term t).operand rest
 
 module _ (names : Names) where
-  -- ---- an operand that stands alone, and a chain
+  -- ---- a single operand, and a chain
   pub sum_alone : (p : Prod) (ts : List rTerm) → length ts ≡ 0 → resolution.number_sum names (Add p (terms ts)) ≡ resolution.number_prod names p
   sum_alone p [] none = refl
   sum_alone p (t ∷ ts) none = absurd (omega (arith, none))
@@ -127,7 +127,7 @@ module _ (names : Names) where
   truth_prod_alone u [] none = refl
   truth_prod_alone u (f ∷ fs) none = absurd (omega (arith, none))
 
--- ---- the errors of an operand that stands alone, and of one that doesn't
+-- ---- the errors of a single operand, and of one that isn't single
 module _ (label : ℕ) (names : Names) where
   pub errors-number_alone : (c : Conj) (cs : List rConj) → length cs ≡ 0
       → errors.number label names (Or c (conjs cs)) ≡ errors.number_conj label names c
@@ -173,7 +173,7 @@ module _ (label : ℕ) (names : Names) where
       ≡ errors.number_prod label names (prod (out-Term t).operand) ++ errors.terms label names (terms ts)
   errors-terms_more t ts = ap (errors.terms label names) (term_is t (terms ts))
 
-  -- ---- what the errors of a Rust expression are, level by level
+  -- ---- the errors of a Rust expression, level by level
   pub errors-of_expr_alone : (e : rExpr) → length (out-Expr e).rest.items ≡ 0
       → errors.number label names (expr e) ≡ errors.number_conj label names (conj (out-Expr e).first)
   errors-of_expr_alone e none = ap (errors.number label names) (expr_is e) ∙ errors-number_alone (conj (out-Expr e).first) (out-Expr e).rest.items none
@@ -218,7 +218,7 @@ module _ (label : ℕ) (names : Names) where
       ≡ errors.number_unary label names (unary (out-Prod e).first) ++ errors.factors label names (factors (out-Prod e).rest.items)
   errors-of_prod e = ap (errors.number_prod label names) (prod_is e)
 
--- ---- no operand behind the first
+-- ---- no operand after the first
 pub no_conjs : (cs : List rConj) → length cs ≡ 0 → conjs cs ≡ NoConj
 no_conjs [] none = refl
 no_conjs (c ∷ cs) none = absurd (omega (arith, none))
@@ -264,7 +264,7 @@ pub atom_Parens : (b : Box rExpr Global) → atom (rParens b) ≡ Parens (expr b
 unfolding atom
 atom_Parens b = refl
 
--- ---- truth values where a number is wanted
+-- ---- booleans where a number is expected
 pub errors-of_truth_value : (label : ℕ) (names : Names) (a : rAtom) → (a ≡ rTrue) ⊎ (a ≡ rFalse)
     → errors.number_atom label names (atom a) ≡ errors.wrong_kind label names
 errors-of_truth_value label names a (inl is) = ap (errors.number_atom label names) (ap atom is ∙ atom_True)

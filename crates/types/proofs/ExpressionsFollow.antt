@@ -17,7 +17,7 @@ use Rattle.types.specs.Sound.{IsLiteral, NumberFollows, LinksFollow, TruthFollow
 use Rattle.types.proofs.LabelLimit.{none_left, none_right}
 use Rattle.types.proofs.Refused.{refused, test_passed}
 
--- what names mean is there
+-- what names mean exists
 pub record Knows (slots : ℕ) (scope : List ℕ) (names : Names) : Type 0 where
   pub sections : (x : List ℕ) (s : ℕ) → meant x names ≡ Some (ASection s) → Member s scope
   pub scalars : (x : List ℕ) (k : ℕ) → meant x names ≡ Some (AScalar k) → k < slots

@@ -6,7 +6,7 @@ use Rattle.syntax_tree.specs.Tree.{Block, End, Then}
 use Rattle.sections.specs.Origins.{Origin, Left, Right}
 use Rattle.types.specs.Scope.{Scope, section_of, next, inside_async, with_sides, out_of, behind, after}
 
--- sections, and how many slots there are, and later ones
+-- sections and the number of slots, and later ones
 pub record Grows (os : List Origin) (n : ℕ) (qs : List Origin) (m : ℕ) : Type 0 where
   pub more : List Origin
   pub sections : qs ≡ os ++ more

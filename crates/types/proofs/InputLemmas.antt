@@ -1,4 +1,4 @@
--- Inputs that fit, and what JSON values say of arrays.
+-- Inputs that fit, and what JSON values give for arrays.
 use Rattle.std.proofs.Common.{◌≡◌, ℕ, zero, suc, ◌+◌, ◌<◌, ◌≤◌, List, [], ◌∷◌, ◌++◌, length, map, Option, Some, None, Result, Ok, Err, IfOk, IfErr, IfSome, Vec, get_or, drop, is_some}
 use Rattle.std.proofs.Common.{Bool, true, false, refl, sym, ap, ◌∙◌, arith, subst, Less, Equal, Greater}
 use Rattle.std.proofs.Common.{String, Global, string_bytes, string_cmp, nat_cmp, option_map, replicate, BTreeMap}
@@ -52,7 +52,7 @@ first_none : (a b : Option Mistake) → first_of a b ≡ None → (a ≡ None) �
 first_none None b e = (refl, e)
 first_none (Some m) b e = absurd (none-some _ (sym e))
 
--- lists with which nothing is wrong fit
+-- lists without a mistake fit
 pub IsInput-from_wrong_rows : (xs : List Array) (rows : List (List ℤ)) → length rows ≡ length xs
     → wrong_rows xs rows ≡ None → IsInput xs rows
 IsInput-from_wrong_rows [] [] long e = inputs.no_more
@@ -68,7 +68,7 @@ row_right x row r =
     else Some (OtherLength x.name)) (eq-eqb _ _ r.long)
     ∙ ap (λ b. if b then None else Some (BadElement x.name)) r.held
 
--- and nothing is wrong with lists that fit
+-- and lists that fit have no mistake
 pub wrong_rows-fitting : (xs : List Array) (rows : List (List ℤ)) → IsInput xs rows → wrong_rows xs rows ≡ None
 wrong_rows-fitting [] rows fits = refl
 wrong_rows-fitting (x ∷ xs) [] fits = refl
@@ -89,7 +89,7 @@ FitsArrays-from_IsInput (x ∷ xs) [] fits = elim fits [ ]
 FitsArrays-from_IsInput (x ∷ xs) (row ∷ rows) (inputs.also r fits) =
     also r.long (FitsArrays-from_IsInput xs rows fits)
 
--- a list in which something is wrong isn't of an input that fits
+-- a list with a mistake belongs to no input that fits
 pub wrong_rows-faulty : (arrays : List rArray) (lists : List (Vec ℤ Global)) (i : ℕ) (x : rArray) (l : Vec ℤ Global)
     → i < length arrays → length lists ≡ length arrays → x ≡ get_or arrays i x → l ≡ get_or lists i l
     → (wrong_row (array_of x) l.items ≡ None → ⊥)
@@ -111,12 +111,12 @@ length_of : (arrays : List rArray) (lists : List (Vec ℤ Global)) → length (m
     → length lists ≡ length arrays
 length_of arrays lists e = simp (length-map) at e
 
--- lists of another number than the arrays don't fit them
+-- lists don't fit the arrays if there are more or fewer lists than arrays
 pub other_number-fitting : (arrays : List rArray) (lists : List (Vec ℤ Global)) → (length lists ≡ length arrays → ⊥)
     → IsInput (map array_of arrays) (map (λ v. v.items) lists) → ⊥
 other_number-fitting arrays lists ne fits = ne (length_of arrays lists (length-fitting _ _ fits))
 
--- lists in which nothing was found wrong up to the end fit
+-- lists without a mistake up to the end fit
 pub IsInput-to_the_end : (arrays : List rArray) (lists : List (Vec ℤ Global)) (i : ℕ) → length lists ≡ length arrays
     → length arrays ≤ i
     → wrong_rows (map array_of arrays) (map (λ v. v.items) lists)
@@ -127,7 +127,7 @@ IsInput-to_the_end arrays lists i long le inv =
     IsInput-from_wrong_rows (map array_of arrays) (map (λ v. v.items) lists) same
     (inv ∙ ap (λ xs. wrong_rows (map array_of xs) (map (λ v. v.items) (drop i lists))) (drop_all i arrays le))
 
--- ---- the least stranger
+-- ---- the smallest unknown name
 
 is_named-map : (arrays : List rArray) (name : List ℕ) → is_named (map array_of arrays) name ≡ is_array arrays name
 is_named-map [] name = refl
@@ -142,7 +142,7 @@ least_is P name [] p all = p
 least_is P name (x ∷ xs) p all =
     lesser_is P name (unwrap_or (option_map (lesser x) (least xs)) x) p (least_is P x xs all.0 all.1)
 
--- a name below all others is the least
+-- a name below all others is the smallest
 below_all : (name : List ℕ) (names : List (List ℕ)) → AllByRecursion (λ k. slice_cmp nat_cmp name k ≡ Less) names
     → least (name ∷ names) ≡ Some name
 below_all name [] all = refl
@@ -161,7 +161,7 @@ strangers_are P arrays (e ∷ es) all =
     (if b then strangers arrays (members_view es) else string_bytes e.0 ∷ strangers arrays (members_view es)))
     [ true ↦ rest | false ↦ (all.0, rest) ]
 
--- the first stranger in the order of names is the least
+-- the first unknown name in the order of names is the smallest
 pub least-strangers : (arrays : List rArray) (es : List (String Global × Value)) → IsStrictlySortedBy string_cmp (keys_of es)
     → least (strangers (map array_of arrays) (members_view es))
     ≡ option_map string_bytes (find (λ k. not (is_array arrays (string_bytes k))) (keys_of es))
@@ -187,7 +187,7 @@ least-strangers arrays (e ∷ es) sorted =
     by_name true name others key keys same rest here = rest
     by_name false name others key keys same rest here = here ∙ ap Some (sym same)
 
--- ---- what members say
+-- ---- what members give
 
 pub object-from_as_object : (d : Data) (ms : Members) → as_object d ≡ Some ms → d ≡ object ms
 object-from_as_object (object ns) ms e = cc
@@ -197,14 +197,14 @@ pub array-from_as_array : (d : Data) (ds : Items) → as_array d ≡ Some ds →
 array-from_as_array (array es) ds e = cc
 array-from_as_array d ds e = cc
 
--- what a JSON list of an array's length says of it
+-- what a JSON list of an array's length gives for the array
 pub value_says-list : (x : Array) (d : Data) (ds : Items) → as_array d ≡ Some ds → items_count ds ≡ x.length
     → value_says x d ≡ ok_or (numbers_in x.element ds) (BadElement x.name)
 value_says-list x d ds e long =
     ap (value_says x) (array-from_as_array d ds e)
     ∙ ap (λ b. if b then ok_or (numbers_in x.element ds) (BadElement x.name) else Err (OtherLength x.name)) (eq-eqb _ _ long)
 
--- and of another length
+-- and one of another length
 pub value_says-other : (x : Array) (d : Data) (ds : Items) → as_array d ≡ Some ds → (items_count ds ≡ x.length → ⊥)
     → value_says x d ≡ Err (OtherLength x.name)
 value_says-other x d ds e long =
@@ -215,7 +215,7 @@ pub items_count-items_view : (vs : List Value) → items_count (items_view vs) �
 items_count-items_view [] = refl
 items_count-items_view (v ∷ vs) = let e = items_count-items_view vs in omega (arith, e)
 
--- what the list of an array's length says of it, by its items
+-- what a list of an array's length gives for the array, by its items
 pub value_says-items : (x : Array) (d : Data) {es vs : List Value} → Some (items_view es) ≡ as_array d
     → vs ≡ es → length vs ≡ x.length
     → value_says x d ≡ ok_or (numbers_in x.element (items_view vs)) (BadElement x.name)
@@ -223,22 +223,22 @@ value_says-items x d {es} {vs} is same long =
     value_says-list x d (items_view vs) (sym is ∙ ap (λ l. Some (items_view l)) (sym same))
     (items_count-items_view vs ∙ long)
 
--- what is left of a list, behind the numbers so far
+-- what remains of a list, after the numbers so far
 abbrev pub behind : List ℤ → Option (List ℤ) → Option (List ℤ)
 behind so_far rest = option_map (λ vs. so_far ++ vs) rest
 
--- what is left of arrays, behind the lists so far
+-- what remains of arrays, after the lists so far
 abbrev pub after_lists : List (List ℤ) → Result (List (List ℤ)) Mistake → Result (List (List ℤ)) Mistake
 after_lists so_far (Err m) = Err m
 after_lists so_far (Ok rows) = Ok (so_far ++ rows)
 
--- a list that was read is what the value says
+-- a list that was read is what the value gives
 pub value_says-read : (x : Array) (d : Data) (o : Option (List ℤ)) (r : Result (Vec ℤ Global) InputError)
     → value_says x d ≡ ok_or o (BadElement x.name) → IfOk r (λ v. o ≡ Some v.items) → IfOk r (λ v. value_says x d ≡ Ok v.items)
 value_says-read x d o (Ok v) e h = e ∙ ap (λ p. ok_or p (BadElement x.name)) h
 value_says-read x d o (Err f) e h = tt
 
--- and a refusal is what is wrong with it
+-- and an error is the mistake in it
 pub value_says-refused : (x : Array) (d : Data) (o : Option (List ℤ)) (r : Result (Vec ℤ Global) InputError)
     → value_says x d ≡ ok_or o (BadElement x.name)
     → IfErr r (λ e. IfSome (told e) (λ m. (m ≡ BadElement x.name) × (o ≡ None)))
@@ -267,15 +267,15 @@ module _ (arrays : List rArray) (d : Data) (m : BTreeMap (String Global) Value) 
       (least-strangers arrays m.entries ordered ∙ ap (option_map string_bytes) (sym e))
       ∙ sym (ap (λ d. after_stranger (option_map string_bytes o) (members_say (λ name. get name d) plain)) is)
 
-  -- what an object says that has a stranger
+  -- what an object with an unknown name gives
   pub data_says-stranger : (name : String Global) → Some name ≡ first → data_says (map array_of arrays) d ≡ Err (Stranger (string_bytes name))
   data_says-stranger name e = by_first (Some name) e
 
-  -- what an object says that has none
+  -- what an object without an unknown name gives
   pub data_says-members : None ≡ first → data_says (map array_of arrays) d ≡ members_say (λ name. get name d) (map array_of arrays)
   data_says-members e = by_first None e
 
--- numbers that were read: each is held, and there is one for each element
+-- numbers that were read: each one fits, and there is one for each element
 abbrev AreHeld : ElementType → Items → List ℤ → Type 0
 AreHeld t ds vs = (list_all (holds_number t) vs ≡ true) × (length vs ≡ items_count ds)
 
@@ -357,7 +357,7 @@ both_rows x xs rows (Ok row) (Ok others) here there e =
     let same : row ∷ others ≡ rows = cc in
     subst (IsInput (x ∷ xs)) same (inputs.also (here row refl) (there others refl))
 
--- what members say fits
+-- what members give fits
 pub IsInput-from_members_say : (member_of : List ℕ → Option Data) (xs : List Array) (rows : List (List ℤ))
     → members_say member_of xs ≡ Ok rows → IsInput xs rows
 IsInput-from_members_say member_of [] [] e = inputs.no_more
@@ -371,7 +371,7 @@ after_stranger_fits : (xs : List Array) (o : Option (List ℕ)) (says : Result (
 after_stranger_fits xs None says rows h e = h e
 after_stranger_fits xs (Some name) says rows h e = absurd (err_is_ok e)
 
--- what a JSON value says fits
+-- what a JSON value gives fits
 pub IsInput-from_data_says : (xs : List Array) (d : Data) (rows : List (List ℤ)) → data_says xs d ≡ Ok rows → IsInput xs rows
 IsInput-from_data_says xs null rows e = absurd (err_is_ok e)
 IsInput-from_data_says xs (boolean b) rows e = absurd (err_is_ok e)

@@ -14,7 +14,7 @@ use Rattle.types.specs.Run.{window_at, entry, with_sides, array_of, procedure_of
 use Rattle.types.specs.Run.{within, run}
 use Rattle.types.specs.Laws.{IsKept, Keeps}
 
--- a number is there after a choice of two that are
+-- there is a number after a choice between two numbers
 pub still_there : (b : Bool) (v w : Option ℤ) → IsThere v → IsThere w → IsThere (if b then v else w)
 still_there true v w h k = h
 still_there false v w h k = k
@@ -74,7 +74,7 @@ module _ (p : Program) {X : Type 0} (r : Rules X) (R : State X → State X → T
   counted_keeps l (Finish b) st = stays st
 
   module _ (d : Work → State X → State X) (h : (w : Work) → Kept (d w)) where
-    -- a step, then what it stands before
+    -- a step, then the statement that follows it
     step_keeps : (l : ℕ) (s : Code) → Kept (act p r d l s) → Kept (with_step (λ st. act p r d l s (counted r l s st)))
     step_keeps l s k st =
         spend_keeps st.steps st (λ st. act p r d l s (counted r l s st)) (λ st.

@@ -1,4 +1,5 @@
--- What is known at each place of a text that breaks no rule: the names in scope, and what the sections so far are.
+-- What is known at each position of a text that breaks no rule: the names in scope, and the
+-- sections so far.
 use Rattle.std.proofs.Common.{◌≡◌, inl, inr, ℕ, zero, suc, ◌+◌, ◌-◌, ◌<◌, ◌≤◌, Bool, true, false, List, [], ◌∷◌, ◌++◌, length}
 use Rattle.std.proofs.Common.{Option, Some, None, refl, sym, ap, ◌∙◌, subst, arith, if◌then◌else◌}
 use Rattle.std.proofs.Math.ListN.{get_or-append}
@@ -24,13 +25,13 @@ use Rattle.types.proofs.Prefixes.{root-prefix}
 use Rattle.types.proofs.LabelLimit.{none_left, none_right}
 use Rattle.types.proofs.Refused.{refused}
 
--- each section has the kind of the parameter that it lies in
+-- each section has the kind of the parameter that contains it
 pub record HasKinds (ps : List Parameter) (os : List Origin) (ks : List Parameter) : Type 0 where
   pub numbered : IsNumbered os
   pub count : length ks ≡ length os
   pub kind : (s : ℕ) → s < length os → slice_index_or ks s no_section ≡ parameter_at ps (root_of os s)
 
--- a split's sides have the kind of what is split
+-- the sides of a split have the kind of the section that is split
 module _ (ps : List Parameter) (os : List Origin) (ks : List Parameter) (known : HasKinds ps os ks) (s : ℕ) (there : s < length os) where
   abbrev kind : Parameter
   kind = slice_index_or ks s no_section
@@ -86,7 +87,7 @@ module _ (ps : List Parameter) (os : List Origin) (ks : List Parameter) (known :
     kind = kind_at;
   }
 
--- the names at a place stand for sections of the scope and for slots that are there
+-- the names at a position mean sections of the scope and slots that exist
 pub record Known (ps : List Parameter) (scope : List ℕ) (names : Names) (slots : ℕ) (os : List Origin) (ks : List Parameter) : Type 0 where
   pub sections : (x : List ℕ) (s : ℕ) → meant x names ≡ Some (ASection s) → Member s scope
   pub scalars : (x : List ℕ) (k : ℕ) → meant x names ≡ Some (AScalar k) → k < slots
@@ -96,7 +97,7 @@ pub record Known (ps : List Parameter) (scope : List ℕ) (names : Names) (slots
 abbrev pub KnownAt : List Parameter → List ℕ → Scope → Type 0
 KnownAt ps scope here = Known ps scope here.names here.slot here.sections here.kinds
 
--- one name more, by whether it is the one that is looked for
+-- one more name, by whether it is the one that is looked up
 pub section_or_later : (b : Bool) (k s : ℕ) (o : Option Meant) → (if b then Some (AScalar k) else o) ≡ Some (ASection s)
     → o ≡ Some (ASection s)
 section_or_later true k s o h = absurd cc
@@ -147,7 +148,7 @@ known_sides ps scope here s l r there known =
       kinds = kinds_of_sides ps here.sections here.kinds known.kinds s (known.below s there);
     }
 
--- out of a block again
+-- after a block
 known_out : (ps : List Parameter) (scope : List ℕ) (here there : Scope) → KnownAt ps scope here → GrowsTo here there
     → HasKinds ps there.sections there.kinds → KnownAt ps scope (out_of here there)
 known_out ps scope here there known grows kinds =

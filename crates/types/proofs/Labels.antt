@@ -26,7 +26,7 @@ range_with_len-append a (suc m) n =
     ∙ ap (λ l. a ∷ l) (range_with_len-append (a + 1) m n)
     ∙ ap (range_with_len a) (sym more)
 
--- the numbers from a on, in turn, up to the one before b
+-- the consecutive numbers from a to the one before b
 record Counts (a b : ℕ) (ls : List ℕ) : Type 0 where
   turn : ls ≡ range_with_len a (length ls)
   end : b ≡ a + length ls
@@ -109,7 +109,7 @@ counts_program fs m =
     (subst (λ n. Counts n (after m.body here).label (labels_of (codes fs here m.body))) (label_with_arrays m.arrays (empty_scope before))
     (counts_codes fs m.body here))
 
--- a program has as many labels as the label goes on by
+-- a program has as many labels as the label advances
 pub last_label : (fs : List Procedure) (m : Main)
     → (after m.body (in_main (label_behind_all 1 fs) m.arrays)).label ≡ 1 + length (labels_of_program (with_main fs m))
 last_label fs m = (counts_program fs m).end

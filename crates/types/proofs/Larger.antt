@@ -1,4 +1,4 @@
--- Under a larger budget an ended outcome is the same.
+-- A larger budget doesn't change an ended outcome.
 use Rattle.std.proofs.Common.{◌≡◌, ℕ, zero, suc, ◌+◌, ◌-◌, ◌≤◌, List, [], refl, sym, ap, ◌∙◌, subst, inl, inr, arith, le_refl}
 use Rattle.std.specs.Prelude.{ℤ, ◌⊎◌}
 use Rattle.types.specs.Code.{Codes, Program}
@@ -16,7 +16,7 @@ S = State (Unit {0})
 abbrev rich : View ℕ (Unit {0}) (Unit {0})
 rich = record { lines = λ d x. []; faults = λ d x. []; steps = λ d n. n + d; extra = λ d x. x }
 
--- the same with so many steps more
+-- the same state with d more steps
 abbrev richer : ℕ → S → S
 richer = viewed rich
 
@@ -39,7 +39,7 @@ one_is_thrifty p fresh nest = record {
     begin_less (suc n) b st = le_refl st.steps
 
 module _ (p : Program) (fresh more : ℕ) where
-  -- a run with more steps, fresh ones too, does the same or is stopped
+  -- a run with more steps, also more fresh ones, does the same, or the original run is stopped
   module _ (n m : ℕ) (begins : (b : Codes) → Follows rich IsStopped (begin_one p fresh n b) (begin_one p (fresh + more) m b)) where
     abbrev r : Rules (Unit {0})
     r = one_rules p fresh n
@@ -114,7 +114,7 @@ larger_by p input fresh more n m e le ends =
         absurd (not_stopped e (sym (ap (λ f. outcome_by (after_finish f out.faults) (ending_of p (joined st out))) stops) ∙ ends))
     by_run out other (inr same) ends = ap (λ o. outcome_of p ((one_rules p (fresh + more) m).leave (richer more st) o)) same ∙ ends
 
--- an ended outcome stays under a larger budget
+-- an ended outcome stays the same under a larger budget
 pub larger_ends : (p : Program) (input : List (List ℤ)) (b larger : Budget) (e : Ending) → IsLarger larger b
     → outcome p input b ≡ Ended e → outcome p input larger ≡ Ended e
 larger_ends p input b larger e is_larger ends =
@@ -126,7 +126,7 @@ abbrev ending_or : Ending → Outcome → Ending
 ending_or other (Ended e) = e
 ending_or other Stopped = other
 
--- a program means one ending at most
+-- a program has at most one ending
 pub one_ending : (p : Program) (input : List (List ℤ)) (e f : Ending) → Means p input e → Means p input f → e ≡ f
 one_ending p input e f some other =
     let b = some.0 in

@@ -1,4 +1,4 @@
--- Contents and environments as lists show them.
+-- Contents and environments as lists.
 use Rattle.std.proofs.Common.{◌≡◌, ℕ, zero, suc, ◌+◌, ◌<◌, List, [], ◌∷◌, ◌++◌, length, Some, refl, sym}
 use Rattle.std.proofs.Common.{ap, ◌∙◌, arith}
 use Rattle.std.proofs.lemmas.Bool.{eqb-true, eqb-false}
@@ -37,7 +37,7 @@ rows_are c a (x ∷ xs) (l ∷ ls) (also e fits) h =
     (λ j k. let e : a + 1 + j ≡ a + suc j = omega arith in ap (λ b. read c (record { array = b; index = k })) e ∙ h (suc j) k) in
     ap (λ y. y ∷ rows c (a + 1) xs) first ∙ ap (λ ys. l ∷ ys) rest
 
--- lists that fit the arrays are what their contents show
+-- lists that fit the arrays are the lists of their contents
 pub shown-held_by : (arrays : List Array) (lists : List (List ℤ)) → FitsArrays arrays lists → shown arrays (held_by lists) ≡ lists
 shown-held_by arrays lists fits =
     rows_are (held_by lists) 0 arrays lists fits (λ j k. let z : 0 + j ≡ j = omega arith in
@@ -69,7 +69,7 @@ get_other (x ∷ xs) zero (suc k) v ne = refl
 get_other (x ∷ xs) (suc i) zero v ne = refl
 get_other (x ∷ xs) (suc i) (suc k) v ne = get_other xs i k v (λ e. ne (ap suc e))
 
--- an array that has an element is there
+-- an array that has an element exists
 array_is_there : (lists : List (List ℤ)) (a i : ℕ) → i < length (slice_index_or lists a []) → a < length lists
 array_is_there [] a i lt = absurd (omega (arith, lt))
 array_is_there (l ∷ ls) zero i lt = omega arith
@@ -110,7 +110,7 @@ padded_by_number d [] n k = default_there d n k
 padded_by_number d (x ∷ xs) n zero = refl
 padded_by_number d (x ∷ xs) n (suc k) = padded_by_number d xs n k
 
--- slots that hold the default behind those of a list are as if they weren't there
+-- slots with the default value after those of a list change nothing
 pub by_number-append-replicate : {A : Type 0} (d : A) (xs : List A) (n : ℕ) → by_number d (xs ++ replicate n d) ≡ by_number d xs
 by_number-append-replicate d xs n = λ t k. padded_by_number d xs n k t
 

@@ -1,4 +1,4 @@
--- The names in scope as a map's entries, the latest first: each name stands there once.
+-- The names in scope as the entries of a map, the latest first. Each name occurs once.
 use Rattle.std.proofs.Common.{◌≡◌, ℕ, ◌-◌, Bool, true, false, cond, List, [], ◌∷◌, ◌++◌, length, map, drop, take, reverse}
 use Rattle.std.proofs.Common.{Option, Some, None, is_some, inl, String, refl, sym, ap, ◌∙◌, arith, if◌then◌else◌}
 use Rattle.std.specs.Prelude.{nat_eq}
@@ -17,7 +17,7 @@ use Rattle.types.specs.Resolving.{meant_by, entry}
 use Rattle.types.specs.declared.check.names.Meaning.{Meaning}
 use Rattle.std.proofs.lemmas.List.{drop_at}
 
--- what a name means among some names, or else among others
+-- the meaning of a name among some names, or otherwise among others
 abbrev or_else : Option Meant → Option Meant → Option Meant
 or_else None n = n
 or_else (Some m) n = Some m
@@ -69,7 +69,7 @@ module _ {Z : Type 0} where
       ∙ ap (λ o. or_else o (if string_eq x e.0 then Some (meant_by e.1) else None)) (meant_is_lookup x es apart.1)
       ∙ found_by (string_eq x e.0) e.1 (lookup (string_eq x) es) (λ h. absent x e.0 es ((bytes_eq-Decides (string_bytes x) (string_bytes e.0)).0 h) apart.0)
 
-  -- the first so many entries are the earliest names
+  -- the first entries are the earliest names
   pub names_in-take : (n : ℕ) (es : List (String Z × Meaning))
       → names_in (take n es) ≡ drop (length (names_in es) - n) (names_in es)
   names_in-take n es =
@@ -82,7 +82,7 @@ module _ {Z : Type 0} where
       let count : length later ≡ length (names_in es) - n = omega (arith, whole, part) in
       sym (ap (λ k. drop k (names_in es)) (sym count) ∙ ap (drop (length later)) all ∙ drop_at later (names_in (take n es)) (length later) refl)
 
--- ---- a declaration, by whether the name is there
+-- ---- a declaration, by whether the name exists
 is_some_found : (o : Option Meaning) (m : Option Meant) → m ≡ option_map meant_by o → is_some m ≡ is_some o
 is_some_found None m e = ap is_some e
 is_some_found (Some x) m e = ap is_some e

@@ -1,4 +1,4 @@
--- Which numbers stand in a list of so many from the first on.
+-- Which numbers are in a list of consecutive numbers.
 use Rattle.std.proofs.Common.{ℕ, zero, suc, ◌+◌, ◌<◌, ◌≤◌, subst, arith, inl, inr}
 use Rattle.std.proofs.lemmas.Bool.{cases_eq}
 use Rattle.sections.specs.Member.{Member, first, next}

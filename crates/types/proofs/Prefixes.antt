@@ -1,4 +1,4 @@
--- What is known of sections stays so as more are added.
+-- What is known about sections stays true as more are added.
 use Rattle.std.proofs.Common.{◌≡◌, ℕ, zero, suc, ◌+◌, ◌<◌, ◌≤◌, List, [], ◌∷◌, ◌++◌, length, refl, ap, ◌∙◌, arith}
 use Rattle.std.specs.Prelude.{Bool, ◌&&◌, ◌||◌, not, nat_eq}
 use Rattle.std.specs.List.{list_any}

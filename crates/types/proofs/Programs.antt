@@ -37,7 +37,7 @@ main_of arrays slots sections body = record {
   };
 }
 
--- a procedure whose name is one letter, with `mut s: int` and so many scalars as its parameters
+-- a procedure whose name is one letter; its parameters are `mut s: int` and a number of scalars
 abbrev pub over_ints : (letter scalars : ℕ) → Codes → Procedure
 over_ints letter scalars body = record {
   name = letter ∷ [];

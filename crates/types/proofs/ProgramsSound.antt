@@ -28,8 +28,8 @@ use Rattle.types.proofs.Known.{KnownAt, known_after, past_section, section_or_la
 use Rattle.types.proofs.LabelLimit.{none_left, none_right, label_after}
 use Rattle.types.proofs.StatementsFollow.{follows}
 
--- ---- where a procedure begins
--- its sections are its parameters, which are all that is in scope
+-- ---- where a procedure starts
+-- its sections are its parameters, and only these are in scope
 record Begins (names : Names) (slots : ℕ) (os : List Origin) (ks : List Parameter) : Type 0 where
   roots : os ≡ replicate (length ks) Root
   sections : (x : List ℕ) (s : ℕ) → meant x names ≡ Some (ASection s) → s < length ks
@@ -129,7 +129,7 @@ root_first (suc n) os (suc k) h = root_first n os k (omega arith)
 
 module _ (all : List DeclaredProcedure) (p : Program)
     (callable : (x : List ℕ) (k : ℕ) (ps : List Declared) → procedure_of 0 x all ≡ Some (k, ps) → Callable p k ps) where
-  -- a procedure, or `main`, whose body begins here
+  -- a procedure, or `main`, whose body starts here
   resolved_sound : (name : List ℕ) (here : Scope) (b : Block) → BeginsAt here → errors all here b ≡ []
       → IsSoundIn p (resolved all name here b)
   resolved_sound name here b begins none =
@@ -164,7 +164,7 @@ module _ (all : List DeclaredProcedure) (p : Program)
   procedures_sound label (f ∷ fs) none (suc k) =
       procedures_sound (label_behind label f) fs (none_right (procedure_errors all label f) _ none) k
 
--- ---- the procedure of a name
+-- ---- the procedure with a name
 kinds_with_parameters : (ps : List Declared) (here : Scope) → (with_parameters ps here).kinds ≡ here.kinds ++ section_kinds ps
 kinds_with_parameters [] here = sym (append-nil here.kinds)
 kinds_with_parameters (Written x t ∷ ps) here =
@@ -181,7 +181,7 @@ slots_with_parameters (Scalar x ∷ ps) here =
     let others : (with_parameters ps (with_scalar x here)).slot ≡ here.slot + 1 + scalar_count ps =
     slots_with_parameters ps (with_parameter (Scalar x) here) in omega arith
 
--- the procedure of this number among some
+-- the procedure with this number among some
 record Called (rs : List Procedure) (i : ℕ) (ps : List Declared) : Type 0 where
   there : i < length rs
   parameters : (slice_index_or rs i no_procedure).parameters ≡ section_kinds ps
@@ -236,7 +236,7 @@ module _ (all : List DeclaredProcedure) (x : List ℕ) where
       found_by (pointwise nat_eq x f.name) n label f (procedures all (label_behind label f) fs) (procedure_of (n + 1) x fs) k ps
       (found (n + 1) (label_behind label f) fs k ps) h
 
--- every call of a resolved program is of a procedure that is there
+-- every call of a resolved program calls a procedure that exists
 callable : (fs : List DeclaredProcedure) (m : Main) (x : List ℕ) (k : ℕ) (ps : List Declared) → procedure_of 0 x fs ≡ Some (k, ps)
     → Callable (with_main fs m) k ps
 callable fs m x k ps h =

@@ -1,8 +1,8 @@
--- Where there are no errors, tests passed.
+-- If there are no errors, tests passed.
 use Rattle.std.proofs.Common.{◌≡◌, List, [], ◌∷◌, Bool, true, false, refl, if◌then◌else◌}
 
 module _ {A : Type 0} where
-  -- there is an error
+  -- anything follows if there is an error although there is none
   pub refused : {B : Type 0} {x : A} {xs : List A} → x ∷ xs ≡ [] → B
   refused h = absurd cc
 

@@ -1,4 +1,4 @@
--- How a scope goes on: the names of before stay, and what is known of it stays known.
+-- How a scope changes: the earlier names stay, and what is known about it stays true.
 use Rattle.std.proofs.Common.{◌≡◌, ℕ, ◌+◌, ◌-◌, ◌<◌, ◌≤◌, Bool, true, false, List, [], ◌∷◌, ◌++◌, length, drop, Option, Some}
 use Rattle.std.proofs.Common.{refl, sym, ap, ◌∙◌, arith, if◌then◌else◌, append_assoc}
 use Rattle.std.specs.Prelude.{nat_eq}
@@ -14,9 +14,9 @@ use Rattle.types.specs.Scope.{with_arrays, empty_scope}
 use Rattle.types.specs.Resolving.{left, IsWellScoped}
 use Rattle.std.proofs.lemmas.List.{drop_at}
 
--- ---- the names of before stay
+-- ---- the earlier names stay
 
--- some names more than these
+-- these names and some more
 pub record Grown (old new : Names) : Type 0 where
   pub more : Names
   pub is : new ≡ more ++ old
@@ -53,7 +53,7 @@ grown_after End here = grown_none here.names
 grown_after (Then s rest) here =
     grown_both here.names (behind s here).names (after rest (behind s here)).names (grown_behind s here) (grown_after rest (behind s here))
 
--- what is left of names of which some are dropped
+-- what remains of names of which some are dropped
 drop_more : (more ns : Names) → drop (length (more ++ ns) - length ns) (more ++ ns) ≡ ns
 drop_more more ns =
     let n : length (more ++ ns) - length ns ≡ length more = omega (arith, length-append more ns) in
@@ -62,7 +62,8 @@ drop_more more ns =
 dropped : (old new : Names) → Grown old new → drop (length new - length old) new ≡ old
 dropped old new g = ap (λ ns. drop (length ns - length old) ns) g.is ∙ drop_more g.more old
 
--- behind a block only the names of before the place are left, where the block begins with these and some more
+-- after a block, the names are those from before the position, if the block starts with these and
+-- some more
 pub left_is_out : (before here : Scope) (b : Block) → Grown before.names here.names
     → left (length before.names) before.outside (after b here) ≡ out_of before (after b here)
 left_is_out before here b g =
@@ -89,7 +90,7 @@ left_sides here s l r b = left_is_out here (with_sides s l r (next here)) b (rec
   is = refl;
 })
 
--- ---- what is known of a scope
+-- ---- what is known about a scope
 abbrev IsKnown : Names → ℕ → Type 0
 IsKnown ns n = (x : List ℕ) (s : ℕ) → meant x ns ≡ Some (ASection s) → s < n
 
@@ -131,7 +132,7 @@ scoped_sides s l r here w =
       slots = w.slots;
     }
 
--- sections are never taken away
+-- sections are never removed
 mutual
   more_behind : (s : Stmt) (here : Scope) → length here.sections ≤ length (behind s here).sections
   more_behind Skip here = omega arith
@@ -161,7 +162,7 @@ mutual
       let others = more_after rest (behind s here) in
       omega arith
 
--- out of a block again
+-- after a block
 scoped_out : (before there : Scope) → IsWellScoped before → IsWellScoped there → length before.sections ≤ length there.sections
     → IsWellScoped (out_of before there)
 scoped_out before there w v more = record {
@@ -205,11 +206,11 @@ mutual
   scoped_after End here w = w
   scoped_after (Then s rest) here w = scoped_after rest (behind s here) (scoped_behind s here w)
 
--- ---- at the beginning of a procedure
+-- ---- at the start of a procedure
 pub scoped_empty : (label : ℕ) → IsWellScoped (empty_scope label)
 scoped_empty label = record { known = λ x s h. absurd (cc); kinds = refl; slots = omega arith }
 
--- a root is one section more
+-- a root is one more section
 pub scoped_root : (x : List ℕ) (k : Parameter) (here : Scope) → IsWellScoped here → IsWellScoped (with_root x k here)
 scoped_root x k here w =
     let n = length here.sections in
@@ -222,7 +223,7 @@ scoped_root x k here w =
       slots = w.slots;
     }
 
--- a scalar parameter is one slot more
+-- a scalar parameter is one more slot
 pub scoped_scalar : (x : List ℕ) (here : Scope) → here.slot + 1 ≤ 16 + here.label → IsWellScoped here → IsWellScoped (with_scalar x here)
 scoped_scalar x here few w = record {
   known = known_one x (AScalar here.slot) here.names (length here.sections) (λ k h. absurd (cc)) w.known;

@@ -1,4 +1,4 @@
--- How much there is of a statement, so that going into it comes to an end.
+-- The size of a statement, so the recursion into it terminates.
 use Rattle.std.proofs.Common.{ℕ, ◌+◌}
 use Rattle.syntax_tree.specs.Tree.{Stmt, Skip, Var, Assign, Store, Print, Fault, If, IfElse, While, Split, Call, Async, Finish}
 use Rattle.syntax_tree.specs.Tree.{Block, End, Then}

@@ -1,11 +1,11 @@
--- What a list gives by number, once it has grown by an item.
+-- The elements of a list by number, after an item was added.
 use Rattle.std.proofs.Common.{◌≡◌, ℕ, zero, suc, List, [], ◌∷◌, ◌++◌, length, refl, sym, ap, ◌∙◌}
 use Rattle.std.proofs.lemmas.Bool.{eqb-true, eqb-false}
 use Rattle.std.specs.Prelude.{map, Bool, true, false, nat_eq, slice_index_or, if◌then◌else◌}
 use Rattle.types.specs.Run.{bind, by_number}
 use Rattle.types.proofs.Lists.{by_number-append-replicate}
 
--- an item more that is what a list gives past its end changes nothing
+-- adding an item that equals the value past the end changes nothing
 pub by_number-filled : {A : Type 0} (d : A) (xs ys : List A) → ys ≡ xs ++ d ∷ [] → by_number d ys ≡ by_number d xs
 by_number-filled d xs ys e = ap (by_number d) e ∙ by_number-append-replicate d xs 1
 
@@ -24,7 +24,7 @@ slice_index_or-push : {A : Type 0} (d v : A) (xs : List A) (k : ℕ) (b : Bool) 
 slice_index_or-push d v xs k true e = ap (λ k. slice_index_or (xs ++ v ∷ []) k d) (sym (eqb-true (length xs) k e)) ∙ slice_index_or-push_last d v xs
 slice_index_or-push d v xs k false e = slice_index_or-push_other d v xs k (eqb-false (length xs) k e)
 
--- an item more is bound to the number that the length was
+-- an added item is bound to the old length
 pub by_number-added : {A : Type 0} (d v : A) (xs ys : List A) (i : ℕ) → i ≡ length xs → ys ≡ xs ++ v ∷ []
     → by_number d ys ≡ bind i v (by_number d xs)
 by_number-added d v xs ys i at e =
@@ -32,7 +32,7 @@ by_number-added d v xs ys i at e =
     ∙ (λ t k. slice_index_or-push d v xs k (nat_eq (length xs) k) refl t)
     ∙ ap (λ i. bind i v (by_number d xs)) (sym at)
 
--- what a list of views gives is the view of what the list gives
+-- the element of a list of views is the view of the element
 slice_index_or-map : {A B : Type 0} (f : A → B) (d : A) (xs : List A) (k : ℕ) → slice_index_or (map f xs) k (f d) ≡ f (slice_index_or xs k d)
 slice_index_or-map f d [] k = refl
 slice_index_or-map f d (x ∷ xs) zero = refl

@@ -14,7 +14,7 @@ use Rattle.types.specs.Laws.{IsThrifty, Solves, IsOnly}
 use Rattle.types.proofs.Counted.{counted_steps}
 
 module _ {X : Type 0} where
-  -- it gives no step back
+  -- a rule gives no step back
   abbrev pub Less : (State X → State X) → Type 0
   Less go = (st : State X) → (go st).steps ≤ st.steps
 
@@ -56,7 +56,7 @@ module _ {X : Type 0} where
   value_agree l (Ok x) go to st h = h x
   value_agree l (Err f) go to st h = refl
 
-  -- one value, then another by it
+  -- one value, then another that depends on it
   pub value_twice : {A B : Type 0} (l : ℕ) (v : Valued A) (f : A → Valued B) (go : B → State X → State X) (st : State X)
       → with_value l (then_try v f) go st ≡ with_value l v (λ x. with_value l (f x) go) st
   value_twice l (Ok x) f go st = refl
@@ -143,7 +143,7 @@ module _ (p : Program) {X : Type 0} (r : Rules X) (thrifty : IsThrifty r) where
   pub run_less : LessIn (run p r)
   run_less w st = within_less (st.steps + 1) w st
 
-  -- two ways down that agree where fewer than m steps are left
+  -- two functions for calls and iterations that agree if fewer than m steps are left
   abbrev Agree : ℕ → Deeper → Deeper → Type 0
   Agree m d e = (w : Work) (st : State X) → st.steps < m → d w st ≡ e w st
 
@@ -193,7 +193,7 @@ module _ (p : Program) {X : Type 0} (r : Rules X) (thrifty : IsThrifty r) where
       work_agree st.steps (within p r j) (within p r k) (within_less j)
       (λ v s lt. enough j k v s (omega (arith, a, lt)) (omega (arith, b, lt))) w st (le_refl st.steps)
 
-  -- a run does what its work says, with runs inside of calls and further turns
+  -- a run satisfies its equation, with runs inside calls and further iterations
   pub solves : Solves p r (run p r)
   solves w st =
       let e : st.steps + 1 ≡ suc st.steps = omega arith in

@@ -1,4 +1,5 @@
--- What a statement resolves to, from what its parts do; and what is told of a part is told of the statement.
+-- What a statement resolves to, by what its parts resolve to; and an error of a part is an error of
+-- the statement.
 use Rattle.std.proofs.Common.{◌≡◌, ℕ, ◌+◌, List, [], ◌∷◌, ◌++◌, map, length, Vec, Global, Some, refl, sym, ap, ◌∙◌, subst}
 use Rattle.syntax_tree.specs.Tree.{Stmt, Skip, Var, Assign, Store, Print, Fault, If, IfElse, While, Split, Call, Async, Finish}
 use Rattle.syntax_tree.specs.Tree.{Expr, Block, Procedure}
@@ -30,7 +31,7 @@ use Rattle.types.proofs.Telling.{none_both}
 
 module _ (fs : List Procedure) (here there : Scope) where
   -- ---- blocks
-  -- a block that begins at a place, up to where another begins
+  -- a block that starts at a position, up to where another one starts
   pub record Inside (from : Scope) (b : Block) (v : Vec rStmt Global) (n k : ℕ) (to : Scope) : Type 0 where
     pub right : errors fs from b ≡ []
     pub code : resolution.codes fs from b ≡ codes v.items
@@ -40,7 +41,7 @@ module _ (fs : List Procedure) (here there : Scope) where
       → Inside from b v n k to → Inside other b v n k to
   moved_inside from other b v n k to e i = subst (λ s. Inside s b v n k to) e i
 
-  -- the mark of the place where the statement begins
+  -- the mark of the position where the statement starts
   pub record Marks (n k : ℕ) : Type 0 where
     pub names : n ≡ length here.names
     pub outside : k ≡ here.outside
@@ -135,7 +136,7 @@ module _ (fs : List Procedure) (here there : Scope) where
   pub resolves_Skip : there ≡ next here → Resolves fs here Skip (rDo rSkip) there
   resolves_Skip is = record { right = refl; kind = refl; place = is }
 
--- another statement that is the same
+-- another statement that is equal
 pub resolves_same : (fs : List Procedure) (here there : Scope) (s t : Stmt) (k : StmtKind) → s ≡ t → Resolves fs here t k there → Resolves fs here s k there
 resolves_same fs here there s t k e r = subst (λ s. Resolves fs here s k there) (sym e) r
 

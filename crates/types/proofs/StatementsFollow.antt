@@ -44,7 +44,7 @@ module _ (label : ℕ) (here : Scope) where
 
 module _ (p : Program) (g : Procedure) (fs : List DeclaredProcedure)
     (callable : (x : List ℕ) (k : ℕ) (ps : List Declared) → procedure_of 0 x fs ≡ Some (k, ps) → Callable p k ps) where
-  -- the procedure has all sections and slots so far
+  -- the procedure contains all sections and slots so far
   abbrev pub Within : Scope → Type 0
   Within here = Grows here.sections here.slot g.sections g.slots
 
@@ -95,7 +95,7 @@ module _ (p : Program) (g : Procedure) (fs : List DeclaredProcedure)
         later = known.below;
       }
 
-  -- the first block of two as if it stood alone
+  -- the first of two blocks, as if it were the only one
   no_errors_if : (here : Scope) (e : _) (b : Block) → errors.truth here.label here.names e ≡ []
       → rules.errors fs (next here) b ≡ []
       → errors_in fs here (If e b) ≡ []

@@ -1,4 +1,4 @@
--- What is told of a part is told of the whole, and a whole whose parts have no errors has none.
+-- An error of a part is an error of the whole, and a whole whose parts have no errors has none.
 use Rattle.std.proofs.Common.{◌≡◌, ℕ, ◌⊎◌, List, [], ◌∷◌, ◌++◌, Result, OnOk, IfOk, IfErr, refl, sym, ap, ◌∙◌, subst, inl, inr}
 use Rattle.std.proofs.Common.{◌+◌, ◌<◌, drop, length}
 use Rattle.std.proofs.lemmas.List.{at_drop_more}
@@ -31,11 +31,11 @@ pub told_left : (xs ys : List TypeError) (e : TypeError) → Told xs e → Told 
 told_left [] ys e h = told_memory ys e h
 told_left (x ∷ xs) ys e h = told_left_by x xs ys e (told_left xs ys e) h
 
--- an error that is alone
+-- a single error
 pub told_alone : (x : TypeError) → Told (x ∷ []) x
 told_alone x = inl refl
 
--- by what parts an error is told of a whole
+-- the rules by which an error of a part is an error of the whole
 pub ruleset telling = (told_left, told_right, told_memory, told_alone, none_both)
 
 -- at an exit by `?`, whose error is that of the part
@@ -48,13 +48,13 @@ pub exit_left : {X : Type 0} (r : Result X TypeError) (e : TypeError) → IsErrA
 exit_left r e passed {whole = whole} part more is h =
     at_exit (Told whole) r e passed (subst (λ l. Told l e) (sym is) (told_left part more e h))
 
--- what is left of a row, of which the next is known
+-- what remains of a row whose next item is known
 pub at_front : {A B : Type 0} (f : List A → B) (xs : List A) (i : ℕ) (x : A) → i < length xs
     → x ≡ slice_index_or xs i x → f (drop i xs) ≡ f (x ∷ drop (i + 1) xs)
 at_front f xs i x inside is =
     at_drop_more f xs i x inside ∙ ap (λ y. f (y ∷ drop (i + 1) xs)) (sym is)
 
--- the errors of a part are those of what it stands for
+-- the errors of a part are those of what it represents
 pub same_right : {X : Type 0} (r : Result X TypeError) {xs ys : List TypeError} → xs ≡ ys → OnOk r (ys ≡ []) → OnOk r (xs ≡ [])
 same_right r e = subst (λ l. OnOk r (l ≡ [])) (sym e)
 

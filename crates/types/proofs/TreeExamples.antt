@@ -1,4 +1,4 @@
--- What worked programs come to as step trees, under given choices, computed.
+-- The results of worked programs as step trees, under given choices, computed.
 use Rattle.std.proofs.Common.{◌≡◌, ℕ, List, [], ◌∷◌, Some, refl}
 use Rattle.std.specs.Prelude.{ℤ, pos}
 use Rattle.sections.specs.Origins.{Root, Left, Right}
@@ -74,7 +74,8 @@ finish_waits = refl
 owners_scalars_go_on : explored owner_assigns [] (0 ∷ 0 ∷ 0 ∷ []) ≡ prints ((pos 1 ∷ []) ∷ [])
 owners_scalars_go_on = refl
 
--- finish { async { fault 1; } async { fault 2; } fault 3; } print 9; each task goes on, whoever has faulted
+-- finish { async { fault 1; } async { fault 2; } fault 3; } print 9; each task continues, no matter
+-- which one has faulted
 faults_are_gathered : explored three_faults [] (0 ∷ 0 ∷ 1 ∷ 2 ∷ 1 ∷ 0 ∷ [])
     ≡ Ends (Ended (record {
       arrays = [];
@@ -105,7 +106,7 @@ racy = one_array 1 0 (
 abbrev leaves : ℤ → Explored
 leaves v = Ends (Ended (record { arrays = (v ∷ []) ∷ []; lines = (v ∷ []) ∷ []; faults = [] }))
 
--- where leaves race, the choices tell
+-- if leaves race, the result depends on the choices
 owner_writes_last : explored racy ((pos 0 ∷ []) ∷ []) (0 ∷ 0 ∷ 0 ∷ 0 ∷ 0 ∷ []) ≡ leaves (pos 2)
 owner_writes_last = refl
 
@@ -119,14 +120,14 @@ length_behind = one_array 2 0 ((1, Finish ((2, Split 0 (lit 1) 1 2 ((3, Do Skip)
 abbrev one_printed : Outcome
 one_printed = Ended (record { arrays = (pos 0 ∷ pos 0 ∷ []) ∷ []; lines = (pos 1 ∷ []) ∷ []; faults = [] })
 
--- behind a finish the owner's windows go on too, as on one thread
+-- after a finish the owner's windows continue too, as on one thread
 windows_go_on_in_a_tree : explored length_behind ((pos 0 ∷ pos 0 ∷ []) ∷ []) (0 ∷ 0 ∷ 0 ∷ 0 ∷ []) ≡ Ends one_printed
 windows_go_on_in_a_tree = refl
 
 windows_go_on_on_one_thread : outcome length_behind ((pos 0 ∷ pos 0 ∷ []) ∷ []) (record { steps = 9; nest = 0 }) ≡ one_printed
 windows_go_on_on_one_thread = refl
 
--- a[a[2]] = e; behind a fault nothing is read or written
+-- a[a[2]] = e; after a fault nothing is read or written
 abbrev place : ℕ → Place
 place i = record { array = 0; index = i }
 

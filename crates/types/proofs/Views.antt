@@ -1,4 +1,5 @@
--- Two runs side by side: where each state of the second is a view of a state of the first, the second follows the first.
+-- Two runs in parallel: if each state of the second is a view of a state of the first, the second
+-- follows the first.
 use Rattle.std.proofs.Common.{◌≡◌, ℕ, zero, suc, List, [], ◌∷◌, ◌++◌, Ok, Err, refl, sym, ap, ◌∙◌, inl, inr, append_assoc}
 use Rattle.std.specs.Prelude.{ℤ, ◌⊎◌, Bool, true, false, map, ok_or}
 use Rattle.types.specs.declared.fault.FaultKind.{FaultKind}
@@ -12,8 +13,8 @@ use Rattle.types.specs.Run.{fault, with_value, number_at, numbers_at, truth_at, 
 use Rattle.types.specs.Run.{in_environment, entry, with_sides, array_of, procedure_of, Rules, primitive, counted}
 use Rattle.types.specs.Run.{act, block, work, within}
 
--- what a view shows of a state: the same place in the same environment and store, but with more told before, with other
--- steps left, and with other things kept beside
+-- the parts of a state that a view changes: it adds earlier lines and faults, and replaces the
+-- steps left and `extra`; the flow, environment, store and task stay the same
 pub record View (I X Y : Type 0) : Type 0 where
   pub lines : I → X → List (List ℤ)
   pub faults : I → X → List Fault
@@ -33,12 +34,12 @@ viewed v i st = record {
   extra = v.extra i st.extra;
 }
 
--- a state is known by what it tells and by what else it has
+-- a state is determined by its output and its other parts
 pub same_told : {X : Type 0} (st : State X) (l m : List (List ℤ)) (f g : List Fault) → l ≡ m → f ≡ g
     → record st { lines = l; faults = f } ≡ record st { lines = m; faults = g }
 same_told st l m f g e h = ap (λ x. record st { lines = x; faults = f }) e ∙ ap (λ x. record st { lines = m; faults = x }) h
 
--- where nothing is ever lost
+-- if nothing is ever lost
 abbrev pub Never : {X : Type 0} → State X → Type 0
 Never st = ⊥
 
@@ -46,7 +47,7 @@ pub surely : {A : Type 0} {a b : A} → ⊥ ⊎ (a ≡ b) → a ≡ b
 surely (inl never) = absurd never
 surely (inr e) = e
 
--- one of two, where the equation may begin elsewhere
+-- one of two cases, if the equation can start elsewhere
 pub begin_at : {L A : Type 0} {a b c : A} → a ≡ b → L ⊎ (b ≡ c) → L ⊎ (a ≡ c)
 begin_at e (inl l) = inl l
 begin_at e (inr h) = inr (e ∙ h)
@@ -59,7 +60,7 @@ module _ {I X Y : Type 0} (v : View I X Y) (Lost : State X → Type 0) where
   abbrev pub Follows : (State X → State X) → (State Y → State Y) → Type 0
   Follows go to = (i : I) (st : State X) → FollowsAt i st go to
 
-  -- what steps and rules do to a view
+  -- how steps and rules affect a view
   pub record IsView (r : Rules X) (s : Rules Y) : Type 0 where
     pub out_of_steps : (i : I) (st : State X) → Lost (stopped st) ⊎ (v.steps i 0 ≡ 0)
     pub one_less : (i : I) (n : ℕ) → v.steps i (suc n) ≡ suc (v.steps i n)
@@ -204,7 +205,7 @@ module _ (p : Program) {I X Y : Type 0} (r : Rules X) (s : Rules Y) (v : View I 
           (with_step (λ st. act p s e l c (counted s l c st))) (block p s e rest) st
           (step_follows d e l c (act_follows c l) i st) (block_follows rest)
 
-    -- where what is deeper follows, so does the whole
+    -- if what is deeper follows, the whole does, too
     pub work_follows : (w : Work) → Follows v Lost (work p r d w) (work p s e w)
     work_follows (Block b) i st = block_follows b i st
     work_follows (Turn l t b) i st = step_follows d e l (While t b) (act_follows (While t b) l) i st

@@ -1,4 +1,4 @@
--- Which errors a call is.
+-- The errors of a call.
 use Rattle.std.specs.Prelude.{ℕ, List, [], ◌∷◌, ◌++◌, Bool, true, false, ◌&&◌, ◌||◌, Option}
 use Rattle.std.specs.Prelude.{Some, None, if◌then◌else◌}
 use Rattle.std.specs.List.{list_any}
@@ -15,7 +15,7 @@ use Rattle.types.specs.NameErrors.{writing}
 use Rattle.sections.specs.Overlap.{overlap}
 use Rattle.types.specs.Scope.{Names, Meant, ASection, AScalar, meant, Scope, kind_of}
 
--- whether two sections hold the same type
+-- whether two sections have the same element type
 abbrev pub same_element : ElementType → ElementType → Bool
 same_element Int Int = true
 same_element Byte Byte = true
@@ -26,7 +26,7 @@ same_element Byte Int = false
 abbrev pub Passed : Type 0
 Passed = ℕ × Bool
 
--- the argument of a name, where that is a section's, before others
+-- the argument with this meaning, if it is a section's name, before other arguments
 abbrev pub and_passed : Option Meant → (may_write : Bool) → List Passed → List Passed
 and_passed None w rest = rest
 and_passed (Some (AScalar k)) w rest = rest
@@ -54,7 +54,7 @@ module _ (sections : List Origin) where
   abbrev pub clash : Passed → Passed → Bool
   clash a b = (a.1 || b.1) && overlap sections a.0 b.0
 
-  -- some argument and a later one do
+  -- some argument overlaps a later one, and one of the two may be written
   abbrev pub overlapping : List Passed → Bool
   overlapping [] = false
   overlapping (a ∷ rest) = list_any (clash a) rest || overlapping rest
@@ -64,19 +64,20 @@ module _ (label : ℕ) (here : Scope) where
   abbrev pub wrong_arguments : List TypeError
   wrong_arguments = WrongArguments label ∷ []
 
-  -- Y4: a section holds another type than the parameter; Y6: it may not be written, and the parameter may be
+  -- Y4: a section has another element type than the parameter; Y6: it may not be written, but the
+  -- parameter may be
   abbrev pub passing : (parameter argument : Parameter) → List TypeError
   passing p a =
       (if same_element p.element a.element then [] else wrong_arguments)
       ++ (if p.may_write then writing label a else [])
 
-  -- Y1: a name isn't in scope; Y4: it is no section's
+  -- Y1: a name isn't in scope; Y4: it is no section's name
   abbrev pub passing_named : (parameter : Parameter) → Option Meant → List TypeError
   passing_named p None = NotInScope label ∷ []
   passing_named p (Some (AScalar k)) = wrong_arguments
   passing_named p (Some (ASection s)) = passing p (kind_of here s)
 
-  -- Y4: an argument is no bare name
+  -- Y4: an argument is no single name
   abbrev pub passing_atom : (parameter : Parameter) → Option Atom → List TypeError
   passing_atom p (Some (Name x)) = passing_named p (meant x here.names)
   passing_atom p (Some (Number n)) = wrong_arguments
@@ -93,7 +94,7 @@ module _ (label : ℕ) (here : Scope) where
   argument (Read x t) e = passing_atom (record { may_write = false; element = t }) (lone_atom e)
   argument (Scalar x) e = number label here.names e
 
-  -- Y4: there are as many arguments as parameters
+  -- Y4: there must be as many arguments as parameters
   abbrev pub arguments : List Declared → List Expr → List TypeError
   arguments [] [] = []
   arguments [] (e ∷ es) = wrong_arguments
@@ -104,7 +105,7 @@ module _ (label : ℕ) (here : Scope) where
   abbrev pub apart : List Passed → List TypeError
   apart ss = if overlapping here.sections ss then Overlapping label ∷ [] else []
 
-  -- a call of the procedure with this number and these parameters; Y1: there is none
+  -- a call of the procedure with this number and these parameters; Y1: there is no such procedure
   abbrev pub calling : Option (ℕ × List Declared) → List Expr → List TypeError
   calling None es = NotInScope label ∷ []
   calling (Some f) es = arguments f.1 es ++ apart (passed here.names f.1 es)

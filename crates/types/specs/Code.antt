@@ -1,12 +1,12 @@
--- A program with its names resolved: scalars are slots of their procedure's frame, sections are
--- numbers of their procedure, arrays and procedures are numbers of the program.
+-- Programs with resolved names. Scalars are slots of their procedure's frame, and sections are
+-- numbers of their procedure. Arrays and procedures are numbers of the program.
 use Rattle.std.specs.Prelude.{ℕ, ℤ, Bool, List}
 use Rattle.sections.specs.Origins.{Origin}
 use Rattle.syntax_tree.specs.declared.tree.ElementType.{ElementType}
 use Rattle.syntax_tree.specs.declared.tree.Relation.{Relation}
 use Rattle.types.specs.declared.code.Operator.{Operator}
 
--- an expression for a number; a chain is its first operand and the others, each behind its operator
+-- a number expression; a chain is its first operand and the others, each after its operator
 mutual
   pub data Number : Type 0 where
     Literal : ℤ → Number
@@ -22,7 +22,7 @@ mutual
     Link : Operator → (operand : Number) → Links → Links
     deriving IsSet as Links-set
 
--- an expression for a truth value
+-- a boolean expression
 mutual
   pub data Truth : Type 0 where
     Constant : Bool → Truth
@@ -46,7 +46,7 @@ pub data Primitive : Type 0 where
   Raise : (value : Number) → Primitive
   deriving IsSet as Primitive-set
 
--- a statement; and a list of statements, each behind its label
+-- a statement; and a list of statements, each after its label
 mutual
   pub data Code : Type 0 where
     Do : Primitive → Code
@@ -74,8 +74,8 @@ pub record Parameter : Type 0 where
   pub may_write : Bool
   pub element : ElementType
 
--- a procedure, or `main`; its section parameters are its first sections, its scalar parameters its
--- first slots
+-- a procedure, or `main`; its section parameters are its first sections, and its scalar parameters
+-- are its first slots
 pub record Procedure : Type 0 where
   pub name : List ℕ
   pub parameters : List Parameter

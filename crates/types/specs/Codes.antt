@@ -1,4 +1,4 @@
--- What the program prints of a broken rule.
+-- What the program prints for a broken rule.
 use Rattle.std.specs.Prelude.{ℕ, List, ◌++◌, Option, None, Some, codes}
 use Rattle.std.specs.Fmt.{decimal}
 use Rattle.types.specs.declared.error.TypeError.{TypeError}
@@ -19,7 +19,7 @@ error_code NoMain = codes "Y8"
 error_code OverLimit = codes "Y9"
 error_code OutOfMemory = codes "Y10"
 
--- and the label of a statement that breaks it, where it is broken in one
+-- the label of a statement that breaks the rule, if a statement breaks it
 abbrev pub label_of : TypeError → Option ℕ
 label_of (NotInScope label) = Some label
 label_of (DeclaredTwice label) = label
@@ -32,7 +32,7 @@ label_of NoMain = None
 label_of OverLimit = None
 label_of OutOfMemory = None
 
--- the text: `Y5 at label 3`, or `Y8` where no label is told
+-- the text: `Y5 at label 3`, or `Y8` without a label
 abbrev pub labelled : List ℕ → Option ℕ → List ℕ
 labelled code None = code
 labelled code (Some label) = code ++ (codes " at label " ++ decimal label)

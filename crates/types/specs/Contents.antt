@@ -1,14 +1,14 @@
--- The number at each place, and the lists of numbers that show it.
+-- The number at each place, and the lists of these numbers.
 use Rattle.std.specs.Prelude.{ℕ, zero, suc, ◌+◌, ◌≡◌, List, [], ◌∷◌, length, ℤ, pos, Option, None, Some}
 use Rattle.std.specs.Prelude.{unwrap_or, slice_get, slice_index_or, if◌then◌else◌}
 use Rattle.types.specs.Code.{Array}
 use Rattle.sections.specs.Place.{Place, same_place}
 
--- a number for each place that is there
+-- a number for each existing place
 abbrev pub Contents : Type 0
 Contents = Place → Option ℤ
 
--- the number at a place; 0 where there is none
+-- the number at a place; 0 if the place doesn't exist
 abbrev pub read : Contents → Place → ℤ
 read c q = unwrap_or (c q) (pos 0)
 
@@ -16,20 +16,20 @@ read c q = unwrap_or (c q) (pos 0)
 abbrev pub write : Place → ℤ → Contents → Contents
 write q v c other = if same_place q other then Some v else c other
 
--- a number is there
+-- there is a number
 abbrev pub IsThere : Option ℤ → Type 0
 IsThere None = ⊥
 IsThere (Some v) = Unit {0}
 
--- the second has a number wherever the first has one
+-- the second has a number at each place where the first has one
 abbrev pub Extends : (c d : Contents) → Type 0
 Extends c d = (q : Place) → IsThere (c q) → IsThere (d q)
 
--- what lists hold, one for each array
+-- the contents of lists, one for each array
 abbrev pub held_by : List (List ℤ) → Contents
 held_by arrays q = slice_get (slice_index_or arrays q.array []) q.index
 
--- the n numbers of an array from the place `at` on
+-- the n numbers of an array that start at the place `at`
 abbrev pub row : Contents → (array at n : ℕ) → List ℤ
 row c array at zero = []
 row c array at (suc n) = read c (record { array = array; index = at }) ∷ row c array (at + 1) n

@@ -1,6 +1,6 @@
--- Which errors an expression is: names that aren't in scope (Y1), and numbers, truth values and
--- sections where another kind is wanted (Y3). A part of the wrong kind is one error, whatever stands
--- in it.
+-- The errors of an expression: names that aren't in scope (Y1), and numbers, booleans and sections
+-- where another kind is expected (Y3). A part of the wrong kind is one error, and its contents add
+-- none.
 use Rattle.std.specs.Prelude.{ℕ, ◌^◌, List, [], ◌∷◌, ◌++◌, nat_lt, if◌then◌else◌}
 use Rattle.syntax_tree.specs.Tree.{Expr, Or, Conjs, NoConj, OrConj, Conj, And, Negs, NoNeg, AndNeg, Neg}
 use Rattle.syntax_tree.specs.Tree.{Plainly, Not, Cmp, Alone, Compare, Sum, Add, Terms, NoTerm, AddTerm, Prod}
@@ -11,7 +11,7 @@ use Rattle.types.specs.declared.error.TypeError.TheVariants.{WrongKind, OverLimi
 use Rattle.types.specs.NameErrors.{naming_section, naming_scalar}
 use Rattle.types.specs.Scope.{Names, meant}
 
--- Y9: a number that 64 bits with sign don't hold; no text spells one
+-- Y9: a number that doesn't fit in a signed 64-bit integer; no text spells one
 abbrev pub literal : ℕ → List TypeError
 literal n = if nat_lt n (2 ^ 63) then [] else OverLimit ∷ []
 
@@ -21,7 +21,7 @@ module _ (label : ℕ) (names : Names) where
   wrong_kind = WrongKind label ∷ []
 
   abbrev mutual
-    -- where a number is wanted
+    -- where a number is expected
     pub number : Expr → List TypeError
     number (Or c NoConj) = number_conj c
     number (Or c (OrConj d rest)) = wrong_kind
@@ -66,7 +66,7 @@ module _ (label : ℕ) (names : Names) where
     number_atom (Parens e) = number e
 
   abbrev mutual
-    -- where a truth value is wanted
+    -- where a boolean is expected
     pub truth : Expr → List TypeError
     truth (Or c rest) = truth_conj c ++ conjs rest
 
@@ -110,7 +110,7 @@ module _ (label : ℕ) (names : Names) where
     truth_atom (Length s) = wrong_kind
     truth_atom (Parens e) = truth e
 
-  -- where several numbers are wanted
+  -- where several numbers are expected
   abbrev pub numbers : List Expr → List TypeError
   numbers [] = []
   numbers (e ∷ es) = number e ++ numbers es

@@ -1,10 +1,10 @@
--- The sections whose elements an expression may read.
+-- The sections whose elements an expression can read.
 use Rattle.std.specs.Prelude.{ℕ, List, [], ◌∷◌, ◌++◌}
 use Rattle.types.specs.Code.{Number, Literal, Scalar, Element, Length, Negative, Chain, Links, Done, Link}
 use Rattle.types.specs.Code.{Truth, Constant, Compare, Not, Both, Either, Truths, NoMore, Also}
 
 abbrev mutual
-  -- of an expression for a number
+  -- of a number expression
   pub indexed : Number → List ℕ
   indexed (Literal v) = []
   indexed (Scalar x) = []
@@ -18,7 +18,7 @@ abbrev mutual
   indexed_links (Link o e rest) = indexed e ++ indexed_links rest
 
 abbrev mutual
-  -- of an expression for a truth value
+  -- of a boolean expression
   pub indexed_truth : Truth → List ℕ
   indexed_truth (Constant b) = []
   indexed_truth (Compare r a b) = indexed a ++ indexed b

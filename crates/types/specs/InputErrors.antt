@@ -1,4 +1,4 @@
--- What the program prints of a mistake in an input.
+-- What the program prints for a mistake in an input.
 use Rattle.std.specs.Prelude.{ℕ, List, ◌++◌, Option, None, Some, codes}
 use Rattle.std.specs.String.{string_bytes}
 use Rattle.types.specs.Inputs.{Mistake, NoJson, NoObject, Stranger, OtherCount, OtherLength, BadElement}
@@ -9,7 +9,7 @@ use Rattle.types.specs.declared.input_error.InputError.TheVariants.{WrongElement
 use Rattle.types.specs.declared.input.ListFault.{ListFault}
 use Rattle.types.specs.declared.input.ListFault.TheVariants.{Length, Element}
 
--- the mistake that an error tells; none where memory was missing
+-- the mistake that an error reports; none if memory ran out
 abbrev pub told : InputError → Option Mistake
 told NotJson = Some NoJson
 told NotAnObject = Some NoObject
@@ -29,7 +29,7 @@ error_code (WrongLength name) = codes "N4"
 error_code (WrongElement name) = codes "N5"
 error_code OutOfMemory = codes "N6"
 
--- the line of an error: its code, and the name where it has one
+-- the line of an error: its code, and the name if it has one
 abbrev pub error_text : InputError → List ℕ
 error_text NotJson = codes "N1"
 error_text NotAnObject = codes "N2"
@@ -39,7 +39,7 @@ error_text (WrongLength name) = codes "N4 " ++ string_bytes name
 error_text (WrongElement name) = codes "N5 " ++ string_bytes name
 error_text OutOfMemory = codes "N6"
 
--- the mistake of a list for the array of a name
+-- the mistake in a list for the array with a name
 abbrev pub mistake_in : (name : List ℕ) → ListFault → Mistake
 mistake_in name Length = OtherLength name
 mistake_in name Element = BadElement name

@@ -1,4 +1,4 @@
--- The names of declared arrays, as the code has them.
+-- The names of declared arrays, as the code stores them.
 use Rattle.std.specs.Prelude.{ℕ, List, Bool}
 use Rattle.std.specs.List.{list_any}
 use Rattle.std.specs.Str.{bytes_eq}

@@ -18,11 +18,11 @@ abbrev mutual
   labels_of End = []
   labels_of (Then l s rest) = l ∷ labels_inside s ++ labels_of rest
 
--- those of procedures
+-- the labels of procedures
 abbrev pub labels_of_procedures : List Procedure → List ℕ
 labels_of_procedures [] = []
 labels_of_procedures (f ∷ fs) = labels_of f.body ++ labels_of_procedures fs
 
--- those of a program: `main` stands last in a text
+-- the labels of a program; `main` comes last in a text
 abbrev pub labels_of_program : Program → List ℕ
 labels_of_program p = labels_of_procedures p.procedures ++ labels_of p.main.body

@@ -1,21 +1,21 @@
--- The one-thread meaning: an async's body runs where it stands, on the same store.
+-- The one-thread meaning. The body of an async runs where it appears, on the same store.
 use Rattle.std.specs.Prelude.{ℕ, zero, suc, ◌+◌, List, [], ◌∷◌, ◌++◌}
 use Rattle.types.specs.Code.{Codes, Program}
 use Rattle.types.specs.Run.{Flow, On, Faulted, Stopped, Fault, State, Rules, Work, Block, stopped, run}
 
 module _ {X : Type 0} where
-  -- as it stands, with nothing told
+  -- the state, with no output yet
   abbrev pub hushed : State X → State X
   hushed st = record st { lines = []; faults = [] }
 
-  -- what was told before, followed by what was told since
+  -- the output before, followed by the output since then
   abbrev pub joined : (before out : State X) → State X
   joined before out = record out {
     lines = before.lines ++ out.lines;
     faults = before.faults ++ out.faults;
   }
 
-  -- the next child as it begins, with fresh steps, its parent's environment and contents
+  -- the next child at its start, with fresh steps, and with its parent's environment and contents
   abbrev pub child : (fresh : ℕ) → State X → State X
   child fresh st = record (hushed st) {
     flow = On;
@@ -24,13 +24,13 @@ module _ {X : Type 0} where
     spawned = 0;
   }
 
--- a stopped body stops all at once
+-- a stopped body stops everything at once
 abbrev pub after_async : Flow → Flow
 after_async Stopped = Stopped
 after_async On = On
 after_async Faulted = On
 
--- the parent goes on as it was, but with what the body wrote and told
+-- the parent continues with its old state, except for what the body wrote and its output
 abbrev pub after_body : {X : Type 0} → (before out : State X) → State X
 after_body before out =
     joined before (record before {
@@ -49,7 +49,7 @@ after_finish On (f ∷ faults) = Faulted
 after_finish Faulted [] = On
 after_finish Faulted (f ∷ faults) = Faulted
 
--- the rules of one thread, where `begin` runs an async's body, whatever its label
+-- the rules of one thread, where `begin` runs the body of an async, for any label
 abbrev pub one_rules_by : (Codes → State (Unit {0}) → State (Unit {0})) → Rules (Unit {0})
 one_rules_by begin = record {
   stepped = λ l x. x;
@@ -59,7 +59,7 @@ one_rules_by begin = record {
 }
 
 module _ (p : Program) where
-  -- an async where so many may stand inside one another; a child begins with `fresh` steps
+  -- an async if `nest` more can be nested; a child starts with `fresh` steps
   abbrev pub begin_one : (fresh nest : ℕ) → Codes → State (Unit {0}) → State (Unit {0})
   begin_one fresh zero b st = stopped st
   begin_one fresh (suc n) b st =

@@ -1,4 +1,5 @@
--- Which errors the names of a statement are, by what they mean at its place. The statement has the label.
+-- The errors of the names of a statement, by their meanings at its position. The statement has the
+-- label.
 use Rattle.std.specs.Prelude.{ℕ, List, [], ◌∷◌, Option, Some, None, nat_lt, if◌then◌else◌}
 use Rattle.types.specs.declared.error.TypeError.{TypeError}
 use Rattle.types.specs.declared.error.TypeError.TheVariants.{NotInScope, DeclaredTwice, WrongKind}
@@ -12,29 +13,29 @@ declaring label None = []
 declaring label (Some m) = DeclaredTwice label ∷ []
 
 module _ (label : ℕ) where
-  -- Y1, Y3: a section's name is wanted
+  -- Y1, Y3: the name of a section is expected
   abbrev pub naming_section : Option Meant → List TypeError
   naming_section None = NotInScope label ∷ []
   naming_section (Some (AScalar k)) = WrongKind label ∷ []
   naming_section (Some (ASection s)) = []
 
-  -- Y1, Y3: a scalar's name is wanted
+  -- Y1, Y3: the name of a scalar is expected
   abbrev pub naming_scalar : Option Meant → List TypeError
   naming_scalar None = NotInScope label ∷ []
   naming_scalar (Some (ASection s)) = WrongKind label ∷ []
   naming_scalar (Some (AScalar k)) = []
 
-  -- Y6: a section is written that may not be
+  -- Y6: a section is written that may not be written
   abbrev pub writing : Parameter → List TypeError
   writing kind = if kind.may_write then [] else ReadOnly label ∷ []
 
-  -- Y1, Y3, Y6: the name of a section that may be written is wanted
+  -- Y1, Y3, Y6: the name of a section that may be written is expected
   abbrev pub naming_written : Scope → Option Meant → List TypeError
   naming_written here None = NotInScope label ∷ []
   naming_written here (Some (AScalar k)) = WrongKind label ∷ []
   naming_written here (Some (ASection s)) = writing (kind_of here s)
 
-  -- Y1, Y3, Y5: the name of a scalar is wanted that was declared inside of the innermost async body
+  -- Y1, Y3, Y5: the name of a scalar is expected that was declared inside the innermost async body
   abbrev pub naming_assigned : Scope → Option Meant → List TypeError
   naming_assigned here None = NotInScope label ∷ []
   naming_assigned here (Some (ASection s)) = WrongKind label ∷ []

@@ -7,7 +7,7 @@ use Rattle.types.specs.declared.fault.FaultKind.TheVariants.{Index, Overflow, Ze
 use Rattle.types.specs.declared.fault.FaultKind.TheVariants.{SplitPoint, Raised}
 use Rattle.types.specs.Run.{Fault}
 
--- `0`, and the number of each child on the way to the task, each behind a dot
+-- `0`, and the number of each child on the way to the task, each after a dot
 abbrev pub path_text : (turns : List ℕ) → List ℕ
 path_text turns = codes "0" ++ flat_map (λ n. codes "." ++ decimal n) turns
 

@@ -1,4 +1,4 @@
--- What a program, an input and a budget come to on one thread.
+-- The outcome of a program, an input and a budget on one thread.
 use Rattle.std.specs.Prelude.{ℕ, ◌+◌, ◌≡◌, ◌≤◌, List, [], ◌∷◌, ℤ}
 use Rattle.types.specs.Code.{Array, Program}
 use Rattle.sections.specs.Place.{Window}
@@ -6,7 +6,7 @@ use Rattle.types.specs.Contents.{Contents, held_by, shown}
 use Rattle.types.specs.Run.{Flow, On, Faulted, Fault, State, Block, entry}
 use Rattle.types.specs.Meaning.{one_rules, one}
 
--- how many steps each task may take, and how many asyncs may stand inside one another
+-- the number of steps that each task may take, and the maximum nesting of asyncs
 pub record Budget : Type 0 where
   pub steps : ℕ
   pub nest : ℕ
@@ -16,17 +16,17 @@ pub record IsLarger (larger budget : Budget) : Type 0 where
   pub steps : budget.steps ≤ larger.steps
   pub nest : budget.nest ≤ larger.nest
 
--- what the arrays hold at the end, in the order of declaration, and what was told in depth-first
+-- the contents of the arrays at the end, in the order of declaration, and the output in depth-first
 -- order
 pub record Ending : Type 0 where
   pub arrays : List (List ℤ)
   pub lines : List (List ℤ)
   pub faults : List Fault
 
--- what is told of a run
+-- the reported result of a run
 pub data Outcome : Type 0 where
   Ended : Ending → Outcome
-  -- a task was over its budget, and nothing more is told
+  -- a task exceeded its budget, and nothing more is reported
   Stopped : Outcome
 
 -- all places of each array, the first of which has the number `array`
@@ -35,7 +35,7 @@ whole_arrays array [] = []
 whole_arrays array (x ∷ xs) =
     record { array = array; at = 0; length = x.length } ∷ whole_arrays (array + 1) xs
 
--- a task with the path of the root at the beginning of `main`
+-- a task with the path of the root at the start of `main`
 abbrev pub start : {X : Type 0} → X → Program → (steps : ℕ) → Contents → State X
 start x p steps input = record {
   flow = On;
@@ -49,21 +49,21 @@ start x p steps input = record {
   extra = x;
 }
 
--- nothing but that it was stopped, or its ending
+-- only that the run was stopped, or otherwise its ending
 abbrev pub outcome_by : Flow → Ending → Outcome
 outcome_by Flow.Stopped e = Stopped
 outcome_by On e = Ended e
 outcome_by Faulted e = Ended e
 
--- what a run of `main` leaves and tells
+-- the contents and the output of a run of `main`
 abbrev pub ending_of : {X : Type 0} → Program → State X → Ending
 ending_of p st = record { arrays = shown p.arrays st.store; lines = st.lines; faults = st.faults }
 
--- what a run of `main` comes to
+-- the outcome of a run of `main`
 abbrev pub outcome_of : {X : Type 0} → Program → State X → Outcome
 outcome_of p st = outcome_by st.flow (ending_of p st)
 
--- the one-thread outcome; `main` stands in an outer finish
+-- the one-thread outcome; `main` is inside an outer finish
 abbrev pub outcome : Program → (input : List (List ℤ)) → Budget → Outcome
 outcome p input b =
     let st = start tt p b.steps (held_by input) in

@@ -1,4 +1,4 @@
--- The code of a program: what its names mean, and which label each statement has.
+-- The code of a program: the meanings of its names, and the label of each statement.
 use Rattle.std.specs.Prelude.{ℕ, ◌+◌, List, [], ◌∷◌, map, length, codes as ascii, true, false, pos, Option}
 use Rattle.std.specs.Prelude.{Some, None, option_map, nat_eq, if◌then◌else◌}
 use Rattle.std.specs.Cmp.Lexicographic.{pointwise}
@@ -36,7 +36,7 @@ factor ByTimes = Times
 factor ByOver = Over
 factor ByModulo = Modulo
 
--- stands where no number, or no truth value, is spelled
+-- the result if no number, or no boolean, is spelled
 abbrev pub no_number : Number
 no_number = Literal (pos 0)
 
@@ -45,7 +45,7 @@ no_truth = Constant false
 
 module _ (names : Names) where
   abbrev mutual
-    -- the number expression that an expression spells; an operand that stands alone is no chain
+    -- the number expression that an expression spells; a single operand is no chain
     pub number : Expr → Number
     number (Or c NoConj) = number_conj c
     number (Or c (OrConj d rest)) = no_number
@@ -93,7 +93,7 @@ module _ (names : Names) where
     number_atom (Parens e) = number e
 
   abbrev mutual
-    -- the truth expression that an expression spells; an operand that stands alone is no chain
+    -- the boolean expression that an expression spells; a single operand is no chain
     pub truth : Expr → Truth
     truth (Or c NoConj) = truth_conj c
     truth (Or c (OrConj d rest)) = Either (Also (truth_conj c) (Also (truth_conj d) (conjs rest)))
@@ -136,7 +136,7 @@ module _ (names : Names) where
     truth_atom (Parens e) = truth e
     truth_atom a = no_truth
 
--- the section whose bare name an argument is
+-- the section whose name an argument consists of
 abbrev pub named_by : Names → Option Atom → ℕ
 named_by names None = 0
 named_by names (Some (Name x)) = section_of names x
@@ -158,14 +158,15 @@ sections_for names (ScalarParameter x ∷ ps) (e ∷ es) = sections_for names ps
 sections_for names (p ∷ ps) (e ∷ es) = named_by names (lone_atom e) ∷ sections_for names ps es
 sections_for names ps es = []
 
--- the number and the parameters of the first procedure of a name, where those before it are n
+-- the number and the parameters of the first procedure with a name; n procedures come before the
+-- list
 abbrev pub procedure_of : (n : ℕ) → List ℕ → List DeclaredProcedure → Option (ℕ × List DeclaredParameter)
 procedure_of n x [] = None
 procedure_of n x (f ∷ fs) =
     if pointwise nat_eq x f.name then Some (n, f.parameters) else procedure_of (n + 1) x fs
 
 module _ (procedures : List DeclaredProcedure) where
-  -- a call of a procedure that isn't there stands for nothing
+  -- a call of a procedure that doesn't exist means nothing
   abbrev pub call : Names → Option (ℕ × List DeclaredParameter) → List Expr → Code
   call names None es = Call 0 [] []
   call names (Some f) es = Call f.0 (values_for names f.1 es) (sections_for names f.1 es)
@@ -200,7 +201,8 @@ module _ (procedures : List DeclaredProcedure) where
 abbrev pub array : DeclaredArray → Array
 array a = record { name = a.name; element = a.element; length = a.length }
 
--- the label behind the last statement of a procedure whose first has the label, and behind those of several
+-- the label after the last statement of a procedure whose first has the label, and after those of
+-- several procedures
 abbrev pub label_behind : (label : ℕ) → DeclaredProcedure → ℕ
 label_behind label f = (after f.body (in_procedure label f.parameters)).label
 
@@ -209,7 +211,7 @@ label_behind_all label [] = label
 label_behind_all label (f ∷ fs) = label_behind_all (label_behind label f) fs
 
 module _ (all : List DeclaredProcedure) where
-  -- the procedure, or `main`, of this name, whose body begins here
+  -- the procedure with this name, or `main`, whose body starts here
   abbrev pub resolved : (name : List ℕ) → Scope → Block → Procedure
   resolved name here b = record {
     name = name;
@@ -221,7 +223,7 @@ module _ (all : List DeclaredProcedure) where
     body = codes all here b;
   }
 
-  -- procedures, the first of which begins with the label
+  -- procedures, the first of which starts with the label
   abbrev pub procedures : (label : ℕ) → List DeclaredProcedure → List Procedure
   procedures label [] = []
   procedures label (f ∷ fs) =

@@ -1,5 +1,5 @@
--- What the Rust values of the type checker show: the names and the scope at a place, and what a part
--- resolves to.
+-- The contents of the Rust values of the type checker: the names and the scope at a position, and
+-- what a part resolves to.
 use Rattle.std.specs.Prelude.{ℕ, ◌+◌, ◌-◌, ◌≡◌, ◌<◌, ◌≤◌, List, [], map, reverse, length, drop, Some, String}
 use Rattle.std.specs.String.{string_bytes}
 use Rattle.sections.specs.Tree.{origins_of}
@@ -30,7 +30,7 @@ entry e = (string_bytes e.0, meant_by e.1)
 abbrev pub names_of : rNames → Names
 names_of n = reverse (map entry n.meanings.entries)
 
--- the place that has been reached
+-- the position that has been reached
 abbrev pub scope_of : rScope → Scope
 scope_of s = record {
   names = names_of s.names;
@@ -42,7 +42,7 @@ scope_of s = record {
   kinds = map parameter s.kinds.items;
 }
 
--- a place after which only names, and the scalars that may be assigned, are those of an earlier one
+-- a position with only the names, and the assignable scalars, of an earlier one
 abbrev pub left : (names outside : ℕ) → Scope → Scope
 left n k there = record there { names = drop (length there.names - n) there.names; outside = k }
 
@@ -50,18 +50,19 @@ left n k there = record there { names = drop (length there.names - n) there.name
 abbrev pub passed_by : rPassed → Passed
 passed_by p = (p.section.number, p.may_write)
 
--- the sections in scope have numbers of sections, each of which has its kind; and slots are as few as labels
+-- the sections in scope have numbers of sections, each of which has its kind; and the next slot is
+-- at most 16 more than the next label
 pub record IsWellScoped (here : Scope) : Type 0 where
   pub known : (x : List ℕ) (s : ℕ) → meant x here.names ≡ Some (ASection s) → s < length here.sections
   pub kinds : length here.kinds ≡ length here.sections
   pub slots : here.slot ≤ 16 + here.label
 
--- the procedures that may be called
+-- the procedures that can be called
 abbrev pub procedures_of : rProcedures → List Procedure
 procedures_of p = map tree.procedure p.declared.now
 
 module _ (procedures : List Procedure) (here : Scope) (s : Stmt) where
-  -- a statement breaks no rule, and what it resolves to, with the place behind it
+  -- a statement breaks no rule; its resolution, and the scope after it
   pub record Resolves (k : StmtKind) (there : Scope) : Type 0 where
     pub right : errors_in procedures here s ≡ []
     pub kind : code_at procedures here s ≡ code k

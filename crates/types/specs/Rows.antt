@@ -1,4 +1,4 @@
--- Lists of operands as the chains that they make.
+-- Lists of operands as the chains that they form.
 use Rattle.std.specs.Prelude.{List, [], ◌∷◌}
 use Rattle.types.specs.declared.code.Link.{Link as rLink}
 use Rattle.types.specs.declared.code.Truth.{Truth as rTruth}

@@ -1,5 +1,5 @@
--- Which rules of the language a program breaks: its errors, each with its kind and, where it lies in
--- a statement, the label.
+-- Which rules of the language a program breaks: its errors, each with its kind and, if it is in a
+-- statement, the label.
 use Rattle.std.specs.Prelude.{ℕ, ◌+◌, ◌≡◌, List, [], ◌∷◌, ◌++◌, Option, Some, None, length, sum_by}
 use Rattle.std.specs.Prelude.{nat_eq, nat_lt, if◌then◌else◌}
 use Rattle.std.specs.List.{list_any}
@@ -16,7 +16,7 @@ use Rattle.types.specs.Resolution.{procedure_of, label_behind, label_behind_all}
 use Rattle.types.specs.Scope.{ASection, meant, section_of, Scope, empty_scope, next, inside_async, with_sides}
 use Rattle.types.specs.Scope.{out_of, behind, after, with_parameter, with_array, in_procedure, in_main}
 
--- Y9: there are more than so many
+-- Y9: there are more than `most`
 abbrev pub limit : (most count : ℕ) → List TypeError
 limit most n = if nat_lt most n then OverLimit ∷ [] else []
 
@@ -61,13 +61,13 @@ module _ (procedures : List Procedure) where
     inner_errors here (Async b) = errors (inside_async (next here)) b
     inner_errors here (Finish b) = errors (next here) b
 
-    -- the errors of a block; Y9: there are 65,535 labels
+    -- the errors of a block; Y9: a label is more than 65,535
     pub errors : Scope → Block → List TypeError
     errors here End = []
     errors here (Then s rest) =
         (limit 65535 here.label ++ (own_errors here s ++ inner_errors here s)) ++ errors (behind s here) rest
 
-  -- all errors of a statement, without that of its label
+  -- all errors of a statement, except that of its label
   abbrev pub errors_in : Scope → Stmt → List TypeError
   errors_in here s = own_errors here s ++ inner_errors here s
 
@@ -95,7 +95,7 @@ name_errors before (f ∷ fs) =
     ++ name_errors (before ++ f.name ∷ []) fs
 
 module _ (all : List Procedure) where
-  -- a procedure whose first statement has the label; Y9: 16 parameters
+  -- a procedure whose first statement has the label; Y9: more than 16 parameters
   abbrev pub procedure_errors : (label : ℕ) → Procedure → List TypeError
   procedure_errors label f =
       limit 16 (length f.parameters) ++ (parameter_errors (empty_scope label) f.parameters
@@ -105,21 +105,21 @@ module _ (all : List Procedure) where
   procedures_errors label [] = []
   procedures_errors label (f ∷ fs) = procedure_errors label f ++ procedures_errors (label_behind label f) fs
 
-  -- `main`, whose first statement has the label; Y8: there is none; Y9: 32 arrays, and 4,194,304
-  -- elements of all together
+  -- `main`, whose first statement has the label; Y8: there is none; Y9: more than 32 arrays, or
+  -- more than 4,194,304 elements of all arrays together
   abbrev pub main_errors : (label : ℕ) → Option Main → List TypeError
   main_errors label None = NoMain ∷ []
   main_errors label (Some m) =
       limit 32 (length m.arrays) ++ (limit 4194304 (sum_by (λ a. a.length) m.arrays)
       ++ (array_errors (empty_scope label) m.arrays ++ errors all (in_main label m.arrays) m.body))
 
--- all errors of a program; Y9: 256 procedures beside `main`
+-- all errors of a program; Y9: more than 256 procedures in addition to `main`
 abbrev pub errors_of : Program → List TypeError
 errors_of p =
     limit 256 (length p.procedures) ++ (name_errors [] p.procedures
     ++ (procedures_errors p.procedures 1 p.procedures
     ++ main_errors p.procedures (label_behind_all 1 p.procedures) p.main))
 
--- it has none
+-- a program has no errors
 abbrev pub BreaksNoRule : Program → Type 0
 BreaksNoRule p = errors_of p ≡ []

@@ -1,4 +1,4 @@
--- What a task does: the one recursion over statements, by rules for what an async and a finish do.
+-- What a task does: one recursion over statements, given rules for async and finish.
 use Rattle.std.specs.Prelude.{ℕ, zero, suc, ◌+◌, List, [], ◌∷◌, ◌++◌, map, Bool, true, false, ℤ, pos, Ok, Err}
 use Rattle.std.specs.Prelude.{ok_or, nat_eq, slice_index_or, if◌then◌else◌}
 use Rattle.syntax_tree.specs.declared.tree.ElementType.TheVariants.{Int}
@@ -10,37 +10,37 @@ use Rattle.sections.specs.Place.{Window, Place, nowhere, sides_of}
 use Rattle.types.specs.Contents.{Contents, read, write}
 use Rattle.types.specs.Value.{Environment, Valued, element_of, holds_number, number, numbers, truth}
 
--- whether a task goes on
+-- whether a task continues
 pub data Flow : Type 0 where
   On : Flow
   -- a fault ended its statements up to the nearest finish
   Faulted : Flow
-  -- it is over its budget, or a task that it waited for was
+  -- the task, or a task that it waited for, exceeded its budget
   Stopped : Flow
 
--- what went wrong, in which task and at which statement; a path is the child numbers from the root
--- down, none for the root itself
+-- a fault: its kind, its task and its statement; a path is the list of child numbers from the root
+-- down, which is empty for the root
 pub record Fault : Type 0 where
   pub path : List ℕ
   pub label : ℕ
   pub kind : FaultKind
 
--- where a task stands; `extra` is what its kind of run keeps beside: nothing on one thread, in a
--- task's own run the actions that it has done so far
+-- the state of a task; `extra` is what a kind of run keeps in addition: nothing on one thread, the
+-- actions so far in a task's own run
 pub record State (X : Type 0) : Type 0 where
   pub flow : Flow
   pub environment : Environment
   pub store : Contents
-  -- what it told since its beginning, or since that of its innermost open finish
+  -- the output since the task started, or since its innermost open finish started
   pub lines : List (List ℤ)
   pub faults : List Fault
-  -- the steps left, the task's name, and how many children it spawned
+  -- the steps left, the task's name, and the number of children that it spawned
   pub steps : ℕ
   pub path : List ℕ
   pub spawned : ℕ
   pub extra : X
 
--- a state, and this kept beside
+-- a state with this as its `extra`
 abbrev pub keeping : {X Y : Type 0} → Y → State X → State Y
 keeping y st = record {
   flow = st.flow;
@@ -58,11 +58,11 @@ keeping y st = record {
 abbrev pub bind : {A : Type 0} → ℕ → A → (ℕ → A) → ℕ → A
 bind x v f y = if nat_eq x y then v else f y
 
--- what a list gives by number, and d past its end
+-- the element of a list with a number, or d past its end
 abbrev pub by_number : {A : Type 0} → A → List A → ℕ → A
 by_number d xs k = slice_index_or xs k d
 
--- the environment in which a procedure begins: its parameters, and zeros
+-- the environment in which a procedure starts: its parameters, and zeros
 abbrev pub entry : List ℤ → List Window → Environment
 entry values windows = record {
   scalars = by_number (pos 0) values;
@@ -73,7 +73,7 @@ entry values windows = record {
 abbrev pub with_sides : (left right : ℕ) → Window × Window → Environment → Environment
 with_sides left right ws env = record env { windows = bind left ws.0 (bind right ws.1 env.windows) }
 
--- an array and a procedure in place of those that a program doesn't have
+-- an array and a procedure that replace those that a program doesn't have
 abbrev pub no_array : Array
 no_array = record { name = []; element = Int; length = 0 }
 
@@ -88,24 +88,24 @@ no_procedure = record {
   body = End;
 }
 
--- the array, and the procedure, of a number
+-- the array, and the procedure, with a number
 abbrev pub array_of : Program → ℕ → Array
 array_of p a = slice_index_or p.arrays a no_array
 
 abbrev pub procedure_of : Program → ℕ → Procedure
 procedure_of p f = slice_index_or p.procedures f no_procedure
 
--- what is left to do: a block, or the next turn of a loop
+-- what remains to be done: a block, or the next iteration of a loop
 pub data Work : Type 0 where
   Block : Codes → Work
   Turn : (label : ℕ) → (guard : Truth) → (body : Codes) → Work
 
 module _ {X : Type 0} where
-  -- over the budget
+  -- the budget is exceeded
   abbrev pub stopped : State X → State X
   stopped st = record st { flow = Stopped }
 
-  -- goes on while the flow is on
+  -- continues if the flow is on
   abbrev pub at_flow : Flow → State X → (State X → State X) → State X
   at_flow On st go = go st
   at_flow Faulted st go = st
@@ -114,29 +114,29 @@ module _ {X : Type 0} where
   abbrev pub go_on : (State X → State X) → State X → State X
   go_on go st = at_flow st.flow st go
 
-  -- goes on with one step less than n, or is over the budget
+  -- continues with one step less than n, or has exceeded the budget
   abbrev pub spend : (n : ℕ) → State X → (State X → State X) → State X
   spend zero st go = stopped st
   spend (suc n) st go = go (record st { steps = n })
 
-  -- takes a step and goes on
+  -- takes a step and continues
   abbrev pub with_step : (State X → State X) → State X → State X
   with_step go st = spend st.steps st go
 
-  -- notes a fault, and ends the statements up to the nearest finish
+  -- records a fault, and ends the statements up to the nearest finish
   abbrev pub fault : (label : ℕ) → FaultKind → State X → State X
   fault label kind st = record st {
     flow = Faulted;
     faults = st.faults ++ record { path = st.path; label = label; kind = kind } ∷ [];
   }
 
-  -- goes on with a value, or faults
+  -- continues with a value, or faults
   abbrev pub with_value : {A : Type 0} → (label : ℕ) → Valued A → (A → State X → State X)
       → State X → State X
   with_value label (Ok v) go st = go v st
   with_value label (Err f) go st = fault label f st
 
-  -- values and windows where a task stands
+  -- values and windows in the state of a task
   abbrev pub number_at : State X → Number → Valued ℤ
   number_at st e = number st.environment (read st.store) e
 
@@ -159,36 +159,36 @@ module _ {X : Type 0} where
   abbrev pub print : List ℤ → State X → State X
   print vs st = record st { lines = st.lines ++ vs ∷ [] }
 
-  -- writes a number to a place if its element type holds it, or faults
+  -- writes a number to a place if it fits in the element type, or faults
   abbrev pub put : (label : ℕ) → (fits : Bool) → Place → ℤ → State X → State X
   put label true q v st = record st { store = write q v st.store }
   put label false q v st = fault label OutOfElement st
 
-  -- goes on by what a guard says
+  -- continues with one of two functions, depending on a condition
   abbrev pub choose : (State X → State X) → (State X → State X) → Bool → State X → State X
   choose body other true st = body st
   choose body other false st = other st
 
-  -- goes on in another environment, and comes back to its own
+  -- continues in another environment, and then restores its own
   abbrev pub in_environment : Environment → (State X → State X) → State X → State X
   in_environment env go st =
       let out = go (record st { environment = env }) in
       record out { environment = st.environment }
 
--- what a kind of run does where it isn't alone, at the statement of a label
+-- what a kind of run does if it isn't alone, at the statement with a label
 pub record Rules (X : Type 0) : Type 0 where
-  -- a step was taken, other than that of an async or a finish: one thread notes nothing of it, a
-  -- task's own run notes it in `extra` among its actions
+  -- a step was taken, other than that of an async or a finish; one thread records nothing, a task's
+  -- own run records it in `extra` among its actions
   pub stepped : (label : ℕ) → X → X
-  -- an async with its body, whose step was taken
+  -- an async with its body, whose step was already taken
   pub begin : (label : ℕ) → Codes → State X → State X
-  -- a finish begins, whose step was taken
+  -- the start of a finish, whose step was already taken
   pub enter : (label : ℕ) → State X → State X
-  -- a finish that began at `before` is at its end
+  -- the end of a finish that started at `before`
   pub leave : (before : State X) → State X → State X
 
 module _ (p : Program) {X : Type 0} where
-  -- a statement of one step, whose step was taken
+  -- a statement of one step, whose step was already taken
   abbrev pub primitive : (label : ℕ) → Primitive → State X → State X
   primitive l Skip st = st
   primitive l (Assign x e) st = with_value l (number_at st e) (assign x) st
@@ -201,7 +201,7 @@ module _ (p : Program) {X : Type 0} where
   primitive l (Raise e) st = with_value l (number_at st e) (λ v. fault l (Raised v)) st
 
 module _ {X : Type 0} (r : Rules X) where
-  -- tells the rules of the step of a statement, unless they see it anyway
+  -- informs the rules of the step of a statement, unless they see it anyway
   abbrev pub counted : (label : ℕ) → Code → State X → State X
   counted l (Async b) st = st
   counted l (Finish b) st = st
@@ -209,7 +209,8 @@ module _ {X : Type 0} (r : Rules X) where
 
 module _ (p : Program) {X : Type 0} (r : Rules X) where
   abbrev mutual
-    -- a statement whose step was taken; `deeper` is what calls and further turns of a loop do
+    -- a statement whose step was already taken; `deeper` executes calls and further iterations of a
+    -- loop
     pub act : (deeper : Work → State X → State X) → (label : ℕ) → Code → State X → State X
     act deeper l (Do s) st = primitive p l s st
     act deeper l (If t b c) st =
@@ -234,17 +235,17 @@ module _ (p : Program) {X : Type 0} (r : Rules X) where
     block deeper (Then l s rest) st =
         go_on (block deeper rest) (with_step (λ st. act deeper l s (counted r l s st)) st)
 
-  -- what work does, where `deeper` does what is inside its calls and further turns
+  -- executes work, where `deeper` executes what is inside its calls and further iterations
   abbrev pub work : (deeper : Work → State X → State X) → Work → State X → State X
   work deeper (Block b) st = block deeper b st
   work deeper (Turn l t b) st =
       with_step (λ st. act deeper l (While t b) (counted r l (While t b) st)) st
 
-  -- at most k calls and turns within one another
+  -- at most k nested calls and iterations
   abbrev pub within : ℕ → Work → State X → State X
   within zero w st = stopped st
   within (suc k) w st = work (within k) w st
 
-  -- no call and no turn goes without a step
+  -- each call and each iteration takes a step
   abbrev pub run : Work → State X → State X
   run w st = within (st.steps + 1) w st

@@ -1,4 +1,4 @@
--- What is in scope at a place of a text, and how the scope goes on from statement to statement.
+-- What is in scope at a position in a text, and how the scope changes from statement to statement.
 use Rattle.std.specs.Prelude.{ℕ, ◌+◌, List, [], ◌∷◌, ◌++◌, length, true, false, Option, Some, None, nat_eq}
 use Rattle.std.specs.Prelude.{if◌then◌else◌, slice_index_or}
 use Rattle.std.specs.Cmp.Lexicographic.{pointwise}
@@ -9,7 +9,7 @@ use Rattle.syntax_tree.specs.Tree.{Written, Read, Scalar}
 use Rattle.sections.specs.Origins.{Origin, Root, Left, Right}
 use Rattle.types.specs.Code.{Parameter}
 
--- what a name means
+-- the meaning of a name
 pub data Meant : Type 0 where
   ASection : (section : ℕ) → Meant
   AScalar : (slot : ℕ) → Meant
@@ -18,12 +18,12 @@ pub data Meant : Type 0 where
 abbrev pub Names : Type 0
 Names = List (List ℕ × Meant)
 
--- what the first of these names that is x means
+-- the meaning of the first of these names that is x
 abbrev pub meant : List ℕ → Names → Option Meant
 meant x [] = None
 meant x (n ∷ ns) = if pointwise nat_eq x n.0 then Some n.1 else meant x ns
 
--- the number of a section, and the slot of a scalar, of that name
+-- the number of the section, and the slot of the scalar, with that meaning; 0 otherwise
 abbrev pub section_or_0 : Option Meant → ℕ
 section_or_0 (Some (ASection s)) = s
 section_or_0 (Some (AScalar k)) = 0
@@ -40,10 +40,10 @@ section_of names x = section_or_0 (meant x names)
 abbrev pub slot_of : Names → List ℕ → ℕ
 slot_of names x = slot_or_0 (meant x names)
 
--- a place of a text: the names in scope there, and the label and the slot that come next. Slots
--- below `outside` are of scalars that were declared outside of the innermost async body. Of each
--- section of the procedure so far: where it comes from, its name, and whether it may be written and
--- what it holds
+-- a position in a text: the names in scope there, and the label and the slot that come next. Slots
+-- below `outside` belong to scalars that were declared outside the innermost async body. For each
+-- section of the procedure so far: its origin, its name, whether it may be written, and its element
+-- type
 pub record Scope : Type 0 where
   pub names : Names
   pub label : ℕ
@@ -53,15 +53,15 @@ pub record Scope : Type 0 where
   pub section_names : List (List ℕ)
   pub kinds : List Parameter
 
--- a section that isn't there may not be written
+-- a section that doesn't exist may not be written
 abbrev pub no_section : Parameter
 no_section = record { may_write = false; element = Int }
 
--- whether a section may be written, and what it holds
+-- whether a section may be written, and its element type
 abbrev pub kind_of : Scope → (section : ℕ) → Parameter
 kind_of here s = slice_index_or here.kinds s no_section
 
--- where nothing is declared yet, and the next statement has the label
+-- the scope if nothing is declared yet and the next statement has the label
 abbrev pub empty_scope : (label : ℕ) → Scope
 empty_scope label = record {
   names = [];
@@ -73,11 +73,11 @@ empty_scope label = record {
   kinds = [];
 }
 
--- behind the declaration of a scalar
+-- after the declaration of a scalar
 abbrev pub with_scalar : List ℕ → Scope → Scope
 with_scalar x here = record here { names = (x, AScalar here.slot) ∷ here.names; slot = here.slot + 1 }
 
--- behind that of a section that is no side
+-- after the declaration of a section that is no side
 abbrev pub with_root : List ℕ → Parameter → Scope → Scope
 with_root x kind here = record here {
   names = (x, ASection (length here.sections)) ∷ here.names;
@@ -86,7 +86,8 @@ with_root x kind here = record here {
   kinds = here.kinds ++ kind ∷ [];
 }
 
--- in the block of a split of s into l and r; a side may be written as s may, and holds what s holds
+-- in the block of a split of s into l and r; a side may be written if s may, and has the element
+-- type of s
 abbrev pub with_sides : (s : ℕ) → (l r : List ℕ) → Scope → Scope
 with_sides s l r here = record here {
   names = (l, ASection (length here.sections)) ∷ (r, ASection (length here.sections + 1)) ∷ here.names;
@@ -95,20 +96,20 @@ with_sides s l r here = record here {
   kinds = here.kinds ++ kind_of here s ∷ kind_of here s ∷ [];
 }
 
--- behind the label of a statement
+-- after the label of a statement
 abbrev pub next : Scope → Scope
 next here = record here { label = here.label + 1 }
 
--- at the beginning of an async body
+-- at the start of an async body
 abbrev pub inside_async : Scope → Scope
 inside_async here = record here { outside = here.slot }
 
--- out of a block again: the names are those of before; labels, slots and sections go on
+-- after a block: the names are those from before it; labels, slots and sections continue
 abbrev pub out_of : (before : Scope) → Scope → Scope
 out_of before there = record there { names = before.names; outside = before.outside }
 
 abbrev mutual
-  -- behind a statement: a `var` is in scope from here to the end of its block
+  -- after a statement: a `var` is in scope from here to the end of its block
   pub behind : Stmt → Scope → Scope
   behind Skip here = next here
   behind (Var x e) here = with_scalar x (next here)
@@ -124,12 +125,12 @@ abbrev mutual
   behind (Async b) here = out_of here (after b (inside_async (next here)))
   behind (Finish b) here = out_of here (after b (next here))
 
-  -- behind the statements of a block
+  -- after the statements of a block
   pub after : Block → Scope → Scope
   after End here = here
   after (Then s rest) here = after rest (behind s here)
 
--- behind the declaration of a parameter, and of several
+-- after the declaration of a parameter, and of several
 abbrev pub with_parameter : Declared → Scope → Scope
 with_parameter (Written x e) here = with_root x (record { may_write = true; element = e }) here
 with_parameter (Read x e) here = with_root x (record { may_write = false; element = e }) here
@@ -139,7 +140,7 @@ abbrev pub with_parameters : List Declared → Scope → Scope
 with_parameters [] here = here
 with_parameters (p ∷ ps) here = with_parameters ps (with_parameter p here)
 
--- behind the declaration of an array, and of several
+-- after the declaration of an array, and of several
 abbrev pub with_array : Array → Scope → Scope
 with_array a here = with_root a.name (record { may_write = true; element = a.element }) here
 
@@ -147,7 +148,7 @@ abbrev pub with_arrays : List Array → Scope → Scope
 with_arrays [] here = here
 with_arrays (a ∷ arrays) here = with_arrays arrays (with_array a here)
 
--- where the body of a procedure begins, and that of `main`, whose first statement has the label
+-- where the body of a procedure starts, and that of `main`, whose first statement has the label
 abbrev pub in_procedure : (label : ℕ) → List Declared → Scope
 in_procedure label ps = with_parameters ps (empty_scope label)
 

@@ -1,4 +1,4 @@
--- Resolved programs are a set, so that a program is a certain one may be said by a ghost field.
+-- Resolved programs are a set, so a ghost field can state that a program is a certain one.
 use Rattle.std.specs.Prelude.{◌≡◌, List, Option}
 use mathlib.Core.Sum.{⊎_set}
 use Rattle.std.proofs.Props.{props}
@@ -39,6 +39,6 @@ codes = Codes-set primitives truths (hlevel props) numbers lists_of_numbers (hle
 programs : IsSet Program
 programs = hlevel (codes, origins, elements, props)
 
--- that a program, if there is one, is a certain one has one proof at most
+-- there is at most one proof that an optional program is a certain one
 pub one_proof : (p q : Option Program) → IsProp (p ≡ q)
 one_proof = hlevel (programs, props)

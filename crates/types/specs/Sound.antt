@@ -1,5 +1,5 @@
--- What a program keeps that breaks no rule, once its names are resolved. Each line says which rule
--- of the language gives it, or that the resolution of names does.
+-- The properties of a program that breaks no rule, once its names are resolved. Each line names the
+-- rule of the language that guarantees it, or the resolution of names.
 use Rattle.std.specs.Prelude.{ℕ, zero, suc, ◌+◌, ◌^◌, ◌<◌, ◌≤◌, ◌≡◌, ◌≢◌, List, [], ◌∷◌, length, map, Bool}
 use Rattle.std.specs.Prelude.{true, false, ℤ, pos, negsuc, slice_get, slice_index_or, Some}
 use Rattle.std.specs.List.{AllByRecursion, range_with_len}
@@ -14,11 +14,11 @@ use Rattle.types.specs.Code.{Finish, Codes, End, Then, Array, Parameter, Procedu
 use Rattle.types.specs.Labels.{labels_of_program}
 use Rattle.types.specs.Run.{procedure_of}
 
--- a parameter that isn't there may not be written
+-- a parameter that doesn't exist may not be written
 abbrev pub no_parameter : Parameter
 no_parameter = record { may_write = false; element = Int }
 
--- the parameter of a number, and whether it may be written
+-- the parameter with a number, and whether it may be written
 abbrev pub parameter_at : List Parameter → ℕ → Parameter
 parameter_at parameters k = slice_index_or parameters k no_parameter
 
@@ -29,12 +29,12 @@ may_write parameters k = (parameter_at parameters k).may_write
 abbrev pub as_parameter : Array → Parameter
 as_parameter a = record { may_write = true; element = a.element }
 
--- so many numbers from the first on
+-- `count` numbers, starting at the first
 abbrev pub numbers_from : (from count : ℕ) → List ℕ
 numbers_from a zero = []
 numbers_from a (suc n) = a ∷ numbers_from (a + 1) n
 
--- what is in scope where a procedure begins
+-- what is in scope where a procedure starts
 abbrev pub parameters_of : Procedure → List ℕ
 parameters_of g = numbers_from 0 (length g.parameters)
 
@@ -48,17 +48,17 @@ IsLiteral (pos n) = n < 2 ^ 63
 IsLiteral (negsuc n) = ⊥
 
 module _ (g : Procedure) where
-  -- the parameter that a section of the procedure lies in, and whether it may be written
+  -- the parameter that contains a section of the procedure, and whether it may be written
   abbrev pub parameter_of : ℕ → Parameter
   parameter_of s = parameter_at g.parameters (root_of g.sections s)
 
   abbrev pub is_writable : ℕ → Bool
   is_writable s = may_write g.parameters (root_of g.sections s)
 
--- in a procedure, where the sections of the scope may be named
+-- in a procedure, if the sections of the scope can be named
 module _ (g : Procedure) (scope : List ℕ) where
   abbrev mutual
-    -- Y1, Y3: the scalars and the sections that an expression for a number names are there
+    -- Y1, Y3: the scalars and the sections that a number expression names exist
     pub NumberFollows : Number → Type 0
     NumberFollows (Literal v) = IsLiteral v
     NumberFollows (Scalar x) = x < g.slots
@@ -72,7 +72,7 @@ module _ (g : Procedure) (scope : List ℕ) where
     LinksFollow (Link o e rest) = NumberFollows e × LinksFollow rest
 
   abbrev mutual
-    -- and those that one for a truth value names
+    -- and those that a boolean expression names exist
     pub TruthFollows : Truth → Type 0
     TruthFollows (Constant b) = Unit {0}
     TruthFollows (Compare r a b) = NumberFollows a × NumberFollows b
@@ -105,7 +105,7 @@ module _ (g : Procedure) (scope : List ℕ) where
   pub record SplitsWell (s l r : ℕ) : Type 0 where
     -- Y1, Y3
     pub in_scope : Member s scope
-    -- resolution: the sides come from s, and are numbered in turn, behind all that is in scope
+    -- resolution: the sides come from s and have consecutive numbers, after everything in scope
     pub left : origin_of g.sections l ≡ Left s
     pub right : origin_of g.sections r ≡ Right s
     pub next : r ≡ l + 1
@@ -113,13 +113,13 @@ module _ (g : Procedure) (scope : List ℕ) where
 
   -- section arguments ss for these parameters
   pub record PassesWell (parameters : List Parameter) (ss : List ℕ) : Type 0 where
-    -- Y4: there are as many, and each holds what its parameter holds
+    -- Y4: there are as many arguments as parameters, and each has the element type of its parameter
     pub number : length ss ≡ length parameters
     pub element : (k : ℕ) → k < length ss
         → (parameter_of g (passed_for ss k)).element ≡ (parameter_at parameters k).element
     -- Y1
     pub in_scope : (k : ℕ) → k < length ss → Member (passed_for ss k) scope
-    -- Y6: what the callee may write, the caller may write
+    -- Y6: if the callee may write a section, the caller may write it
     pub writable : (k : ℕ) → may_write parameters k ≡ true
         → is_writable g (passed_for ss k) ≡ true
     -- Y7: a `mut` argument overlaps no other
@@ -137,7 +137,7 @@ module _ (p : Program) (g : Procedure) where
     pub passes : PassesWell g scope (procedure_of p f).parameters ss
 
   abbrev mutual
-    -- the names inside a statement are used as the rules say
+    -- the names inside a statement are used as the rules require
     pub FollowsOf : (scope : List ℕ) → Code → Type 0
     FollowsOf scope (Do s) = PrimitiveFollows g scope s
     FollowsOf scope (If t b c) = TruthFollows g scope t × Follows scope b × Follows scope c
@@ -148,17 +148,18 @@ module _ (p : Program) (g : Procedure) where
     FollowsOf scope (Async b) = Follows scope b
     FollowsOf scope (Finish b) = Follows scope b
 
-    -- the names in a list of statements are
+    -- the names in a list of statements are used as the rules require
     pub Follows : (scope : List ℕ) → Codes → Type 0
     Follows scope End = Unit {0}
     Follows scope (Then l s rest) = FollowsOf scope s × Follows scope rest
 
 -- a procedure follows the rules
 pub record IsSoundIn (p : Program) (g : Procedure) : Type 0 where
-  -- resolution: its first sections are its parameters, and its first slots its scalar parameters
+  -- resolution: its first sections are its parameters, and its first slots are its scalar
+  -- parameters
   pub first : (k : ℕ) → k < length g.parameters → slice_get g.sections k ≡ Some Root
   pub scalars : g.scalars ≤ g.slots
-  -- resolution: a side is numbered behind the section that it is a side of
+  -- resolution: a side has a larger number than the section that it is a side of
   pub numbered : IsNumbered g.sections
   pub body : Follows p g (parameters_of g) g.body
 
@@ -166,7 +167,7 @@ pub record IsSoundIn (p : Program) (g : Procedure) : Type 0 where
 abbrev pub HasArrays : Program → Type 0
 HasArrays p = p.main.parameters ≡ map as_parameter p.arrays
 
--- every procedure does, `main` among them
+-- every procedure follows the rules, including `main`
 pub record IsSound (p : Program) : Type 0 where
   pub procedures : (f : ℕ) → IsSoundIn p (procedure_of p f)
   pub main : IsSoundIn p p.main

@@ -1,9 +1,9 @@
--- How many statements there are.
+-- The number of statements.
 use Rattle.std.specs.Prelude.{ℕ, ◌+◌}
 use Rattle.types.specs.Code.{Code, Do, If, While, Split, Call, Async, Finish, Codes, End, Then}
 
 abbrev mutual
-  -- how many statements there are, those inside others among them
+  -- the number of statements, including those inside others
   pub statements_in : Code → ℕ
   statements_in (Do s) = 1
   statements_in (If t b c) = 1 + statements b + statements c

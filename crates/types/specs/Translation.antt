@@ -1,4 +1,4 @@
--- The Rust types as plain trees, without what says where they lie in memory.
+-- The Rust types as plain trees, without their representation in memory.
 use Rattle.std.specs.Prelude.{ℤ, List, [], ◌∷◌, map, pos, Bool, nat_eq}
 use Rattle.std.specs.Cmp.Lexicographic.{pointwise}
 use Rattle.std.specs.String.{string_bytes}
@@ -40,7 +40,7 @@ use Rattle.types.specs.declared.outcome.Outcome.{Outcome as rOutcome}
 use Rattle.types.specs.declared.outcome.Outcome.TheVariants.{Ended as rEnded, Stopped as rStopped}
 
 abbrev mutual
-  -- an expression for a number
+  -- a number expression
   pub number : rNumber → Number
   number (rLiteral n) = Literal n
   number (rScalar x) = Scalar x.number
@@ -54,7 +54,7 @@ abbrev mutual
   links (more_of-Link o e more) = Link o (number e) (links more)
 
 abbrev mutual
-  -- an expression for a truth value
+  -- a boolean expression
   pub truth : rTruth → Truth
   truth (rConstant b) = Constant b
   truth (rCompare r a b) = Compare r (number a) (number b)
@@ -123,7 +123,7 @@ program p = record {
   main = procedure p.main;
 }
 
--- whether two paths are the same
+-- whether two paths are equal
 abbrev pub is_path : (path other : Path) → Bool
 is_path path other = pointwise nat_eq path.turns.items other.turns.items
 
@@ -148,7 +148,7 @@ outcome (rEnded arrays lines faults) = Ended (record {
 })
 outcome rStopped = Stopped
 
--- what a frame knows
+-- the contents of a frame
 abbrev pub environment : rEnvironment → Environment
 environment e = record {
   scalars = by_number (pos 0) e.scalars.items;

@@ -1,4 +1,4 @@
--- What a leaf that may step stands before: a label, and the places that its step reads and writes.
+-- The label that a leaf that can step is at, and the places that its step reads and writes.
 use Rattle.std.specs.Prelude.{ℕ, ◌≡◌, List, [], ◌∷◌, ◌++◌, Bool, true, false, ℤ, Ok, Err}
 use Rattle.sections.specs.Place.{Place}
 use Rattle.types.specs.Code.{Number, Literal, Scalar, Element, Length, Negative, Chain, Links}
@@ -9,13 +9,13 @@ use Rattle.types.specs.Contents.{Contents, read}
 use Rattle.types.specs.Value.{Environment, Valued, then_try, element_of, operate, number, truth}
 use Rattle.types.specs.Trees.{Leaf}
 
--- a leaf's next statement, or its guard, has this label
+-- the leaf's next statement, or the loop whose condition comes next, has this label
 pub record StandsBefore (k : Leaf) (label : ℕ) : Type 0 where
   pub code : Code
   pub rest : Codes
   pub stands : k.rest ≡ Then label code rest
 
--- what follows a value, and nothing behind a fault
+-- what follows a value, and nothing after a fault
 abbrev pub after : {A : Type 0} → Valued A → (A → List Place) → List Place
 after (Ok v) go = go v
 after (Err f) go = []
@@ -23,7 +23,7 @@ after (Err f) go = []
 -- in an environment, where `contents` gives the number at a place; in the order of evaluation
 module _ (env : Environment) (contents : Place → ℤ) where
   abbrev mutual
-    -- the places that are read for the value of an expression for a number
+    -- the places that are read for the value of a number expression
     pub number_reads : Number → List Place
     number_reads (Literal n) = []
     number_reads (Scalar x) = []
@@ -35,7 +35,7 @@ module _ (env : Environment) (contents : Place → ℤ) where
     number_reads (Chain e rest) =
         number_reads e ++ after (number env contents e) (links_read rest)
 
-    -- for what becomes of the number so far
+    -- for the result of applying the remaining operands to the number so far
     pub links_read : Links → ℤ → List Place
     links_read Done x = []
     links_read (Link o e rest) x =
@@ -48,7 +48,7 @@ module _ (env : Environment) (contents : Place → ℤ) where
   numbers_read (e ∷ es) = number_reads e ++ after (number env contents e) (λ v. numbers_read es)
 
   abbrev mutual
-    -- for the value of an expression for a truth value
+    -- for the value of a boolean expression
     pub truth_reads : Truth → List Place
     truth_reads (Constant b) = []
     truth_reads (Compare r a b) =
@@ -57,13 +57,13 @@ module _ (env : Environment) (contents : Place → ℤ) where
     truth_reads (Both ts) = all_read ts true
     truth_reads (Either ts) = any_read ts false
 
-    -- for whether all hold, where those before came to this
+    -- for whether all operands are true, given the result of those before
     pub all_read : Truths → Bool → List Place
     all_read NoMore b = []
     all_read (Also t rest) false = []
     all_read (Also t rest) true = truth_reads t ++ after (truth env contents t) (all_read rest)
 
-    -- for whether one holds
+    -- for whether some operand is true
     pub any_read : Truths → Bool → List Place
     any_read NoMore b = []
     any_read (Also t rest) true = []
@@ -88,7 +88,7 @@ module _ (env : Environment) (contents : Place → ℤ) where
   step_reads (Async b) = []
   step_reads (Finish b) = []
 
-  -- the place that a store comes to, also where its element type doesn't hold the number
+  -- the place that a store writes to, even if the number doesn't fit in its element type
   abbrev pub primitive_writes : Primitive → List Place
   primitive_writes Skip = []
   primitive_writes (Assign x e) = []
@@ -109,12 +109,12 @@ module _ (env : Environment) (contents : Place → ℤ) where
   step_writes (Async b) = []
   step_writes (Finish b) = []
 
-  -- that the first step of a list of statements reads
+  -- the places that the first step of a list of statements reads
   abbrev pub first_reads : Codes → List Place
   first_reads End = []
   first_reads (Then l s rest) = step_reads s
 
-  -- and writes
+  -- the places that the first step of a list of statements writes
   abbrev pub first_writes : Codes → List Place
   first_writes End = []
   first_writes (Then l s rest) = step_writes s
@@ -123,6 +123,6 @@ module _ (env : Environment) (contents : Place → ℤ) where
 abbrev pub next_reads : Leaf → Contents → List Place
 next_reads k a = first_reads k.environment (read a) k.rest
 
--- and writes
+-- the places that a leaf's next step writes
 abbrev pub next_writes : Leaf → Contents → List Place
 next_writes k a = first_writes k.environment (read a) k.rest

@@ -11,7 +11,7 @@ use Rattle.types.specs.Outcome.{whole_arrays}
 use Rattle.types.specs.Trees.{Leaf, Tree, Single, AndThen, Beside, single, done, failed}
 use Rattle.types.specs.Trees.{before_rest, called, child, parent, inside, held_back, and_then, ready}
 
--- goes on with a value, or is done with its fault
+-- continues with a value, or is done with its fault
 abbrev pub on_value : {A : Type 0} → (label : ℕ) → Leaf → Valued A → (A → Tree) → Tree
 on_value label k (Ok v) go = go v
 on_value label k (Err f) go = Single (failed label f k)
@@ -36,7 +36,7 @@ by_flow On k = single k
 by_flow Faulted k = Single (done k)
 by_flow Stopped k = Single (done k)
 
--- a leaf that has come to this state
+-- a leaf in this state
 abbrev pub with_state : Leaf → State (Unit {0}) → Tree
 with_state k st = by_flow st.flow (record k {
   environment = st.environment;
@@ -49,7 +49,7 @@ abbrev pub sides_at : Leaf → ℕ → Valued ℤ → Valued (Window × Window)
 sides_at k s r = then_try r (λ v. ok_or (sides_of (k.environment.windows s) v) SplitPoint)
 
 module _ (p : Program) where
-  -- what a leaf becomes by one step of a statement; `k` has what follows the statement
+  -- what a leaf becomes in one step of a statement; the statements after it remain in `k`
   abbrev pub tree_after : (label : ℕ) → Code → Leaf → Contents → Tree
   tree_after l (Do s) k a = with_state k (primitive p l s (as_state k a))
   tree_after l (If t b c) k a =
@@ -67,7 +67,7 @@ module _ (p : Program) where
   tree_after l (Async b) k a = Beside (single (child b k)) (single (parent k))
   tree_after l (Finish b) k a = and_then (single (inside b k)) (held_back k)
 
-  -- and the store
+  -- what the store becomes
   abbrev pub store_after : (label : ℕ) → Code → Leaf → Contents → Contents
   store_after l (Do s) k a = (primitive p l s (as_state k a)).store
   store_after l (If t b c) k a = a
@@ -77,7 +77,7 @@ module _ (p : Program) where
   store_after l (Async b) k a = a
   store_after l (Finish b) k a = a
 
-  -- one step of a leaf that has these statements left
+  -- one step of a leaf with these remaining statements
   abbrev pub leaf_step : Codes → Leaf → Contents → Option (Tree × Contents)
   leaf_step End k a = None
   leaf_step (Then l s rest) k a =
@@ -89,7 +89,7 @@ in_tree f None = None
 in_tree f (Some ta) = Some (f ta.0, ta.1)
 
 module _ (p : Program) where
-  -- one step of the n-th leaf that may step, numbered from 0 and from the left
+  -- one step of the n-th leaf that can step, numbered from 0 and from the left
   abbrev pub step : ℕ → Tree → Contents → Option (Tree × Contents)
   step n (Single k) a = if nat_eq n 0 then leaf_step p k.rest k a else None
   step n (AndThen t k) a = in_tree (λ u. and_then u k) (step n t a)
@@ -97,18 +97,18 @@ module _ (p : Program) where
       if nat_lt n (ready t) then in_tree (λ u. Beside u v) (step n t a)
       else in_tree (λ u. Beside t u) (step (n - ready t) v a)
 
--- a leaf that may step
+-- a leaf that can step
 abbrev pub unless_done : Codes → Leaf → Option Leaf
 unless_done End k = None
 unless_done (Then l s rest) k = Some k
 
--- the n-th leaf that may step
+-- the n-th leaf that can step
 abbrev pub leaf_at : ℕ → Tree → Option Leaf
 leaf_at n (Single k) = if nat_eq n 0 then unless_done k.rest k else None
 leaf_at n (AndThen t k) = leaf_at n t
 leaf_at n (Beside t v) = if nat_lt n (ready t) then leaf_at n t else leaf_at (n - ready t) v
 
--- `main` at its beginning
+-- `main` at its start
 abbrev pub first_leaf : Program → Leaf
 first_leaf p = record {
   environment = entry [] (whole_arrays 0 p.arrays);

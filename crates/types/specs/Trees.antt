@@ -5,17 +5,17 @@ use Rattle.types.specs.Code.{Codes, End, Then, Procedure}
 use Rattle.types.specs.Value.{Environment}
 use Rattle.types.specs.Run.{Fault}
 
--- what waits for a call to end: the caller's environment and the statements behind the call
+-- what waits for a call to end: the caller's environment and the statements after the call
 pub record Caller : Type 0 where
   pub environment : Environment
   pub rest : Codes
 
--- a task as it stands: the statements that it has left, with their environments, its name and how
--- many children it spawned, and what it told; it is done where no statement is left
+-- the state of a task: its remaining statements with their environments, its name, the number of
+-- children that it spawned, and its output; it is done if no statement is left
 pub record Leaf : Type 0 where
   pub environment : Environment
   pub rest : Codes
-  -- the calls that it is in, the innermost first
+  -- the calls that the task is in, the innermost one first
   pub callers : List Caller
   pub path : List ℕ
   pub spawned : ℕ
@@ -40,7 +40,7 @@ is_done (Then l s rest) = false
 
 -- Of a leaf
 
--- back to the innermost call behind which statements are left
+-- returns to the innermost call after which statements are left
 abbrev pub return_to : List Caller → Leaf → Leaf
 return_to [] k = record k { rest = End; callers = [] }
 return_to (f ∷ fs) k = elim f.rest [
@@ -48,7 +48,7 @@ return_to (f ∷ fs) k = elim f.rest [
   | Then l s rest ↦ record k { environment = f.environment; rest = Then l s rest; callers = fs }
 ]
 
--- at the end of a call's body a leaf is back at its caller
+-- at the end of a call's body a leaf returns to its caller
 abbrev pub returned_by : Codes → Leaf → Leaf
 returned_by End k = return_to k.callers k
 returned_by (Then l s rest) k = k
@@ -66,11 +66,11 @@ abbrev pub outermost : List Caller → Environment → Environment
 outermost [] env = env
 outermost (f ∷ fs) env = outermost fs f.environment
 
--- that of a leaf
+-- the environment of a leaf outside of all calls
 abbrev pub task_environment : Leaf → Environment
 task_environment k = outermost k.callers k.environment
 
--- a leaf that drops what it has left
+-- a leaf that drops its remaining statements
 abbrev pub done : Leaf → Leaf
 done k = record k { environment = task_environment k; rest = End; callers = [] }
 
@@ -80,11 +80,11 @@ failed label f k = done (record k {
   faults = k.faults ++ record { path = k.path; label = label; kind = f } ∷ [];
 })
 
--- a leaf that has a block to do first
+-- a leaf that first does a block
 abbrev pub before_rest : Codes → Leaf → Leaf
 before_rest b k = record k { rest = append b k.rest }
 
--- a leaf that begins a call
+-- a leaf that starts a call
 abbrev pub called : Procedure → Environment → Leaf → Leaf
 called f env k = record k {
   environment = env;
@@ -92,7 +92,7 @@ called f env k = record k {
   callers = record { environment = k.environment; rest = k.rest } ∷ k.callers;
 }
 
--- the next child with its body: the lines so far go to it
+-- the next child with its body; it takes the output so far
 abbrev pub child : Codes → Leaf → Leaf
 child b k = record k {
   rest = b;
@@ -101,15 +101,15 @@ child b k = record k {
   spawned = 0;
 }
 
--- and the leaf behind the async begins with none
+-- the leaf after the async; it starts without output
 abbrev pub parent : Leaf → Leaf
 parent k = record k { spawned = k.spawned + 1; lines = []; faults = [] }
 
--- the body of a finish as it begins: the lines so far, and the number of children, go to it
+-- the body of a finish at its start; it takes the output so far and the number of children
 abbrev pub inside : Codes → Leaf → Leaf
 inside b k = record k { rest = b; callers = [] }
 
--- and what waits for its end has told nothing
+-- the leaf that waits for its end; it has no output
 abbrev pub held_back : Leaf → Leaf
 held_back k = record k { lines = []; faults = [] }
 
@@ -127,7 +127,7 @@ lines_of (Single k) = k.lines
 lines_of (AndThen t k) = lines_of t
 lines_of (Beside t u) = lines_of t ++ lines_of u
 
--- and their faults
+-- the faults of its leaves, from left to right
 abbrev pub faults_of : Tree → List Fault
 faults_of (Single k) = k.faults
 faults_of (AndThen t k) = faults_of t
@@ -143,7 +143,7 @@ rightmost (Beside t u) = rightmost u
 abbrev pub owner_environment : Tree → Environment
 owner_environment t = task_environment (rightmost t)
 
--- without faults a leaf goes on, with some it is done
+-- a leaf continues if there are no faults, otherwise it is done
 abbrev pub unless_faulted : List Fault → Leaf → Leaf
 unless_faulted [] k = returned k
 unless_faulted (f ∷ fs) k = done k
@@ -161,7 +161,7 @@ closed t k = unless_faulted (faults_of t) (record k {
 abbrev pub and_then : Tree → Leaf → Tree
 and_then t k = if all_done t then Single (closed t k) else AndThen t k
 
--- how many leaves may step: those that aren't done, and no `<k>` behind a `then`
+-- the number of leaves that can step: those that aren't done, and no `<k>` after a `then`
 abbrev pub ready : Tree → ℕ
 ready (Single k) = if is_done k.rest then 0 else 1
 ready (AndThen t k) = ready t

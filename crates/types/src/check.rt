@@ -27,7 +27,7 @@ use crate::typed::Typed;
 use std::alloc::Global;
 use syntax_tree::tree;
 
-/// Resolves a program that breaks no rule of the language.
+/// Checks a program and resolves its names, if it breaks no rule of the language.
 pub fn type_check(alloc: Global, program: tree::Program) -> Result<Typed, TypeError>
     ensures code { IfOk result (λ t. resolution (tree_of program) ≡ Some (code_of t)) }
     ensures program { IfOk result (λ t. program_of t ≡ tree_of program) }
@@ -39,7 +39,7 @@ pub fn type_check(alloc: Global, program: tree::Program) -> Result<Typed, TypeEr
     Ok(Typed { program, code })
 }
 
-/// The code of a program.
+/// Returns the code of a program.
 fn resolve(alloc: Global, program: &tree::Program) -> Result<Program, TypeError>
     ensures code { IfOk result (λ p. resolution (tree_of program.now) ≡ Some (plain p)) }
     ensures right { OnOk result (BreaksNoRule (tree_of program.now)) }

@@ -1,10 +1,10 @@
-//! The numbers by which tasks count their children.
+//! The numbers that tasks give their children.
 
 ghost use Rattle.std.specs.Prelude.{◌≡◌, ◌+◌, ◌<◌, ◌≤◌, ℕ, MatchOption};
 
 use std::marker::Model;
 
-/// Which of its task's children one is, from 1 to 4,294,967,295.
+/// The number of a child of a task, from 1 to 4,294,967,295.
 #[derive(Clone, Copy, PartialEq, Eq, PartialOrd, Ord, Hash, Debug)]
 pub struct ChildNumber {
     number: u32,
@@ -21,7 +21,7 @@ impl Model for ChildNumber {
 }
 
 impl ChildNumber {
-    /// The child of this number: none of 0.
+    /// Returns the child with this number, or `None` for 0.
     pub fn new(number: u32) -> Option<ChildNumber>
         ensures { MatchOption result (number ≡ 0) (λ c. (1 ≤ number) × (c ≡ number)) }
     {
@@ -31,7 +31,7 @@ impl ChildNumber {
         Some(ChildNumber { number })
     }
 
-    /// The child that a task begins behind so many.
+    /// Returns the child that a task spawns after it has spawned this many.
     pub fn after(spawned: u32) -> ChildNumber
         requires few { spawned < 4294967295 }
         ensures { result ≡ spawned + 1 }
@@ -41,7 +41,7 @@ impl ChildNumber {
         }
     }
 
-    /// Its number.
+    /// Returns the number.
     pub fn get(self) -> u32
         ensures same { result ≡ self }
         ensures some { 1 ≤ result }

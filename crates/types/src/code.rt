@@ -1,5 +1,6 @@
-//! A program with its names resolved. Scalars are slots of their procedure's frame, sections are numbers of
-//! their procedure, arrays and procedures are numbers of the program, and each statement carries its label.
+//! Programs with resolved names. Scalars are slots of their procedure's frame, and sections are
+//! numbers of their procedure. Arrays and procedures are numbers of the program. Each statement has
+//! its label.
 
 ghost use Rattle.std.specs.Prelude.{◌≤◌};
 
@@ -28,18 +29,18 @@ pub struct Array {
     ghost within: { length ≤ 4194304 },
 }
 
-/// A procedure, or `main`. Its section parameters are its first sections, its scalar parameters its first
-/// slots.
+/// A procedure, or `main`. Its section parameters are its first sections, and its scalar parameters
+/// are its first slots.
 #[derive(Drop)]
 pub struct Procedure {
     pub name: String,
     /// The section parameters, in the order of the text.
     pub parameters: Vec<SectionParameter>,
-    /// How many scalar parameters there are.
+    /// The number of scalar parameters.
     pub scalars: usize,
-    /// How many slots a frame of it has, scalar parameters among them.
+    /// The number of slots of a frame, including the scalar parameters.
     pub slots: usize,
-    /// Where each section comes from.
+    /// The origin of each section.
     pub sections: SectionTree,
     /// The name of each section.
     pub section_names: Vec<String>,
@@ -100,7 +101,7 @@ pub enum StmtKind {
     },
 }
 
-/// `s at 2 as l, r`: which section is split, where, and what its sides are.
+/// `s at 2 as l, r`: the section that is split, the position, and the two sides.
 #[derive(Drop)]
 pub struct Sides {
     pub section: SectionId,
@@ -135,7 +136,7 @@ pub enum Primitive {
     },
 }
 
-/// An expression for a number.
+/// A number expression.
 #[derive(Drop)]
 #[cycle(number)]
 pub enum Number {
@@ -156,14 +157,14 @@ pub enum Number {
     },
     /// `-x`
     Negative(Box<Number>),
-    /// `x + 1 - y`, or `x * 2 % y`: the first operand and the others in turn.
+    /// `x + 1 - y`, or `x * 2 % y`: the first operand, and the others in order.
     Chain {
         first: Box<Number>,
         rest: Vec<Link>,
     },
 }
 
-/// An operator of a chain and the operand behind it.
+/// An operator of a chain, and the operand after it.
 #[derive(Drop)]
 #[cycle(number)]
 pub struct Link {
@@ -180,13 +181,13 @@ pub enum Operator {
     Minus,
     /// `*`
     Times,
-    /// `/`, toward zero.
+    /// `/`, which rounds toward zero.
     Over,
-    /// `%`, with the sign of the dividend.
+    /// `%`, whose result has the sign of the dividend.
     Modulo,
 }
 
-/// An expression for a truth value.
+/// A boolean expression.
 #[derive(Drop)]
 pub enum Truth {
     /// `true`
@@ -199,8 +200,8 @@ pub enum Truth {
     },
     /// `not x < 1`
     Not(Box<Truth>),
-    /// `x < 1 and y < 1`, in turn.
+    /// `x < 1 and y < 1`, with the operands in order.
     Both(Vec<Truth>),
-    /// `x < 1 or y < 1`, in turn.
+    /// `x < 1 or y < 1`, with the operands in order.
     Either(Vec<Truth>),
 }

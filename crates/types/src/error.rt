@@ -1,4 +1,4 @@
-//! Why a program isn't well typed.
+//! Type errors.
 
 ghost use Rattle.std.specs.Prelude.{◌≡◌};
 ghost use Rattle.types.specs.declared.error.TypeError.TheVariants.{OutOfMemory};
@@ -9,28 +9,29 @@ use std::alloc::{AllocError, AllocFailed};
 use std::error::Error;
 use std::fmt;
 
-/// A rule of the language that a program breaks, with the label of a statement that breaks it where the rule
-/// is broken in one.
+/// A rule of the language that a program breaks. If a statement breaks it, the error has the label
+/// of such a statement.
 #[derive(Clone, Copy, PartialEq, Eq, Debug)]
 pub enum TypeError {
-    /// Y1: a name or a procedure that isn't in scope, as `a` in `main { print a; }`.
+    /// Y1: a name or a procedure that isn't in scope, such as `a` in `main { print a; }`.
     NotInScope { label: Label },
-    /// Y2: a name that is declared while the same name is in scope, as the second in
-    /// `main { var x = 1; var x = 2; }`. Arrays, parameters and procedures have no label, as in
-    /// `main { array a: int[1]; array a: int[1]; }`.
+    /// Y2: a name that is declared while the same name is in scope, such as the second one in `main
+    /// { var x = 1; var x = 2; }`. Arrays, parameters and procedures have no label, as in `main {
+    /// array a: int[1]; array a: int[1]; }`.
     DeclaredTwice { label: Option<Label> },
-    /// Y3: a number where a truth value is wanted or the other way, as in `main { print true; }`, or a
-    /// section for a scalar or the other way, as in `main { array a: int[1]; print a; }`.
+    /// Y3: a number where a boolean is expected, as in `main { print true; }`, or a section where a
+    /// scalar is expected, as in `main { array a: int[1]; print a; }`. The reverse cases are Y3,
+    /// too.
     WrongKind { label: Label },
-    /// Y4: a call with a wrong number of arguments, as in `proc f() { } main { f(1); }`, or with an
-    /// argument that isn't the name of a section of the parameter's element type, as in
-    /// `proc f(read s: int) { } main { f(1); }`.
+    /// Y4: a call with a wrong number of arguments, as in `proc f() { } main { f(1); }`. Also a
+    /// call with an argument that isn't the name of a section of the parameter's element type, as
+    /// in `proc f(read s: int) { } main { f(1); }`.
     WrongArguments { label: Label },
-    /// Y5: a scalar that is assigned in an async body outside of which it is declared, as in
-    /// `main { var x = 1; async { x = 2; } }`.
+    /// Y5: a scalar that is assigned in an async body but declared outside it, as in `main { var x
+    /// = 1; async { x = 2; } }`.
     AssignedOutsideAsync { label: Label },
-    /// Y6: a `read` section, or a side of one, that is written or passed as `mut`, as in
-    /// `proc f(read s: int) { s[0] = 1; } main { }`.
+    /// Y6: a `read` section, or a side of one, that is written or passed as `mut`, as in `proc
+    /// f(read s: int) { s[0] = 1; } main { }`.
     ReadOnly { label: Label },
     /// Y7: a `mut` argument that overlaps another section argument, as in
     /// `proc f(mut s: int, read t: int) { } main { array a: int[1]; f(a, a); }`.
@@ -40,12 +41,12 @@ pub enum TypeError {
     /// Y9: more than 256 procedures, 16 parameters, 32 arrays, 4,194,304 elements or 65,535 statements, as
     /// in `main { array a: int[4194305]; }`.
     OverLimit,
-    /// Y10: want of memory, as may be of `main { }`.
+    /// Y10: memory ran out, which is possible for any program.
     OutOfMemory,
 }
 
 impl TypeError {
-    /// The code that the program prints.
+    /// Returns the code that the program prints.
     pub fn code(self) -> &'static str
         ensures { result.now ≡ error_code self }
     {
@@ -63,7 +64,7 @@ impl TypeError {
         }
     }
 
-    /// The label that is told.
+    /// Returns the label that the error reports.
     pub fn label(self) -> Option<Label>
         ensures { result ≡ label_of self }
     {

@@ -1,4 +1,4 @@
-//! What goes wrong in a run.
+//! Faults of a run.
 
 ghost use Rattle.std.specs.Prelude.{Some};
 ghost use Rattle.types.specs.Names.{kind_text, fault_text};
@@ -8,12 +8,12 @@ use crate::code::Label;
 use crate::path::Path;
 use std::fmt;
 
-/// A fault of a task, which ended its statements up to the nearest finish.
+/// A fault of a task. It ended the statements of the task up to the nearest finish.
 #[derive(Clone, PartialEq, Eq, Debug, Drop)]
 pub struct Fault {
-    /// The task.
+    /// The task that faulted.
     pub path: Path,
-    /// The statement.
+    /// The statement that faulted.
     pub label: Label,
     pub kind: FaultKind,
 }
@@ -21,18 +21,20 @@ pub struct Fault {
 /// A kind of fault.
 #[derive(Clone, Copy, PartialEq, Eq, Debug)]
 pub enum FaultKind {
-    /// F1: `a[i]` with `i` not below the length of `a`, or below 0: `main { array a: int[1]; a[1] = 0; }`.
+    /// F1: `a[i]` if `i` is negative or not less than the length of `a`: `main { array a: int[1];
+    /// a[1] = 0; }`.
     Index,
-    /// F2: a number that 64 bits with sign don't hold: `main { print 9223372036854775807 + 1; }`.
+    /// F2: a number that doesn't fit in a signed 64-bit integer: `main { print 9223372036854775807
+    /// + 1; }`.
     Overflow,
     /// F3: `x / 0` or `x % 0`: `main { print 1 / 0; }`.
     ZeroDivisor,
-    /// F4: a number that the element type doesn't hold: `main { array a: byte[1]; a[0] = 256; }`.
+    /// F4: a number that doesn't fit in the element type: `main { array a: byte[1]; a[0] = 256; }`.
     OutOfElement,
     /// F5: a split below 0 or beyond the section's length:
     /// `main { array a: int[1]; split a at 2 as l, r { skip; } }`.
     SplitPoint,
-    /// F6: `fault n`, with what `n` comes to: `main { fault 1; }`.
+    /// F6: `fault n`, with the value of `n`: `main { fault 1; }`.
     Raised(i64),
 }
 

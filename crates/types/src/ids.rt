@@ -1,6 +1,6 @@
-//! Numbers that name something.
+//! Numbers that identify scalars and procedures.
 
-/// A scalar of a procedure: the number of its slot in a frame. The parameters come first.
+/// A scalar of a procedure, which is the number of its slot in a frame. The parameters come first.
 #[derive(Clone, Copy, PartialEq, Eq, Debug)]
 pub struct Slot {
     pub number: usize,

@@ -1,4 +1,4 @@
-//! What the arrays hold at first.
+//! The initial contents of the arrays.
 
 ghost use Rattle.std.specs.Prelude.{◌≡◌, ◌↔◌, Err, IfErr, IfOk, IfSome, IsTrue, None, Ok, Some};
 ghost use Rattle.std.specs.Prelude.{map, not, option_map, pos, replicate};
@@ -24,7 +24,7 @@ use serde_json::{Map, Value};
 use std::alloc::{AllocError, Global};
 use syntax_tree::tree::ElementType;
 
-/// The contents of the arrays as a run begins, in the order of declaration.
+/// The contents of the arrays at the start of a run, in the order of declaration.
 #[derive(Clone, PartialEq, Eq, Debug, Drop)]
 pub struct Input {
     pub arrays: Vec<Vec<i64>>,
@@ -33,7 +33,7 @@ pub struct Input {
 impl Input {
     ghost use Rattle.types.specs.Translation.{input};
 
-    /// Zeros in every place.
+    /// Returns zeros for all elements.
     pub fn zeros(alloc: Global, typed: &Typed) -> Result<Input, AllocError>
         ensures zeros { IfOk result
             (λ i. input i ≡ map (λ a. replicate a.length (pos 0)) (code_of typed.now).arrays) }
@@ -46,7 +46,7 @@ impl Input {
         Ok(Input { arrays })
     }
 
-    /// These lists, one for each array in the order of declaration.
+    /// Returns an input with these lists, one for each array in the order of declaration.
     pub fn new(alloc: Global, typed: &Typed, lists: Vec<Vec<i64>>) -> Result<Input, InputError>
         ensures lists { IfOk result (λ i. i.arrays ≡ lists) }
         ensures fits { IfOk result (λ i. IsInput (code_of typed.now).arrays (input i)) }
@@ -65,7 +65,8 @@ impl Input {
         Ok(Input { arrays: lists })
     }
 
-    /// What a JSON text says: an object with a list of numbers for each array that isn't to begin with zeros.
+    /// Parses a JSON object with a list of numbers for each array. Arrays that it doesn't name
+    /// start with zeros.
     pub fn from_json(alloc: Global, typed: &Typed, text: &str) -> Result<Input, InputError>
         ensures says { IfOk result
             (λ i. text_says (code_of typed.now).arrays text.now ≡ Ok (input i)) }
@@ -83,8 +84,8 @@ impl Input {
         Ok(Input { arrays })
     }
 
-    /// Whether a program can begin with it: one list for each array, of its length, with elements that the
-    /// element type holds.
+    /// Returns whether a program can start with this input: one list for each array, of the array's
+    /// length, with elements that fit in the element type.
     pub fn fits(&self, typed: &Typed) -> bool
         ensures { IsTrue result ↔ IsInput (code_of typed.now).arrays (input self.now) }
     {
@@ -101,7 +102,7 @@ impl Input {
     }
 }
 
-/// What is wrong with a list for an array.
+/// The mistake in a list for an array.
 #[derive(Clone, Copy)]
 pub enum ListFault {
     /// `[1, 2]` for `array a: int[1]`
@@ -110,7 +111,7 @@ pub enum ListFault {
     Element,
 }
 
-/// What is wrong with a list for an array: its length comes before its elements.
+/// Returns the mistake in a list for an array. The length is checked before the elements.
 fn list_fault(array: &Array, list: &[i64]) -> Option<ListFault>
     ensures { option_map (mistake_in (string_bytes array.now.name)) result
         ≡ wrong_row (array_of array.now) list.now }
@@ -124,14 +125,14 @@ fn list_fault(array: &Array, list: &[i64]) -> Option<ListFault>
     None
 }
 
-/// Whether an element type holds all numbers of a list.
+/// Returns whether all numbers of a list fit in an element type.
 fn all_held(element: ElementType, list: &[i64]) -> bool
     ensures { result ≡ list_all (holds_number element) list.now }
 {
     list.iter().all(|number| holds(element, *number))
 }
 
-/// The error that tells a fault of the list for an array.
+/// Returns the error for a mistake in the list for an array.
 fn refusal(alloc: Global, fault: ListFault, array: &Array) -> Result<InputError, AllocError>
     ensures { IfOk result (λ e. told e ≡ Some (mistake_in (string_bytes array.now.name) fault)) }
 {
@@ -142,7 +143,7 @@ fn refusal(alloc: Global, fault: ListFault, array: &Array) -> Result<InputError,
     }
 }
 
-/// What a JSON value says of arrays.
+/// Returns the lists that a JSON value gives for arrays.
 fn lists_in(alloc: Global, arrays: &[Array], value: &Value) -> Result<Vec<Vec<i64>>, InputError>
     ensures says { IfOk result (λ ls. data_says (map array_of arrays.now) (view value.now)
         ≡ Ok (map (λ v. v.items) ls.items)) }
@@ -160,7 +161,7 @@ fn lists_in(alloc: Global, arrays: &[Array], value: &Value) -> Result<Vec<Vec<i6
     lists_of(alloc, arrays, value)
 }
 
-/// The first member, in the order of bytes, that names no array.
+/// Returns the first member, in byte order, that names no array.
 fn first_stranger<'m>(members: &'m Map<String, Value>, arrays: &[Array]) -> Option<&'m String>
     ensures first { option_map (λ s. s.now) result
         ≡ find (λ name. not (is_array arrays.now (string_bytes name))) (keys members.now) }
@@ -169,14 +170,14 @@ fn first_stranger<'m>(members: &'m Map<String, Value>, arrays: &[Array]) -> Opti
     members.keys().find(|name| !names_array(arrays, name))
 }
 
-/// Whether an array has this name.
+/// Returns whether an array has this name.
 fn names_array(arrays: &[Array], name: &String) -> bool
     ensures { result ≡ is_array arrays.now (string_bytes name.now) }
 {
     arrays.iter().any(|array| array.name == *name)
 }
 
-/// What the members of a JSON object say of arrays.
+/// Returns the lists that the members of a JSON object give for arrays.
 fn lists_of(alloc: Global, arrays: &[Array], object: &Value) -> Result<Vec<Vec<i64>>, InputError>
     ensures says { IfOk result (λ ls.
         members_say (λ name. get name (view object.now)) (map array_of arrays.now)
@@ -191,7 +192,8 @@ fn lists_of(alloc: Global, arrays: &[Array], object: &Value) -> Result<Vec<Vec<i
     Ok(lists)
 }
 
-/// What its member of a JSON object says of an array, which begins with zeros where it has none.
+/// Returns the list that a JSON object gives for an array, or zeros if the object has no such
+/// member.
 fn member_of(alloc: Global, array: &Array, object: &Value) -> Result<Vec<i64>, InputError>
     ensures says { IfOk result (λ v. member_says (array_of array.now)
         (get (string_bytes array.now.name) (view object.now)) ≡ Ok v.items) }
@@ -204,7 +206,7 @@ fn member_of(alloc: Global, array: &Array, object: &Value) -> Result<Vec<i64>, I
     }
 }
 
-/// What a JSON value says of an array.
+/// Returns the list that a JSON value gives for an array.
 fn list_of(alloc: Global, array: &Array, value: &Value) -> Result<Vec<i64>, InputError>
     ensures says { IfOk result (λ v. value_says (array_of array.now) (view value.now) ≡ Ok v.items) }
     ensures error { IfErr result (λ e. IfSome (told e)
@@ -221,7 +223,7 @@ fn list_of(alloc: Global, array: &Array, value: &Value) -> Result<Vec<i64>, Inpu
     }
 }
 
-/// The elements of a list for an array, each one that the element type holds.
+/// Returns the elements of a list for an array. Each element must fit in the element type.
 fn numbers_of(alloc: Global, array: &Array, elements: &[Value]) -> Result<Vec<i64>, InputError>
     ensures says { IfOk result (λ v.
         numbers_in array.now.element (items_view elements.now) ≡ Some v.items) }

@@ -1,4 +1,4 @@
-//! Why an input is refused.
+//! Errors of inputs.
 
 ghost use Rattle.std.specs.Prelude.{◌≡◌, Some};
 ghost use Rattle.types.specs.InputErrors.{error_code, error_text};
@@ -8,29 +8,33 @@ use std::alloc::{AllocError, AllocFailed};
 use std::error::Error;
 use std::fmt;
 
-/// Why an input is refused, with one for `main { array a: byte[1]; }` that is. The arrays are taken in the
-/// order of their declaration, and for each first its length, then its elements.
+/// The reason why an input is rejected, each with an example for `main { array a: byte[1]; }`.
+/// Arrays are checked in the order of declaration, and for each array first the length, then the
+/// elements.
 #[derive(PartialEq, Eq, Debug, Drop)]
 pub enum InputError {
-    /// N1: a text that is no JSON, as `{`.
+    /// N1: a text that isn't JSON, such as `{`.
     NotJson,
-    /// N2: a value that is no object, as `[]`.
+    /// N2: a value that is no object, such as `[]`.
     NotAnObject,
-    /// N3: a member that names no array, as in `{"z": []}`; the least name of those, in the order of bytes.
+    /// N3: a member that names no array, as in `{"z": []}`. If there are several, it is the
+    /// smallest name in byte order.
     UnknownArray { name: String },
-    /// N4 without a name: not one list for each array, as in `Input::new(alloc, &typed, Vec::new(alloc))`.
+    /// N4 without a name: the number of lists isn't the number of arrays, as in `Input::new(alloc,
+    /// &typed, Vec::new(alloc))`.
     WrongNumberOfLists,
-    /// N4: an array that is given no list, as in `{"a": 1}`, or one of another length, as in `{"a": [1, 2]}`.
+    /// N4: an array whose value is no list, as in `{"a": 1}`, or a list of another length, as in
+    /// `{"a": [1, 2]}`.
     WrongLength { name: String },
-    /// N5: an element that isn't written as a whole number, as in `{"a": [1.0]}`, or that the element type
-    /// doesn't hold, as in `{"a": [256]}`.
+    /// N5: an element that isn't written as an integer, as in `{"a": [1.0]}`, or that doesn't fit
+    /// in the element type, as in `{"a": [256]}`.
     WrongElement { name: String },
-    /// N6: want of memory, as may be of `{}`.
+    /// N6: memory ran out, which is possible for any input.
     OutOfMemory,
 }
 
 impl InputError {
-    /// The code that the program prints.
+    /// Returns the code that the program prints.
     pub fn code(&self) -> &'static str
         ensures { result.now ≡ error_code self.now }
     {

@@ -1,4 +1,4 @@
-//! Laws of the definitions, each the contract of a function that does nothing.
+//! Theorems about the definitions, each stated as the contract of an empty function.
 
 ghost use Rattle.std.specs.Prelude.{◌≡◌, ◌<◌, ℕ, ℤ, List, [], ◌++◌, length, replicate};
 ghost use Rattle.std.specs.Prelude.{slice_get, slice_index_or, slice_set};
@@ -21,25 +21,26 @@ ghost use Rattle.types.specs.Laws.{IsThrifty, Solves, IsOnly, IsKept, Keeps, Onl
 
 use crate::typed::Typed;
 
-/// Where the rules spend steps honestly, a run does what its work says, with runs in place of what
-/// is inside of its calls and further turns; and it alone does. So the bound on depth says nothing.
+/// States that a run satisfies its equations, and that no other function does, provided that the
+/// rules never give steps back. The equations use runs for the work inside calls and further
+/// iterations. So the bound on depth in the definition has no effect.
 pub fn runs_are_determined<X>()
     ensures solves { (p : Program) (r : Rules X) → IsThrifty r → Solves p r (run p r) }
     ensures only { (p : Program) (r : Rules X) → IsThrifty r → IsOnly p r (run p r) }
 {}
 
-/// A way in which a state of a task may follow another.
+/// A relation between a state of a task and a later state.
 pub trait Following<X> {
     ghost follows: { State X → State X → Type 0 };
 }
 
-/// A run keeps what each of its operations keeps, whatever its rules.
+/// States that a run keeps what each of its operations keeps, for any rules.
 pub fn runs_keep_what_operations_keep<X, R: Following<X>>()
     ensures { (p : Program) (r : Rules X) → IsKept r R.follows → (w : Work)
         → Keeps R.follows (run p r w) }
 {}
 
-/// The one-thread meaning is the one function that does what its work says.
+/// States that the one-thread meaning is the only function that satisfies its equations.
 pub fn meaning_is_determined()
     ensures solves { (p : Program) (fresh nest : ℕ)
         → Solves p (one_rules p fresh nest) (one p fresh nest) }
@@ -47,12 +48,14 @@ pub fn meaning_is_determined()
         → IsOnly p (one_rules p fresh nest) (one p fresh nest) }
 {}
 
-/// What work leaves told is what was told before, followed by what it tells.
+/// States that the lines and faults after some work are those before it, followed by those of the
+/// work.
 pub fn meaning_only_adds()
     ensures { (p : Program) (fresh nest : ℕ) (w : Work) → OnlyAdds (one p fresh nest w) }
 {}
 
-/// Under a larger budget an ended outcome is the same, so a program has one ending at most.
+/// States that a larger budget doesn't change an ended outcome, so a program has at most one
+/// ending.
 pub fn larger_budgets_end_alike()
     ensures same { (p : Program) (input : List (List ℤ)) (b larger : Budget) (e : Ending)
         → IsLarger larger b → outcome p input b ≡ Ended e → outcome p input larger ≡ Ended e }
@@ -60,20 +63,21 @@ pub fn larger_budgets_end_alike()
         → Means p input e → Means p input f → e ≡ f }
 {}
 
-/// The labels of a resolved text, in the order of the text, are 1, 2 and so on: each stands once.
+/// States that the labels of a resolved text, in the order of the text, are 1, 2 and so on. Each
+/// label occurs once.
 pub fn labels_are_counted()
     ensures { (t : Text) (p : Program) → resolution t ≡ Some p
         → labels_of_program p ≡ range_with_len 1 (length (labels_of_program p)) }
 {}
 
-/// A text that breaks no rule resolves to a sound program: what it names is there and used as the rules
-/// say. So the program of a `Typed` is sound.
+/// States that a text that breaks no rule resolves to a sound program: everything that it names
+/// exists and is used as the rules require. So the program of a `Typed` is sound.
 pub fn typed_programs_are_sound(typed: &Typed)
     ensures typed { IsSound (code_of typed.now) }
     ensures every { (t : Text) (p : Program) → BreaksNoRule t → resolution t ≡ Some p → IsSound p }
 {}
 
-/// A value depends only on the places of the sections that its expression indexes.
+/// States that a value depends only on the places of the sections that its expression indexes.
 pub fn values_depend_on_indexed_sections()
     ensures number { (env : Environment) (read other : Place → ℤ) (e : Number)
         → SameOn env (indexed e) read other → number env read e ≡ number env other e }
@@ -81,7 +85,8 @@ pub fn values_depend_on_indexed_sections()
         → SameOn env (indexed_truth t) read other → truth env read t ≡ truth env other t }
 {}
 
-/// Lists show what contents and environments are, and a write to a list is a write there.
+/// States that lists agree with contents and environments, and that a write to a list is a write to
+/// its place.
 pub fn lists_show_contents()
     ensures shown { (arrays : List Array) (lists : List (List ℤ))
         → FitsArrays arrays lists → shown arrays (held_by lists) ≡ lists }

@@ -1,4 +1,4 @@
-//! Well-typed programs, and the plain data that runs are made of.
+//! Well-typed programs, and the plain data that runs use.
 
 #![tactic(auto)]
 

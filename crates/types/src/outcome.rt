@@ -1,19 +1,19 @@
-//! What a run leaves.
+//! The outcome of a run.
 
 use crate::fault::Fault;
 
-/// What a program, an input and a budget come to.
+/// The outcome of a program on an input, under a budget.
 #[derive(PartialEq, Eq, Debug, Drop)]
 pub enum Outcome {
-    /// The run ended, with faults or without.
+    /// The run ended, with or without faults.
     Ended {
         /// The contents of the arrays, in the order of declaration.
         arrays: Vec<Vec<i64>>,
         /// The printed lines, in depth-first order.
         lines: Vec<Vec<i64>>,
-        /// The gathered faults, in depth-first order.
+        /// The collected faults, in depth-first order.
         faults: Vec<Fault>,
     },
-    /// A task was over its budget.
+    /// A task exceeded its budget.
     Stopped,
 }

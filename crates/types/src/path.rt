@@ -7,11 +7,11 @@ use crate::child_number::ChildNumber;
 use std::alloc::{AllocError, Global};
 use std::fmt;
 
-/// The name of a task: the root is `0`, and the n-th child that a task spawns (from 1) has its path, a dot
-/// and n.
+/// The name of a task. The root is `0`. The n-th child that a task spawns (from 1) has the path of
+/// the task, followed by a dot and n.
 #[derive(Clone, PartialEq, Eq, Hash, Debug, Drop)]
 pub struct Path {
-    /// The child numbers that lead from the root to the task; none for the root.
+    /// The child numbers that lead from the root to the task. The list is empty for the root.
     pub turns: Vec<ChildNumber>,
 }
 
@@ -29,7 +29,7 @@ impl fmt::Display for Path {
 }
 
 impl Path {
-    /// The path of the root.
+    /// Returns the path of the root.
     pub fn root(alloc: Global) -> Path
         ensures { result.turns.items ≡ [] }
     {
@@ -38,7 +38,7 @@ impl Path {
         }
     }
 
-    /// The same path, in memory of its own.
+    /// Returns a copy of the path.
     pub fn copied(&self, alloc: Global) -> Result<Path, AllocError>
         ensures { IfOk result (λ p. p.turns.items ≡ self.now.turns.items) }
     {
@@ -46,7 +46,7 @@ impl Path {
         Ok(Path { turns })
     }
 
-    /// The path of the n-th child.
+    /// Returns the path of the n-th child.
     pub fn child(&self, number: ChildNumber) -> Result<Path, AllocError>
         ensures { IfOk result (λ p. p.turns.items ≡ self.now.turns.items ++ number ∷ []) }
     {

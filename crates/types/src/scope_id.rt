@@ -6,8 +6,8 @@ ghost use Rattle.types.specs.Names.{scope_text};
 use crate::path::Path;
 use std::fmt;
 
-/// The name of a scope, which is what a `finish` opens: the task that owns it and a number. `0#0` is the root
-/// scope; the finishes of a task count from 1.
+/// The name of a scope, which a `finish` opens: the task that owns it and a number. `0#0` is the
+/// root scope. The finishes of a task are numbered from 1.
 #[derive(Clone, PartialEq, Eq, Hash, Debug, Drop)]
 pub struct ScopeId {
     pub owner: Path,

@@ -9,7 +9,8 @@ ghost use Rattle.types.specs.Translation.{program as plain};
 
 use crate::code;
 
-/// A program that breaks no rule of the language, with its names resolved. `type_check` alone makes it.
+/// A program that breaks no rule of the language, with its names resolved. Only `type_check`
+/// creates it.
 #[derive(Drop)]
 pub struct Typed {
     pub(crate) program: syntax_tree::tree::Program,
@@ -21,7 +22,7 @@ pub struct Typed {
 impl Typed {
     ghost use Rattle.types.specs.Typed.{program_of, code_of};
 
-    /// The program as it was read.
+    /// Returns the program as it was parsed.
     pub fn program(&self) -> &syntax_tree::tree::Program
         ensures program { tree_of result.now ≡ program_of self.now }
         ensures right { BreaksNoRule (program_of self.now) }
@@ -29,7 +30,7 @@ impl Typed {
         &self.program
     }
 
-    /// The resolved program.
+    /// Returns the resolved program.
     pub fn code(&self) -> &code::Program
         ensures field { result.now ≡ self.now.code }
         ensures code { plain result.now ≡ code_of self.now }

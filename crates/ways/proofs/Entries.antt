@@ -46,7 +46,7 @@ added_more f k old now mid new a e g = record {
 pub added_all : (f k n : ℕ) (old new : List Entry) → n ≤ k → AreAdded f k old new → AreAdded f n old new
 added_all f k n old new le a = record { kept = a.kept; added = λ m j h. a.added m j (omega (arith, h, le)) }
 
--- the procedure of a number
+-- the procedure with a number
 pub callee : (xs : List rProcedure) (f : ℕ) (d : rProcedure) (e : Procedure) → f < length xs → d ≡ slice_index_or xs f d
     → procedure d ≡ slice_index_or (map procedure xs) f e
 callee [] f d e h k = absurd (omega (arith, h))
@@ -58,14 +58,14 @@ callee_past [] f e h = refl
 callee_past (x ∷ xs) zero e h = absurd (omega (arith, h))
 callee_past (x ∷ xs) (suc f) e h = callee_past xs f e (omega (arith, h))
 
--- behind the last procedure there is none with a parameter
+-- after the last procedure there is none with a parameter
 pub lists_none : (q : rProgram) (first : ℕ) (es : List Entry) → length q.procedures.items ≤ first → ListsAll (program q) first es
 lists_none q first es past m f k from below =
     let none : procedure_of (program q) f ≡ no_procedure = callee_past q.procedures.items f no_procedure (omega (arith, past, from)) in
     let few : k < length (no_procedure.parameters) = subst (λ (g : Procedure). k < length g.parameters) none below in
     absurd (omega (arith, few))
 
--- those of one procedure more, from behind
+-- the entries of one more procedure, from the end
 pub lists_more : (q : rProgram) (i n : ℕ) (d : rProcedure) (old new : List Entry) → 0 < i → i ≤ length q.procedures.items
     → d ≡ slice_index_or q.procedures.items (i - 1) d → n ≡ length d.parameters.items → ListsAll (program q) i old
     → AreAdded (i - 1) n old new → ListsAll (program q) (i - 1) new

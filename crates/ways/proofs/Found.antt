@@ -1,4 +1,4 @@
--- What is found of statements, from what is found of their parts.
+-- What is found for statements, from what is found for their parts.
 use Rattle.std.proofs.Common.{◌≡◌, ◌⊎◌, inl, inr, ℕ, suc, ◌≤◌, ◌<◌, List, [], ◌∷◌, length, refl, sym, ap, ◌∙◌, subst, arith, true≢false}
 use Rattle.std.proofs.lemmas.Bool.{cases_eq}
 use Rattle.std.specs.Prelude.{if◌then◌else◌, Bool, true, false}
@@ -69,7 +69,7 @@ module _ (p : Program) where
   own_is_way true l s x h = absurd (true≢false h.done)
   own_is_way false l s x h = WayOf.own h.member
 
-  -- no way is without a step
+  -- no way has no steps
   some_step : {m : Bool} {l : ℕ} {s : Code} {way : List Step} {x : Access} → WayOf p m l s way x → 1 ≤ length way
   some_step (WayOf.own h) = omega arith
   some_step (WayOf.by g w) = omega arith
@@ -89,7 +89,7 @@ module _ (p : Program) where
         (λ way w. elim (of_cases w) [ inl own ↦ absurd (none own) | inr g ↦ g ]) h
 
   -- ---- rules that lead into a block
-  -- what led by a rule leads on
+  -- a way continues from the list inside by the rule
   led_on : (m k : Bool) (l : ℕ) (s : Code) (x : Access) (rule : Rule) (b : Codes) (inner : ℕ) → Goes p m s rule k b x.section inner
       → (way : List Step) → IsLed (step l rule x.section) (λ w. Way p k b w (at x inner)) way → GoesOn p m l s x way
   led_on m k l s x rule b inner g way led = record { rule = rule; inner = inner; by = record { kind = k; list = b; goes = g; led = led } }
@@ -97,7 +97,7 @@ module _ (p : Program) where
   abbrev Led : (k : Bool) (l : ℕ) (rule : Rule) (b : Codes) (x : Access) → (inner : ℕ) → List Step → Type 0
   Led k l rule b x inner = IsLed (step l rule x.section) (λ way. Way p k b way (at x inner))
 
-  -- the name around is that inside
+  -- the section has the same name around the block and inside it
   same_name : {k : Bool} {l : ℕ} {rule : Rule} {b : Codes} {x : Access} {way : List Step} (s : ℕ) → s ≡ x.section
       → Led k l rule b x s way → Led k l rule b x x.section way
   same_name {k} {l} {rule} {b} {x} {way} s e h = subst (λ (z : ℕ). Led k l rule b x z way) e h
@@ -250,7 +250,7 @@ module _ (p : Program) where
         led_on m m l (Call f es ss) x (Enter (record { number = f })) (procedure_of p f).body g.parameter
         (Goes.enter g.passed from.parameter) way (record { behind = g.led.behind; is = g.led.is; leads = from.leads })
 
-    -- what is known there, which has no more steps
+    -- the known way there, which has no more steps
     record IsKnown (k n : ℕ) : Type 0 where
       way : List Step
       is : way_known known m f k ≡ Some way
@@ -283,7 +283,7 @@ module _ (p : Program) where
             at_most_more length found (length (first ∷ k.way)) (length way) (omega (arith, e, fewer))
             (h.least (first ∷ k.way) (record { parameter = by.parameter; passed = by.passed; led = record { behind = k.way; is = refl; leads = k.is } }) tt)
 
--- ---- what the search has at hand
+-- ---- what the search has available
 pub stepped : (covered : ℕ → Type 0) (a b : Step) (those : List Step → Type 0) (found : Option (List Step)) → a ≡ b
     → IsLeast length covered (IsLed a those) found → IsLeast length covered (IsLed b those) found
 stepped covered a b those found e h = subst (λ (s : Step). IsLeast length covered (IsLed s those) found) e h
@@ -292,7 +292,7 @@ pub at_code : (p : Program) (covered : ℕ → Type 0) (m : Bool) (l : ℕ) (x :
     → IsLeast length covered (GoesOn p m l s x) found → IsLeast length covered (GoesOn p m l k x) found
 at_code p covered m l x k s found e h = subst (λ (z : Code). IsLeast length covered (GoesOn p m l z x) found) (sym e) h
 
--- a step in front of what is found behind it
+-- a step in front of what is found after it
 pub behind_led : (covered : ℕ → Type 0) (s : Step) (those : List Step → Type 0) (found led : Option (List Step))
     → led ≡ option_map (λ way. s ∷ way) found → ((n : ℕ) → covered (suc n) → covered n) → IsLeast length covered those found
     → IsLeast length covered (IsLed s those) led
@@ -306,13 +306,13 @@ module _ (p : Program) (known : Known) (sought : Sought) where
   inside_ways s i r inner None is ways = tt
   inside_ways s i r inner (Some a) is ways = subst (λ (y : rAccess). AreWays p (access y) known) (sym is.access) ways
 
-  -- and to what is sought behind a finish, if anything is
+  -- the known ways are ways to what is sought inside a finish, if anything is
   pub awaited_ways : (m : Bool) → AreWays p (access sought.access) known
       → IfSome (if m then None else Some sought) (λ a. AreWays p (access a.access) known)
   awaited_ways true ways = tt
   awaited_ways false ways = ways
 
-  -- what is found behind a finish, where nothing is left pending
+  -- what is found inside a finish, which leaves nothing pending
   pub finish_found : (l : ℕ) (b : Codes) (first : Step) (aim : Option Sought) (found : Option (List Step))
       → aim ≡ (if sought.pending then None else Some sought)
       → first ≡ step l Await sought.access.section.number
@@ -358,7 +358,7 @@ module _ (p : Program) (known : Known) (sought : Sought) where
       (subst (λ (y : rAccess). IsLeast length (AreShortest p (access y) known) (IsLed first (λ way. Way p a.pending b way (access y))) found)
       is.access h)))
 
-  -- the same of the list of a split
+  -- the same fact, for the list of a split
   pub side_found_in : (l s i r : ℕ) (ys zs : List Stmt) (inner : SectionId) (first : Step) (aim : Option Sought) (found : Option (List Step)) → ys ≡ zs
       → MatchOption aim (past_split s i r inner.number ≡ sought.access.section.number → ⊥) (IsInside sought s i r inner)
       → first ≡ step l Side sought.access.section.number

@@ -1,4 +1,4 @@
--- All that statements do, or leave pending, has a way that leads to it, and a way leads to nothing else.
+-- A way leads to all that statements do, or leave pending, and to nothing else.
 use Rattle.std.proofs.Common.{◌≡◌, ℕ, zero, suc, ◌<◌, List, [], ◌∷◌, length, refl, sym, ◌∙◌, subst, arith}
 use Rattle.std.specs.Prelude.{Bool, true, false, None, Some, slice_get}
 use Rattle.std.proofs.lemmas.Option.{slice_get-get_or}
@@ -35,14 +35,14 @@ module _ (p : Program) where
   later h = record { steps = h.steps; leads = Way.later h.leads }
 
   module _ (sound : IsSound p) where
-    -- what is done by a procedure is done to its parameters
+    -- what a procedure does is done to its parameters
     below_parameters : (f : ℕ) (x : Access) → All p accesses (procedure_of p f).body x → x.section < length (procedure_of p f).parameters
     below_parameters f x h =
         let callee = sound.procedures f in
         numbers_from-below (length (procedure_of p f).parameters) x.section
         (allowed p sound h (procedure_of p f) (parameters_of (procedure_of p f)) callee.numbered callee.body).in_scope
 
-    -- a block of a statement, where the rules are followed
+    -- a block of a statement that follows the rules
     record Within (m : Bool) (s : Code) (b : Codes) (out : ℕ → ℕ) (x : Access) : Type 0 where
       rule : Rule
       goes : Goes p m s rule m b (out x.section) x.section
@@ -90,12 +90,12 @@ module _ (p : Program) where
           subst (HasWayOf true l s) (sym e) (by_rule {x = renamed out x} w.goes (left h w.around w.scope w.follows))
       left_of (PendingOf.async h) g scope k = by_rule Goes.begin (done h g scope k)
 
-      -- and what it leaves pending
+      -- what a list leaves pending has a way
       pub left : {b : Codes} {x : Access} → Pending p accesses b x → (g : Procedure) (scope : List ℕ) → Follows p g scope b → HasWay true b x
       left (Pending.here h) g scope k = here (left_of h g scope k.0)
       left (Pending.later h) g scope k = later (left h g scope k.1)
 
-  -- the other way round: by a rule a statement does, or leaves pending, what the list inside does
+  -- conversely, by a rule a statement does, or leaves pending, what the list inside does
   abbrev pub DoesOf : (pending : Bool) → (label : ℕ) → Code → Access → Type 0
   DoesOf false l s x = AllOf p accesses l s x
   DoesOf true l s x = PendingOf p accesses s x

@@ -1,4 +1,4 @@
--- What the tables of ways have.
+-- The contents of the tables of ways.
 use Rattle.std.proofs.Common.{◌≡◌, ◌⊎◌, inl, inr, ℕ, ◌+◌, ◌≤◌, ◌<◌, List, ◌∷◌, length, map, refl, sym, ap, ◌∙◌, subst, arith, Bor, Vec}
 use Rattle.std.proofs.lemmas.Bool.{eqb-true, eq-eqb, and_parts, and_from, cases_lt}
 use Rattle.std.proofs.lemmas.List.{length-map}
@@ -40,7 +40,7 @@ entry_is e m f k a h =
     ap (λ n. entry e.pending n e.parameter.number) (eqb-true e.procedure.number f parts.0)
     ∙ ap (λ n. entry e.pending f n) (eqb-true e.parameter.number k parts.1) ∙ ap (λ z. entry z f k) a
 
--- a table has the way at a key, and elsewhere what it had
+-- a table has the way at a key, and elsewhere its old contents
 abbrev Updated : (f k : ℕ) → (way : Vec Step Global) → (old new : ℕ × ℕ → Option (Vec Step Global)) → Type 0
 Updated f k way old new = (q : ℕ × ℕ) → new q ≡ cond (is_key (f, k) q) (Some way) (old q)
 
@@ -66,7 +66,7 @@ table_has : (known : Known) (m : Bool) (e : Entry) → e.pending ≡ m
 table_has known true e = at_pending known e
 table_has known false e = at_done known e
 
--- one of them has a way more, and the other is as it was
+-- one table has one more way, and the other is unchanged
 put_in : (m : Bool) (e : Entry) (way : Vec Step Global) (old new : Known) → e.pending ≡ m
     → ((q : ℕ × ℕ) → table new (not m) q ≡ table old (not m) q)
     → Updated e.procedure.number e.parameter.number way (table old m) (table new m)
@@ -95,7 +95,7 @@ pub put_done : (e : Entry) (way : Vec Step Global) (old new : Known) → e.pendi
     → IsPut e way.items old new
 put_done e way old new is same u = put_in false e way old new is (λ q. ap (λ t. get is_key t q) same) u
 
--- the same by the key that was made
+-- the same fact, with the key that was computed
 pub by_key : (f k : ℕ) (key : ℕ × ℕ) (way : Vec Step Global) (old new : ℕ × ℕ → Option (Vec Step Global)) → key ≡ (f, k)
     → ((q : ℕ × ℕ) → new q ≡ cond (is_key key q) (Some way) (old q)) → (q : ℕ × ℕ) → new q ≡ cond (is_key (f, k) q) (Some way) (old q)
 by_key f k key way old new e u q = u q ∙ ap (λ z. cond (is_key z q) (Some way) (old q)) e

@@ -1,4 +1,4 @@
--- The least of what is found, put together from the least of its parts.
+-- The smallest value that is found, put together from the smallest of its parts.
 use Rattle.std.proofs.Common.{◌≡◌, ◌⊎◌, inl, inr, ℕ, suc, ◌≤◌, List, ◌∷◌, length, refl, sym, ap, subst, arith}
 use Rattle.std.specs.Prelude.{Option, None, Some, IfSome, option_map}
 use Rattle.ways.specs.Least.{AtMost, IsLesserOf, IsLeast, all_covered}
@@ -13,7 +13,7 @@ pub at_most_more : {A : Type 0} (size : A → ℕ) (found : Option A) (m n : ℕ
 at_most_more size None m n le h = h
 at_most_more size (Some a) m n le h = omega (arith, h, le)
 
--- where something is found, what is at most that
+-- if something is found, what is at most its size
 pub at_most_same : {A : Type 0} (size : A → ℕ) (found : Option A) (a : A) → found ≡ Some a → AtMost size found (size a)
 at_most_same size found a e = subst (λ o. AtMost size o (size a)) (sym e) (omega arith)
 
@@ -29,7 +29,7 @@ module _ {A : Type 0} (size : A → ℕ) (covered : ℕ → Type 0) where
     least = λ a q c. h.least a (g a q) c;
   }
 
-  -- of what is one or the other
+  -- of the union of two sets of values
   pub least_either : (P Q R : A → Type 0) (one other found : Option A) → IsLesserOf size one other found
       → ((a : A) → P a → R a) → ((a : A) → Q a → R a) → ((a : A) → R a → P a ⊎ Q a)
       → IsLeast size covered P one → IsLeast size covered Q other → IsLeast size covered R found
@@ -44,7 +44,7 @@ module _ {A : Type 0} (size : A → ℕ) (covered : ℕ → Type 0) where
     ];
   }
 
-  -- where all is covered
+  -- if all sizes are covered
   pub least_covered : (those : A → Type 0) (found : Option A) → ((n : ℕ) → covered n) → IsLeast size covered those found
       → IsLeast size all_covered those found
   least_covered those found all h = record { among = h.among; least = λ a t c. h.least a t (all (size a)) }
@@ -58,7 +58,7 @@ least_itself {A} size found = record { among = itself found; least = λ a e c. a
     itself (Some a) = refl
 
 module _ (covered : ℕ → Type 0) (s : Step) (those : List Step → Type 0) where
-  -- of all with a step in front
+  -- of all ways with a step in front
   pub least_led : (found : Option (List Step)) → ((n : ℕ) → covered (suc n) → covered n) → IsLeast length covered those found
       → IsLeast length covered (IsLed s those) (option_map (λ way. s ∷ way) found)
   least_led None less h = record {

@@ -36,7 +36,7 @@ own_label l (Call f es ss) x m = reads_label l (flat_map indexed es) x m
 own_label l (Async b) x m = elim m [ ]
 own_label l (Finish b) x m = elim m [ ]
 
--- so those of another label are not among them
+-- so accesses with another label are not among them
 pub lists_not_other : (l : ℕ) (s : Code) (x : Access) → (l ≡ x.label → ⊥) → false ≡ lists (own_accesses l s) x
 lists_not_other l s x differs = by (lists (own_accesses l s) x) refl
   where
@@ -51,7 +51,7 @@ from_one x xs i d h =
     ap (λ (ys : List rAccess). lists (map access ys) x)
     (drop-cons xs i d h ∙ ap (λ n. get_or xs i d ∷ drop n xs) (sym (add-one i)))
 
--- the test of those that are left is the test of all
+-- the test of those that remain is the test of all
 pub still_left : (x : Access) (xs : List rAccess) (i : ℕ) (d : rAccess) → i < length xs → same_access x (access (get_or xs i d)) ≡ false
     → lists (map access (drop i xs)) x ≡ lists (map access xs) x → lists (map access (drop (i + 1) xs)) x ≡ lists (map access xs) x
 still_left x xs i d h differs inv =

@@ -1,4 +1,4 @@
--- Rounds over the entries, after each of which one step more is covered.
+-- Rounds over the entries. Each round covers one more step.
 use Rattle.std.proofs.Common.{◌≡◌, ◌⊎◌, inl, inr, ℕ, zero, suc, ◌+◌, ◌^◌, ◌≤◌, ◌<◌, List, [], ◌∷◌, length, refl, sym, ap, ◌∙◌, subst, arith, true≢false}
 use Rattle.std.proofs.lemmas.Bool.{cases_lt}
 use Rattle.std.proofs.lemmas.Option.{slice_get_within, same_Some}
@@ -65,7 +65,7 @@ put_same e way known h = record {
 
 -- ---- one entry
 module _ (p : Program) (x : Access) where
-  -- what is shortest stays so where no way gets longer
+  -- a shortest way stays shortest if no way becomes longer
   pub still_shortest : (old new : Known) → AreNoLonger old new → (n : ℕ) → AreShortest p x old n → AreShortest p x new n
   still_shortest old new h n close m f k way from less = h m f k (length way) (close m f k way from less)
 
@@ -73,7 +73,7 @@ module _ (p : Program) (x : Access) where
   fewer_steps known m n le close a f k way from less = close a f k way from (omega (arith, less, le))
 
   module _ (e : Entry) (way : List Step) (better : Bool) (old new : Known) (put : HasPut e way better old new) where
-    -- what a table has behind a change
+    -- what a table has after a change
     abbrev Changed : (m : Bool) (f k : ℕ) → Type 0
     Changed m f k =
         (way_known new m f k ≡ way_known old m f k) ⊎ ((better ≡ true) × (e ≡ entry m f k) × (way_known new m f k ≡ Some way))
@@ -154,7 +154,7 @@ module _ (p : Program) (x : Access) where
           let j = total_less es i e now new there s.no_longer (s.less g) in omega (arith, k, j)
       by_either false false f g h = absurd (true≢false (sym h))
 
-  -- where a round finds no shorter way, there is none
+  -- if a round finds no shorter way, there is none
   pub settled_shortest : (es : List Entry) (known new : Known) → ListsAll p 0 es → Rounded p x es (length es) false known new
       → (n : ℕ) → AreShortest p x known n
   settled_shortest es known new all r zero m f k way from less = absurd (omega (arith, less))

@@ -1,4 +1,4 @@
--- What is known of the ways from the bodies of procedures to one access.
+-- The known ways from the bodies of procedures to one access.
 use Rattle.std.specs.Prelude.{ℕ, ◌≡◌, ◌<◌, Bool, true, false, ◌&&◌, nat_eq, List, length}
 use Rattle.std.specs.Prelude.{◌⊎◌, Option, IfSome, option_map, Some, Vec}
 use Rattle.std.specs.Global.{Global}
@@ -12,7 +12,7 @@ use Rattle.ways.specs.declared.known.Entry.{Entry}
 use Rattle.ways.specs.declared.known.Known.{Known}
 use Rattle.ways.specs.declared.step.Step.{Step}
 
--- the steps of a way that may be there
+-- the steps of an optional way
 abbrev pub steps : Option (Vec Step Global) → Option (List Step)
 steps = option_map (λ way. way.items)
 
@@ -20,7 +20,7 @@ steps = option_map (λ way. way.items)
 abbrev pub is_key : ℕ × ℕ → ℕ × ℕ → Bool
 is_key a b = nat_eq a.0 b.0 && nat_eq a.1 b.1
 
--- the way that is known to what a procedure does, or leaves pending
+-- the known way to what a procedure does, or leaves pending
 abbrev pub way_known : Known → (pending : Bool) → (procedure parameter : ℕ) → Option (List Step)
 way_known known true f k = steps (get is_key known.pending (f, k))
 way_known known false f k = steps (get is_key known.done (f, k))
@@ -47,23 +47,24 @@ module _ (p : Program) (x : Access) (known : Known) where
       (m : Bool) (f k : ℕ)
       → IfSome (way_known known m f k) (IsFrom p m f (record x { section = k }))
 
-  -- and none of less than n steps is shorter
+  -- no way of less than n steps is shorter than the known one
   abbrev pub AreShortest : (n : ℕ) → Type 0
   AreShortest n =
       (m : Bool) (f k : ℕ) (way : List Step) → IsFrom p m f (record x { section = k }) way
       → length way < n → AtMost length (way_known known m f k) (length way)
 
-  -- a way that was found is one of those, and as far as what is known is shortest none is shorter
+  -- a way that was found is one of those, and none is shorter, as far as the known ways are
+  -- shortest
   abbrev pub IsFound : (those : List Step → Type 0) → Option (Vec Step Global) → Type 0
   IsFound those found = IsLeast length AreShortest those (steps found)
 
--- of two tables: no way is longer in the new one
+-- no way in the new table is longer than in the old one
 abbrev pub AreNoLonger : (old new : Known) → Type 0
 AreNoLonger old new =
     (m : Bool) (f k n : ℕ) → AtMost length (way_known old m f k) n
     → AtMost length (way_known new m f k) n
 
--- a table has a way at an entry, and otherwise what another has
+-- the new table has a way at an entry, and elsewhere what the old one has
 pub record IsPut (e : Entry) (way : List Step) (old new : Known) : Type 0 where
   pub here : way_at new e ≡ Some way
   pub others : (m : Bool) (f k : ℕ) → (way_known new m f k ≡ way_known old m f k)

@@ -1,23 +1,23 @@
--- The least of some things, by how much there is of each.
+-- The smallest of some values, by a measure of their size.
 use Rattle.std.specs.Prelude.{ℕ, ◌≡◌, ◌⊎◌, ◌≤◌, Option, None, Some, IfSome}
 
 module _ {A : Type 0} (size : A → ℕ) where
-  -- something was found, and there is at most so much of it
+  -- something was found, and its size is at most this
   abbrev pub AtMost : Option A → ℕ → Type 0
   AtMost None n = ⊥
   AtMost (Some a) n = size a ≤ n
 
-  -- one of two that may be there, and no more than either
+  -- one of two optional values, and no larger than either
   pub record IsLesserOf (one other found : Option A) : Type 0 where
     pub either : (found ≡ one) ⊎ (found ≡ other)
     pub first : (n : ℕ) → AtMost one n → AtMost found n
     pub second : (n : ℕ) → AtMost other n → AtMost found n
 
-  -- one of those, and none of them is less, of the amounts that are covered
+  -- one of those values, and no other of a covered size is smaller
   pub record IsLeast (covered : ℕ → Type 0) (those : A → Type 0) (found : Option A) : Type 0 where
     pub among : IfSome found those
     pub least : (a : A) → those a → covered (size a) → AtMost found (size a)
 
--- every amount is covered
+-- every size is covered
 abbrev pub all_covered : ℕ → Type 0
 all_covered n = Unit {0}

@@ -1,4 +1,4 @@
--- The ways that the parts of a search look among.
+-- The ways among which the parts of a search look.
 use Rattle.std.specs.Prelude.{ℕ, ◌≡◌, Bool, false, List, ◌∷◌, Some, slice_get}
 use Rattle.sections.specs.Member.{Member}
 use Rattle.sections.specs.declared.id.SectionId.{SectionId}
@@ -13,7 +13,7 @@ use Rattle.ways.specs.declared.search.Sought.{Sought}
 use Rattle.ways.specs.declared.step.Rule.{Rule}
 use Rattle.ways.specs.declared.step.Step.{Step}
 
--- the step, and one of those behind it
+-- the step, and one of those ways after it
 pub record IsLed (first : Step) (those : List Step → Type 0) (way : List Step) : Type 0 where
   pub behind : List Step
   pub is : way ≡ first ∷ behind
@@ -25,7 +25,7 @@ pub record IsOwn (pending : Bool) (label : ℕ) (s : Code) (x : Access) : Type 0
   pub member : Member x (own_accesses label s)
 
 module _ (p : Program) (pending : Bool) (label : ℕ) (s : Code) (x : Access) where
-  -- a way that goes on by a rule, to what has the name `inner` in the list inside
+  -- a way that continues by a rule, to what has the name `inner` in the list inside
   pub record GoesBy (rule : Rule) (inner : ℕ) (way : List Step) : Type 0 where
     pub kind : Bool
     pub list : Codes
@@ -33,26 +33,27 @@ module _ (p : Program) (pending : Bool) (label : ℕ) (s : Code) (x : Access) wh
     pub led : IsLed (step label rule x.section)
         (λ behind. Way p kind list behind (record x { section = inner })) way
 
-  -- one that goes on by any rule
+  -- a way that continues by any rule
   pub record GoesOn (way : List Step) : Type 0 where
     pub rule : Rule
     pub inner : ℕ
     pub by : GoesBy rule inner way
 
--- one that goes on with what is known at an entry, where the section is passed
+-- a way that continues with what is known at an entry, if the section is passed
 pub record IsFromParameter (known : Known) (e : Entry) (passes : Type 0) (first : Step)
     (way : List Step) : Type 0 where
   pub passed : passes
   pub led : IsLed first (λ behind. way_at known e ≡ Some behind) way
 
--- one that goes on with what is known of a procedure, to a parameter for which the section is passed
+-- a way that continues with what is known of a procedure, at a parameter for which the section is
+-- passed
 pub record GoesIn (known : Known) (pending : Bool) (f : ℕ) (sections : List ℕ) (section : ℕ)
     (first : Step) (way : List Step) : Type 0 where
   pub parameter : ℕ
   pub passed : slice_get sections parameter ≡ Some section
   pub led : IsLed first (λ behind. way_known known pending f parameter ≡ Some behind) way
 
--- what is sought inside a split, where `inner` is there what it goes to
+-- what is sought inside a split, if `inner` is the section's name there
 pub record IsInside (outer : Sought) (section left right : ℕ) (inner : SectionId) (aim : Sought)
     : Type 0 where
   pub names : past_split section left right inner.number ≡ outer.access.section.number

@@ -1,4 +1,4 @@
--- What rounds over the procedures leave, until no shorter way is found.
+-- The result of rounds over the procedures, repeated until no shorter way is found.
 use Rattle.std.specs.Prelude.{ℕ, ◌≡◌, ◌<◌, ◌≤◌, ◌+◌, ◌^◌, min, Bool, true, false, List, [], ◌∷◌, length}
 use Rattle.std.specs.Prelude.{Option, None, Some, slice_get}
 use Rattle.types.specs.Code.{Program}
@@ -17,18 +17,18 @@ pub record Lists (entries : List Entry) (e : Entry) : Type 0 where
   pub place : ℕ
   pub there : slice_get entries place ≡ Some e
 
--- it has all entries of the procedures from the first one on
+-- a list has all entries of the procedures from the first one on
 abbrev pub ListsAll : Program → (first : ℕ) → List Entry → Type 0
 ListsAll p first entries =
     (m : Bool) (f k : ℕ) → first ≤ f → k < length (procedure_of p f).parameters
     → Lists entries (entry m f k)
 
--- it has those of the first parameters of a procedure, and what it had
+-- the new list has the entries of a procedure's first parameters, and all entries of the old list
 pub record AreAdded (f parameters : ℕ) (old new : List Entry) : Type 0 where
   pub kept : (e : Entry) → Lists old e → Lists new e
   pub added : (m : Bool) (k : ℕ) → k < parameters → Lists new (entry m f k)
 
--- a way is kept at an entry where none as short was known
+-- a way is stored at an entry if no way as short was known
 pub record HasPut (e : Entry) (way : List Step) (better : Bool) (old new : Known) : Type 0 where
   pub known : AtMost length (way_at new e) (length way)
   pub same : better ≡ false → new ≡ old
@@ -36,12 +36,12 @@ pub record HasPut (e : Entry) (way : List Step) (better : Bool) (old new : Known
   pub fits : better ≡ true → length way < 2 ^ 64
   pub shorter : better ≡ true → (n : ℕ) → AtMost length (way_at old e) n → length way < n
 
--- how far a way can still be shortened: no list in memory is longer
+-- how far a way can still be shortened; no list in memory is longer
 abbrev pub weight : Option (List Step) → ℕ
 weight None = 2 ^ 64
 weight (Some way) = min (length way) (2 ^ 64)
 
--- all ways together
+-- the sum over all ways
 abbrev pub total : List Entry → Known → ℕ
 total [] known = 0
 total (e ∷ es) known = weight (way_at known e) + total es known
@@ -62,7 +62,7 @@ module _ (p : Program) (x : Access) where
     pub same : better ≡ false → new ≡ old
     pub less : better ≡ true → weight (way_at new e) < weight (way_at old e)
 
-  -- so it was at the first entries of a list
+  -- a shorter way was looked for at the first entries of a list
   pub record Rounded (entries : List Entry) (count : ℕ) (better : Bool) (old new : Known)
       : Type 0 where
     pub ways : AreWays p x new
@@ -72,7 +72,7 @@ module _ (p : Program) (x : Access) where
     pub same : better ≡ false → new ≡ old
     pub less : better ≡ true → total entries new < total entries old
 
--- what is known is of shortest ways to the access
+-- the known ways are shortest ways to the access
 pub record IsAim (p : Program) (aim : Aim) : Type 0 where
   pub ways : AreWays p (access aim.access) aim.known
   pub shortest : (n : ℕ) → AreShortest p (access aim.access) aim.known n

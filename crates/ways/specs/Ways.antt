@@ -9,7 +9,7 @@ use Rattle.ways.specs.declared.step.Rule.{Rule}
 use Rattle.ways.specs.declared.step.Rule.TheVariants.{Own, Body, Other, Turn, Side, Enter, Begin, Await}
 use Rattle.ways.specs.declared.step.Step.{Step}
 
--- the step at the statement with this label, where the section has this name
+-- the step at the statement with this label, if the section has this name
 abbrev pub step : (label : ℕ) → Rule → (section : ℕ) → Step
 step l rule s = record { label = l; rule = rule; section = record { number = s } }
 
@@ -21,7 +21,7 @@ module _ (p : Program) where
     body : {m : Bool} {t : Truth} {b c : Codes} {s : ℕ} → Goes m (If t b c) Body m b s s
     other : {m : Bool} {t : Truth} {b c : Codes} {s : ℕ} → Goes m (If t b c) Other m c s s
     turn : {m : Bool} {t : Truth} {b : Codes} {s : ℕ} → Goes m (While t b) Turn m b s s
-    -- both sides of a split are what was split
+    -- both sides of a split belong to the section that was split
     side : {m : Bool} {s : ℕ} {e : Number} {l r : ℕ} {b : Codes} {x : ℕ}
         → Goes m (Split s e l r b) Side m b (past_split s l r x) x
     -- parameter k is the section that is passed for it
@@ -39,13 +39,13 @@ module _ (p : Program) where
       -- its own expressions make the access
       own : {l : ℕ} {s : Code} {x : Access} → Member x (own_accesses l s)
           → WayOf false l s (step l Own x.section ∷ []) x
-      -- or statements inside it do, or those of the procedure that it calls
+      -- or statements inside it make the access, or statements of the procedure that it calls
       by : {m n : Bool} {l : ℕ} {s : Code} {rule : Rule} {b : Codes} {inner : ℕ}
           {steps : List Step} {x : Access}
           → Goes m s rule n b x.section inner → Way n b steps (record x { section = inner })
           → WayOf m l s (step l rule x.section ∷ steps) x
 
-    -- and from a list of statements: from one of them
+    -- a way from a list of statements is a way from one of them
     pub data Way : (pending : Bool) → Codes → List Step → Access → Type 0 where
       here : {m : Bool} {l : ℕ} {s : Code} {rest : Codes} {steps : List Step} {x : Access}
           → WayOf m l s steps x → Way m (Then l s rest) steps x

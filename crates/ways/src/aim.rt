@@ -24,7 +24,7 @@ pub struct Aim {
 }
 
 impl Aim {
-    /// The ways to an access.
+    /// Finds the shortest ways to an access.
     pub fn at(alloc: Global, code: &Program, access: Access) -> Result<Aim, AllocError>
         ensures access { IfOk result (λ aim. aim.access ≡ access) }
         ensures aim { IfOk result (IsAim (program_of code.now)) }
@@ -33,7 +33,7 @@ impl Aim {
         Ok(Aim { access, known })
     }
 
-    /// The shortest way from a statement that leaves it pending, or does it.
+    /// Returns the shortest way from a statement that leaves the access pending, or does it.
     pub fn way_of(
         &self,
         alloc: Global,

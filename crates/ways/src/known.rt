@@ -1,4 +1,4 @@
-//! What is known of the ways from the bodies of procedures to one access.
+//! The known ways from the bodies of procedures to one access.
 
 ghost use Rattle.std.specs.Prelude.{◌≡◌, ◌∷◌, ◌↔◌, ℕ, Bool, IfOk, IsTrue, None, OnOk, length, option_map};
 ghost use Rattle.ways.specs.Least.{AtMost};
@@ -10,8 +10,8 @@ use std::alloc::{AllocError, Global};
 use std::collections::HashMap;
 use types::ids::ProcedureId;
 
-/// Where a way may enter a procedure: at its body, to an access to this parameter, which it does or leaves
-/// pending.
+/// An entry of a way into a procedure: at the procedure's body, to an access to this parameter that
+/// the body does or leaves pending.
 #[derive(Clone, Copy)]
 pub(crate) struct Entry {
     pub procedure: ProcedureId,
@@ -22,14 +22,14 @@ pub(crate) struct Entry {
 /// The shortest ways that were found so far, by the numbers of a procedure and of a parameter.
 #[derive(Drop)]
 pub(crate) struct Known {
-    /// To what a procedure does.
+    /// The ways to what a procedure does.
     pub done: HashMap<(usize, usize), Vec<Step>>,
-    /// To what it leaves pending.
+    /// The ways to what a procedure leaves pending.
     pub pending: HashMap<(usize, usize), Vec<Step>>,
 }
 
 impl Known {
-    /// No way yet. It takes no memory.
+    /// Returns a table without ways. Takes no memory.
     pub fn nothing(alloc: Global) -> Known
         ensures { (m : Bool) (f k : ℕ) → way_known result m f k ≡ None }
     {
@@ -39,7 +39,7 @@ impl Known {
         }
     }
 
-    /// Whether a way of an entry has at most so many steps.
+    /// Returns whether there is a way at an entry, with at most `steps` steps.
     pub fn has_within(&self, entry: Entry, steps: usize) -> bool
         ensures { IsTrue result ↔ AtMost length (way_at self.now entry) steps }
     {
@@ -49,7 +49,7 @@ impl Known {
         }
     }
 
-    /// The way of an entry, with a step in front.
+    /// Returns the way at an entry, with a step in front.
     pub fn led_from(
         &self,
         alloc: Global,
@@ -68,7 +68,7 @@ impl Known {
         }
     }
 
-    /// Puts in a way, in place of another.
+    /// Stores a way, and replaces an existing one.
     pub fn put(&mut self, entry: Entry, way: Vec<Step>) -> Result<(), AllocError>
         ensures { OnOk result (IsPut entry way.items self.old self.new) }
     {
@@ -81,7 +81,7 @@ impl Known {
         Ok(())
     }
 
-    /// The way of an entry.
+    /// Returns the way at an entry.
     fn way(&self, entry: Entry) -> Option<&Vec<Step>>
         ensures { option_map (λ way. way.now.items) result ≡ way_at self.now entry }
     {
@@ -95,7 +95,7 @@ impl Known {
 }
 
 impl Entry {
-    /// Where its way stands.
+    /// Returns the key of the entry in the tables.
     fn key(self) -> (usize, usize)
         ensures { result ≡ (self.procedure.number, self.parameter.number) }
     {

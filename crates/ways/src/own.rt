@@ -11,8 +11,8 @@ use effects::own::own_accesses;
 use std::alloc::{AllocError, Global};
 use types::code::Stmt;
 
-/// Whether a statement's own expressions make an access. Most statements have another label, and then it
-/// takes no memory.
+/// Returns whether a statement's own expressions make an access. Takes no memory for the many
+/// statements with another label.
 pub(crate) fn makes(alloc: Global, statement: &Stmt, access: Access) -> Result<bool, AllocError>
     ensures { IfOk result (λ makes. makes ≡ lists
         (own_by statement.now.label (plain_code statement.now.kind)) (access_of access)) }
@@ -24,7 +24,7 @@ pub(crate) fn makes(alloc: Global, statement: &Stmt, access: Access) -> Result<b
     Ok(has(&own, access))
 }
 
-/// Whether an access is one of these.
+/// Returns whether a list of accesses contains an access.
 fn has(accesses: &[Access], access: Access) -> bool
     ensures { result ≡ lists (map access_of accesses.now) (access_of access) }
 {
@@ -36,7 +36,7 @@ fn has(accesses: &[Access], access: Access) -> bool
     false
 }
 
-/// Whether two accesses are the same.
+/// Returns whether two accesses are equal.
 fn is_same(one: Access, other: Access) -> bool
     ensures { result ≡ same_access (access_of one) (access_of other) }
 {

@@ -21,7 +21,7 @@ use std::alloc::{AllocError, Global};
 use types::code::{Program, Stmt, StmtKind};
 use types::ids::ProcedureId;
 
-/// What a way is to lead to: an access that is done, or one that is left pending.
+/// What a way must lead to: an access that is done, or one that is left pending.
 #[derive(Clone, Copy)]
 pub(crate) struct Sought {
     pub access: Access,
@@ -29,7 +29,7 @@ pub(crate) struct Sought {
 }
 
 impl Sought {
-    /// The step at a statement.
+    /// Returns the step at a statement.
     fn step(self, statement: &Stmt, rule: Rule) -> Step
         ensures { result ≡ step_of statement.now.label rule self.access.section.number }
     {
@@ -40,7 +40,7 @@ impl Sought {
         }
     }
 
-    /// The step into a call.
+    /// Returns the step into a call.
     fn entering(self, statement: &Stmt, procedure: ProcedureId) -> Step
         ensures { result ≡ step_of statement.now.label (Rule.Enter procedure)
             self.access.section.number }
@@ -48,7 +48,7 @@ impl Sought {
         self.step(statement, Rule::Enter { procedure })
     }
 
-    /// The same access where it is done.
+    /// Returns the same access as one that is done.
     fn done(self) -> Sought
         ensures { result ≡ record self { pending = false } }
     {
@@ -58,7 +58,7 @@ impl Sought {
         }
     }
 
-    /// The same where all that was begun is awaited. None where it is left pending.
+    /// Returns what is sought inside a `finish`, or `None` if the access must be left pending.
     fn awaited(self) -> Option<Sought>
         ensures { result ≡ (if self.pending then None else Some self) }
     {
@@ -68,7 +68,7 @@ impl Sought {
         Some(self)
     }
 
-    /// Whether a statement's own expressions make it.
+    /// Returns whether a statement's own expressions make the access.
     fn is_own(self, alloc: Global, statement: &Stmt) -> Result<bool, AllocError>
         ensures { IfOk result (λ own. IsTrue own ↔ IsOwn self.pending statement.now.label
             (plain_code statement.now.kind) (access_of self.access)) }
@@ -79,8 +79,8 @@ impl Sought {
         makes(alloc, statement, self.access)
     }
 
-    /// The same inside a split, where it goes to this section. None where that has another name around the
-    /// split.
+    /// Returns what is sought inside a split, if this section there has the sought name outside.
+    /// Else returns `None`.
     fn inside(
         self,
         section: SectionId,
@@ -107,7 +107,7 @@ impl Sought {
     }
 }
 
-/// The shortest way from a list of statements, with what is known of procedures.
+/// Returns the shortest way from a list of statements, given the known ways of procedures.
 #[cycle(search)]
 pub(crate) fn way_in(
     alloc: Global,
@@ -129,7 +129,7 @@ pub(crate) fn way_in(
     Ok(best)
 }
 
-/// The shortest way from a statement.
+/// Returns the shortest way from a statement.
 #[cycle(search)]
 pub(crate) fn way_of(
     alloc: Global,
@@ -151,7 +151,7 @@ pub(crate) fn way_of(
     way_inside(alloc, code, known, sought, statement)
 }
 
-/// The shortest way from a statement into its blocks and its call.
+/// Returns the shortest way from a statement into its blocks and its call.
 #[cycle(search)]
 fn way_inside(
     alloc: Global,
@@ -208,7 +208,8 @@ fn way_inside(
     }
 }
 
-/// A step, and the shortest way behind it, from a list of statements. None where nothing is sought there.
+/// Returns a step followed by the shortest way from a list of statements, or `None` if nothing is
+/// sought there.
 #[cycle(search)]
 fn way_behind(
     alloc: Global,
@@ -232,7 +233,8 @@ fn way_behind(
     led_on(alloc, step, way)
 }
 
-/// A step, and the shortest way behind it that is known of a procedure to which these sections are passed.
+/// Returns a step followed by the shortest known way of a procedure to which these sections are
+/// passed.
 fn way_past_call(
     alloc: Global,
     known: &Known,
@@ -258,7 +260,7 @@ fn way_past_call(
     Ok(best)
 }
 
-/// The same of one of its parameters, for which this section is passed.
+/// Does the same for one parameter, for which this section is passed.
 fn way_from(
     alloc: Global,
     known: &Known,

@@ -15,8 +15,8 @@ use std::alloc::{AllocError, Global};
 use types::code::Program;
 use types::ids::ProcedureId;
 
-/// The shortest ways to an access: rounds, until none finds a shorter one. After each round no way is
-/// shorter that has one step more than before.
+/// Finds the shortest ways to an access, in rounds, until no round finds a shorter one. Each round
+/// covers ways with one more step: no such way is shorter than what is known.
 pub(crate) fn settled(alloc: Global, code: &Program, access: Access) -> Result<Known, AllocError>
     ensures ways { IfOk result (AreWays (program_of code.now) (access_of access)) }
     ensures shortest { IfOk result (λ known. (n : ℕ)
@@ -31,8 +31,9 @@ pub(crate) fn settled(alloc: Global, code: &Program, access: Access) -> Result<K
     }
 }
 
-/// The entries of all procedures: from the last one to the first, and back, so that one round goes through
-/// calls of procedures that stand before their callers as well as behind them.
+/// Returns the entries of all procedures, from the last one to the first and back. So one round
+/// covers calls of procedures that come before their callers, and of procedures that come after
+/// them.
 fn entries_of(alloc: Global, code: &Program) -> Result<Vec<Entry>, AllocError>
     ensures { IfOk result (λ entries. ListsAll (program_of code.now) 0 entries.items) }
 {
@@ -54,7 +55,7 @@ fn entries_of(alloc: Global, code: &Program) -> Result<Vec<Entry>, AllocError>
     Ok(entries)
 }
 
-/// Adds those of a procedure with so many parameters.
+/// Adds the entries of a procedure with this number of parameters.
 fn add_entries(
     procedure: ProcedureId,
     parameters: usize,
@@ -79,7 +80,7 @@ fn add_entries(
     Ok(())
 }
 
-/// Looks for a shorter way at each entry. False if there was none.
+/// Looks for a shorter way at each entry. Returns false if there was none.
 fn round(
     alloc: Global,
     code: &Program,
@@ -98,7 +99,7 @@ fn round(
     Ok(better)
 }
 
-/// Looks for a shorter way at an entry. False if there was none.
+/// Looks for a shorter way at an entry. Returns false if there was none.
 fn improve(
     alloc: Global,
     code: &Program,
@@ -129,7 +130,7 @@ fn improve(
     }
 }
 
-/// Keeps a way where none as short is known. False if one is.
+/// Stores a way if none as short is known. Returns false if one is.
 fn put_if_shorter(entry: Entry, way: Vec<Step>, known: &mut Known) -> Result<bool, AllocError>
     ensures { IfOk result (λ better. HasPut entry way.items better known.old known.new) }
 {

@@ -9,7 +9,7 @@ use std::alloc::{AllocError, Global};
 use types::code::Label;
 use types::ids::ProcedureId;
 
-/// How a step goes on from its statement.
+/// How a way continues from a statement.
 #[derive(Clone, Copy, PartialEq, Eq, Debug)]
 pub enum Rule {
     /// `a[0] = 1;`: the statement's own expressions make the access. It is the last step.
@@ -30,17 +30,17 @@ pub enum Rule {
     Await,
 }
 
-/// A step: at the statement with this label, to whose list the way has come.
+/// A step of a way: at the statement with this label, in the list that the way has reached.
 #[derive(Clone, Copy, PartialEq, Eq, Debug)]
 pub struct Step {
     pub label: Label,
     pub rule: Rule,
-    /// What the access goes to, in the names around the statement. In the names inside it is the next
-    /// step's section.
+    /// The section that is accessed, in the names around the statement. The next step has its name
+    /// inside the statement.
     pub section: SectionId,
 }
 
-/// A way with one step more in front.
+/// Returns a way with one more step in front.
 pub(crate) fn led(alloc: Global, step: Step, way: &[Step]) -> Result<Vec<Step>, AllocError>
     ensures { IfOk result (λ led. led.items ≡ step ∷ way.now) }
 {
@@ -50,7 +50,7 @@ pub(crate) fn led(alloc: Global, step: Step, way: &[Step]) -> Result<Vec<Step>, 
     Ok(led)
 }
 
-/// The same of a way that was found.
+/// Adds a step in front of a way, if one was found.
 pub(crate) fn led_on(
     alloc: Global,
     step: Step,
@@ -67,7 +67,7 @@ pub(crate) fn led_on(
     }
 }
 
-/// The shorter of two ways that were found; of two as long the first.
+/// Returns the shorter of two ways that were found, or the first if they are equally long.
 pub fn shorter(one: Option<Vec<Step>>, other: Option<Vec<Step>>) -> Option<Vec<Step>>
     ensures { IsLesserOf length (steps one) (steps other) (steps result) }
 {

@@ -1,4 +1,4 @@
--- More turns and lines behind those of entries.
+-- More turns and lines after those of entries.
 use Rattle.std.proofs.Common.{◌≡◌, ℕ, ◌+◌, ◌-◌, ◌≤◌, List, [], ◌∷◌, ◌++◌, length, take, drop, Some, zero, suc, refl, sym, ap, subst, ◌∙◌, arith}
 use Rattle.std.specs.Prelude.{slice_get, slice_range}
 use Rattle.std.proofs.lemmas.List.{drop-append-le, drop_at, length-append, length-drop, map_push, take-append-le}
@@ -8,7 +8,7 @@ use Rattle.weights.specs.Ledger.{Returned}
 use Rattle.weights.specs.Lines.{StandAmong, said_by, said_in}
 use Rattle.weights.specs.declared.entries.Line.{Line}
 
--- a part of a list is the same once more stands behind the list
+-- a part of a list is unchanged if more is appended to the list
 range_stays : (turns more : List ℕ) (at n : ℕ) → at + n ≤ length turns
     → slice_range (turns ++ more) at (at + n) ≡ slice_range turns at (at + n)
 range_stays turns more at n within =
@@ -18,7 +18,7 @@ range_stays turns more at n within =
     ap (λ (xs : List ℕ). take ((at + n) - at) xs) (drop-append-le at turns more low)
     ∙ take-append-le ((at + n) - at) (drop at turns) more few
 
--- what lines say stays
+-- the entries that lines represent are unchanged
 pub said_stays : (turns more : List ℕ) (lines : List Line) → StandAmong turns lines
     → said_in (turns ++ more) lines ≡ said_in turns lines
 said_stays turns more [] among = refl
@@ -27,7 +27,7 @@ said_stays turns more (l ∷ lines) among =
     (range_stays turns more l.at l.length among.0)
     ∙ ap (λ (rs : List Returned). said_by turns l ∷ rs) (said_stays turns more lines among.1)
 
--- they stand among more turns
+-- their paths are parts of the longer list of turns
 pub stands_among_more : (turns more : List ℕ) (lines : List Line) (l : Line) → StandAmong turns lines
     → l.at + l.length ≤ length (turns ++ more) → StandAmong (turns ++ more) (lines ++ l ∷ [])
 stands_among_more turns more [] l among within = (within, tt)
@@ -36,7 +36,7 @@ stands_among_more turns more (x ∷ lines) l among within =
     let low = among.0 in
     (omega (arith, long, low), stands_among_more turns more lines l among.1 within)
 
--- a line for what stands behind all turns
+-- a line for what is appended to all turns
 pub line_added : (turns path : List ℕ) (lines : List Line) (at n weight : ℕ) → StandAmong turns lines
     → at ≡ length turns → n ≡ length path
     → said_in (turns ++ path) (lines ++ record { at = at; length = n; weight = weight } ∷ [])
@@ -51,7 +51,7 @@ line_added turns path lines at n weight among is_at is_long =
     ∙ ap (λ (rs : List Returned). rs ++ said_by (turns ++ path) l ∷ []) (said_stays turns path lines among)
     ∙ ap (λ (p : List ℕ). said_in turns lines ++ record { path = p; weight = weight } ∷ []) its
 
--- one line more, and its path behind the turns
+-- one line more, and its path after the turns
 pub one_more : (turns path more : List ℕ) (lines many : List Line) (at n weight : ℕ) → StandAmong turns lines
     → at ≡ length turns → n ≡ length path → more ≡ turns ++ path
     → many ≡ lines ++ record { at = at; length = n; weight = weight } ∷ []
@@ -67,7 +67,7 @@ one_more turns path more lines many at n weight among is_at is_long is_more is_m
           ∙ line_added turns path lines at n weight among is_at is_long,
     )
 
--- the line at a number stands among the turns
+-- the path of the line with a number is part of the turns
 pub stands_at : (turns : List ℕ) (lines : List Line) (number : ℕ) (l : Line) → slice_get lines number ≡ Some l
     → StandAmong turns lines → l.at + l.length ≤ length turns
 stands_at turns (x ∷ lines) zero l is among = subst (λ (y : Line). y.at + y.length ≤ length turns) (same_Some _ _ is) among.0

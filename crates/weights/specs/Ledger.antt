@@ -1,7 +1,7 @@
--- The ledger of a scope: what it has issued of weight, and what came back.
+-- The ledger of a scope: the weight that it has issued, and the weight that came back.
 use Rattle.std.specs.Prelude.{ℕ, ◌≡◌, ◌+◌, ◌*◌, ◌≤◌, ◌⊎◌, List, [], ◌∷◌, ◌++◌, sum_by}
 
--- weight that a task gave back
+-- a weight that a task returned
 pub record Returned : Type 0 where
   pub path : List ℕ
   pub weight : ℕ
@@ -13,11 +13,11 @@ pub record Ledger : Type 0 where
   pub entries : List Returned
   pub unlisted : ℕ
 
--- how much was issued
+-- the amount issued
 abbrev pub issued_of : Ledger → ℕ
 issued_of b = b.w0 * (1 + b.mints)
 
--- how much came back
+-- the amount that came back
 abbrev pub returned_of : Ledger → ℕ
 returned_of b = sum_by (λ e. e.weight) b.entries + b.unlisted
 
@@ -33,7 +33,7 @@ minted b = record b { mints = b.mints + 1 }
 abbrev pub listed : Returned → Ledger → Ledger
 listed e b = record b { entries = b.entries ++ e ∷ [] }
 
--- a weight came back, and its entry found no memory
+-- a weight came back, and there was no memory for its entry
 abbrev pub without_entry : Returned → Ledger → Ledger
 without_entry e b = record b { unlisted = b.unlisted + e.weight }
 
@@ -41,7 +41,7 @@ without_entry e b = record b { unlisted = b.unlisted + e.weight }
 abbrev pub GivesBack : (old new : Ledger) → Returned → Type 0
 GivesBack old new e = (new ≡ listed e old) ⊎ (new ≡ without_entry e old)
 
--- w0 is 1 to 2^32, it was issued at most 2^31 times, and no more is back than was issued
+-- w0 is 1 to 2^32, it was issued at most 2^31 times, and no more came back than was issued
 pub record IsSound (b : Ledger) : Type 0 where
   pub some : 1 ≤ b.w0
   pub most : b.w0 ≤ 4294967296

@@ -11,25 +11,25 @@ use std::alloc::{AllocError, Global};
 use std::marker::Model;
 use types::path::Path;
 
-/// Whether weight is out.
+/// Whether some weight is still out.
 #[derive(Clone, Copy, Debug, PartialEq, Eq)]
 pub enum Back {
-    /// Some of what was issued is out.
+    /// Some of the issued weight is out.
     Open,
-    /// All that was issued is back.
+    /// All issued weight is back.
     Complete,
 }
 
-/// What a scope has issued, and what came back. Its sums are the replay of its mints, entries and
-/// unlisted weight.
+/// A scope's record of the weight that it issued and that came back. Its sums replay its mints,
+/// entries and unlisted weight.
 #[derive(Drop)]
 pub struct Book {
-    /// What it issues at a time.
+    /// The amount that it issues at a time.
     w0: u64,
-    /// How many times it has issued more.
+    /// The number of times that it has issued more.
     mints: u64,
     entries: Entries,
-    /// What came back while its entry found no memory.
+    /// The weight that came back while there was no memory for its entry.
     unlisted: u64,
 
     // The sums.
@@ -60,7 +60,7 @@ impl Model for Book {
 }
 
 impl Book {
-    /// A book that has issued w0 once, and that weight.
+    /// Returns a book that has issued w0 once, and that weight.
     pub fn open(alloc: Global, w0: u64) -> (Book, Weight)
         requires { (1 ≤ w0) × (w0 ≤ 4294967296) }
         ensures book { result.0 ≡ opened w0 }
@@ -77,7 +77,7 @@ impl Book {
         (book, Weight { units: w0 })
     }
 
-    /// How many times it has issued weight, the opening among them.
+    /// Returns the number of times that it has issued weight, including the opening.
     pub fn issues(&self) -> u64
         ensures issues { result ≡ 1 + self.now.mints }
         ensures most { result ≤ 2147483648 }
@@ -85,14 +85,14 @@ impl Book {
         1 + self.mints
     }
 
-    /// How much it has issued.
+    /// Returns the amount that it has issued.
     pub fn issued(&self) -> u64
         ensures { result ≡ issued_of self.now }
     {
         self.issued
     }
 
-    /// How much came back.
+    /// Returns the amount that came back.
     pub fn returned(&self) -> u64
         ensures returned { result ≡ returned_of self.now }
         ensures within { result ≤ issued_of self.now }
@@ -100,22 +100,22 @@ impl Book {
         self.returned
     }
 
-    /// How much of that has no entry, since none found memory.
+    /// Returns the part of that amount that has no entry, because memory ran out.
     pub fn unlisted(&self) -> u64
         ensures { result ≡ self.now.unlisted }
     {
         self.unlisted
     }
 
-    /// The weights that came back, in that order, but for the unlisted: the one of a number, counted
-    /// from 0, in memory of its own.
+    /// Returns the entry with the given number, counted from 0, in newly allocated memory. The
+    /// entries are the weights that came back, in order, except unlisted ones.
     pub fn entry(&self, alloc: Global, number: usize) -> Result<Option<Entry>, AllocError>
         ensures { IfOk result (λ e. option_map entry_of e ≡ slice_get self.now.entries number) }
     {
         self.entries.entry(alloc, number)
     }
 
-    /// Issues w0 more, on top of a weight that is out.
+    /// Issues w0 more, in addition to a weight that is out.
     pub fn mint(&mut self, weight: Weight) -> Weight
         requires issues { 1 + self.old.mints < 2147483648 }
         requires out { weight ≤ issued_of self.old - returned_of self.old }
@@ -130,7 +130,8 @@ impl Book {
         }
     }
 
-    /// Takes a weight back from the task of this path. It is counted also where its entry finds no memory.
+    /// Takes a weight back from the task with this path. It counts the weight even if there is no
+    /// memory for its entry.
     pub fn back(&mut self, weight: Weight, path: &Path) -> Back
         requires { weight ≤ issued_of self.old - returned_of self.old }
         ensures book { GivesBack self.old self.new (record {

@@ -1,4 +1,4 @@
-//! The entries of a book, whose paths lie in one piece of memory.
+//! The entries of a book, whose paths share one allocation.
 
 ghost use Rattle.std.specs.Prelude.{◌≡◌, ◌+◌, ◌≤◌, ◌∷◌, ◌++◌, [], IfOk, length, option_map};
 ghost use Rattle.std.specs.Prelude.{slice_get, slice_range};
@@ -11,7 +11,7 @@ use std::marker::Model;
 use types::child_number::ChildNumber;
 use types::path::Path;
 
-/// A weight that came back, and where the turns of its task's path stand among those of all.
+/// A weight that came back, and the position of its task's path in the list of all turns.
 #[derive(Clone, Copy)]
 pub struct Line {
     pub at: usize,
@@ -19,10 +19,10 @@ pub struct Line {
     pub weight: u64,
 }
 
-/// Weights that came back, in that order, each with the path of the task that gave it.
+/// Weights that came back, in order, each with the path of the task that returned it.
 #[derive(Drop)]
 pub struct Entries {
-    /// The turns of all paths, one path behind the other: none is memory of its own.
+    /// The turns of all paths, one path after the other. None is a separate allocation.
     turns: Vec<ChildNumber>,
     lines: Vec<Line>,
 }
@@ -40,7 +40,7 @@ impl Model for Entries {
 }
 
 impl Entries {
-    /// No entry.
+    /// Returns an empty list of entries.
     pub fn new(alloc: Global) -> Entries
         ensures { result ≡ [] }
     {
@@ -50,7 +50,7 @@ impl Entries {
         }
     }
 
-    /// One entry more. False where there is no memory for it, and nothing has changed.
+    /// Adds an entry. Returns false if there is no memory for it; then nothing has changed.
     pub fn add(&mut self, path: &Path, weight: u64) -> bool
         ensures added { OnTrue result (self.new ≡ self.old ++ (record {
           path = path.now.turns.items;
@@ -72,7 +72,7 @@ impl Entries {
         }
     }
 
-    /// The entry of a number, counted from 0, in memory of its own.
+    /// Returns the entry with the given number, counted from 0, in newly allocated memory.
     pub fn entry(&self, alloc: Global, number: usize) -> Result<Option<Entry>, AllocError>
         ensures { IfOk result (λ e. option_map entry_of e ≡ slice_get self.now number) }
     {
@@ -89,14 +89,14 @@ impl Entries {
     }
 }
 
-/// The line of a number.
+/// Returns the line with the given number.
 fn line_at(lines: &[Line], number: usize) -> Option<Line>
     ensures { result ≡ slice_get lines.now number }
 {
     lines.get(number).copied()
 }
 
-/// The path of a line.
+/// Returns the path of a line.
 fn part_of(turns: &[ChildNumber], line: Line) -> &[ChildNumber]
     requires { line.at + line.length ≤ length turns.now }
     ensures { result.now ≡ slice_range turns.now line.at (line.at + line.length) }

@@ -1,7 +1,7 @@
 //! Weights that can't be dropped, and the book of a scope.
 //!
-//! A scope issues weight, its tasks divide it among themselves and give it back as they end. All of
-//! them have ended when all weight is back.
+//! A scope issues weight. Its tasks divide the weight among themselves and return it when they
+//! finish. If all weight is back, all tasks have finished.
 
 #![tactic(auto)]
 

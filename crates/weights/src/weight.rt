@@ -1,11 +1,11 @@
-//! A part of what a scope has issued.
+//! Parts of the weight that a scope has issued.
 
 ghost use Rattle.std.specs.Prelude.{◌≡◌, ℕ, ◌+◌, ◌/◌, ◌≤◌, IfOk, IfErr};
 
 use std::marker::Model;
 
-/// A part of a scope's weight, at least 1. It can't be dropped or copied: it is given back to a
-/// book, or lost by `forfeit`.
+/// A part of a scope's weight, at least 1. It can't be dropped or copied: its owner returns it to a
+/// book, or loses it with `forfeit`.
 pub struct Weight {
     pub(crate) units: u64,
 }
@@ -19,7 +19,7 @@ impl Model for Weight {
 }
 
 impl Weight {
-    /// How much it is.
+    /// Returns its amount.
     pub fn units(&self) -> u64
         ensures units { result ≡ self.now }
         ensures some { 1 ≤ result }
@@ -27,8 +27,8 @@ impl Weight {
         self.units
     }
 
-    /// A child's half, rounded down, and the rest for its parent. A weight of 1 can't be divided, and
-    /// comes back.
+    /// Returns half, rounded down, for a child, and the rest for its parent. A weight of 1 can't be
+    /// divided: it is returned as the error.
     pub fn divide(self) -> Result<(Weight, Weight), Weight>
         ensures ok { IfOk result (λ p. (2 ≤ self) × (p.0 ≡ self / 2) × (p.0 + p.1 ≡ self)) }
         ensures err { IfErr result (λ w. (self ≡ 1) × (w ≡ self)) }

@@ -1,4 +1,4 @@
--- What is answered of a race, from the least ways that meet in both directions.
+-- The result for a race, from the shortest ways that meet in both directions.
 use Rattle.std.proofs.Common.{◌≡◌, ◌⊎◌, inl, inr, ℕ, ◌+◌, ◌≤◌, length, refl, sym, subst, arith, true≢false}
 use Rattle.std.specs.Prelude.{Bool, true, false, Option, None, Some}
 use Rattle.types.specs.Code.{Codes, Program}
@@ -48,7 +48,7 @@ module _ (p : Program) (b : Codes) (r : Race) where
   cases true c m = inl (record { way = refl; among = m })
   cases false c m = inr (record { way = refl; among = m })
 
-  -- of both directions
+  -- for both directions
   pub least_directed : (one other : Option Crossing) (found : Option (Bool × Crossed)) → IsLesserOf size (toward true one) (toward false other) found
       → IsLeast both all_covered (MeetIn p b r.first r.second) (crossed one) → IsLeast both all_covered (MeetIn p b r.second r.first) (crossed other)
       → IsLeast size all_covered (ShowIn p b r) found

@@ -18,7 +18,7 @@ crossing kind one other = record { meeting = kind; pending = one; later = other 
 
 module _ (p : Program) (x y : Access) where
   -- ---- lists
-  -- a statement leaves x pending, and one behind it does y
+  -- a statement leaves x pending, and one after it does y
   record IsFollowing (l : ℕ) (s : Code) (rest : Codes) (c : Crossed) : Type 0 where
     meeting : c.meeting ≡ Follows
     pending : WayOf p true l s c.pending x
@@ -122,7 +122,7 @@ module _ (p : Program) (x y : Access) where
         cases (MeetsAt.turns w v) = inl (record { meeting = refl; pending = w; later = v })
         cases (MeetsAt.inside k m) = inr (block k m)
 
-    -- that has only this block, and none of whose turns meet
+    -- a statement that has only this block, and none of whose iterations meet
     abbrev HasOnly : Code → Codes → Type 0
     HasOnly (Do a) b = ⊥
     HasOnly (If t d e) b = ⊥

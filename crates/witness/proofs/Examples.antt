@@ -16,12 +16,12 @@ reads l s = record { label = l; section = s; write = false }
 abbrev writes : ℕ → ℕ → Access
 writes l s = record { label = l; section = s; write = true }
 
--- async { a[0] = 7; } b[0] = 8; print a[0]; : the task's write, and the read behind it
+-- async { a[0] = 7; } b[0] = 8; print a[0]; : the task's write, and the read after it
 unfinished_shown : Meets unfinished unfinished.main.body Follows (step 1 Begin 0 ∷ step 2 Own 0 ∷ []) (step 4 Own 0 ∷ [])
     (writes 2 0) (reads 4 0)
 unfinished_shown = Meets.follows (WayOf.by Goes.begin (Way.here (WayOf.own first))) (Way.later (Way.here (WayOf.own first)))
 
--- the task of the loop, and its next turn: behind the split its section is l, around it s
+-- the task of the loop, and its next iteration: inside the split its section is l, around it s
 split_in_loop_shown : Meets split_in_loop split_in_loop.main.body Turns
     (step 3 Turn 0 ∷ step 4 Side 0 ∷ step 5 Begin 1 ∷ step 6 Own 1 ∷ []) (step 3 Turn 0 ∷ step 4 Side 0 ∷ step 5 Begin 1 ∷ step 6 Own 1 ∷ [])
     (writes 6 0) (writes 6 0)
@@ -30,7 +30,7 @@ split_in_loop_shown =
     (WayOf.by Goes.turn (Way.here (WayOf.by (Goes.side {x = 1}) (Way.here (WayOf.by Goes.begin (Way.here (WayOf.own first)))))))
     (WayOf.by Goes.turn (Way.here (WayOf.by (Goes.side {x = 1}) (Way.here (WayOf.by Goes.begin (Way.here (WayOf.own first)))))))))
 
--- what the callee leaves pending, and what follows the call
+-- what the callee leaves pending, and what comes after the call
 call_then_store_shown : Meets call_then_store call_then_store.main.body Follows
     (step 4 (Enter (record { number = 0 })) 0 ∷ step 1 Begin 0 ∷ step 2 Own 0 ∷ []) (step 5 Own 0 ∷ []) (writes 2 0) (writes 5 0)
 call_then_store_shown =

@@ -1,4 +1,4 @@
--- Parts of sections, by what the sides of splits are sides of.
+-- Parts of sections, through the sections whose sides they are.
 use Rattle.std.proofs.Common.{◌≡◌, ◌⊎◌, inl, inr, ℕ, ◌+◌, ◌<◌, ◌≤◌, List, length, refl, sym, ◌∙◌, subst, true≢false, arith}
 use Rattle.std.proofs.lemmas.Bool.{cases_lt, cases_eq}
 use Rattle.std.proofs.lemmas.List.{get_or_past}
@@ -31,7 +31,7 @@ module _ (origins : List Origin) where
   pub itself_lies : (a b : ℕ) → a ≡ b → LiesIn origins a b
   itself_lies a b e = subst (LiesIn origins a) e LiesIn.itself
 
-  -- a side is a part of another section where what it is a side of is one
+  -- a side is a part of another section if the section that was split is one
   pub by_left : (a b p : ℕ) (t : Bool) → origin_of origins a ≡ Left p → (a ≡ b → ⊥) → (IsTrue t ↔ LiesIn origins p b) → IsTrue t ↔ LiesIn origins a b
   by_left a b p t o apart h = (
     λ k. LiesIn.side (IsSideOf.left o) (h.0 k),
@@ -48,7 +48,7 @@ pub false_is_not : (b : Bool) → b ≡ false → IsTrue b → ⊥
 false_is_not b e h = true≢false (sym h ∙ e)
 
 module _ (origins : List Origin) (numbered : IsNumbered origins) where
-  -- sections that overlap are there, where they differ
+  -- sections that overlap exist, if they differ
   ordered_past : (low high : ℕ) → low < high → length origins ≤ high → overlap origins low high ≡ true → ⊥
   ordered_past low high order past h =
       true≢false (sym h ∙ root-disjoint origins numbered low high order (get_or_past origins high Root past))
@@ -66,7 +66,7 @@ module _ (origins : List Origin) (numbered : IsNumbered origins) where
   ]
 
   module _ (low high : ℕ) (order : low < high) where
-    -- a walk up ends at a section in which both lie
+    -- a walk up stops at a section in which both lie
     pub met_root : origin_of origins high ≡ Root → overlap origins low high ≡ true → ⊥
     met_root e h = true≢false (sym h ∙ above_root origins numbered low high order e)
 

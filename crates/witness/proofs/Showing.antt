@@ -23,7 +23,7 @@ module _ (p : Program) (sound : IsSound p) where
     other : List Step
     meets : Meets p b kind one other x y
 
-  -- a block of a statement follows the rules where it stands
+  -- a block of a statement follows the rules at its position
   record BlockFollows (g : Procedure) (b : Codes) : Type 0 where
     scope : List ℕ
     follows : Follows p g scope b
@@ -63,7 +63,7 @@ module _ (p : Program) (sound : IsSound p) where
             record { first_pends = false; meeting = m.kind; pending = m.one; later = m.other; shows = m.meets })
       ]
 
--- where two ways meet, what they lead to may run together
+-- if two ways meet, the accesses that they lead to may run together
 pub together : (p : Program) {b : Codes} {kind : Meeting} {one other : List Step} {x y : Access} → Meets p b kind one other x y
     → Together p accesses b x y
 together p (Meets.follows w v) = Together.follows (leads_of p w) (leads_in p v)

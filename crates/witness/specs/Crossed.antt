@@ -1,4 +1,4 @@
--- Two ways that begin where they meet, as plain values.
+-- Two ways that start where they meet, as plain values.
 use Rattle.std.specs.Prelude.{ℕ, ◌≡◌, ◌+◌, Bool, true, false, List, length, Option, Some, option_map}
 use Rattle.types.specs.Code.{Code, Codes, Program}
 use Rattle.effects.specs.Accesses.{Access}
@@ -14,7 +14,7 @@ use Rattle.witness.specs.declared.crossing.Meeting.{Meeting}
 use Rattle.witness.specs.declared.crossing.Meeting.TheVariants.{Follows, Turns}
 use Rattle.ways.specs.declared.step.Step.{Step}
 
--- the ways to both accesses are those of the program
+-- the ways to both accesses are shortest ways in the program
 pub record ArePaired (two : Pairing) : Type 0 where
   pub first : IsAim (program two.code.now) two.first.now
   pub second : IsAim (program two.code.now) two.second.now
@@ -25,7 +25,7 @@ pub record Crossed : Type 0 where
   pub pending : List Step
   pub later : List Step
 
--- how many steps both have
+-- the number of steps of both ways
 abbrev pub both : Crossed → ℕ
 both c = length c.pending + length c.later
 
@@ -35,36 +35,37 @@ plain c = record { meeting = c.meeting; pending = c.pending.items; later = c.lat
 abbrev pub crossed : Option Crossing → Option Crossed
 crossed = option_map plain
 
--- the first leaves x pending, from this statement; the other is the one that was found behind it
+-- the first way leaves x pending, from this statement; the second is the way that was found after
+-- the statement
 pub record IsAcross (p : Program) (l : ℕ) (s : Code) (x : Access) (behind : Option (List Step))
     (c : Crossed) : Type 0 where
   pub meeting : c.meeting ≡ Follows
   pub pending : WayOf p true l s c.pending x
   pub later : behind ≡ Some c.later
 
--- both begin at this statement
+-- both ways start at this statement
 pub record IsInTurn (p : Program) (l : ℕ) (s : Code) (x y : Access) (c : Crossed) : Type 0 where
   pub meeting : c.meeting ≡ Turns
   pub pending : WayOf p true l s c.pending x
   pub later : WayOf p false l s c.later y
 
--- as short as any by which the two meet in this way, and found if there is one
+-- the shortest two ways that meet as described, found if there are any
 abbrev pub IsShortestOf : Pairing → (Program → (x y : Access) → Crossed → Type 0) → Option Crossing → Type 0
 IsShortestOf two meet found =
     IsLeast both all_covered
     (meet (program two.code.now) (access two.first.now.access) (access two.second.now.access)) (crossed found)
 
--- the same, with whether the first of two accesses is the one that is left pending
+-- the plain value, with whether the first of two accesses is the one that is left pending
 abbrev pub directed : Option (Bool × Crossing) → Option (Bool × Crossed)
 directed = option_map (λ d. (d.0, plain d.1))
 
 abbrev pub toward : (first_pends : Bool) → Option Crossing → Option (Bool × Crossed)
 toward first_pends = option_map (λ c. (first_pends, plain c))
 
--- they begin at statements of a list, or inside one of them
+-- two ways start at statements of a list, or inside one of them
 abbrev pub MeetIn : Program → Codes → (x y : Access) → Crossed → Type 0
 MeetIn p b x y c = Meets p b c.meeting c.pending c.later x y
 
--- they begin at a statement, or inside it
+-- two ways start at a statement, or inside it
 abbrev pub MeetAt : Program → (label : ℕ) → Code → (x y : Access) → Crossed → Type 0
 MeetAt p l s x y c = MeetsAt p l s c.meeting c.pending c.later x y

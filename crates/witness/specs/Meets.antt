@@ -1,4 +1,4 @@
--- Where two ways meet: one to an access that is left pending, and one to what is done behind it.
+-- Where two ways meet: one to an access that is left pending, and one to what is done after it.
 use Rattle.std.specs.Prelude.{ℕ, List, true, false}
 use Rattle.types.specs.Code.{Truth, Code, While, Codes, Then, Program}
 use Rattle.effects.specs.Accesses.{Access}
@@ -9,8 +9,8 @@ use Rattle.witness.specs.declared.crossing.Meeting.{Meeting}
 use Rattle.witness.specs.declared.crossing.Meeting.TheVariants.{Follows, Turns}
 
 module _ (p : Program) where
-  -- two ways, to x and to y, begin at a statement that leaves x pending and at one behind it in its
-  -- list, or at a loop for two of its turns
+  -- two ways, to x and to y, start at a statement that leaves x pending and at one after it in its
+  -- list, or at a loop, in two of its iterations
   pub data Meets : Codes → Meeting → (pending later : List Step) → (x y : Access) → Type 0 where
     follows : {l : ℕ} {s : Code} {rest : Codes} {first second : List Step} {x y : Access}
         → WayOf p true l s first x → Way p false rest second y
@@ -25,7 +25,7 @@ module _ (p : Program) where
         {x y : Access} → Meets rest kind first second x y
         → Meets (Then l s rest) kind first second x y
 
-  -- so they do at a statement, a loop, or inside one
+  -- two ways meet at a statement, at a loop, or inside one
   pub data MeetsAt : (label : ℕ) → Code → Meeting → (pending later : List Step) → (x y : Access)
       → Type 0 where
     turns : {l : ℕ} {t : Truth} {b : Codes} {first second : List Step} {x y : Access}

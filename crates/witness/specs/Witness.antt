@@ -1,4 +1,4 @@
--- What shows that a race is one.
+-- The witness of a race.
 use Rattle.std.specs.Prelude.{◌+◌, ◌≤◌, Bool, List, length, if◌then◌else◌}
 use Rattle.types.specs.Code.{Codes, Program}
 use Rattle.effects.specs.Accesses.{Access}
@@ -10,21 +10,21 @@ use Rattle.witness.specs.declared.crossing.Meeting.{Meeting}
 use Rattle.ways.specs.declared.step.Step.{Step}
 use Rattle.witness.specs.declared.witness.Witness.{Witness}
 
--- the access of a race that is left pending, and the one that is done behind it
+-- the access of a race that is left pending, and the access that is done after it
 abbrev pub pending_one : (first_pends : Bool) → Race → Access
 pending_one first_pends r = if first_pends then r.first else r.second
 
 abbrev pub later_one : (first_pends : Bool) → Race → Access
 later_one first_pends r = if first_pends then r.second else r.first
 
--- two ways show a race: by the rules of the table they lead to its two accesses
+-- two ways show a race: by the rules of the table, they lead to its two accesses
 abbrev pub Shows : Program → Race → (first_pends : Bool) → Meeting → (pending later : List Step)
     → Type 0
 Shows p r first_pends kind pending later =
     Meets p (numbered p r.procedure).body kind pending later
     (pending_one first_pends r) (later_one first_pends r)
 
--- so do two ways in this list
+-- two ways in a list show a race
 abbrev pub ShowIn : Program → Codes → Race → Bool × Crossed → Type 0
 ShowIn p b r d = MeetIn p b (pending_one d.0 r) (later_one d.0 r) d.1
 
@@ -33,7 +33,7 @@ pub record IsWitness (p : Program) (r : Race) (w : Witness) : Type 0 where
   pub shows : Shows p r w.first_pends w.meeting w.pending.items w.later.items
   pub sharing : Shares (numbered p r.procedure).sections r.first.section r.second.section w.sharing
 
--- two ways show the race, whichever of its accesses is left pending
+-- two ways show the race, with either of its accesses left pending
 pub record IsShown (p : Program) (r : Race) : Type 0 where
   pub first_pends : Bool
   pub meeting : Meeting

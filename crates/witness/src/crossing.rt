@@ -1,4 +1,4 @@
-//! Where what a statement leaves pending meets what is done behind it.
+//! Where what a statement leaves pending meets what is done after it.
 
 ghost use Rattle.std.specs.Prelude.{◌≡◌, ◌+◌, IfOk, Some, length};
 ghost use Rattle.types.specs.Translation.{code as plain_code, codes as codes_of, program as program_of};
@@ -13,16 +13,16 @@ use types::code::{Program, Stmt, StmtKind};
 use ways::aim::Aim;
 use ways::step::{Step, shorter};
 
-/// How two accesses come to run together.
+/// How two accesses can run together.
 #[derive(Clone, Copy, PartialEq, Eq, Debug)]
 pub enum Meeting {
-    /// A statement leaves one pending, and a later one of its list does the other.
+    /// A statement leaves one pending, and a later statement of its list does the other.
     Follows,
-    /// A loop leaves one pending, and does the other in a further turn.
+    /// A loop leaves one pending, and does the other in a later iteration.
     Turns,
 }
 
-/// Two accesses of a program, of which the first is to be left pending.
+/// Two accesses of a program. The first is the one to be left pending.
 #[derive(Clone, Copy)]
 pub(crate) struct Pairing<'a> {
     pub alloc: Global,
@@ -32,7 +32,7 @@ pub(crate) struct Pairing<'a> {
 }
 
 impl<'a> Pairing<'a> {
-    /// The same two, the other way round.
+    /// Returns the two accesses in the other order.
     pub fn swapped(&self) -> Pairing<'a>
         ensures { result ≡ record self.now { first = self.now.second; second = self.now.first } }
     {
@@ -44,7 +44,7 @@ impl<'a> Pairing<'a> {
     }
 }
 
-/// Two ways that begin where they meet.
+/// Two ways that start where they meet.
 #[derive(Drop)]
 pub(crate) struct Crossing {
     pub meeting: Meeting,
@@ -53,7 +53,7 @@ pub(crate) struct Crossing {
 }
 
 impl Crossing {
-    /// How many steps it has.
+    /// Returns the number of steps of both ways.
     pub fn len(&self) -> u128
         ensures { result ≡ length self.now.pending.items + length self.now.later.items }
     {
@@ -61,7 +61,7 @@ impl Crossing {
     }
 }
 
-/// The shorter of two that were found; of two as long the first.
+/// Returns the shorter of two crossings, or the first if they are equally long.
 pub(crate) fn shorter_crossing(one: Option<Crossing>, other: Option<Crossing>) -> Option<Crossing>
     ensures { IsLesserOf both (crossed one) (crossed other) (crossed result) }
 {
@@ -78,7 +78,8 @@ pub(crate) fn shorter_crossing(one: Option<Crossing>, other: Option<Crossing>) -
     }
 }
 
-/// The shortest two ways from statements of a list, at any depth, of which the first is left pending.
+/// Finds the shortest two ways from statements of a list, at any depth. The first one is left
+/// pending.
 #[cycle(crossing)]
 pub(crate) fn crossing_in(
     pairing: &Pairing<'_>,
@@ -102,7 +103,7 @@ pub(crate) fn crossing_in(
     Ok(best)
 }
 
-/// A statement that leaves the first pending, and the way from those behind it.
+/// Combines the way that a statement leaves pending with the way from the statements after it.
 fn across(
     pairing: &Pairing<'_>,
     statement: &Stmt,
@@ -131,7 +132,8 @@ fn across(
     }))
 }
 
-/// The shortest two ways from a loop, for two of its turns, or from statements inside a statement.
+/// Finds the shortest two ways from a loop, in two of its iterations, or from statements inside a
+/// statement.
 #[cycle(crossing)]
 fn crossing_of(pairing: &Pairing<'_>, statement: &Stmt) -> Result<Option<Crossing>, AllocError>
     requires { ArePaired pairing.now }
@@ -157,7 +159,7 @@ fn crossing_of(pairing: &Pairing<'_>, statement: &Stmt) -> Result<Option<Crossin
     }
 }
 
-/// The ways from a loop, in two of its turns.
+/// Finds the ways from a loop, in two of its iterations.
 fn in_turn(pairing: &Pairing<'_>, statement: &Stmt) -> Result<Option<Crossing>, AllocError>
     requires { ArePaired pairing.now }
     ensures { IfOk result (IsShortestOf pairing.now

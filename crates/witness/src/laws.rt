@@ -1,4 +1,4 @@
-//! Laws of the definitions, each the contract of a function that does nothing.
+//! Theorems about the definitions. Each is the contract of a function that does nothing.
 
 ghost use Rattle.std.specs.Prelude.{◌≤◌, List, false, length, true};
 ghost use Rattle.effects.specs.Accesses.{Access};
@@ -14,7 +14,7 @@ ghost use Rattle.witness.specs.Witness.{IsShortest, IsShown, Shows};
 ghost use Rattle.ways.specs.declared.step.Step.{Step};
 ghost use Rattle.witness.specs.declared.witness.Witness.{Witness as TheWitness};
 
-/// A way leads to what the statements may do, or leave pending, and to nothing else.
+/// States that a way leads to what the statements may do, or leave pending, and to nothing else.
 pub fn ways_lead_to_what_is_done()
     ensures done { (p : Program) (b : Codes) (way : List Step) (x : Access)
         → Way p false b way x → All p accesses b x }
@@ -22,16 +22,17 @@ pub fn ways_lead_to_what_is_done()
         → Way p true b way x → Pending p accesses b x }
 {}
 
-/// Of a sound program each race is shown by two ways that meet; and where two ways meet, what they lead to
-/// may run together.
+/// States that two ways that meet show each race of a sound program. If two ways meet, the accesses
+/// that they lead to may run together.
 pub fn races_are_shown()
     ensures shown { (p : Program) → IsSound p → (r : Race) → IsRace p r → IsShown p r }
     ensures together { (p : Program) (b : Codes) (kind : Meeting) (one other : List Step)
         (x y : Access) → Meets p b kind one other x y → Together p accesses b x y }
 {}
 
-/// Where two ways show a race with the fewest steps, each of them is a shortest one: no way that shows it
-/// beside the second has fewer steps than the first, and none beside the first has fewer than the second.
+/// States that if two ways show a race with the fewest steps, each of them is a shortest way. No
+/// way that shows the race together with the second has fewer steps than the first, and none
+/// together with the first has fewer than the second.
 pub fn each_way_is_shortest()
     ensures pending { (p : Program) (r : Race) (w : TheWitness) (way : List Step) → IsShortest p r w
         → Shows p r w.first_pends w.meeting way w.later.items

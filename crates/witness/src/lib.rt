@@ -1,4 +1,4 @@
-//! Why a race is one.
+//! Witnesses of races: why two accesses may run together and share places.
 
 #![tactic(auto)]
 

@@ -1,4 +1,4 @@
-//! How two sections of one procedure come to share places.
+//! Why two sections of one procedure share places.
 
 ghost use Rattle.std.specs.Prelude.{◌≡◌, ◌↔◌, ◌<◌, IfSome, IsSome, IsTrue, length, true};
 ghost use Rattle.sections.specs.Overlap.{overlap as overlap_of};
@@ -9,20 +9,21 @@ use sections::id::SectionId;
 use sections::origin::Origin;
 use sections::tree::SectionTree;
 
-/// Why two sections may share places.
+/// The reason why two sections may share places.
 #[derive(Clone, Copy, PartialEq, Eq, Debug)]
 pub enum Sharing {
-    /// They are one.
+    /// They are the same section.
     Same,
     /// The first is a part of the second.
     FirstIsPart,
     /// The second is a part of the first.
     SecondIsPart,
-    /// They lie in sides of different splits of this section, the nearest one of which both are parts.
+    /// They lie in sides of different splits of this section. It is the nearest section of which
+    /// both are parts.
     OfSplits { section: SectionId },
 }
 
-/// Why two sections may share places. None where they lie in no section together.
+/// Returns why two sections may share places, or `None` if no section contains both.
 pub(crate) fn sharing_of(
     sections: &SectionTree,
     first: SectionId,
@@ -53,7 +54,7 @@ pub(crate) fn sharing_of(
     }
 }
 
-/// Whether a section is another one, or a part of it: walks up from it.
+/// Returns whether a section is another section or a part of it, by a walk up from it.
 fn lies_in(sections: &SectionTree, inner: SectionId, outer: SectionId) -> bool
     requires { inner.number < length (origins_of sections.now) }
     ensures { IsTrue result ↔ LiesIn (origins_of sections.now) inner.number outer.number }
@@ -68,7 +69,7 @@ fn lies_in(sections: &SectionTree, inner: SectionId, outer: SectionId) -> bool
     }
 }
 
-/// The nearest section in which both lie, where there is one.
+/// Returns the nearest section in which both lie, if there is one.
 #[cycle(nearest)]
 fn nearest(sections: &SectionTree, first: SectionId, second: SectionId) -> SectionId
     requires first { first.number < length (origins_of sections.now) }
@@ -87,7 +88,7 @@ fn nearest(sections: &SectionTree, first: SectionId, second: SectionId) -> Secti
     }
 }
 
-/// The same of two sections in order: walks up from the one with the larger number.
+/// Does the same for two sections in order: walks up from the one with the larger number.
 #[cycle(nearest)]
 fn nearest_above(sections: &SectionTree, low: SectionId, high: SectionId) -> SectionId
     requires order { low.number < high.number }

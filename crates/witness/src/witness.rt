@@ -1,4 +1,4 @@
-//! What shows that a race is one.
+//! The witness of a race.
 
 ghost use Rattle.std.specs.Prelude.{◌≡◌, IfOk, IfSome, IsNone, IsSome, false, true};
 ghost use Rattle.types.specs.Code.{End};
@@ -22,15 +22,16 @@ use types::typed::Typed;
 use ways::aim::Aim;
 use ways::step::Step;
 
-/// Why two accesses may run together, and share places. Both ways begin at statements of one list of the
-/// race's procedure, and each step is at a statement of the list to which the step before it has come.
+/// Why two accesses may run together and share places. Both ways start at statements of one list of
+/// the race's procedure. Each step is at a statement of the list that the previous step led to.
 #[derive(Drop)]
 pub struct Witness {
-    /// Whether the two begin at a statement and at one behind it, or at a loop.
+    /// Whether the two ways start at a statement and at one after it, or at a loop.
     pub meeting: Meeting,
-    /// The way to the access that is left pending; its last step is at the statement that makes it.
+    /// The way to the access that is left pending. Its last step is at the statement that makes the
+    /// access.
     pub pending: Vec<Step>,
-    /// The way to the other one.
+    /// The way to the other access.
     pub later: Vec<Step>,
     /// Whether the race's first access is the one that is left pending.
     pub first_pends: bool,
@@ -38,8 +39,8 @@ pub struct Witness {
     pub sharing: Sharing,
 }
 
-/// A witness of a race, as `check` tells it: one with as few steps as any. None of two accesses that are
-/// no race of the program.
+/// Returns a witness of a race that `check` reports, with the minimum number of steps. Returns
+/// `None` only if the two accesses are no race of the program.
 pub fn witness_of(alloc: Global, typed: &Typed, race: Race) -> Result<Option<Witness>, AllocError>
     ensures witness { IfOk result (λ found.
         IfSome found (IsWitness (code_of typed.now) (race_of race))) }
@@ -74,7 +75,7 @@ pub fn witness_of(alloc: Global, typed: &Typed, race: Race) -> Result<Option<Wit
     }))
 }
 
-/// The procedure of a number; `main` is numbered behind the others.
+/// Returns the procedure with a number. The number of `main` comes after all others.
 fn procedure_of(program: &Program, procedure: ProcedureId) -> Option<&Procedure>
     ensures some { IfSome result (λ found. procedure_as found.now
         ≡ numbered (program_of program.now) procedure.number) }
@@ -88,7 +89,8 @@ fn procedure_of(program: &Program, procedure: ProcedureId) -> Option<&Procedure>
     }
 }
 
-/// The shortest ways that meet, and whether the first of the race's accesses is left pending by them.
+/// Finds the shortest ways that meet, and returns whether the race's first access is the one left
+/// pending.
 fn shortest(
     alloc: Global,
     code: &Program,
@@ -111,7 +113,8 @@ fn shortest(
     Ok(shorter_direction(forth, back))
 }
 
-/// The shorter of two crossings, of the first of which it is true that the first access is left pending.
+/// Returns the shorter of two crossings, and whether it leaves the race's first access pending, as
+/// `forth` does.
 fn shorter_direction(forth: Option<Crossing>, back: Option<Crossing>) -> Option<(bool, Crossing)>
     ensures { IsLesserOf (λ d. both d.1) (toward true forth) (toward false back)
         (directed result) }

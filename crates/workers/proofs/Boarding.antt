@@ -1,4 +1,4 @@
--- The kits cross to the threads, and the floor is seen from all of them.
+-- The kits can be sent to the threads, and all threads can share the floor.
 use Rattle.std.proofs.Crossing.{crosses, frees, Vec-send, Vec-sync}
 use denote.Builtin.{unit}
 use denote.Param.Send.{IsSend, IsSync, sendable, view_send, view_sync}
@@ -114,7 +114,7 @@ module _ (κ : NamedLft) (J : RattleType) (gh : Ghosts J.Denot) where
         (as_row_sync (PhantomData.the_field J) (OfPhantom.the_field_sync J), tt),
       ))
 
-  -- the gate is lent by whoever has it
+  -- the caller lends the gate
   pub floor_sync : (G : RattleType) → IsSync G → IsSync (Floor.the_row κ J G gh)
   floor_sync G gate =
       declared_sync (Floor.the_type κ J G gh) (

@@ -1,4 +1,4 @@
--- The flat code of a program is seen from all threads.
+-- All threads can share the flat code of a program.
 use Rattle.std.proofs.Crossing.{crosses}
 use denote.Param.Send.{IsSync, sendable}
 use denote.Param.SendFields.{declared_sync}

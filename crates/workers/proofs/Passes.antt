@@ -1,4 +1,4 @@
--- An owner goes on with what came of its scope.
+-- An owner continues with the settled results of its scope.
 use Rattle.std.proofs.Common.{◌≡◌, List, [], ◌∷◌, Option, Some, map, reverse, ◌⊎◌, inl, inr, sym, ap, ◌∙◌, subst}
 use Rattle.std.proofs.lemmas.Grind.{reverse_onto}
 use Rattle.std.proofs.lemmas.Option.{same_Some}
@@ -27,7 +27,7 @@ use Rattle.workers.specs.Own.{IsNext, IsOwnNext}
 use Rattle.workers.specs.declared.post.Next.{Next}
 use Rattle.workers.specs.declared.post.Next.TheVariants.{Goes, Idle, Told}
 
--- what holds of each of some holds the other way round
+-- what is true of each element of a list is true of each element of its reverse
 pub each_reversed : {A : Type 0} (P : A → Type 0) (xs : List A) → Each P xs → Each P (reverse xs)
 each_reversed P [] h = tt
 each_reversed P (x ∷ xs) h =
@@ -44,7 +44,7 @@ module _ (j : Job) (rs : List Made) (all : Each (IsResultOf j) rs) where
   are_results : Each (IsTaskResult (program_of j) (lists_of j) (budget_of j)) results
   are_results = each_map task_result (IsTaskResult (program_of j) (lists_of j) (budget_of j)) rs all
 
-  -- they give back what the owner lists
+  -- the results give back what the owner lists
   gives_so : (ok : IsJob j) (w : Owner) (made : Made) (outer : List Stake) (n : _) → EndsSo j w made outer n
       → GiveBack (task_result made) results
   gives_so ok Main made outer n ends =
@@ -60,7 +60,7 @@ module _ (j : Job) (rs : List Made) (all : Each (IsResultOf j) rs) where
   gives : (w : Owner) (made : Made) (outer : List Stake) (n : _) → IsAtEnd j w made outer n → GiveBack (task_result made) results
   gives w made outer n at = gives_so at.0 w made outer n at.1
 
--- what has come of the owner
+-- the settled results of the owner
 pub comes : (p : Parked) (rs : List Made) → IsParked p → Each (IsResultOf p.job) rs
     → (w : Waiting) (y : Settled) → w.job ≡ p.job → w.owner ≡ p.owner → w.outer ≡ p.outer → w.opened ≡ p.opened
     → Some (settled y) ≡ settle (task_result p.made) (map task_result rs)
@@ -79,7 +79,7 @@ comes p rs ends all w y job owner outer opened settles owned = record {
   owned = owned (gives p.job rs all p.owner p.made p.outer.items p.opened ends);
 }
 
--- what a worker goes on with is of the run
+-- what a worker continues with is of the run
 pub next_own : (o : Option Job) (j : Job) (n : Next) → o ≡ Some j → IsNext j n → IsOwnNext o n
 next_own o j (Goes t) of n = record { job = of ∙ ap Some (sym n.0); task = n.1 }
 next_own o j Idle of n = tt

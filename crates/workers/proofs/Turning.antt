@@ -1,4 +1,4 @@
--- Whatever a turn gives is of the job of the run.
+-- All results of a turn are of the job of the run.
 use Rattle.std.proofs.Common.{◌≡◌, ℕ, Option, Some, sym, ap, ◌∙◌, subst}
 use Rattle.own_run.specs.declared.start.Start.{Start}
 use Rattle.gather.specs.declared.job.Job.{Job}
@@ -11,7 +11,7 @@ use Rattle.task_machine.specs.declared.task.Task.{Task}
 use Rattle.task_machine.specs.declared.turn.Turn.TheVariants.{Spawns}
 use Rattle.workers.specs.Own.{IsOwnChild, IsOwnTask, IsOwnWanting}
 
--- a task that wanted weight has more of it, and the one that it began has half
+-- a task that needed weight has more of it, and its child has half
 pub more_own : (o : Option Job) (w : Wanting) (b : Body) (u : ℕ) (s : Start) (t : Task) (c : Child) → IsOwnWanting o w
     → b ≡ w.body.value → s ≡ w.start.value → Parts b u s (Spawns t c) → IsOwnTask o t × IsOwnChild o c
 more_own o w b u s t c own body start parts =

@@ -1,4 +1,4 @@
--- What a worker has and brings back.
+-- The seats and reports of workers.
 use Rattle.std.specs.Prelude.{◌≡◌, ◌≤◌, [], length, IfErr, IfOk, IfSome}
 use Rattle.types.specs.Translation.{outcome}
 use Rattle.gather.specs.Jobs.{outcome_of}
@@ -15,12 +15,12 @@ use Rattle.workers.specs.declared.settings.Settings.{Settings}
 abbrev pub IsFresh : Tickets → Seat → Type 0
 IsFresh t s = IsSeatOf t s × (drawn_of s ≡ [])
 
--- a worker has a seat of the run's tickets, and has counted what it drew there
+-- a worker has a seat of the run's tickets, and has counted its draws there
 pub record HasSeat (t : Tickets) (d : Desk) : Type 0 where
   pub of : IsSeatOf t d.seat
   pub counted : length (drawn_of d.seat) ≤ d.drawn
 
--- what a worker tells: the outcome on one thread, or a cause, or nothing
+-- what a worker reports: the one-thread outcome, or a cause, or nothing
 pub record Tells (j : Job) (s : Settings) (r : Report) : Type 0 where
   pub told : IfOk r.told (λ o. IfSome o (λ x. outcome x ≡ outcome_of j))
   pub cause : IfErr r.told (IsCause s.tasks)

@@ -1,4 +1,4 @@
--- What is of the job of a run, wherever it comes from.
+-- What belongs to the job of a run.
 use Rattle.std.specs.Prelude.{◌≡◌, List, Option, Some}
 use Rattle.types.specs.Translation.{outcome}
 use Rattle.own_run.specs.Lists.{Each}
@@ -24,7 +24,7 @@ use Rattle.task_machine.specs.Tasks.{IsBody}
 use Rattle.workers.specs.declared.post.Next.{Next}
 use Rattle.workers.specs.declared.post.Next.TheVariants.{Goes, Idle, Told}
 
--- what a worker goes on with is of this job, and what it tells is the outcome on one thread
+-- what a worker continues with is of this job, and what it reports is the one-thread outcome
 abbrev pub IsNext : Job → Next → Type 0
 IsNext j (Goes t) = (t.body.value.job ≡ j) × IsTask t
 IsNext j Idle = Unit {0}
@@ -35,7 +35,7 @@ module _ (o : Option Job) where
   abbrev pub HasCode : ProgramCode → Type 0
   HasCode code = (j : Job) → o ≡ Some j → IsCodeOfProgram (program_of j) code
 
-  -- a task that was begun, and one between two turns
+  -- a spawned task, and one between two turns
   pub record IsOwnChild (c : Child) : Type 0 where
     pub job : o ≡ Some c.job
     pub child : IsChild c
@@ -60,7 +60,7 @@ module _ (o : Option Job) where
     pub job : o ≡ Some r.job
     pub result : IsResultOf r.job r.made
 
-  -- what a turn gives
+  -- the result of a turn
   abbrev pub IsOwnTurn : Turn → Type 0
   IsOwnTurn (Going t) = IsOwnTask t
   IsOwnTurn (Spawns t c) = IsOwnTask t × IsOwnChild c
@@ -76,7 +76,7 @@ module _ (o : Option Job) where
     pub ends : IsParked p
     pub results : Each (IsResultOf p.job) rs
 
-  -- what a worker goes on with, or tells
+  -- what a worker continues with, or reports
   abbrev pub IsOwnNext : Next → Type 0
   IsOwnNext (Goes t) = IsOwnTask t
   IsOwnNext Idle = Unit {0}

@@ -6,7 +6,7 @@ use finish_scope::running::Running;
 use program_code::pieces::ProgramCode;
 use std::marker::{Model, PhantomData};
 
-/// The flat code of the run's program, by which tasks do what nobody else sees.
+/// The flat code of the run's program, with which tasks run up to the next turn that others see.
 #[derive(Drop)]
 pub struct OwnCode<'p, J: Running> {
     code: &'p ProgramCode<'p>,
@@ -34,7 +34,7 @@ impl<'p, J: Running> OwnCode<'p, J> {
         }
     }
 
-    /// The code itself.
+    /// Returns the code itself.
     pub fn lend(&self) -> &'p ProgramCode<'p>
         ensures { HasCode J.job result.now }
     {

@@ -1,4 +1,4 @@
-//! Why a run has no outcome.
+//! Reasons why a run has no outcome.
 
 ghost use Rattle.std.specs.Prelude.{ℕ, ◌≡◌};
 ghost use Rattle.gather.specs.RunErrors.{IsCause};
@@ -8,15 +8,16 @@ use gather::error::GatherError;
 pub use gather::run_error::RunError;
 use std::alloc::{AllocError, AllocFailed};
 
-/// Why a worker ends a run, but for a ticket.
+/// The reason why a worker ends a run, except a missing ticket.
 #[derive(Drop)]
 pub enum Trouble {
-    /// Memory, as may be of `main { }`; a scope that has issued weight as often as is counted.
+    /// Out of memory, which can happen even for `main { }`; or a scope that has issued weight as
+    /// often as its book can count.
     OutOfMemory,
-    /// The results of tasks aren't put together: memory is wanting, or they don't make a whole. No run is
-    /// known that comes to the latter.
+    /// The results of tasks couldn't be settled: memory ran out, or they are inconsistent. No run
+    /// is known that leads to the latter.
     Gather(GatherError),
-    /// A scope didn't take what was given back to it. No run is known that comes to it.
+    /// A scope rejected what was given back to it. No run is known that leads to this.
     Late,
 }
 

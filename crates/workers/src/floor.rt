@@ -39,13 +39,13 @@ use tickets::Tickets;
 use types::outcome::Outcome;
 use types::path::Path;
 
-/// How often a worker looks for a task before it rests.
+/// The number of times that a worker looks for a task before it rests.
 const LOOKS: u32 = 64;
 
-/// How many tickets one seat draws at most.
+/// The maximum number of tickets that one seat draws.
 const MOST_DRAWS: u64 = 4_294_967_295;
 
-/// What the workers of a run share.
+/// The state that the workers of a run share.
 #[derive(Drop)]
 pub struct Floor<'p, J: Running, G: Gate> {
     pub job: Job<'p>,
@@ -61,7 +61,7 @@ pub struct Floor<'p, J: Running, G: Gate> {
 impl<'p, J: Running, G: Gate> Floor<'p, J, G> {
     // ---- turns
 
-    /// A task goes on, up to a turn that is more than a step.
+    /// Continues a task up to a turn that is more than a step.
     fn turn<R: Wait>(
         &self,
         rt: &R,
@@ -93,7 +93,7 @@ impl<'p, J: Running, G: Gate> Floor<'p, J, G> {
         }
     }
 
-    /// A turn that is more than a step.
+    /// Returns the next turn that is more than a step.
     fn next_turn<R: Wait>(&self, rt: &R, task: Task<'p>) -> Result<Turn<'p>, Trouble>
         requires { IsOwnTask J.job task }
         ensures { IfOk result (IsOwnTurn J.job) }
@@ -105,7 +105,8 @@ impl<'p, J: Running, G: Gate> Floor<'p, J, G> {
         }
     }
 
-    /// The same, each step written down; or a step, where the run is over.
+    /// Returns the next turn that is more than a step, and records each step; or a step, if the run
+    /// is over.
     fn noted_turn<R: Wait>(&self, rt: &R, task: Task<'p>) -> Result<Turn<'p>, Trouble>
         requires { IsOwnTask J.job task }
         ensures { IfOk result (IsOwnTurn J.job) }
@@ -127,9 +128,9 @@ impl<'p, J: Running, G: Gate> Floor<'p, J, G> {
         unreachable!()
     }
 
-    // ---- what is written down
+    // ---- recording
 
-    /// A task did a step, where it has fewer left than before.
+    /// Records a step if the task has fewer steps left than before.
     fn note_step<R: Wait>(&self, rt: &R, task: &Task<'p>, before: u32)
         requires { IsOwnTask J.job task.now }
     {
@@ -138,37 +139,37 @@ impl<'p, J: Running, G: Gate> Floor<'p, J, G> {
         }
     }
 
-    /// A task began another.
+    /// Records that a task spawned another.
     fn note_spawn<R: Wait>(&self, rt: &R, task: &Task<'p>)
         requires { IsOwnTask J.job task.now }
     {
         self.journal.spawned(rt, task.path());
     }
 
-    /// A task began a finish.
+    /// Records that a task started a finish.
     fn note_open<R: Wait>(&self, rt: &R, task: &Task<'p>)
         requires { IsOwnTask J.job task.now }
     {
         self.journal.opened(rt, task.path());
     }
 
-    /// A task was given more weight, and began another.
+    /// Records that a task was given more weight, and spawned another.
     fn note_more<R: Wait>(&self, rt: &R, task: &Task<'p>)
         requires { IsOwnTask J.job task.now }
     {
         self.journal.replenished(rt, task.path());
     }
 
-    /// A worker takes a task that another, or it itself, began.
+    /// Records that a worker takes a task that it or another worker spawned.
     fn note_taken<R: Wait>(&self, rt: &R, number: usize, from: usize, task: &Task<'p>)
         requires { IsOwnTask J.job task.now }
     {
         self.journal.taken(rt, number, from, task.path());
     }
 
-    // ---- what follows a turn
+    // ---- after a turn
 
-    /// A task was begun: it waits in the worker's deque.
+    /// Pushes a spawned task to the worker's deque.
     fn begin(
         &self,
         number: usize,
@@ -188,7 +189,7 @@ impl<'p, J: Running, G: Gate> Floor<'p, J, G> {
         }
     }
 
-    /// A task began a finish: it stands in a new scope.
+    /// Gives a task that started a finish its new scope.
     #[inline(never)]
     fn enter<R: Wait>(
         &self,
@@ -210,7 +211,7 @@ impl<'p, J: Running, G: Gate> Floor<'p, J, G> {
         Ok(Next::Goes(task))
     }
 
-    /// A task is at the end of a finish, or of `main`.
+    /// Parks a task at the end of a finish, or of `main`.
     #[inline(never)]
     fn park<R: Wait>(
         &self,
@@ -230,7 +231,7 @@ impl<'p, J: Running, G: Gate> Floor<'p, J, G> {
         self.after(rt, post, passing)
     }
 
-    /// A task has ended.
+    /// Returns the result of a task that has finished to its scope.
     fn end<R: Wait>(
         &self,
         rt: &R,
@@ -251,7 +252,7 @@ impl<'p, J: Running, G: Gate> Floor<'p, J, G> {
         self.after(rt, post, passing)
     }
 
-    /// The path of a task that ends, for a gate that is to be told of it.
+    /// Returns the path of a task that finishes, for a gate that listens.
     fn path_for_gate(&self, path: &Path) -> Result<Option<Path>, AllocError> {
         if self.gate.listens() {
             Ok(Some(path.clone()?))
@@ -260,7 +261,7 @@ impl<'p, J: Running, G: Gate> Floor<'p, J, G> {
         }
     }
 
-    /// Who writes down what this worker gives back to a scope.
+    /// Returns the clerk that records what this worker gives back to a scope.
     fn clerk(&self, number: usize, scope: ScopeMark) -> Clerk<'_> {
         Clerk {
             journal: &self.journal,
@@ -269,7 +270,7 @@ impl<'p, J: Running, G: Gate> Floor<'p, J, G> {
         }
     }
 
-    /// What comes after a task that waits or has ended: whoever goes on in its place.
+    /// Returns what follows a task that waits or has finished: the owner that continues, if any.
     fn after<R: Wait>(
         &self,
         rt: &R,
@@ -288,7 +289,7 @@ impl<'p, J: Running, G: Gate> Floor<'p, J, G> {
         }
     }
 
-    /// An owner goes on behind its finish, in the scope around it.
+    /// Continues an owner after its finish, in the surrounding scope.
     #[inline(never)]
     fn go_behind<R: Wait>(
         &self,
@@ -309,9 +310,9 @@ impl<'p, J: Running, G: Gate> Floor<'p, J, G> {
         passed::<J>(parked, results)
     }
 
-    // ---- tasks
+    // ---- running tasks
 
-    /// A task goes on until it waits or has ended, and whoever that makes go on.
+    /// Runs a task until it waits or has finished, and then any owner that continues because of it.
     fn go_on<R: Wait>(
         &self,
         rt: &R,
@@ -337,7 +338,7 @@ impl<'p, J: Running, G: Gate> Floor<'p, J, G> {
         unreachable!()
     }
 
-    /// The root, from its beginning on.
+    /// Runs the root from its start.
     fn run_first<R: Wait>(
         &self,
         rt: &R,
@@ -352,7 +353,7 @@ impl<'p, J: Running, G: Gate> Floor<'p, J, G> {
         self.go_on(rt, number, own, &mut post, task)
     }
 
-    /// A task below the root, from its beginning on.
+    /// Runs a task below the root from its start.
     fn run_next<R: Wait>(
         &self,
         rt: &R,
@@ -369,7 +370,7 @@ impl<'p, J: Running, G: Gate> Floor<'p, J, G> {
         self.go_on(rt, number, own, &mut post, task)
     }
 
-    /// The gate is lent a task before its first turn.
+    /// Lends a task to the gate before its first turn.
     fn let_in(&self, task: &Task<'p>)
         requires { IsOwnTask J.job task.now }
     {
@@ -378,7 +379,7 @@ impl<'p, J: Running, G: Gate> Floor<'p, J, G> {
 
     // ---- a worker
 
-    /// A task begins: it has a ticket.
+    /// Draws a ticket for a task that starts.
     fn draw(&self, desk: &mut Desk) -> Result<(), RunError>
         requires seat { HasSeat self.now.tickets desk.old }
         ensures seat { HasSeat self.now.tickets desk.new }
@@ -396,7 +397,8 @@ impl<'p, J: Running, G: Gate> Floor<'p, J, G> {
         }
     }
 
-    /// A task, where there is one; a worker that has looked in vain for long rests before.
+    /// Returns a task, if there is one. A worker that has looked without success for long rests
+    /// before.
     fn look<R: Wait>(
         &self,
         rt: &R,
@@ -451,7 +453,7 @@ impl<'p, J: Running, G: Gate> Floor<'p, J, G> {
     }
 }
 
-/// A task turns on, up to a turn that is more than a step.
+/// Continues a task up to a turn that is more than a step.
 fn go<'p, J: Running>(task: Task<'p>, code: &ProgramCode<'p>) -> Result<Turn<'p>, AllocError>
     requires own { IsOwnTask J.job task }
     requires code { HasCode J.job code.now }
@@ -460,7 +462,7 @@ fn go<'p, J: Running>(task: Task<'p>, code: &ProgramCode<'p>) -> Result<Turn<'p>
     task.go(code)
 }
 
-/// A task does one turn.
+/// Takes one turn of a task.
 fn advance<'p, J: Running>(task: Task<'p>) -> Result<Turn<'p>, AllocError>
     requires { IsOwnTask J.job task }
     ensures { IfOk result (IsOwnTurn J.job) }
@@ -468,14 +470,14 @@ fn advance<'p, J: Running>(task: Task<'p>) -> Result<Turn<'p>, AllocError>
     task.advance()
 }
 
-/// How many steps a task may still do.
+/// Returns the number of steps that a task may still take.
 fn steps_of<'p, J: Running>(task: &Task<'p>) -> u32
     requires { IsOwnTask J.job task.now }
 {
     task.steps()
 }
 
-/// What comes of an owner of the run that passes.
+/// Continues an owner of the run whose scope passes.
 #[inline(never)]
 fn passed<'p, J: Running>(
     owner: Box<Parked<'p>>,

@@ -1,25 +1,26 @@
-//! Who is told of tasks.
+//! Observers of tasks.
 
 ghost use Rattle.task_machine.specs.Tasks.{IsTask};
 
 use task_machine::task::Task;
 use types::path::Path;
 
-/// Who is told of each task but the root, as it begins and, where it listens, once it has ended. It may wait.
+/// An observer of each task except the root: as the task starts and, if the gate listens, once it
+/// has finished. It may wait.
 pub trait Gate {
-    /// A task is about to take its first turn, on this thread.
+    /// Observes a task that is about to take its first turn, on this thread.
     fn enter(&self, task: &Task<'_>)
         requires task { IsTask task.now };
 
-    /// Whether it is to be told of tasks that have ended.
+    /// Returns whether it observes finished tasks.
     fn listens(&self) -> bool;
 
-    /// The result of the task of this path was given to its scope, on this thread. It is told so where it
-    /// listens.
+    /// Observes that the result of the task with this path was given to its scope, on this thread.
+    /// It is called only if the gate listens.
     fn leave(&self, path: &Path);
 }
 
-/// A gate through which every task goes.
+/// A gate that lets every task pass.
 pub struct NoGate;
 
 impl Gate for NoGate {

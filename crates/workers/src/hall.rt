@@ -1,4 +1,4 @@
-//! Where the workers meet: their deques and shelves, where they rest, and the mark that ends a run.
+//! Deques and shelves of the workers, resting, and the mark that ends a run.
 
 use crate::error::Trouble;
 use crate::ready::Ready;
@@ -12,19 +12,19 @@ use std::alloc::{AllocError, Global};
 use std::sync::atomic::{AtomicBool, AtomicUsize, Ordering};
 use std::sync::{Arc, Mutex, Wait};
 
-/// What the workers share, whatever they run.
+/// The data that all workers share, independent of what they run.
 #[derive(Drop)]
 pub struct Hall<'p, J: Running> {
     thieves: Vec<Stealer<Ready<'p, J>>>,
     shelves: Vec<Mutex<Shelf<'p, J>>>,
     beds: Vec<Bed>,
-    /// How many workers rest.
+    /// The number of resting workers.
     resting: AtomicUsize,
-    /// The mark: the run has an outcome, or none will come.
+    /// The mark: the run has an outcome, or has failed.
     over: AtomicBool,
 }
 
-/// Where a worker rests.
+/// The place of a resting worker.
 #[derive(Drop)]
 struct Bed {
     taken: AtomicBool,
@@ -32,7 +32,7 @@ struct Bed {
 }
 
 impl<'p, J: Running> Hall<'p, J> {
-    /// A hall before any worker has come.
+    /// Returns a hall without workers.
     pub fn new(alloc: Global) -> Hall<'p, J> {
         Hall {
             thieves: Vec::new(alloc),
@@ -43,7 +43,7 @@ impl<'p, J: Running> Hall<'p, J> {
         }
     }
 
-    /// One more worker comes: its number, its deque, and what it waits on.
+    /// Adds a worker. Returns its number, its deque, and its parker.
     pub fn welcome(
         &mut self,
         alloc: Global,
@@ -62,7 +62,7 @@ impl<'p, J: Running> Hall<'p, J> {
 
     // ---- tasks
 
-    /// A task of its own, the one that came last; else one of another worker.
+    /// Returns a task: the newest of the worker's deque, or else one of another worker.
     pub fn find(&self, number: usize, own: &mut Worker<Ready<'p, J>>) -> Option<Ready<'p, J>> {
         match own.pop() {
             Some(ready) => Some(ready),
@@ -70,7 +70,8 @@ impl<'p, J: Running> Hall<'p, J> {
         }
     }
 
-    /// A task of another worker; where that has more, some of them too, and one who rests is woken.
+    /// Steals a task from another worker. If that has more, it steals some of them too, and wakes
+    /// one resting worker.
     fn steal(&self, number: usize, own: &mut Worker<Ready<'p, J>>) -> Option<Ready<'p, J>> {
         let mut victim = number;
         for _ in 1..self.thieves.len() {
@@ -91,8 +92,8 @@ impl<'p, J: Running> Hall<'p, J> {
 
     // ---- rest
 
-    /// A worker that found no task rests until one is pushed, or the run is over. It looks once more
-    /// before.
+    /// Lets a worker that found no task rest until one is pushed, or the run is over. The worker
+    /// looks once more before that.
     pub fn rest<R: Wait>(
         &self,
         rt: &R,
@@ -111,7 +112,7 @@ impl<'p, J: Running> Hall<'p, J> {
         found
     }
 
-    /// Wakes one worker, where one rests.
+    /// Wakes one worker, if one rests.
     pub fn wake(&self) {
         if self.resting.load(Ordering::SeqCst) == 0 {
             return;
@@ -124,7 +125,7 @@ impl<'p, J: Running> Hall<'p, J> {
         }
     }
 
-    /// Whoever rests there is to rest no more. False where nobody does.
+    /// Ends the rest of the worker in this bed. Returns false if no worker rests there.
     fn rise(&self, bed: &Bed) -> bool {
         let taken = bed.taken.swap(false, Ordering::SeqCst);
         if taken {
@@ -135,7 +136,7 @@ impl<'p, J: Running> Hall<'p, J> {
 
     // ---- the mark
 
-    /// Sets the mark, and wakes all. True where it wasn't set before.
+    /// Sets the mark, and wakes all workers. Returns true if it wasn't set before.
     pub fn end(&self) -> bool {
         let set = self.over.swap(true, Ordering::SeqCst);
         for bed in self.beds.iter() {
@@ -144,14 +145,14 @@ impl<'p, J: Running> Hall<'p, J> {
         !set
     }
 
-    /// Whether the mark is set.
+    /// Returns whether the mark is set.
     pub fn is_over(&self) -> bool {
         self.over.load(Ordering::SeqCst)
     }
 
     // ---- scopes
 
-    /// Puts a scope on the shelf of this worker, and tells where it lies.
+    /// Puts a scope on the shelf of this worker, and returns its position.
     pub fn put<R: Wait>(
         &self,
         rt: &R,
@@ -167,7 +168,7 @@ impl<'p, J: Running> Hall<'p, J> {
         }
     }
 
-    /// The scope that lies there.
+    /// Returns the scope at this position.
     pub fn scope_at<R: Wait>(&self, rt: &R, place: Place) -> Result<Arc<Scope<'p, J>>, Trouble> {
         match self.shelves.get(place.shelf) {
             Some(shelf) => match shelf.lock(rt).find(place.slot) {
@@ -178,7 +179,7 @@ impl<'p, J: Running> Hall<'p, J> {
         }
     }
 
-    /// A scope has passed: it lies there no more.
+    /// Removes a scope that has passed.
     pub fn clear<R: Wait>(&self, rt: &R, place: Place) -> Result<(), Trouble> {
         match self.shelves.get(place.shelf) {
             Some(shelf) => {
@@ -190,14 +191,14 @@ impl<'p, J: Running> Hall<'p, J> {
     }
 }
 
-/// A deque, and what steals from it.
+/// Returns a deque, and its stealer.
 fn deque<T: Drop>(alloc: Global) -> Result<(Worker<T>, Stealer<T>), AllocError> {
     let own = Worker::new_lifo(alloc, 64)?;
     let thief = own.stealer()?;
     Ok((own, thief))
 }
 
-/// Whether a task is left in a worker's deque.
+/// Returns whether a task is left in a worker's deque.
 fn has_more<T>(own: &mut Worker<T>) -> bool {
     !own.is_empty()
 }

@@ -1,4 +1,4 @@
-//! What a run did, event by event, where somebody asks for it.
+//! The events of a run, if they are recorded.
 
 use events::event::Event;
 use events::worker_id::WorkerId;
@@ -8,23 +8,23 @@ use task_machine::stake::ScopeMark;
 use types::path::Path;
 use types::scope_id::ScopeId;
 
-/// What a run did, in an order in which it is legal: an event stands behind all that made it possible.
-/// Nothing is kept unless it is asked for.
+/// The events of a run, in an order in which they are legal: an event comes after all events that
+/// made it possible. They are recorded only on request.
 #[derive(Drop)]
 pub struct Journal {
     pages: Option<Mutex<Pages>>,
 }
 
-/// What was written down.
+/// The recorded events.
 #[derive(Drop)]
 struct Pages {
     events: Vec<Event>,
-    /// Memory was missing for none of them.
+    /// Whether there was memory for all of them.
     is_whole: bool,
 }
 
 impl Journal {
-    /// A journal before anything has happened; it keeps what happens only where that is asked for.
+    /// Returns a journal without events. It records events only if `is_kept`.
     pub fn new(alloc: Global, is_kept: bool) -> Journal {
         let pages = if is_kept {
             Some(Mutex::new(Pages {
@@ -37,18 +37,18 @@ impl Journal {
         Journal { pages }
     }
 
-    /// Whether it keeps what happens.
+    /// Returns whether it records events.
     pub fn is_kept(&self) -> bool {
         self.pages.is_some()
     }
 
-    /// All that was written down; None where memory was missing for some of it, or none was to be kept.
+    /// Returns all events, or None if memory ran out for some of them, or none were to be recorded.
     pub fn into_events(self) -> Option<Vec<Event>> {
         let Pages { events, is_whole } = self.pages?.into_inner();
         if is_whole { Some(events) } else { None }
     }
 
-    /// Writes an event down. That there was no memory for it is seen at the end.
+    /// Appends an event. If there is no memory for it, that is noticed at the end.
     fn note<R: Wait>(&self, rt: &R, event: Option<Event>) {
         let Some(pages) = &self.pages else {
             return;
@@ -66,21 +66,21 @@ impl Journal {
 
     // ---- turns of a task
 
-    /// A task did a step, of a statement other than async and finish.
+    /// Records that a task took a step, of a statement other than async and finish.
     pub fn stepped<R: Wait>(&self, rt: &R, path: &Path) {
         if self.is_kept() {
             self.note(rt, own(path).map(|path| Event::Step { path }));
         }
     }
 
-    /// A task began another.
+    /// Records that a task spawned another.
     pub fn spawned<R: Wait>(&self, rt: &R, path: &Path) {
         if self.is_kept() {
             self.note(rt, own(path).map(|path| Event::Spawn { path }));
         }
     }
 
-    /// A task that weighed 1 was given more, and began another.
+    /// Records that a task with a weight of 1 was given more, and spawned another.
     pub fn replenished<R: Wait>(&self, rt: &R, path: &Path) {
         if self.is_kept() {
             self.note(rt, own(path).map(|path| Event::Replenish { path }));
@@ -88,16 +88,16 @@ impl Journal {
         }
     }
 
-    /// A task began a finish.
+    /// Records that a task started a finish.
     pub fn opened<R: Wait>(&self, rt: &R, path: &Path) {
         if self.is_kept() {
             self.note(rt, own(path).map(|path| Event::Open { path }));
         }
     }
 
-    // ---- tasks and workers
+    // ---- workers
 
-    /// A worker takes a task that another one, or it itself, put in.
+    /// Records that a worker takes a task that it or another worker pushed.
     pub fn taken<R: Wait>(&self, rt: &R, number: usize, from: usize, path: &Path) {
         if self.is_kept() {
             if from != number {
@@ -108,19 +108,19 @@ impl Journal {
     }
 }
 
-/// Who writes down what a worker gives back to a scope. It is called while that scope's lock is held, so
-/// that what came back to it stands before that it passes.
+/// A recorder of what a worker gives back to a scope. It is called while that scope's lock is held,
+/// to record what came back before the scope passes.
 #[derive(Clone, Copy)]
 pub struct Clerk<'j> {
     pub journal: &'j Journal,
-    /// The worker's.
+    /// The number of the worker.
     pub number: usize,
-    /// The scope, told by the task that gives back.
+    /// The scope, identified relative to the task that gives back.
     pub scope: ScopeMark,
 }
 
 impl<'j> Clerk<'j> {
-    /// A task is at its end, and gives back its weight.
+    /// Records that a task has finished, and gives back its weight.
     pub fn ended<R: Wait>(self, rt: &R, path: &Path) {
         if self.journal.is_kept() {
             self.journal
@@ -128,7 +128,8 @@ impl<'j> Clerk<'j> {
         }
     }
 
-    /// A task is at the end of its innermost finish, or of `main`, and gives back its weight there.
+    /// Records that a task is at the end of its innermost finish, or of `main`, and gives back its
+    /// weight there.
     pub fn parked<R: Wait>(self, rt: &R, path: &Path) {
         if self.journal.is_kept() {
             self.journal
@@ -136,7 +137,8 @@ impl<'j> Clerk<'j> {
         }
     }
 
-    /// The scope passes, and the worker goes on with its owner; the root scope ends the run.
+    /// Records that the scope passes, and the worker continues with its owner. The root scope ends
+    /// the run.
     pub fn passed<R: Wait>(self, rt: &R, owner: &Path) {
         if self.journal.is_kept() {
             self.journal.note(rt, pass(self.scope, owner));
@@ -147,12 +149,12 @@ impl<'j> Clerk<'j> {
     }
 }
 
-/// A path of one's own.
+/// Returns a copy of a path.
 fn own(path: &Path) -> Option<Path> {
     path.clone().ok()
 }
 
-/// The worker of this number.
+/// Returns the worker with this number.
 fn worker(number: usize) -> Option<WorkerId> {
     WorkerId::new(u32::try_from(number).ok()?)
 }

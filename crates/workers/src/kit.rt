@@ -1,4 +1,4 @@
-//! What one worker owns, and what it brings back.
+//! Kits and reports of workers.
 
 use crate::error::RunError;
 use crate::ready::{First, Ready};
@@ -8,28 +8,28 @@ use finish_scope::running::Running;
 use tickets::Seat;
 use types::outcome::Outcome;
 
-/// What one worker owns.
+/// The data that one worker owns.
 #[derive(Drop)]
 pub struct Kit<'p, J: Running> {
     pub desk: Desk,
-    /// The tasks that it is to run, the one that came last first.
+    /// The tasks that it is to run, the newest first.
     pub own: Worker<Ready<'p, J>>,
-    /// The root, with which one worker begins.
+    /// The root, with which one worker starts.
     pub first: Option<First<'p, J>>,
 }
 
-/// Where a worker stands.
+/// A worker's number, parker and seat.
 #[derive(Drop)]
 pub struct Desk {
     pub number: usize,
-    /// What it waits on.
+    /// The worker's parker.
     pub parker: Parker,
-    /// Where it draws tickets, and how many it has drawn at most.
+    /// The seat on which it draws tickets, and the maximum number of draws so far.
     pub seat: Seat,
     pub drawn: u64,
 }
 
-/// What a worker brings back: at most one of a run has something to tell.
+/// A worker's report: at most one report of a run has an outcome or an error.
 #[derive(Drop)]
 pub struct Report {
     pub told: Result<Option<Outcome>, RunError>,

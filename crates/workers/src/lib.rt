@@ -1,4 +1,4 @@
-//! Runs accepted programs as tasks, on worker threads.
+//! Runs accepted programs on worker threads, with one task per `async`.
 
 #![tactic(auto)]
 

@@ -1,4 +1,4 @@
-//! What stands before a run begins.
+//! The state before a run.
 
 ghost use Rattle.std.specs.Prelude.{◌≡◌, All, IfOk, OnOk, Some};
 ghost use Rattle.gather.specs.Jobs.{IsJob};
@@ -23,7 +23,7 @@ use std::sync::{Arc, Mutex, Wait};
 use task_machine::task::Task;
 use tickets::{Seat, Tickets};
 
-/// The floor before the run, the kit of the first worker, and those of the others.
+/// Returns the floor before the run, the kit of the first worker, and those of the others.
 pub fn open<'p, J: Running, G: Gate, R: Wait>(
     rt: &R,
     job: Job<'p>,
@@ -61,7 +61,7 @@ pub fn open<'p, J: Running, G: Gate, R: Wait>(
     Ok((floor, Kit { desk, own, first }, kits))
 }
 
-/// A kit for each seat.
+/// Returns a kit for each seat.
 fn make_kits<'p, J: Running>(
     alloc: Global,
     tickets: &Tickets,
@@ -78,7 +78,7 @@ fn make_kits<'p, J: Running>(
     Ok(kits)
 }
 
-/// One kit more.
+/// Adds one kit.
 fn add_kit<'p, J: Running>(
     alloc: Global,
     tickets: &Tickets,
@@ -100,7 +100,7 @@ fn add_kit<'p, J: Running>(
     Ok(())
 }
 
-/// Where a worker stands before the run.
+/// Returns a worker's desk before the run.
 fn desk_at(number: usize, parker: Parker, tickets: &Tickets, seat: Seat) -> Desk
     requires { IsFresh tickets.now seat }
     ensures { HasSeat tickets.now result }
@@ -113,7 +113,7 @@ fn desk_at(number: usize, parker: Parker, tickets: &Tickets, seat: Seat) -> Desk
     }
 }
 
-/// The root at its beginning, in its scope.
+/// Returns the root at its start, in its scope.
 fn root<'p, J: Running, R: Wait>(
     rt: &R,
     job: Job<'p>,

@@ -1,4 +1,4 @@
-//! What comes after a scope that passes.
+//! What follows a scope that passes.
 
 ghost use Rattle.std.specs.Prelude.{◌≡◌, ◌⊎◌, IfOk, reverse};
 ghost use Rattle.own_run.specs.Lists.{Each};
@@ -12,7 +12,7 @@ use gather::settle::settle;
 use own_run::result::TaskResult;
 use task_machine::finish::{Owner, Parked};
 
-/// The owner goes on with what came of the tasks of its scope; the root is told.
+/// Continues the owner with the settled results of its scope. For the root, returns the outcome.
 pub fn pass<'p>(owner: Box<Parked<'p>>, results: Vec<TaskResult>) -> Result<Next<'p>, Trouble>
     requires ends { IsParked owner.value }
     requires results { Each (IsResultOf owner.value.job) results.items }
@@ -28,9 +28,9 @@ pub fn pass<'p>(owner: Box<Parked<'p>>, results: Vec<TaskResult>) -> Result<Next
     }
 }
 
-/// The same results, the other way round where the last has the lesser path: one worker takes what a
-/// loop began from the last to the first, and results in the order of their paths are put together at
-/// less cost.
+/// Returns the results, reversed if the last has the lesser path. One worker takes the children of
+/// a loop from the last to the first, and settling is cheaper if results are in the order of their
+/// paths.
 fn with_least_first(results: Vec<TaskResult>) -> Vec<TaskResult>
     ensures { (result.items ≡ results.items) ⊎ (result.items ≡ reverse results.items) }
 {
@@ -42,7 +42,7 @@ fn with_least_first(results: Vec<TaskResult>) -> Vec<TaskResult>
     results
 }
 
-/// Whether the last of some results has a lesser path than the first.
+/// Returns whether the last result has a lesser path than the first.
 fn is_falling(results: &[TaskResult]) -> bool {
     match (results.first(), results.last()) {
         (Some(first), Some(last)) => last.path.turns < first.path.turns,

@@ -1,4 +1,4 @@
-//! Where a task stands.
+//! The scopes of a running task.
 
 use finish_scope::inner::Scope;
 use finish_scope::resting::Place;
@@ -7,23 +7,24 @@ use std::sync::Arc;
 use task_machine::task::Task;
 use types::outcome::Outcome;
 
-/// Where the task stands that a worker runs: its innermost scope, and where its scopes lie.
+/// The scopes of the task that a worker runs: its innermost scope, and the positions of all of
+/// them.
 #[derive(Drop)]
 pub struct Post<'p, J: Running> {
     pub scope: Arc<Scope<'p, J>>,
-    /// Where that lies.
+    /// The position of that scope.
     pub place: Place,
-    /// Where the others lie, the innermost last.
+    /// The positions of the others, the innermost last.
     pub outer: Vec<Place>,
 }
 
-/// What a turn comes to.
+/// What a worker does after a turn.
 #[derive(Drop)]
 pub enum Next<'p> {
-    /// The worker goes on with this.
+    /// The worker continues with this task.
     Goes(Task<'p>),
-    /// It is to look for another task.
+    /// It looks for another task.
     Idle,
-    /// The root has ended.
+    /// The root has finished.
     Told(Outcome),
 }

@@ -12,13 +12,13 @@ use std::marker::Model;
 use std::sync::Arc;
 use task_machine::task::{Child, Task};
 
-/// A task of the run that was begun, and the scope that it stands in.
+/// A spawned task of the run, and its scope.
 #[derive(Drop)]
 pub struct Ready<'p, J: Running> {
     child: Child<'p>,
     scope: Arc<Scope<'p, J>>,
     place: Place,
-    /// The worker that began it.
+    /// The worker that spawned it.
     from: usize,
 }
 
@@ -34,7 +34,7 @@ impl<'p, J: Running> Model for Ready<'p, J> {
 }
 
 impl<'p, J: Running> Ready<'p, J> {
-    /// A task that a worker, that of the number `from`, began in the scope that lies at the place.
+    /// Returns a task that the worker numbered `from` spawned in the scope at this position.
     pub fn new(
         child: Child<'p>,
         scope: Arc<Scope<'p, J>>,
@@ -51,12 +51,12 @@ impl<'p, J: Running> Ready<'p, J> {
         }
     }
 
-    /// The number of the worker that began it.
+    /// Returns the number of the worker that spawned it.
     pub fn from(&self) -> usize {
         self.from
     }
 
-    /// The task before its first turn, and where it stands.
+    /// Returns the task before its first turn, and its scopes.
     pub fn begin(self) -> Result<(Task<'p>, Post<'p, J>), AllocError>
         ensures { IfOk result (λ r. IsOwnTask J.job r.0) }
     {
@@ -79,7 +79,7 @@ impl<'p, J: Running> Ready<'p, J> {
     }
 }
 
-/// The root, with which one worker begins.
+/// The root, with which one worker starts.
 #[derive(Drop)]
 pub struct First<'p, J: Running> {
     task: Task<'p>,

@@ -30,8 +30,8 @@ use types::input::Input;
 use types::laws::typed_programs_are_sound;
 use types::outcome::Outcome;
 
-/// Runs a program on an input, on as many workers as the settings say. Each async is a task of its
-/// own, and whatever worker runs it, an Ok is the one-thread outcome.
+/// Runs a program on an input, on as many workers as the settings specify, with one task per
+/// `async`. An Ok is the one-thread outcome, whichever worker runs a task.
 pub fn run<'p, G: Gate + Sync, R: Threads + Wait + Sync>(
     rt: &R,
     alloc: Global,
@@ -57,8 +57,9 @@ pub fn run<'p, G: Gate + Sync, R: Threads + Wait + Sync>(
     Ok(outcome)
 }
 
-/// The same, and what the workers did, event by event, in an order in which it is legal. No clause says
-/// so: a replay over a world does. A noted run is slower: each step is written down, by one worker at a time.
+/// Runs a program as `run` does, and returns the events too, in an order in which they are legal.
+/// That isn't specified: a replay checks it. A recorded run is slower, because one worker at a time
+/// records each step.
 pub fn run_noted<'p, G: Gate + Sync, R: Threads + Wait + Sync>(
     rt: &R,
     alloc: Global,
@@ -86,7 +87,7 @@ pub fn run_noted<'p, G: Gate + Sync, R: Threads + Wait + Sync>(
     }
 }
 
-/// The same, once the job is picked; what the workers did where it is to be noted.
+/// Runs a program once the job is picked. Returns the events if they are recorded.
 fn run_for<'p, J: Running + Send + Sync, G: Gate + Sync, R: Threads + Wait + Sync>(
     rt: &R,
     job: Job<'p>,
@@ -112,7 +113,7 @@ fn run_for<'p, J: Running + Send + Sync, G: Gate + Sync, R: Threads + Wait + Syn
     }
 }
 
-/// What all workers together tell.
+/// Returns the outcome or the error that the workers reported.
 fn told(job: Job<'_>, settings: Settings, reports: Vec<Report>) -> Result<Outcome, RunError>
     requires { All (Tells job settings) reports.items }
     ensures outcome { IfOk result (λ o. outcome_in o ≡ outcome_of job.entry) }

@@ -1,4 +1,4 @@
-//! What is done to a scope during one holding of its lock.
+//! What a worker does while it holds a scope's lock.
 
 ghost use Rattle.std.specs.Prelude.{IfOk, IfSome};
 ghost use Rattle.finish_scope.specs.Own.{IsOwnPassing, IsOwnResting, IsResultOfRun};
@@ -17,7 +17,7 @@ use task_machine::turn::Wanting;
 use weights::book::Back;
 use weights::weight::Weight;
 
-/// Issues more weight to a task that has too little for the one that it began.
+/// Issues more weight to a task that has too little for its child.
 pub fn replenish<'p, J: Running, R: Wait>(
     rt: &R,
     scope: &Scope<'p, J>,
@@ -41,7 +41,8 @@ pub fn replenish<'p, J: Running, R: Wait>(
     }
 }
 
-/// A task has ended. The owner of its scope is to go on where that was the last.
+/// Gives back the weight and the result of a task that has finished. If it was the last, the
+/// scope's owner is returned.
 pub fn give_back<'p, J: Running, R: Wait>(
     rt: &R,
     scope: &Scope<'p, J>,
@@ -66,7 +67,8 @@ pub fn give_back<'p, J: Running, R: Wait>(
     }
 }
 
-/// A task waits as the owner of the scope. It is to go on where all tasks of that have ended.
+/// Parks a task as the owner of the scope. If all tasks of the scope have finished, the owner is
+/// returned.
 pub fn park<'p, J: Running, R: Wait>(
     rt: &R,
     scope: &Scope<'p, J>,
@@ -91,7 +93,7 @@ pub fn park<'p, J: Running, R: Wait>(
     }
 }
 
-/// A weight came back to a scope. Its owner is to go on where that was the last.
+/// Takes the owner out of a scope if the weight that came back was the last.
 fn passes<'p, J: Running, R: Wait>(
     rt: &R,
     inner: &mut Inner<'p, J>,
@@ -115,7 +117,7 @@ fn passes<'p, J: Running, R: Wait>(
     }
 }
 
-/// Why a scope issued nothing.
+/// Returns the reason why a scope issued nothing.
 fn not_issued(late: Late<Weight>) -> Trouble {
     let Late { reason, back } = late;
     back.forfeit();

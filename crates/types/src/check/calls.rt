@@ -1,4 +1,4 @@
-//! Calls: the procedure of a name, and its arguments.
+//! Calls: finding the procedure by its name, and checking the arguments.
 
 #![tactic(auto, using(crate::proofs::Telling::telling))]
 
@@ -28,7 +28,7 @@ use std::alloc::Global;
 use syntax_tree::tree;
 use syntax_tree::tree::{Atom, Expr};
 
-/// A call in the statement that begins at this place.
+/// Resolves a call in the statement that starts here.
 pub fn call(
     alloc: Global,
     procedures: &Procedures<'_>,
@@ -78,7 +78,7 @@ struct Given {
     passed: Vec<Passed>,
 }
 
-/// The arguments for these parameters, as many as there are parameters.
+/// Resolves the arguments of a call. There must be as many as parameters.
 fn gathered(
     alloc: Global,
     scope: &Scope,
@@ -121,7 +121,7 @@ fn gathered(
 }
 
 impl Given {
-    /// Takes one argument more.
+    /// Adds one more argument.
     fn take(
         &mut self,
         alloc: Global,
@@ -172,7 +172,7 @@ impl Given {
         }
     }
 
-    /// Takes one section argument more.
+    /// Adds one more section argument.
     fn pass(
         &mut self,
         scope: &Scope,
@@ -202,7 +202,7 @@ impl Given {
     }
 }
 
-/// The section that is passed for a parameter of this kind.
+/// Returns the section that is passed for a parameter of this kind.
 fn argument_section(
     scope: &Scope,
     kind: SectionParameter,
@@ -277,7 +277,7 @@ fn named_section(
     }
 }
 
-/// Whether two arguments overlap, one of which may be written.
+/// Returns whether two arguments overlap of which at least one may be written.
 fn overlapping(sections: &SectionTree, passed: &[Passed]) -> bool
     requires { All (λ p. p.0 < length (origins_of sections.now)) (map passed_by passed.now) }
     ensures { result ≡ errors.overlapping (origins_of sections.now) (map passed_by passed.now) }
@@ -292,7 +292,7 @@ fn overlapping(sections: &SectionTree, passed: &[Passed]) -> bool
     false
 }
 
-/// Whether an argument and a later one do.
+/// Returns whether an argument overlaps a later one, and at least one of the two may be written.
 fn clashes(sections: &SectionTree, one: Passed, later: &[Passed]) -> bool
     requires one { one.section.number < length (origins_of sections.now) }
     requires later { All (λ p. p.0 < length (origins_of sections.now)) (map passed_by later.now) }

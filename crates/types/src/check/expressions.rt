@@ -1,4 +1,4 @@
-//! Expressions: each name is looked up, and each part is of the kind that is wanted.
+//! Expressions: looks up each name, and checks that each part has the expected kind.
 
 #![tactic(auto, using(crate::proofs::Telling::telling))]
 
@@ -33,7 +33,7 @@ pub struct Expressions<'n> {
 }
 
 impl Expressions<'_> {
-    /// Several expressions for numbers.
+    /// Resolves several number expressions.
     pub fn numbers(&self, first: &Expr, rest: &[Expr]) -> Result<Vec<Number>, TypeError>
         ensures right { OnOk result (errors.numbers self.now.label (names_of self.now.names.now)
             (expr_of first.now ∷ map expr_of rest.now) ≡ []) }
@@ -52,7 +52,7 @@ impl Expressions<'_> {
         Ok(values)
     }
 
-    /// An expression where a number is wanted.
+    /// Resolves an expression where a number is expected.
     #[cycle(number)]
     pub fn number(&self, e: &Expr) -> Result<Number, TypeError>
         ensures right { OnOk result (errors.number self.now.label (names_of self.now.names.now)
@@ -210,7 +210,7 @@ impl Expressions<'_> {
         }
     }
 
-    /// An expression where a truth value is wanted.
+    /// Resolves an expression where a boolean is expected.
     #[cycle(truth)]
     pub fn truth(&self, e: &Expr) -> Result<Truth, TypeError>
         ensures right { OnOk result (errors.truth self.now.label (names_of self.now.names.now)
@@ -364,7 +364,7 @@ impl Expressions<'_> {
         }
     }
 
-    /// The section of a name.
+    /// Returns the section with a name.
     pub fn section(&self, name: &String) -> Result<SectionId, TypeError>
         ensures right { OnOk result (naming_section self.now.label
             (meant (string_bytes name.now) (names_of self.now.names.now)) ≡ []) }
@@ -380,7 +380,7 @@ impl Expressions<'_> {
         }
     }
 
-    /// The slot of a scalar's name.
+    /// Returns the slot of the scalar with a name.
     pub fn scalar(&self, name: &String) -> Result<Slot, TypeError>
         ensures right { OnOk result (naming_scalar self.now.label
             (meant (string_bytes name.now) (names_of self.now.names.now)) ≡ []) }
@@ -397,7 +397,8 @@ impl Expressions<'_> {
     }
 }
 
-/// A literal, if 64 bits with sign hold it, as they do each number that a text spells.
+/// Returns a literal, if the number fits in a signed 64-bit integer. Each number that a text spells
+/// does.
 fn literal(value: u64) -> Result<Number, TypeError>
     ensures right { OnOk result (errors.literal value ≡ []) }
     ensures code { IfOk result (λ n. Literal (pos value) ≡ number n) }
@@ -409,7 +410,7 @@ fn literal(value: u64) -> Result<Number, TypeError>
     }
 }
 
-/// The operator of a sign.
+/// Returns the operator of a sign.
 fn of_sign(sign: Sign) -> Operator
     ensures { result ≡ resolution.sign sign }
 {
@@ -419,7 +420,7 @@ fn of_sign(sign: Sign) -> Operator
     }
 }
 
-/// The operator of a product.
+/// Returns the operator of a product.
 fn of_operator(operator: tree::Operator) -> Operator
     ensures { result ≡ resolution.factor operator }
 {

@@ -1,4 +1,4 @@
-//! How much a program may have of each thing.
+//! The size limits of a program.
 
 #![tactic(auto, using(crate::proofs::Telling::telling))]
 
@@ -9,16 +9,16 @@ ghost use Rattle.types.specs.Told.{Told};
 use crate::code::Label;
 use crate::error::TypeError;
 
-/// How many procedures a program has beside `main`, at most.
+/// The maximum number of procedures of a program, in addition to `main`.
 pub const MOST_PROCEDURES: usize = 256;
 
-/// How many parameters a procedure has, at most.
+/// The maximum number of parameters of a procedure.
 pub const MOST_PARAMETERS: usize = 16;
 
-/// How many arrays a program has, at most.
+/// The maximum number of arrays of a program.
 pub const MOST_ARRAYS: usize = 32;
 
-/// How many statements a program has, at most.
+/// The maximum number of statements of a program.
 pub const MOST_LABELS: Label = 65_535;
 
 const _: () = prove!(MOST_PROCEDURES == 256);
@@ -29,7 +29,7 @@ const _: () = prove!(MOST_ARRAYS == 32);
 
 const _: () = prove!(MOST_LABELS == 65_535);
 
-/// Whether there are no more than so many.
+/// Checks that a count is at most `most`.
 pub fn limit(most: usize, count: usize) -> Result<(), TypeError>
     ensures right { OnOk result (over most count ≡ []) }
     ensures error { IfErr result (Told (over most count)) }

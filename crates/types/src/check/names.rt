@@ -13,14 +13,14 @@ use indexmap::IndexMap;
 use sections::id::SectionId;
 use std::alloc::Global;
 
-/// What a name means.
+/// The meaning of a name.
 #[derive(Clone, Copy)]
 pub enum Meaning {
     Section(SectionId),
     Scalar(Slot),
 }
 
-/// The names in scope, each with its meaning. No two are the same.
+/// The names in scope, each with its meaning. No two names are equal.
 #[derive(Drop)]
 pub struct Names {
     meanings: IndexMap<String, Meaning>,
@@ -36,7 +36,7 @@ impl Names {
     ghost use Rattle.types.specs.Scope.{meant};
     ghost use Rattle.types.specs.Told.{Told};
 
-    /// No names.
+    /// Returns an empty list of names.
     pub fn new(alloc: Global) -> Names
         ensures { names_of result ≡ [] }
     {
@@ -45,21 +45,21 @@ impl Names {
         }
     }
 
-    /// How many there are.
+    /// Returns the number of names.
     pub fn len(&self) -> usize
         ensures { result ≡ length (names_of self.now) }
     {
         self.meanings.len()
     }
 
-    /// What a name means, if it is in scope.
+    /// Returns the meaning of a name, if it is in scope.
     pub fn meaning(&self, name: &String) -> Option<Meaning>
         ensures { option_map meant_by result ≡ meant (string_bytes name.now) (names_of self.now) }
     {
         self.meanings.get(name).copied()
     }
 
-    /// Puts a name into scope, by a declaration with the label.
+    /// Adds a name to the scope. The declaration is in the statement with the label.
     pub fn declare(
         &mut self,
         label: Option<Label>,
@@ -81,7 +81,7 @@ impl Names {
         Ok(())
     }
 
-    /// Takes the latest names out of scope, until so many are left.
+    /// Removes the latest names from the scope, until `count` are left.
     pub fn forget(&mut self, count: usize)
         ensures { names_of self.new
             ≡ drop (length (names_of self.old) - count) (names_of self.old) }

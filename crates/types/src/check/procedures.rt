@@ -1,4 +1,4 @@
-//! The procedures of a program by their names.
+//! The procedures of a program, by name.
 
 #![tactic(auto, using(crate::proofs::Telling::telling))]
 
@@ -11,7 +11,7 @@ use indexmap::IndexSet;
 use std::alloc::Global;
 use syntax_tree::tree;
 
-/// The procedures of a program, each by its name.
+/// The procedures of a program, by name.
 #[derive(Drop)]
 pub struct Procedures<'p> {
     names: IndexSet<String>,
@@ -28,7 +28,7 @@ impl Procedures<'_> {
     ghost use Rattle.types.specs.Rules.{name_errors};
     ghost use Rattle.types.specs.Told.{Told};
 
-    /// Gathers procedures, no two of one name.
+    /// Collects the declared procedures. No two may have the same name.
     pub fn new(alloc: Global, declared: &[tree::Procedure]) -> Result<Procedures<'_>, TypeError>
         ensures procedures { IfOk result
             (λ p. procedures_of p ≡ map procedure_as declared.now) }
@@ -46,7 +46,7 @@ impl Procedures<'_> {
         Ok(Procedures { names, declared })
     }
 
-    /// The number and the parameters of the procedure of a name.
+    /// Returns the number and the parameters of the procedure with a name.
     pub fn find(&self, name: &String) -> Option<(ProcedureId, &[tree::Parameter])>
         ensures { option_map (λ f. (f.0.number, map parameter_of f.1.now)) result
             ≡ resolution.procedure_of 0 (string_bytes name.now) (procedures_of self.now) }

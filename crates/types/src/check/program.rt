@@ -26,7 +26,7 @@ use sections::window::MOST_ELEMENTS;
 use std::alloc::Global;
 use syntax_tree::tree;
 
-/// Procedures in the order of the text. The label is that of the next statement.
+/// Resolves procedures in the order of the text. The label is that of the next statement.
 pub fn resolve_procedures(
     statements: &Statements<'_>,
     label: &mut Label,
@@ -51,7 +51,7 @@ pub fn resolve_procedures(
     Ok(procedures)
 }
 
-/// A procedure: its parameters, then its statements.
+/// Resolves a procedure: its parameters, then its statements.
 fn resolve_procedure(
     statements: &Statements<'_>,
     label: &mut Label,
@@ -76,7 +76,7 @@ fn resolve_procedure(
     resolved(statements, label, scope, name, declared.body.as_slice())
 }
 
-/// Where the body of a procedure with these parameters begins.
+/// Returns the scope in which the body of a procedure with these parameters starts.
 fn at_procedure(
     alloc: Global,
     label: Label,
@@ -127,7 +127,8 @@ fn declare(scope: &mut Scope, parameter: &tree::Parameter) -> Result<(), TypeErr
     }
 }
 
-/// The procedure of this name, or `main`, whose body begins in this scope. The label goes on behind it.
+/// Resolves the procedure with this name, or `main`, whose body starts in this scope. Advances the
+/// label past its statements.
 fn resolved(
     statements: &Statements<'_>,
     label: &mut Label,
@@ -163,7 +164,7 @@ fn resolved(
     })
 }
 
-/// `main`, whose first statement has the label: its arrays, and what it does.
+/// Resolves `main`, whose first statement has the label: its arrays, then its statements.
 pub fn resolve_main(
     statements: &Statements<'_>,
     label: Label,
@@ -190,7 +191,7 @@ pub fn resolve_main(
     Ok((arrays, main))
 }
 
-/// The declared arrays, not too large together.
+/// Resolves the declared arrays, which together must not be too large.
 fn resolve_arrays(alloc: Global, arrays: &[tree::Array]) -> Result<Vec<Array>, TypeError>
     ensures arrays { IfOk result
         (λ v. map array_at (map array_of arrays.now) ≡ map array v.items) }
@@ -217,7 +218,7 @@ fn resolve_arrays(alloc: Global, arrays: &[tree::Array]) -> Result<Vec<Array>, T
     Ok(resolved)
 }
 
-/// Where the body of `main` begins.
+/// Returns the scope in which the body of `main` starts.
 fn at_main(alloc: Global, label: Label, arrays: &[tree::Array]) -> Result<Scope, TypeError>
     ensures place { IfOk result (λ s. scope_of s ≡ in_main label (map array_of arrays.now)) }
     ensures right { OnOk result

@@ -1,4 +1,4 @@
-//! What is in scope, as the resolver goes through a text.
+//! The scope, which the resolver updates as it walks through a text.
 
 #![tactic(auto, using(crate::proofs::Telling::telling))]
 
@@ -20,7 +20,7 @@ use sections::tree::SectionTree;
 use std::alloc::Global;
 use syntax_tree::tree::ElementType;
 
-/// A place of a text, and the sections of its procedure so far.
+/// The scope at a position in a text, and the sections of its procedure so far.
 #[derive(Drop)]
 pub struct Scope {
     pub names: Names,
@@ -28,15 +28,15 @@ pub struct Scope {
     pub label: Label,
     /// The slot of the next scalar.
     pub slots: usize,
-    /// The slot that was next where the innermost async body began.
+    /// The slot that was next when the innermost async body started.
     pub outside: usize,
     pub sections: SectionTree,
     pub section_names: Vec<String>,
-    /// Whether each section may be written, and what it holds.
+    /// Whether each section may be written, and its element type.
     pub kinds: Vec<SectionParameter>,
 }
 
-/// What comes back at the end of a block.
+/// What is restored at the end of a block.
 #[derive(Clone, Copy)]
 pub struct Mark {
     pub names: usize,
@@ -44,7 +44,7 @@ pub struct Mark {
 }
 
 impl Scope {
-    /// Where a procedure begins whose first statement has the label.
+    /// Returns the scope at the start of a procedure whose first statement has the label.
     pub fn new(alloc: Global, label: Label) -> Scope
         ensures { scope_of result ≡ empty_scope label }
     {
@@ -91,7 +91,7 @@ impl Scope {
         Ok(())
     }
 
-    /// Declares the sides of a split, in the statement with the label.
+    /// Declares the two sides of a split in the statement with the label.
     pub fn sides(
         &mut self,
         label: Label,
@@ -128,7 +128,7 @@ impl Scope {
         Ok(sides)
     }
 
-    /// Whether a section may be written, and what it holds.
+    /// Returns whether a section may be written, and its element type.
     pub fn kind(&self, section: SectionId) -> SectionParameter
         ensures { parameter result ≡ kind_of (scope_of self.now) section.number }
     {
@@ -141,7 +141,7 @@ impl Scope {
         }
     }
 
-    /// Goes on behind the label of a statement.
+    /// Advances past the label of a statement.
     pub fn step(&mut self)
         requires { self.old.label ≤ 65535 }
         ensures { scope_of self.new ≡ next_place (scope_of self.old) }
@@ -149,14 +149,14 @@ impl Scope {
         self.label += 1;
     }
 
-    /// Goes into an async body.
+    /// Enters an async body.
     pub fn enter_async(&mut self)
         ensures { scope_of self.new ≡ in_async_body (scope_of self.old) }
     {
         self.outside = self.slots;
     }
 
-    /// What is to come back behind a block that is about to begin.
+    /// Returns what has to be restored after a block that is about to start.
     pub fn mark(&self) -> Mark
         ensures names { result.names ≡ length (scope_of self.now).names }
         ensures outside { result.outside ≡ (scope_of self.now).outside }
@@ -167,7 +167,7 @@ impl Scope {
         }
     }
 
-    /// Goes out of a block.
+    /// Leaves a block.
     pub fn leave(&mut self, mark: Mark)
         ensures { scope_of self.new ≡ left_by mark.names mark.outside (scope_of self.old) }
     {

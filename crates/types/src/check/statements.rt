@@ -32,7 +32,7 @@ use std::alloc::Global;
 use syntax_tree::tree;
 use syntax_tree::tree::Expr;
 
-/// Statements, which may call these procedures.
+/// The resolver of statements, which can call these procedures.
 #[derive(Drop)]
 pub struct Statements<'p> {
     pub alloc: Global,
@@ -40,7 +40,7 @@ pub struct Statements<'p> {
 }
 
 impl Statements<'_> {
-    /// The statements of a block. What they declare stays in scope.
+    /// Resolves the statements of a block. The names that they declare stay in scope.
     #[cycle(statement)]
     pub fn block(&self, scope: &mut Scope, block: &[tree::Stmt]) -> Result<Vec<Stmt>, TypeError>
         requires { IsWellScoped (scope_of scope.old) }
@@ -61,7 +61,7 @@ impl Statements<'_> {
         Ok(resolved)
     }
 
-    /// The statements of a block, behind which the mark comes back.
+    /// Resolves the statements of a block, then restores the scope of the mark.
     #[cycle(statement)]
     fn inside(
         &self,
@@ -84,7 +84,7 @@ impl Statements<'_> {
         Ok(resolved)
     }
 
-    /// A statement with the next label.
+    /// Resolves a statement, which gets the next label.
     #[cycle(statement)]
     fn statement(&self, scope: &mut Scope, stmt: &tree::Stmt) -> Result<Stmt, TypeError>
         requires { IsWellScoped (scope_of scope.old) }
@@ -108,7 +108,7 @@ impl Statements<'_> {
         Ok(Stmt { label, kind })
     }
 
-    /// What a statement does.
+    /// Resolves what a statement does.
     #[cycle(statement)]
     fn kind(&self, scope: &mut Scope, stmt: &tree::Stmt) -> Result<StmtKind, TypeError>
         requires scoped { IsWellScoped (scope_of scope.old) }
@@ -153,7 +153,7 @@ impl Statements<'_> {
         }
     }
 
-    /// `if x < 2 { .. }`
+    /// Resolves `if x < 2 { .. }`.
     #[cycle(statement)]
     fn if_alone(
         &self,
@@ -177,7 +177,7 @@ impl Statements<'_> {
         Ok(StmtKind::If { guard, body, other })
     }
 
-    /// `if x < 2 { .. } else { .. }`
+    /// Resolves `if x < 2 { .. } else { .. }`.
     #[cycle(statement)]
     fn if_else(
         &self,
@@ -204,7 +204,7 @@ impl Statements<'_> {
         Ok(StmtKind::If { guard, body, other })
     }
 
-    /// `while x < 2 { .. }`
+    /// Resolves `while x < 2 { .. }`.
     #[cycle(statement)]
     fn while_loop(
         &self,
@@ -227,7 +227,7 @@ impl Statements<'_> {
         Ok(StmtKind::While { guard, body })
     }
 
-    /// `split s at 2 as l, r { .. }`
+    /// Resolves `split s at 2 as l, r { .. }`.
     #[cycle(statement)]
     fn split(
         &self,
@@ -266,7 +266,7 @@ impl Statements<'_> {
         })
     }
 
-    /// `async { .. }`
+    /// Resolves `async { .. }`.
     #[cycle(statement)]
     fn async_body(&self, scope: &mut Scope, body: &[tree::Stmt]) -> Result<StmtKind, TypeError>
         requires scoped { IsWellScoped (scope_of scope.old) }
@@ -283,7 +283,7 @@ impl Statements<'_> {
         Ok(StmtKind::Async { body })
     }
 
-    /// `finish { .. }`
+    /// Resolves `finish { .. }`.
     #[cycle(statement)]
     fn finish(&self, scope: &mut Scope, body: &[tree::Stmt]) -> Result<StmtKind, TypeError>
         requires scoped { IsWellScoped (scope_of scope.old) }
@@ -299,7 +299,7 @@ impl Statements<'_> {
         Ok(StmtKind::Finish { body })
     }
 
-    /// `var x = 1;`: the name is in scope behind the statement alone.
+    /// Resolves `var x = 1;`. The name is in scope only after the statement.
     fn var(&self, scope: &mut Scope, name: &String, value: &Expr) -> Result<StmtKind, TypeError>
         requires scoped { IsWellScoped (scope_of scope.old) }
         requires label { scope.old.label ≤ 65535 }
@@ -322,7 +322,7 @@ impl Statements<'_> {
         }))
     }
 
-    /// `x = 1;`
+    /// Resolves `x = 1;`.
     fn assign(&self, scope: &mut Scope, name: &String, value: &Expr) -> Result<StmtKind, TypeError>
         requires { scope.old.label ≤ 65535 }
         ensures ok { IfOk result (λ k. Resolves (procedures_of self.now.procedures)
@@ -337,7 +337,7 @@ impl Statements<'_> {
         Ok(StmtKind::Do(Primitive::Assign { slot, value }))
     }
 
-    /// `a[0] = 7;`
+    /// Resolves `a[0] = 7;`.
     fn store(
         &self,
         scope: &mut Scope,
@@ -365,7 +365,7 @@ impl Statements<'_> {
         }))
     }
 
-    /// `print a[0], 2;`
+    /// Resolves `print a[0], 2;`.
     fn print(&self, scope: &mut Scope, first: &Expr, rest: &[Expr]) -> Result<StmtKind, TypeError>
         requires { scope.old.label ≤ 65535 }
         ensures ok { IfOk result (λ k. Resolves (procedures_of self.now.procedures)
@@ -379,7 +379,7 @@ impl Statements<'_> {
         Ok(StmtKind::Do(Primitive::Print { values }))
     }
 
-    /// `fault 3;`
+    /// Resolves `fault 3;`.
     fn fault(&self, scope: &mut Scope, value: &Expr) -> Result<StmtKind, TypeError>
         requires { scope.old.label ≤ 65535 }
         ensures ok { IfOk result (λ k. Resolves (procedures_of self.now.procedures)
@@ -392,7 +392,7 @@ impl Statements<'_> {
         Ok(StmtKind::Do(Primitive::Fault { value }))
     }
 
-    /// `f(a, 1);`
+    /// Resolves `f(a, 1);`.
     fn call(
         &self,
         scope: &mut Scope,
@@ -413,7 +413,7 @@ impl Statements<'_> {
         Ok(call)
     }
 
-    /// A number in the statement that begins at this place.
+    /// Resolves a number expression in the statement that starts here.
     fn number(&self, scope: &Scope, e: &Expr) -> Result<Number, TypeError>
         ensures right { OnOk result
             (number_errors scope.now.label (names_of scope.now.names) (expr_of e.now) ≡ []) }
@@ -429,7 +429,7 @@ impl Statements<'_> {
         expressions.number(e)
     }
 
-    /// Numbers there.
+    /// Resolves several number expressions in the statement that starts here.
     fn numbers(&self, scope: &Scope, first: &Expr, rest: &[Expr]) -> Result<Vec<Number>, TypeError>
         ensures right { OnOk result
             (numbers_errors scope.now.label (names_of scope.now.names)
@@ -449,7 +449,7 @@ impl Statements<'_> {
         expressions.numbers(first, rest)
     }
 
-    /// A truth value there.
+    /// Resolves a boolean expression in the statement that starts here.
     fn truth(&self, scope: &Scope, e: &Expr) -> Result<Truth, TypeError>
         ensures right { OnOk result
             (truth_errors scope.now.label (names_of scope.now.names) (expr_of e.now) ≡ []) }
@@ -465,7 +465,7 @@ impl Statements<'_> {
         expressions.truth(e)
     }
 
-    /// A section that is named there.
+    /// Resolves the name of a section in the statement that starts here.
     fn section(&self, scope: &Scope, name: &String) -> Result<SectionId, TypeError>
         ensures right { OnOk result
             (naming_section scope.now.label (meant (string_bytes name.now)
@@ -486,7 +486,8 @@ impl Statements<'_> {
     }
 }
 
-/// The slot of a scalar that is assigned: one that was declared inside of the innermost async body.
+/// Returns the slot of a scalar that is assigned. It must be declared inside the innermost async
+/// body.
 fn assigned(scope: &Scope, name: &String) -> Result<Slot, TypeError>
     ensures right { OnOk result (naming_assigned scope.now.label (scope_of scope.now)
         (meant (string_bytes name.now) (names_of scope.now.names)) ≡ []) }
@@ -506,7 +507,7 @@ fn assigned(scope: &Scope, name: &String) -> Result<Slot, TypeError>
     }
 }
 
-/// A section that is written: one that may be.
+/// Returns a section that is written, which must be allowed.
 fn written(scope: &Scope, name: &String) -> Result<SectionId, TypeError>
     ensures right { OnOk result (naming_written scope.now.label (scope_of scope.now)
         (meant (string_bytes name.now) (names_of scope.now.names)) ≡ []) }

@@ -5,7 +5,7 @@ use Rattle.effects.specs.Firsts.{AddsFirsts, kept_in}
 use Rattle.effects.proofs.Statements.{size, size_in}
 use Rattle.effects.proofs.doings.+doings.Given as goal
 
--- what the statements behind may do is added
+-- what the later statements may do is added
 abbrev pub invariant-add_block-loop-place : goal.invariant-add_block-loop-place
 invariant-add_block-loop-place l =
     AddsFirsts (All (program l.code) accesses (codes (drop l.place l.block))) (kept_in l.initial.into) (kept_in l.into)

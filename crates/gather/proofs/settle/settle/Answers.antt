@@ -10,7 +10,7 @@ use Rattle.gather.proofs.ReachedTurns.{starts_reached}
 use Rattle.gather.proofs.Stages.{starts}
 use Rattle.gather.proofs.settle.settle.Goals as goal
 
--- where none waits, nothing strayed of those that wait
+-- if no result waits, there are no strays in those that wait
 none_clear : (ws : List rWaiting) → ws ≡ [] → Each (λ w. IsClear w.filling) ws
 none_clear ws none = subst (Each (λ w. IsClear w.filling)) (sym none) tt
 

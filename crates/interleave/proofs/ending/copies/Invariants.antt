@@ -3,6 +3,6 @@ use Rattle.std.specs.Prelude.{map}
 use Rattle.own_run.specs.Translation.{task_result}
 use Rattle.interleave.proofs.ending.copies.Given as goal
 
--- those so far
+-- the copies so far
 abbrev pub invariant-loop-made : goal.invariant-loop-made
 invariant-loop-made l = map task_result l.copies.items ≡ map task_result (take l.made-index l.results)

@@ -8,7 +8,7 @@ use Rattle.interleave.specs.Shown.{Shows}
 use Rattle.interleave.specs.World.{World}
 use Rattle.interleave.proofs.replay.replay.Given as goal
 
--- a world is shown from which what is left comes to the same
+-- the tables represent a world, from which the rest of the list leads to the same result
 abbrev pub invariant-events : goal.invariant-events
 invariant-events l = record {
   ok : IsWeightedJob l.job;

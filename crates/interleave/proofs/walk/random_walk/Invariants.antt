@@ -2,7 +2,7 @@ use Rattle.std.proofs.Common.{◌≡◌, ◌≤◌, ◌-◌, length}
 use Rattle.interleave.specs.Walks.{IsWalk}
 use Rattle.interleave.proofs.walk.random_walk.Given as goal
 
--- it is a walk of the job, of so many events at most
+-- it is a walk of the job, with at most `most` events
 abbrev pub invariant-rounds : goal.invariant-rounds
 invariant-rounds l = record {
   walk : IsWalk l.walk;

@@ -3,7 +3,7 @@ use Rattle.types.specs.Trees.{done}
 use Rattle.leaf_steps.specs.Translation.{leaf_of}
 use Rattle.leaf_steps.proofs.leaf.done.Given as goal
 
--- the leaf that is done is the same
+-- the finished leaf stays the same
 abbrev pub invariant-calls : goal.invariant-calls
 invariant-calls l = done (leaf_of l.leaf) ≡ done (leaf_of l.fn.leaf)
 

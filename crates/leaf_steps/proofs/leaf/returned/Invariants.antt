@@ -4,7 +4,7 @@ use Rattle.types.specs.Translation.{environment}
 use Rattle.leaf_steps.specs.Translation.{blocks, callers, leaf_of}
 use Rattle.leaf_steps.proofs.leaf.returned.Given as goal
 
--- from where the leaf is now it returns to where it did at first
+-- the current leaf returns to where the first one does
 abbrev pub invariant-calls : goal.invariant-calls
 invariant-calls l =
     returned (record (leaf_of l.fn.leaf) {

@@ -20,7 +20,7 @@ use Rattle.leaf_steps.proofs.Rests.{callers-push}
 use Rattle.leaf_steps.proofs.Turns.{call_of_nothing, called_as, comes_as}
 use Rattle.leaf_steps.proofs.turn.call.Goals as goal
 
--- the tree that a call comes to, by what its arguments come to
+-- the tree after a call, by the values of its arguments
 abbrev called_by : Turn → (label f : ℕ) → List ℕ → Valued (List ℤ) → Tree
 called_by turn l f ss r =
     let p = program turn.plan.program.now in let k = leaf_in turn in

@@ -10,7 +10,7 @@ use Rattle.leaf_steps.specs.Turns.{After, leaf_in}
 use Rattle.leaf_steps.proofs.Turns.{after_as, comes_as}
 use Rattle.leaf_steps.proofs.turn.turn_loop.Goals as goal
 
--- the tree that a loop comes to, by what its guard comes to
+-- the tree after the condition of a loop, by the value of the condition
 abbrev looped : Turn → (label : ℕ) → Truth → Codes → Valued Bool → Tree
 looped turn l t b r =
     let k = leaf_in turn in

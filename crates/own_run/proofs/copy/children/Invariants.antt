@@ -3,6 +3,6 @@ use Rattle.std.specs.Prelude.{map}
 use Rattle.own_run.specs.Translation.{listed}
 use Rattle.own_run.proofs.copy.children.Given as goal
 
--- those so far
+-- the children so far
 abbrev pub invariant-loop-child : goal.invariant-loop-child
 invariant-loop-child l = map listed l.copies.items ≡ map listed (take l.child-index l.children)

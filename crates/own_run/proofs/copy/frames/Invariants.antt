@@ -4,6 +4,6 @@ use Rattle.own_run.specs.OwnRun.{Own}
 use Rattle.own_run.specs.Standings.{Stacked}
 use Rattle.own_run.proofs.copy.frames.Given as goal
 
--- whatever the frames so far stand for, their copies do
+-- the copies so far represent each task that the frames so far represent
 abbrev pub invariant-loop-frame : goal.invariant-loop-frame
 invariant-loop-frame l = (fs : List (Frame Own)) → Stacked (take l.frame-index l.frames) fs → Stacked l.copies.items fs

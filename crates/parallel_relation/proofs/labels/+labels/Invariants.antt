@@ -6,7 +6,7 @@ use Rattle.parallel_relation.specs.Around.{Gains, both}
 use Rattle.effects.proofs.Statements.{size, size_in}
 use Rattle.parallel_relation.proofs.labels.+labels.Given as goal
 
--- with those of the statements that are left, all are there
+-- with those of the remaining statements, all are there
 abbrev pub invariant-add_labels-loop-statement : goal.invariant-add_labels-loop-statement
 invariant-add_labels-loop-statement l =
     let left = codes (drop l.statement-index l.block) in

@@ -8,7 +8,7 @@ use Rattle.parallel_relation.specs.Order.{meeting_of}
 use Rattle.parallel_relation.specs.Translation.{meeting}
 use Rattle.parallel_relation.proofs.meetings.+meetings.Given as goal
 
--- with those of the statements that are left, all are there
+-- with those of the remaining statements, all are there
 abbrev pub invariant-add_meetings-loop-place : goal.invariant-add_meetings-loop-place
 invariant-add_meetings-loop-place l =
     let added = added_in accesses (alls_of l.lists) (pendings_of l.lists) (is_asked l.fn.label) in

@@ -5,7 +5,7 @@ use Rattle.parallel_relation.specs.Order.{meeting_of}
 use Rattle.parallel_relation.specs.Translation.{meeting}
 use Rattle.parallel_relation.proofs.meetings.add_crossed.Given as goal
 
--- with those that are left, all are there
+-- with the remaining ones, all are there
 abbrev pub invariant-loop-first : goal.invariant-loop-first
 invariant-loop-first l =
     map meeting l.into.items ++ map meeting_of (crossed (map access (drop l.first-index l.firsts)) (map access l.seconds))

@@ -4,7 +4,7 @@ use Rattle.parallel_relation.specs.Order.{meeting_of}
 use Rattle.parallel_relation.specs.Translation.{meeting}
 use Rattle.parallel_relation.proofs.meetings.add_each.Given as goal
 
--- with those that are left, all are there
+-- with the remaining ones, all are there
 abbrev pub invariant-loop-second : goal.invariant-loop-second
 invariant-loop-second l =
     map meeting l.into.items

@@ -7,7 +7,7 @@ use Rattle.parallel_relation.specs.Found.{FoundMeets}
 use Rattle.effects.proofs.Statements.{size, size_in}
 use Rattle.parallel_relation.proofs.walk.+walk.Given as goal
 
--- the pairs of the statements behind are found
+-- the pairs of the later statements are found
 abbrev pub invariant-walk-loop-k : goal.invariant-walk-loop-k
 invariant-walk-loop-k l =
     let p = program l.guide.code.now in

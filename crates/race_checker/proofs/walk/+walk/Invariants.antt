@@ -5,7 +5,7 @@ use Rattle.race_checker.specs.Races.{numbered}
 use Rattle.effects.proofs.Statements.{size, size_in}
 use Rattle.race_checker.proofs.walk.+walk.Given as goal
 
--- what is found is that of the statements behind
+-- the result so far is that of the later statements
 abbrev pub invariant-found_in_piece-loop-place : goal.invariant-found_in_piece-loop-place
 invariant-found_in_piece-loop-place g l =
     let p = program l.fn.code in

@@ -22,7 +22,7 @@ pub returns-clause-form : goal.returns-clause-form
 returns-clause-form c = ap is_cover (whole c)
     ∙ is_cover-minus (map window c.args.kept.now) (map window c.args.gone.now) c.requires.kept c.requires.gone
 
--- the windows that are kept, behind this one, without those that are taken away
+-- the windows that are kept after this one, without those that are removed
 pub cuts-init : goal.cuts-init
 cuts-init c =
     ap (λ ws. map window c.windows.left.items ++ minus ws (map window (drop c.windows.next c.args.gone.now)))

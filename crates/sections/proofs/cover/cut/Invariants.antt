@@ -3,7 +3,7 @@ use Rattle.sections.specs.Translation.{window}
 use Rattle.sections.proofs.Cutting.{cut_by, minus}
 use Rattle.sections.proofs.cover.cut.Given as goal
 
--- what was left so far, and what is left of the others
+-- what was left so far, and what remains of the others
 abbrev pub invariant-windows : goal.invariant-windows
 invariant-windows l = map window l.left.items ++ minus (map window (drop l.window-index l.kept)) (map window (drop l.next l.gone))
     ≡ minus (map window l.kept) (map window l.gone)

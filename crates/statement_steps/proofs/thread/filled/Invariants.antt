@@ -5,7 +5,7 @@ use Rattle.types.specs.Run.{by_number}
 use Rattle.sections.specs.Translation.{window}
 use Rattle.statement_steps.proofs.thread.filled.Given as goal
 
--- only what is given past the end anyway was put in so far
+-- so far, only the values that positions past the end have anyway were added
 abbrev pub invariant-loop : goal.invariant-loop
 invariant-loop l = by_number (pos 0) l.scalars.items ≡ by_number (pos 0) l.initial.scalars.items
 

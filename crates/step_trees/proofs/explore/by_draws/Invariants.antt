@@ -7,7 +7,7 @@ use Rattle.step_trees.specs.Exploring.{IsHeld}
 use Rattle.step_trees.specs.Places.{whole}
 use Rattle.step_trees.proofs.explore.by_draws.Given as goal
 
--- by the choices that are still drawn it is told what is told by all
+-- the result of the choices that are still drawn is the result of all
 abbrev pub invariant-choices : goal.invariant-choices
 invariant-choices l =
     let p = program l.plan.program.now in

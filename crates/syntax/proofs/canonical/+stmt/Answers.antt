@@ -36,7 +36,7 @@ block-returns-clause-written t c =
     ∙ wrote behind c.close.new.self Margin Ended _ _ _ (behind.depth - 1) behind.label text depth label
     (laid-closing_brace behind.depth behind.label r))
 
--- a statement of a word and a block, whose word is written
+-- a statement that consists of a word and a block, after its word is written
 block_written : {X E : Type 0} (result : Result X E) (old new : Lines) (now : String Global) (word : List ℕ) (s t : Stmt) (b : Block)
     → s ≡ t → string_bytes now ≡ string_bytes old.text ++ word
     → ((r : List Token) → laid (place old Opening) (stmt_then t r)

@@ -16,8 +16,8 @@ invariant-statements-loop-statement l = record {
       ≡ with_rest l.lines Margin (block_then (block (drop l.statement-index l.body)) r);
 }
 
--- By the depth of what is written; at one depth a block calls for its statements, those for a line each,
--- and a line for a conditional.
+-- The measure is the depth of what is written. At one depth a block calls the function for its
+-- statements, that function calls the one for a line, and a line calls the one for a conditional.
 abbrev pub decreases-block : goal.decreases-block
 decreases-block l = 4 * goal.size-block l + 3
 

@@ -6,7 +6,8 @@ use Rattle.syntax.specs.Token.{plain}
 use Rattle.syntax_tree.specs.Tree.{conj, conjs, neg, negs, prod, terms, unary, factors}
 use Rattle.syntax.proofs.expressions.+expr.Given as goal
 
--- An expression is read from no more tokens than the ones that it is called with; the levels follow each other.
+-- An expression is read from no more tokens than the function is called with; the levels follow one
+-- another.
 abbrev pub decreases-enclosed : goal.decreases-enclosed
 decreases-enclosed l = 10 * length l.tokens.now + 9
 
@@ -37,7 +38,7 @@ decreases-atom l = 10 * length l.tokens.now + 1
 abbrev pub decreases-named : goal.decreases-named
 decreases-named l = 10 * length l.tokens.now + 0
 
--- What was read so far is spelled by the tokens before those that are left.
+-- The tokens before the remaining ones spell what was read so far.
 abbrev pub invariant-expr-loop-after : goal.invariant-expr-loop-after
 invariant-expr-loop-after l = record {
   shorter : length l.left < length l.fn.tokens;

@@ -4,7 +4,7 @@ use Rattle.syntax.specs.Token.{plain}
 use Rattle.syntax.proofs.Shallow.{open_after}
 use Rattle.syntax.proofs.parser.too_deep.Given as goal
 
--- So many brackets are open behind the tokens that were read, which are shallow.
+-- This many brackets are open after the tokens that were read, which are shallow.
 abbrev pub invariant-loop-spanned : goal.invariant-loop-spanned
 invariant-loop-spanned l = record {
   few : l.count ≤ 100;

@@ -6,7 +6,7 @@ use Rattle.trace_text.proofs.Arms.{behind_nest, behind_steps, behind_w0, text_of
 use Rattle.trace_text.proofs.Marks.{number_then_brace, number_then_comma}
 use Rattle.trace_text.proofs.read.header_in.Goals as goal
 
--- a number before a comma, as the one who looks for it there is told
+-- a number before a comma, as the result of looking for it there
 number_in : {There Told : ℕ → List ℕ → Type 0} (n : ℕ) (behind : List ℕ) → n ≤ 4294967296
     → ((m : ℕ) (left : List ℕ) → m < 2 ^ 64 → Lacks 44 (decimal m) → There m left → Told m left) → There n behind → Told n behind
 number_in n behind most told there = told n behind (omega (arith, most)) (number_then_comma n) there

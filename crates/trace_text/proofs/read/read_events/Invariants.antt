@@ -5,7 +5,7 @@ use Rattle.trace_text.proofs.read.read_events.Given as goal
 use denote.Shadow.{shadow}
 use denote.Text.{Utf8}
 
--- the lines of the events so far stand in front of what is left
+-- the lines of the events so far precede what is left
 abbrev pub invariant-lines : goal.invariant-lines
 invariant-lines l = shadow (Utf8 l.rest) × Front l.fn.text l.rest (map event l.events.items)
 

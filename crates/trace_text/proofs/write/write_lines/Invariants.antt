@@ -6,7 +6,7 @@ use Rattle.trace_text.specs.Headers.{header_of}
 use Rattle.trace_text.specs.Lines.{event_line, trace_text}
 use Rattle.trace_text.proofs.write.write_lines.Given as goal
 
--- what was written, and the lines to come
+-- the text so far, and the lines to come
 abbrev pub invariant-loop-event : goal.invariant-loop-event
 invariant-loop-event l =
     string_bytes l.text ++ flat_map event_line (map event (drop l.event-index l.events))

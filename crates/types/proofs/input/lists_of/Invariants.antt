@@ -6,7 +6,7 @@ use Rattle.types.specs.Translation.{array as array_of}
 use Rattle.types.proofs.InputLemmas.{after_lists}
 use Rattle.types.proofs.input.lists_of.Given as goal
 
--- the lists so far, and what is said of the arrays that are left
+-- the lists so far, and what is given for the arrays that remain
 abbrev pub invariant-loop-array : goal.invariant-loop-array
 invariant-loop-array l =
     members_say (λ name. get name (view l.object)) (map array_of l.arrays)

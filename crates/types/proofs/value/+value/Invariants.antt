@@ -4,7 +4,8 @@ use Rattle.types.specs.Translation.{environment}
 use Rattle.types.specs.Value.{links}
 use Rattle.types.proofs.value.+value.Given as goal
 
--- what is left of the chain makes of the number so far what the whole makes of the first
+-- applying the rest of the chain to the number so far gives the same as applying the whole chain to
+-- the first number
 abbrev pub invariant-chain_value-loop-link : goal.invariant-chain_value-loop-link
 invariant-chain_value-loop-link g l =
     let env = environment l.environment in let read = g.P.Places.numbers l.places in

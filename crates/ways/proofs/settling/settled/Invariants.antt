@@ -4,7 +4,7 @@ use Rattle.ways.specs.Known.{AreWays}
 use Rattle.ways.specs.Settled.{total}
 use Rattle.ways.proofs.settling.settled.Given as goal
 
--- what is known are ways
+-- the known ways are ways
 abbrev pub invariant-loop-known : goal.invariant-loop-known
 invariant-loop-known l = AreWays (program l.code) (access l.access) l.known
 

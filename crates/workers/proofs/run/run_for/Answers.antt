@@ -9,7 +9,7 @@ use Rattle.workers.proofs.Boarding.{floor_sync, kit_send}
 use Rattle.workers.proofs.run.run_for.Lts.{arg-4-0, arg-4-2}
 use Rattle.workers.proofs.run.run_for.Goals as goal
 
--- the kits cross
+-- the kits can be sent
 pub work_together-requires-send-C-Kit : goal.work_together-requires-send-C-Kit
 work_together-requires-send-C-Kit g c κs within =
     let κ : NamedLft = record { mir = named 6; lft = κs.1.1.1.1.1.1.0 } in
@@ -17,7 +17,7 @@ work_together-requires-send-C-Kit g c κs within =
     param_send 2 (arg-4-2 g.row.J g.row.G g.row.R g.J.laws g.G.laws g.R.laws g.J.Running g.J.Running-dict g.G.Gate g.G.Gate-dict g.R.Threads g.R.Threads-dict g.R.Wait g.R.Wait-dict κs)
     (record { owned = s.owned; leaving = λ k. s.leaving no })
 
--- the floor is seen from all threads
+-- all threads can share the floor
 pub work_together-requires-sync-C : goal.work_together-requires-sync-C
 work_together-requires-sync-C g c κs within =
     let κ : NamedLft = record { mir = named 6; lft = κs.1.1.1.1.1.1.0 } in

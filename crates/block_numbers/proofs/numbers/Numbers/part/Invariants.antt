@@ -3,7 +3,7 @@ use Rattle.block_numbers.specs.Numbers.{number_in, row_from}
 use Rattle.block_numbers.specs.Offsets.{Agree, inside}
 use Rattle.block_numbers.proofs.numbers.Numbers.part.Given as goal
 
--- the numbers so far are copied, and were counted
+-- the numbers so far are copied and counted
 abbrev pub invariant-loop-offset : goal.invariant-loop-offset
 invariant-loop-offset l =
     Agree (row_from l.from l.list.items) (inside l.from l.offset (number_in l.self))

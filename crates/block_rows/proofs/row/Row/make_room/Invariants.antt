@@ -2,7 +2,7 @@ use Rattle.std.proofs.Common.{◌≡◌, ◌+◌, ◌-◌, ℕ, length}
 use Rattle.block_rows.specs.Rows.{IsAsBefore, block_in}
 use Rattle.block_rows.proofs.row.Row.make_room.Given as goal
 
--- empty blocks alone have come so far
+-- only empty blocks have been added so far
 abbrev pub invariant-room : goal.invariant-room
 invariant-room l =
     ((b : ℕ) → IsAsBefore (block_in l.initial.self b) (block_in l.self b))

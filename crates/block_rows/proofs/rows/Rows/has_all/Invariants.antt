@@ -6,7 +6,7 @@ use Rattle.block_rows.specs.Rows.{held_in}
 use Rattle.block_rows.specs.Wanted.{wanted}
 use Rattle.block_rows.proofs.rows.Rows.has_all.Given as goal
 
--- all places of the windows so far are as wanted
+-- all places of the windows so far meet the requirement
 abbrev pub invariant-loop-window : goal.invariant-loop-window
 invariant-loop-window l =
     IsThere (has (map window_of (take l.window-index l.windows))) (wanted l.want (held_in l.self))

@@ -6,7 +6,7 @@ use Rattle.block_rows.specs.Rows.{held_in}
 use Rattle.block_rows.specs.Wanted.{wanted}
 use Rattle.block_rows.proofs.rows.Rows.has_window.Given as goal
 
--- all is there where the rest is
+-- all places are there if the rest are
 abbrev pub invariant-pieces : goal.invariant-pieces
 invariant-pieces l =
     IsThere (is_in (window_of l.fn.window)) (wanted l.want (held_in l.self))

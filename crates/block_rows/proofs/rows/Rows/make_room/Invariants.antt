@@ -2,7 +2,7 @@ use Rattle.std.proofs.Common.{◌+◌, ◌-◌, length}
 use Rattle.block_rows.specs.Rows.{Widens}
 use Rattle.block_rows.proofs.rows.Rows.make_room.Given as goal
 
--- empty rows alone have come so far
+-- only empty rows have been added so far
 abbrev pub invariant-rows : goal.invariant-rows
 invariant-rows l = Widens l.initial.self.list.items l.self.list.items
 

@@ -35,7 +35,7 @@ owns_none : (b : Block) → (b ≡ Empty) ⊎ ((n : Arc Numbers Global) × (b �
 owns_none b (inl e) k = ap (λ x. owned_at x k) e
 owns_none b (inr w) k = ap (λ x. owned_at x k) w.1 ∙ owned_number-shared (number_in (arc_value w.0) k)
 
--- where there is room for a block that may own something, a block stands
+-- if there is room for a block that may own something, a block exists
 takes_in : (rs : List Row) (a b : ℕ) (theirs : Block) → (theirs ≡ Empty → ⊥) → ((n : _) → theirs ≡ AllShared n → ⊥)
     → HasRoom rs a b theirs → TakesIn rs a b theirs
 takes_in rs a b Empty full owns room = absurd (full refl)

@@ -8,7 +8,7 @@ use Rattle.block_numbers.specs.Numbers.{IsAsWide}
 use Rattle.block_numbers.proofs.WalkLemmas.{so_far}
 use Rattle.blocks.proofs.mixed.Mixed.take.Given as goal
 
--- what is owned so far has come in, and was counted
+-- what is owned so far has come in and was counted
 abbrev pub invariant-loop-offset : goal.invariant-loop-offset
 invariant-loop-offset l =
     Agree (held_in l.self) (so_far l.offset

@@ -3,7 +3,7 @@ use Rattle.own_run.specs.Places.{has_one}
 use Rattle.gather.specs.Stages.{part}
 use Rattle.gather.proofs.filling.Filling.owns_one_of.Given as goal
 
--- what is left decides
+-- the result depends only on the rest
 abbrev pub invariant-places : goal.invariant-places
 invariant-places l =
     (has_one (part l.self).owned l.fn.window.array.number l.index l.left

@@ -12,7 +12,7 @@ use Rattle.interleave.specs.declared.error.EventError.{EventError}
 use Rattle.interleave.proofs.Turning.{begins}
 use Rattle.interleave.proofs.doing.Doing.known.Goals as goal
 
--- what is about to be done, where that is known now
+-- the next action, if it is known now
 looked_by : (j : Job) (old : Doing) (r : Result Doing EventError) → IfOk r IsKnown
     → IfOk r (λ new. (c : Course) → IsDoing j c old → IsDoing j c new) → IfOk r (λ new. (new ≡ old) ⊎ IsLooked j old new)
 looked_by j old (Ok new) known same = inr (record { known = known; same = same })

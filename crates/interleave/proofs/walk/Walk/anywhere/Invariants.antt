@@ -4,7 +4,7 @@ use Rattle.interleave.specs.Shown.{turns_of}
 use Rattle.interleave.specs.Walks.{IsAsBefore, IsIdle}
 use Rattle.interleave.proofs.walk.Walk.anywhere.Given as goal
 
--- none of those that were asked has an event which is legal
+-- none of the tasks so far has a legal event
 abbrev pub invariant-paths : goal.invariant-paths
 invariant-paths l = record {
   before : IsAsBefore l.fn.self l.self;

@@ -5,7 +5,7 @@ use Rattle.interleave.specs.Walks.{IsAsBefore, IsIllegal}
 use Rattle.events.specs.declared.event.Event.{Event}
 use Rattle.interleave.proofs.walk.Walk.one_of.Given as goal
 
--- none of those that were tried is legal
+-- none of the events so far is legal
 abbrev pub invariant-events : goal.invariant-events
 invariant-events l = record {
   before : IsAsBefore l.fn.self l.self;

@@ -6,7 +6,7 @@ use Rattle.interleave.specs.Shown.{Becomes}
 use Rattle.interleave.specs.declared.world.World.{World}
 use Rattle.interleave.proofs.world.World.event.Goals as goal
 
--- what comes of an event comes of one that is the same
+-- equal events have equal results
 module _ {T E : Type 0} (r : Result T E) (old new : World) where
   as_it : {e other : Event} → e ≡ other → OnOk r (Becomes (event other) old new) → OnOk r (Becomes (event e) old new)
   as_it is h = subst (λ e. OnOk r (Becomes (event e) old new)) (sym is) h

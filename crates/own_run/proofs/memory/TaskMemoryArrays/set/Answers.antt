@@ -11,7 +11,7 @@ use Rattle.holdings.specs.Holdings.{held}
 use Rattle.own_run.proofs.HeldPlaces.{numbers-put, owned-put, owns}
 use Rattle.own_run.proofs.memory.TaskMemoryArrays.set.Goals as goal
 
--- whether it was written or not, what is owned stays so
+-- the set of owned places is unchanged, whether the place was written or not
 stays_owned : (b : Bool) (q : Place) (v : ℤ) (old new : Map Held) → OnTrue b (new ≡ put q (Owned v) old)
     → OnTrue b (IsSome (owned old q)) → OnFalse b (new ≡ old) → owns new ≡ owns old
 stays_owned true q v old new written there same = ap owns written ∙ owned-put q v old there

@@ -10,7 +10,7 @@ use Rattle.own_run.proofs.GoingOn.{at_once_leaves_fewer, did, goes_at_once, goes
 use Rattle.own_run.proofs.TurnsLeft.{leaves_fewer}
 use Rattle.own_run.proofs.run.Run.go.Goals as goal
 
--- what is neither a step alone nor the end of the budget is more
+-- a turn that is neither just a step nor the end of the budget is visible
 others_are_more : (r : Run) (d : Done) → (d ≡ Gone → ⊥) → (d ≡ Exceeded → ⊥) → IsMore (turn_of r d)
 others_are_more r Gone gone over = absurd (gone refl)
 others_are_more r (Spawned s) gone over = tt

@@ -2,7 +2,7 @@ use Rattle.own_run.specs.Left.{left_of}
 use Rattle.own_run.specs.RunTurns.{GoesOn}
 use Rattle.own_run.proofs.run.Run.go.Given as goal
 
--- the run goes on from where it was
+-- the run continues from its old configuration
 abbrev pub invariant-turns : goal.invariant-turns
 invariant-turns g l = GoesOn (g.N.Needed.needs l.needed) l.initial.self l.self
 

@@ -6,7 +6,7 @@ use Rattle.own_run.specs.declared.frame.Frame.{Frame as rFrame}
 use Rattle.own_run.proofs.RunTops.{ends_in_last}
 use Rattle.own_run.proofs.run.Run.next_piece.Goals as goal
 
--- at a place of a list is one element
+-- a list has one element at each position
 one_there : {A : Type 0} (xs : List A) (k : ℕ) (x y : A) → k < length xs → x ≡ slice_index_or xs k x → slice_index_or xs k y ≡ y
     → x ≡ y
 one_there xs k x y lt is at = is ∙ same_Some _ _ (sym (slice_get-get_or xs k x lt) ∙ slice_get-get_or xs k y lt) ∙ at

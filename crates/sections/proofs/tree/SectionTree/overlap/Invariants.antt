@@ -3,7 +3,7 @@ use Rattle.sections.specs.Overlap.{overlap as overlap_of}
 use Rattle.sections.specs.Tree.{origins_of}
 use Rattle.sections.proofs.tree.SectionTree.overlap.Given as goal
 
--- the two that are reached overlap exactly where the two that were given do
+-- the two sections that are reached overlap exactly if the two given sections do
 abbrev pub invariant-walk : goal.invariant-walk
 invariant-walk l = record {
   order : l.low ≤ l.high;

@@ -4,7 +4,7 @@ use Rattle.step_trees.specs.Places.{lefts, IsRound}
 use Rattle.step_trees.proofs.Walks.{Way}
 use Rattle.step_trees.proofs.tree.Tree.leaf.Given as goal
 
--- the leaf is the one that is looked for, and its step is the whole's
+-- the leaf is the one that is sought, and its step is the step of the whole tree
 abbrev pub invariant-down : goal.invariant-down
 invariant-down l =
     let xs = l.fn.round.around.items in

@@ -6,7 +6,7 @@ use Rattle.step_trees.specs.Held.{tree_of}
 use Rattle.step_trees.proofs.HeldTrees.{weight, weights, with_rights}
 use Rattle.step_trees.proofs.tree.Tree.take_apart.Given as goal
 
--- what was told so far, and what is told by what is left, is all
+-- the output so far, and the output of what remains, is all output
 abbrev pub invariant-leaves : goal.invariant-leaves
 invariant-leaves l =
     let t = with_rights l.rights.items (tree_of l.self) in

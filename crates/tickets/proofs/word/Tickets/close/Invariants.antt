@@ -4,7 +4,7 @@ use Rattle.tickets.specs.Shares.{times}
 use Rattle.tickets.specs.Seats.{drawn_by, IsSeatOf}
 use Rattle.tickets.proofs.word.Tickets.close.Given as goal
 
--- the joined share and the seats that are left have drawn what all seats drew
+-- the joined share and the remaining seats have drawn what all seats drew
 abbrev pub invariant-loop-seat : goal.invariant-loop-seat
 invariant-loop-seat l =
     let left = into_iter_items l.seat-iterator in

@@ -2,7 +2,7 @@ use Rattle.std.proofs.Common.{◌≡◌, ◌+◌, ◌-◌, [], All, vec_len}
 use Rattle.tickets.specs.Shares.{share}
 use Rattle.tickets.proofs.word.Tickets.new.Given as goal
 
--- the rest stands for the seats that aren't made yet, and nothing was drawn on any
+-- the rest represents the seats that aren't made yet, and nothing was drawn on any
 abbrev pub invariant-loop-seat : goal.invariant-loop-seat
 invariant-loop-seat l =
     (vec_len l.made + 1 ≡ l.seat)

@@ -5,7 +5,7 @@ use Rattle.types.specs.Rules.{array_errors}
 use Rattle.types.specs.Scope.{with_arrays, empty_scope, in_main}
 use Rattle.types.proofs.check.program.at_main.Given as goal
 
--- the arrays so far are declared: the others lead to the same place
+-- the arrays so far are declared, and the others lead to the same scope
 abbrev pub invariant-loop-array : goal.invariant-loop-array
 invariant-loop-array l =
     let left = map tree.array (drop l.array-index l.arrays) in

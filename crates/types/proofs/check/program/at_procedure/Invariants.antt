@@ -5,7 +5,7 @@ use Rattle.types.specs.Rules.{parameter_errors}
 use Rattle.types.specs.Scope.{with_parameters, empty_scope, in_procedure}
 use Rattle.types.proofs.check.program.at_procedure.Given as goal
 
--- the parameters so far are declared: the others lead to the same place
+-- the parameters so far are declared, and the others lead to the same scope
 abbrev pub invariant-loop-parameter : goal.invariant-loop-parameter
 invariant-loop-parameter l =
     let left = map tree.parameter (drop l.parameter-index l.parameters) in

@@ -4,7 +4,7 @@ use Rattle.types.specs.Resolution as resolution
 use Rattle.types.specs.Translation as plain
 use Rattle.types.proofs.check.program.resolve_arrays.Given as goal
 
--- what is left of the elements that a program may have; the arrays so far, and the others
+-- the number of elements that a program may still have; the arrays so far, and the others
 abbrev pub invariant-loop-array : goal.invariant-loop-array
 invariant-loop-array l = record {
   within : l.left ≤ 4194304;

@@ -3,7 +3,7 @@ use Rattle.types.specs.Inputs.{wrong_rows}
 use Rattle.types.specs.Translation.{array as array_of}
 use Rattle.types.proofs.input.Input.new.Given as goal
 
--- what is wrong is wrong with the arrays that are left
+-- a mistake is in the arrays that remain
 abbrev pub invariant-loop-number : goal.invariant-loop-number
 invariant-loop-number l =
     wrong_rows (map array_of l.arrays) (map (λ v. v.items) l.lists.items)

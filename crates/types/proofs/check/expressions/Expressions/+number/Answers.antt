@@ -259,7 +259,7 @@ number_atom-returns-in_ok-section-in-Length-clause-code t c =
     let is : atom c.args.e.now ≡ Length (string_bytes c.in-Length.section) = ap atom c.in-Length.is ∙ atom_Length c.in-Length.section in
     ap (resolution.number_atom names) is ∙ ap (λ m. Length_at (section_or_0 m)) c.in_ok-section-in-Length.ensures.meaning
 
--- both truth values are one arm
+-- both booleans are one arm
 pub number_atom-returns-in-True-clause-error : goal.number_atom-returns-in-True-clause-error
 number_atom-returns-in-True-clause-error t c =
     let label = c.args.self.now.label in

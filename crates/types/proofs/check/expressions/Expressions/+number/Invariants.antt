@@ -9,7 +9,7 @@ use Rattle.types.specs.Translation.{number}
 use Rattle.types.proofs.Expressions.{linked}
 use Rattle.types.proofs.check.expressions.Expressions.+number.Given as goal
 
--- the operands so far have no errors, and those that are left resolve to the rest of the chain
+-- the operands so far have no errors, and the remaining ones resolve to the rest of the chain
 abbrev pub invariant-number_prod-loop-factor : goal.invariant-number_prod-loop-factor
 invariant-number_prod-loop-factor l =
     let names = names_of l.fn.self.names.now in

@@ -9,7 +9,7 @@ use Rattle.types.specs.Resolving.{names_of}
 use Rattle.types.proofs.Expressions.{chosen}
 use Rattle.types.proofs.check.expressions.Expressions.+truth.Given as goal
 
--- the operands so far have no errors, and those that are left resolve to the rest of the chain
+-- the operands so far have no errors, and the remaining ones resolve to the rest of the chain
 abbrev pub invariant-truth-loop-conj : goal.invariant-truth-loop-conj
 invariant-truth-loop-conj l =
     let names = names_of l.fn.self.names.now in

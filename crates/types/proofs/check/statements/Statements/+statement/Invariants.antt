@@ -8,7 +8,8 @@ use Rattle.types.proofs.Blocks.{joined}
 use Rattle.types.proofs.Sizes.{size, size_in}
 use Rattle.types.proofs.check.statements.Statements.+statement.Given as goal
 
--- the statements so far, and the others from the place that has been reached: what is so of these is so of the block
+-- the statements so far, and the others from the position that has been reached; what holds for the
+-- others holds for the block
 abbrev pub invariant-block-loop-stmt : goal.invariant-block-loop-stmt
 invariant-block-loop-stmt l =
     let left = block (drop l.stmt-index l.block) in

@@ -1,0 +1,48 @@
+#!/bin/sh
+# Runs all tests that need only the built program: a few minutes. `./afx` provides the program, from the release or by
+# building it. Prints the lines of each script that fails. The last line is `N passed, M failed`, the sum of all scripts;
+# the status is 1 if one failed.
+#
+#     sh tests/all.sh      AFX='./afx' names another program
+set -eu
+cd "$(dirname "$0")/.."
+AFX=${AFX:-$PWD/afx}
+export AFX
+room=$(mktemp -d)
+trap 'rm -rf "$room"' EXIT
+passed=0
+failed=0
+
+# part NAME COMMAND..: runs a script whose last line is `N passed, M failed`, or `N runs, M differ`.
+part() {
+    name=$1
+    shift
+    began=$(date +%s)
+    "$@" >"$room/out" 2>&1 || true
+    last=$(tail -n 1 "$room/out")
+    case $last in
+    *' passed, '*' failed' | *' runs, '*' differ') ;;
+    *) last='0 passed, 1 failed' ;;
+    esac
+    good=${last%% *}
+    bad=${last#*, }
+    bad=${bad%% *}
+    # (of a script that counts runs, those that differ are among them)
+    case $last in *differ) good=$((good - bad)) ;; esac
+    passed=$((passed + good))
+    failed=$((failed + bad))
+    [ "$bad" = 0 ] || cat "$room/out"
+    echo "$name: $good passed, $bad failed, $(($(date +%s) - began)) s"
+}
+
+# What building or unpacking the program prints is no part of a test.
+"$AFX" --version >"$room/version"
+
+part 'exit statuses and small stacks' sh tests/program.sh
+part 'rows of command lines' python3 tests/rows.py
+part 'cookbook' sh tests/cookbook.sh
+part 'editor words' sh tests/editor_words.sh
+part 'schedules' sh tests/schedules.sh 3 60
+part 'refused memory' sh tests/refused_memory.sh
+echo "$passed passed, $failed failed"
+[ "$failed" -eq 0 ]
