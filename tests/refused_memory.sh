@@ -1,13 +1,13 @@
 #!/bin/sh
 # Runs commands on small programs with the n-th allocation refused, for every n: the two-array program, three nested
-# tasks, and the doubling by halves with an input. Each run must print the whole right output with status 0, or end with
-# one of the refusals below; anything else is a wrong answer.
+# tasks, and the doubling by halves with an input. Each run must print the whole correct output with status 0, or end with
+# one of the errors below. Anything else is a wrong answer. tests/all.sh runs it.
 #
 #   tests/refused_memory.sh            the proved program, with `malloc` replaced (seconds)
 #   tests/refused_memory.sh try [N]    the unproved build of `rt try --fail-alloc n`, from n = N on (half a minute for
 #                                      each n, and there are more than a hundred)
 #
-# RT names another rt, CC another C compiler than the kit's.
+# RT names another rt, CC another C compiler than that of the kit.
 set -u
 top=$(CDPATH= cd -- "$(dirname -- "$0")/.." && pwd)
 rt=${RT:-rt}
@@ -16,7 +16,7 @@ first=${2:-1}
 folder=$(mktemp -d) || exit 2
 trap 'rm -rf "$folder"' EXIT
 
-# Runs a command with the n-th allocation refused; leaves `out`, `err` and `status`.
+# Runs a command with the n-th allocation refused; sets `out`, `err` and `status`.
 refuse_in_proved() {
     n=$1
     shift
@@ -25,7 +25,7 @@ refuse_in_proved() {
     err=$(cat "$folder/err")
 }
 
-# The same by rt try, whose own lines stand around the program's.
+# Does this with rt try, and removes the lines of rt try itself from the output.
 refuse_in_try() {
     n=$1
     shift
@@ -34,20 +34,20 @@ refuse_in_try() {
     err=$(sed -e '/^allocations: /d' -e '/^interpreter: /d' -e '/^checked: /d' -e '/^run=/d' "$folder/err")
 }
 
-# Says what a run came to: whole, refused or wrong.
+# Prints the result of a run: whole, refused or wrong.
 judge() {
     case "$status:$out:$err" in
     "0:$right:") echo whole ;;
     '4::S6' | '4::Y10' | '4::C2' | '4::N6' | '4::E1' | '4::no memory') echo refused ;;
-    '1::error: out of memory') echo refused ;;         # told by clap
-    '1::Error: Kind(OutOfMemory)') echo refused ;;     # before the words are read
+    '1::error: out of memory') echo refused ;;         # printed by clap
+    '1::Error: Kind(OutOfMemory)') echo refused ;;     # before the arguments are read
     '1:'*':cannot write output')
         case "$right" in "$out"*) echo refused ;; *) echo wrong ;; esac ;;
     *) echo wrong ;;
     esac
 }
 
-# sweep RIGHT WORD..: where 20 numbers in turn refuse nothing, a run has no further allocation.
+# sweep RIGHT ARGUMENT..: if nothing was refused for 20 numbers in a row, a run has no further allocation.
 sweep() {
     right=$1
     shift
