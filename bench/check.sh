@@ -1,6 +1,6 @@
 #!/bin/sh
-# Times the race check of large programs, on one processor and on all: the least of three times each, in milliseconds,
-# and the most memory, in megabytes. No test and no part of the gate.
+# Times the race check of large programs, on one processor and on all: the minimum of three times each, in milliseconds,
+# and the maximum memory, in megabytes. Not a test and not part of CI.
 #
 #     sh bench/check.sh      AFX='../afx' names another program to time
 set -u
@@ -8,18 +8,18 @@ cd "$(dirname -- "$0")" || exit 1
 afx=${AFX:-../afx}
 folder=$(mktemp -d) && trap 'rm -rf "$folder"' EXIT
 
-# copies N TEXT: the text, so many times
+# copies N TEXT: prints the text N times
 copies() {
     yes "$2" | head -n "$1"
 }
 
 # a program of 1 MiB with no async
 { echo 'main { array a: int[4];'; copies 58000 'a[1] = a[2] + 10;'; echo '}'; } >"$folder/straight"
-# 20,000 asyncs in one finish; and the last of them clashes with all others
+# 20,000 asyncs in one finish; the same program, with the last async in a clash with all others
 { echo 'main { array a: int[1]; finish {'; copies 20000 'async { print a[0]; }'; echo '} }'; } >"$folder/asyncs"
 { echo 'main { array a: int[1]; finish {'; copies 19999 'async { print a[0]; }'; echo 'async { a[0] = 1; } } }'; } \
     >"$folder/clash"
-# 250 procedures, each of which calls the next, and the last the first
+# 250 procedures, each of which calls the next one; the last one calls the first
 awk 'BEGIN {
     for (i = 0; i < 250; i++)
         printf "proc p%d(mut s: int, k: int) { if k > 0 { finish { async { s[0] = %d; } } p%d(s, k - 1); } }\n", \
@@ -35,7 +35,7 @@ awk 'BEGIN {
     echo '}'
 } >"$folder/loops"
 
-# least STATUS CMD..: its least time of three, and its memory, where it ends with this status
+# least STATUS CMD..: prints the minimum of three times, and the memory, if the command ends with this status
 least() {
     wanted=$1
     shift

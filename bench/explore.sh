@@ -1,7 +1,7 @@
 #!/bin/sh
-# Times runs step by step over 13 doublings of 1,024 numbers: by 100,000 choices from a file, each of which names the
-# first leaf, and by the choices that a generator draws, to the end. The least of three times each, in milliseconds. No
-# test and no part of the gate.
+# Times runs step by step over 13 doublings of 1,024 numbers: with 100,000 choices from a file, each of which names the
+# first leaf, and with the choices that a generator draws, to the end. Prints the minimum of three times each, in
+# milliseconds. Not a test and not part of CI.
 #
 #     sh bench/explore.sh      AFX='../afx' names another program to time
 set -u
@@ -10,7 +10,7 @@ afx=${AFX:-../afx}
 choices=$(mktemp) && trap 'rm -f "$choices"' EXIT
 yes 0 | head -n 100000 >"$choices"
 
-# least STATUS CMD..: its least time of three in milliseconds, where it ends with this status
+# least STATUS CMD..: prints the minimum of three times in milliseconds, if the command ends with this status
 least() {
     wanted=$1
     shift

@@ -1,7 +1,7 @@
 #!/bin/sh
-# Times the one-thread run of each kernel beside the same program in Lua, LuaJIT's interpreter, Python and C, on this
-# machine and in this one run: the least of three times each, in milliseconds, and how often afx fits into the peer's
-# time. No test and no part of the gate: times say nothing on a machine that does other work.
+# Times the one-thread run of each kernel next to the same program in Lua, LuaJIT's interpreter, Python and C, on this
+# machine and in this one run: the minimum of three times each, in milliseconds, and the peer's time divided by that of afx.
+# Not a test and not part of CI: times mean nothing on a machine that does other work.
 #
 #     sh bench/run.sh [KERNEL..]     AFX='afx serial --steps 1000000000' names another program to time
 set -u
@@ -9,7 +9,7 @@ cd "$(dirname -- "$0")" || exit 1
 afx=${AFX:-../afx serial --steps 1000000000}
 made=$(mktemp -d) && trap 'rm -rf "$made"' EXIT
 
-# least CMD..: its least time of three in milliseconds; what it prints goes to $made/out
+# least CMD..: prints the minimum of three times in milliseconds; the command's output goes to $made/out
 least() {
     best=
     for turn in 1 2 3; do
@@ -21,7 +21,7 @@ least() {
     echo "$best"
 }
 
-# column CMD..: its time, and how it stands to that of afx; a '!' where it prints something else
+# column CMD..: prints its time, and its time divided by that of afx; a '!' if it prints something else
 column() {
     time=$(least "$@")
     mark=

@@ -1,32 +1,33 @@
 #!/bin/sh
-# Times programs of many tasks, those of docs/COOKBOOK.md among them at larger sizes: on one thread, and as tasks by 1, 2
-# and 4 workers, in this one run: the least of three times each, in milliseconds (of one, where it takes over 5 s). In
-# brackets one worker's time over that of `serial`, and over that of more workers. Then the most memory of `serial` and of
-# 4 workers, in megabytes, and how many tasks there are. A '!' stands where something else is printed than by `serial`.
+# Times programs of many tasks, including those of docs/COOKBOOK.md at larger sizes, on one thread and in parallel on 1, 2
+# and 4 workers, in this one run: the minimum of three times each, in milliseconds (of one time, if it takes over 5 s). In
+# brackets is one worker's time divided by that of `serial`, or by that of more workers. Then come the maximum memory of
+# `serial` and of 4 workers, in megabytes, and the number of tasks. A '!' marks an output that differs from that of
+# `serial`.
 #
-# Then a tree of 75,025 tasks beside rayon, oneTBB, Java's pool and Go, those that are installed: nanoseconds for each
-# task, by 1, 2 and 4 workers.
+# Then times a tree of 75,025 tasks next to rayon, oneTBB, Java's pool and Go, those that are installed: nanoseconds for
+# each task, on 1, 2 and 4 workers.
 #
-# No test and no part of the gate: times say nothing on a machine that does other work.
+# Not a test and not part of CI: times mean nothing on a machine that does other work.
 #
-#     sh bench/tasks.sh [PROGRAM..]      AFX='../afx' names another program to time; `tree` alone is beside peers
+#     sh bench/tasks.sh [PROGRAM..]      AFX='../afx' names another program to time; only `tree` is compared with peers
 set -u
 cd "$(dirname -- "$0")" || exit 1
 afx=${AFX:-../afx}
 made=$(mktemp -d) && trap 'rm -rf "$made"' EXIT
 
-# The programs, and how many tasks each has.
+# The programs, and the number of tasks of each.
 all='blocks:1024 halves:65536 readers:1024 wide_readers:100 tree:75025
     reduce:256 prefix_sum:2047 histogram:8 merge_sort:8192 parallel_merge_sort:75797 quicksort:87273
     matrix_product:128 lu:4621 floyd_warshall:505 jacobi:2521 life:4033 blur:256 segmented_sieve:64
     mandelbrot:128 bfs:211 match:64 lcs:16377 queens:64 ntt:49151'
 
-# The bytes of the standard input as a list of JSON.
+# Prints the bytes of standard input as a JSON list.
 bytes() {
     echo "[$(od -An -v -tu1 | tr -s ' \n' , | sed 's/^,//; s/,$//')]"
 }
 
-# letters SEED: 1,024 of A to D, as if at random
+# letters SEED: prints 1,024 pseudo-random letters from A to D
 letters() {
     awk -v x="$1" 'BEGIN { for (i = 0; i < 1024; i++) { x = x * 16807 % 2147483647; printf "%c", 65 + x % 4 } }'
 }
@@ -35,7 +36,7 @@ echo "{\"x\": $(letters 1 | bytes), \"y\": $(letters 2 | bytes)}" >"$made/lcs.js
 text=$(yes 'the cat sat on the mat; then the other cat went there. ' | tr -d '\n' | head -c 262144 | bytes)
 echo "{\"text\": $text, \"pattern\": $(printf then | bytes)}" >"$made/match.json"
 
-# least CMD..: its least time into $best, or `failed`; its most memory into $most; what it prints into $made/out
+# least CMD..: sets $best to its minimum time, or `failed`, and $most to its maximum memory; its output goes to $made/out
 least() {
     best= most=0
     for turn in 1 2 3; do
@@ -49,7 +50,7 @@ least() {
     done
 }
 
-# over ONE OTHER: how often the other time fits into the one
+# over ONE OTHER: prints ONE divided by OTHER
 over() {
     case $1$2 in
         *failed*) echo - ;;
@@ -57,7 +58,7 @@ over() {
     esac
 }
 
-# row NAME TASKS
+# row NAME TASKS: prints the row of a program
 row() {
     file=$1.afx
     input=
@@ -82,7 +83,7 @@ row() {
     printf ' %5s %5s %7s\n' "$serial_most" "$most" "$2"
 }
 
-# peer NAME CMD..: what the command prints for 1, 2 and 4 workers
+# peer NAME CMD..: prints what the command prints for 1, 2 and 4 workers
 peer() {
     printf '%-20s' "$1"
     shift
@@ -90,7 +91,7 @@ peer() {
     echo
 }
 
-# own_tree WORKERS: the tree by afx itself, less what the empty program takes
+# own_tree WORKERS: prints the time of the tree with afx, minus that of the empty program
 own_tree() {
     least $afx run "$made/empty.afx" --workers "$1"
     empty=$best
@@ -101,7 +102,7 @@ own_tree() {
     esac
 }
 
-# The same tree beside what is installed.
+# Times the tree with afx and with the peers that are installed.
 trees() {
     echo
     printf '%-20s %6s %6s %6s\n' 'a tree of tasks, ns' 1 2 4

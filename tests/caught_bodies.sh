@@ -1,9 +1,10 @@
 #!/bin/sh
-# Tries the bodies that no clause refuses, since a clause says what an Ok is and nothing of time: the edits
-# tests/bodies/*.edit, in the form of wrong bodies, each file named from the top. Each is put into a copy of the crates,
-# and one of the tests of `run_tests`, unproved, must then fail, and not by its time: it is caught. Without an edit all of
-# them must pass. Words are names of edits; with none, all are tried. A minute or two each. The last line is `N caught, M
-# not`; the status is 1 where one isn't.
+# Tries the mutants that no contract excludes. A contract states what an Ok means and nothing about time, so these bodies
+# are proved. They are the edits tests/bodies/*.edit, in the form of wrong bodies, with each file named from the top folder.
+# Each edit is applied to a copy of the crates. One of the tests of `run_tests`, unproved, must then fail, and not because
+# it takes too long: the mutant is caught. Without an edit all tests must pass. Arguments are names of edits; without any,
+# all are tried. Each takes a minute or two. The last line is `N caught, M not`; the status is 1 if one isn't caught.
+# Not part of CI.
 set -eu
 cd "$(dirname "$0")/.."
 top=$PWD
@@ -11,7 +12,7 @@ room=$(mktemp -d)
 trap 'rm -rf "$room"' EXIT
 [ $# -gt 0 ] || set -- $(basename -s .edit tests/bodies/*.edit)
 
-# Puts an edit into the crates below the folder: each old text, which stands there once, becomes the new one.
+# Applies an edit to the crates below the folder: replaces each old text, which must occur once, by the new one.
 apply() {
     python3 - "$1" "$2" <<'PYTHON'
 import sys
@@ -30,19 +31,19 @@ for line in open(edit):
 PYTHON
 }
 
-# Runs the tests of the crates in a folder, and keeps what they say in its log.
+# Runs the tests of the crates in a folder, and keeps their output in its log.
 tested() {
     (cd "$1/crates/run_tests" && timeout 900 rt try --test) >"$1/log" 2>&1 || true
 }
 
-# The tests that failed, but for those that only took too long: a busy machine does that too.
+# Prints the tests that failed, except those that only took too long: that also happens on a busy machine.
 failed() {
     awk '/^test .* \.\.\. / { name = "" } /\.\.\. FAILED/ { name = $2; names[name] = 1 }
         /no-answer/ && name != "" { delete names[name] }
         END { for (name in names) printf "%s ", name }' "$1/log"
 }
 
-# The crates as they stand, whose tests pass: else a failure would show nothing of a body.
+# The crates without an edit. Their tests must pass: otherwise a failure would show nothing about a mutant.
 as_they_stand() {
     mkdir -p "$1/.git"
     tar -cf - --exclude=out --exclude=must-fail crates crates.txt HANDLES | tar -xf - -C "$1"
@@ -62,7 +63,7 @@ for name in "$@"; do
     as_they_stand "$copy"
     apply "$top/tests/bodies/$name.edit" "$copy"
     tested "$copy"
-    # The tests must have run: a body that doesn't compile shows nothing.
+    # The tests must have run: a mutant that doesn't compile shows nothing.
     names=$(failed "$copy")
     if [ -n "$names" ]; then
         echo "$name: caught by $names"

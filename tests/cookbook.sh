@@ -1,7 +1,8 @@
 #!/bin/sh
-# Looks whether each program in docs/COOKBOOK.md is that of examples/ which its heading names, without its comment, whether
-# each name there is a file, and whether `afx check` accepts the programs and says of those in examples/refused/ what the
-# page says. A line for each that is wrong; the last line is `N passed, M failed`. No part of the gate.
+# Checks that each program in docs/COOKBOOK.md is the file in examples/ that its heading names, without the comment of that
+# file. Checks that each name there is a file, that `afx check` accepts the programs, and that it reports for those in
+# examples/refused/ what the page says. Prints a line for each that is wrong; the last line is `N passed, M failed`.
+# tests/all.sh runs it.
 #
 #     sh tests/cookbook.sh      AFX='./afx' names another program
 set -eu
@@ -13,14 +14,14 @@ trap 'rm -rf "$folder"' EXIT
 passed=0
 failed=0
 
-# count WHAT CMD..: whether a command succeeds
+# count WHAT CMD..: counts whether a command succeeds
 count() {
     what=$1
     shift
     if "$@"; then passed=$((passed + 1)); else failed=$((failed + 1)) && echo "$what"; fi
 }
 
-# The programs of the page, each into a file of its heading's name.
+# Writes each program of the page to a file with the name in its heading.
 awk -v folder="$folder" '
 /^### / { split($0, parts, "`"); name = parts[2] }
 /^```/ { inside = !inside; next }
@@ -32,7 +33,7 @@ for file in "$folder"/*.afx; do
     count "$name is refused" $afx check "$file" >/dev/null
 done
 
-# The tables: a program, and in that of refused ones what is said of it.
+# The tables: a program, and in the table of refused programs what is reported for it.
 accepted() { $afx check "examples/$1.afx" >/dev/null; }
 refused() { ! $afx check "examples/refused/$1.afx" >/dev/null 2>"$folder/err" && [ "$(cat "$folder/err")" = "$2" ]; }
 for name in $(sed -n '/^## Kernels/,/^## Refused/s/^| \(`[^|]*`\) |.*/\1/p' $page | tr -d '`,'); do

@@ -1,7 +1,8 @@
 #!/bin/sh
 # Compares the reserved words and the marks in editors/ and in docs/LANGUAGE.md, and the words of `afx explain words`, with
-# those of the lexer, which stand in crates/syntax/src/token.rt: each must be there once, a mark of two characters before
-# the one that begins it, and nothing else. A line for each that is wrong; the last line is `N passed, M failed`. No part of the gate.
+# those of the lexer, which are in crates/syntax/src/token.rt. Each must be there once, a mark of two characters before the
+# one with which it begins, and nothing else. Prints a line for each that is wrong; the last line is `N passed, M failed`.
+# tests/all.sh runs it.
 set -eu
 cd "$(dirname "$0")/.."
 folder=$(mktemp -d)
@@ -12,14 +13,14 @@ vscode=editors/vscode/afx.tmLanguage.json
 page=docs/LANGUAGE.md
 explained=crates/pages/src/words.rt
 
-# The lexer's own: `"and" => Word::And`, `'(' => Mark::LeftParen`, `'<' => Some(Mark::AtMost)`.
+# The lexer: `"and" => Word::And`, `'(' => Mark::LeftParen`, `'<' => Some(Mark::AtMost)`.
 sed -n 's/^ *"\([a-z]*\)" => Word::.*/\1/p' $tokens >"$folder/words"
 sed -n -e "s/^ *'\(.\)' => Mark::.*/\1/p" -e "s/^ *'\(.\)' => Some(Mark::.*/\1=/p" $tokens >"$folder/marks"
 
-# Alternatives behind `|`, each on a line, without the backslashes.
+# Prints alternatives that are separated by `|`, one per line, without the backslashes.
 alternatives() { tr '|' '\n' | tr -d '\\'; }
 
-# found NAME: the words and marks that the files name, each on a line, in their order.
+# The words and marks that each file names, one per line, in their order.
 sed -n 's/^syn keyword [A-Za-z]* *//p' $vim | tr ' ' '\n' >"$folder/words.vim"
 sed -n 's/^syn match *afx\(Operator\|Bracket\) *"\(.*\)"$/\2/p' $vim | alternatives >"$folder/marks.vim"
 sed -n 's/.*"match": "\\\\b(\([a-z|]*\))\\\\b".*/\1/p' $vscode | alternatives >"$folder/words.vscode"
@@ -29,13 +30,13 @@ sed -n '/rule: "/,/^$/p' $explained | sed 's/.*rule: "//' | tr -s ' ' '\n' | sed
 sed -n 's/^- \*\*Marks\*\*: `\(.*\)`\.$/\1/p' $page | tr ' ' '\n' >"$folder/marks.page"
 
 awk -v folder="$folder" '
-# Counts what is so, and tells what is not.
+# Counts what is right, and prints what is wrong.
 function look(is_so, line) {
     if (is_so) passed++
     else { failed++; print line }
 }
 
-# The lines of a file, into list; how many there are.
+# Reads the lines of a file into list, and returns their number.
 function lines_of(file, list,    count) {
     count = 0
     while ((getline list[count + 1] < file) > 0) count++
@@ -43,7 +44,7 @@ function lines_of(file, list,    count) {
     return count
 }
 
-# Compares what a place names with what the lexer has.
+# Compares what a file names with what the lexer has.
 function compare(what, where,    own, named, wanted, count, at, times, known) {
     wanted = lines_of(folder "/" what, own)
     count = lines_of(folder "/" what "." where, named)
@@ -57,7 +58,7 @@ function compare(what, where,    own, named, wanted, count, at, times, known) {
         if (!(named[at] in known)) look(0, where ": " named[at] " is none of the " what)
 }
 
-# In a pattern the first alternative counts, so a mark of two characters comes before the one that begins it.
+# In a pattern the first alternative that matches counts, so a mark of two characters must come before its first character.
 function longest_first(where,    named, count, at, before) {
     count = lines_of(folder "/marks." where, named)
     for (at = 1; at <= count; at++) {

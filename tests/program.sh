@@ -1,10 +1,10 @@
 #!/bin/sh
 # Runs the built program `afx` once for each exit status from 0 to 4, and compares its status, its standard output and its
-# standard error with what docs/FORMATS.md says of them: no clause says with which status `main` ends, and the gate runs
-# no program but those that end with 0. (No words are known that come to 5.) And once for what is explained of an input on
-# the standard input, which rows have not, and five times for step trees that are deep or wide, with little of a stack.
-# `./afx` proves and builds first where a source is newer. A line tells of each run that went wrong; the last line is
-# `N passed, M failed`, and the status is 1 where one did. No part of the gate.
+# standard error with docs/FORMATS.md. No contract specifies with which status `main` ends, and `rt ci` runs only programs
+# that end with 0. (No arguments are known that lead to status 5.) Also runs it once for the explanation of an input on
+# standard input, which rows don't cover, and five times for step trees that are deep or wide, with a small stack.
+# `./afx` makes the program first if it has to. Prints a line for each run that went wrong; the last line is
+# `N passed, M failed`, and the status is 1 if one failed. tests/all.sh runs it.
 #     sh tests/program.sh      AFX='./afx' names another program
 set -eu
 cd "$(dirname "$0")/.."
@@ -14,7 +14,7 @@ trap 'rm -rf "$room"' EXIT
 passed=0
 failed=0
 
-# expect STATUS OUT ERR WORD..: one run on these words, with the standard input of the call.
+# expect STATUS OUT ERR ARGUMENT..: one run with these arguments, with the standard input of the call.
 expect() {
     wanted=$1 out=$2 err=$3
     shift 3
@@ -29,7 +29,7 @@ expect() {
     fi
 }
 
-# So that what is told while it is built is no part of what a run writes.
+# What is printed while the program is built must not be part of what a run prints.
 echo 'main { }' | $afx serial - >"$room/out"
 
 expect 0 '7 8' '' run examples/two_arrays.afx
@@ -54,8 +54,8 @@ To mend it: give one number for each element; an array that is left out begins w
 {"q": [1, 2]}
 END
 
-# The leftmost leaf always, the owner always, to and fro between the first and the last of 20,000 tasks, 20,000 tasks in
-# one finish, and finishes inside one another, with little of a stack.
+# Choices, with a small stack: always the leftmost leaf, always the owner, back and forth between the first and the last
+# of 20,000 tasks, 20,000 tasks in one finish, and nested finishes.
 echo 'main { while true { async { skip; } } }' >"$room/deep.afx"
 yes 0 | head -100000 >"$room/zeros"
 awk 'BEGIN { for (i = 0; i < 100000; i++) print int(i / 2) }' >"$room/owner"

@@ -1,9 +1,9 @@
 #!/bin/sh
-# Runs every program of examples/, the kernels of docs/COOKBOOK.md among them, by `afx run` on 1, 2, 3, 8 and 64 workers,
-# RUNS times each (200, or the first word), and compares what is written, and the status, with what one worker did first.
-# Ends by itself: after LIMIT seconds (1800, or the second word) it stops before the next run; each program comes as often
-# as the others by then. The last line is `N runs, M differ`; the status is 1 where one differs or none was done. No part
-# of the gate.
+# Runs every program of examples/, including the kernels of docs/COOKBOOK.md, with `afx run` on 1, 2, 3, 8 and 64 workers,
+# RUNS times each (the first argument, or 200). Compares the output and the status with those of a first run on one worker.
+# Ends by itself: after LIMIT seconds (the second argument, or 1800) it stops before the next run; until then each program
+# is run as often as the others. The last line is `N runs, M differ`; the status is 1 if one differs or none was done.
+# tests/all.sh runs it.
 #
 #     sh tests/schedules.sh [RUNS [LIMIT]]      AFX='./afx' names another program
 set -eu
@@ -17,7 +17,7 @@ end=$(($(date +%s) + limit))
 done_runs=0
 differ=0
 
-# One run of a program: what it wrote, and its status.
+# Runs a program once, and keeps its output and its status.
 one() {
     input=${1%.afx}.json
     workers=$2
@@ -28,7 +28,7 @@ one() {
     echo "status $status" >>"$room/out"
 }
 
-# One run of a program on each number of workers, as long as there is time.
+# Runs a program once on each number of workers, as long as there is time.
 round() {
     for workers in 1 2 3 8 64; do
         [ "$(date +%s)" -lt "$end" ] || return 0

@@ -1,18 +1,17 @@
 #!/bin/sh
-# Tries the wrong bodies that the gate doesn't: the edits wrong_bodies/NAME/*.edit, each of which turns what a function
-# of the crate NAME means, and which the prover must refuse. The words are names of crates; with none, each that has
-# wrong bodies is tried. Works on a copy of the crates as they stand, over the libraries that are built (`rt all check`
-# builds those that aren't, which is quicker than one behind the other here); the crate itself is proved once first.
-# A crate whose wrong bodies are all refused has its line in wrong_bodies/RESULT renewed. The last line is
-# `N refused, M failed`, where one that is proved, can't be applied or read, or wasn't tried has failed; the status is
-# then 1.
+# Tries the mutants that `rt ci` doesn't try: the edits wrong_bodies/NAME/*.edit. Each changes what a function of the crate
+# NAME means, and the prover must reject it. Arguments are names of crates; without any, each crate that has mutants is
+# tried. Works on a copy of the crates as they are now, over the libraries that are built (`rt all check` builds those that
+# aren't, which is faster than one after the other here); the crate itself is proved once first. If all mutants of a crate
+# are rejected, renews its line in wrong_bodies/RESULT. The last line is `N refused, M failed`. A mutant has failed if it is
+# proved, can't be applied or read, or wasn't tried; the status is then 1. Not part of CI.
 set -eu
 cd "$(dirname "$0")/.."
 room=$(mktemp -d)
 trap 'rm -rf "$room"' EXIT
 [ $# -gt 0 ] || set -- $(find wrong_bodies -name '*.edit' | cut -d/ -f2 | sort -u)
 
-# The crates, with the wrong bodies in place of those that the gate tries, and the libraries that were built.
+# The crates, with these mutants in place of those that `rt ci` tries, and the libraries that were built.
 mkdir "$room/.git"
 tar -cf - --exclude=out --exclude=must-fail crates crates.txt HANDLES | tar -xf - -C "$room"
 for built in crates/*/out/rlib; do
@@ -27,7 +26,7 @@ done
 (cd "$room" && rt must-fail "$@") >"$room/log" 2>&1 || true
 cat "$room/log"
 
-# Renews the line of a crate, of whose wrong bodies so many were refused.
+# Renews the line of a crate, with the number of its rejected mutants.
 renew() {
     tip=$(git rev-parse --short HEAD)
     git diff --quiet HEAD -- "crates/$1" "wrong_bodies/$1" || tip="$tip and what was changed behind it"
