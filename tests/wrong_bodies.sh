@@ -29,10 +29,10 @@ cat "$room/log"
 # Renews the line of a crate, with the number of its rejected mutants.
 renew() {
     tip=$(git rev-parse --short HEAD)
-    git diff --quiet HEAD -- "crates/$1" "wrong_bodies/$1" || tip="$tip and what was changed behind it"
+    git diff --quiet HEAD -- "crates/$1" "wrong_bodies/$1" || tip="$tip with later changes"
     {
         grep -v "^$1:" wrong_bodies/RESULT || true
-        echo "$1: $2 refused, of $tip"
+        echo "$1: $2 rejected, at $tip"
     } | sort >"$room/result"
     cp "$room/result" wrong_bodies/RESULT
 }
