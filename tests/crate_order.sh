@@ -1,19 +1,19 @@
 #!/bin/sh
-# Prints the crates of crates.txt, lowest first, a line each: its name, and what it stands on, crates of the kit among
-# it. Then looks whether README.md (the list behind `## Crates`, a line a crate) and docs/ARCHITECTURE.md (the table
-# behind `## The crates, lowest first`, a crate or several a row) name exactly these crates, each behind all that it
-# stands on. A line on the standard error says what is wrong, and the status is then 1.
+# Prints the crates of crates.txt, lowest first, one per line: the name and its dependencies, including crates of the
+# toolchain. Then checks that the table after `## The crates, lowest first` in docs/ARCHITECTURE.md names exactly these
+# crates, each after its dependencies. A row names one crate or several, and no row continues in the next one.
+# If a check fails, prints what is wrong on the standard error and exits with status 1.
 set -eu
 cd "$(dirname "$0")/.."
 
 awk '
-# One thing that is wrong.
+# Reports one mistake.
 function wrong(line) {
     print "crate_order: " line | "cat >&2"
     failed = 1
 }
 
-# A crate of crates.txt: `NAME WORDS: what it stands on`.
+# Reads a crate of crates.txt: `NAME WORDS: DEPENDENCIES`.
 function take(line,    parts, words) {
     split(line, parts, ":")
     split(parts[1], words, " ")
@@ -22,7 +22,7 @@ function take(line,    parts, words) {
     below[words[1]] = parts[2]
 }
 
-# The first crate of crates.txt on which a crate stands and that a list does not have yet, or nothing.
+# Returns the first dependency of a crate in crates.txt that a list does not have yet, or an empty string.
 function missing(list, crate,    on, number, at) {
     number = split(below[crate], on, " ")
     for (at = 1; at <= number; at++)
@@ -30,14 +30,14 @@ function missing(list, crate,    on, number, at) {
     return ""
 }
 
-# Prints them: again and again the first of those left that stands on printed ones alone.
+# Prints the crates. Repeatedly picks the first one left whose dependencies are all printed.
 function print_all(    left, at, found) {
     for (left = count; left > 0; left--) {
         found = ""
         for (at = 1; at <= count && found == ""; at++)
             if (!(("printed", names[at]) in has) && missing("printed", names[at]) == "") found = names[at]
         if (found == "") {
-            wrong("crates.txt has a ring of crates that stand on one another")
+            wrong("crates.txt has a cycle of dependencies")
             return
         }
         has["printed", found] = 1
@@ -45,38 +45,36 @@ function print_all(    left, at, found) {
     }
 }
 
-# The page that is read names crates: each between two backquotes, in the first cell of a row or before the first colon
-# of a line.
+# Reads a row of the page: its first cell names crates, each between two backquotes.
 function name_crates(    parts, number, at) {
-    split(substr($0, 3), parts, / \| |: /)
+    split(substr($0, 3), parts, / \| /)
     number = split(parts[1], parts, "`")
-    if (/^- / && number > 3) wrong(FILENAME " names several crates in one line")
     for (at = 2; at <= number; at += 2) name_crate(parts[at])
 }
 
 function name_crate(crate) {
     if (!(crate in below)) wrong(FILENAME " names " crate ", which crates.txt does not have")
-    else if ((FILENAME, crate) in has) wrong(FILENAME " names " crate " twice")
-    else if (missing(FILENAME, crate) != "")
-        wrong(FILENAME " names " crate " before " missing(FILENAME, crate) ", on which it stands")
-    has[FILENAME, crate] = 1
+    else if (("named", crate) in has) wrong(FILENAME " names " crate " twice")
+    else if (missing("named", crate) != "")
+        wrong(FILENAME " names " crate " before its dependency " missing("named", crate))
+    has["named", crate] = 1
 }
 
-# A page names each crate.
-function is_whole(page,    at) {
+# Checks that the page names each crate.
+function check_all_named(    at) {
     for (at = 1; at <= count; at++)
-        if (!((page, names[at]) in has)) wrong(page " does not name " names[at])
+        if (!(("named", names[at]) in has)) wrong(FILENAME " does not name " names[at])
 }
 
 FILENAME == "crates.txt" { if (!/^#/ && /:/) take($0); next }
 FNR == 1 { listed = 0 }
-/^## / { listed = $0 == "## Crates" || $0 == "## The crates, lowest first" }
-listed && /^[|-] `/ { name_crates() }
+/^## / { listed = $0 == "## The crates, lowest first" }
+listed && /^\| `/ { name_crates() }
+listed && /^\| +\|/ { wrong(FILENAME " continues a row in line " FNR) }
 
 END {
     print_all()
-    is_whole("README.md")
-    is_whole("docs/ARCHITECTURE.md")
+    check_all_named()
     close("cat >&2")
     exit failed
-}' crates.txt README.md docs/ARCHITECTURE.md
+}' crates.txt docs/ARCHITECTURE.md
