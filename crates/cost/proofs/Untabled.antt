@@ -1,4 +1,4 @@
--- A run that keeps an account is the run that keeps its tally, but for the tables by label.
+-- A run that keeps an account is the run that keeps its tally, except for the tables by label.
 use Rattle.std.proofs.Common.{◌≡◌, ℕ, refl, sym, ap}
 use Rattle.std.specs.Prelude.{List, ℤ}
 use Rattle.types.specs.Code.{Program}
