@@ -17,8 +17,7 @@ use syntax::Place;
 
 /// Returns the object of a failure, with the file of the program as it was named, and the positions
 /// of the program's statements if they are known. Members that the failure doesn't have are null:
-/// `{"array":null,"code":"Y5","column":28,"file":"d.afx","label":3,"line":1,"message":"Y5 at label
-/// 3","status":1}`.
+/// `{"array":null,"code":"Y5","column":28,"file":"d.afx","label":3,"line":1,"message":"Y5 at label 3","status":1}`.
 pub fn refusal_object(
     alloc: Global,
     file: &str,

@@ -120,8 +120,7 @@ TellsNoLines held name (Trace e) = HasNoTrace held name e
 TellsNoLines held name NoMemory = Unit {0}
 TellsNoLines held name _ = ⊥
 
--- why events aren't legal: the event with this number is the first that isn't; only out of memory needs no
--- reason
+-- why events aren't legal: this number is that of the first illegal one; only out of memory needs no reason
 abbrev pub TellsIllegal : Program → (input : List (List ℤ)) → Header → List Event → Failure → Type 0
 TellsIllegal p input h es (Illegal n) = IsFirstIllegal p h.w0 input (budget h.budget) (map event_of es) n
 TellsIllegal p input h es NoMemory = Unit {0}
