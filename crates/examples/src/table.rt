@@ -142,7 +142,7 @@ impl<'t, R: Machine> Table<'t, R> {
         Ok(())
     }
 
-    /// Adds a line to what is open.
+    /// Adds a line to the open file, or to the open commands or their expected results.
     fn add(&mut self, line: &str) -> io::Result<()> {
         match self.open {
             Open::Nothing => Err(not_understood()),

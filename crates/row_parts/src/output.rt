@@ -6,7 +6,7 @@ use std::alloc::Global;
 use std::io;
 use std::io::ErrorKind;
 
-/// How an output ends.
+/// The way in which an output ends.
 #[derive(Clone, Copy)]
 pub enum End {
     /// It returns an error.
@@ -15,7 +15,7 @@ pub enum End {
     TakesNothing,
 }
 
-/// When an output ends.
+/// The limit after which an output ends.
 #[derive(Clone, Copy)]
 pub enum Limit {
     /// Never.

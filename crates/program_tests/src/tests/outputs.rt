@@ -13,7 +13,7 @@ use types::fault::{Fault, FaultKind};
 use types::outcome::Outcome;
 use types::path::Path;
 
-/// How a writer ends.
+/// The way in which a writer ends.
 #[derive(Clone, Copy)]
 enum End {
     /// It returns an error.

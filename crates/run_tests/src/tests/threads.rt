@@ -32,7 +32,7 @@ pub(crate) type Turns = &'static [u32];
 /// the two orders.
 pub(crate) const HELD: [(Turns, Turns); 2] = [(&[1], &[2]), (&[2], &[1])];
 
-/// Holds one task until another one has left.
+/// A gate that holds one task until another one has left.
 #[derive(Drop)]
 pub(crate) struct Holding {
     held: Turns,
