@@ -1,4 +1,4 @@
--- Copies that come into blocks.
+-- Copies taken into blocks.
 use Rattle.std.proofs.Common.{◌≡◌, Option, Some, None, refl}
 use Rattle.std.specs.Prelude.{option_map}
 use Rattle.blocks.specs.Held.{Held, number_of}

@@ -101,7 +101,7 @@ same_numbers n m from to lt e = (
   λ all. ReachOver-from_all n from to lt (subst (λ x. HasAll from to (number_in x)) (sym e) all),
 )
 
--- whether a block that owns all its numbers owns a range
+-- a test whether a block that owns all its numbers owns a range
 pub reach-owned : (b : Block) (n : Numbers) (from to : ℕ) → from < to → (a : Arc Numbers Global) → n ≡ arc_value a → b ≡ AllOwned a
     → (ReachOver n from to → HasAll from to (owned_at b)) × (HasAll from to (owned_at b) → ReachOver n from to)
 reach-owned b n from to lt a e is =
@@ -111,7 +111,7 @@ reach-owned b n from to lt a e is =
       λ all. w.1 (λ k t none. all k t (same k ∙ none)),
     )
 
--- whether one whose numbers are all held alike holds it
+-- a test whether a block whose numbers are all held alike holds a range
 pub reach-held : (b : Block) (n : Numbers) (from to : ℕ) → from < to → (a : Arc Numbers Global) → n ≡ arc_value a
     → (b ≡ AllOwned a) ⊎ (b ≡ AllShared a)
     → (ReachOver n from to → HasAll from to (held_at b)) × (HasAll from to (held_at b) → ReachOver n from to)
@@ -126,7 +126,7 @@ reach-held b n from to lt a e (inr is) =
       λ all. w.1 (λ k t none. all k t (ap (λ x. held_at x k) is ∙ option_map-none Shared (number_in (arc_value a) k) none)),
     )
 
--- one with kinds that holds a range has numbers there
+-- a block with kinds that holds a range has numbers there
 pub reach-mixed : (b : Block) (m : Mixed) (x : Box Mixed Global) (from to : ℕ) → from < to → m ≡ box_value x → b ≡ InParts x
     → HasAll from to (held_at b) → ReachOver m.numbers from to
 reach-mixed b m x from to lt e is all =

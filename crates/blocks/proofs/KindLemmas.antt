@@ -1,4 +1,4 @@
--- What is held of a row whose elements have kinds of their own.
+-- What is held of a row whose elements have their own kinds.
 use Rattle.std.proofs.Common.{◌≡◌, ℕ, ◌+◌, ◌-◌, ◌<◌, ◌≤◌, List, [], ◌∷◌, ◌++◌, length, get_or, set}
 use Rattle.std.proofs.Common.{Option, Some, None, Bool, true, false, refl, sym, ap, ◌∙◌, arith, inl, inr}
 use Rattle.std.proofs.Common.{w64, of_z, to_z, FitsSigned}
@@ -16,7 +16,7 @@ use Rattle.block_numbers.specs.declared.kind.Kind.TheVariants.{Absent, Own, Copi
 use Rattle.blocks.specs.Blocks.{held_as}
 use Rattle.blocks.specs.Held.{Held}
 
--- what is held of a row whose elements have kinds of their own
+-- what is held of a row whose elements have their own kinds
 abbrev pub held_row : (first : ℕ) → List Kind → List ℤ → ℕ → Option Held
 held_row first kinds xs k = held_as (get_or kinds (k - first) Absent) (row_from first xs k)
 

@@ -93,7 +93,7 @@ impl Block {
         }
     }
 
-    /// If all is owned, puts the numbers into memory that can be shared again. If memory runs out,
+    /// Puts the numbers into memory that can be shared again, if all are owned. If memory runs out,
     /// the numbers stay as they are. What is held doesn't change.
     fn close(&mut self, alloc: Global)
         ensures { Agree (held_at self.new) (held_at self.old) }

@@ -26,7 +26,7 @@ module _ (p : Program) (fresh : ℕ) where
       (λ n runs l b st. ap (after_booked tallying (beginning_booked tallying p l (totals st)))
       (runs (Block b) (child fresh (beginning_booked accounting p l st)))) nest w st)
 
--- nor that of a whole run
+-- an account doesn't change the tally of a whole run
 pub tally-account_of : (p : Program) (rows : ℕ) (input : List (List ℤ)) (b : Budget)
     → (account_of p rows input b).tally ≡ tally_of p input b
 tally-account_of p rows input b =

@@ -42,7 +42,7 @@ pub struct Cost {
 }
 
 impl Cost {
-    /// Of a run that came to a tally.
+    /// Returns the cost of a run with this tally.
     pub fn of(tally: Tally) -> Cost
         ensures { result ≡ cost_of tally }
     {

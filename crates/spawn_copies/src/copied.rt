@@ -19,7 +19,7 @@ use types::value::Environment;
 /// environment, and when the task has ended. Returns 0 for the label of another statement. In an
 /// array of 1,024 places, an async that may write the first 300 copies 88.
 ///
-/// `carve` of `holdings` copies at most half of that, for all other holders of blocks of the array.
+/// `carve` of `holdings` copies at most half of that, no matter who else holds blocks of the array.
 pub fn copied_places(
     alloc: Global,
     code: &Program,
