@@ -6,14 +6,14 @@ use Rattle.types.specs.declared.error.TypeError.TheVariants.{NotInScope, OutOfMe
 use Rattle.types.specs.declared.input_error.InputError.TheVariants.{NotJson, OutOfMemory as MemoryInInput}
 use Rattle.types.specs.declared.path.Path.{Path}
 use Rattle.gather.specs.declared.error.GatherError.TheVariants.{Lost, Double, Stranger}
-use Rattle.gather.specs.declared.run_error.RunError.TheVariants.{OutOfMemory as MemoryInRun, Gather}
+use Rattle.gather.specs.declared.run_error.RunError.TheVariants.{OutOfMemory as MemoryInRun, Gather, Unlogged}
 use Rattle.trace_text.specs.declared.error.TraceError.TheVariants.{NotALine, NoMemory as MemoryInTrace}
 use Rattle.intake.specs.FailureStatus.{failure_status}
 use Rattle.intake.specs.declared.failure.Failure.TheVariants.{CannotRead, NotUtf8, Syntax, Types, Race, NoMemoryInCheck}
 use Rattle.intake.specs.declared.failure.Failure.TheVariants.{Input, Run, ChoicesNotUnderstood, NoLeaf, CannotWriteOutput, NoMemory}
-use Rattle.intake.specs.declared.failure.Failure.TheVariants.{NotLaidOut, CannotWrite, Trace, Illegal, StrangeEvents}
+use Rattle.intake.specs.declared.failure.Failure.TheVariants.{NotLaidOut, CannotWrite, Trace, Illegal}
 
--- ---- want of memory, wherever it comes
+-- ---- running out of memory, anywhere
 
 no_memory : failure_status NoMemory ≡ 4
 no_memory = refl
@@ -36,7 +36,7 @@ no_memory_in_run = refl
 no_memory_in_trace : failure_status (Trace MemoryInTrace) ≡ 4
 no_memory_in_trace = refl
 
--- ---- results that make no whole, and events that aren't the run's own
+-- ---- inconsistent results, and invalid recorded events
 
 lost_result : (path : Path) → failure_status (Run (Gather (Lost path))) ≡ 5
 lost_result path = refl
@@ -47,10 +47,10 @@ second_result path = refl
 strange_result : (path : Path) → failure_status (Run (Gather (Stranger path))) ≡ 5
 strange_result path = refl
 
-strange_events : failure_status StrangeEvents ≡ 5
+strange_events : failure_status (Run Unlogged) ≡ 5
 strange_events = refl
 
--- ---- refusals
+-- ---- rejections
 
 unread_file : (name : String Global) → failure_status (CannotRead name) ≡ 1
 unread_file name = refl

@@ -34,12 +34,10 @@ impl<'p> World<'p> {
             Event::Resume { worker, path } => self.resume(*worker, path),
         }
     }
-}
 
-impl<'p> World<'p> {
     /// Applies an event in a world that is discarded after an error. No task is copied before it
     /// acts.
-    fn go_by(&mut self, event: &Event) -> Result<(), EventError>
+    pub fn go_by(&mut self, event: &Event) -> Result<(), EventError>
         requires { IsWorld self.old }
         ensures legal { OnOk result (Becomes (event_of event.now) self.old self.new) }
         ensures refused { IfErr result

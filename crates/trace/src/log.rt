@@ -1,13 +1,16 @@
 //! The events of a run so far, with the world that they lead to.
 
+ghost use Rattle.std.specs.Bool.{OnTrue};
 ghost use Rattle.std.specs.Prelude.{◌≡◌, ◌∷◌, ◌++◌, [], IfErr, IfOk, OnOk};
 ghost use Rattle.types.specs.Contents.{FitsArrays};
 ghost use Rattle.types.specs.Translation.{input as lists_in};
 ghost use Rattle.types.specs.Typed.{code_of};
+ghost use Rattle.gather.specs.Jobs.{outcome_of};
 ghost use Rattle.interleave.specs.Replaying.{event as event_of};
 ghost use Rattle.interleave.specs.Shown.{Becomes};
-ghost use Rattle.interleave.specs.declared.error.EventError.TheVariants.{NoMemory};
-ghost use Rattle.trace.specs.Logs.{IsClean, IsRefusedBy, Leaves, job_of};
+ghost use Rattle.interleave.specs.declared.error.EventError.TheVariants.{Illegal, NoMemory};
+ghost use Rattle.interleave.specs.Walks.{IsIllegal};
+ghost use Rattle.trace.specs.Logs.{IsClean, IsRefusedBy, LeadsToOutcome, Leaves, job_of};
 
 use events::event::Event;
 use interleave::error::{EventError, ReplayError};
@@ -107,11 +110,35 @@ impl<'p> Log<'p> {
         Ok(())
     }
 
+    /// Returns the log with one more event, and with the world that this event leads to. It copies
+    /// no task before the task acts, unlike `record`. After an error the log is lost.
+    pub fn append(self, event: Event) -> Result<Log<'p>, EventError>
+        ensures appended { IfOk result (λ l. l.events ≡ self.entry.events ++ event.entry ∷ []) }
+        ensures moved { IfOk result (λ l. Becomes (event_of event.entry) self.entry.world l.world) }
+        ensures refused { IfErr result
+            (λ e. e ≡ Illegal → IsIllegal self.entry.world (event_of event.entry)) }
+        ensures job { IfOk result (λ l. l.world.job ≡ self.entry.world.job) }
+    {
+        let Log { world, events } = self;
+        let mut world = world;
+        let mut events = events;
+        world.go_by(&event)?;
+        events.push(event)?;
+        Ok(Log { world, events })
+    }
+
     /// Returns the events, in the order in which they were recorded.
     pub fn events(&self) -> &[Event]
         ensures { result.now ≡ self.now.events }
     {
         self.events.as_slice()
+    }
+
+    /// Returns whether the run has finished according to the events.
+    pub fn has_ended(&self) -> bool
+        ensures ended { OnTrue result (LeadsToOutcome self.now (outcome_of self.now.world.job.job)) }
+    {
+        self.world().outcome().is_some()
     }
 
     /// Returns the world that they lead to.
