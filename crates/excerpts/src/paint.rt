@@ -28,7 +28,7 @@ const BAR: &str = " | ";
 /// How many characters stand before a bar at least.
 const MARGIN: usize = 6;
 
-const MEND: &str = "To mend it:";
+const MEND: &str = "help:";
 
 /// A text that explains, with its colours where it is to have them: the numbers and bars before
 /// lines of a program, the carets under them, and the words `To mend it:`.

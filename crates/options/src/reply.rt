@@ -68,7 +68,7 @@ pub fn named_twice(alloc: Global) -> Result<Reply, Error>
     ensures memory { IfErr result (λ error. kind_of error ≡ OutOfMemory) }
 {
     let mistake =
-        "a file is named twice: what is written must not be read, and the standard input is read once";
+        "the same file is named twice: afx never reads and writes one file, and reads standard input once";
     Ok(Reply::Said(commands(alloc)?.error(ErrorKind::ArgumentConflict, mistake)?))
 }
 
@@ -98,9 +98,9 @@ pub fn explained(alloc: Global, given: &ArgMatches<'_>) -> Result<Reply, AllocEr
 
 /// That a word has no page, and which words have one.
 fn pages_but(alloc: Global, word: &str) -> Result<String, AllocError> {
-    let mut text = String::from_str(alloc, "no page of '")?;
+    let mut text = String::from_str(alloc, "no page for '")?;
     push_shown(&mut text, word)?;
-    text.push_str("'; there are:")?;
+    text.push_str("'; available pages:")?;
     push_name_lines(&mut text, &tables())?;
     Ok(text)
 }

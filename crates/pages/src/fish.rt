@@ -12,7 +12,7 @@ const HEAD: &str =
 complete -c afx -f
 complete -c afx -n __fish_use_subcommand -l help -d 'Prints help'
 complete -c afx -n __fish_use_subcommand -l version -d 'Prints the version'
-complete -c afx -n __fish_use_subcommand -a help -d 'Tells what a command does'
+complete -c afx -n __fish_use_subcommand -a help -d 'Print the help of a command'
 ";
 
 /// How an argument's offer is written.

@@ -56,7 +56,7 @@ fn push_commands(
 /// What each page is about.
 fn push_messages(text: &mut String) -> Result<(), AllocError> {
     text.push_str(
-        ".SH MESSAGES\nEach word has a page that tells more, by \\fBafx explain\\fR \\fIWORD\\fR.\n",
+        ".SH MESSAGES\n\\fBafx explain\\fR \\fIWORD\\fR prints the full page for each of these.\n",
     )?;
     for table in &tables() {
         for page in *table {

@@ -297,7 +297,7 @@ fn push_place(text: &mut String, name: &str) -> Result<(), AllocError>
     push_all(
         text,
         &[
-            "\n  A whole program of this shape: examples/",
+            "\n  Complete program: examples/",
             name,
             ".afx\n",
         ],

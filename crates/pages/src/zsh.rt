@@ -15,7 +15,7 @@ _afx() {
 ";
 
 /// What stands between the list of commands and their arguments.
-const MIDDLE: &str = "        'help:Tells what a command does'
+const MIDDLE: &str = "        'help:Print the help of a command'
     )
     _arguments -C '(- :)--help[Prints help]' '(- :)--version[Prints the version]' ':command:->command' '*::argument:->rest'
     case $state in

@@ -35,7 +35,7 @@ pub fn explained(
         witness.later.as_slice(),
     );
     push_accesses(&mut told, &statements, code, race, ways)?;
-    told.push_str("They may run together:\n")?;
+    told.push_str("They may run in parallel:\n")?;
     push_ways(alloc, &mut told, &statements, code, race, witness)?;
     push_unfinished(&mut told, witness)?;
     push_sharing(&mut told, code, race, witness.sharing)?;
@@ -83,9 +83,9 @@ fn push_access(
     let there = section_name(procedure_of(code, end.procedure), end.section);
     if end.procedure != procedure {
         let called = procedure_name(code, end.procedure);
-        write!(told, ", by its name {there} in {called}")?;
+        write!(told, ", as {there} in {called}")?;
     } else if end.section != access.section {
-        write!(told, ", by its name {there}")?;
+        write!(told, ", as {there}")?;
     }
     told.push_str(":\n")
 }
@@ -136,7 +136,7 @@ fn push_loop(alloc: Global, witness: &Witness, lines: &mut Vec<Line>) -> Result<
         Some(step) => {
             let label = step.label;
             let words = format!(in alloc;
-                "{label} goes round while tasks of earlier turns may still run"
+                "{label} loops while tasks from earlier iterations may still be running"
             )?;
             lines.push(Line { label, words })?;
             Ok(())

@@ -75,7 +75,7 @@ impl Front {
 
     /// Adds what may stand behind them.
     pub fn push_expected(&mut self, told: &mut String) -> Result<(), AllocError> {
-        told.push_str("Here may stand:")?;
+        told.push_str("Expected one of:")?;
         if self.takes_name()? {
             told.push_str(" a name")?;
         }

@@ -5,21 +5,21 @@ use syntax::token::{Mark, Spanned, Token, Word};
 
 const ELSE_IF: &str = "there is no `else if`: write `else { if .. { .. } }`";
 
-const BLOCK: &str = "begin the block with `{`";
+const BLOCK: &str = "start the block with `{`";
 
 const FOR: &str = "there is no `for`: write `var i = 0; while i < n { .. i = i + 1; }`";
 
 /// What would be right in place of a character that begins no token.
 pub fn mend_of_character(character: Option<char>) -> &'static str {
     match character {
-        Some('&') => "write `and` between truth values",
-        Some('|') => "write `or` between truth values",
-        Some('!') => "write `not` before a truth value; not equal is !=",
-        Some('"') | Some('\'') => "print numbers: there are no texts",
-        Some('.') => "write a whole number; the length of a section is len(s)",
-        Some('#') => "begin a comment with //",
-        Some('\u{feff}') => "save the text without the byte order mark that stands here",
-        _ => "take it away; a comment begins with //, and not equal is !=",
+        Some('&') => "use `and`",
+        Some('|') => "use `or`",
+        Some('!') => "use `not` to negate; not equal is `!=`",
+        Some('"') | Some('\'') => "print only numbers; there are no strings",
+        Some('.') => "use an integer; the length of a section is `len(s)`",
+        Some('#') => "use `//` for a comment",
+        Some('\u{feff}') => "save the file without a byte order mark",
+        _ => "remove it; comments start with `//`, and not equal is `!=`",
     }
 }
 
@@ -66,7 +66,7 @@ impl<'t> Around<'t> {
             Some(Token::Name(name)) if is_before_block(name) => Some(BLOCK),
             Some(Token::Mark(mark)) => self.mend_of_mark(*mark),
             Some(Token::Word(Word::Array)) => {
-                Some("arrays are declared in main alone, before its first statement")
+                Some("declare arrays only at the beginning of main")
             }
             Some(Token::Word(Word::Int)) | Some(Token::Word(Word::Byte)) => self.mend_of_type(),
             Some(Token::Word(Word::Mut)) | Some(Token::Word(Word::Read)) => self.mend_of_passed(),
@@ -79,7 +79,7 @@ impl<'t> Around<'t> {
         if self.is_ended() {
             Some("declare a variable as in `var x = 1;`")
         } else if self.is_parameter() {
-            Some("write the type behind the name, as in `n: int` or `mut s: int`")
+            Some("write the type after the name, as in `n: int` or `mut s: int`")
         } else {
             self.mend_behind()
         }
@@ -89,7 +89,7 @@ impl<'t> Around<'t> {
     fn mend_of_passed(self) -> Option<&'static str> {
         match self.last {
             Some(Token::Mark(Mark::LeftParen)) | Some(Token::Mark(Mark::Comma)) => {
-                Some("write the name alone, as in `f(a);`: the parameter tells `mut` or `read`")
+                Some("write only the name, as in `f(a);`: the parameter declares `mut` or `read`")
             }
             _ => self.mend_behind(),
         }
@@ -103,19 +103,19 @@ impl<'t> Around<'t> {
             }
             (Some(Token::Word(Word::Int)), Mark::LeftBracket)
             | (Some(Token::Word(Word::Byte)), Mark::LeftBracket) => {
-                Some("take the brackets away: the length of a section s is len(s)")
+                Some("remove the brackets: the length of a section s is `len(s)`")
             }
             (Some(Token::Mark(Mark::RightBracket)), Mark::LeftBracket) => {
-                Some("write one index, as in `a[i * n + j]`: arrays have no rows")
+                Some("use one index, as in `a[i * n + j]`: arrays have one dimension")
             }
             (Some(Token::Name(_)), Mark::LeftBracket) if self.declares(Word::Array) => {
                 Some("write the type before the length, as in `array a: int[8];`")
             }
             (Some(Token::Name(_)), Mark::Colon) if self.declares(Word::Var) => {
-                Some("take the type away: variables are numbers, as in `var x = 1;`")
+                Some("remove the type: variables are integers, as in `var x = 1;`")
             }
             (_, Mark::Semicolon) if self.is_ended() => {
-                Some("take it away: a statement that does nothing is `skip;`")
+                Some("remove it; the empty statement is `skip;`")
             }
             _ => self.mend_of_step(mark),
         }
@@ -128,7 +128,7 @@ impl<'t> Around<'t> {
                 if *second == mark && (mark == Mark::Plus || mark == Mark::Minus) {
                     Some("there is no `x++`: write `x = x + 1;`")
                 } else if *second == Mark::Becomes && self.first.is_some_and(is_operator) {
-                    Some("there is no `+=` and its like: write `x = x + ..;`")
+                    Some("there are no compound assignments such as `+=`: write `x = x + ..;`")
                 } else {
                     self.mend_behind()
                 }
@@ -142,10 +142,10 @@ impl<'t> Around<'t> {
         match (self.last_but_one, self.last) {
             (_, Some(Token::Word(Word::Else))) => Some(self.mend_of_else()),
             (_, Some(Token::Word(Word::Async))) => {
-                Some("write what the task does in braces, as in `async { f(a); }`")
+                Some("put the body of the task in braces, as in `async { f(a); }`")
             }
             (_, Some(Token::Word(Word::Finish))) => {
-                Some("write what is waited for in braces, as in `finish { f(a); }`")
+                Some("put the body of the finish in braces, as in `finish { f(a); }`")
             }
             (Some(Token::Word(Word::Int)), Some(Token::Mark(Mark::LeftBracket)))
             | (Some(Token::Word(Word::Byte)), Some(Token::Mark(Mark::LeftBracket))) => {
@@ -224,13 +224,13 @@ fn mend_of_name(token: Option<&Token>) -> Option<&'static str> {
         "for" | "foreach" | "loop" => Some(FOR),
         "let" | "const" => Some("declare a variable as in `var x = 1;`"),
         "fn" | "func" | "function" | "def" | "void" => {
-            Some("begin a procedure with `proc`, as in `proc f(mut s: int) { .. }`")
+            Some("declare a procedure with `proc`, as in `proc f(mut s: int) { .. }`")
         }
-        "return" => Some("a procedure answers nothing: it writes into a section of its caller"),
-        "break" | "continue" => Some("there is no `break`: a loop ends by its guard alone"),
+        "return" => Some("procedures return no value; write the result into a section of the caller"),
+        "break" | "continue" => Some("there is no `break` or `continue`: a loop ends only by its condition"),
         "elif" | "elsif" | "elseif" => Some(ELSE_IF),
         "spawn" | "sync" | "await" => {
-            Some("begin a task by `async { .. }`, and wait for tasks by `finish { .. }`")
+            Some("start a task with `async { .. }` and wait for tasks with `finish { .. }`")
         }
         _ => None,
     }
@@ -242,9 +242,9 @@ pub fn mend_of_second(before: &[Spanned], behind: &[Spanned]) -> Option<&'static
     match first_of_statement(before) {
         Some(Token::Word(Word::Var)) | Some(Token::Name(_)) => {
             if begins_with(behind, Mark::Becomes) {
-                Some("write a statement for each assignment, as in `y = 1; x = y;`")
+                Some("use one statement per assignment, as in `y = 1; x = y;`")
             } else if begins_with(behind, Mark::Comma) {
-                Some("write a statement for each variable, as in `var x = 1; var y = 2;`")
+                Some("use one statement per variable, as in `var x = 1; var y = 2;`")
             } else {
                 None
             }

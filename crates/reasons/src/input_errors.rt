@@ -40,8 +40,8 @@ pub fn explained_input(
 }
 
 const NO_OBJECT: &str = "
-The input must be one object with a list of numbers for each array that doesn't begin with zeros.
-To mend it: write {\"a\": [1, 2]}, with the names of arrays for a.
+The input must be one object with a list of numbers for each array that doesn't start with zeros.
+help: write {\"a\": [1, 2]}, where a is the name of an array.
 ";
 
 /// Adds where a text is no JSON: the column counts bytes.
@@ -58,8 +58,8 @@ fn push_no_json(
     let characters = characters_of(line_of(text, place), column);
     place.column = u32::try_from(characters).unwrap_or(1);
     push_excerpt(told, text, place)?;
-    told.push_str("The input goes wrong as JSON here.\n")?;
-    told.push_str("To mend it: write {\"a\": [1, 2]}, with the names of arrays for a.\n")
+    told.push_str("Invalid JSON.\n")?;
+    told.push_str("help: write {\"a\": [1, 2]}, where a is the name of an array.\n")
 }
 
 /// How many characters begin in the first bytes of a line; each byte behind its end is one.
@@ -78,7 +78,7 @@ fn push_arrays(told: &mut String, arrays: &[Array]) -> Result<(), AllocError> {
     if arrays.is_empty() {
         return told.push_str("The program has no arrays.\n");
     }
-    let mut before = "Arrays of the program: ";
+    let mut before = "Arrays: ";
     for array in arrays {
         let name = array.name.as_str();
         let element = element_text(array.element);
@@ -102,7 +102,7 @@ fn push_unknown(told: &mut String, arrays: &[Array], name: &str) -> Result<(), A
     let name = Escaped(name);
     write!(told, "\nThe program has no array `{name}`.\n")?;
     push_arrays(told, arrays)?;
-    told.push_str("To mend it: take the member away, or give it the name of an array.\n")
+    told.push_str("help: remove the member, or rename it to an array.\n")
 }
 
 /// The array of a name.
@@ -130,20 +130,20 @@ fn push_length(
                 let elements = noun(wanted, "element", "elements");
                 write!(
                     told,
-                    "\nThe array `{name}` has {wanted} {elements}, and the list has {given}.\n"
+                    "\nThe array `{name}` has {wanted} {elements}, but the list has {given}.\n"
                 )?;
             }
             None => {
                 let numbers = noun(wanted, "number", "numbers");
                 write!(
                     told,
-                    "\nThe array `{name}` wants a list of {wanted} {numbers}.\n"
+                    "\nThe array `{name}` needs a list of {wanted} {numbers}.\n"
                 )?;
             }
         }
     }
     told.push_str(
-        "To mend it: give one number for each element; an array that is left out begins with zeros.\n",
+        "help: write one number for each element; an omitted array starts with zeros.\n",
     )
 }
 
@@ -163,18 +163,18 @@ fn push_element(
     };
     for (number, element) in list.iter().enumerate() {
         if !fits(array.element, element) {
-            write!(told, "\nElement {number} of `{name}`, from 0, is ")?;
+            write!(told, "\nElement {number} of `{name}` (counting from 0) is ")?;
             push_value(alloc, told, element)?;
             break;
         }
     }
     told.push_str(match array.element {
         ElementType::Int =>
-            "An int is a whole number from -9223372036854775808 to 9223372036854775807",
-        ElementType::Byte => "A byte is a whole number from 0 to 255",
+            "An int is an integer from -9223372036854775808 to 9223372036854775807",
+        ElementType::Byte => "A byte is an integer from 0 to 255",
     })?;
-    told.push_str(", written without a point or an exponent.\n")?;
-    told.push_str("To mend it: give a number that the array holds.\n")
+    told.push_str(", written without a decimal point or exponent.\n")?;
+    told.push_str("help: use a number in this range.\n")
 }
 
 /// The most characters of an element that are shown.

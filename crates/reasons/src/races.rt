@@ -27,17 +27,17 @@ pub fn explained_race(
     Ok(told)
 }
 
-const ONE: &str = "The statement may run in two tasks at once, and both may touch one place.
+const ONE: &str = "The statement may run in two tasks at the same time, and both may access the same element.
 ";
 
 const TWO: &str =
-    "One of them may still run in a task while the other runs, since no finish waits for it, and both may touch one place.
+    "One of them may still be running in a task while the other runs, because no finish waits for it. Both may access the same element.
 ";
 
 const MEND: &str =
-    "The check sees whole sections, whatever the indices are; only the two sides of one split are known to be apart.
-To mend it: put the statements that start the tasks into a finish, behind which the other access stands; or give each
-task a part of its own by split.
+    "The check compares whole sections and ignores indices; only the two sides of one split are known not to overlap.
+help: put the statements that start the tasks inside a finish that ends before the other access, or use split to give
+each task its own part.
 ";
 
 /// Adds the line of the statement that has an access, told as `2 write a`.

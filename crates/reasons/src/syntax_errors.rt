@@ -36,21 +36,21 @@ pub fn explained_syntax(
 /// stand there: the parser goes over all of them for each.
 const MOST_TOKENS: usize = 50_000;
 
-const TOO_LARGE: &str = "A number is at most 9223372036854775807.
-To mend it: write a smaller one.
+const TOO_LARGE: &str = "The largest number is 9223372036854775807.
+help: use a smaller number.
 ";
 
-const TOO_DEEP: &str = "With this bracket more than 100 are open.
-To mend it: put a part of the expression into a variable, or of the block into a procedure.
+const TOO_DEEP: &str = "Brackets are nested more than 100 deep here.
+help: move part of the expression into a variable, or part of the block into a procedure.
 ";
 
 const TOO_LONG: &str = "
-A text has at most 1048576 bytes.
-To mend it: shorten it; numbers are read from a file by --input.
+A program can have at most 1048576 bytes.
+help: shorten it; use --input to read numbers from a file.
 ";
 
 const NO_VALUE: &str =
-    "a procedure gives no value: call it as a statement, as in `f(a);`, and let it write into a section";
+    "procedures return no value: call it as a statement, as in `f(a);`, and let it write into a section";
 
 /// Adds that no token begins with the character at a place.
 fn push_no_token(told: &mut String, text: &str, place: Place) -> Result<(), AllocError> {
@@ -58,7 +58,7 @@ fn push_no_token(told: &mut String, text: &str, place: Place) -> Result<(), Allo
     let mend = mend_of_character(line_of(text, place).chars().nth(before));
     write!(
         told,
-        "No token begins with this character.\nTo mend it: {mend}.\n"
+        "Unexpected character.\nhelp: {mend}.\n"
     )
 }
 
@@ -75,14 +75,14 @@ fn push_unexpected(alloc: Global, told: &mut String, text: &str) -> Result<(), A
     let behind = tokens.split_off(at)?;
     let mut front = Front::new(alloc, tokens);
     match behind.as_slice() {
-        [] => told.push_str("The text ends here, and a program can't end so.\n")?,
+        [] => told.push_str("Unexpected end of file.\n")?,
         [stood, ..] => push_stood(told, &stood.token)?,
     }
     if front.is_ended()? {
         return push_ended(told, &behind);
     }
     if at > MOST_TOKENS {
-        return told.push_str("To mend it: look at what stands before it.\n");
+        return told.push_str("help: look at the code before this.\n");
     }
     if is_word(&behind) && front.wants_name()? {
         return push_reserved(told);
@@ -94,26 +94,26 @@ fn push_unexpected(alloc: Global, told: &mut String, text: &str) -> Result<(), A
 /// Adds what stood there.
 fn push_stood(told: &mut String, stood: &Token) -> Result<(), AllocError> {
     match stood {
-        Token::Name(name) => write!(told, "The name `{name}` may not stand here.\n"),
-        Token::Number(number) => write!(told, "The number {number} may not stand here.\n"),
+        Token::Name(name) => write!(told, "Unexpected name `{name}`.\n"),
+        Token::Number(number) => write!(told, "Unexpected number {number}.\n"),
         Token::Word(word) => {
             let word = word_text(*word);
-            write!(told, "`{word}`, a reserved word, may not stand here.\n")
+            write!(told, "Unexpected reserved word `{word}`.\n")
         }
         Token::Mark(mark) => {
             let mark = mark_text(*mark);
-            write!(told, "`{mark}` may not stand here.\n")
+            write!(told, "Unexpected `{mark}`.\n")
         }
     }
 }
 
 /// Adds that nothing may stand behind main.
 fn push_ended(told: &mut String, behind: &[Spanned]) -> Result<(), AllocError> {
-    told.push_str("A program ends with the `}` of main, and nothing may stand behind it.\n")?;
+    told.push_str("The program ends with the `}` of main; nothing may follow it.\n")?;
     told.push_str(if is_procedure(behind) {
-        "To mend it: write the procedure before main.\n"
+        "help: move the procedure before main.\n"
     } else {
-        "To mend it: take this away; or is a `}` before it one too many?\n"
+        "help: remove this, or check for an extra `}` before it.\n"
     })
 }
 
@@ -135,7 +135,7 @@ fn is_word(tokens: &[Spanned]) -> bool {
 
 /// Adds that a name would be right, and the words that are none.
 fn push_reserved(told: &mut String) -> Result<(), AllocError> {
-    told.push_str("A name must stand here, and a reserved word is none. Reserved:\n ")?;
+    told.push_str("Expected a name. Reserved words:\n ")?;
     let mut width: usize = 1;
     for word in WORDS {
         if width > 90 {
@@ -145,12 +145,12 @@ fn push_reserved(told: &mut String) -> Result<(), AllocError> {
         write!(told, " {word}")?;
         width = width.saturating_add(word.len()).saturating_add(1);
     }
-    told.push_str("\nTo mend it: take another name.\n")
+    told.push_str("\nhelp: use another name.\n")
 }
 
 /// Adds what would be right.
 fn push_mend(told: &mut String, front: &mut Front, behind: &[Spanned]) -> Result<(), AllocError> {
-    told.push_str("To mend it: ")?;
+    told.push_str("help: ")?;
     told.push_str(match Around::of(front.tokens(), behind).mend() {
         Some(mend) => mend,
         None => usual_mend(front, behind)?,
@@ -167,16 +167,16 @@ fn usual_mend(front: &mut Front, behind: &[Spanned]) -> Result<&'static str, All
         }
     }
     if begins_with(behind, Mark::Becomes) && front.takes_mark(Mark::Equal)? {
-        return Ok("equal is ==");
+        return Ok("use `==` for equality");
     }
     if begins_with(behind, Mark::LeftParen) && front.ends_with_value()? {
         return Ok(NO_VALUE);
     }
     if may_end {
-        return Ok("a statement ends with `;`: write it before this");
+        return Ok("add `;` before this");
     }
     if behind.is_empty() && front.takes_mark(Mark::RightBrace)? {
-        return Ok("close each block that is open with `}`");
+        return Ok("close every open block with `}`");
     }
-    Ok("write one of these here")
+    Ok("use one of these")
 }

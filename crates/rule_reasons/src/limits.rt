@@ -21,42 +21,42 @@ struct Limit {
 const PROCEDURES: Limit = Limit {
     most: 256,
     owner: "A program",
-    what: "procedures beside main",
-    mend: "take those away that nothing calls, or write one for several.",
+    what: "procedures besides main",
+    mend: "remove procedures that nothing calls, or merge several into one.",
 };
 
 const PARAMETERS: Limit = Limit {
     most: 16,
     owner: "A procedure",
     what: "parameters",
-    mend: "pass several numbers as the elements of one section.",
+    mend: "pass several numbers as elements of one section.",
 };
 
 const ARRAYS: Limit = Limit {
     most: 32,
     owner: "A program",
     what: "arrays",
-    mend: "write a larger one for several, and name its parts by split.",
+    mend: "use one larger array for several, and name its parts with split.",
 };
 
 const ELEMENTS: Limit = Limit {
     most: 4_194_304,
     owner: "A program",
-    what: "elements of all arrays together",
-    mend: "declare smaller arrays, or fewer.",
+    what: "elements in all arrays together",
+    mend: "declare smaller or fewer arrays.",
 };
 
 const STATEMENTS: Limit = Limit {
     most: 65_535,
     owner: "A program",
     what: "statements",
-    mend: "write loops and procedures for what stands there several times.",
+    mend: "use loops and procedures for repeated code.",
 };
 
 const LIMITS: &str = "
-A program has at most 256 procedures beside main, each with at most 16 parameters, 32 arrays, 4194304 elements of all
+A program has at most 256 procedures besides main, 16 parameters for each procedure, 32 arrays, 4194304 elements in all
 arrays together, and 65535 statements.
-To mend it: stay below these.
+help: stay within these limits.
 ";
 
 /// How many a program has of what is limited, and the number of the character at which the first
@@ -120,10 +120,10 @@ fn push_limit(
     let (owner, most, what) = (limit.owner, limit.most, limit.what);
     write!(
         told,
-        "{owner} has at most {most} {what}, and this one has {many}.\n"
+        "{owner} can have at most {most} {what}; this one has {many}.\n"
     )?;
     let mend = limit.mend;
-    write!(told, "To mend it: {mend}\n")
+    write!(told, "help: {mend}\n")
 }
 
 /// What a program has of all but statements.

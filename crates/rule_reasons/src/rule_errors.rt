@@ -129,9 +129,9 @@ impl<'t> Broken<'t> {
     fn push_no_procedure(&self, told: &mut String, named: Named<'t>) -> Result<(), AllocError> {
         self.push_at(told, named.at)?;
         let name = named.name;
-        write!(told, "No procedure of the text is called `{name}`.\n")?;
+        write!(told, "There is no procedure `{name}`.\n")?;
         rule_texts::push_procedures(told, &self.source.tokens)?;
-        told.push_str("To mend it: call one that the text has, or add it before main.\n")
+        told.push_str("help: call an existing procedure, or add this one before main.\n")
     }
 
     /// A name that isn't in scope.
@@ -147,15 +147,15 @@ impl<'t> Broken<'t> {
         told.push('\n')?;
         self.push_scope(told)?;
         let is_section = wants_section(named.role) || self.is_section_argument(named)?;
-        told.push_str("To mend it: ")?;
+        told.push_str("help: ")?;
         told.push_str(if !is_section {
-            "declare it before, in this block or in one around it"
+            "declare it first, in this block or an enclosing one"
         } else if self.is_in_main() {
-            "declare an array of that name at the beginning of main"
+            "declare an array with this name at the beginning of main"
         } else {
-            "a procedure takes sections as parameters: declare it as one"
+            "add a section parameter with this name to the procedure"
         })?;
-        told.push_str("; or take a name that is in scope.\n")
+        told.push_str("; or use a name that is in scope.\n")
     }
 
     /// Whether the statement stands in main.
@@ -195,7 +195,7 @@ impl<'t> Broken<'t> {
                     let name = named.name;
                     write!(
                         told,
-                        "`{name}` is in scope here already: it was declared at "
+                        "`{name}` is already in scope: it was declared at "
                     )?;
                     self.push_place(told, declared)?;
                     told.push_str(".\n")?;
@@ -204,9 +204,9 @@ impl<'t> Broken<'t> {
         }
         if !is_told {
             self.push_start(told)?;
-            told.push_str("Both sides of the split have one name.\n")?;
+            told.push_str("Both sides of the split have the same name.\n")?;
         }
-        told.push_str("To mend it: take another name.\n")
+        told.push_str("help: use another name.\n")
     }
 
     /// A section for a scalar or a truth value for a number, or the other way.
@@ -263,12 +263,12 @@ impl<'t> Broken<'t> {
         }
         match part.wanted {
             Value::Number => {
-                told.push_str("A truth value stands here, and a number must.\n")?;
+                told.push_str("Expected a number, found a boolean.\n")?;
                 told.push_str(rule_texts::TRUTHS)?;
                 told.push_str(rule_texts::KEPT)
             }
             Value::Truth => {
-                told.push_str("A number stands here, and a truth value must.\n")?;
+                told.push_str("Expected a boolean, found a number.\n")?;
                 told.push_str(rule_texts::TRUTHS)?;
                 told.push_str(rule_texts::COMPARED)
             }
@@ -279,10 +279,10 @@ impl<'t> Broken<'t> {
     fn push_no_truth(&self, told: &mut String, section: Declared<'t>) -> Result<(), AllocError> {
         let name = section.name;
         self.push_kind(told, section)?;
-        told.push_str("a truth value must stand here.\n")?;
+        told.push_str("expected a boolean.\n")?;
         write!(
             told,
-            "To mend it: compare an element of it, as `{name}[0] != 0`, or its length, as `len({name}) != 0`.\n"
+            "help: compare an element, as in `{name}[0] != 0`, or the length, as in `len({name}) != 0`.\n"
         )
     }
 
@@ -319,18 +319,18 @@ impl<'t> Broken<'t> {
         self.push_kind(told, declared)?;
         let name = named.name;
         if !declared.kind.is_section() {
-            told.push_str("a section must stand here.\n")?;
+            told.push_str("expected a section.\n")?;
             return told.push_str(
-                "To mend it: name an array, a side of a split, or a `mut` or `read` parameter.\n",
+                "help: use an array, a side of a split, or a `mut` or `read` parameter.\n",
             );
         }
         if named.role == Role::Assigned {
             return push_no_variable(told, declared);
         }
-        told.push_str("a number must stand here.\n")?;
+        told.push_str("expected a number.\n")?;
         write!(
             told,
-            "To mend it: write an element of it, as `{name}[0]`, or its length, `len({name})`.\n"
+            "help: use an element, as in `{name}[0]`, or the length, `len({name})`.\n"
         )
     }
 
@@ -340,7 +340,7 @@ impl<'t> Broken<'t> {
         let kind = if declared.kind.is_section() {
             "section"
         } else {
-            "scalar"
+            "variable"
         };
         write!(told, "`{name}` is a {kind}, declared at ")?;
         self.push_place(told, declared)?;
@@ -382,13 +382,13 @@ impl<'t> Broken<'t> {
         let place = self.source.place(called.at);
         write!(
             told,
-            "The procedure, declared at {place}, wants {wanted} {arguments}, and the call gives {given}.\n"
+            "The procedure declared at {place} takes {wanted} {arguments}, but the call passes {given}.\n"
         )?;
         rule_texts::push_parameters(told, &called.parameters)?;
         told.push_str(if wanted == 0 {
-            "To mend it: give no argument.\n"
+            "help: remove the arguments.\n"
         } else {
-            "To mend it: give one argument for each parameter, in their order.\n"
+            "help: pass one argument for each parameter, in order.\n"
         })
     }
 
@@ -422,11 +422,11 @@ impl<'t> Broken<'t> {
         let element = parameter.kind.element();
         write!(
             told,
-            "The parameter `{name}` wants the name of a section of `{element}` here.\n"
+            "The parameter `{name}` takes the name of a section of `{element}`.\n"
         )?;
         rule_texts::push_parameters(told, &called.parameters)?;
         told.push_str(
-            "To mend it: name an array, a side of a split or a section parameter with such elements.\n",
+            "help: pass an array, a side of a split or a section parameter with this element type.\n",
         )
     }
 
@@ -442,7 +442,7 @@ impl<'t> Broken<'t> {
             let element = declared.kind.element();
             write!(told, "`{name}` is a section of `{element}`, declared at ")?;
         } else {
-            write!(told, "`{name}` is a scalar, declared at ")?;
+            write!(told, "`{name}` is a variable, declared at ")?;
         }
         self.push_place(told, declared)?;
         told.push_str(".\n")
@@ -462,14 +462,14 @@ impl<'t> Broken<'t> {
         self.push_place(told, declared)?;
         if let Some(at) = self.scope.task_around(declared) {
             let place = self.source.place(at);
-            write!(told, ", outside of the async at {place}")?;
+            write!(told, ", outside the async at {place}")?;
         }
         told.push_str(
-            ": a task has its own copies of such variables, and nobody would see what it assigns.\n",
+            ": the task has its own copy of the variable, so the assignment would be lost.\n",
         )?;
         write!(
             told,
-            "To mend it: write the answer into a section, as `out[0] = ..;`, or declare a variable inside of the async.\n"
+            "help: write the result into a section, as in `out[0] = ..;`, or declare a variable inside the async.\n"
         )
     }
 
@@ -479,7 +479,7 @@ impl<'t> Broken<'t> {
             return self.push_start(told);
         };
         self.push_at(told, at)?;
-        write!(told, "`{name}` is only read")?;
+        write!(told, "`{name}` is read-only")?;
         if let Some(declared) = self.scope.find(name) {
             told.push_str(": it is declared at ")?;
             self.push_place(told, declared)?;
@@ -490,7 +490,7 @@ impl<'t> Broken<'t> {
             })?;
         }
         told.push_str(
-            ".\nTo mend it: declare the parameter as `mut`, and pass it as `mut` all the way; or write into another section.\n",
+            ".\nhelp: declare the parameter as `mut` here and in every caller, or write into another section.\n",
         )
     }
 
@@ -524,11 +524,11 @@ impl<'t> Broken<'t> {
             let (first, second) = (one.name, other.name);
             write!(
                 told,
-                "`{first}` and `{second}` may share places, and one of them is passed as `mut`.\n"
+                "`{first}` and `{second}` may overlap, and one of them is passed as `mut`.\n"
             )?;
         }
         told.push_str(
-            "To mend it: pass sections that are apart: other arrays, or the two sides of one split.\n",
+            "help: pass sections that don't overlap: different arrays, or the two sides of one split.\n",
         )
     }
 
@@ -590,14 +590,14 @@ impl<'t> Broken<'t> {
 
 /// Adds that a section is no variable, to which a number is assigned.
 fn push_no_variable(told: &mut String, section: Declared<'_>) -> Result<(), AllocError> {
-    told.push_str("only a variable takes a number so.\n")?;
+    told.push_str("only a variable can be assigned like this.\n")?;
     if section.kind.is_read() {
-        return told.push_str("To mend it: name a variable; a `read` section is never written.\n");
+        return told.push_str("help: assign to a variable; a `read` section can't be written.\n");
     }
     let name = section.name;
     write!(
         told,
-        "To mend it: store it in an element, as `{name}[0] = ..;`, or name a variable.\n"
+        "help: store it in an element, as in `{name}[0] = ..;`, or assign to a variable.\n"
     )
 }
 

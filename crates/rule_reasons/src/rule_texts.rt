@@ -10,24 +10,24 @@ use types::error::TypeError;
 
 /// What gives a truth value, and where one must stand.
 pub const TRUTHS: &str =
-    "Comparisons, `true`, `false`, `not`, `and` and `or` give truth values; the guards of `if` and `while` and the operands
-of `not`, `and` and `or` want them; all else is numbers.
+    "Comparisons, `true`, `false`, `not`, `and` and `or` give booleans. The conditions of `if` and `while` and the operands of
+`not`, `and` and `or` must be booleans. Everything else is a number.
 ";
 
 /// What would be right for a truth value where a number must stand.
-pub const KEPT: &str = "To mend it: keep the answer as a number, by an `if`.\n";
+pub const KEPT: &str = "help: use an `if` to turn it into a number.\n";
 
 /// What would be right for a number where a truth value must stand.
-pub const COMPARED: &str = "To mend it: compare the number, as `x != 0`.\n";
+pub const COMPARED: &str = "help: compare the number, as in `x != 0`.\n";
 
 /// What a call gives.
-pub const ARGUMENTS: &str = "An argument of the call doesn't fit its parameter.
-To mend it: give a number, or the name of a section of the same elements, as the parameter says.
+pub const ARGUMENTS: &str = "An argument doesn't match its parameter.
+help: pass a number, or the name of a section with the same element type, as the parameter requires.
 ";
 
 const NO_MAIN: &str = "
-The text has no `main`, with which a run begins.
-To mend it: add `main { .. }` behind the procedures.
+The program has no `main`.
+help: add `main { .. }` after the procedures.
 ";
 
 /// Adds why a rule is broken that names no statement.
@@ -49,9 +49,9 @@ fn push_twice(told: &mut String, statements: &Statements<'_>) -> Result<(), Allo
     if let Some((first, second)) = twice(&source.tokens) {
         push_excerpt(told, statements.text, source.place(second.at))?;
         let place = source.place(first.at);
-        write!(told, "The same name was declared at {place}.\n")?;
+        write!(told, "The name was first declared at {place}.\n")?;
     }
-    told.push_str("To mend it: take another name.\n")
+    told.push_str("help: use another name.\n")
 }
 
 /// The first array, parameter or procedure that is declared a second time, behind the first time.
@@ -135,7 +135,7 @@ pub fn push_procedures(told: &mut String, tokens: &[Spanned]) -> Result<(), Allo
         if is_behind {
             if let Token::Name(name) = &spanned.token {
                 told.push_str(if count == 0 {
-                    "Procedures of the text: "
+                    "Procedures: "
                 } else {
                     ", "
                 })?;
@@ -146,7 +146,7 @@ pub fn push_procedures(told: &mut String, tokens: &[Spanned]) -> Result<(), Allo
         is_behind = is_word(&spanned.token, Word::Proc);
     }
     if count == 0 {
-        told.push_str("The text has no procedures.\n")
+        told.push_str("The program has no procedures.\n")
     } else {
         told.push('\n')
     }

@@ -76,7 +76,7 @@ pub fn push_cause(
         Cause::Raised(number) => {
             write!(
                 told,
-                "The statement itself raises the fault, with {number}.\n"
+                "The statement raised this fault with {number}.\n"
             )
         }
     }
@@ -93,13 +93,13 @@ fn push_overflow(
     if operator == Operator::Modulo {
         return write!(
             told,
-            "{left} % {right}: the least int by -1 is refused by `%` as by `/`, whose result wouldn't fit.\n"
+            "{left} % {right}: `%` overflows where `/` does, for the smallest int and -1.\n"
         );
     }
     let sign = sign_of(operator);
     write!(
         told,
-        "What {left} {sign} {right} gives doesn't fit in an int.\n"
+        "The result of {left} {sign} {right} doesn't fit in an int.\n"
     )
 }
 
@@ -147,33 +147,33 @@ fn push_value(
 /// Adds what would be right.
 pub fn push_mend(told: &mut String, spot: Spot<'_>, cause: Cause) -> Result<(), AllocError> {
     let name = spot.name;
-    told.push_str("To mend it: ")?;
+    told.push_str("help: ")?;
     match cause {
         Cause::Index { .. } => write!(
             told,
-            "test the index before, as `if 0 <= i and i < len({name}) {{ .. }}`, or give the array more elements.\n"
+            "test the index first, as in `if 0 <= i and i < len({name}) {{ .. }}`, or make the array larger.\n"
         ),
         Cause::Overflow {
             operator: Operator::Modulo,
             ..
-        } => told.push_str("test the divisor before, as `if d != -1 { .. }`.\n"),
+        } => told.push_str("test the divisor first, as in `if d != -1 { .. }`.\n"),
         Cause::Overflow { .. } | Cause::Negative { .. } => told.push_str(SMALLER),
         Cause::ZeroDivisor { .. } => {
-            told.push_str("test the divisor before, as `if d != 0 { .. }`.\n")
+            told.push_str("test the divisor first, as in `if d != 0 { .. }`.\n")
         }
         Cause::OutOfElement { .. } => told.push_str(
-            "store a number from 0 to 255, or declare the array with elements of `int`.\n",
+            "store a number from 0 to 255, or declare the array as `int`.\n",
         ),
         Cause::SplitPoint { .. } => write!(
             told,
-            "split at a number from 0 to the length, as at `len({name}) / 2`.\n"
+            "split at a number from 0 to the length, such as `len({name}) / 2`.\n"
         ),
-        Cause::Raised(_) => told.push_str("look what leads the run here: such a fault is meant.\n"),
+        Cause::Raised(_) => told.push_str("the program raised this fault on purpose; check how the run got here.\n"),
     }
 }
 
 const SMALLER: &str =
-    "keep the numbers from -9223372036854775808 to 9223372036854775807, by a test before, or by `%`.\n";
+    "keep the numbers in the range -9223372036854775808 to 9223372036854775807, with a test or with `%`.\n";
 
 /// An operator as it is written.
 fn sign_of(operator: Operator) -> char {

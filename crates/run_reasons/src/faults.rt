@@ -19,7 +19,7 @@ pub fn push_faults(
         more = more.saturating_sub(1);
     }
     if more > 0 {
-        write!(told, "\nFaults behind these: {more}\n")?;
+        write!(told, "\n{more} more faults\n")?;
     }
     Ok(())
 }

@@ -3,13 +3,13 @@
 use std::alloc::AllocError;
 use trace_text::kind::Kind;
 
-const HEADER: &str = "The first line says what was asked of the run:
+const HEADER: &str = "The first line is the header:
   {\"format\":1,\"nest\":100,\"steps\":1000000,\"w0\":1048576,\"workers\":4}
-with no blank, and its numbers in the ranges of those options.
+It has no spaces, and its numbers are in the ranges of the options of the same names.
 ";
 
 const KINDS: &str =
-    "A line is an event, as {\"e\":\"step\",\"path\":\"0.1\"}. Events: take steal step replenish spawn open park end pass resume.
+    "Each line is an event, such as {\"e\":\"step\",\"path\":\"0.1\"}. Events: take steal step replenish spawn open park end pass resume.
 ";
 
 /// Adds how a line of a trace is written.
@@ -25,7 +25,7 @@ pub fn push_line_form(told: &mut String, line: &str, number: usize) -> Result<()
             let form = form_of(kind);
             write!(
                 told,
-                "{article} {name} is written so, with no blank, and no zero before a number:\n  {form}\n"
+                "{article} {name} event is written like this, without spaces or leading zeros:\n  {form}\n"
             )
         }
     }
@@ -73,23 +73,23 @@ pub fn push_kind_rule(told: &mut String, line: &str) -> Result<(), AllocError> {
 fn rule_of(kind: Kind) -> &'static str {
     match kind {
         Kind::Take =>
-            "A worker takes the task that stands in its own queue, where it works on no other.\n",
-        Kind::Steal => "A worker steals a task that stands in another's queue.\n",
+            "A worker that runs no task takes one from its own queue.\n",
+        Kind::Steal => "A worker steals a task from another worker's queue.\n",
         Kind::Step =>
-            "A task in a worker's hand takes a step where its next statement is neither an async nor a finish.\n",
+            "A running task takes a step if its next statement is neither an async nor a finish.\n",
         Kind::Replenish =>
-            "A task in a worker's hand is replenished where its next statement is an async, and its weight is 1.\n",
+            "A running task is replenished if its next statement is an async and its weight is 1.\n",
         Kind::Spawn =>
-            "A task in a worker's hand spawns where its next statement is an async, and its weight is over 1.\n",
+            "A running task spawns if its next statement is an async and its weight is at least 2.\n",
         Kind::Open =>
-            "A task in a worker's hand opens a finish where that is its next statement.\n",
+            "A running task opens a finish if that is its next statement.\n",
         Kind::Park =>
-            "A task in a worker's hand parks at the end of a finish that it has opened, or the root at its end.\n",
+            "A running task parks at the end of a finish that it opened; the root also parks at its own end.\n",
         Kind::End =>
-            "A task in a worker's hand, other than the root, ends where nothing is left of it.\n",
+            "A running task other than the root ends when it has no statements left.\n",
         Kind::Pass =>
-            "A finish passes where its owner is parked at it, and all that was begun in it has ended.\n",
+            "A finish passes when its owner is parked and all tasks started in it have ended.\n",
         Kind::Resume =>
-            "A worker resumes a task that was parked at a finish that has passed, where it works on no other.\n",
+            "A worker that runs no task resumes a task parked at a finish that has passed.\n",
     }
 }

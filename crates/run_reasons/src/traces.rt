@@ -30,11 +30,11 @@ fn push_no_line(told: &mut String, trace: &str, number: usize) -> Result<(), All
     push_excerpt(told, trace, beginning(number))?;
     if is_cut(trace, number) {
         told.push_str(
-            "Each line of a trace ends with a line feed, and this one, the last, doesn't.\n",
+            "The last line has no line feed at its end.\n",
         )?;
     }
     push_line_form(told, line_of(trace, number), number)?;
-    told.push_str("To mend it: write the trace anew, by `run --trace`.\n")
+    told.push_str("help: record the trace again with `run --trace`.\n")
 }
 
 /// An event that can't come where it stands.
@@ -42,11 +42,11 @@ fn push_event(told: &mut String, trace: &str, event: usize) -> Result<(), AllocE
     let number = event.saturating_add(2);
     push_excerpt(told, trace, beginning(number))?;
     told.push_str(
-        "All before it can happen in a run of this program on this input, and this can't come next.\n",
+        "All earlier events are legal for this program and input; this one isn't.\n",
     )?;
     push_kind_rule(told, line_of(trace, number))?;
     told.push_str(
-        "To mend it: give the program, the input and the trace of one run; or write the trace anew, by `run --trace`.\n",
+        "help: use the program and input of the traced run, or record the trace again with `run --trace`.\n",
     )
 }
 

@@ -60,8 +60,8 @@ fn push_tasks(text: &mut String, summary: &Summary) -> Result<(), AllocError>
     let most_tasks = summary.most_tasks;
     write!(
         text,
-        "steals: {steals}\nreplenishings: {replenishings}\n\
-         deepest nest: {deepest_nest}\nmost tasks alive: {most_tasks}\n"
+        "steals: {steals}\nreplenishments: {replenishings}\n\
+         deepest nest: {deepest_nest}\nmost live tasks: {most_tasks}\n"
     )
 }
 

@@ -147,6 +147,6 @@ fn push_counter(text: &mut String, in_hands: &[usize]) -> Result<(), AllocError>
 fn push_count(text: &mut String, number: usize, count: usize) -> Result<(), AllocError> {
     write!(
         text,
-        ",\n{{\"ph\":\"C\",\"name\":\"tasks in hands\",\"pid\":0,\"ts\":{number},\"args\":{{\"tasks\":{count}}}}}"
+        ",\n{{\"ph\":\"C\",\"name\":\"running tasks\",\"pid\":0,\"ts\":{number},\"args\":{{\"tasks\":{count}}}}}"
     )
 }

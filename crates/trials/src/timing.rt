@@ -211,7 +211,7 @@ fn push_times(text: &mut String, run: &str, times: Times) -> Result<(), AllocErr
 {
     let least = times.least;
     let median = times.median;
-    write!(text, "{run}: least {least} us, median {median} us\n")
+    write!(text, "{run}: min {least} us, median {median} us\n")
 }
 
 /// How many tasks there were, and how many places are copied for them.

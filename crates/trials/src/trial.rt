@@ -177,7 +177,7 @@ fn otherwise(alloc: Global, stem: &str) -> Result<String, Failure>
     ensures why { IfErr result (λ f. f ≡ Failure.NoMemory) }
 {
     let shown = shown_of(alloc, stem)?;
-    match format!(in alloc; "{shown}.afx: tells otherwise\n") {
+    match format!(in alloc; "{shown}.afx: output differs\n") {
         Ok(line) => Ok(line),
         Err(AllocError) => Err(Failure::NoMemory),
     }
