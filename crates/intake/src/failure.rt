@@ -77,8 +77,8 @@ pub enum Failure {
     /// none, numbered from 0
     #[error("no leaf at choice {0}")]
     NoLeaf(usize),
-    /// `not laid out`: `main { }` on one line, with `fmt --check`
-    #[error("not laid out")]
+    /// `not formatted`: `main { }` on one line, with `fmt --check`
+    #[error("not formatted")]
     NotLaidOut,
     /// `cannot write /`: `run program.afx --trace /`
     #[error("cannot write {}", Escaped(.name.as_str()))]

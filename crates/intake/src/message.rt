@@ -45,7 +45,7 @@ fn emit_failure<W: Write>(err: &mut W, failure: &Failure) -> Result<(), EmitErro
         Failure::StrangeEvents => emit_text(err, "E5"),
         Failure::ChoicesNotUnderstood => emit_text(err, "choices not understood"),
         Failure::NoLeaf(choice) => emit_numbered(err, "no leaf at choice ", *choice),
-        Failure::NotLaidOut => emit_text(err, "not laid out"),
+        Failure::NotLaidOut => emit_text(err, "not formatted"),
         Failure::CannotWrite { name } => emit_file(err, "cannot write ", name.as_str()),
         Failure::CannotWriteOutput => emit_text(err, "cannot write output"),
         Failure::NoMemory => emit_text(err, "no memory"),

@@ -77,7 +77,7 @@ const LINES: Entry = Entry {
 
 const CHECK: Entry = Entry {
     name: "check",
-    help: "Print nothing if the file is formatted; otherwise print `not laid out` and exit with status 1",
+    help: "Print nothing if the file is formatted; otherwise print `not formatted` and exit with status 1",
     takes: Takes::NothingBut(&["write"]),
 };
 

@@ -36,12 +36,12 @@ const PAGES: &[Page] = &[
         mend: "Save the file as UTF-8. Outside comments a program is ASCII only.",
     },
     page! {
-        name: "not-laid-out",
-        others: ["not laid out"],
+        name: "not-formatted",
+        others: ["not formatted"],
         about: "program is not formatted",
         rule: "`fmt --check` compares the file with the output of `fmt` byte by byte and changes nothing. The exit status is 1.",
         program: ["main {", "skip;", "}"],
-        tells: "fmt --check program.afx" => "not laid out",
+        tells: "fmt --check program.afx" => "not formatted",
         mend: "Format the file in place: `afx fmt --write program.afx`.",
     },
     page! {

@@ -10,8 +10,8 @@ use std::alloc::{AllocError, Global};
 const HEAD: &str =
     "# Completions of afx for fish: afx completions fish >~/.config/fish/completions/afx.fish
 complete -c afx -f
-complete -c afx -n __fish_use_subcommand -l help -d 'Prints help'
-complete -c afx -n __fish_use_subcommand -l version -d 'Prints the version'
+complete -c afx -n __fish_use_subcommand -l help -d 'Print help'
+complete -c afx -n __fish_use_subcommand -l version -d 'Print version'
 complete -c afx -n __fish_use_subcommand -a help -d 'Print the help of a command'
 ";
 
@@ -53,7 +53,7 @@ fn push_command(alloc: Global, text: &mut String, command: &Command<'_>) -> Resu
         push_argument(alloc, text, command.get_name(), arg)?;
     }
     push_begin(text, command.get_name())?;
-    text.push_str(" -l help -d 'Prints help'\n")
+    text.push_str(" -l help -d 'Print help'\n")
 }
 
 /// What each line of a command begins with.

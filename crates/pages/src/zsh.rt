@@ -17,7 +17,7 @@ _afx() {
 /// What stands between the list of commands and their arguments.
 const MIDDLE: &str = "        'help:Print the help of a command'
     )
-    _arguments -C '(- :)--help[Prints help]' '(- :)--version[Prints the version]' ':command:->command' '*::argument:->rest'
+    _arguments -C '(- :)--help[Print help]' '(- :)--version[Print version]' ':command:->command' '*::argument:->rest'
     case $state in
     command) _describe command commands ;;
     rest)
@@ -80,7 +80,7 @@ fn push_command(alloc: Global, text: &mut String, command: &Command<'_>) -> Resu
     for arg in command.get_arguments() {
         push_argument(alloc, text, arg)?;
     }
-    text.push_str(" \\\n            '--help[Prints help]' ;;\n")
+    text.push_str(" \\\n            '--help[Print help]' ;;\n")
 }
 
 /// An option with what it says and what stands behind it, or a positional argument.

@@ -1,6 +1,7 @@
 //! Faults.
 
 use crate::causes::{push_cause, push_mend, spot_of};
+use excerpts::nouns::noun;
 use excerpts::statements::Statements;
 use second_run::seen::{Seen, SeenFault};
 use std::alloc::AllocError;
@@ -19,7 +20,8 @@ pub fn push_faults(
         more = more.saturating_sub(1);
     }
     if more > 0 {
-        write!(told, "\n{more} more faults\n")?;
+        let faults = noun(more, "fault", "faults");
+        write!(told, "\n{more} more {faults}\n")?;
     }
     Ok(())
 }

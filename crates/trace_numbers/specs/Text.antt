@@ -26,9 +26,9 @@ work_lines s =
 abbrev pub task_lines : Summary → List ℕ
 task_lines s =
     line (codes "steals") (decimal s.steals)
-    ++ (line (codes "replenishings") (decimal s.replenishings)
+    ++ (line (codes "replenishments") (decimal s.replenishings)
     ++ (line (codes "deepest nest") (decimal s.deepest_nest)
-    ++ line (codes "most tasks alive") (decimal s.most_tasks)))
+    ++ line (codes "most live tasks") (decimal s.most_tasks)))
 
 -- the steps of a worker, where it is one of the run's, which has so many, or did some
 abbrev pub worker_line : (workers number steps : ℕ) → List ℕ

@@ -28,10 +28,10 @@ pub record AreAllOfFive (t : Timed) : Type 0 where
   pub on_two : AreOfFive t.on_two
   pub on_four : AreOfFive t.on_four
 
--- the line of a run: `serial: least 803 us, median 820 us`
+-- the line of a run: `serial: min 803 us, median 820 us`
 abbrev pub times_line : (run : List ℕ) → Times → List ℕ
 times_line run t =
-    run ++ (codes ": least " ++ (decimal t.least ++ (codes " us, median "
+    run ++ (codes ": min " ++ (decimal t.least ++ (codes " us, median "
     ++ (decimal t.median ++ codes " us\n"))))
 
 -- how many tasks there were, and how many places are copied for them

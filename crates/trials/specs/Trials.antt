@@ -104,7 +104,7 @@ pub data IsUncompared (held : Held) (t : Trial) (f : Failure) : Type 0 where
 
 -- the line of one that fails, with what steers a terminal in its name told by numbers
 pub data IsLine (held : Held) (t : Trial) (line : List ℕ) : Type 0 where
-  otherwise : IsCompared held t false → line ≡ escaped t.stem ++ codes ".afx: tells otherwise\n"
+  otherwise : IsCompared held t false → line ≡ escaped t.stem ++ codes ".afx: output differs\n"
       → IsLine held t line
   uncompared : (f : Failure) → IsUncompared held t f
       → line ≡ escaped t.stem ++ (codes ".afx: " ++ (failure_text f ++ codes "\n")) → IsLine held t line

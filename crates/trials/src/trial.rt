@@ -173,7 +173,7 @@ impl Trial<'_> {
 /// The line of a program that tells otherwise.
 fn otherwise(alloc: Global, stem: &str) -> Result<String, Failure>
     ensures line { IfOk result
-        (λ line. string_bytes line ≡ escaped stem.now ++ codes ".afx: tells otherwise\n") }
+        (λ line. string_bytes line ≡ escaped stem.now ++ codes ".afx: output differs\n") }
     ensures why { IfErr result (λ f. f ≡ Failure.NoMemory) }
 {
     let shown = shown_of(alloc, stem)?;
