@@ -39,7 +39,7 @@ fn alike(text: &str, laid: &str) -> usize {
 fn push_first(told: &mut String, text: &str) -> Result<(), AllocError> {
     match text.chars().next() {
         None => told.push_str("the end of the file"),
-        Some('\n') => told.push_str("a line feed"),
+        Some('\n') => told.push_str("a newline"),
         Some('\r') => told.push_str("a carriage return"),
         Some('\t') => told.push_str("a tab"),
         Some(' ') => told.push_str("a space"),

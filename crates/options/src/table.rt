@@ -1,5 +1,5 @@
-//! The commands and what may stand behind them: the one table from which words are read, and from
-//! which help, completions and the manual page are.
+//! The commands with their arguments and options. Arguments are parsed by this one table, and help,
+//! completions and the manual page are written from it.
 
 use clap::{Arg, ArgAction, Command, value_parser};
 use pages::manual::Closing;
@@ -11,12 +11,12 @@ use std::alloc::{AllocError, Global};
 struct Row {
     name: &'static str,
     about: &'static str,
-    /// What stands behind its help.
+    /// The text after its help.
     example: &'static str,
     entries: &'static [Entry],
 }
 
-/// A file, a word or an option that may stand behind a command.
+/// An argument or an option of a command.
 #[derive(Clone, Copy)]
 struct Entry {
     name: &'static str,
@@ -24,32 +24,32 @@ struct Entry {
     takes: Takes,
 }
 
-/// What an entry is or takes.
+/// What an entry is, or the value that it takes.
 #[derive(Clone, Copy)]
 enum Takes {
-    /// It is the name of a file or of a folder, which must stand there.
+    /// A required argument: the name of a file or a folder.
     File,
-    /// It is the name of a shell, which must stand there.
+    /// A required argument: the name of a shell.
     Shell,
-    /// It is words.
+    /// Any number of arguments.
     Words,
     /// An option without a value.
     Nothing,
-    /// The same, with which these options don't go.
+    /// An option without a value that conflicts with these options.
     NothingBut(&'static [&'static str]),
-    /// An option with a text, of which the help says what it is.
+    /// An option with a text value. The help shows this name for the value.
     Text(&'static str),
-    /// The same, with which these options don't go.
+    /// An option with a text value that conflicts with these options.
     TextBut(&'static str, &'static [&'static str]),
-    /// An option with one of these words, of which the help says what they are.
+    /// An option whose value is one of these words. The help shows this name for the value.
     OneOf(&'static str, &'static [&'static str]),
-    /// An option with a number, from the first to the last.
+    /// An option with a number in this inclusive range.
     Number(i64, i64),
-    /// An option with a number of 64 bits.
+    /// An option with a 64-bit number.
     Seed,
 }
 
-// ---- what may stand behind a command
+// ---- arguments and options
 
 const FILE: Entry = Entry {
     name: "FILE",
@@ -406,13 +406,13 @@ const MANUAL: Row = Row {
     entries: &[],
 };
 
-/// All commands, in the order in which help tells them.
+/// All commands, in the order of the help.
 const ROWS: [Row; 14] = [
     RUN, SERIAL, CHECKED, LISTED, FORMATTED, PAIRED, COSTED, BENCHED, TESTED, EXPLORED, VIEWED,
     EXPLAINED, COMPLETED, MANUAL,
 ];
 
-/// What stands behind the help of the program.
+/// The text after the help of the program.
 const STATUSES: &str =
     "Without arguments, afx runs the program on standard input, as `afx run -` does. On a terminal it prints this help.
 
@@ -426,7 +426,7 @@ Exit status:
   4  out of memory, weight or threads; too many tasks
   5  internal error: a task's result was lost, or a recorded trace is invalid";
 
-/// What the manual page says behind the commands.
+/// What the manual page has after the commands.
 pub const CLOSING: Closing<'static> = Closing {
     notes: STATUSES,
     examples: &[
@@ -447,9 +447,9 @@ pub const CLOSING: Closing<'static> = Closing {
     ],
 };
 
-// ---- for `clap`
+// ---- conversion to `clap`
 
-/// The program with its commands.
+/// Returns the program with its commands.
 pub fn commands<'w>(alloc: Global) -> Result<Command<'w>, AllocError> {
     let mut program = Command::new(alloc, "afx")
         .bin_name("afx")?
@@ -464,7 +464,7 @@ pub fn commands<'w>(alloc: Global) -> Result<Command<'w>, AllocError> {
     Ok(program)
 }
 
-/// A command with what may stand behind it.
+/// Returns a command with its arguments and options.
 fn command<'w>(alloc: Global, row: Row) -> Result<Command<'w>, AllocError> {
     let mut command = Command::new(alloc, row.name)
         .about(row.about)
@@ -475,7 +475,7 @@ fn command<'w>(alloc: Global, row: Row) -> Result<Command<'w>, AllocError> {
     Ok(command)
 }
 
-/// What may stand behind a command.
+/// Returns an argument or an option of a command.
 fn argument<'w>(alloc: Global, entry: Entry) -> Result<Arg<'w>, AllocError> {
     let argument = Arg::new(alloc, entry.name).help(entry.help);
     Ok(match entry.takes {

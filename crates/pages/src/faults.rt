@@ -1,8 +1,8 @@
-//! What ends the statements of a task.
+//! Pages about faults and stopped runs.
 
 use crate::page::{Page, page};
 
-/// These pages.
+/// Returns these pages.
 pub(crate) fn pages() -> &'static [Page] {
     PAGES
 }

@@ -1,13 +1,13 @@
-//! What is told of files and of words, and want of memory that has no code.
+//! Pages about files and arguments, and about running out of memory where no other code applies.
 
 use crate::page::{Page, page};
 
-/// These pages.
+/// Returns these pages.
 pub(crate) fn pages() -> &'static [Page] {
     PAGES
 }
 
-/// Files that can't be read or written, or are no text or not laid out; and memory
+/// Files that can't be read or written, aren't UTF-8 or aren't formatted; and memory
 const PAGES: &[Page] = &[
     page! {
         name: "cannot-read",

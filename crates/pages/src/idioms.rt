@@ -1,13 +1,13 @@
-//! Shapes of programs, which `docs/COOKBOOK.md` explains.
+//! Pages about program patterns, which `docs/COOKBOOK.md` explains.
 
 use crate::page::{Page, page};
 
-/// These pages.
+/// Returns these pages.
 pub(crate) fn pages() -> &'static [Page] {
     PAGES
 }
 
-/// The shapes, by the names of their programs in `examples/`
+/// The patterns, by the names of their programs in `examples/`
 const PAGES: &[Page] = &[
     page! {
         name: "parallel_loop",

@@ -1,8 +1,8 @@
-//! Why an input is none.
+//! Pages about invalid inputs.
 
 use crate::page::{Page, page};
 
-/// These pages.
+/// Returns these pages.
 pub(crate) fn pages() -> &'static [Page] {
     PAGES
 }

@@ -1,8 +1,8 @@
-//! Races.
+//! Pages about races.
 
 use crate::page::{Page, page};
 
-/// These pages.
+/// Returns these pages.
 pub(crate) fn pages() -> &'static [Page] {
     PAGES
 }

@@ -1,8 +1,8 @@
-//! The rules of programs, and their limits.
+//! Pages about the rules of programs, and their limits.
 
 use crate::page::{Page, page};
 
-/// These pages.
+/// Returns these pages.
 pub(crate) fn pages() -> &'static [Page] {
     PAGES
 }

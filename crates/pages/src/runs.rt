@@ -1,13 +1,13 @@
-//! What ends a run as tasks, or one by choices.
+//! Pages about errors of parallel runs, and about runs by choices.
 
 use crate::page::{Page, page};
 
-/// These pages.
+/// Returns these pages.
 pub(crate) fn pages() -> &'static [Page] {
     PAGES
 }
 
-/// `E1` to `E5`, and what is told of choices
+/// `E1` to `E5`, and the messages about choices
 const PAGES: &[Page] = &[
     page! {
         name: "E1",

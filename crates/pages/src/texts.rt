@@ -1,8 +1,8 @@
-//! Why a text is no program.
+//! Pages about syntax errors.
 
 use crate::page::{Page, page};
 
-/// These pages.
+/// Returns these pages.
 pub(crate) fn pages() -> &'static [Page] {
     PAGES
 }

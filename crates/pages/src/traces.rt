@@ -1,8 +1,8 @@
-//! What a trace is, and why one is refused.
+//! Pages about traces, and about invalid traces.
 
 use crate::page::{Page, page};
 
-/// These pages.
+/// Returns these pages.
 pub(crate) fn pages() -> &'static [Page] {
     PAGES
 }

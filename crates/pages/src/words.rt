@@ -1,8 +1,8 @@
-//! The reserved words.
+//! The page of the reserved words.
 
 use crate::page::{Page, page};
 
-/// These pages.
+/// Returns these pages.
 pub(crate) fn pages() -> &'static [Page] {
     PAGES
 }

@@ -1,4 +1,4 @@
-//! What those write who come from other languages, and what would be right.
+//! Habits from other languages, and what to write instead.
 
 use excerpts::named::{begins_with, is_operator};
 use syntax::token::{Mark, Spanned, Token, Word};
@@ -9,7 +9,7 @@ const BLOCK: &str = "start the block with `{`";
 
 const FOR: &str = "there is no `for`: write `var i = 0; while i < n { .. i = i + 1; }`";
 
-/// What would be right in place of a character that begins no token.
+/// Returns what to write instead of an unexpected character.
 pub fn mend_of_character(character: Option<char>) -> &'static str {
     match character {
         Some('&') => "use `and`",
@@ -23,7 +23,7 @@ pub fn mend_of_character(character: Option<char>) -> &'static str {
     }
 }
 
-/// The tokens around the place at which a text goes wrong: three before it, and two from it on.
+/// The tokens around the place of a syntax error: three before it, and two from it on.
 #[derive(Clone, Copy)]
 pub struct Around<'t> {
     last_but_two: Option<&'t Token>,
@@ -34,7 +34,7 @@ pub struct Around<'t> {
 }
 
 impl<'t> Around<'t> {
-    /// Those between the tokens before and behind the place.
+    /// Takes the tokens around the place from those before and after it.
     pub fn of(before: &'t [Spanned], behind: &'t [Spanned]) -> Around<'t> {
         Around {
             last_but_two: before
@@ -51,7 +51,7 @@ impl<'t> Around<'t> {
         }
     }
 
-    /// What would be right, where it can be told what was meant.
+    /// Returns what to write instead, if the intention is recognised.
     pub fn mend(self) -> Option<&'static str> {
         if let Some(mend) = mend_of_name(self.first) {
             return Some(mend);
@@ -74,7 +74,7 @@ impl<'t> Around<'t> {
         }
     }
 
-    /// Where a type stands that may not.
+    /// Handles an unexpected type.
     fn mend_of_type(self) -> Option<&'static str> {
         if self.is_ended() {
             Some("declare a variable as in `var x = 1;`")
@@ -85,7 +85,7 @@ impl<'t> Around<'t> {
         }
     }
 
-    /// Where `mut` or `read` stands that may not.
+    /// Handles an unexpected `mut` or `read`.
     fn mend_of_passed(self) -> Option<&'static str> {
         match self.last {
             Some(Token::Mark(Mark::LeftParen)) | Some(Token::Mark(Mark::Comma)) => {
@@ -95,7 +95,7 @@ impl<'t> Around<'t> {
         }
     }
 
-    /// Where a mark stands that may not.
+    /// Handles an unexpected mark.
     fn mend_of_mark(self, mark: Mark) -> Option<&'static str> {
         match (self.last, mark) {
             (Some(Token::Word(Word::Main)), Mark::LeftParen) => {
@@ -121,7 +121,7 @@ impl<'t> Around<'t> {
         }
     }
 
-    /// Where a variable is to be changed in place.
+    /// Handles `x++`, `x += 1` and the like.
     fn mend_of_step(self, mark: Mark) -> Option<&'static str> {
         match self.second {
             Some(Token::Mark(second)) => {
@@ -137,7 +137,7 @@ impl<'t> Around<'t> {
         }
     }
 
-    /// By what stands before alone.
+    /// Handles the other cases, by the tokens before the place alone.
     fn mend_behind(self) -> Option<&'static str> {
         match (self.last_but_one, self.last) {
             (_, Some(Token::Word(Word::Else))) => Some(self.mend_of_else()),
@@ -155,7 +155,7 @@ impl<'t> Around<'t> {
         }
     }
 
-    /// Behind `else`.
+    /// Handles what follows `else`.
     fn mend_of_else(self) -> &'static str {
         match self.first {
             Some(Token::Word(Word::If)) => ELSE_IF,
@@ -163,7 +163,7 @@ impl<'t> Around<'t> {
         }
     }
 
-    /// Whether the last token is what a word declares.
+    /// Returns whether the last token is a name that follows this declaring word.
     fn declares(self, declaring: Word) -> bool {
         match self.last_but_one {
             Some(Token::Word(word)) => *word == declaring,
@@ -171,7 +171,8 @@ impl<'t> Around<'t> {
         }
     }
 
-    /// Whether a parameter begins here: behind `proc f(`, or behind the type of another and a comma.
+    /// Returns whether a parameter starts here: after `proc f(`, or after the type of another one
+    /// and a comma.
     fn is_parameter(self) -> bool {
         match (self.last_but_two, self.last_but_one, self.last) {
             (Some(Token::Word(Word::Proc)), _, Some(Token::Mark(Mark::LeftParen))) => true,
@@ -182,7 +183,7 @@ impl<'t> Around<'t> {
         }
     }
 
-    /// Whether `for` stands before a parenthesis that has just been opened, as in `for (i = 0;`.
+    /// Returns whether `for` precedes a parenthesis that was just opened, as in `for (i = 0;`.
     fn begins_for(self) -> bool {
         match (self.last_but_one, self.last) {
             (Some(called), Some(Token::Mark(Mark::LeftParen))) => is_for(called),
@@ -191,18 +192,18 @@ impl<'t> Around<'t> {
         }
     }
 
-    /// Whether a statement has just ended, or none has begun.
+    /// Returns whether a statement has just ended, or none has started.
     fn is_ended(self) -> bool {
         self.last.is_some_and(ends_statement)
     }
 }
 
-/// Whether a name is a word that stands before a block in other languages.
+/// Returns whether a name is a word that precedes a block in other languages.
 fn is_before_block(name: &str) -> bool {
     matches!(name, "then" | "do")
 }
 
-/// Whether a token is the name by which loops begin in other languages.
+/// Returns whether a token is a name that starts a loop in other languages.
 fn is_for(token: &Token) -> bool {
     match token {
         Token::Name(name) => matches!(name.as_str(), "for" | "foreach"),
@@ -210,12 +211,12 @@ fn is_for(token: &Token) -> bool {
     }
 }
 
-/// A token by its number, where there are so many.
+/// Returns a token by its number, if there are that many.
 fn token_at(tokens: &[Spanned], at: usize) -> Option<&Token> {
     tokens.get(at).map(|spanned| &spanned.token)
 }
 
-/// What would be right in place of a name that is a word of other languages.
+/// Returns what to write instead of a name that is a reserved word of other languages.
 fn mend_of_name(token: Option<&Token>) -> Option<&'static str> {
     let Some(Token::Name(name)) = token else {
         return None;
@@ -236,7 +237,7 @@ fn mend_of_name(token: Option<&Token>) -> Option<&'static str> {
     }
 }
 
-/// What would be right where a statement could end, and goes on with a second assignment, or with a
+/// Returns what to write if a statement could end, and continues with a second assignment or a
 /// second variable.
 pub fn mend_of_second(before: &[Spanned], behind: &[Spanned]) -> Option<&'static str> {
     match first_of_statement(before) {
@@ -253,7 +254,7 @@ pub fn mend_of_second(before: &[Spanned], behind: &[Spanned]) -> Option<&'static
     }
 }
 
-/// The first token of the statement in which the last one stands.
+/// Returns the first token of the statement that contains the last one.
 fn first_of_statement(tokens: &[Spanned]) -> Option<&Token> {
     let mut first = None;
     let mut is_new = true;
@@ -266,7 +267,7 @@ fn first_of_statement(tokens: &[Spanned]) -> Option<&Token> {
     first
 }
 
-/// Whether a statement has ended with a token, or none has begun.
+/// Returns whether a token ends a statement, or none has started.
 fn ends_statement(token: &Token) -> bool {
     match token {
         Token::Mark(mark) => {

@@ -3,8 +3,8 @@
 use excerpts::statements::Statements;
 use std::alloc::{AllocError, Global};
 
-/// What stands behind the line of a race: where both accesses stand, why they may meet, and what
-/// would be right. The accesses are given as that line tells them, as `2 write a`.
+/// Returns the text after the line of a race: where both accesses are, why they conflict, and how
+/// to fix it. The accesses are given as that line prints them, such as `2 write a`.
 pub fn explained_race(
     alloc: Global,
     text: &str,
@@ -40,7 +40,7 @@ help: put the statements that start the tasks inside a finish that ends before t
 each task its own part.
 ";
 
-/// Adds the line of the statement that has an access, told as `2 write a`.
+/// Adds the line of the statement that has an access, given as `2 write a`.
 fn push_access(
     told: &mut String,
     statements: &Statements<'_>,
@@ -57,7 +57,7 @@ fn push_access(
     statements.push_at(told, label, None)
 }
 
-/// The label of an access that is told as `2 write a`.
+/// Returns the label of an access that is given as `2 write a`.
 fn label_of(access: &str) -> u32 {
     match access.split_once(' ') {
         Some((label, _)) => u32::from_str_radix(label, 10).unwrap_or(0),

@@ -1,4 +1,4 @@
-//! Texts that spell no program.
+//! Syntax errors.
 
 use crate::expected::{Front, WORDS, mark_text, word_text};
 use crate::habits::{Around, mend_of_character, mend_of_second};
@@ -11,7 +11,7 @@ use syntax::programs::program;
 use syntax::token::{Mark, Spanned, Token, Word};
 use syntax::{Place, lexer};
 
-/// What stands behind the line of an error of a text: where, why, and what would be right.
+/// Returns the text after the line of a syntax error: where, why, and how to fix it.
 pub fn explained_syntax(
     alloc: Global,
     text: &str,
@@ -32,8 +32,8 @@ pub fn explained_syntax(
     Ok(told)
 }
 
-/// How many tokens may stand before the place at which a text goes wrong, where it is said what may
-/// stand there: the parser goes over all of them for each.
+/// The number of tokens before the error up to which the expected tokens are listed. The parser
+/// reads all of them once for each token that it tries.
 const MOST_TOKENS: usize = 50_000;
 
 const TOO_LARGE: &str = "The largest number is 9223372036854775807.
@@ -52,7 +52,7 @@ help: shorten it; use --input to read numbers from a file.
 const NO_VALUE: &str =
     "procedures return no value: call it as a statement, as in `f(a);`, and let it write into a section";
 
-/// Adds that no token begins with the character at a place.
+/// Explains an unexpected character.
 fn push_no_token(told: &mut String, text: &str, place: Place) -> Result<(), AllocError> {
     let before = usize::try_from(place.column).unwrap_or(1).saturating_sub(1);
     let mend = mend_of_character(line_of(text, place).chars().nth(before));
@@ -62,7 +62,7 @@ fn push_no_token(told: &mut String, text: &str, place: Place) -> Result<(), Allo
     )
 }
 
-/// Adds which token may not stand where it does, and what may stand there.
+/// Adds which token is unexpected, and which ones are expected.
 fn push_unexpected(alloc: Global, told: &mut String, text: &str) -> Result<(), AllocError> {
     let characters: Vec<char> = text.chars().collect(alloc)?;
     let Ok(mut tokens) = lexer::tokens(alloc, &characters) else {
@@ -91,7 +91,7 @@ fn push_unexpected(alloc: Global, told: &mut String, text: &str) -> Result<(), A
     push_mend(told, &mut front, &behind)
 }
 
-/// Adds what stood there.
+/// Adds the unexpected token.
 fn push_stood(told: &mut String, stood: &Token) -> Result<(), AllocError> {
     match stood {
         Token::Name(name) => write!(told, "Unexpected name `{name}`.\n"),
@@ -107,7 +107,7 @@ fn push_stood(told: &mut String, stood: &Token) -> Result<(), AllocError> {
     }
 }
 
-/// Adds that nothing may stand behind main.
+/// Explains text after main.
 fn push_ended(told: &mut String, behind: &[Spanned]) -> Result<(), AllocError> {
     told.push_str("The program ends with the `}` of main; nothing may follow it.\n")?;
     told.push_str(if is_procedure(behind) {
@@ -117,7 +117,7 @@ fn push_ended(told: &mut String, behind: &[Spanned]) -> Result<(), AllocError> {
     })
 }
 
-/// Whether a `proc` stands first.
+/// Returns whether the first token is `proc`.
 fn is_procedure(behind: &[Spanned]) -> bool {
     match behind {
         [first, ..] => matches!(&first.token, Token::Word(Word::Proc)),
@@ -125,7 +125,7 @@ fn is_procedure(behind: &[Spanned]) -> bool {
     }
 }
 
-/// Whether a reserved word stands first.
+/// Returns whether the first token is a reserved word.
 fn is_word(tokens: &[Spanned]) -> bool {
     match tokens {
         [first, ..] => matches!(&first.token, Token::Word(_)),
@@ -133,7 +133,7 @@ fn is_word(tokens: &[Spanned]) -> bool {
     }
 }
 
-/// Adds that a name would be right, and the words that are none.
+/// Adds that a name is expected, and lists the reserved words.
 fn push_reserved(told: &mut String) -> Result<(), AllocError> {
     told.push_str("Expected a name. Reserved words:\n ")?;
     let mut width: usize = 1;
@@ -148,7 +148,7 @@ fn push_reserved(told: &mut String) -> Result<(), AllocError> {
     told.push_str("\nhelp: use another name.\n")
 }
 
-/// Adds what would be right.
+/// Adds how to fix it.
 fn push_mend(told: &mut String, front: &mut Front, behind: &[Spanned]) -> Result<(), AllocError> {
     told.push_str("help: ")?;
     told.push_str(match Around::of(front.tokens(), behind).mend() {
@@ -158,7 +158,7 @@ fn push_mend(told: &mut String, front: &mut Front, behind: &[Spanned]) -> Result
     told.push_str(".\n")
 }
 
-/// What would be right as far as what may stand here tells it.
+/// Returns the usual fix, found by which tokens can follow.
 fn usual_mend(front: &mut Front, behind: &[Spanned]) -> Result<&'static str, AllocError> {
     let may_end = front.takes_mark(Mark::Semicolon)?;
     if may_end && front.takes_mark(Mark::Plus)? {

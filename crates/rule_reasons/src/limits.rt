@@ -1,4 +1,4 @@
-//! Programs that have more of a thing than they may.
+//! Programs that exceed a limit.
 
 use crate::rule_texts::is_word;
 use excerpts::source::push_excerpt;
@@ -8,11 +8,11 @@ use std::alloc::{AllocError, Global};
 use syntax::Place;
 use syntax::token::{Spanned, Token, Word};
 
-/// A limit, and what is said of a program that is over it.
+/// A limit, and what is printed about a program that exceeds it.
 #[derive(Clone, Copy)]
 struct Limit {
     most: u64,
-    /// Who may have no more, and of what.
+    /// What the limit applies to: a program or a procedure.
     owner: &'static str,
     what: &'static str,
     mend: &'static str,
@@ -59,8 +59,8 @@ arrays together, and 65535 statements.
 help: stay within these limits.
 ";
 
-/// How many a program has of what is limited, and the number of the character at which the first
-/// stands that is too many.
+/// The number of things in a program that a limit counts, and the character at which the first one
+/// over the limit starts.
 #[derive(Clone, Copy)]
 struct Count {
     limit: Limit,
@@ -69,7 +69,7 @@ struct Count {
 }
 
 impl Count {
-    /// None yet.
+    /// Starts to count at 0.
     fn of(limit: Limit) -> Count {
         Count {
             limit,
@@ -78,7 +78,7 @@ impl Count {
         }
     }
 
-    /// Counts so many more, which stand at a character.
+    /// Counts this many more things, at a character.
     fn add(&mut self, many: u64, at: usize) {
         self.many = self.many.saturating_add(many);
         if self.many > self.limit.most && self.over.is_none() {
@@ -87,7 +87,7 @@ impl Count {
     }
 }
 
-/// Adds which limit a program is over, by how many, and what would be right.
+/// Adds which limit a program exceeds, by how much, and how to fix it.
 pub fn push_over_limit(
     alloc: Global,
     told: &mut String,
@@ -108,7 +108,7 @@ pub fn push_over_limit(
     }
 }
 
-/// Adds a limit, and where what is too many begins.
+/// Adds a limit, and the place at which it is exceeded.
 fn push_limit(
     told: &mut String,
     text: &str,
@@ -126,7 +126,7 @@ fn push_limit(
     write!(told, "help: {mend}\n")
 }
 
-/// What a program has of all but statements.
+/// Returns the counts of everything except statements.
 fn counts(alloc: Global, tokens: &[Spanned]) -> Result<Vec<Count>, AllocError> {
     let mut found = Vec::new(alloc);
     found.push(words(tokens, Word::Proc, PROCEDURES))?;
@@ -136,7 +136,7 @@ fn counts(alloc: Global, tokens: &[Spanned]) -> Result<Vec<Count>, AllocError> {
     Ok(found)
 }
 
-/// How often a word stands there.
+/// Counts the occurrences of a reserved word.
 fn words(tokens: &[Spanned], word: Word, limit: Limit) -> Count {
     let mut count = Count::of(limit);
     for spanned in tokens {
@@ -147,7 +147,7 @@ fn words(tokens: &[Spanned], word: Word, limit: Limit) -> Count {
     count
 }
 
-/// The parameters of the first procedure that has too many.
+/// Counts the parameters of the first procedure that has too many.
 fn most_parameters(alloc: Global, tokens: &[Spanned]) -> Result<Count, AllocError> {
     for (number, spanned) in tokens.iter().enumerate() {
         if is_word(&spanned.token, Word::Proc) {
@@ -164,7 +164,7 @@ fn most_parameters(alloc: Global, tokens: &[Spanned]) -> Result<Count, AllocErro
     Ok(Count::of(PARAMETERS))
 }
 
-/// The elements of the arrays, each declared as `array a: int[8];`.
+/// Counts the elements of the arrays, each declared as in `array a: int[8];`.
 fn elements(tokens: &[Spanned]) -> Count {
     let mut count = Count::of(ELEMENTS);
     for (number, spanned) in tokens.iter().enumerate() {

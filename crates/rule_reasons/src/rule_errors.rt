@@ -14,8 +14,8 @@ use syntax::Place;
 use syntax::token::{Spanned, Token, Word};
 use types::error::TypeError;
 
-/// What stands behind the line of a rule that a text's program breaks: where, why, and what would
-/// be right. Nothing where the text isn't that of such a program.
+/// Returns the text after the line of a rule that a program breaks: where, why, and how to fix it.
+/// It is empty if the text isn't that of such a program.
 pub fn explained_rule(alloc: Global, text: &str, error: TypeError) -> Result<String, AllocError> {
     let mut told = String::new(alloc);
     let Some(statements) = Statements::of(alloc, text)? else {
@@ -46,12 +46,12 @@ pub struct Broken<'t> {
     head: &'t [Spanned],
     names: Vec<Named<'t>>,
     scope: Scope<'t>,
-    /// What was declared before the statement, and is in scope no more.
+    /// What was declared before the statement and is no longer in scope.
     over: Vec<Declared<'t>>,
 }
 
 impl<'t> Broken<'t> {
-    /// The statement that begins at a place.
+    /// Finds the statement that starts at a place.
     fn at(
         alloc: Global,
         text: &'t str,
@@ -77,7 +77,7 @@ impl<'t> Broken<'t> {
         })
     }
 
-    /// Adds where the statement stands, why it breaks the rule, and what would be right.
+    /// Adds where the statement is, why it breaks the rule, and how to fix it.
     fn push(&self, told: &mut String, error: TypeError) -> Result<(), AllocError> {
         match error {
             TypeError::NotInScope { .. } => self.push_not_in_scope(told),
@@ -98,12 +98,12 @@ impl<'t> Broken<'t> {
         push_excerpt(told, self.text, self.source.place(at))
     }
 
-    /// Adds the line at which the statement begins.
+    /// Adds the line at which the statement starts.
     fn push_start(&self, told: &mut String) -> Result<(), AllocError> {
         push_excerpt(told, self.text, self.place)
     }
 
-    /// Adds the place at which a declaration stands.
+    /// Adds the place of a declaration.
     fn push_place(&self, told: &mut String, declared: Declared<'t>) -> Result<(), AllocError> {
         let place = self.source.place(declared.at);
         write!(told, "{place}")
@@ -111,7 +111,7 @@ impl<'t> Broken<'t> {
 
     // ---- the rules
 
-    /// A name or a procedure that isn't in scope.
+    /// Explains a name or a procedure that isn't in scope.
     fn push_not_in_scope(&self, told: &mut String) -> Result<(), AllocError> {
         for named in &self.names {
             if named.role == Role::Called {
@@ -125,7 +125,7 @@ impl<'t> Broken<'t> {
         self.push_start(told)
     }
 
-    /// A procedure that the text doesn't have.
+    /// Explains a call of a procedure that doesn't exist.
     fn push_no_procedure(&self, told: &mut String, named: Named<'t>) -> Result<(), AllocError> {
         self.push_at(told, named.at)?;
         let name = named.name;
@@ -134,7 +134,7 @@ impl<'t> Broken<'t> {
         told.push_str("help: call an existing procedure, or add this one before main.\n")
     }
 
-    /// A name that isn't in scope.
+    /// Explains a name that isn't in scope.
     fn push_no_name(&self, told: &mut String, named: Named<'t>) -> Result<(), AllocError> {
         self.push_at(told, named.at)?;
         let name = named.name;
@@ -158,7 +158,7 @@ impl<'t> Broken<'t> {
         told.push_str("; or use a name that is in scope.\n")
     }
 
-    /// Whether the statement stands in main.
+    /// Returns whether the statement is in main.
     fn is_in_main(&self) -> bool {
         let Some(begin) = self.head.first() else {
             return false;
@@ -184,7 +184,7 @@ impl<'t> Broken<'t> {
         told.push('\n')
     }
 
-    /// A name that is declared while the same name is in scope.
+    /// Explains a name that is declared while the same name is in scope.
     fn push_declared_twice(&self, told: &mut String) -> Result<(), AllocError> {
         let mut is_told = false;
         for named in &self.names {
@@ -209,7 +209,8 @@ impl<'t> Broken<'t> {
         told.push_str("help: use another name.\n")
     }
 
-    /// A section for a scalar or a truth value for a number, or the other way.
+    /// Explains a section where a variable is expected or a boolean where a number is expected, or
+    /// the reverse.
     fn push_wrong_kind(&self, told: &mut String) -> Result<(), AllocError> {
         let most = self.head.len().saturating_mul(2).saturating_add(1);
         if let Some(part) = wrong_part(self.alloc, self.parts()?, most)? {
@@ -232,7 +233,7 @@ impl<'t> Broken<'t> {
         told.push_str(rule_texts::COMPARED)
     }
 
-    /// The expressions of the statement, with what each must give.
+    /// Returns the expressions of the statement, with the kind of value that each must have.
     fn parts(&self) -> Result<Vec<Part<'t>>, AllocError> {
         let Some((called, given)) = self.call()? else {
             return parts_of(self.alloc, self.head);
@@ -248,7 +249,7 @@ impl<'t> Broken<'t> {
         Ok(parts)
     }
 
-    /// A truth value where a number must stand, or the other way.
+    /// Explains a boolean where a number is expected, or the reverse.
     fn push_wrong_part(&self, told: &mut String, part: Part<'t>) -> Result<(), AllocError> {
         match part.tokens.first() {
             Some(first) => self.push_at(told, first.at)?,
@@ -275,7 +276,7 @@ impl<'t> Broken<'t> {
         }
     }
 
-    /// A section where a truth value must stand.
+    /// Explains a section where a boolean is expected.
     fn push_no_truth(&self, told: &mut String, section: Declared<'t>) -> Result<(), AllocError> {
         let name = section.name;
         self.push_kind(told, section)?;
@@ -286,7 +287,7 @@ impl<'t> Broken<'t> {
         )
     }
 
-    /// Whether a scalar must stand where a name stands.
+    /// Returns whether a variable is expected where a name is used.
     fn wants_scalar(&self, named: Named<'t>) -> Result<bool, AllocError> {
         match named.role {
             Role::Assigned => Ok(true),
@@ -295,7 +296,7 @@ impl<'t> Broken<'t> {
         }
     }
 
-    /// Whether a name is an argument where the parameter is a section.
+    /// Returns whether a name is an argument for a section parameter.
     fn is_section_argument(&self, named: Named<'t>) -> Result<bool, AllocError> {
         let Some((called, given)) = self.call()? else {
             return Ok(false);
@@ -308,7 +309,7 @@ impl<'t> Broken<'t> {
         Ok(false)
     }
 
-    /// A section where a scalar must stand, or a scalar where a section must.
+    /// Explains a section where a variable is expected, or a variable where a section is expected.
     fn push_other_kind(
         &self,
         told: &mut String,
@@ -347,7 +348,7 @@ impl<'t> Broken<'t> {
         told.push_str("; ")
     }
 
-    /// A call with arguments that don't fit.
+    /// Explains a call with arguments that don't match.
     fn push_wrong_arguments(&self, told: &mut String) -> Result<(), AllocError> {
         let Some((called, given)) = self.call()? else {
             return self.push_unfit(told);
@@ -363,13 +364,13 @@ impl<'t> Broken<'t> {
         self.push_unfit(told)
     }
 
-    /// Arguments that don't fit, whichever they are.
+    /// Explains arguments that don't match, without naming one.
     fn push_unfit(&self, told: &mut String) -> Result<(), AllocError> {
         self.push_start(told)?;
         told.push_str(rule_texts::ARGUMENTS)
     }
 
-    /// A wrong number of arguments.
+    /// Explains a wrong number of arguments.
     fn push_count(
         &self,
         told: &mut String,
@@ -392,7 +393,7 @@ impl<'t> Broken<'t> {
         })
     }
 
-    /// Whether an argument is the name of a section of the parameter's element type.
+    /// Returns whether an argument is the name of a section with the parameter's element type.
     fn fits(&self, argument: &Argument<'t>, parameter: Parameter<'t>) -> bool {
         match argument.name() {
             Some(name) => match self.scope.find(name) {
@@ -405,7 +406,7 @@ impl<'t> Broken<'t> {
         }
     }
 
-    /// An argument that isn't a section of the right elements.
+    /// Explains an argument that isn't a section with the right element type.
     fn push_argument(
         &self,
         told: &mut String,
@@ -430,7 +431,7 @@ impl<'t> Broken<'t> {
         )
     }
 
-    /// Adds what stands as an argument where the name of a section must.
+    /// Adds what was found as an argument where a section is expected.
     fn push_found(&self, told: &mut String, argument: &Argument<'t>) -> Result<(), AllocError> {
         let Some(name) = argument.name() else {
             return Ok(());
@@ -448,7 +449,7 @@ impl<'t> Broken<'t> {
         told.push_str(".\n")
     }
 
-    /// A scalar that is assigned in an async outside of which it is declared.
+    /// Explains an assignment in an async to a variable that is declared outside it.
     fn push_assigned(&self, told: &mut String) -> Result<(), AllocError> {
         self.push_start(told)?;
         let Some(named) = self.names.first() else {
@@ -473,7 +474,7 @@ impl<'t> Broken<'t> {
         )
     }
 
-    /// A section that is only read, and is written or passed as `mut`.
+    /// Explains a read-only section that is written or passed as `mut`.
     fn push_read_only(&self, told: &mut String) -> Result<(), AllocError> {
         let Some((name, at)) = self.written_one()? else {
             return self.push_start(told);
@@ -494,7 +495,7 @@ impl<'t> Broken<'t> {
         )
     }
 
-    /// The `read` section that the statement writes, or passes as `mut`, with its place.
+    /// Returns the `read` section that the statement writes or passes as `mut`, with its place.
     fn written_one(&self) -> Result<Option<(&'t str, usize)>, AllocError> {
         let Some((called, given)) = self.call()? else {
             return Ok(self.names.first().map(|named| (named.name, named.at)));
@@ -509,7 +510,7 @@ impl<'t> Broken<'t> {
         Ok(None)
     }
 
-    /// Whether a name is of a section that is only read.
+    /// Returns whether a name belongs to a read-only section.
     fn is_only_read(&self, name: &str) -> bool {
         match self.scope.find(name) {
             Some(declared) => declared.kind.is_read(),
@@ -517,7 +518,7 @@ impl<'t> Broken<'t> {
         }
     }
 
-    /// A `mut` argument that overlaps another.
+    /// Explains a `mut` argument that overlaps another argument.
     fn push_overlapping(&self, told: &mut String) -> Result<(), AllocError> {
         self.push_start(told)?;
         if let Some((one, other)) = self.overlapping_ones()? {
@@ -532,7 +533,7 @@ impl<'t> Broken<'t> {
         )
     }
 
-    /// Two arguments that may share places, one of which is written.
+    /// Returns two arguments that may overlap and of which one is written.
     fn overlapping_ones(&self) -> Result<Option<(Declared<'t>, Declared<'t>)>, AllocError> {
         let Some((called, given)) = self.call()? else {
             return Ok(None);
@@ -549,15 +550,15 @@ impl<'t> Broken<'t> {
         Ok(None)
     }
 
-    /// The section that an argument is.
+    /// Returns the section that an argument is.
     fn section(&self, argument: &Argument<'t>) -> Option<Declared<'t>> {
         self.scope
             .find(argument.name()?)
             .filter(|declared| declared.kind.is_section())
     }
 
-    /// The first of the sections that were passed before that shares places with one, where one of
-    /// both is written.
+    /// Returns the first of the sections passed earlier that may overlap this one, if at least one
+    /// of the two is written.
     fn clash(
         &self,
         passed: &[(Declared<'t>, Parameter<'t>)],
@@ -573,7 +574,7 @@ impl<'t> Broken<'t> {
         None
     }
 
-    /// The procedure that the statement calls, and the arguments.
+    /// Returns the procedure that the statement calls, and the arguments.
     fn call(&self) -> Result<Option<(Procedure<'t>, Vec<Argument<'t>>)>, AllocError> {
         let Some(named) = self.names.first() else {
             return Ok(None);
@@ -588,7 +589,7 @@ impl<'t> Broken<'t> {
     }
 }
 
-/// Adds that a section is no variable, to which a number is assigned.
+/// Explains an assignment of a number to a section.
 fn push_no_variable(told: &mut String, section: Declared<'_>) -> Result<(), AllocError> {
     told.push_str("only a variable can be assigned like this.\n")?;
     if section.kind.is_read() {
@@ -601,7 +602,7 @@ fn push_no_variable(told: &mut String, section: Declared<'_>) -> Result<(), Allo
     )
 }
 
-/// Whether a section must stand where a name does this.
+/// Returns whether a name with this role must be a section.
 fn wants_section(role: Role) -> bool {
     match role {
         Role::Stored | Role::Element | Role::Measured | Role::Cut => true,

@@ -1,4 +1,4 @@
-//! Texts of rules that are broken, where no statement has to be looked at.
+//! Texts for broken rules that need no look at a statement.
 
 use excerpts::named::begins_with;
 use excerpts::source::push_excerpt;
@@ -8,19 +8,19 @@ use std::alloc::AllocError;
 use syntax::token::{Mark, Spanned, Token, Word};
 use types::error::TypeError;
 
-/// What gives a truth value, and where one must stand.
+/// What gives a boolean, and where one is expected.
 pub const TRUTHS: &str =
     "Comparisons, `true`, `false`, `not`, `and` and `or` give booleans. The conditions of `if` and `while` and the operands of
 `not`, `and` and `or` must be booleans. Everything else is a number.
 ";
 
-/// What would be right for a truth value where a number must stand.
+/// How to fix a boolean where a number is expected.
 pub const KEPT: &str = "help: use an `if` to turn it into a number.\n";
 
-/// What would be right for a number where a truth value must stand.
+/// How to fix a number where a boolean is expected.
 pub const COMPARED: &str = "help: compare the number, as in `x != 0`.\n";
 
-/// What a call gives.
+/// What a call passes.
 pub const ARGUMENTS: &str = "An argument doesn't match its parameter.
 help: pass a number, or the name of a section with the same element type, as the parameter requires.
 ";
@@ -30,7 +30,7 @@ The program has no `main`.
 help: add `main { .. }` after the procedures.
 ";
 
-/// Adds why a rule is broken that names no statement.
+/// Explains a broken rule whose message names no statement.
 pub fn push_without_label(
     told: &mut String,
     statements: &Statements<'_>,
@@ -54,7 +54,8 @@ fn push_twice(told: &mut String, statements: &Statements<'_>) -> Result<(), Allo
     told.push_str("help: use another name.\n")
 }
 
-/// The first array, parameter or procedure that is declared a second time, behind the first time.
+/// Returns the first array, parameter or procedure that is declared twice: the first declaration
+/// and the second.
 fn twice(tokens: &[Spanned]) -> Option<(&Spanned, &Spanned)> {
     let mut left = tokens;
     'tokens: while let [first, behind @ ..] = left {
@@ -68,7 +69,7 @@ fn twice(tokens: &[Spanned]) -> Option<(&Spanned, &Spanned)> {
     None
 }
 
-/// Where a name that stands behind this token is declared again.
+/// Returns where a name that follows this token is declared again.
 fn declared_again<'t>(
     before: &Token,
     name: &Spanned,
@@ -83,7 +84,7 @@ fn declared_again<'t>(
     }
 }
 
-/// The next parameter of the same name, where the name is one's of a parameter.
+/// Returns the next parameter of the same name, if the name is that of a parameter.
 fn parameter<'t>(name: &Spanned, behind: &'t [Spanned]) -> Option<&'t Spanned> {
     if !begins_with(behind, Mark::Colon) {
         return None;
@@ -99,7 +100,7 @@ fn parameter<'t>(name: &Spanned, behind: &'t [Spanned]) -> Option<&'t Spanned> {
     None
 }
 
-/// The first token that is a name and stands behind a word.
+/// Returns the first token after a reserved word that is the same name.
 fn behind_word<'t>(word: Word, name: &Spanned, tokens: &'t [Spanned]) -> Option<&'t Spanned> {
     let mut is_behind = false;
     for spanned in tokens {
@@ -111,7 +112,7 @@ fn behind_word<'t>(word: Word, name: &Spanned, tokens: &'t [Spanned]) -> Option<
     None
 }
 
-/// Whether a token is a word.
+/// Returns whether a token is this reserved word.
 pub fn is_word(token: &Token, word: Word) -> bool {
     match token {
         Token::Word(found) => *found == word,
@@ -119,7 +120,7 @@ pub fn is_word(token: &Token, word: Word) -> bool {
     }
 }
 
-/// Whether two tokens are one name.
+/// Returns whether two tokens are the same name.
 fn same_name(one: &Spanned, other: &Spanned) -> bool {
     match (&one.token, &other.token) {
         (Token::Name(first), Token::Name(second)) => first == second,
@@ -127,7 +128,7 @@ fn same_name(one: &Spanned, other: &Spanned) -> bool {
     }
 }
 
-/// Adds the names of the procedures of a text.
+/// Adds the names of the procedures.
 pub fn push_procedures(told: &mut String, tokens: &[Spanned]) -> Result<(), AllocError> {
     let mut count: usize = 0;
     let mut is_behind = false;

@@ -1,4 +1,4 @@
-//! What faults come from, in words.
+//! The causes of faults.
 
 use excerpts::named::Named;
 use excerpts::statements::Statements;
@@ -8,16 +8,16 @@ use sections::window::Window;
 use std::alloc::AllocError;
 use types::code::{Label, Operator, Program};
 
-/// Where a fault stands in its statement.
+/// Where a fault is in its statement.
 #[derive(Clone, Copy)]
 pub struct Spot<'t> {
-    /// The number of the character, if it is another than the statement's first.
+    /// The number of the character, if it isn't the statement's first.
     pub at: Option<usize>,
-    /// The name of the section that has no such element, or no such split point.
+    /// The name of the section that has no such element or no such split point.
     name: &'t str,
 }
 
-/// Where a fault of a statement stands in it.
+/// Returns where a fault is in its statement.
 pub fn spot_of<'s>(
     statements: &'s Statements<'_>,
     label: Label,
@@ -36,7 +36,7 @@ pub fn spot_of<'s>(
     }
 }
 
-/// The spot of a name.
+/// Returns the spot of a name.
 fn named_spot(named: Option<Named<'_>>) -> Spot<'_> {
     match named {
         Some(named) => Spot {
@@ -47,7 +47,7 @@ fn named_spot(named: Option<Named<'_>>) -> Spot<'_> {
     }
 }
 
-/// Adds the values from which a fault comes.
+/// Adds the values that caused a fault.
 pub fn push_cause(
     told: &mut String,
     code: &Program,
@@ -82,8 +82,8 @@ pub fn push_cause(
     }
 }
 
-/// Adds why an operator has no result for two numbers. Of `%` it is refused where `/` has none, though it
-/// would be 0.
+/// Adds why an operator has no result for two numbers. `%` faults if `/` has no result, though its
+/// own result would be 0.
 fn push_overflow(
     told: &mut String,
     left: i64,
@@ -103,7 +103,7 @@ fn push_overflow(
     )
 }
 
-/// Adds an index that is no element's.
+/// Explains an index out of bounds.
 fn push_index(
     told: &mut String,
     code: &Program,
@@ -129,7 +129,7 @@ fn push_index(
     told.push_str(".\n")
 }
 
-/// Adds a number that an array doesn't hold.
+/// Explains a number that doesn't fit in an array.
 fn push_value(
     told: &mut String,
     code: &Program,
@@ -144,7 +144,7 @@ fn push_value(
     told.push_str(".\n")
 }
 
-/// Adds what would be right.
+/// Adds how to fix it.
 pub fn push_mend(told: &mut String, spot: Spot<'_>, cause: Cause) -> Result<(), AllocError> {
     let name = spot.name;
     told.push_str("help: ")?;
@@ -175,7 +175,7 @@ pub fn push_mend(told: &mut String, spot: Spot<'_>, cause: Cause) -> Result<(), 
 const SMALLER: &str =
     "keep the numbers in the range -9223372036854775808 to 9223372036854775807, with a test or with `%`.\n";
 
-/// An operator as it is written.
+/// Returns an operator as it is written.
 fn sign_of(operator: Operator) -> char {
     match operator {
         Operator::Plus => '+',

@@ -1,4 +1,4 @@
-//! Tasks over their budget.
+//! Tasks that exceed their budget.
 
 use crate::faults::push_call;
 use excerpts::statements::Statements;
@@ -6,7 +6,7 @@ use second_run::seen::{Overrun, Part};
 use std::alloc::AllocError;
 use types::budget::{Budget, MOST_NEST, MOST_STEPS};
 
-/// Adds which task was over which part of its budget, where, and which option allows more.
+/// Adds which task exceeded which part of its budget, where, and which option raises the limit.
 pub fn push_overrun(
     told: &mut String,
     statements: &Statements<'_>,
@@ -42,7 +42,7 @@ pub fn push_overrun(
     }
 }
 
-/// Adds how a task gets more steps.
+/// Adds how to raise the step limit.
 fn push_more_steps(told: &mut String, steps: u32) -> Result<(), AllocError> {
     if steps >= MOST_STEPS {
         return told.push_str(
@@ -56,7 +56,7 @@ fn push_more_steps(told: &mut String, steps: u32) -> Result<(), AllocError> {
     )
 }
 
-/// Adds how more asyncs may stand inside one another.
+/// Adds how to raise the nesting limit.
 fn push_more_nest(told: &mut String, nest: u32) -> Result<(), AllocError> {
     if nest >= MOST_NEST {
         return told.push_str(

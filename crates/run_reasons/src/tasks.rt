@@ -1,11 +1,11 @@
-//! Runs with more tasks than they may have.
+//! Runs that exceed the task limit.
 
 use std::alloc::{AllocError, Global};
 
-/// The most tasks that `--tasks` allows.
+/// The maximum that `--tasks` allows.
 const MOST_TASKS: u64 = 1_048_576;
 
-/// What stands behind the line of a run that would have begun more tasks than it was allowed.
+/// Returns the text after the line of a run that would have started more tasks than allowed.
 pub fn explained_tasks(alloc: Global, tasks: u64) -> Result<String, AllocError> {
     let mut told = String::new(alloc);
     let noun = if tasks == 1 { "task" } else { "tasks" };

@@ -1,4 +1,4 @@
-//! How the lines of a trace are written, and when events may come.
+//! The form of trace lines, and when events are legal.
 
 use std::alloc::AllocError;
 use trace_text::kind::Kind;
@@ -12,7 +12,7 @@ const KINDS: &str =
     "Each line is an event, such as {\"e\":\"step\",\"path\":\"0.1\"}. Events: take steal step replenish spawn open park end pass resume.
 ";
 
-/// Adds how a line of a trace is written.
+/// Adds the form of a line of a trace.
 pub fn push_line_form(told: &mut String, line: &str, number: usize) -> Result<(), AllocError> {
     if number <= 1 {
         return told.push_str(HEADER);
@@ -31,13 +31,13 @@ pub fn push_line_form(told: &mut String, line: &str, number: usize) -> Result<()
     }
 }
 
-/// The kind of event that a line begins to tell.
+/// Returns the kind of event that the start of a line names.
 fn kind_in(line: &str) -> Option<Kind> {
     let (name, _) = line.strip_prefix("{\"e\":\"")?.split_once('"')?;
     Kind::named(name)
 }
 
-/// What stands before the name of a kind.
+/// Returns the article before the name of a kind.
 fn article_of(kind: Kind) -> &'static str {
     match kind {
         Kind::Open | Kind::End => "An",
@@ -45,7 +45,7 @@ fn article_of(kind: Kind) -> &'static str {
     }
 }
 
-/// An event of a kind.
+/// Returns an example event of a kind.
 fn form_of(kind: Kind) -> &'static str {
     match kind {
         Kind::Take => "{\"e\":\"take\",\"path\":\"0.1\",\"worker\":0}",
@@ -61,7 +61,7 @@ fn form_of(kind: Kind) -> &'static str {
     }
 }
 
-/// Adds when an event of the kind that a line tells may come.
+/// Adds when an event of the kind in a line is legal.
 pub fn push_kind_rule(told: &mut String, line: &str) -> Result<(), AllocError> {
     match kind_in(line) {
         Some(kind) => told.push_str(rule_of(kind)),
@@ -69,7 +69,7 @@ pub fn push_kind_rule(told: &mut String, line: &str) -> Result<(), AllocError> {
     }
 }
 
-/// When an event of a kind may come.
+/// Returns when an event of a kind is legal.
 fn rule_of(kind: Kind) -> &'static str {
     match kind {
         Kind::Take =>
