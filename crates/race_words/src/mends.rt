@@ -1,4 +1,4 @@
-//! Why two sections share places, and what would be right.
+//! Why two sections overlap, and how to fix the race.
 
 use crate::names::{procedure_of, section_name};
 use crate::way::is_begun;
@@ -26,7 +26,7 @@ pub fn push_unfinished(told: &mut String, witness: &Witness) -> Result<(), Alloc
     }
 }
 
-/// Adds why the sections of a race share places.
+/// Adds why the sections of a race overlap.
 pub fn push_sharing(
     told: &mut String,
     code: &Program,
@@ -54,7 +54,7 @@ const WHOLE: &str = "The check compares whole sections and ignores indices.\n";
 
 const SIDES: &str = "Only the two sides of one split are known not to overlap.\n";
 
-/// Adds what would be right.
+/// Adds how to fix the race.
 pub fn push_mend(
     told: &mut String,
     statements: &Statements<'_>,
@@ -89,7 +89,7 @@ const LOOP: &str =
     "help: use split to give each task its own part, half by half; or put the loop's body inside a finish, so that the
 iterations run one after another.\n";
 
-/// The label of the first async on a way, or of its first step.
+/// Returns the label of the first async on a way, or of its first step.
 fn begun_label(way: &[Step]) -> u32 {
     for step in way {
         if matches!(step.rule, Rule::Begin) {
@@ -99,7 +99,7 @@ fn begun_label(way: &[Step]) -> u32 {
     first_label(way)
 }
 
-/// The label of a way's first step.
+/// Returns the label of a way's first step.
 fn first_label(way: &[Step]) -> u32 {
     match way.first() {
         Some(step) => step.label,

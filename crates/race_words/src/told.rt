@@ -1,4 +1,4 @@
-//! What stands behind the line of a race.
+//! The text after the line of a race.
 
 use crate::lines::push_lines;
 use crate::mends::{push_mend, push_sharing, push_unfinished};
@@ -15,8 +15,8 @@ use witness::crossing::Meeting;
 use witness::step::Step;
 use witness::witness::Witness;
 
-/// Where both accesses of a race stand, how they come to run together, why they share places, and
-/// what would be right. Nothing of a text over a mebibyte.
+/// Returns where both accesses of a race are, how they come to run in parallel, why the sections
+/// overlap, and how to fix it. The text is empty if the program is larger than a mebibyte.
 pub fn explained(
     alloc: Global,
     text: &str,
@@ -43,7 +43,8 @@ pub fn explained(
     Ok(told)
 }
 
-/// Two things as they come where the first access of the race is left pending, and else the other way round.
+/// Returns two things in this order if the first access of the race is the pending one, and
+/// otherwise in the reverse order.
 fn in_order<T>(witness: &Witness, one: T, other: T) -> (T, T) {
     if witness.first_pends {
         (one, other)
@@ -67,7 +68,7 @@ fn push_accesses(
     statements.push_at(told, race.second.label, None)
 }
 
-/// Adds what an access of a procedure does, and its section's name where it is made.
+/// Adds what an access of a procedure does, and the name of its section where it is made.
 fn push_access(
     told: &mut String,
     code: &Program,
@@ -90,7 +91,7 @@ fn push_access(
     told.push_str(":\n")
 }
 
-/// Adds the ways to both accesses; the second only where it is more than the access.
+/// Adds the ways to both accesses. The second is left out if it is only the access.
 fn push_ways(
     alloc: Global,
     told: &mut String,
@@ -127,7 +128,7 @@ fn push_ways(
     push_lines(told, statements, &lines)
 }
 
-/// Adds the line of the loop in whose turns the two meet.
+/// Adds the line of the loop, if the two accesses are in different iterations.
 fn push_loop(alloc: Global, witness: &Witness, lines: &mut Vec<Line>) -> Result<(), AllocError> {
     if matches!(witness.meeting, Meeting::Follows) {
         return Ok(());
