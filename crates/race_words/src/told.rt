@@ -15,7 +15,7 @@ use witness::crossing::Meeting;
 use witness::step::Step;
 use witness::witness::Witness;
 
-/// Returns where both accesses of a race are, how they come to run in parallel, why the sections
+/// Returns where both accesses of a race are, why they may run in parallel, why the sections
 /// overlap, and how to fix it. The text is empty if the program is larger than a mebibyte.
 pub fn explained(
     alloc: Global,
