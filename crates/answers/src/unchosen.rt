@@ -19,8 +19,7 @@ help: use fewer choices, or let `--random 1` make them.
 const LISTED: &str =
     "help: write numbers separated by single commas, without spaces, as in `--choices 0,1`.\n";
 
-const FILED: &str =
-    "help: write numbers separated by commas or white space.\n";
+const FILED: &str = "help: write numbers separated by commas or white space.\n";
 
 const NO_LEAF: &str = "fewer such tasks, or the run has ended.
 help: remove this choice and those after it; `open N` then gives the number of tasks that can take a step.

@@ -118,9 +118,7 @@ fn no_text_explained(alloc: Global, bytes: &[u8]) -> Result<String, AllocError> 
         told,
         "Byte {at} of the file (counting from 0) is {byte}, which is not valid UTF-8 there.\n"
     )?;
-    told.push_str(
-        "help: save the file as UTF-8; outside comments a program is ASCII only.\n",
-    )?;
+    told.push_str("help: save the file as UTF-8; outside comments a program is ASCII only.\n")?;
     Ok(told)
 }
 

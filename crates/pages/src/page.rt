@@ -294,14 +294,7 @@ fn push_input(text: &mut String, input: &str) -> Result<(), AllocError>
 fn push_place(text: &mut String, name: &str) -> Result<(), AllocError>
     ensures { OnOk result (string_bytes text.new ≡ string_bytes text.old ++ place_text name.now) }
 {
-    push_all(
-        text,
-        &[
-            "\n  Complete program: examples/",
-            name,
-            ".afx\n",
-        ],
-    )
+    push_all(text, &["\n  Complete program: examples/", name, ".afx\n"])
 }
 
 /// Adds a command and its output.

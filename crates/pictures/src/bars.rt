@@ -51,7 +51,9 @@ fn push_bar(
     let first = spell.first;
     let last = spell.last;
     let own = spell.own;
-    let title = format!(in alloc; "task {path}, events {first} to {last}, {own} by the task itself")?;
+    let title = format!(in alloc;
+        "task {path}, events {first} to {last}, {own} by the task itself"
+    )?;
     let shade = if sheet.axis.is_wide() { "p" } else { "d" };
     let colour = colour(spell);
     let class = format!(in alloc; "{shade}{colour}")?;

@@ -227,8 +227,12 @@ fn mend_of_name(token: Option<&Token>) -> Option<&'static str> {
         "fn" | "func" | "function" | "def" | "void" => {
             Some("declare a procedure with `proc`, as in `proc f(mut s: int) { .. }`")
         }
-        "return" => Some("procedures return no value; write the result into a section of the caller"),
-        "break" | "continue" => Some("there is no `break` or `continue`: a loop ends only by its condition"),
+        "return" => Some(
+            "procedures return no value; write the result into a section of the caller",
+        ),
+        "break" | "continue" => Some(
+            "there is no `break` or `continue`: a loop ends only by its condition",
+        ),
         "elif" | "elsif" | "elseif" => Some(ELSE_IF),
         "spawn" | "sync" | "await" => {
             Some("start a task with `async { .. }` and wait for tasks with `finish { .. }`")

@@ -143,9 +143,7 @@ fn push_length(
             }
         }
     }
-    told.push_str(
-        "help: write one number for each element; an omitted array starts with zeros.\n",
-    )
+    told.push_str("help: write one number for each element; an omitted array starts with zeros.\n")
 }
 
 /// Adds which element doesn't fit in an array.
@@ -170,8 +168,7 @@ fn push_element(
         }
     }
     told.push_str(match array.element {
-        ElementType::Int =>
-            "An int is an integer from -9223372036854775808 to 9223372036854775807",
+        ElementType::Int => "An int is an integer from -9223372036854775808 to 9223372036854775807",
         ElementType::Byte => "A byte is an integer from 0 to 255",
     })?;
     told.push_str(", written without a decimal point or exponent.\n")?;

@@ -27,7 +27,8 @@ pub fn explained_race(
     Ok(told)
 }
 
-const ONE: &str = "The statement may run in two tasks at the same time, and both may access the same element.
+const ONE: &str =
+    "The statement may run in two tasks at the same time, and both may access the same element.
 ";
 
 const TWO: &str =

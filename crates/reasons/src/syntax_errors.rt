@@ -56,10 +56,7 @@ const NO_VALUE: &str =
 fn push_no_token(told: &mut String, text: &str, place: Place) -> Result<(), AllocError> {
     let before = usize::try_from(place.column).unwrap_or(1).saturating_sub(1);
     let mend = mend_of_character(line_of(text, place).chars().nth(before));
-    write!(
-        told,
-        "Unexpected character.\nhelp: {mend}.\n"
-    )
+    write!(told, "Unexpected character.\nhelp: {mend}.\n")
 }
 
 /// Adds which token is unexpected, and which ones are expected.

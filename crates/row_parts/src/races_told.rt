@@ -115,9 +115,7 @@ fn reason_of(alloc: Global, race: &Value) -> Result<String, AllocError> {
         "second_is_part" => format!(in alloc; "  {second} is a part of {first}. "),
         _ => {
             let common = text_in(sharing, "section");
-            format!(in alloc;
-                "  {first} and {second} come from different splits of {common}, so "
-            )
+            format!(in alloc; "  {first} and {second} come from different splits of {common}, so ")
         }
     }
 }

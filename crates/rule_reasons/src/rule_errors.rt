@@ -193,10 +193,7 @@ impl<'t> Broken<'t> {
                     is_told = true;
                     self.push_at(told, named.at)?;
                     let name = named.name;
-                    write!(
-                        told,
-                        "`{name}` is already in scope: it was declared at "
-                    )?;
+                    write!(told, "`{name}` is already in scope: it was declared at ")?;
                     self.push_place(told, declared)?;
                     told.push_str(".\n")?;
                 }

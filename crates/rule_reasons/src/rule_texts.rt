@@ -135,11 +135,7 @@ pub fn push_procedures(told: &mut String, tokens: &[Spanned]) -> Result<(), Allo
     for spanned in tokens {
         if is_behind {
             if let Token::Name(name) = &spanned.token {
-                told.push_str(if count == 0 {
-                    "Procedures: "
-                } else {
-                    ", "
-                })?;
+                told.push_str(if count == 0 { "Procedures: " } else { ", " })?;
                 told.push_str(name)?;
                 count = count.saturating_add(1);
             }

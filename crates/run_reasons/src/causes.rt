@@ -74,10 +74,7 @@ pub fn push_cause(
             "Split point {point}, length {length}: `{name}` can be split at 0 to {length}.\n"
         ),
         Cause::Raised(number) => {
-            write!(
-                told,
-                "The statement raised this fault with {number}.\n"
-            )
+            write!(told, "The statement raised this fault with {number}.\n")
         }
     }
 }
@@ -168,7 +165,9 @@ pub fn push_mend(told: &mut String, spot: Spot<'_>, cause: Cause) -> Result<(), 
             told,
             "split at a number from 0 to the length, such as `len({name}) / 2`.\n"
         ),
-        Cause::Raised(_) => told.push_str("the program raised this fault on purpose; check how the run got here.\n"),
+        Cause::Raised(_) => told.push_str(
+            "the program raised this fault on purpose; check how the run got here.\n",
+        ),
     }
 }
 

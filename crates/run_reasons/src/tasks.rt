@@ -14,7 +14,9 @@ pub fn explained_tasks(alloc: Global, tasks: u64) -> Result<String, AllocError> 
         "\nThe run would have started more than {tasks} {noun}.\n"
     )?;
     if tasks >= MOST_TASKS {
-        told.push_str("help: start fewer tasks and give each more work; the limit can't be raised further.\n")?;
+        told.push_str(
+            "help: start fewer tasks and give each more work; the limit can't be raised further.\n",
+        )?;
     } else {
         let more = tasks.saturating_mul(2).min(MOST_TASKS);
         write!(

@@ -72,8 +72,7 @@ pub fn push_kind_rule(told: &mut String, line: &str) -> Result<(), AllocError> {
 /// Returns when an event of a kind is legal.
 fn rule_of(kind: Kind) -> &'static str {
     match kind {
-        Kind::Take =>
-            "A worker that runs no task takes one from its own queue.\n",
+        Kind::Take => "A worker that runs no task takes one from its own queue.\n",
         Kind::Steal => "A worker steals a task from another worker's queue.\n",
         Kind::Step =>
             "A running task takes a step if its next statement is neither an async nor a finish.\n",
@@ -81,12 +80,10 @@ fn rule_of(kind: Kind) -> &'static str {
             "A running task is replenished if its next statement is an async and its weight is 1.\n",
         Kind::Spawn =>
             "A running task spawns if its next statement is an async and its weight is at least 2.\n",
-        Kind::Open =>
-            "A running task opens a finish if that is its next statement.\n",
+        Kind::Open => "A running task opens a finish if that is its next statement.\n",
         Kind::Park =>
             "A running task parks at the end of a finish that it opened; the root also parks at its own end.\n",
-        Kind::End =>
-            "A running task other than the root ends when it has no statements left.\n",
+        Kind::End => "A running task other than the root ends when it has no statements left.\n",
         Kind::Pass =>
             "A finish passes when its owner is parked and all tasks started in it have ended.\n",
         Kind::Resume =>

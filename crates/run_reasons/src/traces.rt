@@ -28,9 +28,7 @@ pub fn explained_trace(alloc: Global, trace: &str, wrong: Wrong) -> Result<Strin
 fn push_no_line(told: &mut String, trace: &str, number: usize) -> Result<(), AllocError> {
     push_excerpt(told, trace, beginning(number))?;
     if is_cut(trace, number) {
-        told.push_str(
-            "The last line has no line feed at its end.\n",
-        )?;
+        told.push_str("The last line has no line feed at its end.\n")?;
     }
     push_line_form(told, line_of(trace, number), number)?;
     told.push_str("help: record the trace again with `run --trace`.\n")
@@ -40,9 +38,7 @@ fn push_no_line(told: &mut String, trace: &str, number: usize) -> Result<(), All
 fn push_event(told: &mut String, trace: &str, event: usize) -> Result<(), AllocError> {
     let number = event.saturating_add(2);
     push_excerpt(told, trace, beginning(number))?;
-    told.push_str(
-        "All earlier events are legal for this program and input; this one isn't.\n",
-    )?;
+    told.push_str("All earlier events are legal for this program and input; this one isn't.\n")?;
     push_kind_rule(told, line_of(trace, number))?;
     told.push_str(
         "help: use the program and input of the traced run, or record the trace again with `run --trace`.\n",
