@@ -455,7 +455,7 @@ pub fn commands<'w>(alloc: Global) -> Result<Command<'w>, AllocError> {
         .bin_name("afx")?
         .about("Check and run task-parallel programs")
         .after_help(STATUSES)
-        .version("0.1.0")
+        .version("0.2.0 (reads trace format 1)")
         .no_binary_name(true)
         .subcommand_required(true);
     for row in ROWS {
