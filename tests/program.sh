@@ -48,8 +48,8 @@ END
 echo 'main { array q: int[3]; print q[0]; }' >"$room/q.afx"
 expect 1 '' 'N4 q
 
-The array `q` has 3 elements, and the list has 2.
-To mend it: give one number for each element; an array that is left out begins with zeros.' \
+The array `q` has 3 elements, but the list has 2.
+help: write one number for each element; an omitted array starts with zeros.' \
     run "$room/q.afx" --input - --explain <<'END'
 {"q": [1, 2]}
 END
