@@ -1,4 +1,4 @@
-//! `afx` runs programs of tasks.
+//! `afx` runs programs with tasks.
 
 #![tactic(auto)]
 
@@ -11,7 +11,7 @@ use std::io::{BufWriter, IsTerminal, Stderr, Stdout};
 use std::process::ExitCode;
 use std::{env, io};
 
-/// Does what the words behind the program's name ask.
+/// Carries out the arguments after the program's name.
 fn main(rt: HostRuntime) -> ExitCode {
     let alloc = rt.alloc();
     let mut err = rt.stderr();
@@ -36,13 +36,13 @@ fn main(rt: HostRuntime) -> ExitCode {
     ExitCode::from(status)
 }
 
-/// The standard error, where it is a terminal.
+/// Returns the standard error, if it is a terminal.
 fn terminal(rt: &HostRuntime) -> Option<Stderr> {
     let err = rt.stderr();
     if err.is_terminal() { Some(err) } else { None }
 }
 
-/// Whether `NO_COLOR` is set, and not empty.
+/// Returns whether `NO_COLOR` is set, and not empty.
 fn refuses_colours(rt: &HostRuntime) -> bool {
     match env::var(rt, "NO_COLOR") {
         Ok(value) => !value.is_empty(),
@@ -51,8 +51,8 @@ fn refuses_colours(rt: &HostRuntime) -> bool {
     }
 }
 
-/// The words behind the program's name, and where the answer goes, in large pieces. No word at a terminal
-/// asks for help, since nobody types a program there.
+/// Returns the arguments after the program's name, and a buffered standard output. Without
+/// arguments at a terminal it requests help, because nobody types a program there.
 fn lent(rt: &HostRuntime) -> io::Result<(Vec<String>, BufWriter<Stdout>)> {
     let alloc = rt.alloc();
     let mut words = Vec::new(alloc);

@@ -354,7 +354,7 @@ cost_answers ByProcedure s held text told status answers = answers
 
 -- ---- outcomes
 
--- arrays that were read of a program are those of its code
+-- arrays that were taken from a program are those of its code
 pub declared_of : (read : List rArray) (q : rProgram) (t : Typed) → read ≡ q.arrays.items → q ≡ t.code
     → map array read ≡ (code_of t).arrays
 declared_of read q t is of = ap (map array) is ∙ ap (λ (p : rProgram). map array p.arrays.items) of

@@ -160,7 +160,7 @@ AnswersCost shares s held text told status =
     (λ code input. TellsCost code (outcome code input s.budget)
     (lines_in shares code input s.budget) told status)
 
--- `run`: the text's program has no race; the same outcome
+-- `run`: the text's program has no race; the outcome is the one-thread outcome
 pub record AnswersRun (s : Settings) (held : Held) (text told : List ℕ) (status : ℕ) : Type 0 where
   pub run : IsExplored s held text
   pub shows : Shows s.arrays (outcome run.code run.input s.budget) run.code told status

@@ -24,7 +24,7 @@ use Rattle.block_rows.proofs.WritingLemmas.{block_of-past}
 
 -- ---- a row, block after block
 
--- what a paste of a row costs at most
+-- the maximum cost of a paste of a row
 abbrev pub RowCosts : (own : Map Held) (a : ℕ) (r : Row) (test : Place → Bool) (n : ℕ) → Type 0
 RowCosts own a r test n = (lengths : ℕ → ℕ) (ws : List Window)
     → ((q : Place) → nat_eq q.array a ≡ true → (own q ≡ None → ⊥) → q.index < lengths a) → is_cover ws ≡ true
@@ -35,7 +35,7 @@ RowCosts own a r test n = (lengths : ℕ → ℕ) (ws : List Window)
 abbrev pub from_block : (a n : ℕ) → Place → Bool
 from_block a n q = nat_eq q.array a && nat_le n (q.index / 256)
 
--- the blocks that aren't left of a row have come in
+-- all blocks of a row except the remaining ones have come in
 pub record PasteSoFar (first : Map Held) (start own : List Row) (a : ℕ) (r : Row) (xs : List Block) (n : ℕ) : Type 0 where
   pub same : (j : ℕ) → j < r.first + length xs → row_from r.first xs j ≡ block_in r j
   pub room : (j : ℕ) (theirs : Block) → row_from r.first xs j ≡ Some theirs → HasRoom own a j theirs

@@ -123,7 +123,7 @@ one_more a b n small q = by_same (same_place (record { array = a; index = 256 * 
         let none : before a b n q ≡ false = ap (λ c. c && nat_lt (q.index % 256) n) at ∙ no in
         omega (arith, ap one yes, ap one none)
 
--- so many places as offsets of the block have something
+-- the count is the number of offsets at which the block has something
 pub block-counted : {A : Type 0} (a b : ℕ) (m : Offsets A) (ws : List Window) (n : ℕ) → n ≤ 256
     → ((k : ℕ) → k < 256 → (m k ≡ None → ⊥) → has ws (record { array = a; index = 256 * b + k }) ≡ true)
     → how_many m n ≤ passing (before a b n) ws

@@ -8,7 +8,7 @@ use crate::rows::Rows;
 use std::alloc::{AllocError, Global};
 
 impl Rows {
-    /// Returns second rows that hold the same.
+    /// Returns second rows that hold the same numbers in the same kinds.
     pub fn again(&self, alloc: Global) -> Result<Rows, AllocError>
         ensures { IfOk result (λ r. held_in r ≡ held_in self.now) }
     {
@@ -24,7 +24,7 @@ impl Row {
     ghost use Rattle.std.specs.Prelude.{ℕ};
     ghost use Rattle.block_rows.specs.Rows.{block_in, held_of};
 
-    /// Returns a second row that holds the same.
+    /// Returns a second row that holds the same numbers in the same kinds.
     fn again(&self, alloc: Global) -> Result<Row, AllocError>
         ensures { IfOk result (λ r. (b k : ℕ)
             → held_of (block_in r b) k ≡ held_of (block_in self.now b) k) }

@@ -42,7 +42,7 @@ main_on_top p steps nest rows input gs b t y g body state none same =
     ∙ ap (λ (y : Account). doing p steps (Block p.main.body) (at (start tt p steps (held_by input)) y t.nest)) none
     ∙ ap (λ (n : ℕ). doing p steps (Block p.main.body) (at (start tt p steps (held_by input)) (nothing_noted rows) n)) same
 
--- a thread that stands at the end tells the outcome
+-- a thread at its end gives the outcome
 pub told : (plan : Plan) (t : Thread Store) (y : rAccount) (rows : ℕ) (input : List (List ℤ)) → IsInBounds (program plan.program.now) t
     → standing y t ≡ end_of (program plan.program.now) plan.budget.steps plan.budget.nest rows input
     → outcome_by (state_of t).flow (record {
@@ -60,7 +60,7 @@ told plan t y rows input bounds comes =
     ∙ untallied-tallied p plan.budget.steps plan.budget.nest (Block p.main.body)
     (start nothing_done p plan.budget.steps (held_by input)))
 
--- where nothing is left to do, the machine stands where it comes to
+-- if nothing is left to do, the machine has the position that it reaches
 pub ended : (old new : Machine) → HasEnded old new → stands new ≡ comes_to old nothing
 ended old new e =
     let p = program old.plan.program.now in let fresh = old.plan.budget.steps in
@@ -73,7 +73,7 @@ module _ (job : Plan) (rows : ℕ) (input : List (List ℤ)) (first m end : Mach
   abbrev p : Program
   p = program job.program.now
 
-  -- a machine that began at `main`, and has nothing left to do
+  -- a machine that started at `main`, and has nothing left to do
   pub record HasRun : Type 0 where
     pub begins : IsAtStart job rows input first
     pub same : m.plan ≡ first.plan
@@ -81,7 +81,7 @@ module _ (job : Plan) (rows : ℕ) (input : List (List ℤ)) (first m end : Mach
     pub sound : IsSound m
     pub ended : HasEnded m end
 
-  -- stands where the whole run comes to
+  -- its position is the one that the whole run reaches
   pub stands_at_end : HasRun → stands end ≡ end_of p job.budget.steps job.budget.nest rows input
   stands_at_end r =
       ended m end r.ended

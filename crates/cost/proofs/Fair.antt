@@ -1,4 +1,4 @@
--- No chain is longer than the work, and no task and no finish begins without a step.
+-- No chain is longer than the work, and no task and no finish starts without a step.
 use Rattle.std.proofs.Common.{◌≡◌, ℕ, zero, suc, ◌≤◌, List, refl, sym, subst, arith}
 use Rattle.std.proofs.Math.Nat.{max-le}
 use Rattle.std.specs.Prelude.{ℤ}
@@ -15,7 +15,7 @@ use Rattle.cost.specs.Costs.{nothing_done, tally_of, tallying}
 use Rattle.cost.specs.Laws.{IsFair}
 use Rattle.cost.proofs.Untallied.{tallied_rules}
 
--- one tally follows another fairly: it is fair where that was, and no less was done
+-- one tally follows another fairly: it is fair if the other was, and has at least as much work
 record Grows (t u : Tally) : Type 0 where
   pub fair : IsFair t → IsFair u
   pub more : t.work ≤ u.work

@@ -11,7 +11,7 @@ use Rattle.cost.specs.Books.{after_booked, beginning_booked}
 use Rattle.cost.specs.Accounts.{Account, ends_behind, accounting}
 use Rattle.cost.specs.Resume.{Standing, end_async, faults_in, lines_in}
 
--- it goes on as a task stood which began a child
+-- it continues as the task was when it started a child
 pub record Waiting (p : Program) (o : Owner) (l : ℕ) (st : State Account) (n : ℕ) : Type 0 where
   pub path : o.path.turns.items ≡ st.path
   pub environment : environment_of o.environment ≡ st.environment
@@ -23,7 +23,7 @@ pub record Waiting (p : Program) (o : Owner) (l : ℕ) (st : State Account) (n :
   pub by_label : o.here_by_label.items ≡ (beginning_booked accounting p l st).extra.here
   pub nest : o.nest ≡ n
 
--- where it goes on, by what it is made of
+-- how it continues, from its parts
 abbrev going : (path : List ℕ) → Environment → (steps spawned : ℕ) → List (List ℤ) → List Fault → (here : ℕ) → (by_label : List ℕ)
     → (nest : ℕ) → State Account → Standing
 going path env steps spawned lines faults here by_label nest out = record {
@@ -41,7 +41,7 @@ going path env steps spawned lines faults here by_label nest out = record {
   nest = nest;
 }
 
--- behind the body it stands as that task does behind its async
+-- after the body, it is where that task is after its async
 abbrev pub after_owner : Owner → State Account → Standing
 after_owner o out = record { state = end_async o out; nest = o.nest }
 

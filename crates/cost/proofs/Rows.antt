@@ -1,4 +1,4 @@
--- Each step has its row, so that rows add up to the numbers of a tally.
+-- Each step has its row, so the rows add up to the numbers of a tally.
 use Rattle.std.proofs.Common.{◌≡◌, ℕ, zero, suc, ◌+◌, ◌<◌, ◌≤◌, List, [], ◌∷◌, length, Bool, true, false, refl, sym, ap, ◌∙◌, subst, arith}
 use Rattle.std.proofs.lemmas.Bool.{ltb-true, ltb-false}
 use Rattle.std.proofs.lemmas.List.{length-replicate, length-set, set_past}
@@ -21,7 +21,7 @@ use Rattle.cost.specs.Laws.{AddsUp}
 
 -- ---- one row
 
--- where there are rows, that of a label is one of them
+-- if there are rows, the row of a label is one of them
 row_within : (l n : ℕ) → 0 < n → row_of l n < n
 row_within l n some = by_test (nat_lt l n) refl
   where
@@ -29,14 +29,14 @@ row_within l n some = by_test (nat_lt l n) refl
     by_test true e = ltb-true l n e
     by_test false e = some
 
--- where there is none, nothing is noted
+-- if there are none, nothing is recorded
 pub noted_none : (l : ℕ) (ns : List ℕ) → length ns ≤ row_of l (length ns) → noted l ns ≡ ns
 noted_none l ns le = let k = row_of l (length ns) in set_past ns k (slice_index ns k + 1) le
 
 length-noted : (l : ℕ) (ns : List ℕ) → length (noted l ns) ≡ length ns
 length-noted l ns = length-set ns (row_of l (length ns)) (slice_index ns (row_of l (length ns)) + 1)
 
--- a step more is one more in all
+-- one more step raises the sum by one
 sum-noted : (l : ℕ) (ns : List ℕ) → 0 < length ns → sum (noted l ns) ≡ sum ns + 1
 sum-noted l ns some =
     let k = row_of l (length ns) in
@@ -55,7 +55,7 @@ some_row : (ns : List ℕ) → 0 < sum ns → 0 < length ns
 some_row [] lt = absurd (let none : 0 < 0 = lt in omega (arith, none))
 some_row (n ∷ ns) lt = let some : 0 < suc (length ns) = omega arith in some
 
--- the longer of two chains costs the larger of two numbers
+-- the longer of two chains has the larger of two lengths
 sum-longer : (m n : ℕ) (xs ys : List ℕ) → sum xs ≡ m → sum ys ≡ n → sum (longer m n xs ys) ≡ max m n
 sum-longer m n xs ys e f = by_test (nat_lt m n) refl
   where
@@ -165,7 +165,7 @@ module _ (p : Program) (fresh : ℕ) where
       let o : HasRows out.extra = run_keeps p (accounted_rules p fresh n) Rowed (kept_by n (begins_rowed n)) (Block b) begun k in
       has_ended (beginning_booked accounting p l st).extra.tally.here (beginning_booked accounting p l st).extra.here out.extra o k.here k.adds.here
 
--- so it is of whole runs
+-- whole runs have rows
 has_run : (p : Program) (rows : ℕ) (input : List (List ℤ)) (b : Budget) → 0 < rows → HasRows (account_of p rows input b)
 has_run p rows input b any =
     let n = length-replicate {A = ℕ} rows 0 in

@@ -1,4 +1,4 @@
--- A run that keeps an account is the run that keeps its tally, but for the tables by label.
+-- A run that keeps an account is the run that keeps its tally, except for the tables by label.
 use Rattle.std.proofs.Common.{◌≡◌, ℕ, refl, sym, ap}
 use Rattle.std.specs.Prelude.{List, ℤ}
 use Rattle.types.specs.Code.{Program}
@@ -26,7 +26,7 @@ module _ (p : Program) (fresh : ℕ) where
       (λ n runs l b st. ap (after_booked tallying (beginning_booked tallying p l (totals st)))
       (runs (Block b) (child fresh (beginning_booked accounting p l st)))) nest w st)
 
--- nor that of a whole run
+-- an account doesn't change the tally of a whole run
 pub tally-account_of : (p : Program) (rows : ℕ) (input : List (List ℤ)) (b : Budget)
     → (account_of p rows input b).tally ≡ tally_of p input b
 tally-account_of p rows input b =

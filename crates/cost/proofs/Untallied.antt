@@ -1,4 +1,4 @@
--- A run that keeps a tally is the run that keeps none, but for the tally.
+-- A run that keeps a tally is the run that keeps none, except for the tally.
 use Rattle.std.proofs.Common.{◌≡◌, ℕ, refl, sym, ap}
 use Rattle.types.specs.Code.{Program}
 use Rattle.types.specs.Meaning.{after_body, child, one, one_rules}
@@ -12,7 +12,7 @@ use Rattle.cost.proofs.Seen.{nested-seen}
 abbrev none : Tally → Unit {0}
 none t = tt
 
--- the rules of one thread, which keep a tally
+-- the rules of one thread, with a tally
 abbrev pub tallied_rules : Program → (fresh nest : ℕ) → Rules Tally
 tallied_rules p = booked_rules tallying p
 

@@ -1,6 +1,7 @@
--- What a run on one thread costs at each label: a tally, and beside it, by label, the steps that were
--- taken and those of its chains. Where two chains are equally long, a task's own is told and none of a
--- task that it waited for; and of two tasks that ended in a finish, that of the one that ended first.
+-- The cost of a run on one thread at each label: a tally, and by label the steps that were taken
+-- and the steps of its chains. If two chains are equally long, a task's own chain counts, not the
+-- chain of a task that it waited for. Of two tasks that ended in a finish, the one that ended first
+-- counts.
 use Rattle.std.specs.Prelude.{ℕ, ◌+◌, List, [], length, replicate, ℤ, if◌then◌else◌}
 use Rattle.std.specs.Prelude.{nat_lt, slice_index, slice_set}
 use Rattle.types.specs.Code.{Code, Do, If, While, Split, Call, Async, Finish, Program}
@@ -11,16 +12,16 @@ use Rattle.cost.specs.Books.{Book, booked, booked_rules}
 use Rattle.cost.specs.declared.tally.Tally.{Tally}
 use Rattle.cost.specs.Costs.{begins_task, ends_task, enters_finish, leaves_finish, nothing_done, one_more}
 
--- a tally; and by label how many steps all tasks took, how many of these lie on the longest chain that
--- leads to where the task is, and how many on the longest to the end of a task that ended in its innermost
--- finish
+-- a tally, and three numbers for each label: the steps of all tasks, the steps on the longest chain
+-- to the task's current position, and the steps on the longest chain to the end of a task that
+-- ended in its innermost finish
 pub record Account : Type 0 where
   pub tally : Tally
   pub work : List ℕ
   pub here : List ℕ
   pub ended : List ℕ
 
--- nothing was done, and there are so many rows
+-- nothing was done, and there is this number of rows
 abbrev pub nothing_noted : (rows : ℕ) → Account
 nothing_noted n = record {
   tally = nothing_done;
@@ -29,17 +30,17 @@ nothing_noted n = record {
   ended = [];
 }
 
--- which of so many rows is that of a label: that of 0, which no statement has, where there is none
+-- the row of a label, or row 0, which no statement has, if the label has no row
 abbrev pub row_of : (label rows : ℕ) → ℕ
 row_of l n = if nat_lt l n then l else 0
 
--- a step more at a label
+-- one more step at a label
 abbrev pub noted : (label : ℕ) → List ℕ → List ℕ
 noted l ns =
     let k = row_of l (length ns) in
     slice_set ns k (slice_index ns k + 1)
 
--- the task at work takes a step
+-- the running task takes a step
 abbrev pub steps_at : (label : ℕ) → Account → Account
 steps_at l a = record a {
   tally = one_more a.tally;
@@ -47,20 +48,20 @@ steps_at l a = record a {
   here = noted l a.here;
 }
 
--- of two chains, which are so long, the longer; the first, where they are equally long
+-- the longer of two chains with these lengths, or the first if they are equally long
 abbrev pub longer : (first second : ℕ) → (of_first of_second : List ℕ) → List ℕ
 longer m n xs ys = if nat_lt m n then ys else xs
 
--- the longest chain that leads behind all that was done in the innermost finish
+-- the longest chain to the end of all that was done in the innermost finish
 abbrev pub span_by_label : Account → List ℕ
 span_by_label a = longer a.tally.here a.tally.ended a.here a.ended
 
--- an async takes its step, and behind that its task begins, which stands in so many asyncs and copies so
--- many places
+-- an async takes its step, and then its task starts, inside this number of asyncs, and copies this
+-- number of places
 abbrev pub begins_at : (label depth copied : ℕ) → Account → Account
 begins_at l depth copied a = record (steps_at l a) { tally = begins_task depth copied a.tally }
 
--- its task has ended; its parent goes on from where that was, in the same finish
+-- the task has ended; its parent continues from its position before, in the same finish
 abbrev pub ends_behind : (here : ℕ) → (by_label : List ℕ) → Account → Account
 ends_behind here ns a = record a {
   tally = ends_task here a.tally;
@@ -68,12 +69,12 @@ ends_behind here ns a = record a {
   ended = longer a.tally.ended a.tally.here a.ended a.here;
 }
 
--- a finish takes its step, and in it no task has ended
+-- a finish takes its step, and no task has ended in it
 abbrev pub enters_at : (label : ℕ) → Account → Account
 enters_at l a = record (steps_at l a) { tally = enters_finish a.tally; ended = [] }
 
--- what is behind a finish comes behind its statements and behind all tasks that ended in it; in the finish
--- around it tasks had ended before
+-- what comes after a finish comes after its statements and after all tasks that ended in it; other
+-- tasks had ended before in the surrounding finish
 abbrev pub leaves_behind : (ended : ℕ) → (by_label : List ℕ) → Account → Account
 leaves_behind ended ns a = record a {
   tally = leaves_finish ended a.tally;
@@ -81,7 +82,7 @@ leaves_behind ended ns a = record a {
   ended = ns;
 }
 
--- the step of a statement; an async and a finish count theirs where they begin
+-- the step of a statement; an async and a finish count their step when they start
 abbrev pub counted_at : (label : ℕ) → Code → Account → Account
 counted_at l (Async b) a = a
 counted_at l (Finish b) a = a
@@ -102,15 +103,15 @@ accounting = record {
 }
 
 module _ (p : Program) where
-  -- the rules of one thread, which keep an account
+  -- the rules of one thread, with an account
   abbrev pub accounted_rules : (fresh nest : ℕ) → Rules Account
   accounted_rules = booked_rules accounting p
 
-  -- the one-thread meaning, which keeps an account
+  -- the one-thread meaning, with an account
   abbrev pub accounted : (fresh nest : ℕ) → Work → State Account → State Account
   accounted = booked accounting p
 
--- the account of a whole run with so many rows, up to where it ended or was stopped
+-- the account of a whole run with this number of rows, up to its end or to where it was stopped
 abbrev pub account_of : Program → (rows : ℕ) → (input : List (List ℤ)) → Budget → Account
 account_of p n input b =
     let st = start (nothing_noted n) p b.steps (held_by input) in

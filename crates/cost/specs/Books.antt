@@ -1,31 +1,31 @@
--- A run on one thread that keeps a book beside its states: the one recursion over statements, by rules
--- that write in it what each step, each async and each finish does.
+-- A run on one thread that keeps a book in addition to its states: the one recursion over
+-- statements, with rules that record what each step, each async and each finish does.
 use Rattle.std.specs.Prelude.{ℕ, zero, suc, ◌+◌, length}
 use Rattle.types.specs.Code.{Codes, Program}
 use Rattle.types.specs.Meaning.{hushed, joined, child, after_body, after_finish}
 use Rattle.types.specs.Run.{State, Rules, Work, Block, stopped, run}
 use Rattle.spawn_copies.specs.Copied.{copied_at}
 
--- what is written in a book
+-- what a book records
 pub record Book (X : Type 0) : Type 0 where
   -- a statement takes its step
   pub steps : (label : ℕ) → X → X
-  -- an async takes its step, and behind that its task begins, which stands in so many asyncs and copies so
-  -- many places
+  -- an async takes its step, and then its task starts, inside this number of asyncs, and copies
+  -- this number of places
   pub begins : (label depth copied : ℕ) → X → X
-  -- its task has ended, before which this was written
+  -- the task has ended, and `before` was recorded before it
   pub ends : (before out : X) → X
   -- a finish takes its step
   pub enters : (label : ℕ) → X → X
-  -- it has ended, before which this was written
+  -- the finish has ended, and `before` was recorded before it
   pub leaves : (before out : X) → X
 
 module _ {X : Type 0} (book : Book X) where
-  -- a parent goes on as it was, but with what its child wrote, told and has in the book
+  -- a parent continues as it was, but with the writes, the output and the book of its child
   abbrev pub after_booked : (before out : State X) → State X
   after_booked before out = record (after_body before out) { extra = book.ends before.extra out.extra }
 
-  -- the rules of one thread, where `begin` runs an async's body
+  -- the rules of one thread, if `begin` runs an async's body
   abbrev pub booked_by : ((label : ℕ) → Codes → State X → State X) → Rules X
   booked_by begin = record {
     stepped = book.steps;
@@ -38,13 +38,13 @@ module _ {X : Type 0} (book : Book X) where
   }
 
   module _ (p : Program) where
-    -- a task that begins its next child, the step of whose async was taken
+    -- a task that starts its next child, after the step of the async was taken
     abbrev pub beginning_booked : (label : ℕ) → State X → State X
     beginning_booked l st = record st {
       extra = book.begins l (length st.path + 1) (copied_at p l st.environment) st.extra;
     }
 
-    -- an async where so many may stand inside one another; a child begins with `fresh` steps
+    -- an async, if this number of asyncs may be nested; a child starts with `fresh` steps
     abbrev pub begin_booked : (fresh nest : ℕ) → (label : ℕ) → Codes → State X → State X
     begin_booked fresh zero l b st = stopped st
     begin_booked fresh (suc n) l b st =

@@ -1,6 +1,6 @@
--- What a run on one thread costs: a tally of steps, which it keeps as its book. A step comes behind the
--- steps of its task before it, behind the async that began its task, and, behind a finish, behind all that
--- was done in that.
+-- The cost of a run on one thread: a tally of steps, which the run keeps as its book. A step comes
+-- after the earlier steps of its task and after the async that started its task. After a finish, it
+-- also comes after all that was done in the finish.
 use Rattle.std.specs.Prelude.{ℕ, ◌+◌, max, List, ℤ}
 use Rattle.types.specs.Code.{Program}
 use Rattle.types.specs.Contents.{held_by}
@@ -10,7 +10,7 @@ use Rattle.cost.specs.Books.{Book, booked}
 use Rattle.cost.specs.declared.cost.Cost.{Cost}
 use Rattle.cost.specs.declared.tally.Tally.{Tally}
 
--- nothing was done: there is the root, in the finish around `main`
+-- nothing was done: there is only the root, in the finish around `main`
 abbrev pub nothing_done : Tally
 nothing_done = record {
   work = 0;
@@ -22,12 +22,12 @@ nothing_done = record {
   copied = 0;
 }
 
--- the task at work takes a step
+-- the running task takes a step
 abbrev pub one_more : Tally → Tally
 one_more t = record t { work = t.work + 1; here = t.here + 1 }
 
--- an async takes its step, and behind that its task begins, which stands in so many asyncs and copies so
--- many places
+-- an async takes its step, and then its task starts, inside this number of asyncs, and copies this
+-- number of places
 abbrev pub begins_task : (depth copied : ℕ) → Tally → Tally
 begins_task depth copied t =
     record (one_more t) {
@@ -36,16 +36,16 @@ begins_task depth copied t =
       copied = t.copied + copied;
     }
 
--- its task has ended; its parent goes on from where that was, in the same finish
+-- the task has ended; its parent continues from its position before, in the same finish
 abbrev pub ends_task : (here : ℕ) → Tally → Tally
 ends_task here t = record t { here = here; ended = max t.ended t.here }
 
--- a finish takes its step, and in it no task has ended
+-- a finish takes its step, and no task has ended in it
 abbrev pub enters_finish : Tally → Tally
 enters_finish t = record (one_more t) { ended = 0; finishes = t.finishes + 1 }
 
--- what is behind a finish comes behind its statements and behind all tasks that ended in it; in the finish
--- around it tasks had ended before
+-- what comes after a finish comes after its statements and after all tasks that ended in it; other
+-- tasks had ended before in the surrounding finish
 abbrev pub leaves_finish : (ended : ℕ) → Tally → Tally
 leaves_finish ended t = record t { here = max t.here t.ended; ended = ended }
 
@@ -59,17 +59,18 @@ tallying = record {
   leaves = λ before. leaves_finish before.ended;
 }
 
--- the one-thread meaning, which keeps a tally
+-- the one-thread meaning, with a tally
 abbrev pub tallied : Program → (fresh nest : ℕ) → Work → State Tally → State Tally
 tallied p = booked tallying p
 
--- the tally of a whole run, up to where it ended or was stopped
+-- the tally of a whole run, up to its end or to where it was stopped
 abbrev pub tally_of : Program → (input : List (List ℤ)) → Budget → Tally
 tally_of p input b =
     let st = start nothing_done p b.steps (held_by input) in
     (tallied p b.steps b.nest (Block p.main.body) st).extra
 
--- what it cost; `main` stands in a finish, behind which its span is what leads there
+-- the cost; `main` is in a finish, and the span is the length of the longest chain to the end of
+-- that finish
 abbrev pub cost_of : Tally → Cost
 cost_of t = record {
   work = t.work;

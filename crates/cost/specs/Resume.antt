@@ -1,4 +1,4 @@
--- What the frames of a run stand for: a function from where the run stands to where it ends.
+-- The meaning of the frames of a run: a function from the current position to the final one.
 use Rattle.std.specs.Prelude.{ℕ, List, [], ◌∷◌, ◌++◌, map, ℤ}
 use Rattle.types.specs.Code.{Code, Program}
 use Rattle.types.specs.Meaning.{after_async, after_finish}
@@ -16,26 +16,26 @@ use Rattle.cost.specs.declared.account.Account.{Account as rAccount}
 use Rattle.cost.specs.Accounts.{Account, accounted, accounted_rules, ends_behind, leaves_behind}
 use Rattle.cost.specs.Translation.{account}
 
--- a state, and how many asyncs may still stand inside one another
+-- a state, and the number of asyncs that may still be nested
 pub record Standing : Type 0 where
   pub state : State Account
   pub nest : ℕ
 
--- where a thread stands, of which this is the account
+-- the position of a thread with this account
 abbrev pub placed : Account → Thread Store → Standing
 placed y t = record { state = keeping y (state_of t); nest = t.nest }
 
 abbrev pub standing : rAccount → Thread Store → Standing
 standing a t = placed (account a) t
 
--- what was told, as the definitions see it
+-- the output, as plain values
 abbrev pub lines_in : Told → List (List ℤ)
 lines_in o = map (λ v. v.items) o.lines.items
 
 abbrev pub faults_in : Told → List Fault
 faults_in o = map fault o.faults.items
 
--- a finish at its end, before which this was told
+-- a finish at its end, with the output before it
 abbrev pub end_finish : Outer → State Account → State Account
 end_finish o out = record out {
   flow = after_finish out.flow out.faults;
@@ -44,7 +44,7 @@ end_finish o out = record out {
   extra = leaves_behind o.ended o.ended_by_label.items out.extra;
 }
 
--- the owner of an async goes on as it stood, behind the body
+-- after the body of an async, its owner continues as it was
 abbrev pub end_async : Owner → State Account → State Account
 end_async o out = record {
   flow = after_async out.flow;
@@ -59,11 +59,11 @@ end_async o out = record {
 }
 
 module _ (p : Program) (fresh : ℕ) where
-  -- does work, where the flow is on
+  -- does work, if the flow is on
   abbrev pub doing : Work → Standing → Standing
   doing w s = record s { state = go_on (accounted p fresh s.nest w) s.state }
 
-  -- does a statement, whose step was taken and counted
+  -- does a statement whose step was taken and counted
   abbrev pub acted : (label : ℕ) → Code → Standing → Standing
   acted l c s =
       record s {

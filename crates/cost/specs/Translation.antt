@@ -1,4 +1,4 @@
--- The Rust values of accounts, as the definitions see them.
+-- The plain values of accounts in Rust.
 use Rattle.cost.specs.declared.account.Account.{Account as rAccount}
 use Rattle.cost.specs.Accounts.{Account}
 

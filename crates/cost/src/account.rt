@@ -1,4 +1,4 @@
-//! What was done so far in a run, and how much of it at each label.
+//! The work so far in a run, and its share at each label.
 
 ghost use Rattle.std.specs.Prelude.{◌≡◌, IfOk, OnOk};
 ghost use Rattle.types.specs.Translation.{code as plain_code};
@@ -11,21 +11,22 @@ use crate::tally::Tally;
 use std::alloc::{AllocError, Global};
 use types::code::{Label, StmtKind};
 
-/// What was done so far. A table by label has a row for each label and for 0; where it has none, nothing
+/// The work so far. A table by label has a row for each label and for 0. If it has no rows, nothing
 /// is kept by label.
 #[derive(Drop)]
 pub struct Account {
     pub tally: Tally,
     /// The steps of all tasks, by label.
     pub work: Vec<u64>,
-    /// Those of the longest chain that leads to where the task is.
+    /// The steps of the longest chain to the task's current position, by label.
     pub here: Vec<u64>,
-    /// Those of the longest to the end of a task that ended in its innermost finish; no row where none has.
+    /// The steps of the longest chain to the end of a task that ended in its innermost finish, by
+    /// label. Has no rows if no task has ended there.
     pub ended: Vec<u64>,
 }
 
 impl Account {
-    /// Nothing was done.
+    /// Returns an account of no work.
     pub fn start(alloc: Global, rows: usize) -> Result<Account, AllocError>
         ensures { IfOk result (λ a. account a ≡ nothing_noted rows) }
     {
@@ -37,7 +38,7 @@ impl Account {
         })
     }
 
-    /// The step of a statement was taken; an async and a finish count theirs where they begin.
+    /// Counts the step of a statement. An async and a finish count their step when they start.
     pub fn count(&mut self, label: Label, kind: &StmtKind) -> Result<(), AllocError>
         ensures { OnOk result
             (account self.new ≡ counted_at label (plain_code kind.now) (account self.old)) }
@@ -52,7 +53,7 @@ impl Account {
         }
     }
 
-    /// The task took a step.
+    /// Counts a step of the task.
     pub fn step(&mut self, label: Label) -> Result<(), AllocError>
         ensures { OnOk result (account self.new ≡ steps_at label (account self.old)) }
     {
@@ -62,7 +63,8 @@ impl Account {
         Ok(())
     }
 
-    /// An async took its step, and its task begins, which stands in so many asyncs and copies so many places.
+    /// Counts the step of an async, and its new task, which is inside `depth` asyncs and copies
+    /// `copied` places.
     pub fn begin_task(
         &mut self,
         label: Label,
@@ -78,14 +80,14 @@ impl Account {
         Ok(())
     }
 
-    /// The chain that leads to where the task is, by label.
+    /// Returns the chain to the task's current position, by label.
     pub fn chain(&self, alloc: Global) -> Result<Vec<u64>, AllocError>
         ensures { IfOk result (λ rows. rows.items ≡ self.now.here.items) }
     {
         Vec::from_slice(alloc, &self.here)
     }
 
-    /// The task of an async ended, behind which its parent stands at so much, with this chain.
+    /// Counts the end of an async's task. Its parent continues at `here`, with this chain.
     pub fn end_task(&mut self, here: usize, by_label: Vec<u64>)
         ensures { account self.new ≡ ends_behind here by_label.items (account self.old) }
     {
@@ -94,7 +96,7 @@ impl Account {
         self.tally.end_task(here);
     }
 
-    /// A finish took its step, and begins.
+    /// Counts the step of a finish, and starts the finish.
     pub fn enter_finish(&mut self, label: Label) -> Result<(), AllocError>
         ensures { OnOk result (account self.new ≡ enters_at label (account self.old)) }
     {
@@ -105,7 +107,8 @@ impl Account {
         Ok(())
     }
 
-    /// A finish is at its end; in the one around it tasks had ended at so much, by this chain.
+    /// Counts the end of a finish. In the surrounding finish, tasks had ended at `ended`, by this
+    /// chain.
     pub fn leave_finish(&mut self, ended: usize, by_label: Vec<u64>)
         ensures { account self.new ≡ leaves_behind ended by_label.items (account self.old) }
     {
@@ -114,7 +117,7 @@ impl Account {
         self.tally.leave_finish(ended);
     }
 
-    /// The steps at each label, and those of the longest chain behind all that was done.
+    /// Returns the steps at each label, and the steps of the longest chain to the end of all work.
     pub fn tables(self) -> (Vec<u64>, Vec<u64>)
         ensures work { result.0.items ≡ (account self).work }
         ensures span { result.1.items ≡ span_by_label (account self) }
@@ -124,7 +127,7 @@ impl Account {
     }
 }
 
-/// A step more at a label.
+/// Counts one more step at a label.
 #[tactic(auto, using(crate::proofs::Rows::noted_none))]
 fn note(table: &mut Vec<u64>, label: Label) -> Result<(), AllocError>
     ensures { OnOk result (table.new.items ≡ noted label table.old.items) }
@@ -137,7 +140,7 @@ fn note(table: &mut Vec<u64>, label: Label) -> Result<(), AllocError>
     Ok(())
 }
 
-/// Which of so many rows is that of a label: that of 0, where it has none.
+/// Returns the row of a label, or 0 if it has none.
 fn row_of(label: Label, rows: usize) -> usize
     ensures { result ≡ row_in label rows }
 {
@@ -145,7 +148,7 @@ fn row_of(label: Label, rows: usize) -> usize
     if row < rows { row } else { 0 }
 }
 
-/// Another chain takes the place of one that is shorter, by label.
+/// Replaces a chain by another one if that is longer, by label.
 fn lengthen(chain: &mut Vec<u64>, steps: usize, other: Vec<u64>, of_other: usize)
     ensures { chain.new.items ≡ rows_of_longer steps of_other chain.old.items other.items }
 {
@@ -154,7 +157,7 @@ fn lengthen(chain: &mut Vec<u64>, steps: usize, other: Vec<u64>, of_other: usize
     }
 }
 
-/// The longer of two chains, by label; of two that are equally long, the first.
+/// Returns the longer of two chains, by label, or the first if they are equally long.
 fn longer(first: usize, second: usize, of_first: Vec<u64>, of_second: Vec<u64>) -> Vec<u64>
     ensures { result.items ≡ rows_of_longer first second of_first.items of_second.items }
 {

@@ -1,4 +1,4 @@
-//! What a run costs.
+//! The cost of a run.
 
 ghost use Rattle.std.specs.Prelude.{◌≡◌, IfOk};
 ghost use Rattle.types.specs.Contents.{FitsArrays};
@@ -22,26 +22,27 @@ use types::input::Input;
 use types::outcome::Outcome;
 use types::typed::Typed;
 
-/// What a run on one thread costs, in steps of the language: the same on every machine.
+/// The cost of a run on one thread, in steps of the language. It is the same on every machine.
 #[derive(Clone, Copy, PartialEq, Eq, Debug)]
 pub struct Cost {
     /// The steps of all tasks.
     pub work: usize,
-    /// What the longest chain of steps costs, each of which comes behind the one before it.
+    /// The length of the longest chain of steps, in which each step comes after the one before it.
     pub span: usize,
-    /// How many tasks there were, the root among them.
+    /// The number of tasks, including the root.
     pub tasks: usize,
-    /// In how many asyncs the deepest task stood.
+    /// The number of asyncs around the deepest task.
     pub deepest_nest: usize,
-    /// How many finishes there were, the one around `main` among them.
+    /// The number of finishes, including the one around `main`.
     pub finishes: usize,
-    /// How many places lie, at each async that begins a task, in blocks of 256 that aren't wholly inside
-    /// of what its body may write, counted twice: once for the way to the task, once for the way back.
+    /// The number of copied places. At each async that starts a task, it counts the places in
+    /// blocks of 256 that aren't wholly inside what its body may write. Each place counts twice:
+    /// for the way to the task, and for the way back.
     pub copied: usize,
 }
 
 impl Cost {
-    /// Of a run that came to a tally.
+    /// Returns the cost of a run with this tally.
     pub fn of(tally: Tally) -> Cost
         ensures { result ≡ cost_of tally }
     {
@@ -56,29 +57,31 @@ impl Cost {
     }
 }
 
-/// What a run came to, and what it cost.
+/// The outcome of a run, and its cost.
 #[derive(Debug, Drop)]
 pub struct Costed {
     pub outcome: Outcome,
-    /// Where the run was stopped, of what was done up to there.
+    /// The cost. If the run was stopped, it covers what was done until then.
     pub cost: Cost,
 }
 
-/// The same, and how much of it at each label. The number of a label has that index; the first is of no
-/// statement.
+/// The outcome and cost of a run, and the cost at each label. A label's number is its index. No
+/// statement has the first index.
 #[derive(Drop)]
 pub struct CostByLabel {
     pub costed: Costed,
-    /// How many steps were taken there.
+    /// The number of steps that were taken at each label.
     pub work: Vec<u64>,
-    /// How many of them lie on the longest chain.
+    /// The number of steps on the longest chain at each label.
     pub span: Vec<u64>,
 }
 
-/// What a program, an input and a budget come to on one thread, and what that costs. The input has a list
-/// for each array, of its length. A count that is too large is told as want of memory.
+/// Returns the outcome of a program, an input and a budget on one thread, and its cost. The input
+/// has a list for each array, of its length. If a count is too large, the call fails as if memory
+/// ran out.
 ///
-/// `main { finish { async { skip; } skip; } skip; }` costs 5 steps, of which 4 come one behind the other.
+/// `main { finish { async { skip; } skip; } skip; }` costs 5 steps, 4 of which come one after the
+/// other.
 pub fn measure(
     alloc: Global,
     typed: &Typed,
@@ -95,12 +98,12 @@ pub fn measure(
     Ok(costed)
 }
 
-/// The same by label, where the labels are less than `rows`: a step at any other is counted at 0. Of two
-/// chains that are equally long it is a task's own rather than one of a task that it waited for, and of
-/// two tasks that of the first.
+/// Returns the same as `measure`, and the cost by label, for labels less than `rows`. A step at any
+/// other label is counted at 0. If two chains are equally long, a task's own chain counts, not the
+/// chain of a task that it waited for. Of two tasks, the first counts.
 ///
-/// `main { finish { async { skip; } skip; } skip; }` has 5 labels, at each of which a step is taken. That
-/// at 3, inside the async, lies beside the longest chain, which goes on behind the async.
+/// `main { finish { async { skip; } skip; } skip; }` has 5 labels, and takes one step at each. The
+/// step at 3, inside the async, isn't on the longest chain, which continues after the async.
 pub fn measure_by_label(
     alloc: Global,
     typed: &Typed,
@@ -133,7 +136,7 @@ pub fn measure_by_label(
     Ok(CostByLabel { costed, work, span })
 }
 
-/// The machine of a whole run, at its end.
+/// Returns the machine of a whole run, at its end.
 fn ran<'p>(
     plan: Plan<'p>,
     summaries: &Summaries,

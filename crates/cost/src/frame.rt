@@ -1,4 +1,4 @@
-//! What is left to do.
+//! The work that is left to do.
 
 use types::code::{Label, Stmt, Truth};
 use types::fault::Fault;
@@ -10,7 +10,7 @@ use types::value::Environment;
 pub enum Frame<'p> {
     /// The rest of a block.
     Rest(&'p [Stmt]),
-    /// The next turn of a loop.
+    /// The next iteration of a loop.
     Again {
         label: Label,
         guard: &'p Truth,
@@ -20,7 +20,8 @@ pub enum Frame<'p> {
     EndFinish {
         outer: Outer,
     },
-    /// The end of an async's body: its owner goes on as it stood. Behind a box, since the others are smaller.
+    /// The end of an async's body. Its owner continues as it was. The owner is in a box, since the
+    /// other variants are smaller.
     EndAsync {
         owner: Box<Owner>,
     },
@@ -30,17 +31,17 @@ pub enum Frame<'p> {
     },
 }
 
-/// What stood before a finish.
+/// The state before a finish.
 #[derive(Drop)]
 pub struct Outer {
     pub told: Told,
-    /// What the longest chain cost that led to the end of a task in the finish around it.
+    /// The length of the longest chain to the end of a task in the surrounding finish.
     pub ended: usize,
     /// That chain, by label.
     pub ended_by_label: Vec<u64>,
 }
 
-/// The owner of an async while its body is done.
+/// The owner of an async while the async's body runs.
 #[derive(Drop)]
 pub struct Owner {
     pub path: Path,
@@ -49,13 +50,13 @@ pub struct Owner {
     pub nest: u32,
     pub spawned: u32,
     pub told: Told,
-    /// What the longest chain costs that leads to where it stands, behind the async's step.
+    /// The length of the longest chain to the owner's position, after the async's step.
     pub here: usize,
     /// That chain, by label.
     pub here_by_label: Vec<u64>,
 }
 
-/// What was told.
+/// The output so far.
 #[derive(Drop)]
 pub struct Told {
     pub lines: Vec<Vec<i64>>,

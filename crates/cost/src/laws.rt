@@ -1,4 +1,4 @@
-//! Laws of tallies and accounts, each the contract of a function that does nothing.
+//! Theorems about tallies and accounts. Each is the contract of a function that does nothing.
 
 ghost use Rattle.std.specs.List.{sum};
 ghost use Rattle.std.specs.Prelude.{◌≡◌, ◌<◌, ℕ, ℤ, List};
@@ -11,20 +11,21 @@ ghost use Rattle.cost.specs.Costs.{cost_of, tallied, tally_of};
 ghost use Rattle.cost.specs.Laws.{AddsUp, IsFair, totals, untallied};
 ghost use Rattle.cost.specs.declared.tally.Tally.{Tally as AnyTally};
 
-/// A tally changes nothing: a run that keeps one comes to what the one-thread meaning says, whatever the
-/// tally was.
+/// States that a tally changes nothing: a run that keeps a tally does what the one-thread meaning
+/// specifies, for every tally at its start.
 pub fn tallies_change_nothing()
     ensures { (p : Program) (fresh nest : ℕ) (w : Work) (st : State AnyTally)
         → untallied (tallied p fresh nest w st) ≡ one p fresh nest w (untallied st) }
 {}
 
-/// Whatever the program, the input and the budget, no chain is longer than the work.
+/// States that no chain is longer than the work, for every program, input and budget.
 pub fn tallies_are_fair()
     ensures { (p : Program) (input : List (List ℤ)) (b : Budget) → IsFair (tally_of p input b) }
 {}
 
-/// An account changes no tally: a run that keeps one comes to what that does which keeps its tally alone,
-/// whatever the account was. So the tally of a whole run is the same with any number of rows.
+/// States that an account changes no tally: a run with an account does what a run with only its
+/// tally does, for every account at its start. So the tally of a whole run is the same with any
+/// number of rows.
 pub fn accounts_change_no_tally()
     ensures state { (p : Program) (fresh nest : ℕ) (w : Work) (st : State Account)
         → totals (accounted p fresh nest w st) ≡ tallied p fresh nest w (totals st) }
@@ -32,8 +33,8 @@ pub fn accounts_change_no_tally()
         → (account_of p rows input b).tally ≡ tally_of p input b }
 {}
 
-/// Whatever the program, the input and the budget, where there is a row at all: those of all steps add up
-/// to the work, and those of the longest chain to the span.
+/// States that for every program, input and budget, and any number of rows except 0, the rows of
+/// all steps add up to the work, and the rows of the longest chain add up to the span.
 pub fn accounts_add_up()
     ensures rows { (p : Program) (rows : ℕ) (input : List (List ℤ)) (b : Budget)
         → 0 < rows → AddsUp (account_of p rows input b) }

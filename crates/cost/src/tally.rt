@@ -1,31 +1,31 @@
-//! What was done so far in a run, and what of it comes one behind the other.
+//! The work so far in a run, and the length of its chains.
 
 ghost use Rattle.std.specs.Prelude.{◌≡◌, ◌+◌, IfOk, OnOk};
 ghost use Rattle.cost.specs.Costs.{begins_task, ends_task, enters_finish, leaves_finish, one_more};
 
 use std::alloc::AllocError;
 
-/// What was done so far. Chains are those of the task that is at work.
+/// The work so far. The chains belong to the running task.
 #[derive(Clone, Copy, PartialEq, Eq, Debug)]
 pub struct Tally {
     /// The steps of all tasks.
     pub work: usize,
-    /// What the longest chain of steps costs that leads to where the task is.
+    /// The length of the longest chain of steps to the task's current position.
     pub here: usize,
-    /// What the longest costs that leads to the end of a task that ended in its innermost finish.
+    /// The length of the longest chain to the end of a task that ended in its innermost finish.
     pub ended: usize,
-    /// How many tasks began, the root among them.
+    /// The number of tasks started, including the root.
     pub tasks: usize,
-    /// In how many asyncs the deepest of them stands.
+    /// The number of asyncs around the deepest task.
     pub deepest: usize,
-    /// How many finishes began, the one around `main` among them.
+    /// The number of finishes started, including the one around `main`.
     pub finishes: usize,
-    /// How many places are counted as copied at the asyncs that began tasks, for both ways.
+    /// The number of places counted as copied at the asyncs that started tasks, for both ways.
     pub copied: usize,
 }
 
 impl Tally {
-    /// Nothing was done: there is the root, in the finish around `main`.
+    /// No work: there is only the root, in the finish around `main`.
     pub const START: Tally = Tally {
         work: 0,
         here: 0,
@@ -36,7 +36,7 @@ impl Tally {
         copied: 0,
     };
 
-    /// The task took a step.
+    /// Counts a step of the task.
     pub fn one_more(&mut self) -> Result<(), AllocError>
         ensures { OnOk result (self.new ≡ one_more self.old) }
     {
@@ -45,7 +45,8 @@ impl Tally {
         Ok(())
     }
 
-    /// An async took its step, and its task begins, which stands in so many asyncs and copies so many places.
+    /// Counts the step of an async, and its new task, which is inside `depth` asyncs and copies
+    /// `copied` places.
     pub fn begin_task(&mut self, depth: usize, copied: usize) -> Result<(), AllocError>
         ensures { OnOk result (self.new ≡ begins_task depth copied self.old) }
     {
@@ -56,7 +57,7 @@ impl Tally {
         Ok(())
     }
 
-    /// The task of an async ended, behind which its parent stands at so much.
+    /// Counts the end of an async's task. Its parent continues at `here`.
     pub fn end_task(&mut self, here: usize)
         ensures { self.new ≡ ends_task here self.old }
     {
@@ -64,7 +65,7 @@ impl Tally {
         self.here = here;
     }
 
-    /// A finish took its step, and begins.
+    /// Counts the step of a finish, and starts the finish.
     pub fn enter_finish(&mut self) -> Result<(), AllocError>
         ensures { OnOk result (self.new ≡ enters_finish self.old) }
     {
@@ -74,7 +75,7 @@ impl Tally {
         Ok(())
     }
 
-    /// A finish is at its end; in the one around it tasks had ended at so much.
+    /// Counts the end of a finish. In the surrounding finish, tasks had ended at `ended`.
     pub fn leave_finish(&mut self, ended: usize)
         ensures { self.new ≡ leaves_finish ended self.old }
     {
@@ -83,7 +84,7 @@ impl Tally {
     }
 }
 
-/// A number and one. One that is too large for memory to count is told as want of memory.
+/// Returns a number plus one. Fails as if memory ran out if the result is too large.
 fn more(number: usize) -> Result<usize, AllocError>
     ensures { IfOk result (λ n. n ≡ number + 1) }
 {

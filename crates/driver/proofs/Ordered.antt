@@ -10,7 +10,7 @@ use Rattle.driver.specs.Orders.{ActsOn, ActsWith, DoesWith, ReadsAnd, TellsUnrea
 use Rattle.driver.specs.Trying.{TestsFolder}
 use Rattle.driver.specs.declared.doing.Doing.{Doing}
 
--- what is done is the same
+-- equal orders do the same
 pub does_so : (d e : Doing) → d ≡ e → (a : Asked) (text : List ℕ) (held later : Held) (old new : Option (List ℕ))
     (r : Result ℕ Failure) → DoesWith e a text held later old new r → DoesWith d a text held later old new r
 does_so d e same a text held later old new r does =

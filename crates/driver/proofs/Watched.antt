@@ -52,7 +52,7 @@ module _ {W : Type 0} (Told : List ℕ → W → W → Type 0) (old new : W) whe
         absurd (of_failure f (λ same. other (reports.0 ∙ same)) (subst (λ n. n ≤ 3) reports.0 small)),
   )
 
-  -- what is done is the same, or what was ordered
+  -- notifications are the same for equal orders
   pub watched_so : {A E : Type 0} (d e : Doing) → d ≡ e → (a : Asked) (r : Result A E) → WatchesDoing Told e a r old new
       → WatchesDoing Told d a r old new
   watched_so d e same a r told = subst (λ (x : Doing). WatchesDoing Told x a r old new) (sym same) told

@@ -22,7 +22,7 @@ origin_from_get [] k e = refl
 origin_from_get (o ∷ os) zero e = ap (λ x. unwrap_or x Root) e
 origin_from_get (o ∷ os) (suc k) e = origin_from_get os k e
 
--- past a split, its sides are their parent, and other sections stay
+-- after a split, its sides are their parent, and other sections stay
 by_left : (b c : Bool) (x y : ℕ) → b ≡ true → (if b || c then x else y) ≡ x
 by_left true c x y h = refl
 by_left false c x y h = false_true h
@@ -91,7 +91,7 @@ module _ (p : Program) where
       }
 
   module _ (sound : IsSound p) where
-    -- what a block is allowed, it is allowed in the names around its statement
+    -- if a block is allowed an access, so is its statement, in the names around it
     through : {s : Code} {b : Codes} {out : ℕ → ℕ} → Inner p s b out → (x : Access)
         → ((g : Procedure) (scope : List ℕ) → IsNumbered g.sections → Follows p g scope b → Allowed g scope x)
         → (g : Procedure) (scope : List ℕ) → IsNumbered g.sections → FollowsOf p g scope s

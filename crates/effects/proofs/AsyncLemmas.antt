@@ -1,4 +1,4 @@
--- What is kept of asyncs, one more of them kept.
+-- What is kept of asyncs, after one more is kept.
 use Rattle.std.proofs.Common.{◌≡◌, ◌⊎◌, inl, inr, ℕ, zero, suc, ◌+◌, ◌<◌, ◌≤◌, List, [], ◌∷◌, ◌++◌, length, map, take, get_or, refl, sym, ap, ◌∙◌, subst, arith, add-one}
 use Rattle.std.proofs.Math.Seq.{take-suc}
 use Rattle.std.proofs.lemmas.Bool.{cases_lt}
@@ -55,7 +55,7 @@ module _ (p : Program) where
       → ((l : ℕ) (b : Codes) → those l b → these l b) → Keeps p those m n
   keeps_same these those m n h back = record { stay = h.stay; has = λ l b k. h.has l b (back l b k); only = h.only }
 
-  -- one more
+  -- one more async
   module _ (old new : BTreeMap ℕ rNeeds) (label : ℕ) (v : rNeeds) (u : Updates nat_cmp old new label (Some v)) where
     at_another : (q : ℕ) → is_eq (nat_cmp label q) ≡ false → needs_at new q ≡ needs_at old q
     at_another q e = ap (option_map needs) (u.2 q e)
@@ -87,7 +87,7 @@ module _ (p : Program) where
                 inr (record { body = b; stands = subst (λ m. HasStatement p m (Async b)) is h; same = sym value ∙ same })
             by false e = inl (sym (at_another l e) ∙ k)
 
-  -- all of them
+  -- all asyncs
   pub needs_kept : IsSound p → (m found : ℕ → Option Needs) → ((l : ℕ) → m l ≡ None) → Keeps p (λ l b. HasStatement p l (Async b)) m found
       → (l : ℕ) → IsNeedAt p l (found l)
   needs_kept sound m found none h l = record { of_async = of_async; of_another = of_another }

@@ -56,7 +56,7 @@ brought table x callee caller new labels from to there same both f r l =
       λ h. changed.1 (elim h [ inl a ↦ inl a | inr b ↦ inr (b.caller, (b.to, (same l).1 (at.1 b.label))) ]),
     )
 
--- a table to which the flows bring nothing new has all that is reached
+-- if the flows bring nothing new to a table, it has everything that is reached
 pub closed_has : (flows : List Flow) (before table : List Summary) → length table ≡ length before
     → ((f : ℕ) (r : Row) (l : ℕ) → HasIn before f r l → HasIn table f r l) → IsClosed flows table
     → {f : ℕ} {r : Row} {l : ℕ} → Reached flows before f r l → HasIn table f r l
@@ -140,7 +140,7 @@ had x table f r l b has =
     (subst (λ (q : Row). HasIn table x.caller.number q l) (sym b.to)
     (has l (record { there = b.there; caller = refl; to = refl; label = b.label })))
 
--- and with one more
+-- and with one more flow
 pub rounded_more : (flows : List Flow) (before table new : List Summary) (grown here : Bool) (k : ℕ) (x : Flow)
     → Rounded flows before table grown k → slice_get flows k ≡ Some x → length new ≡ length table
     → ((f : ℕ) (r : Row) (l : ℕ) → HasIn new f r l ↔ (HasIn table f r l ⊎ Brings x table f r l))

@@ -1,4 +1,4 @@
--- All that a sound program's bodies may do and leave pending comes into the rows.
+-- Everything that a sound program's bodies may do and leave pending arrives in the rows.
 use Rattle.std.proofs.Common.{◌≡◌, ◌≢◌, ℕ, zero, suc, ◌+◌, ◌<◌, List, [], ◌∷◌, ◌++◌, length, refl, sym, ap}
 use Rattle.std.proofs.Common.{subst, ◌∙◌, arith, Some, Option}
 use Rattle.std.proofs.lemmas.Bool.{lt-ltb, eqb-true, eqb-false}
@@ -91,7 +91,7 @@ module _ (p : Program) (sound : IsSound p) where
     abbrev Part : Procedure → List Visit → Type 0
     Part g vs = (v : Visit) → Member v vs → Member v (visits_of g)
 
-    -- what a block may do stays the same past a statement that renames nothing
+    -- what a block may do stays the same outside of a statement that renames nothing
     same_item : (c : Bool) (f : ℕ) (g : Procedure) {x y : subject.Item} → y ≡ subject.renamed (λ s. s) x
         → to c f (subject.renamed (root_of g.sections) x) → to c f (subject.renamed (root_of g.sections) y)
     same_item c f g {x} e h =
@@ -185,7 +185,7 @@ module _ (p : Program) where
       Comes.start (subst (λ (o : Option Procedure). StartsIn o r l) (sym st.at)
       (in_flat_map (starts_of (root_of g.sections)) m h))
 
-  -- what the procedure of a number brings is among what all bring
+  -- what the procedure with this number brings is among what all bring
   flows_at : (n j i k : ℕ) (gs : List Procedure) (g : Procedure) (y : Flow) → slice_get gs i ≡ Some g → k ≡ j + i
       → Member y (flows_in n (record { number = k }) g) → Member y (flows_in_all n j gs)
   flows_at n j i k [] g y at e m = cc
@@ -355,7 +355,7 @@ module _ (p : Program) (sound : IsSound p) where
   complete_at f g st Labels l h = all_down p sound by_label LabelTo bring_labels f g st l h
   complete_at f g st PendingLabels l h = pending_down p sound by_label LabelTo bring_labels f g st l h
 
-  -- all that a body may do, and what it leaves pending, comes into its rows
+  -- everything that a body may do, and what it leaves pending, arrives in its rows
   pub comes_complete : (f : ℕ) (r : Row) (l : ℕ) → f < length p.procedures + 1 → Derived p (body_of p f) r l → Comes p f r l
   comes_complete f r l h = go (nat_eq f (length p.procedures)) refl
     where

@@ -1,4 +1,4 @@
--- What comes into the rows is derived.
+-- What arrives in the rows is derived.
 use Rattle.std.proofs.Common.{◌≡◌, ◌⊎◌, inl, inr, ℕ, zero, suc, ◌+◌, ◌<◌, List, [], ◌∷◌, ◌++◌, length, refl, sym, ap, subst, ◌∙◌}
 use Rattle.std.proofs.Common.{Option, None, Some, arith}
 use Rattle.std.specs.Prelude.{Bool, true, false, if◌then◌else◌, nat_eq, nat_lt, slice_get, flat_map}
@@ -67,7 +67,7 @@ module _ (p : Program) where
       let n = length p.procedures in
       if_false (nat_eq f n) p.main.body (procedure_of p f).body (ne_eqb f n (λ e. omega (arith, h, e)))
 
-  -- the procedure of a number is sound, and its body is that of the number
+  -- the procedure with this number is sound, and its body is the body with this number
   numbered_body : IsSound p → (f : ℕ) (g : Procedure) → slice_get (numbered p) f ≡ Some g → IsSoundIn p g × (g.body ≡ body_of p f)
   numbered_body sound f g e = elim (one_of p.procedures p.main f g e) [
     | inl h ↦ (
@@ -132,7 +132,7 @@ labels_at_root p g = record {
 }
 
 module _ (p : Program) (subject : Subject) (g : Procedure) (root : ℕ → ℕ) (at : AtRoot p subject g root) (here : IsSoundIn p g) where
-  -- what a statement may do, at the root, the body may do
+  -- the body may do at the root what a statement may do
   body_may : (v : Visit) → Member v (visits_of g) → (x : subject.Item) → AllOf p subject v.label v.code x
       → All p subject g.body (subject.renamed root x)
   body_may v m x a =
@@ -277,7 +277,7 @@ module _ (p : Program) (sound : IsSound p) (g : Procedure) (here : IsSoundIn p g
       | inr a ↦ section_brings w m a
     ]
 
-  -- so it is by number
+  -- this fact by number
   abbrev Carries : ProcedureId → Flow → Type 0
   Carries caller x =
       (x.caller ≡ caller) × ((l : ℕ) → Derived p (body_of p x.callee.number) x.from l → Derived p g.body x.to l)
@@ -304,7 +304,7 @@ module _ (p : Program) (sound : IsSound p) (g : Procedure) (here : IsSoundIn p g
       let v = from_flat_map (flows_of caller (length p.procedures) (root_of g.sections)) (visits_of g) m in
       code_carries caller v.0.standing v.0.label v.0.code v.1 v.2
 
--- a flow is that of the procedure of a number
+-- a flow is that of the procedure with this number
 from_flows : (n k : ℕ) (gs : List Procedure) {x : Flow} → Member x (flows_in_all n k gs)
     → (j : ℕ) × (g : Procedure) × (slice_get gs j ≡ Some g) × Member x (flows_in n (record { number = k + j }) g)
 from_flows n k [] m = elim m [ ]
@@ -324,7 +324,7 @@ from_start : (o : Option Procedure) (r : Row) (l : ℕ) → StartsIn o r l
 from_start None r l h = elim h [ ]
 from_start (Some g) r l h = (g, refl, h)
 
--- what comes into a row of a procedure is derived
+-- what arrives in a row of a procedure is derived
 pub comes_sound : (p : Program) → IsSound p → {f : ℕ} {r : Row} {l : ℕ} → Comes p f r l → Derived p (body_of p f) r l
 comes_sound p sound (Comes.start {f = f} {r = r} {l = l} h) =
     let s = from_start (slice_get (numbered p) f) r l h in

@@ -1,4 +1,4 @@
--- What is reached from what the statements do by themselves is what comes.
+-- What is reached from what the statements do without their calls is what arrives.
 use Rattle.std.proofs.Common.{◌≡◌, ℕ, List, length, ◌<◌, [], ◌∷◌, ◌++◌, get_or, inl, inr, ◌∙◌, sym, subst, arith}
 use Rattle.std.specs.Prelude.{◌↔◌}
 use Rattle.std.proofs.lemmas.Option.{slice_get-get_or}

@@ -28,7 +28,7 @@ module _ (more : Access → Type 0) where
       firsts_same (λ x. more x ⊎ Member x xs) (λ x. these x ⊎ Member x xs) ys
       (λ x k. elim k [ inl a ↦ inl (out x a) | inr b ↦ inr b ]) (λ x k. elim k [ inl a ↦ inl (back x a) | inr b ↦ inr b ]) h
 
-  -- first these and then those
+  -- first some accesses and then others
   pub adds_then : (those : Access → Type 0) (xs ys zs : List Access) → AddsFirsts more xs ys → AddsFirsts those ys zs
       → AddsFirsts (λ x. more x ⊎ those x) xs zs
   adds_then those xs ys zs h g = record { among = from; first = early }
@@ -47,7 +47,7 @@ module _ (more : Access → Type 0) where
       early x (inl (inr k)) = g.first x (inl k)
       early x (inr m) = through x (inr m)
 
-  -- the firsts of these in place of these
+  -- the firsts of accesses instead of the accesses
   pub adds_firsts : (firsts xs ys : List Access) → AreFirsts more firsts → AreFirstsIn (firsts ++ xs) ys → AddsFirsts more xs ys
   adds_firsts firsts xs ys h g = record { among = from; first = early }
     where
@@ -58,7 +58,7 @@ module _ (more : Access → Type 0) where
       early x (inl k) = as_early_through x ys firsts (h.first x k) (λ y m. g.first y (in_left xs m))
       early x (inr m) = g.first x (in_right firsts m)
 
-  -- and added to nothing
+  -- firsts added to nothing
   pub firsts_added : (xs ys : List Access) → xs ≡ [] → AddsFirsts more xs ys → AreFirsts more ys
   firsts_added xs ys e h =
       firsts_same (λ x. more x ⊎ Member x xs) more ys
@@ -71,7 +71,7 @@ pub listed_firsts : (xs : List Access) → AreFirsts (λ x. Member x xs) xs
 listed_firsts xs = record { among = λ x m. m; first = λ x m. as_early_itself x xs m }
 
 module _ (p : Program) where
-  -- one statement more in front
+  -- one more statement in front
   pub adds_front : (l : ℕ) (s : Code) (rest : Codes) (xs ys zs : List Access) → AddsFirsts (All p accesses rest) xs ys
       → AddsFirsts (AllOf p accesses l s) ys zs → AddsFirsts (All p accesses (Then l s rest)) xs zs
   adds_front l s rest xs ys zs h g =

@@ -22,7 +22,7 @@ use Rattle.effects.proofs.Members.{in_left, in_right, in_map, in_parts, from_map
 pub as_early_itself : (x : Access) (xs : List Access) → Member x xs → HasAsEarly xs x
 as_early_itself x xs m = record { item = x; stands = m; section = refl; write = refl; label = omega arith }
 
--- what is as early as something as early
+-- an access as early as an early one is early
 pub as_early_through : (x : Access) (xs ys : List Access) → HasAsEarly ys x
     → ((y : Access) → Member y ys → HasAsEarly xs y) → HasAsEarly xs x
 as_early_through x xs ys h go =
@@ -80,7 +80,7 @@ firsts_both those these xs ys h k = record {
       ];
 }
 
--- what becomes of these accesses in other names
+-- the firsts of these accesses in other names
 pub firsts_renamed : (p : Program) (out : ℕ → ℕ) (those : Access → Type 0) (xs : List Access) → AreFirsts those xs
     → AreFirsts (Renamed p accesses out those) (map (renamed out) xs)
 firsts_renamed p out those xs h = record {
@@ -148,7 +148,7 @@ only_one : (a x : Access) (ys : List Access) → Member x (a ∷ []) → Member 
 only_one a x ys first = first
 only_one a x ys (next k) = elim k [ ]
 
--- one access more in front of both
+-- one more access in front of both
 widened : (a b : Access) (xs ys : List Access) → AreFirstsIn (a ∷ xs) ys → AreFirstsIn (a ∷ b ∷ xs) (b ∷ ys)
 widened a b xs ys h = record { among = among; first = kept }
   where
@@ -161,7 +161,7 @@ widened a b xs ys h = record { among = among; first = kept }
     kept z (next first) = as_early_itself z (b ∷ ys) first
     kept z (next (next m)) = early_among (h.first z (next m)) (λ y. next)
 
--- the item at a place takes the lesser label
+-- the item at this index gets the smaller label
 pub lowered : (a : rAccess) (xs : List rAccess) (k : ℕ) → k < length xs → (get_or xs k a).section ≡ a.section
     → (get_or xs k a).write ≡ a.write
     → AreFirstsIn (access a ∷ map access xs) (map access (set xs k (with_label (get_or xs k a) (min (get_or xs k a).label a.label))))
@@ -174,7 +174,7 @@ same_item [] k a b h = absurd (omega arith)
 same_item (x ∷ xs) zero a b h = refl
 same_item (x ∷ xs) (suc k) a b h = same_item xs k a b (omega arith)
 
--- so it does in a vector
+-- the same in a vector
 pub lowered_by : (a d item : rAccess) (xs : List rAccess) (k n : ℕ) → IsAlikeAt xs a k → item ≡ get_or xs k d
     → n ≡ min item.label a.label
     → AreFirstsIn (access a ∷ map access xs) (map access (set xs k (with_label item n)))
@@ -183,7 +183,7 @@ lowered_by a d item xs k n h is least =
     (ap (λ (y : rAccess). with_label y (min y.label a.label)) (same_item xs k a d h.below ∙ sym is) ∙ ap (with_label item) (sym least))
     (lowered a xs k h.below h.section h.write)
 
--- an access that is like none of the others
+-- an access that is unlike all others
 pub put_behind : (a : rAccess) (xs : List rAccess) → AreFirstsIn (access a ∷ map access xs) (map access (xs ++ a ∷ []))
 put_behind a [] = record { among = λ x m. m; first = λ x m. as_early_itself x _ m }
 put_behind a (x ∷ xs) = widened (access a) (access x) (map access xs) _ (put_behind a xs)
@@ -201,7 +201,7 @@ moved_back : (xs : List Access) (a x : Access) (ys : List Access) → Member x (
 moved_back xs a x ys first = in_left ys (in_right xs first)
 moved_back xs a x ys (next m) = elim (in_parts xs m) [ inl k ↦ in_left ys (in_left (a ∷ []) k) | inr k ↦ in_right (xs ++ a ∷ []) k ]
 
--- with one of the list more, the firsts are those of a longer part of it
+-- with one more access of the list, the firsts are those of a longer part of it
 pub firsts_of_more : (f : rAccess → Access) (xs : List rAccess) (i : ℕ) (old now new : List Access) (d : rAccess) (a : Access)
     → i < length xs → a ≡ f (get_or xs i d) → AreFirstsIn (map f (take i xs) ++ old) now → AreFirstsIn (a ∷ now) new
     → AreFirstsIn (map f (take (i + 1) xs) ++ old) new
@@ -233,7 +233,7 @@ firsts_of_longer f xs i now new d a h e all one =
     subst (λ (ys : List Access). AreFirstsIn ys new) (append-nil (map f (take (i + 1) xs)))
     (firsts_of_more f xs i [] now new d a h e (subst (λ (ys : List Access). AreFirstsIn ys now) (sym (append-nil (map f (take i xs)))) all) one)
 
--- once all are through
+-- after all accesses
 pub firsts_of_all : (f : rAccess → Access) (g : Access → Access) (xs ys : List rAccess) (i : ℕ) (now : List Access)
     → ((x : rAccess) → f x ≡ g (access x)) → length xs ≤ i → xs ≡ ys → AreFirstsIn (map f (take i xs)) now
     → AreFirstsIn (map g (map access ys)) now
@@ -282,7 +282,7 @@ one_passed those k s l w xs ys h one = record { among = λ x m. which x (one.amo
         }
     kept x (inr m) = one.first x (next m)
 
--- those to the first parameters
+-- the accesses to the first parameters
 pub record IsPassedBelow (those : Access → Type 0) (sections : List ℕ) (n : ℕ) (y : Access) : Type 0 where
   pub parameter : ℕ
   pub below : parameter < n
@@ -294,7 +294,7 @@ none_passed_below those ss xs e =
     subst (λ (ys : List Access). AreFirsts (IsPassedBelow those ss 0) ys) (sym e)
     (record { among = λ x m. elim m [ ]; first = λ x p. let h : p.parameter < 0 = p.below in absurd (omega arith) })
 
--- one parameter more, in both kinds
+-- one more parameter, in both kinds
 pub more_passed : (those : Access → Type 0) (ss : List ℕ) (n s : ℕ) (xs ys zs : List Access) → s ≡ slice_index_or ss n 0
     → AreFirsts (IsPassedBelow those ss n) xs
     → AreFirsts (λ y. IsPassedAs those n s false y ⊎ Member y xs) ys

@@ -108,7 +108,7 @@ module _ (p : Program) where
         touches_renamed inside env (All p accesses (procedure_of p f).body) (AllOf p accesses l (Call f es ss)) (passed_for ss)
         (λ x h. AllOf.inner Inner.call h refl) q into t
 
-    -- what a call may touch besides its own reads is what its body may touch, and so on
+    -- apart from its own reads, a call may touch what its body may touch; and so on
     pub call-reads : MayTouchOf p env l (Call f es ss) q ↔
         (Touches env (λ x. Member x (own_accesses l (Call f es ss))) q ⊎ MayTouch p inside (procedure_of p f).body q)
     call-reads = (reads_of_call, call_reads)

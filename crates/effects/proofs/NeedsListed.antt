@@ -12,7 +12,7 @@ use Rattle.effects.specs.Needs.{among, also, written_by, others_by}
 use Rattle.effects.specs.Translation.{access}
 use Rattle.effects.specs.declared.access.Access.{Access as rAccess}
 
--- ---- one more in its place
+-- ---- one more at its position
 pub has_also : (s : ℕ) (ss : List ℕ) → Member s (also s ss)
 has_also s [] = first
 has_also s (t ∷ ss) = by_test (nat_lt s t) (nat_eq s t) refl (has_also s ss)
@@ -56,7 +56,7 @@ from_also s x (t ∷ ss) m = by_test (nat_lt s t) (nat_eq s t) m (from_also s x 
       | inr n ↦ elim (deeper n) [ inl e ↦ inl e | inr o ↦ inr (next o) ]
     ]
 
--- ---- lists that ascend
+-- ---- ascending lists
 abbrev pub Ascends : List ℕ → Type 0
 Ascends [] = Unit {0}
 Ascends (x ∷ xs) = ((y : ℕ) → Member y xs → x < y) × Ascends xs
@@ -80,7 +80,7 @@ also_ascends s (t ∷ ss) h = by_test (nat_lt s t) (nat_eq s t) refl refl (also_
         let apart : s ≡ t → ⊥ = eqb-false s t same in
         (above (omega arith), deeper)
 
--- two that have the same members are the same
+-- two ascending lists with the same members are equal
 pub same_members : (xs ys : List ℕ) → Ascends xs → Ascends ys → ((s : ℕ) → Member s xs → Member s ys)
     → ((s : ℕ) → Member s ys → Member s xs) → xs ≡ ys
 same_members [] [] h g out back = refl

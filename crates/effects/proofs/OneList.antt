@@ -1,4 +1,4 @@
--- A statement with one list of statements inside, whichever it is.
+-- A statement of any kind with one list of statements inside.
 use Rattle.std.proofs.Common.{◌≡◌, ◌⊎◌, inl, inr, ℕ, List, Vec, Global, refl, sym, subst}
 use Rattle.types.specs.Code.{Truth, Number, Code, While, Split, Async, Finish}
 use Rattle.types.specs.Translation.{number, truth, code, codes}
@@ -22,7 +22,7 @@ module _ (k : StmtKind) (v : Vec Stmt Global) where
   abbrev pub HasList : Type 0
   HasList = ((t : rTruth) × k ≡ rWhile t v) ⊎ HasBlock
 
-  -- what is so of all of these is so of it
+  -- a fact about all of these is a fact about it
   module _ (P : Code → Type 0) (b : List Stmt) (e : b ≡ v.items) where
     pub of_same : HasSameNames → ((t : Truth) → P (While t (codes b))) → P (Async (codes b)) → P (Finish (codes b)) → P (code k)
     of_same (inl h) loop async finish = subst P (sym (is_While k h.0 v b h.1 e)) (loop (truth h.0))

@@ -21,7 +21,7 @@ listed_last : (xs : List SectionId) (x : SectionId) (d : ℕ) → slice_index_or
 listed_last [] x d = refl
 listed_last (y ∷ ys) x d = listed_last ys x d
 
--- past the sections each is its own root
+-- a number past the sections is its own root
 past_sections : (origins : List Origin) (xs : List SectionId) (s : ℕ) → length xs ≤ s → length origins ≤ s
     → listed_root (map section xs) s ≡ root_of origins s
 past_sections origins xs s h k =

@@ -134,7 +134,7 @@ module _ (round : Table accesses → Table accesses) (count : ℕ)
   adds_more zero f x m = elim m [ ]
   adds_more (suc k) f x m = grows (rounds k) (rounds (suc k)) (adds_more k) f x m
 
-  -- ---- what is missing falls
+  -- ---- the number of missing accesses decreases
   abbrev lacking : (k n : ℕ) → ℕ
   lacking k zero = 0
   lacking k (suc f) = missing (lists (rounds k f)) (possible f) + lacking k f

@@ -122,7 +122,7 @@ module _ (p : Program) (subject : Subject) (alls pendings : Table subject) (deri
       pending (Pending.later {s = s} h) = in_right (left_by subject alls pendings s) (pending h)
 
 module _ (p : Program) (subject : Subject) where
-  -- rounds from nothing on list only what is derived
+  -- rounds that start from the empty table list only what is derived
   pub alls_derived : (k : ℕ) → IsDerived p subject (alls_after p subject k)
   alls_derived zero f x h = elim h [ ]
   alls_derived (suc k) f x h = listed p subject (alls_after p subject k) (alls_derived k) (procedure_of p f).body x h

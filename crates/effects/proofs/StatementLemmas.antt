@@ -1,4 +1,5 @@
--- The statements of a program: those inside one are the program's too, each label has one, and a visit finds all.
+-- The statements of a program: those inside one are the program's too, each label has one, and a
+-- visit finds all.
 use Rattle.std.proofs.Common.{◌≡◌, ◌⊎◌, inl, inr, ℕ, zero, suc, ◌+◌, ◌<◌, ◌≤◌, List, [], ◌∷◌, ◌++◌, length, map, get_or, refl, sym, ap, ◌∙◌, subst, arith}
 use Rattle.std.proofs.lemmas.List.{map-append}
 use Rattle.std.specs.List.{range_with_len}
@@ -48,7 +49,8 @@ module _ (p : Program) where
   pub part_inside : (l : ℕ) (k s : Code) (b : Codes) → HasStatement p l k → k ≡ s → Block s b → IsPartOf p b
   part_inside l k s b h e blk = λ m t st. has_through (subst (HasStatement p l) e h) blk st
 
-  -- a block of a statement of the program: its statements are no more, and the program's
+  -- a block of a statement of the program: it has no more statements, and they belong to the
+  -- program
   pub record IsInside (k : Code) (b : Codes) : Type 0 where
     pub small : size b ≤ size_in k
     pub part : IsPartOf p b

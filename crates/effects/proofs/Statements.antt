@@ -59,12 +59,12 @@ codes_before xs k x some within is =
     let next : k - 1 + 1 ≡ k = omega arith in
     codes_at xs (k - 1) x (omega arith) is ∙ ap (λ n. Then x.label (code x.kind) (codes (drop n xs))) next
 
--- and there are fewer
+-- and there are fewer statements
 pub smaller : (xs : List Stmt) (k : ℕ) (x : Stmt) → 0 < k → k ≤ length xs → x ≡ slice_index_or xs (k - 1) x
     → size (codes (drop (k - 1) xs)) ≡ size_in (code x.kind) + size (codes (drop k xs)) + 1
 smaller xs k x some within is = ap size (codes_before xs k x some within is)
 
--- some of the statements are no more than all
+-- the number of some of the statements is at most that of all
 pub size-drop : (k : ℕ) (xs : List Stmt) → size (codes (drop k xs)) ≤ size (codes xs)
 size-drop zero xs = omega arith
 size-drop (suc k) [] = omega arith

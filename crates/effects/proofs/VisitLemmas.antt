@@ -110,7 +110,7 @@ module _ (p : Program) (subject : Subject) (g : Procedure) (root : ℕ → ℕ)
   }
 
   mutual
-    -- what one of its statements leaves pending, a list of statements does
+    -- what one of its statements leaves pending, a list of statements leaves pending
     pub left_up : (b : Codes) (scope : List ℕ) → Follows p g scope b → (v : Visit) → Member v (visits_in Open b)
         → (x : subject.Item) → Leaves v.standing v x → Like p subject g root past (Pending p subject b) x
     left_up End scope h v m x a = elim m [ ]

@@ -1,4 +1,4 @@
-//! Rows with `--explain`: it adds to what a row tells, behind it and on the standard error alone.
+//! Rows with `--explain`: only the standard error changes, by text after the expected text.
 
 use crate::machine::Machine;
 use crate::row::Row;
@@ -9,10 +9,10 @@ use std::alloc::Global;
 use std::io;
 
 impl Row<'_> {
-    /// Whether the command, asked to explain itself, tells the same, leaves the same files, and writes
-    /// more to the standard error alone, behind what it writes there without that; and none where its
-    /// status is 0. So are commands that don't take the word, and mistakes in words, of which `clap` tells
-    /// by all of them.
+    /// Returns whether the command with `--explain` has the same results, leaves the same files,
+    /// and writes more only to the standard error, after the expected text. With status 0 it must
+    /// write nothing more. Commands without this option pass too, and so do mistakes in arguments,
+    /// because `clap` reports mistakes for all arguments together.
     pub fn is_so_explained<R: Machine>(
         &self,
         rt: &R,
@@ -34,8 +34,8 @@ impl Row<'_> {
     }
 }
 
-/// The words of a command line with `--explain` behind the command; None where that takes none, or has it
-/// already.
+/// Returns the arguments of a command line with `--explain` after the command, or None if the
+/// command doesn't take it, or has it already.
 fn explaining_words(alloc: Global, command: &str) -> io::Result<Option<Vec<String>>> {
     let mut words = words_of(alloc, command)?;
     match words.first() {
@@ -49,7 +49,7 @@ fn explaining_words(alloc: Global, command: &str) -> io::Result<Option<Vec<Strin
     Ok(Some(words))
 }
 
-/// Whether a command takes `--explain`.
+/// Returns whether a command takes `--explain`.
 fn takes_explain(command: &str) -> bool {
     match command {
         "check" | "fmt" | "list" | "mhp" | "run" | "serial" | "bench" | "explore" | "view" => true,

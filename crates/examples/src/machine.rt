@@ -1,4 +1,4 @@
-//! What a command asks of the machine.
+//! The parts of the runtime that a command uses.
 
 use std::rt::Files;
 use std::sync::Wait;

@@ -1,4 +1,4 @@
-//! What the words that it is given tell: a command line as a transcript, a table whether its rows are so.
+//! Processes each of its arguments: a command line as a transcript, a table by checking its rows.
 
 #![tactic(auto)]
 
@@ -13,11 +13,10 @@ mod transcript;
 use crate::table::Way;
 use std::{env, io};
 
-/// Does each of the words behind the program's name: `rows checks.rows` is a table,
-/// `explained checks.rows` is one whose commands have `--explain` too, `objects checks.rows` one whose
-/// commands have
-/// `--format json`, `pages` are those of
-/// `explain`, all else is a command line, as `run two_arrays.afx`.
+/// Processes each argument after the program's name: `rows checks.rows` is a table, `explained
+/// checks.rows` is one whose commands get `--explain`, `objects checks.rows` one whose commands get
+/// `--format json`, `pages` are those of `explain`, and all others are command lines, such as `run
+/// two_arrays.afx`.
 fn main(rt: HostRuntime) -> io::Result<()> {
     for line in env::args(&rt)?.skip(1) {
         match line.split_once(' ') {

@@ -1,4 +1,4 @@
-//! Rows with `--format json`: the object that a command tells, and whether it says what the row says.
+//! Rows with `--format json`: whether the object of a command matches the row.
 
 use crate::machine::Machine;
 use crate::row::{Row, Told};
@@ -13,8 +13,8 @@ use std::alloc::{AllocError, Global};
 use std::io;
 
 impl Row<'_> {
-    /// Whether it is a row of a command that can tell an object, with outputs that take all, and with
-    /// words that are understood.
+    /// Returns whether this is a row of a command that can answer as an object, with outputs that
+    /// accept all bytes, and with correct arguments.
     pub fn has_object(&self) -> bool {
         let wanted = self.wanted;
         let asks_otherwise = self.command.contains(" --list")
@@ -28,8 +28,8 @@ impl Row<'_> {
         tells_object(command) && !asks_otherwise && has_outputs && is_understood
     }
 
-    /// Whether the command tells with `--format json` what the row says. Where it doesn't, the object is
-    /// shown.
+    /// Returns whether the answer of the command with `--format json` matches the row. If it
+    /// doesn't, prints the object.
     pub fn is_so_as_object<R: Machine>(
         &self,
         rt: &R,
@@ -54,7 +54,7 @@ impl Row<'_> {
         Ok(is_so && self.has_left(rt, shelf)?)
     }
 
-    /// Whether `check --explain` says of a race, if it is one, what its witness says.
+    /// Returns whether `check --explain` matches the witness of a race, if the object is one.
     fn is_race_explained<R: Machine>(
         &self,
         rt: &R,
@@ -70,7 +70,7 @@ impl Row<'_> {
         }
     }
 
-    /// What a command, with its options, tells of the program of this one.
+    /// Runs a command, with its options, on the program of this command.
     fn told_of_file<R: Machine>(
         &self,
         rt: &R,
@@ -83,8 +83,8 @@ impl Row<'_> {
         self.told_by(rt, shelf, &words, Limit::Never, Limit::Never)
     }
 
-    /// Whether an object says what the row says: its status, and its output or its message; and whether
-    /// the standard error has what it has without it.
+    /// Returns whether an object matches the row: its status, and its output or its message; and
+    /// whether the standard error is the same as without an object.
     fn says(&self, alloc: Global, told: &Told, object: &Value) -> Result<bool, AllocError> {
         let wanted = self.wanted;
         let out = text_of(&wanted.out);
@@ -105,7 +105,7 @@ impl Row<'_> {
     }
 }
 
-/// The file of the program that a command names.
+/// Returns the file of the program that a command names.
 fn file_in(command: &str) -> &str {
     for word in command.split(' ').skip(3) {
         if word.ends_with(".afx") {
@@ -115,7 +115,7 @@ fn file_in(command: &str) -> &str {
     "-"
 }
 
-/// Whether a command can tell an object.
+/// Returns whether a command can answer as an object.
 fn tells_object(command: &str) -> bool {
     match command {
         "run" | "serial" | "check" | "cost" | "mhp" => true,
@@ -123,7 +123,7 @@ fn tells_object(command: &str) -> bool {
     }
 }
 
-/// The words of a command line with `--format json` behind the command.
+/// Returns the arguments of a command line with `--format json` after the command.
 fn object_words(alloc: Global, command: &str) -> io::Result<Vec<String>> {
     let mut words = words_of(alloc, command)?;
     if words.is_empty() {

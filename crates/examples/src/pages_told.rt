@@ -1,4 +1,4 @@
-//! The pages of `afx explain`: whether what they say of programs is so.
+//! The pages of `afx explain`: whether they are correct about their programs.
 
 use crate::machine::Machine;
 use driver::act::act;
@@ -10,7 +10,8 @@ use row_parts::words::words_of;
 use statement_steps::watch::Unwatched;
 use std::io;
 
-/// Does what the pages show, and tells how many of them say what is so, or which of them don't.
+/// Runs the programs of the pages, and prints the number of pages that are correct, or which ones
+/// aren't.
 pub fn compare<R: Machine>(rt: &R) -> io::Result<()> {
     let mut so = 0u64;
     for table in &tables() {
@@ -25,8 +26,8 @@ pub fn compare<R: Machine>(rt: &R) -> io::Result<()> {
     println!(rt; "{so} pages say what is so")
 }
 
-/// Whether the program of a page tells the page's line; whether a shape can be read, and its program is
-/// accepted.
+/// Returns whether the program of a page prints the page's line; for a shape, whether it parses,
+/// and its program is accepted.
 fn is_so<R: Machine>(rt: &R, page: &Page) -> io::Result<bool> {
     match page.example {
         Example::Nothing => Ok(true),
@@ -44,7 +45,7 @@ fn is_so<R: Machine>(rt: &R, page: &Page) -> io::Result<bool> {
     }
 }
 
-/// Whether a program with an input and a trace tells its line, and nothing else.
+/// Returns whether a program with an input and a trace prints only its line.
 fn tells<R: Machine>(
     rt: &R,
     told: Told,
@@ -60,14 +61,14 @@ fn tells<R: Machine>(
     Ok(both.taken.as_slice() == line.as_bytes())
 }
 
-/// The status of a command.
+/// Runs a command, and returns its status.
 fn status_of<R: Machine>(rt: &R, shelf: &mut Shelf<'_, R>, command: &str) -> io::Result<u8> {
     let mut out = Output::new(rt.alloc(), Limit::Never);
     let mut err = Output::new(rt.alloc(), Limit::Never);
     done(rt, shelf, command, &mut out, &mut err)
 }
 
-/// Does a command, and answers its status.
+/// Runs a command over these outputs, and returns its status.
 fn done<R: Machine>(
     rt: &R,
     shelf: &mut Shelf<'_, R>,
@@ -81,7 +82,7 @@ fn done<R: Machine>(
     Ok(act(rt, alloc, &words, shelf, out, err, &mut Unwatched))
 }
 
-/// The files of the machine, `program.afx`, `input.json` and `program.trace`.
+/// Returns the files of the machine, `program.afx`, `input.json` and `program.trace`.
 fn shelf_with<'t, R: Machine>(
     rt: &'t R,
     lines: &[&str],

@@ -1,4 +1,4 @@
-//! A row: a command, and what it must tell.
+//! A row: a command, and its expected results.
 
 use crate::machine::Machine;
 use driver::act::act;
@@ -12,7 +12,7 @@ use row_parts::words::words_of;
 use statement_steps::watch::Watch;
 use std::io;
 
-/// A command of a group, and what it must tell.
+/// A command of a group, and its expected results.
 #[derive(Clone, Copy)]
 pub struct Row<'a> {
     pub group: &'a str,
@@ -20,7 +20,7 @@ pub struct Row<'a> {
     pub wanted: &'a Wanted,
 }
 
-/// What a command told.
+/// The results of a command.
 #[derive(Drop)]
 pub struct Told {
     pub out: Output,
@@ -29,7 +29,7 @@ pub struct Told {
     looks: usize,
 }
 
-/// Two texts, a status, and how often a watch was told, as they are or as they are wanted.
+/// Two texts, a status, and the number of notifications of a watch: actual or expected ones.
 #[derive(Clone, Copy)]
 pub struct Answer<'a> {
     out: &'a [u8],
@@ -38,8 +38,8 @@ pub struct Answer<'a> {
     looks: usize,
 }
 
-/// Counts how often it is told, and has a clock that goes on only where it is looked at: the nth time by 7
-/// n microseconds modulo 11.
+/// A watch that counts its notifications. It has a clock that advances only when it is read: at the
+/// nth reading by 7 n modulo 11 microseconds.
 #[derive(Drop)]
 struct Counting {
     looks: usize,
@@ -75,7 +75,7 @@ impl Terminal for Counting {
 }
 
 impl Row<'_> {
-    /// Whether the command tells what it must. Where it doesn't, both are shown.
+    /// Returns whether the command has the expected results. If it hasn't, prints both.
     pub fn is_so<R: Machine>(&self, rt: &R, shelf: &mut Shelf<'_, R>) -> io::Result<bool> {
         if self.wanted.is_swept {
             return self.is_so_swept(rt, shelf);
@@ -89,7 +89,8 @@ impl Row<'_> {
         self.is_so_until(rt, shelf, End::TakesNothing)
     }
 
-    /// Whether the command tells what it must to outputs that end so, if they end.
+    /// Returns whether the command has the expected results on outputs that end in this way, if
+    /// they end.
     fn is_so_until<R: Machine>(
         &self,
         rt: &R,
@@ -102,7 +103,7 @@ impl Row<'_> {
         Ok(self.compare(rt, &told, self.whole())? && self.has_left(rt, shelf)?)
     }
 
-    /// Whether the command has written the files that it must. Where it hasn't, the file is shown.
+    /// Returns whether the command has written the expected files. If it hasn't, prints the file.
     pub fn has_left<R: Machine>(&self, rt: &R, shelf: &Shelf<'_, R>) -> io::Result<bool> {
         for file in &self.wanted.left {
             let wanted = text_of(&file.bytes);
@@ -116,8 +117,9 @@ impl Row<'_> {
         Ok(true)
     }
 
-    /// Whether the command tells what it must to an output that takes all, and a beginning of it to each
-    /// that fails at an earlier call: the last of these at the flush, behind the whole answer.
+    /// Returns whether the command has the expected results on an output that accepts all bytes,
+    /// and writes a prefix of them to each output that fails at an earlier call. The last of these
+    /// fails at the flush, after the whole answer.
     fn is_so_swept<R: Machine>(&self, rt: &R, shelf: &mut Shelf<'_, R>) -> io::Result<bool> {
         let mut taken = 0;
         for calls in 0..1_000 {
@@ -134,7 +136,8 @@ impl Row<'_> {
         Ok(false)
     }
 
-    /// Whether the last output to fail, which took so many bytes, failed behind all of them.
+    /// Returns whether the last output to fail, which accepted so many bytes, failed after all of
+    /// them.
     fn has_flushed<R: Machine>(&self, rt: &R, taken: usize) -> io::Result<bool> {
         if taken == self.wanted.out.len() {
             return Ok(true);
@@ -143,7 +146,7 @@ impl Row<'_> {
         Ok(false)
     }
 
-    /// What the command does with such outputs.
+    /// Runs the command with these outputs.
     fn told<R: Machine>(
         &self,
         rt: &R,
@@ -155,7 +158,7 @@ impl Row<'_> {
         self.told_by(rt, shelf, &words, out, err)
     }
 
-    /// What these words do with such outputs.
+    /// Runs these arguments with these outputs.
     pub fn told_by<R: Machine>(
         &self,
         rt: &R,
@@ -181,7 +184,7 @@ impl Row<'_> {
         })
     }
 
-    /// All that the command must tell.
+    /// Returns all expected results.
     pub fn whole(&self) -> Answer<'_> {
         Answer {
             out: &self.wanted.out,
@@ -191,7 +194,7 @@ impl Row<'_> {
         }
     }
 
-    /// What it must tell where its output fails behind so many bytes.
+    /// Returns the expected results if the output fails after so many bytes.
     fn beginning(&self, taken: usize) -> Answer<'_> {
         Answer {
             out: self.wanted.out.get(..taken).unwrap_or(&self.wanted.out),
@@ -201,7 +204,7 @@ impl Row<'_> {
         }
     }
 
-    /// Whether what was told is what is wanted. Where it isn't, both are shown.
+    /// Returns whether the results are as expected. If they aren't, prints both.
     pub fn compare<R: Machine>(&self, rt: &R, told: &Told, wanted: Answer<'_>) -> io::Result<bool> {
         let told = Answer {
             out: &told.out.taken,
@@ -220,7 +223,7 @@ impl Row<'_> {
 }
 
 impl Answer<'_> {
-    /// Whether two of them are the same.
+    /// Returns whether two answers are equal.
     fn equals(&self, other: Answer<'_>) -> bool {
         self.out == other.out
             && self.err == other.err
@@ -229,7 +232,7 @@ impl Answer<'_> {
     }
 }
 
-/// Shows an answer, each of its texts on one line.
+/// Prints an answer, each of its texts on one line.
 fn show<R: Machine>(rt: &R, what: &str, answer: Answer<'_>) -> io::Result<()> {
     let out = text_of(answer.out);
     let err = text_of(answer.err);

@@ -8,19 +8,19 @@ use row_parts::wanted::Wanted;
 use std::io::ErrorKind;
 use std::{fs, io};
 
-/// How the commands of a table are done.
+/// How to run the commands of a table.
 #[derive(Clone, Copy, PartialEq, Eq)]
 pub enum Way {
-    /// As they stand.
+    /// As they are.
     Plain,
-    /// With `--explain`, where they take it.
+    /// With `--explain`, if they take it.
     Explained,
-    /// With `--format json`, those that can tell an object.
+    /// With `--format json`, only those that can answer as an object.
     AsObjects,
 }
 
-/// Does the rows of a table of the folder `rows`, and tells how many there are, or which of them answer
-/// otherwise.
+/// Runs the rows of a table in the folder `rows`, and prints the number of rows, or which of them
+/// fail.
 pub fn compare<R: Machine>(rt: &R, name: &str, way: Way) -> io::Result<()> {
     let path = format!(in rt.alloc(); "rows/{name}")?;
     let text = fs::read_to_string(rt, path.as_str())?;
@@ -45,7 +45,7 @@ pub fn compare<R: Machine>(rt: &R, name: &str, way: Way) -> io::Result<()> {
     }
 }
 
-/// Whether a line was understood; an error that isn't about the line stays one.
+/// Returns whether a line was understood. An error that isn't about the line is passed on.
 fn is_understood(read: io::Result<()>) -> io::Result<bool> {
     match read {
         Ok(()) => Ok(true),
@@ -56,36 +56,36 @@ fn is_understood(read: io::Result<()>) -> io::Result<bool> {
     }
 }
 
-/// What a line may add to.
+/// What a line can be added to.
 #[derive(Clone, Copy)]
 enum Open {
     Nothing,
     /// The last file of the shelf.
     File,
-    /// The commands, or what they must tell.
+    /// The commands, or their expected results.
     Commands,
-    /// What the commands must tell.
+    /// The expected results of the commands.
     Wanted,
 }
 
-/// A table, as far as it was read.
+/// A table, as far as it has been parsed.
 #[derive(Drop)]
 struct Table<'t, R> {
     rt: &'t R,
     way: Way,
     shelf: Shelf<'t, R>,
     group: &'t str,
-    /// Commands that must tell the same.
+    /// Commands that must have the same results.
     commands: Vec<&'t str>,
     wanted: Wanted,
     open: Open,
     rows: u64,
-    /// How many of the rows answer otherwise.
+    /// The number of rows that fail.
     wrong: u64,
 }
 
 impl<'t, R: Machine> Table<'t, R> {
-    /// Nothing yet.
+    /// Returns an empty table.
     fn new(rt: &'t R, way: Way) -> Table<'t, R> {
         Table {
             rt,
@@ -100,7 +100,7 @@ impl<'t, R: Machine> Table<'t, R> {
         }
     }
 
-    /// Takes a line.
+    /// Parses a line.
     fn read(&mut self, line: &'t str) -> io::Result<()> {
         if line.is_empty() || line.starts_with("//") {
             Ok(())
@@ -115,7 +115,7 @@ impl<'t, R: Machine> Table<'t, R> {
         }
     }
 
-    /// Begins a group.
+    /// Starts a group.
     fn begin_group(&mut self, group: &'t str) -> io::Result<()> {
         self.end()?;
         self.shelf.begin_group();
@@ -123,7 +123,7 @@ impl<'t, R: Machine> Table<'t, R> {
         Ok(())
     }
 
-    /// Begins a file.
+    /// Starts a file.
     fn begin_file(&mut self, file: &'t str) -> io::Result<()> {
         self.end()?;
         self.shelf.begin_file(file)?;
@@ -131,7 +131,7 @@ impl<'t, R: Machine> Table<'t, R> {
         Ok(())
     }
 
-    /// Takes a command, behind others that must tell the same, or as the first.
+    /// Adds a command to others that must have the same results, or as the first.
     fn take_command(&mut self, command: &'t str) -> io::Result<()> {
         match self.open {
             Open::Commands => {}
@@ -142,7 +142,7 @@ impl<'t, R: Machine> Table<'t, R> {
         Ok(())
     }
 
-    /// Adds a line to what is open.
+    /// Adds a line to the open file, or to the open commands or their expected results.
     fn add(&mut self, line: &str) -> io::Result<()> {
         match self.open {
             Open::Nothing => Err(not_understood()),
@@ -154,7 +154,7 @@ impl<'t, R: Machine> Table<'t, R> {
         }
     }
 
-    /// Does the commands that are there, and has none behind that.
+    /// Runs the commands that are there, and removes them.
     fn end(&mut self) -> io::Result<()> {
         for command in &self.commands {
             let row = Row {

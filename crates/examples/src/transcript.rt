@@ -1,4 +1,4 @@
-//! A command line with what it writes.
+//! A command line with its output.
 
 use crate::machine::Machine;
 use driver::act::act;
@@ -7,8 +7,8 @@ use row_parts::words::words_of;
 use statement_steps::watch::Unwatched;
 use std::io;
 
-/// Does a command line over the machine's files, and shows it, what it writes to both outputs, and its
-/// status where that isn't 0.
+/// Runs a command line over the machine's files, and prints it, its two outputs, and its status
+/// unless that is 0.
 pub fn show<R: Machine>(rt: &R, line: &str) -> io::Result<()> {
     let alloc = rt.alloc();
     let command = format!(in alloc; "$ afx {line}")?;

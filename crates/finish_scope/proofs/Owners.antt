@@ -18,7 +18,7 @@ module _ (o : Option Job) where
   pub owner_is_of_the_run : (x : Option Resting) (r : Resting) → x ≡ Some r → IsOwnOwner o x → IsOwnResting o r
   owner_is_of_the_run x r is own = subst (IsOwnOwner o) is own
 
-  -- and so is a scope that passes with it
+  -- a scope that passes with that owner is of the run
   pub passing_is_of_the_run : (x : Option Resting) (r : Resting) → x ≡ Some r → IsOwnOwner o x
       → (rs : List Made) → Each (IsResultOfRun o) rs → (p : Passing) → p.owner ≡ r → p.results.items ≡ rs
       → IsOwnPassing o p

@@ -1,4 +1,4 @@
--- What is told of arrays, read as an input.
+-- The object of arrays, parsed as an input.
 use Rattle.std.proofs.Common.{◌≡◌, ◌-◌, ℕ, List, [], ◌∷◌, ◌++◌, length, map, Option, None, Some, Ok, Err}
 use Rattle.std.proofs.Common.{Bool, true, false, refl, sym, ap, ◌∙◌, arith, subst, true≢false}
 use Rattle.std.proofs.Common.{Less, Equal, Greater, nat_cmp, option_map}
@@ -100,7 +100,7 @@ members_read (x ∷ xs) (row ∷ rows) ms apart (inputs.also r fits) held =
     ∙ ap (λ o. both o (members_say (λ name. get_member name (put_arrays (zip xs rows) more)) xs)) (row_read x row r h.0)
     ∙ ap (both (Ok row)) rest
 
--- ---- no stranger among them
+-- ---- no unknown name among them
 
 itself : (name : List ℕ) → bytes_eq name name ≡ true
 itself name = (bytes_eq-Decides name name).1 refl
@@ -126,7 +126,7 @@ no_stranger_first all name d ms named none =
 cons_none : (x : List ℕ) (xs : List (List ℕ)) → x ∷ xs ≡ [] → ⊥
 cons_none x xs e = cc
 
--- of members without a stranger the first has the name of an array, and there is none behind it
+-- of members without an unknown name, the first has the name of an array, and none after it is unknown
 parts : (all : List Array) (name : List ℕ) (d : Data) (ms : Members) → strangers all (member name d ms) ≡ []
     → (is_named all name ≡ true) × (strangers all ms ≡ [])
 parts all name d ms = by_name (is_named all name)
@@ -185,7 +185,7 @@ means_first : (b : Bool) (m : Meant) (rest : Option Meant) → b ≡ true → is
 means_first true m rest e = refl
 means_first false m rest e = cc
 
--- a name that means something is that of no array that is declared behind it
+-- a name in scope is the name of no array that is declared after it
 new_behind : (name : List ℕ) (arrays : List tree.Array) (here : Scope) → is_some (meant name here.names) ≡ true
     → array_errors here arrays ≡ [] → IsNew name (map array arrays)
 new_behind name [] here means none = tt
@@ -226,6 +226,6 @@ resolved_apart fs (Some m) p none is =
     let same : with_main fs m ≡ p = cc in
     subst (λ q. AreApart q.arrays) same (main_apart fs m none)
 
--- what is told of the arrays of a program that breaks no rule is an input that gives them
+-- the object of the arrays of a program that breaks no rule is an input that gives them
 pub program_given_back : (t : tree.Program) (p : Program) → BreaksNoRule t → resolution t ≡ Some p → AreGivenBack p.arrays
 program_given_back t p right is = given_back p.arrays (resolved_apart t.procedures t.main p right is)

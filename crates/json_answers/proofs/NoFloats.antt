@@ -1,4 +1,4 @@
--- None of the values has a float, so that each has one compact text.
+-- None of the values has a float, therefore each has one compact text.
 use Rattle.std.proofs.Common.{◌≡◌, ℕ, List, [], ◌∷◌, map, Option, None, Some, false, refl}
 use Rattle.std.proofs.Common.{Ordering, Less, Equal, Greater, nat_cmp}
 use Rattle.std.specs.Prelude.{ℤ, pos, negsuc, ◌||◌}
@@ -45,7 +45,7 @@ list_has_none f [] none = refl
 list_has_none f (x ∷ xs) none =
     or_from (has_float (f x)) (items_have_float (items_of (map f xs))) (none x) (list_has_none f xs none)
 
--- an object has none where no value under a key has one
+-- an object has no float if no value under a key has one
 pub object_has_none : (ms : List (List ℕ × Data)) → AllByRecursion (λ m. HasNoFloat m.1) ms → HasNoFloat (object_of ms)
 object_has_none [] all = refl
 object_has_none (m ∷ ms) all =

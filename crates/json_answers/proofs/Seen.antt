@@ -13,7 +13,7 @@ use Rattle.types.specs.Code.{Array as PlainArray}
 use Rattle.json_answers.specs.Outcomes.{numbers_json, put_arrays}
 use Rattle.json_answers.specs.Pieces.{list_by}
 
--- the values that stand for the first n of these
+-- the values that represent the first n of these
 pub record SeenFirst {X : Type 0} (f : X → Data) (xs : List X) (n : ℕ) (vs : List Value) : Type 0 where
   pub so_far : map view vs ≡ map f (take n xs)
 
@@ -34,14 +34,14 @@ module _ {X : Type 0} (f : X → Data) (xs : List X) where
   seen_all n v all p =
       view-Array v ∙ ap (λ ds. array (items_of ds)) (p.so_far ∙ ap (map f) (take_all n xs all))
 
--- a list of what stands for others
+-- a list of values for mapped elements
 pub list_by-map : {X Y : Type 0} (f : Y → Data) (g : X → Y) (xs : List X)
     → list_by f (map g xs) ≡ list_by (λ x. f (g x)) xs
 list_by-map f g xs = ap (λ ds. array (items_of ds)) (map-map f g xs)
 
 -- ---- arrays under their names
 
--- with those from the n-th on, these members are those of all arrays
+-- together with those from the n-th on, these members are those of all arrays
 pub record PutFirst {X : Type 0} (plain : X → PlainArray × List ℤ) (xs : List X) (n : ℕ) (ms : Members) : Type 0 where
   pub left : put_arrays (map plain (drop n xs)) ms ≡ put_arrays (map plain xs) no_members
 

@@ -1,4 +1,4 @@
--- The values nest no deeper than a reader goes.
+-- The values are nested no deeper than the parser accepts.
 use Rattle.std.proofs.Common.{◌≤◌, ℕ, suc, List, [], ◌∷◌, map, Option, None, Some, arith}
 use Rattle.std.proofs.Common.{Less, Equal, Greater, nat_cmp}
 use Rattle.std.specs.Prelude.{ℤ}
@@ -22,7 +22,7 @@ use Rattle.json_answers.specs.Places.{column_of, line_of, place_at}
 use Rattle.json_answers.specs.Programs.{accepted_json, pair_json, pairs_json, pairs_members}
 use Rattle.json_answers.specs.Refusals.{failure_array, failure_code, failure_label, failure_place, refusal_json, refusal_members}
 
--- it nests no deeper
+-- it is nested no deeper
 abbrev pub Within : ℕ → Data → Type 0
 Within n d = depth d ≤ n
 

@@ -1,4 +1,4 @@
--- What is told of the cost of a run.
+-- The object of the cost of a run.
 use Rattle.std.specs.Prelude.{[], ◌∷◌, codes}
 use Rattle.serde_json.specs.Data.{Data}
 use Rattle.cost.specs.declared.cost.Cost.{Cost}

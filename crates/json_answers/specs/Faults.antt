@@ -1,4 +1,4 @@
--- What is told of a fault.
+-- The members of a fault.
 use Rattle.std.specs.Prelude.{ℕ, ℤ, List, [], ◌∷◌, codes, take, Option, None, Some}
 use Rattle.serde_json.specs.Data.{Data, string}
 use Rattle.syntax.specs.declared.place.Place.{Place}
@@ -9,7 +9,7 @@ use Rattle.types.specs.declared.fault.FaultKind.TheVariants.{Raised}
 use Rattle.json_answers.specs.Pieces.{integer, natural, object_of, or_null}
 use Rattle.json_answers.specs.Places.{column_of, line_of, place_at}
 
--- `F6` of `F6 -3`: the code, without the number of a raised one
+-- `F6` of `F6 -3`: the code, without the number of a `fault` statement
 abbrev pub fault_code : FaultKind → List ℕ
 fault_code kind = take 2 (kind_text kind)
 
@@ -18,7 +18,7 @@ abbrev pub raised_number : FaultKind → Option ℤ
 raised_number (Raised n) = Some n
 raised_number _ = None
 
--- the task, the statement and where it begins, the kind, and the number of one that was raised
+-- the task, the statement and its position, the kind, and the number of a `fault` statement
 abbrev pub fault_members : List Place → Fault → List (List ℕ × Data)
 fault_members places f =
     let place = place_at places f.label in

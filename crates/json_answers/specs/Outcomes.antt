@@ -1,4 +1,4 @@
--- What is told of an outcome.
+-- The object of an outcome.
 use Rattle.std.specs.Prelude.{ℕ, ℤ, List, [], ◌∷◌, codes, true, false}
 use Rattle.std.specs.List.{zip}
 use Rattle.serde_json.specs.Data.{Data, Members, boolean, no_members, object, put}
@@ -12,12 +12,12 @@ use Rattle.json_answers.specs.Pieces.{integer, list_by, natural, object_of}
 abbrev pub numbers_json : List ℤ → Data
 numbers_json numbers = list_by integer numbers
 
--- each array under its name, with the members that there are
+-- each array under its name, in addition to the given members
 abbrev pub put_arrays : List (Array × List ℤ) → Members → Members
 put_arrays [] ms = ms
 put_arrays (x ∷ xs) ms = put_arrays xs (put x.0.name (numbers_json x.1) ms)
 
--- the arrays that are declared, as an input has them
+-- the declared arrays, in the form of an input
 abbrev pub arrays_json : (declared : List Array) → List (List ℤ) → Data
 arrays_json declared contents = object (put_arrays (zip declared contents) no_members)
 
@@ -33,7 +33,7 @@ ended_members declared places e =
 abbrev pub ended_json : (declared : List Array) → List Place → Ending → Data
 ended_json declared places e = object_of (ended_members declared places e)
 
--- nothing but that the run was stopped
+-- only that the run was stopped
 abbrev pub stopped_json : Data
 stopped_json = object_of ((codes "status", natural 3) ∷ (codes "stopped", boolean true) ∷ [])
 

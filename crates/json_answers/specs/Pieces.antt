@@ -1,4 +1,4 @@
--- Values of JSON: numbers, lists and objects, and the line that tells a value.
+-- Values of JSON: numbers, lists and objects, and the line of a value.
 use Rattle.std.specs.Prelude.{ℕ, ℤ, ◌≡◌, List, [], ◌∷◌, ◌++◌, codes, map, Option, None, Some}
 use Rattle.serde_json.specs.Data.{Data, null, number, array, object, unsigned, Members, no_members, member}
 use Rattle.serde_json.specs.Find.{of_integer}
@@ -12,11 +12,11 @@ natural n = number (unsigned n)
 abbrev pub integer : ℤ → Data
 integer z = number (of_integer z)
 
--- a value of each, in a list
+-- a list with a value for each
 abbrev pub list_by : {X : Type 0} → (X → Data) → List X → Data
 list_by f xs = array (items_of (map f xs))
 
--- null where there is none
+-- null if there is none
 abbrev pub or_null : {X : Type 0} → (X → Data) → Option X → Data
 or_null f None = null
 or_null f (Some x) = f x
@@ -33,6 +33,6 @@ object_of ms = object (members_by ms)
 unfoldable pub line : Data → List ℕ
 line d = compact_text d ++ codes "\n"
 
--- a reader reads the compact text of a value as the value
+-- the compact text of a value is parsed as that value
 abbrev pub IsReadBack : Data → Type 0
 IsReadBack d = read (compact_text d) ≡ Some d

@@ -1,8 +1,8 @@
--- The places at which statements begin, by their labels.
+-- The positions at which statements start, by their labels.
 use Rattle.std.specs.Prelude.{ℕ, ◌-◌, List, Option, option_map, slice_get}
 use Rattle.syntax.specs.declared.place.Place.{Place}
 
--- the place of the statement with a label, where it is known; labels are counted from 1
+-- the position of the statement with a label, if it is known; labels are counted from 1
 abbrev pub place_at : List Place → (label : ℕ) → Option Place
 place_at places label = slice_get places (label - 1)
 

@@ -1,11 +1,11 @@
--- What is told of an accepted program, and of pairs of labels.
+-- The objects of an accepted program, and of pairs of labels.
 use Rattle.std.specs.Prelude.{ℕ, List, [], ◌∷◌, codes, length, true}
 use Rattle.serde_json.specs.Data.{Data, boolean}
 use Rattle.types.specs.Code.{Program}
 use Rattle.texts.specs.Labels.{labels_in}
 use Rattle.json_answers.specs.Pieces.{list_by, natural, object_of}
 
--- how many labels and procedures it has; `main` isn't counted among these
+-- the numbers of its labels and procedures, without `main`
 abbrev pub accepted_json : Program → Data
 accepted_json p =
     object_of (

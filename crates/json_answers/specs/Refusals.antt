@@ -1,4 +1,4 @@
--- What is told of a failure.
+-- The object of a failure.
 use Rattle.std.specs.Prelude.{ℕ, List, [], ◌∷◌, codes, Option, None, Some, option_and_then}
 use Rattle.std.specs.String.{string_bytes}
 use Rattle.serde_json.specs.Data.{Data, string}
@@ -18,7 +18,7 @@ use Rattle.intake.specs.declared.failure.Failure.TheVariants.{Run, Trace, Strang
 use Rattle.json_answers.specs.Pieces.{natural, object_of, or_null}
 use Rattle.json_answers.specs.Places.{column_of, line_of, place_at}
 
--- the code that its line has
+-- the code in its line
 abbrev pub failure_code : Failure → Option (List ℕ)
 failure_code (Syntax e) = Some (syntax_code e)
 failure_code (Types e) = Some (rule_code e)
@@ -31,18 +31,18 @@ failure_code (Trace MemoryInTrace) = Some (codes "J2")
 failure_code StrangeEvents = Some (codes "E5")
 failure_code _ = None
 
--- the label that its line has, but for those of a race
+-- the label in its line, except those of a race
 abbrev pub failure_label : Failure → Option ℕ
 failure_label (Types e) = label_of e
 failure_label _ = None
 
--- where it stands: where the text goes wrong, or where the statement with its label begins
+-- its position: where the text is wrong, or where the statement with its label starts
 abbrev pub failure_place : List Place → Failure → Option Place
 failure_place places (Syntax e) = place_of e
 failure_place places (Types e) = option_and_then (place_at places) (label_of e)
 failure_place places _ = None
 
--- the name that an error of an input tells
+-- the name in an error of an input
 abbrev pub input_name : InputError → Option (List ℕ)
 input_name (UnknownArray name) = Some (string_bytes name)
 input_name (WrongLength name) = Some (string_bytes name)
@@ -53,7 +53,7 @@ abbrev pub failure_array : Failure → Option (List ℕ)
 failure_array (Input e) = input_name e
 failure_array _ = None
 
--- its code, its line and its status, and what else is known; `file` is that of the program
+-- its code, its line and its status, and all else that is known; `file` is that of the program
 abbrev pub refusal_members : (file : List ℕ) → List Place → Failure → List (List ℕ × Data)
 refusal_members file places f =
     let place = failure_place places f in

@@ -1,4 +1,4 @@
-//! What a run costs.
+//! The cost of a run.
 
 ghost use Rattle.std.specs.Prelude.{◌≡◌, IfOk, OnOk};
 ghost use Rattle.std.specs.String.{string_bytes};
@@ -11,7 +11,7 @@ use cost::cost::Cost;
 use serde_json::{Value, json};
 use std::alloc::{AllocError, Global};
 
-/// The cost of a run that ended without faults, in steps:
+/// Returns the object of the cost of a run that ended without faults, in steps:
 /// `{"copied_places":24,"deepest_nest":3,"finishes":2,"span":17,"status":0,"tasks":8,"work":61}`.
 pub fn cost_object(alloc: Global, cost: &Cost) -> Result<String, AllocError>
     ensures text { IfOk result (λ text. string_bytes text ≡ line (cost_json cost.now)) }
@@ -21,7 +21,7 @@ pub fn cost_object(alloc: Global, cost: &Cost) -> Result<String, AllocError>
     line_of(alloc, &value)
 }
 
-/// The cost of a run.
+/// Returns the value of the cost of a run.
 fn cost_value(alloc: Global, cost: &Cost) -> Result<Value, AllocError>
     ensures { IfOk result (λ v. view v ≡ cost_json cost.now) }
 {

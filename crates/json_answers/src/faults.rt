@@ -11,8 +11,8 @@ use std::alloc::{AllocError, Global};
 use syntax::Place;
 use types::fault::{Fault, FaultKind};
 
-/// `{"column":11,"kind":"F6","label":3,"line":2,"number":7,"path":"0.1"}`: a fault, and where its
-/// statement begins.
+/// Returns the value of a fault, and where its statement starts:
+/// `{"column":11,"kind":"F6","label":3,"line":2,"number":7,"path":"0.1"}`.
 pub(crate) fn fault_value(
     alloc: Global,
     places: &[Place],
@@ -31,7 +31,7 @@ pub(crate) fn fault_value(
     })
 }
 
-/// `F1` to `F6`.
+/// Returns the code, `F1` to `F6`.
 fn code_of(kind: &FaultKind) -> &'static str
     ensures { result.now ≡ fault_code kind.now }
 {
@@ -45,7 +45,7 @@ fn code_of(kind: &FaultKind) -> &'static str
     }
 }
 
-/// The number of a `fault` statement.
+/// Returns the number of a `fault` statement.
 fn number_of(kind: &FaultKind) -> Option<i64>
     ensures { result ≡ raised_number kind.now }
 {

@@ -1,4 +1,4 @@
-//! What commands answer, as JSON: one object, with a line feed behind it.
+//! The answers of commands as JSON: one object, followed by a line feed.
 
 #![tactic(auto)]
 

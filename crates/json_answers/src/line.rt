@@ -11,7 +11,8 @@ ghost use Rattle.json_answers.specs.Pieces.{IsReadBack, line};
 use serde_json::Value;
 use std::alloc::{AllocError, Global};
 
-/// The compact text of a value, and a line feed: `{"status":0}` and a line feed of `{"status": 0}`.
+/// Returns the compact text of a value, followed by a line feed. Example: `{"status":0}` and a line
+/// feed for `{"status": 0}`.
 pub fn line_of(alloc: Global, value: &Value) -> Result<String, AllocError>
     requires no_float { has_float (view value.now) ≡ false }
     requires shallow { depth (view value.now) ≤ max_depth }

@@ -1,4 +1,4 @@
-//! What a run comes to.
+//! The outcome of a run.
 
 ghost use Rattle.std.specs.Prelude.{◌≡◌, IfOk, OnOk, map};
 ghost use Rattle.std.specs.String.{string_bytes};
@@ -18,8 +18,8 @@ use types::code::Array;
 use types::fault::Fault;
 use types::outcome::Outcome;
 
-/// An outcome, with the arrays as an input has them. `declared` are the arrays of the program, `places`
-/// the places of its statements:
+/// Returns the object of an outcome, with the arrays in the form of an input. `declared` are the
+/// arrays of the program, `places` the positions of its statements:
 /// `{"arrays":{"a":[2,4]},"faults":[],"lines":[[7,8]],"status":0,"stopped":false}`, or
 /// `{"status":3,"stopped":true}`.
 pub fn outcome_object(
@@ -37,7 +37,7 @@ pub fn outcome_object(
     line_of(alloc, &value)
 }
 
-/// An outcome.
+/// Returns the value of an outcome.
 fn outcome_value(
     alloc: Global,
     declared: &[Array],
@@ -63,14 +63,14 @@ fn outcome_value(
     }
 }
 
-/// The exit status of a run that ended with these faults.
+/// Returns the exit status of a run that ended with these faults.
 fn status_of(faults: &[Fault]) -> u8
     ensures { result ≡ status_by (map fault_of faults.now) }
 {
     if faults.is_empty() { 0 } else { 2 }
 }
 
-/// `{"a":[2,4]}`: the arrays that are declared, under their names.
+/// Returns `{"a":[2,4]}`: the declared arrays, under their names.
 fn arrays_value(
     alloc: Global,
     declared: &[Array],
@@ -87,7 +87,7 @@ fn arrays_value(
     Ok(Value::Object(arrays))
 }
 
-/// `[[7,8]]`: the printed lines.
+/// Returns `[[7,8]]`: the printed lines.
 fn lines_value(alloc: Global, lines: &[Vec<i64>]) -> Result<Value, AllocError>
     ensures { IfOk result (λ v. view v
         ≡ list_by numbers_json (map (λ numbers. numbers.items) lines.now)) }
@@ -99,7 +99,7 @@ fn lines_value(alloc: Global, lines: &[Vec<i64>]) -> Result<Value, AllocError>
     Ok(Value::Array(list))
 }
 
-/// `[7,8]`
+/// Returns `[7,8]`.
 fn numbers_value(alloc: Global, numbers: &[i64]) -> Result<Value, AllocError>
     ensures { IfOk result (λ v. view v ≡ numbers_json numbers.now) }
 {
@@ -110,7 +110,7 @@ fn numbers_value(alloc: Global, numbers: &[i64]) -> Result<Value, AllocError>
     Ok(Value::Array(list))
 }
 
-/// The faults.
+/// Returns the faults.
 fn faults_value(alloc: Global, places: &[Place], faults: &[Fault]) -> Result<Value, AllocError>
     ensures { IfOk result (λ v. view v
         ≡ list_by (fault_json places.now) (map fault_of faults.now)) }

@@ -1,4 +1,4 @@
-//! What `check` and `mhp` tell of a program.
+//! The answers of `check` and `mhp`.
 
 ghost use Rattle.std.specs.Prelude.{◌≡◌, IfOk, OnOk};
 ghost use Rattle.std.specs.String.{string_bytes};
@@ -16,7 +16,8 @@ use std::alloc::{AllocError, Global};
 use texts::labels::labels;
 use types::code::{Label, Program};
 
-/// An accepted program: `{"accepted":true,"labels":9,"procedures":1,"status":0}`. `main` isn't counted.
+/// Returns the object of an accepted program:
+/// `{"accepted":true,"labels":9,"procedures":1,"status":0}`. `main` isn't counted.
 pub fn accepted_object(alloc: Global, code: &Program) -> Result<String, AllocError>
     ensures text { IfOk result (λ text. string_bytes text ≡ line (accepted_json (program code.now))) }
     ensures reads { OnOk result (IsReadBack (accepted_json (program code.now))) }
@@ -28,7 +29,7 @@ pub fn accepted_object(alloc: Global, code: &Program) -> Result<String, AllocErr
     line_of(alloc, &value)
 }
 
-/// An accepted program with so many labels.
+/// Returns the value of an accepted program with so many labels.
 fn accepted_value(alloc: Global, code: &Program, labels: u64) -> Result<Value, AllocError>
     requires { labels ≡ labels_in (program code.now) }
     ensures { IfOk result (λ v. view v ≡ accepted_json (program code.now)) }
@@ -42,7 +43,7 @@ fn accepted_value(alloc: Global, code: &Program, labels: u64) -> Result<Value, A
     })
 }
 
-/// Pairs of labels: `{"pairs":[[3,4]],"status":0}`.
+/// Returns the object of pairs of labels: `{"pairs":[[3,4]],"status":0}`.
 pub fn pairs_object(alloc: Global, pairs: PairList<'_>) -> Result<String, AllocError>
     ensures text { IfOk result (λ text. string_bytes text ≡ line (pairs_json (pairs_left pairs.entry))) }
     ensures reads { OnOk result (IsReadBack (pairs_json (pairs_left pairs.entry))) }
@@ -51,14 +52,14 @@ pub fn pairs_object(alloc: Global, pairs: PairList<'_>) -> Result<String, AllocE
     line_of(alloc, &value)
 }
 
-/// Pairs of labels.
+/// Returns the value of pairs of labels.
 fn pairs_value(alloc: Global, pairs: PairList<'_>) -> Result<Value, AllocError>
     ensures { IfOk result (λ v. view v ≡ pairs_json (pairs_left pairs.entry)) }
 {
     json!(in alloc; {"pairs": list_value(alloc, pairs)?, "status": 0u8})
 }
 
-/// `[[3,4],[3,6]]`
+/// Returns `[[3,4],[3,6]]`.
 fn list_value(alloc: Global, pairs: PairList<'_>) -> Result<Value, AllocError>
     ensures { IfOk result (λ v. view v ≡ list_by pair_json (pairs_left pairs.entry)) }
 {
@@ -69,7 +70,7 @@ fn list_value(alloc: Global, pairs: PairList<'_>) -> Result<Value, AllocError>
     Ok(Value::Array(list))
 }
 
-/// `[3,4]`
+/// Returns `[3,4]`.
 fn pair_value(alloc: Global, one: Label, other: Label) -> Result<Value, AllocError>
     ensures { IfOk result (λ v. view v ≡ pair_json (one, other)) }
 {

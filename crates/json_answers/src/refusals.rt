@@ -1,4 +1,4 @@
-//! Why a command has no answer.
+//! Objects of failures.
 
 ghost use Rattle.std.specs.Prelude.{◌≡◌, IfOk, OnOk, option_map};
 ghost use Rattle.std.specs.String.{string_bytes};
@@ -15,8 +15,8 @@ use serde_json::{Value, json};
 use std::alloc::{AllocError, Global};
 use syntax::Place;
 
-/// A failure, with the file of the program as it was named, and the places of the program's statements
-/// where they are known. Where something isn't told, null stands:
+/// Returns the object of a failure, with the file of the program as it was named, and the positions
+/// of the program's statements if they are known. Members that the failure doesn't have are null:
 /// `{"array":null,"code":"Y5","column":28,"file":"d.afx","label":3,"line":1,"message":"Y5 at label 3","status":1}`.
 pub fn refusal_object(
     alloc: Global,
@@ -32,7 +32,7 @@ pub fn refusal_object(
     line_of(alloc, &value)
 }
 
-/// A failure.
+/// Returns the value of a failure.
 fn refusal_value(
     alloc: Global,
     file: &str,
@@ -54,7 +54,7 @@ fn refusal_value(
     })
 }
 
-/// A text, or null where there is none.
+/// Returns a text, or null if there is none.
 pub fn text_or_null(alloc: Global, text: Option<&str>) -> Result<Value, AllocError>
     ensures { IfOk result (λ v. view v ≡ or_null string (option_map (λ t. t.now) text.entry)) }
 {

@@ -1,4 +1,4 @@
-//! The places at which statements begin, by their labels.
+//! The positions at which statements start, by their labels.
 
 ghost use Rattle.std.specs.Prelude.{◌≡◌};
 ghost use Rattle.json_answers.specs.Places.{column_of, line_of, place_at as place_of_label};
@@ -6,14 +6,14 @@ ghost use Rattle.json_answers.specs.Places.{column_of, line_of, place_at as plac
 use syntax::Place;
 use types::code::Label;
 
-/// The place at which the statement with a label begins, where it is known.
+/// Returns the position at which the statement with a label starts, if it is known.
 pub fn place_at(places: &[Place], label: Label) -> Option<Place>
     ensures { result ≡ place_of_label places.now label }
 {
     places.get((label as usize).saturating_sub(1)).copied()
 }
 
-/// The line of a place.
+/// Returns the line of a position.
 pub fn line_in(place: Option<Place>) -> Option<u32>
     ensures { result ≡ line_of place }
 {
@@ -23,7 +23,7 @@ pub fn line_in(place: Option<Place>) -> Option<u32>
     }
 }
 
-/// The column of a place.
+/// Returns the column of a position.
 pub fn column_in(place: Option<Place>) -> Option<u32>
     ensures { result ≡ column_of place }
 {

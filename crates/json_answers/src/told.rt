@@ -1,4 +1,4 @@
-//! What a failure tells, piece by piece.
+//! The parts of a failure.
 
 ghost use Rattle.std.specs.Prelude.{◌≡◌, IfOk, option_map};
 ghost use Rattle.std.specs.String.{string_bytes};
@@ -14,7 +14,7 @@ use trace_text::error::TraceError;
 use types::code::Label;
 use types::input_error::InputError;
 
-/// Its code, as `Y5`, where it has one.
+/// Returns its code, for example `Y5`, if it has one.
 pub(crate) fn code_of(failure: &Failure) -> Option<&'static str>
     ensures { option_map (λ code. code.now) result ≡ failure_code failure.now }
 {
@@ -32,7 +32,7 @@ pub(crate) fn code_of(failure: &Failure) -> Option<&'static str>
     }
 }
 
-/// The label of the statement that breaks a rule.
+/// Returns the label of the statement that breaks a rule.
 pub(crate) fn label_of(failure: &Failure) -> Option<Label>
     ensures { result ≡ failure_label failure.now }
 {
@@ -42,7 +42,8 @@ pub(crate) fn label_of(failure: &Failure) -> Option<Label>
     }
 }
 
-/// Where it stands in the text of the program: where the text goes wrong, or where the statement begins.
+/// Returns its position in the text of the program: where the text is wrong, or where the statement
+/// starts.
 pub(crate) fn place_of(failure: &Failure, places: &[Place]) -> Option<Place>
     ensures { result ≡ failure_place places.now failure.now }
 {
@@ -55,7 +56,7 @@ pub(crate) fn place_of(failure: &Failure, places: &[Place]) -> Option<Place>
     }
 }
 
-/// The name that an error of an input tells.
+/// Returns the name in an error of an input.
 pub(crate) fn array_of(failure: &Failure) -> Option<&str>
     ensures { option_map (λ name. name.now) result ≡ failure_array failure.now }
 {
@@ -70,7 +71,7 @@ pub(crate) fn array_of(failure: &Failure) -> Option<&str>
     }
 }
 
-/// Its line, without the line feed.
+/// Returns its line, without the line feed.
 pub fn message_of(alloc: Global, failure: &Failure) -> Result<String, AllocError>
     ensures { IfOk result (λ text. string_bytes text ≡ failure_text failure.now) }
 {
@@ -81,7 +82,7 @@ pub fn message_of(alloc: Global, failure: &Failure) -> Result<String, AllocError
     let _feed = bytes.pop();
     match String::from_utf8(bytes) {
         Ok(text) => Ok(text),
-        // No clause says that a message is text; it is put together of texts.
+        // It isn't specified that a message is text; it is built from texts.
         Err(_) => Err(AllocError),
     }
 }

@@ -1,4 +1,4 @@
--- What stands behind a piece of a layout begins with no more of it.
+-- What comes after a piece of a layout doesn't continue the piece.
 use Rattle.std.proofs.Common.{◌≡◌, ◌<◌, ℕ, zero, suc, Bool, true, false, not, ◌&&◌, ◌||◌, ◌==◌, if◌then◌else◌}
 use Rattle.std.proofs.Common.{List, [], ◌∷◌, ◌++◌, length, get_or, refl, ap, sym, ◌∙◌, arith}
 use Rattle.std.specs.Char.{is_ascii_digit}
@@ -28,7 +28,7 @@ use Rattle.layout.specs.Gap.{space_unless, token_gap_behind, token_levels}
 use Rattle.layout.specs.Laid.{end_text, laid_from, token_written, trimmed}
 use Rattle.layout.specs.Spot.{Spot, behind_token, last_by_mark, one_more}
 
--- a test that no gap passes, and no mark that stands close to what is before it
+-- a test that no gap passes, and no mark that is close to what is before it
 pub record IsQuiet (q : ℕ → Bool) : Type 0 where
   pub feed : q 10 ≡ false
   pub space : q 32 ≡ false
@@ -40,7 +40,7 @@ pub record IsQuiet (q : ℕ → Bool) : Type 0 where
   pub left_bracket : q 91 ≡ false
   pub right_bracket : q 93 ≡ false
 
--- the bytes that gaps and close marks begin with
+-- the bytes at the start of gaps and close marks
 abbrev close : List ℕ
 close = 10 ∷ 32 ∷ 40 ∷ 41 ∷ 44 ∷ 58 ∷ 59 ∷ 91 ∷ 93 ∷ []
 
@@ -79,12 +79,12 @@ equal_quiet = quiet (λ c. c == 61) refl
 slash_quiet : IsQuiet (λ c. c == 47)
 slash_quiet = quiet (λ c. c == 47) refl
 
--- the text has begun
+-- the text has started
 abbrev pub IsSomething : Last → Type 0
 IsSomething Nothing = ⊥
 IsSomething _ = Unit {0}
 
--- what stands to the left is no opening
+-- what is to the left is no opening
 abbrev pub IsNoOpening : Left → Type 0
 IsNoOpening Opening = ⊥
 IsNoOpening _ = Unit {0}
@@ -94,7 +94,7 @@ line_start : (q : ℕ → Bool) → q 10 ≡ false → (empty : Bool) (levels : 
 line_start q e true levels text rest = e
 line_start q e false levels text rest = e
 
--- where no space stands, what is written begins the text
+-- if there is no space, what is written starts the text
 inside_start : (q : ℕ → Bool) → IsQuiet q → (inside : Gap) (text rest : List ℕ)
     → (inside ≡ Joined → starts q (text ++ rest) ≡ false) → starts q ((gap_text inside ++ text) ++ rest) ≡ false
 inside_start q h Joined text rest near = near refl
@@ -158,7 +158,7 @@ end_start q h Brace s = h.feed
 end_start q h Comment s = h.feed
 end_start q h Code s = h.feed
 
--- what stands behind a token that is no opening passes no quiet test
+-- what comes after a token that is no opening passes no quiet test
 pub starts_quiet : (q : ℕ → Bool) → IsQuiet q → (ps : List Piece) (d : ℕ) (left : Left) (last : Last) (feeds : Feeds)
     → IsNoOpening left → IsSomething last
     → starts q (laid_from (record { depth = d; left = left; last = last; feeds = feeds }) ps) ≡ false
@@ -178,7 +178,7 @@ starts_quiet q h (WordPiece w ∷ ps) d left last feeds a s =
 starts_quiet q h (MarkPiece m ∷ ps) d left last feeds a s =
     token_start q h d left last feeds (MarkToken m) (mark_text m) _ s (mark_near q h left m _ a)
 
--- a new line stands behind a comment
+-- a new line comes after a comment
 pub line_ends : (ps : List Piece) (d : ℕ) (left : Left) (feeds : Feeds)
     → starts is_in_line (laid_from (record { depth = d; left = left; last = Comment; feeds = feeds }) ps) ≡ false
 unfolding laid_from
@@ -196,7 +196,7 @@ line_ends (MarkPiece m ∷ ps) d left feeds =
 
 -- ---- marks
 
--- what stands behind a mark makes it no longer, and no comment
+-- what comes after a mark neither makes it longer nor makes it a comment
 pub mark_stands : (at : Spot) (m : Mark) (ps : List Piece) → IsMark m (laid_from (behind_token at (MarkToken m)) ps)
 mark_stands at LeftParen ps = paren_stands _
 mark_stands at LeftBracket ps = bracket_stands _

@@ -1,4 +1,4 @@
--- A writer that goes on, piece by piece.
+-- A writer that continues, piece by piece.
 use Rattle.std.proofs.Common.{◌≡◌, ◌<◌, ◌≤◌, ◌+◌, ◌*◌, ℕ, zero, suc, Bool, true, false, ◌==◌, List, [], ◌∷◌, ◌++◌, length}
 use Rattle.std.proofs.Common.{take, drop, get_or, replicate, refl, ap, sym, ◌∙◌, subst, append_assoc, length-append, arith, lit<}
 use Rattle.std.specs.List.{flat_map, prefix_len}
@@ -28,7 +28,8 @@ use Rattle.layout.specs.Kept.{IsLaidOut}
 use Rattle.layout.specs.Spot.{Spot, behind_token, first, spot}
 use Rattle.layout.specs.Writing.{Adds, GoesOn, Passes, with_rest}
 
--- whatever a text is cut into, it begins with this piece, and the layout goes on behind it
+-- for all pieces into which a text is cut, it starts with this piece, and the layout continues
+-- after it
 pub record BeginsWith (q : Piece) (ps : List Piece) (rest : List ℕ) : Type 0 where
   pub more : List Piece
   pub parts : ps ≡ q ∷ more
@@ -60,14 +61,14 @@ passes q text rest old new begins none added ps cut =
           ∙ ap (with_rest old) (sym first.parts);
     }
 
--- a writer that goes on passes what has no tokens
+-- a writer of a layout stays one if it passes text without tokens
 pub goes_on : (whole : List ℕ) (ts : List Token) (old new : Writer) (text rest : List ℕ) → GoesOn whole ts old text
     → Passes old text new rest → GoesOn whole ts new rest
 goes_on whole ts old new text rest going passed =
     subst (λ l. GoesOn l ts new rest) going.laid
     (subst (λ us. GoesOn (with_rest old going.pieces) us new rest) going.tokens (passed going.pieces going.cut))
 
--- what was passed, and what is passed then
+-- what was passed, and what is passed after that
 pub passes_more : (old mid new : Writer) (text between rest : List ℕ) → Passes old text mid between → Passes mid between new rest
     → Passes old text new rest
 passes_more old mid new text between rest one two ps cut =
@@ -75,7 +76,7 @@ passes_more old mid new text between rest one two ps cut =
 
 -- ---- tokens
 
--- the first token of a text is that of its first piece, where that is no blank and no comment
+-- the first token of a text belongs to its first piece, if that is no whitespace and no comment
 pub record FirstToken (text : List ℕ) (t : Token) (ts : List Token) (ps : List Piece) : Type 0 where
   pub piece : Piece
   pub rest : List ℕ
@@ -119,7 +120,7 @@ first_token text t ts (NumberPiece cs ∷ ps) no_blank no_comment cut e = first_
 first_token text t ts (WordPiece w ∷ ps) no_blank no_comment cut e = first_is text t _ ts _ ps cut.0 cut.1 refl cut.2 e
 first_token text t ts (MarkPiece m ∷ ps) no_blank no_comment cut e = first_is text t _ ts _ ps cut.0 cut.1 refl cut.2 e
 
--- what is written of a piece that has a token
+-- the output for a piece that has a token
 pub written_token : (at : Spot) (p : Piece) (t : Token) → token_of p ≡ t ∷ [] → written at p ≡ token_written at t (letters p)
 written_token at (BlankPiece c) t e = cc
 written_token at (CommentPiece cs) t e = cc
@@ -128,7 +129,7 @@ written_token at (NumberPiece cs) t e = let same : NumberToken (number_of cs) �
 written_token at (WordPiece w) t e = let same : WordToken w ≡ t = cc in ap (λ s. token_written at s (letters (WordPiece w))) same
 written_token at (MarkPiece m) t e = let same : MarkToken m ≡ t = cc in ap (λ s. token_written at s (letters (MarkPiece m))) same
 
--- and where the layout stands behind it
+-- the spot of the layout after the piece
 pub behind_piece : (at : Spot) (p : Piece) (t : Token) → token_of p ≡ t ∷ [] → behind at p ≡ behind_token at t
 behind_piece at (BlankPiece c) t e = cc
 behind_piece at (CommentPiece cs) t e = cc
@@ -152,7 +153,7 @@ token_passed whole text t ts old new going first added = record {
       ∙ ap (with_rest old) (sym first.parts) ∙ going.laid;
 }
 
--- the letters of a token are taken off the text
+-- the letters of a token are removed from the text
 module _ (text : List ℕ) (t : Token) (ts : List Token) (ps : List Piece) (first_of : FirstToken text t ts ps) (n : ℕ)
     (long : n ≡ length (letters first_of.piece)) where
   pub within_text : n ≤ length text
@@ -208,7 +209,7 @@ comment_first text after line left n begins after_is n_is line_is left_is = reco
 
 -- ---- all tokens
 
--- at the beginning the whole text is left
+-- at the start the whole text remains
 pub goes_from_first : (text : List ℕ) (ts : List Token) (w : Writer) → AreTokensOf text ts → w.out.items ≡ [] → spot w.spot ≡ first
     → (ps : List Piece) → AreCut text ps [] → GoesOn (laid_pieces ps) ts w text
 goes_from_first text ts w read nothing there ps cut = record {
@@ -218,7 +219,7 @@ goes_from_first text ts w read nothing there ps cut = record {
   laid = ap (λ l. l ++ laid_from (spot w.spot) ps) nothing ∙ ap (λ s. laid_from s ps) there;
 }
 
--- what is left begins with the next token
+-- what remains starts with the next token
 pub next_left : (tokens : List Spanned) (i : ℕ) (s : Spanned) → i < length tokens → s ≡ get_or tokens i s
     → plain (drop i tokens) ≡ token s.token ∷ plain (drop (i + 1) tokens)
 next_left tokens i s within there = ap plain (drop_more tokens i s within ∙ ap (λ (x : Spanned). x ∷ drop (i + 1) tokens) (sym there))
@@ -235,7 +236,7 @@ no_more text (NumberPiece cs ∷ ps) no_blank no_comment cut e = cc
 no_more text (WordPiece w ∷ ps) no_blank no_comment cut e = cc
 no_more text (MarkPiece m ∷ ps) no_blank no_comment cut e = cc
 
--- behind the last token the line is ended
+-- after the last token the line is ended
 pub all_laid : (whole rest out : List ℕ) (ts : List Token) (w : Writer) → ts ≡ [] → GoesOn whole ts w rest
     → starts is_blank rest ≡ false → begins_comment rest ≡ false → out ≡ w.out.items ++ end_text w.spot.last → out ≡ whole
 unfolding laid_from
@@ -272,7 +273,7 @@ indent-more out k =
 
 -- ---- texts
 
--- the text of characters that are laid out
+-- the text of characters that are formatted
 pub laid_chars : (text characters laid bytes : List ℕ) → characters ≡ text → IsLaidOut characters laid → IsUtf8 bytes
     → bytes ≡ encodes laid → IsLaidOut text (chars bytes)
 laid_chars text characters laid bytes same is utf8 written ps cut =

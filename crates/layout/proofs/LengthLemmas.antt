@@ -1,4 +1,4 @@
--- How many characters a token takes that stands first in a text.
+-- The number of characters of a token at the start of a text.
 use Rattle.std.proofs.Common.{◌≡◌, ℕ, ◌+◌, Bool, true, false, cond, List, [], ◌∷◌, ◌++◌, length, refl, ap, ◌∙◌, arith}
 use Rattle.std.specs.Char.{is_ascii_digit}
 use Rattle.std.specs.List.{list_all, prefix_len}
@@ -10,7 +10,7 @@ use Rattle.syntax.specs.Lexical.{NamePiece, NumberPiece, WordPiece, MarkPiece}
 use Rattle.syntax.specs.Token.{NameToken, NumberToken, WordToken, MarkToken}
 use Rattle.syntax.proofs.Pieces.{word_in_name}
 
--- what passes, and behind it nothing that does, is all that is counted
+-- the characters that pass are counted, if none after them passes
 pub prefix_len-front : (q : ℕ → Bool) (cs rest : List ℕ) → list_all q cs ≡ true → starts q rest ≡ false
     → prefix_len q (cs ++ rest) ≡ length cs
 prefix_len-front q [] [] all ends = refl

@@ -1,4 +1,5 @@
--- A layout is cut into the pieces of the text, with other blanks between them; laid out again it stays.
+-- A layout is cut into the pieces of the text, with other whitespace between them. Formatted again,
+-- it is unchanged.
 use Rattle.std.proofs.Common.{◌≡◌, ◌*◌, ℕ, zero, suc, Bool, true, false, not, ◌&&◌, ◌==◌, if◌then◌else◌, List, [], ◌∷◌, ◌++◌}
 use Rattle.std.proofs.Common.{replicate, refl, ap, sym, ◌∙◌, subst, append_assoc}
 use Rattle.std.specs.Char.{is_ascii_digit}
@@ -27,7 +28,7 @@ use Rattle.layout.specs.Spot.{Spot, behind_blank, behind_comment, behind_token, 
 use Rattle.layout.proofs.GapLemmas.{digit_quiet, in_name_quiet, line_ends, mark_stands, starts_quiet, word_is_no_opening}
 use Rattle.layout.proofs.TrimmedLemmas.{list_all-trimmed, trimmed-trimmed}
 
--- blanks before pieces
+-- whitespace before pieces
 abbrev pub blanks : List ℕ → List Piece → List Piece
 blanks [] ps = ps
 blanks (c ∷ cs) ps = BlankPiece c ∷ blanks cs ps
@@ -75,7 +76,7 @@ end_cut Brace = ([], record { spelled = refl; fits = refl }, refl)
 end_cut Comment = ([], record { spelled = refl; fits = refl }, refl)
 end_cut Code = ([], record { spelled = refl; fits = refl }, refl)
 
--- a name and a number may stand before whatever doesn't go on with them
+-- a name and a number can be before everything that doesn't continue them
 name_stands : {cs old new : List ℕ} → IsName cs old → starts is_in_name new ≡ false → IsName cs new
 name_stands name ends = record { begins = name.begins; in_name = name.in_name; ends = ends; no_word = name.no_word }
 
@@ -113,7 +114,7 @@ relaid_cut (MarkPiece m ∷ ps) at text cut =
     let after : Spot = behind_token at t in
     with_item (token_gap at t) (MarkPiece m) (laid_from after ps) (relaid after ps) (mark_stands at m ps) (relaid_cut ps after cut.0 cut.2)
 
--- ---- which keep what the text has
+-- ---- these pieces keep what the text has
 
 kept-blanks : (bs : List ℕ) (ps : List Piece) → kept (blanks bs ps) ≡ kept ps
 kept-blanks [] ps = refl
@@ -173,9 +174,9 @@ same_tokens text laid is ts has =
       tokens = sym (tokens-kept (relaid first ps)) ∙ ap (flat_map token_of) (kept-relaid ps first) ∙ tokens-kept ps ∙ has.tokens;
     }
 
--- ---- and laid out again are the same text
+-- ---- these pieces, formatted again, are the same text
 
--- the line feeds of some characters
+-- the newlines among some characters
 abbrev fed : Feeds → List ℕ → Feeds
 fed f [] = f
 fed f (c ∷ cs) = fed (if c == 10 then one_more f else f) cs
@@ -222,7 +223,7 @@ token_gap_stays Brace feeds false keep levels inside = refl
 token_gap_stays Code feeds true keep levels inside = ap (λ e. Line e levels) (kept_apart feeds keep levels)
 token_gap_stays Code feeds false keep levels inside = refl
 
--- the same spot behind some characters
+-- the spot after some characters
 abbrev fed_spot : Spot → List ℕ → Spot
 fed_spot at cs = record { depth = at.depth; left = at.left; last = at.last; feeds = fed Same cs }
 
@@ -247,7 +248,7 @@ comment_gap_stays Code Apart levels = ap (λ f. comment_gap_by f (Line (is_apart
 comment_gap-fed : (at : Spot) → comment_gap (fed_spot at (gap_text (comment_gap at))) ≡ comment_gap at
 comment_gap-fed at = comment_gap_stays at.last at.feeds (levels_by at.left at.depth)
 
--- the same spot with no line begun since
+-- the same spot with no line started since
 abbrev still : Spot → Spot
 still at = record { depth = at.depth; left = at.left; last = at.last; feeds = Same }
 
@@ -309,7 +310,7 @@ one_cut text (p ∷ ps) (q ∷ qs) c d =
     let same = one_piece text p q c.0 d.0 c.1 d.1 in
     ap (λ x. x ∷ ps) same.0 ∙ ap (λ l. q ∷ l) (one_cut c.0 ps qs c.2 (subst (λ t. AreCut t qs []) (sym same.1) d.2))
 
--- what is laid out is laid out as it stands
+-- a layout, formatted again, is unchanged
 pub laid_stays : (text laid : List ℕ) (ps : List Piece) → AreCut text ps [] → IsLaidOut text laid → IsLaidOut laid laid
 laid_stays text laid ps cut is qs again =
     let whole = is ps cut in

@@ -1,4 +1,4 @@
--- Characters without the blanks at their end.
+-- Characters without the whitespace at their end.
 use Rattle.std.proofs.Common.{◌≡◌, ℕ, Bool, true, false, if◌then◌else◌, ◌&&◌, List, [], ◌∷◌, ◌++◌, refl, ap, sym, ◌∙◌}
 use Rattle.std.specs.List.{list_all}
 use Rattle.std.proofs.lemmas.Bool.{and_parts}
@@ -14,7 +14,7 @@ and-false : (b : Bool) → (b && (false && true)) ≡ false
 and-false true = refl
 and-false false = refl
 
--- a blank at the end is taken off
+-- whitespace at the end is removed
 pub trimmed-blank : (cs : List ℕ) (c : ℕ) → is_blank c ≡ true → trimmed (cs ++ c ∷ []) ≡ trimmed cs
 trimmed-blank [] c e = ap (λ b. if b && true then [] else c ∷ []) e
 trimmed-blank (d ∷ ds) c e =
@@ -25,7 +25,7 @@ trimmed-blank (d ∷ ds) c e =
     ap (λ b. if b then [] else d ∷ trimmed (ds ++ c ∷ [])) all
     ∙ ap (λ l. if list_all is_blank (d ∷ ds) then [] else d ∷ l) (trimmed-blank ds c e)
 
--- what ends with another character stays as it is
+-- what ends with another character is unchanged
 pub trimmed-kept : (cs : List ℕ) (c : ℕ) → is_blank c ≡ false → trimmed (cs ++ c ∷ []) ≡ cs ++ c ∷ []
 trimmed-kept [] c e = ap (λ b. if b && true then [] else c ∷ []) e
 trimmed-kept (d ∷ ds) c e =
@@ -40,7 +40,7 @@ all_more : (c : ℕ) (cs : List ℕ) (b : Bool) → list_all is_blank (c ∷ cs)
 all_more c cs true e same = sym e
 all_more c cs false e same = ap (λ b. is_blank c && b) same
 
--- all that is left is blank only where all was
+-- all that remains is whitespace only if all was
 all_blank-trimmed : (cs : List ℕ) → list_all is_blank (trimmed cs) ≡ list_all is_blank cs
 all_blank-trimmed [] = refl
 all_blank-trimmed (c ∷ cs) = all_more c cs (list_all is_blank (c ∷ cs)) refl (all_blank-trimmed cs)
@@ -52,7 +52,7 @@ twice_more c cs false e same =
     ap (λ b. if is_blank c && b then [] else c ∷ trimmed (trimmed cs)) (all_blank-trimmed cs)
     ∙ ap (λ b. if b then [] else c ∷ trimmed (trimmed cs)) e ∙ ap (λ l. c ∷ l) same
 
--- no more can be taken off
+-- nothing more can be removed
 pub trimmed-trimmed : (cs : List ℕ) → trimmed (trimmed cs) ≡ trimmed cs
 trimmed-trimmed [] = refl
 trimmed-trimmed (c ∷ cs) = twice_more c cs (list_all is_blank (c ∷ cs)) refl (trimmed-trimmed cs)
@@ -62,7 +62,7 @@ passes_more : (p : ℕ → Bool) (c : ℕ) (cs : List ℕ) (b : Bool) → p c �
 passes_more p c cs true e all = refl
 passes_more p c cs false e all = ap (λ b. b && list_all p (trimmed cs)) e ∙ all
 
--- what holds of all characters holds of those that are left
+-- what is true of all characters is true of those that remain
 pub list_all-trimmed : (p : ℕ → Bool) (cs : List ℕ) → list_all p cs ≡ true → list_all p (trimmed cs) ≡ true
 list_all-trimmed p [] all = refl
 list_all-trimmed p (c ∷ cs) all =

@@ -1,4 +1,4 @@
--- What stands before an item of a layout: before a comment or a token.
+-- The gap before an item of a layout: before a comment or a token.
 use Rattle.std.specs.Prelude.{ℕ, ◌+◌, ◌-◌, Bool, true, false, not, ◌||◌, ◌&&◌, if◌then◌else◌, List, []}
 use Rattle.std.specs.Prelude.{◌++◌, codes}
 use Rattle.syntax.specs.declared.token.Mark.TheVariants.{LeftBrace, RightBrace}
@@ -27,7 +27,7 @@ abbrev pub is_apart : Feeds → Bool
 is_apart Apart = true
 is_apart _ = false
 
--- an empty line is kept, but for one behind a `{`
+-- an empty line is kept, except after a `{`
 abbrev pub keeps_empty_by : Last → Feeds → Bool
 keeps_empty_by Brace feeds = false
 keeps_empty_by Nothing feeds = is_apart feeds
@@ -37,7 +37,7 @@ keeps_empty_by Code feeds = is_apart feeds
 abbrev pub keeps_empty : Spot → Bool
 keeps_empty at = keeps_empty_by at.last at.feeds
 
--- a line that begins inside a statement is indented twice more
+-- a line that starts inside a statement is indented by two more levels
 abbrev pub levels_by : Left → ℕ → ℕ
 levels_by Margin depth = depth
 levels_by Ended depth = depth
@@ -49,7 +49,7 @@ levels_by Other depth = depth + 2
 abbrev pub inner_levels : Spot → ℕ
 inner_levels at = levels_by at.left at.depth
 
--- a brace that begins a line stands as its block's header
+-- a brace that starts a line is indented like its block's header
 abbrev pub token_levels : Spot → Token → ℕ
 token_levels at (MarkToken LeftBrace) = at.depth
 token_levels at (MarkToken RightBrace) = at.depth - 1
@@ -59,13 +59,13 @@ abbrev pub is_right_brace : Token → Bool
 is_right_brace (MarkToken RightBrace) = true
 is_right_brace _ = false
 
--- behind code, a comment goes on with its line or begins one
+-- after code, a comment continues its line or starts a new one
 abbrev pub comment_gap_by : Feeds → Gap → Gap
 comment_gap_by Same line = Space
 comment_gap_by Next line = line
 comment_gap_by Apart line = line
 
--- what stands before a comment, by what stands last
+-- the gap before a comment, given the last item
 abbrev pub comment_gap_behind : Last → Feeds → Gap → Gap
 comment_gap_behind Nothing feeds line = Joined
 comment_gap_behind Comment feeds line = line
@@ -78,7 +78,7 @@ comment_gap at = comment_gap_behind at.last at.feeds (line_gap (keeps_empty at) 
 abbrev pub space_unless : Bool → Gap
 space_unless joined = if joined then Joined else Space
 
--- what stands between two tokens of a line, as in a canonical text
+-- the gap between two tokens of a line, as in a canonical text
 abbrev pub space_gap : Left → Token → Gap
 space_gap Opening t = Joined
 space_gap Called t = space_unless (is_closing t || is_opening t)
@@ -87,8 +87,8 @@ space_gap Operand t = space_unless (is_closing t)
 space_gap Ended t = space_unless (is_closing t)
 space_gap Other t = space_unless (is_closing t)
 
--- what stands before a token, by what stands last: behind a comment it begins a line, and where the
--- canonical text begins one
+-- the gap before a token, given the last item: the token starts a line after a comment, and
+-- wherever the canonical text starts one
 abbrev pub token_gap_behind : Last → Bool → Gap → Gap → Gap
 token_gap_behind Nothing begins line inside = Joined
 token_gap_behind Comment begins line inside = line

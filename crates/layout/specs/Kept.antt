@@ -6,11 +6,11 @@ use Rattle.syntax.specs.Lexical.{MarkPiece, AreCut, AreTokensOf}
 use Rattle.syntax.specs.Token.{Token}
 use Rattle.layout.specs.Laid.{laid_pieces, trimmed}
 
--- of a text that is cut into pieces, this is the layout
+-- the layout of a text that is cut into pieces
 abbrev pub IsLaidOut : List ℕ → List ℕ → Type 0
 IsLaidOut text laid = (ps : List Piece) → AreCut text ps [] → laid ≡ laid_pieces ps
 
--- tokens as they are spelled, and comments, but for the blanks at their end
+-- tokens as they are spelled, and comments without the whitespace at their end
 abbrev pub kept_of : Piece → List Piece
 kept_of (BlankPiece c) = []
 kept_of (CommentPiece cs) = CommentPiece (trimmed cs) ∷ []

@@ -1,4 +1,4 @@
--- A text laid out, piece by piece.
+-- The layout of a text, piece by piece.
 use Rattle.std.specs.Prelude.{ℕ, if◌then◌else◌, List, [], ◌∷◌, ◌++◌, codes}
 use Rattle.std.specs.List.{list_all}
 use Rattle.syntax.specs.Lexical.{Piece, BlankPiece, CommentPiece, NamePiece, NumberPiece, WordPiece}
@@ -9,20 +9,20 @@ use Rattle.layout.specs.declared.spot.Last.TheVariants.{Nothing, Brace, Comment,
 use Rattle.layout.specs.Gap.{comment_gap, gap_text, token_gap}
 use Rattle.layout.specs.Spot.{Spot, behind_blank, behind_comment, behind_token, first}
 
--- characters without the blanks at their end
+-- characters without the whitespace at their end
 abbrev pub trimmed : List ℕ → List ℕ
 trimmed [] = []
 trimmed (c ∷ cs) = if list_all is_blank (c ∷ cs) then [] else c ∷ trimmed cs
 
--- a token behind its gap
+-- a token after its gap
 abbrev pub token_written : Spot → Token → List ℕ → List ℕ
 token_written at t letters = gap_text (token_gap at t) ++ letters
 
--- a comment behind its gap
+-- a comment after its gap
 abbrev pub comment_written : Spot → List ℕ → List ℕ
 comment_written at cs = gap_text (comment_gap at) ++ 47 ∷ 47 ∷ trimmed cs
 
--- what is written of a piece: nothing of a blank, the letters of the others behind a gap
+-- the output for a piece: nothing for whitespace, else the gap and the piece's letters
 abbrev pub written : Spot → Piece → List ℕ
 written at (BlankPiece c) = []
 written at (CommentPiece cs) = comment_written at cs
@@ -31,7 +31,7 @@ written at (NumberPiece cs) = token_written at (NumberToken (number_of cs)) cs
 written at (WordPiece w) = token_written at (WordToken w) (word_text w)
 written at (MarkPiece m) = token_written at (MarkToken m) (mark_text m)
 
--- where the layout stands behind a piece
+-- the spot after a piece
 abbrev pub behind : Spot → Piece → Spot
 behind at (BlankPiece c) = behind_blank at c
 behind at (CommentPiece cs) = behind_comment at
@@ -40,18 +40,18 @@ behind at (NumberPiece cs) = behind_token at (NumberToken (number_of cs))
 behind at (WordPiece w) = behind_token at (WordToken w)
 behind at (MarkPiece m) = behind_token at (MarkToken m)
 
--- the line feed behind the last line
+-- the newline after the last line
 abbrev pub end_text : Last → List ℕ
 end_text Nothing = []
 end_text Brace = codes "\n"
 end_text Comment = codes "\n"
 end_text Code = codes "\n"
 
--- pieces laid out from a spot on
+-- the layout of pieces from a spot on
 unfoldable pub laid_from : Spot → List Piece → List ℕ
 laid_from at [] = end_text at.last
 laid_from at (p ∷ ps) = written at p ++ laid_from (behind at p) ps
 
--- the pieces of a text laid out
+-- the layout of the pieces of a text
 abbrev pub laid_pieces : List Piece → List ℕ
 laid_pieces ps = laid_from first ps

@@ -1,4 +1,4 @@
--- Where a layout stands in a text.
+-- The current spot of a layout in a text.
 use Rattle.std.specs.Prelude.{ℕ, ◌==◌, if◌then◌else◌}
 use Rattle.syntax.specs.declared.token.Mark.{Mark}
 use Rattle.syntax.specs.declared.token.Mark.TheVariants.{LeftBrace}
@@ -12,8 +12,8 @@ use Rattle.layout.specs.declared.spot.Feeds.{Feeds}
 use Rattle.layout.specs.declared.spot.Feeds.TheVariants.{Same, Next, Apart}
 use Rattle.layout.specs.declared.spot.Spot.{Spot as rSpot}
 
--- how many blocks are open, what stands to the left comments aside, as in a canonical text, what stands
--- last, and how many lines were begun since
+-- the number of open blocks, what is to the left apart from comments, as in a canonical text, the
+-- last item, and the number of lines started since then
 pub record Spot : Type 0 where
   pub depth : ℕ
   pub left : Left
@@ -23,21 +23,21 @@ pub record Spot : Type 0 where
 abbrev pub spot : rSpot → Spot
 spot s = record { depth = s.depth; left = s.left; last = s.last; feeds = s.feeds }
 
--- the beginning of a text
+-- the start of a text
 abbrev pub first : Spot
 first = record { depth = 0; left = Margin; last = Nothing; feeds = Same }
 
--- one line feed more
+-- one more newline
 abbrev pub one_more : Feeds → Feeds
 one_more Same = Next
 one_more Next = Apart
 one_more Apart = Apart
 
--- behind a blank
+-- the spot after whitespace
 abbrev pub behind_blank : Spot → ℕ → Spot
 behind_blank at c = record at { feeds = (if c == 10 then one_more at.feeds else at.feeds) }
 
--- behind a comment
+-- the spot after a comment
 abbrev pub behind_comment : Spot → Spot
 behind_comment at = record { depth = at.depth; left = at.left; last = Comment; feeds = Same }
 
@@ -49,7 +49,7 @@ abbrev pub last_by : Token → Last
 last_by (MarkToken m) = last_by_mark m
 last_by _ = Code
 
--- behind a token
+-- the spot after a token
 abbrev pub behind_token : Spot → Token → Spot
 behind_token at t = record {
   depth = depth_by at.depth t;

@@ -1,4 +1,4 @@
-//! What stands before an item of a layout: before a comment or a token.
+//! The gap before an item of a layout: before a comment or a token.
 
 ghost use Rattle.std.specs.Prelude.{◌≡◌, ◌<◌, ◌+◌, ◌^◌};
 ghost use Rattle.syntax.specs.Canonical.{begins_line, is_closing, is_opening};
@@ -10,18 +10,19 @@ ghost use Rattle.layout.specs.Spot.{spot as spot_of};
 use crate::spot::{Feeds, Last, Spot};
 use syntax::token::{Left, Mark, Token, Word};
 
-/// What stands between an item and the one before it.
+/// The gap between an item and the one before it.
 #[derive(Clone, Copy, PartialEq, Eq, Debug)]
 pub enum Gap {
     /// Nothing, as before the `;` of `skip;`.
     Joined,
     /// One space, as before the `=` of `i = 1`.
     Space,
-    /// The beginning of a line, so many levels from the margin, maybe behind an empty line.
+    /// The start of a line, indented by `levels`, after an empty line if `empty` is true.
     Line { empty: bool, levels: usize },
 }
 
-/// What stands before a comment: it stays in its line behind code, and on a line of its own elsewhere.
+/// Returns the gap before a comment. A comment stays on its line after code, and otherwise is on
+/// its own line.
 pub fn comment_gap(spot: Spot) -> Gap
     requires { spot.depth < 2 ^ 63 }
     ensures { result ≡ comment_gap (spot_of spot) }
@@ -36,7 +37,7 @@ pub fn comment_gap(spot: Spot) -> Gap
     }
 }
 
-/// What stands before a token: what the canonical text has there, or a new line behind a comment.
+/// Returns the gap before a token: the gap of the canonical text, or a new line after a comment.
 pub fn token_gap(spot: Spot, token: &Token) -> Gap
     requires { spot.depth < 2 ^ 63 }
     ensures { result ≡ token_gap (spot_of spot) (token_tree token.now) }
@@ -61,7 +62,7 @@ fn line_gap(empty: bool, levels: usize) -> Gap
     Gap::Line { empty, levels }
 }
 
-/// Whether an empty line may stand here: one stood here, and not behind a `{`.
+/// Returns whether an empty line may be here: there was one, and it isn't after a `{`.
 fn keeps_empty(spot: Spot) -> bool
     ensures { result ≡ keeps_empty (spot_of spot) }
 {
@@ -74,7 +75,7 @@ fn keeps_empty(spot: Spot) -> bool
     }
 }
 
-/// How far a line is indented that begins here: twice more inside a statement.
+/// Returns the indentation of a line that starts here. Inside a statement it has two more levels.
 fn inner_levels(spot: Spot) -> usize
     requires { spot.depth < 2 ^ 63 }
     ensures { result ≡ inner_levels (spot_of spot) }
@@ -85,7 +86,8 @@ fn inner_levels(spot: Spot) -> usize
     }
 }
 
-/// How far a line is indented that a token begins: a brace stands as its block's header.
+/// Returns the indentation of a line that starts with a token. A brace is indented like its block's
+/// header.
 fn token_levels(spot: Spot, token: &Token) -> usize
     requires { spot.depth < 2 ^ 63 }
     ensures { result ≡ token_levels (spot_of spot) (token_tree token.now) }
@@ -109,7 +111,8 @@ fn is_right_brace(token: &Token) -> bool
     }
 }
 
-/// Whether a token begins a line in the canonical text: only `else` goes on with a line that was ended.
+/// Returns whether a token starts a line in the canonical text. Only `else` continues a line that
+/// was ended.
 fn begins_line(left: Left, token: &Token) -> bool
     ensures { result ≡ begins_line left (token_tree token.now) }
 {
@@ -123,7 +126,7 @@ fn begins_line(left: Left, token: &Token) -> bool
     }
 }
 
-/// What stands between two tokens of a line in the canonical text.
+/// Returns the gap between two tokens of a line in the canonical text.
 fn space_gap(left: Left, token: &Token) -> Gap
     ensures { result ≡ space_gap left (token_tree token.now) }
 {
@@ -140,7 +143,7 @@ fn space_unless(joined: bool) -> Gap
     if joined { Gap::Joined } else { Gap::Space }
 }
 
-/// Whether no space stands before this token.
+/// Returns whether there is no space before this token.
 fn is_closing(token: &Token) -> bool
     ensures { result ≡ is_closing (token_tree token.now) }
 {
@@ -151,7 +154,7 @@ fn is_closing(token: &Token) -> bool
     }
 }
 
-/// Whether no space stands between a name and this token.
+/// Returns whether there is no space between a name and this token.
 fn is_opening(token: &Token) -> bool
     ensures { result ≡ is_opening (token_tree token.now) }
 {

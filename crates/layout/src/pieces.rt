@@ -1,4 +1,4 @@
-//! What stands first in a text.
+//! The start of a text.
 
 ghost use Rattle.std.specs.Prelude.{◌≡◌, ℕ, List, [], ◌∷◌, length};
 ghost use Rattle.std.specs.List.{prefix_len};
@@ -10,7 +10,7 @@ ghost use Rattle.layout.specs.Laid.{trimmed};
 use syntax::lexer;
 use syntax::token::{Mark, Token};
 
-/// Whether a comment stands first.
+/// Returns whether a text starts with a comment.
 pub fn begins_comment(text: &[char]) -> bool
     ensures { result ≡ begins_comment text.now }
 {
@@ -20,7 +20,7 @@ pub fn begins_comment(text: &[char]) -> bool
     }
 }
 
-/// Characters without the blanks at their end.
+/// Returns characters without the whitespace at their end.
 pub fn trimmed(text: &[char]) -> &[char]
     ensures { result.now ≡ trimmed text.now }
 {
@@ -34,7 +34,7 @@ pub fn trimmed(text: &[char]) -> &[char]
     kept
 }
 
-/// How many characters a token takes that stands first.
+/// Returns the number of characters of a token at the start of a text.
 pub fn token_length(token: &Token, text: &[char]) -> usize
     ensures { (p : Piece) (behind : List ℕ) → Begins text.now p behind
         → token_of p ≡ token_tree token.now ∷ [] → result ≡ length (letters p) }
@@ -53,7 +53,7 @@ fn name_length(text: &[char]) -> usize
     text.iter().take_while(|c| is_in_name(**c)).count()
 }
 
-/// Whether this character may stand in a name.
+/// Returns whether this character may be part of a name.
 fn is_in_name(c: char) -> bool
     ensures { result ≡ is_in_name c }
 {

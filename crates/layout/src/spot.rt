@@ -1,4 +1,4 @@
-//! Where a layout stands in a text.
+//! The current spot of a layout in a text.
 
 ghost use Rattle.std.specs.Prelude.{◌≡◌, ◌<◌, ◌+◌, ◌^◌};
 ghost use Rattle.syntax.specs.Canonical.{depth_by, left_by, left_by_mark, left_by_minus};
@@ -9,10 +9,10 @@ ghost use Rattle.layout.specs.Spot.{behind_blank, behind_comment, behind_token, 
 
 use syntax::token::{Left, Mark, Token, Word};
 
-/// What stands last, comments too.
+/// The last item, which can be a comment.
 #[derive(Clone, Copy, PartialEq, Eq, Debug)]
 pub enum Last {
-    /// The beginning of the text.
+    /// The start of the text.
     Nothing,
     /// `{`
     Brace,
@@ -22,29 +22,29 @@ pub enum Last {
     Code,
 }
 
-/// How many lines were begun since.
+/// The number of lines started since the last item.
 #[derive(Clone, Copy, PartialEq, Eq, Debug)]
 pub enum Feeds {
-    /// None: the same line goes on.
+    /// None: the same line continues.
     Same,
     /// One.
     Next,
-    /// More, so that an empty line stands between.
+    /// More, so there is an empty line in between.
     Apart,
 }
 
-/// Where a layout stands, with so many blocks open.
+/// The current spot of a layout, with the number of open blocks.
 #[derive(Clone, Copy, PartialEq, Eq, Debug)]
 pub struct Spot {
     pub depth: usize,
-    /// What stands to the left, comments aside.
+    /// What is to the left, apart from comments.
     pub left: Left,
     pub last: Last,
     pub feeds: Feeds,
 }
 
 impl Spot {
-    /// The beginning of a text.
+    /// Returns the start of a text.
     pub fn first() -> Spot
         ensures { spot_of result ≡ first_spot }
     {
@@ -56,7 +56,7 @@ impl Spot {
         }
     }
 
-    /// Behind a blank.
+    /// Returns the spot after a whitespace character.
     pub fn behind_blank(self, blank: char) -> Spot
         ensures { spot_of result ≡ behind_blank (spot_of self) blank }
     {
@@ -70,7 +70,7 @@ impl Spot {
         }
     }
 
-    /// Behind a comment.
+    /// Returns the spot after a comment.
     pub fn behind_comment(self) -> Spot
         ensures { spot_of result ≡ behind_comment (spot_of self) }
     {
@@ -81,7 +81,7 @@ impl Spot {
         }
     }
 
-    /// Behind a token.
+    /// Returns the spot after a token.
     pub fn behind_token(self, token: &Token) -> Spot
         requires { self.depth < 2 ^ 63 }
         ensures { spot_of result ≡ behind_token (spot_of self) (token_tree token.now) }
@@ -96,7 +96,7 @@ impl Spot {
 }
 
 impl Feeds {
-    /// One line feed more.
+    /// Returns the value after one more newline.
     fn one_more(self) -> Feeds
         ensures { result ≡ one_more self }
     {
@@ -108,7 +108,7 @@ impl Feeds {
     }
 }
 
-/// How many blocks are open behind a token.
+/// Returns the number of open blocks after a token.
 fn depth_by(depth: usize, token: &Token) -> usize
     requires { depth < 2 ^ 63 }
     ensures { result ≡ depth_by depth (token_tree token.now) }
@@ -123,7 +123,7 @@ fn depth_by(depth: usize, token: &Token) -> usize
     }
 }
 
-/// What a token is to the one behind it.
+/// Returns what a token is for the next token.
 fn left_by(left: Left, token: &Token) -> Left
     ensures { result ≡ left_by left (token_tree token.now) }
 {
@@ -157,7 +157,7 @@ fn left_by_mark(left: Left, mark: Mark) -> Left
     }
 }
 
-/// A `-` behind an operand is no unary's.
+/// Returns what a `-` is for the next token. After an operand it isn't unary.
 fn left_by_minus(left: Left) -> Left
     ensures { result ≡ left_by_minus left }
 {
@@ -167,7 +167,7 @@ fn left_by_minus(left: Left) -> Left
     }
 }
 
-/// What a token is as the last item.
+/// Returns what a token is as the last item.
 fn last_by(token: &Token) -> Last
     ensures { result ≡ last_by (token_tree token.now) }
 {

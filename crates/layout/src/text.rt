@@ -1,4 +1,4 @@
-//! Texts laid out.
+//! The layout of texts.
 
 ghost use Rattle.std.specs.Prelude.{◌≡◌, ◌<◌, ℕ, List, ◌∷◌, true, false, IfOk, length, encode_utf8_all};
 ghost use Rattle.std.specs.Str.{chars};
@@ -14,7 +14,7 @@ use std::alloc::{AllocError, Global};
 use syntax::lexer::{self, Unread};
 use syntax::token::{Spanned, Token};
 
-/// A text in the canonical layout, with its comments.
+/// Formats a text in the canonical layout, with its comments.
 pub fn laid_out(alloc: Global, text: &str) -> Result<String, AllocError>
     requires { (ts : List PlainToken) × AreTokensOf (chars text.now) ts }
     ensures laid { IfOk result (λ laid. IsLaidOut (chars text.now) (chars (string_bytes laid))) }
@@ -30,14 +30,14 @@ pub fn laid_out(alloc: Global, text: &str) -> Result<String, AllocError>
     Ok(text)
 }
 
-/// The characters of a text.
+/// Returns the characters of a text.
 fn characters(alloc: Global, text: &str) -> Result<Vec<char>, AllocError>
     ensures value { IfOk result (λ found. found.items ≡ chars text.now) }
 {
     text.chars().collect(alloc)
 }
 
-/// The tokens of a text that has some.
+/// Returns the tokens of a text that has some.
 fn tokens(alloc: Global, text: &[char]) -> Result<Vec<Spanned>, AllocError>
     requires { (ts : List PlainToken) × AreTokensOf text.now ts }
     ensures { IfOk result (λ found. AreTokensOf text.now (plain found.items)) }
@@ -48,7 +48,7 @@ fn tokens(alloc: Global, text: &[char]) -> Result<Vec<Spanned>, AllocError>
     }
 }
 
-/// Why a text that has tokens has none.
+/// Returns the only error for a text that has tokens: out of memory.
 fn no_memory(unread: Unread) -> AllocError
     requires { unread ≡ Unread.OutOfMemory }
 {
@@ -59,14 +59,14 @@ fn no_memory(unread: Unread) -> AllocError
     }
 }
 
-/// The text that these characters are.
+/// Returns the text of these characters.
 fn text_of(alloc: Global, characters: &[char]) -> Result<String, AllocError>
     ensures { IfOk result (λ text. string_bytes text ≡ encode_utf8_all characters.now) }
 {
     characters.iter().copied().collect(alloc)
 }
 
-/// The characters of a text laid out, which has these tokens.
+/// Formats the characters of a text with these tokens.
 fn laid(alloc: Global, text: &[char], tokens: &[Spanned]) -> Result<Vec<char>, AllocError>
     requires { AreTokensOf text.now (plain tokens.now) }
     ensures { IfOk result (λ laid. IsLaidOut text.now laid.items) }
@@ -82,7 +82,7 @@ fn laid(alloc: Global, text: &[char], tokens: &[Spanned]) -> Result<Vec<char>, A
     Ok(writer.out)
 }
 
-/// Writes the comments before the first token, and gives what is left from that on.
+/// Writes the comments before the first token, and returns the rest from that token on.
 fn between<'t>(writer: &mut Writer, text: &'t [char]) -> Result<&'t [char], AllocError>
     requires { IsCounted writer.old }
     ensures counted { IfOk result (λ _. IsCounted writer.new) }
@@ -104,7 +104,7 @@ fn between<'t>(writer: &mut Writer, text: &'t [char]) -> Result<&'t [char], Allo
     Ok(rest)
 }
 
-/// Writes the comment that stands first, and gives what is left behind it.
+/// Writes the comment at the start of a text, and returns the rest after it.
 fn comment<'t>(writer: &mut Writer, text: &'t [char]) -> Result<&'t [char], AllocError>
     requires counted { IsCounted writer.old }
     requires begins { begins_comment text.now ≡ true }
@@ -118,7 +118,7 @@ fn comment<'t>(writer: &mut Writer, text: &'t [char]) -> Result<&'t [char], Allo
     Ok(left)
 }
 
-/// Writes the token that stands first, and gives what is left behind it.
+/// Writes the token at the start of a text, and returns the rest after it.
 fn token<'t>(writer: &mut Writer, token: &Token, text: &'t [char]) -> Result<&'t [char], AllocError>
     requires counted { IsCounted writer.old }
     requires no_blank { starts is_blank text.now ≡ false }

@@ -1,4 +1,4 @@
-//! Writes items, each behind its gap.
+//! A writer of items, each after its gap.
 
 ghost use Rattle.std.specs.Prelude.{◌≡◌, ◌<◌, [], ◌++◌, OnOk, length};
 ghost use Rattle.syntax.specs.Canonical.{indent};
@@ -15,7 +15,7 @@ use crate::spot::{Last, Spot};
 use std::alloc::{AllocError, Global};
 use syntax::token::Token;
 
-/// What is written so far, and where it ends.
+/// The output so far, and the spot at its end.
 #[derive(Drop)]
 pub struct Writer {
     pub out: Vec<char>,
@@ -23,7 +23,7 @@ pub struct Writer {
 }
 
 impl Writer {
-    /// Nothing is written yet.
+    /// Returns a writer that has written nothing.
     pub fn new(alloc: Global) -> Writer
         ensures out { result.out.items ≡ [] }
         ensures spot { spot_of result.spot ≡ first_spot }
@@ -35,7 +35,7 @@ impl Writer {
         }
     }
 
-    /// A blank that stood here is not written.
+    /// Passes a whitespace character without writing it.
     pub fn blank(&mut self, blank: char)
         requires { IsCounted self.old }
         ensures counted { IsCounted self.new }
@@ -44,7 +44,7 @@ impl Writer {
         self.spot = self.spot.behind_blank(blank);
     }
 
-    /// Writes a comment, of which this stands behind the `//`.
+    /// Writes a comment. `line` is the text after the `//`.
     pub fn comment(&mut self, line: &[char]) -> Result<(), AllocError>
         requires { IsCounted self.old }
         ensures counted { OnOk result (IsCounted self.new) }

@@ -161,7 +161,7 @@ module _ (end : ℕ) where
   row_starts x [] = refl
   row_starts x (row ∷ rows) = refl
 
-  -- a place in a row
+  -- a position in a row
   pub at_row : (rows : List LabelSet) (k x y : ℕ) (row : LabelSet) → slice_get rows k ≡ Some row
       → from_place end x y (drop k rows) ≡ in_row row x y (end - y) ++ in_rows end (x + 1) (drop (suc k) rows)
   at_row [] k x y row e = cc
@@ -209,7 +209,7 @@ labels_within (row ∷ rows) (suc i) y h = labels_within rows i y h
 pub no_label : (row : LabelSet) (l : ℕ) → (HasLabel row l → ⊥) → has_label row l ≡ false
 no_label row l none = elim (cases_Bool (has_label row l)) [ inl e ↦ absurd (none (from_has_label row l e)) | inr e ↦ e ]
 
--- the list from a place on: its next pair
+-- the list from a position: its next pair
 pub place_next : (end : ℕ) (rows : List LabelSet) (x y z : ℕ) (row : LabelSet) → slice_get rows x ≡ Some row → y ≤ z → z < end
     → HasLabel row z → ((l : ℕ) → y ≤ l → HasLabel row l → z ≤ l)
     → from_place end x y (drop x rows) ≡ (x, z) ∷ from_place end x (z + 1) (drop x rows)

@@ -24,7 +24,7 @@ use Rattle.effects.proofs.ComesSound.{body_of-other}
 use Rattle.parallel_relation.proofs.SpreadLemmas.{below_next, no_body}
 use Rattle.facts.proofs.Lists.{get-append_last}
 
--- an access more at the end of a list
+-- one more access at the end of a list
 pushed_only : (xs : List rAccess) (y : rAccess) (x : Access) → InList (xs ++ y ∷ []) x → InList xs x ⊎ (x ≡ access y)
 pushed_only [] y x first = inr refl
 pushed_only [] y x (next h) = elim h [ ]
@@ -89,7 +89,7 @@ module _ (p : Program) where
         h.pending;
   }
 
-  -- the accesses of one procedure more
+  -- the accesses of one more procedure
   pub lists_next : (these those : List Listed) (y : Listed) (n : ℕ) (s : Summary) → those ≡ these ++ y ∷ [] → length these ≡ n
       → n < length p.procedures → IsSummary p (body_of p n) s → ((x : Access) → InList y.all.items x ↔ HasAccess s.all x)
       → ((x : Access) → InList y.pending.items x ↔ HasAccess s.pending x)

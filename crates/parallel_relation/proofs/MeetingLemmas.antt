@@ -37,7 +37,7 @@ first_decides true false rest r h f e = refl
 first_decides false true rest r h f e = f e
 first_decides false false rest r h f e = cc
 
--- rows of numbers that ascend
+-- ascending rows of numbers
 less_keys : (xs ys : List ℕ) → slice_cmp nat_cmp xs ys ≡ Less → is_less xs ys ≡ true
 less_keys [] [] e = cc
 less_keys [] (y ∷ ys) e = refl
@@ -81,7 +81,7 @@ same_access x y e f g =
     let with_kind : Bool → rAccess = λ w. record { label = y.label; section = y.section; write = w } in
     ap with_label e ∙ ap with_section (same_section x.section y.section f) ∙ ap with_kind (same_kind x.write y.write g)
 
--- a meeting is known by what it is ordered by
+-- a meeting is determined by the numbers by which it is ordered
 pub same_meeting : (x y : rMeeting) → key_in x ≡ key_in y → x ≡ y
 same_meeting x y e =
     let at : (k : ℕ) → slice_index_or (key_in x) k 0 ≡ slice_index_or (key_in y) k 0 = λ k. ap (λ (ns : List ℕ). slice_index_or ns k 0) e in

@@ -48,7 +48,7 @@ module _ (p : Program) (subject : Subject) where
   added_together (AddedAt.inside i h) = Together.inside i (added_together h)
   added_together (AddedAt.later h) = Together.later (added_together h)
 
-  -- a pair is added at a label that is asked for
+  -- a pair is added at a requested label
   pub record AddedWhere (asked : ℕ → Bool) (b : Codes) (m : subject.Item × subject.Item) : Type 0 where
     pub label : ℕ
     pub is : asked label ≡ true
@@ -109,7 +109,7 @@ module _ (p : Program) (subject : Subject) (alls pendings : Table subject) where
         inside_adds (Async b) l rest m h = deeper p subject asked l rest m Block.async (list_adds b m h)
         inside_adds (Finish b) l rest m h = deeper p subject asked l rest m Block.finish (list_adds b m h)
 
-        -- what is listed is added at a label that is asked for
+        -- what is listed is added at a requested label
         pub list_adds : (b : Codes) (m : subject.Item × subject.Item) → Member m (added_in subject alls pendings asked b)
             → AddedWhere p subject asked b m
         list_adds End m h = elim h [ ]

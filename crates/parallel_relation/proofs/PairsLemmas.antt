@@ -58,7 +58,7 @@ module _ (p : Program) where
     | inr past ↦ absurd (elim (subst (λ b. Together p labels b x y) (no_body p f past) h) [ ])
   ]
 
-  -- all that is found arises, and the other way round
+  -- all that is found arises, and all that arises is found
   pub all_arises : (n : ℕ) (f g h : ℕ → ℕ → Type 0) → length p.procedures ≤ n → ((x y : ℕ) → f x y → ⊥)
       → Adds f (ArisesBelow p n) g → Adds g (Together p labels p.main.body) h → (x y : ℕ) → h x y ↔ Arises p x y
   all_arises n f g h past nothing below main x y = (
@@ -112,7 +112,7 @@ module _ (p : Program) where
       turn x y (inl k) = inr k
       turn x y (inr k) = inl k
 
--- the procedure of a number
+-- the procedure with this number
 pub procedure_at : (fs : List rProcedure) (i : ℕ) (g : rProcedure) → i < length fs → g ≡ slice_index_or fs i g
     → slice_index_or (map procedure fs) i no_procedure ≡ procedure g
 procedure_at [] i g h e = absurd (omega arith)

@@ -61,7 +61,7 @@ call_then_store = record {
   };
 }
 
--- two_readers with `a[0] = 1;` in place of `print a[0];`
+-- two_readers with `a[0] = 1;` instead of `print a[0];`
 abbrev pub readers_and_writer : Program
 readers_and_writer = program_of (ints 97 1 ∷ ints 98 1 ∷ ints 99 1 ∷ []) 0 (Root ∷ Root ∷ Root ∷ []) ((
   1,

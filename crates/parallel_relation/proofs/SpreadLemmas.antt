@@ -66,7 +66,7 @@ module _ (p : Program) (calls ends : ℕ → ℕ → Type 0) where
       ])
       (λ x y k. split_call n x y k)
 
--- a number past all procedures has none
+-- no procedure has a number past all procedures
 pub no_body : (p : Program) (f : ℕ) → length p.procedures ≤ f → (procedure_of p f).body ≡ End
 no_body p f past = ap (λ (g : Procedure). g.body) (get_or_past p.procedures f no_procedure past)
 
@@ -82,7 +82,7 @@ left_within p f x h = elim (cases_lt f (length p.procedures)) [
   | inr past ↦ absurd (elim (subst (λ b. Pending p labels b x) (no_body p f past) h) [ ])
 ]
 
--- with what all procedures meet, that is what is found
+-- together with what all procedures meet, that is what is found
 pub all_found : (p : Program) (found : Found) (rows : ℕ → ℕ → Type 0)
     → Adds (HasAt found.labels) (CalledBelow p (HasAt found.calls) (HasAt found.ends) (length p.procedures)) rows
     → (x y : ℕ) → rows x y ↔ FoundMeets p found x y
@@ -99,6 +99,6 @@ all_found p found rows h x y = (λ k. elim (h.only x y k) [ inl o ↦ FoundMeets
 
 -- one row is turned, label by label
 module _ (row : ℕ) where
-  -- pairs of this row, the other way round
+  -- the reversed pairs of this row
   abbrev pub Turned : (ℕ → ℕ → Type 0) → ℕ → ℕ → Type 0
   Turned has x y = (y ≡ row) × has y x

@@ -106,7 +106,8 @@ module _ (p : Program) where
   of_met l (Async b) rest x y h = Together.inside Block.async h
   of_met l (Finish b) rest x y h = Together.inside Block.finish h
 
-  -- the pairs of a list are those of its first statement with the others, those inside it, and those of the others
+  -- the pairs of a list are those of its first statement with the others, those inside it, and
+  -- those of the others
   abbrev Splits : ℕ → Code → Codes → ℕ → ℕ → Type 0
   Splits l s rest x y = (PendingOf p labels s x × All p labels rest y) ⊎ (Met l s x y ⊎ Together p labels rest x y)
 
@@ -214,7 +215,8 @@ module _ (p : Program) where
     inside_one l (Finish b) x y (BlockMeets.pending h k) = absurd k
     inside_one l (Finish b) x y (BlockMeets.within h) = met_in_one l (Finish b) x y h
 
-    -- the pairs of a list: those of the first statement, which meets the others, and those of the others
+    -- the pairs of a list: those of the first statement, which meets the others, and those of the
+    -- others
     pub from_list : (l : ℕ) (s : Code) (rest : Codes) (x y : ℕ) → BlockMeets p everything later (Then l s rest) x y
         → BlockMeets p everything later rest x y ⊎ BlockMeets p everything (both later (All p labels rest)) (one l s) x y
     from_list l s rest x y (BlockMeets.all (All.here h) k) = inr (BlockMeets.all (All.here h) k)

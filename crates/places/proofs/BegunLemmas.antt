@@ -1,4 +1,4 @@
--- Places that are found one behind the other.
+-- Places that are found one after the other.
 use Rattle.std.proofs.Common.{◌≡◌, ℕ, ◌+◌, ◌<◌, Bool, true, false, List, [], ◌∷◌, ◌++◌, take, drop, length, get_or, refl, ap, sym, ◌∙◌, subst}
 use Rattle.std.proofs.Common.{append_assoc, append-nil, take-append-drop, arith, reverse, ◌^◌}
 use Rattle.std.proofs.lemmas.List.{length-reverse, length-take}
@@ -20,7 +20,7 @@ use Rattle.places.specs.Begun.{AreBegun, BeginsAt}
 use Rattle.places.specs.Starts.{begins_if_line, ends_line, starts, token_starts}
 use Rattle.places.proofs.Starting.{starts_by_tokens}
 
--- of all tokens these are left, and the places are those of the statements that begin before
+-- these tokens remain, and the places are those of the statements that start before them
 pub record IsFound (text : List ℕ) (all left : List Token) (ended : Bool) (places : List Place) : Type 0 where
   pub done : List (List Token)
   pub parts : token_starts false all ≡ done ++ token_starts ended left
@@ -46,7 +46,7 @@ unfolding token_starts
 starts_later ended t ts is =
     ap (λ (b : Bool). if b then (t ∷ ts) ∷ token_starts (ends_line t) ts else token_starts (ends_line t) ts) is
 
--- at the end all is
+-- at the end all statements are found
 pub all_found : (text : List ℕ) (all : List Token) (ended : Bool) (places : List Place) → IsFound text all [] ended places
     → AreBegun text (token_starts false all) places
 unfolding token_starts
@@ -59,7 +59,7 @@ module _ (text : List ℕ) (tokens : List Spanned) (i : ℕ) (s : Spanned) (with
   left_is = ap plain (drop_more tokens i s within ∙ ap (λ (x : Spanned). x ∷ drop (i + 1) tokens) (sym there))
 
   module _ (found : IsFound text (plain tokens) (plain (drop i tokens)) ended places) where
-    -- a token that begins no statement
+    -- a token that starts no statement
     pub found_no_more : (next : Bool) → next ≡ ends_line (token s.token) → (ended && begins_if_line (token s.token)) ≡ false
         → IsFound text (plain tokens) (plain (drop (i + 1) tokens)) next places
     found_no_more next line is = record {
@@ -71,7 +71,7 @@ module _ (text : List ℕ) (tokens : List Spanned) (i : ℕ) (s : Spanned) (with
       begun = found.begun;
     }
 
-    -- one that does, at its place
+    -- a token that starts a statement, at its place
     module _ (read : AreTokensOf text (plain tokens)) (placed : ArePlaced text tokens) (place : Place)
         (right : place ≡ place_at text s.at) where
       here : BeginsAt text (token s.token ∷ plain (drop (i + 1) tokens)) place
@@ -104,14 +104,14 @@ module _ (text : List ℕ) (tokens : List Spanned) (i : ℕ) (s : Spanned) (with
             begun = one_more_begun text found.done places ts place found.begun here;
           }
 
--- what begins a statement where a line ended, and what doesn't
+-- what starts a statement after the end of a line, and what doesn't
 pub begins_here : (a b r : Bool) → a ≡ true → r ≡ true → r ≡ b → (a && b) ≡ true
 begins_here a b r ended begins is = ap (λ (x : Bool). x && b) ended ∙ sym is ∙ begins
 
 pub begins_not : (a b r : Bool) → r ≡ false → r ≡ b → (a && b) ≡ false
 begins_not a b r begins is = ap (λ (x : Bool). a && x) (sym is ∙ begins) ∙ and-false a
 
--- the places of a text's tokens are those of whatever program it spells
+-- the places of a text's tokens are those of every program that the text spells
 pub begun_starts : (text : List ℕ) (ts : List Token) (places : List Place) (p : Program) → AreTokensOf text ts
     → AreTokensOf text (spelling p) → AreBegun text (token_starts false ts) places → AreBegun text (starts p) places
 begun_starts text ts places p read spelled begun =

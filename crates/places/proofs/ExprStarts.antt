@@ -1,4 +1,4 @@
--- No statement begins inside an expression.
+-- No statement starts inside an expression.
 use Rattle.std.proofs.Common.{◌≡◌, false, List, [], ◌∷◌, refl, ◌∙◌}
 use Rattle.syntax_tree.specs.declared.tree.Relation.{Relation}
 use Rattle.syntax_tree.specs.declared.tree.Relation.TheVariants.{Less}

@@ -1,4 +1,4 @@
--- Numbers that are padded, and lines one behind the other.
+-- Numbers that are padded, and lines one after the other.
 use Rattle.std.proofs.Common.{◌≡◌, ℕ, replicate, ◌+◌, ◌-◌, ◌<◌, List, [], ◌∷◌, ◌++◌, length, map, get_or, drop, Bor}
 use Rattle.std.proofs.Common.{arith, ap, sym, ◌∙◌, append_assoc}
 use Rattle.std.specs.Fmt.{char_count, decimal, format_spec, styled_decimal, padded_integral}
@@ -9,7 +9,7 @@ use Rattle.syntax.proofs.LineText.{label_padded}
 use Rattle.syntax.specs.declared.place.Place.{Place}
 use Rattle.places.specs.Lines.{has_label, left_behind, place_margin, placed_line, placed_lines}
 
--- a number right in five places
+-- a number right-aligned in five columns
 pub right_padded : (n : ℕ) → styled_decimal (format_spec 32 3 0 5 18446744073709551615) n
     ≡ replicate (5 - length (decimal n)) 32 ++ decimal n
 right_padded n =
@@ -19,7 +19,7 @@ right_padded n =
 left_shape : (p k : ℕ) (digits : List ℕ) → p ≡ k → digits ++ repeat {A = ℕ} p (32 ∷ []) ≡ digits ++ replicate k 32
 left_shape p k digits e = ap (λ l. digits ++ l) (spaces p ∙ ap (λ m. replicate m 32) e)
 
--- a number left in four places
+-- a number left-aligned in four columns
 pub left_padded : (n : ℕ) → styled_decimal (format_spec 32 1 0 4 18446744073709551615) n
     ≡ decimal n ++ replicate (4 - length (decimal n)) 32
 unfolding padded_integral char_count lib.Utf8.encode
@@ -32,7 +32,7 @@ margin_padded p line column line_is column_is =
     ap (λ l. l ++ (58 ∷ column)) line_is
     ∙ ap (λ l. (replicate (5 - length (decimal p.line)) 32 ++ decimal p.line) ++ (58 ∷ l)) column_is
 
--- one line more: what was written, and what is to come of the lines that are left
+-- one more line: what was written, and what the remaining lines will give
 pub one_more_placed : (items : List (Bor (List ℕ))) (i : ℕ) (d : Bor (List ℕ)) (line : List ℕ) (places left : List Place)
     (done written all : List ℕ) → i < length items → line ≡ (get_or items i d).now
     → left ≡ left_behind (has_label line) places → written ≡ done ++ placed_line places line

@@ -1,4 +1,4 @@
--- The tokens that begin a statement are those at which the program's statements begin.
+-- The tokens that start a statement are those at which the program's statements start.
 use Rattle.std.proofs.Common.{◌≡◌, Bool, true, false, List, [], ◌∷◌, ◌++◌, Option, Some, None, refl, ap, sym, ◌∙◌, append_assoc, append-nil}
 use Rattle.syntax.specs.declared.token.Word.TheVariants.{Else as WordElse}
 use Rattle.syntax.specs.declared.token.Mark.TheVariants.{LeftBrace, RightParen, Semicolon, RightBracket, Becomes}
@@ -51,7 +51,7 @@ mutual
       ∙ ap (λ l. stmt_then s (block_then b r) ∷ (inner ++ l)) (block_by_tokens b r)
       ∙ ap (λ l. stmt_then s (block_then b r) ∷ l) (sym (append_assoc inner (block_starts b r) (token_starts true r)))
 
--- ---- declarations, at which no statement begins
+-- ---- declarations, at which no statement starts
 
 arrays_by_tokens : (declared : List Array) (r : List Token) → token_starts true (arrays_then declared r) ≡ token_starts true r
 unfolding token_starts arrays_then

@@ -1,4 +1,4 @@
--- What it means that places are those at which statements begin.
+-- What it means that places are the starts of statements.
 use Rattle.std.specs.Prelude.{ℕ, ◌≡◌, ◌+◌, ◌==◌, if◌then◌else◌, List, [], ◌∷◌, ◌++◌}
 use Rattle.syntax.specs.declared.place.Place.{Place}
 use Rattle.syntax.specs.Lexical.{AreTokensOf}
@@ -6,7 +6,7 @@ use Rattle.syntax.specs.Place.{place_at}
 use Rattle.syntax.specs.Refusals.{StandsAt}
 use Rattle.syntax.specs.Token.{Token}
 
--- these are the last tokens of a text, and the first of them stands in it at this place
+-- these are the last tokens of a text, and the first of them is at this place in it
 pub record BeginsAt (text : List ℕ) (ts : List Token) (place : Place) : Type 0 where
   pub before : List Token
   pub first : Token
@@ -17,14 +17,14 @@ pub record BeginsAt (text : List ℕ) (ts : List Token) (place : Place) : Type 0
   pub stands : StandsAt text before first at
   pub there : place ≡ place_at text at
 
--- a place for each of these ends of a text, in their order
+-- a place for each of these ends of a text, in order
 abbrev pub AreBegun : List ℕ → List (List Token) → List Place → Type 0
 AreBegun text [] [] = Unit {0}
 AreBegun text [] (p ∷ ps) = ⊥
 AreBegun text (ts ∷ more) [] = ⊥
 AreBegun text (ts ∷ more) (p ∷ ps) = BeginsAt text ts p × AreBegun text more ps
 
--- the place behind a character, from its own
+-- the place after a character, given the character's place
 abbrev pub place_behind : Place → ℕ → Place
 place_behind p c =
     if c == 10

@@ -5,33 +5,33 @@ use Rattle.std.specs.Fmt.{decimal}
 use Rattle.syntax.specs.declared.place.Place.{Place}
 use Rattle.syntax.specs.Lexical.{starts}
 
--- a label is right in five places
+-- a label is right-aligned in five columns
 abbrev pub has_label : List ℕ → Bool
 has_label line = starts is_ascii_digit (drop 4 line)
 
--- the line right in five places, a colon, and the column left in four
+-- the line right-aligned in five columns, a colon, and the column left-aligned in four
 abbrev pub place_margin : Place → List ℕ
 place_margin p =
     (replicate (5 - length (decimal p.line)) 32 ++ decimal p.line)
     ++ (codes ":" ++ (decimal p.column ++ replicate (4 - length (decimal p.column)) 32))
 
--- what stands before a line, with a label or without one: the first place that is left, or nothing
+-- the margin of a line with or without a label: the first remaining place, or spaces
 abbrev pub margin : Bool → List Place → List ℕ
 margin false places = codes "          "
 margin true [] = codes "          "
 margin true (p ∷ ps) = place_margin p
 
--- the places that are left behind a line, with a label or without one
+-- the places that remain after a line with or without a label
 abbrev pub left_behind : Bool → List Place → List Place
 left_behind false places = places
 left_behind true [] = []
 left_behind true (p ∷ ps) = ps
 
--- a line behind its margin
+-- a line after its margin
 abbrev pub placed_line : List Place → List ℕ → List ℕ
 placed_line places line = margin (has_label line) places ++ (line ++ codes "\n")
 
--- lines, with the places of those that have a label
+-- lines, with the places of the lines that have a label
 abbrev pub placed_lines : List Place → List (List ℕ) → List ℕ
 placed_lines places [] = []
 placed_lines places (line ∷ more) =

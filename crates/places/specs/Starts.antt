@@ -1,5 +1,5 @@
--- Where the statements of a program begin: for each, in the order of labels, the program's tokens from its
--- first on.
+-- Where the statements of a program start: for each statement, in the order of labels, the
+-- program's tokens from its first token on.
 use Rattle.std.specs.Prelude.{Bool, true, false, not, ◌&&◌, if◌then◌else◌, List, [], ◌∷◌, ◌++◌}
 use Rattle.std.specs.Prelude.{Option, Some, None}
 use Rattle.syntax.specs.declared.token.Word.TheVariants.{Else as WordElse}
@@ -12,7 +12,7 @@ use Rattle.syntax_tree.specs.Tree.{Stmt, Skip, Var, Assign, Store, Print, Fault,
 use Rattle.syntax_tree.specs.Tree.{Call, Async, Finish, Block, End, Then, Procedure, Main, Program}
 
 unfoldable mutual
-  -- the statements inside a statement, with other tokens behind it
+  -- the statements inside a statement, with other tokens after it
   pub inner_starts : Stmt → List Token → List (List Token)
   inner_starts Skip r = []
   inner_starts (Var x e) r = []
@@ -29,13 +29,13 @@ unfoldable mutual
   inner_starts (Async b) r = block_starts b r
   inner_starts (Finish b) r = block_starts b r
 
-  -- those of a block: a statement begins with its spelling, before those inside it
+  -- the statements of a block: a statement starts with its spelling, before those inside it
   pub block_starts : Block → List Token → List (List Token)
   block_starts End r = []
   block_starts (Then s b) r =
       stmt_then s (block_then b r) ∷ (inner_starts s (block_then b r) ++ block_starts b r)
 
--- those of procedures, with other tokens behind them
+-- the statements of procedures, with other tokens after them
 unfoldable pub procedures_starts : List Procedure → List Token → List (List Token)
 procedures_starts [] r = []
 procedures_starts (p ∷ ps) r = block_starts p.body (procedures_then ps r) ++ procedures_starts ps r
@@ -48,9 +48,9 @@ main_starts (Some m) = block_starts m.body []
 unfoldable pub starts : Program → List (List Token)
 starts p = procedures_starts p.procedures (main_tokens p.main) ++ main_starts p.main
 
--- ---- the same by tokens
+-- ---- the starts by tokens
 
--- a line ends behind these
+-- a line ends after these marks
 abbrev pub ends_line_by : Mark → Bool
 ends_line_by Semicolon = true
 ends_line_by LeftBrace = true
@@ -63,11 +63,12 @@ ends_line (NameToken x) = false
 ends_line (NumberToken n) = false
 ends_line (WordToken w) = false
 
--- where a line may begin, a statement begins with this token
+-- a statement starts with this token, if a line may start there
 abbrev pub begins_if_line : Token → Bool
 begins_if_line t = begins_statement t && not (is_else t)
 
--- the tokens from each on that begins a statement; whether a line ended before the first
+-- the tokens from the start of each statement on; the boolean states whether a line ended before
+-- the first token
 unfoldable pub token_starts : Bool → List Token → List (List Token)
 token_starts ended [] = []
 token_starts ended (t ∷ ts) =

@@ -1,4 +1,4 @@
-//! Where the statements of a program stand in its text.
+//! The positions of a program's statements in its text.
 
 #![tactic(auto)]
 

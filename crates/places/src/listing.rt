@@ -9,7 +9,8 @@ ghost use Rattle.places.specs.Lines.{placed_line, placed_lines};
 use std::alloc::{AllocError, Global};
 use syntax::Place;
 
-/// The lines of a listing, each with a label behind the line and the column at which its statement begins.
+/// Returns the lines of a listing. Each line with a label comes after the line and the column where
+/// its statement starts.
 pub fn placed_listing(alloc: Global, listing: &str, places: &[Place]) -> Result<String, AllocError>
     ensures { IfOk result (λ text. string_bytes text ≡ placed_lines places.now (lines listing.now)) }
 {
@@ -22,14 +23,14 @@ pub fn placed_listing(alloc: Global, listing: &str, places: &[Place]) -> Result<
     Ok(text)
 }
 
-/// The lines of a text.
+/// Returns the lines of a text.
 fn lines(alloc: Global, text: &str) -> Result<Vec<&str>, AllocError>
     ensures { IfOk result (λ lines_found. map (λ l. l.now) lines_found.items ≡ lines text.now) }
 {
     text.lines().collect(alloc)
 }
 
-/// Adds a line, and gives the places that are left behind it.
+/// Adds a line, and returns the places that remain after it.
 fn push_line<'p>(
     text: &mut String,
     places: &'p [Place],
@@ -46,7 +47,7 @@ fn push_line<'p>(
     Ok(left)
 }
 
-/// Adds what stands before a line, and gives the places that are left behind it.
+/// Adds the margin of a line, and returns the places that remain after it.
 fn push_margin<'p>(
     text: &mut String,
     labelled: bool,
@@ -66,7 +67,7 @@ fn push_margin<'p>(
     Ok(places)
 }
 
-/// Adds a place: its line right in five places, its column left in four.
+/// Adds a place: its line right-aligned in five columns, and its column left-aligned in four.
 fn push_place(text: &mut String, place: Place) -> Result<(), AllocError>
     ensures { OnOk result (string_bytes text.new ≡ string_bytes text.old ++ place_margin place) }
 {
@@ -75,7 +76,7 @@ fn push_place(text: &mut String, place: Place) -> Result<(), AllocError>
     write!(text, "{line:>5}:{column:<4}")
 }
 
-/// Whether a line of a listing begins with a label.
+/// Returns whether a line of a listing starts with a label.
 fn has_label(line: &str) -> bool
     ensures { result ≡ shows_label line.now }
 {

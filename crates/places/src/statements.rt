@@ -1,4 +1,4 @@
-//! The places at which the statements of a text's program begin.
+//! The places where the statements of a text's program start.
 
 ghost use Rattle.std.specs.Prelude.{◌≡◌, ◌-◌, ◌<◌, ◌≤◌, ◌^◌, IfErr, IfOk, length, false, vec_len};
 ghost use Rattle.std.specs.Str.{chars};
@@ -16,7 +16,7 @@ use syntax::Place;
 use syntax::lexer::{self, Unread};
 use syntax::token::{Mark, Spanned, Token, Word};
 
-/// The places at which the statements of a text's program begin, in the order of their labels.
+/// Returns the places where the statements of a text's program start, in the order of their labels.
 pub fn statement_places(alloc: Global, text: &str) -> Result<Vec<Place>, Unread>
     requires { length text.now ≤ 1048576 }
     ensures begun { (p : Program) → AreTokensOf (chars text.now) (spelling p)
@@ -29,7 +29,7 @@ pub fn statement_places(alloc: Global, text: &str) -> Result<Vec<Place>, Unread>
     Ok(places)
 }
 
-/// The characters of a text.
+/// Returns the characters of a text.
 fn characters(alloc: Global, text: &str) -> Result<Vec<char>, AllocError>
     ensures value { IfOk result (λ found. found.items ≡ chars text.now) }
     ensures short { IfOk result (λ found. vec_len found ≤ length text.now) }
@@ -37,7 +37,7 @@ fn characters(alloc: Global, text: &str) -> Result<Vec<char>, AllocError>
     text.chars().collect(alloc)
 }
 
-/// The places of the tokens that begin a statement.
+/// Returns the places of the tokens that start a statement.
 fn begun(alloc: Global, text: &[char], tokens: &[Spanned]) -> Result<Vec<Place>, AllocError>
     requires short { length text.now < 2 ^ 31 }
     requires read { AreTokensOf text.now (plain tokens.now) }
@@ -58,7 +58,7 @@ fn begun(alloc: Global, text: &[char], tokens: &[Spanned]) -> Result<Vec<Place>,
     Ok(places)
 }
 
-/// Whether a statement begins with this token, where a line may begin.
+/// Returns whether a statement starts with this token, if a line may start there.
 fn begins_statement(token: &Token) -> bool
     ensures { result ≡ begins_if_line (token_tree token.now) }
 {
@@ -76,7 +76,7 @@ fn begins_statement(token: &Token) -> bool
     }
 }
 
-/// Whether a line ends behind this token.
+/// Returns whether a line ends after this token.
 fn ends_line(token: &Token) -> bool
     ensures { result ≡ ends_lines (token_tree token.now) }
 {
@@ -96,7 +96,7 @@ struct Reached {
 impl Reached {
     ghost use Rattle.std.specs.Prelude.{List, ℕ};
 
-    /// The first character of any text.
+    /// Returns the first character of any text.
     fn first() -> Reached
         ensures { (text : List ℕ) → result.place ≡ place_at text result.at }
     {
@@ -106,7 +106,7 @@ impl Reached {
         }
     }
 
-    /// Another character, from there on where it stands behind.
+    /// Moves to another character. Continues from the current one if the other one comes later.
     fn on_to(self, text: &[char], at: usize) -> Reached
         requires short { length text.now < 2 ^ 31 }
         requires known { self.place ≡ place_at text.now self.at }
@@ -128,7 +128,7 @@ impl Reached {
     }
 }
 
-/// The place behind a character, from its own.
+/// Returns the place after a character, given the character's place.
 fn behind(place: Place, character: char) -> Place
     requires line { place.line < 2 ^ 32 - 1 }
     requires column { place.column < 2 ^ 32 - 1 }

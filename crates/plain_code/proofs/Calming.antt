@@ -9,7 +9,7 @@ use Rattle.plain_code.specs.Calm.{AreCalm, AreMarked, are_plain_by, calm_at, is_
 use Rattle.plain_code.specs.Plain.{ArePlain, IsPlain, Reaches}
 use Rattle.plain_code.proofs.Reaching.{reaches_behind, reaches_inside}
 
--- two tests of which one fails
+-- two tests, one of which fails
 one_fails : (a b : Bool) → a && b ≡ false → (a ≡ false) ⊎ (b ≡ false)
 one_fails true b h = inr h
 one_fails false b h = inl refl

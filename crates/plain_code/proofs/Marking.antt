@@ -12,7 +12,7 @@ use Rattle.plain_code.specs.Calm.{AreCalm, AreMarked, are_plain_by, calm_at, cal
 use Rattle.plain_code.specs.Plain.{Reaches}
 use Rattle.plain_code.proofs.Calming.{block_reaches, each_calm}
 
--- one mark more leaves fewer
+-- one more mark leaves fewer
 pub marked_fewer : (calm : List Bool) (k : ℕ) → k < length calm → calm_at calm k ≡ true
     → calm_count (slice_set calm k false) < calm_count calm
 marked_fewer [] k lt is = absurd (omega (arith, lt))
@@ -33,7 +33,7 @@ calm_there (b ∷ bs) (suc k) is =
     let h = calm_there bs k is in
     record { below = let lt = h.below in omega (arith, lt); told = h.told }
 
--- the procedures from one on were looked at, and what is calm among them is plain
+-- the procedures from this number have been looked at, and the calm ones among them are plain
 abbrev AreLooked : Program → List Bool → (from : ℕ) → Type 0
 AreLooked p calm from =
     (f : ℕ) → from ≤ f → calm_at calm f ≡ true → are_plain_by calm (procedure_of p f).body ≡ true
@@ -47,7 +47,7 @@ pub record Rounded (p : Program) (before calm : List Bool) (left : ℕ) (found :
   pub fewer : OnTrue found (calm_count calm < calm_count before)
   pub looked : OnFalse found (AreLooked p calm left)
 
--- or was marked
+-- or the procedure was marked
 pub marked_one : (p : Program) (before calm : List Bool) (left k : ℕ) (found : Bool) → k + 1 ≡ left → Rounded p before calm left found
     → IsThere calm k → are_plain_by calm (procedure_of p k).body ≡ false → Rounded p before (slice_set calm k false) k true
 marked_one p before calm left k found e so is not =
@@ -68,7 +68,7 @@ marked_one p before calm left k found e so is not =
     by f true same reaches told = subst (λ n. Reaches p (procedure_of p n).body) (eqb-true k f same) reaches
     by f false other reaches told = so.marked f (sym (get_or-set_other calm k f false true (λ same. eqb-false k f other (sym same))) ∙ told)
 
--- a round that marked none looked at all
+-- a round that marked none has looked at all
 round_calms : (p : Program) (before calm : List Bool) (left : ℕ) → length before ≡ length p.procedures → left ≡ 0
     → Rounded p before calm left false → AreCalm p calm
 round_calms p before calm left count none so = record {

@@ -99,7 +99,7 @@ module _ (p : Program) {X : Type 0} (r : Rules X) (once : X → X) (same : (l : 
   moved : (env : Environment) (st out : State X) (u : U) → At (record st { environment = env }) out u → At st out u
   moved env st out u k = record { taken = k.taken; steps = k.steps; is = k.is }
 
-  -- and comes back to the first
+  -- and returns to the first environment
   back_alike : (env : Environment) (st out : State X) (u : U) → At (record st { environment = env }) out u
       → At st (record out { environment = st.environment }) (record u { environment = st.environment })
   back_alike env st out u k = record {

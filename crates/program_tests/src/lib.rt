@@ -1,4 +1,4 @@
-//! Tests of what programs are made of and of what is told of them before they run.
+//! Tests of programs before they run.
 
 #![tactic(auto)]
 

@@ -1,5 +1,5 @@
-//! What no clause says of the libraries below the runs, by rows: a table for each area, with the calls
-//! that its rows need.
+//! Rows for what isn't specified of the libraries below the runs: a table for each area, with the
+//! calls that its rows need.
 
 mod completed_words;
 mod copied_places;
@@ -26,10 +26,10 @@ use syntax::parse;
 use types::check::type_check;
 use types::typed::Typed;
 
-/// What is said of a row that is refused nowhere.
+/// The result for a row without an error.
 const RIGHT: &str = "right";
 
-/// Compares what is said at a row with what the row wants.
+/// Compares the result for a row with the expected one.
 fn compare<D: Display + Drop>(rt: &impl Abort, alloc: Global, row: &str, said: D, want: &str) {
     let said = format!(in alloc; "{said}").expect(rt, "memory");
     assert!(rt;
@@ -38,7 +38,7 @@ fn compare<D: Display + Drop>(rt: &impl Abort, alloc: Global, row: &str, said: D
     );
 }
 
-/// Compares why there is nothing, or that there is something, with what the row wants.
+/// Compares an error, or that there is none, with what the row expects.
 fn compare_refusal<T: Drop, E: Display + Drop>(
     rt: &impl Abort,
     alloc: Global,
@@ -52,13 +52,13 @@ fn compare_refusal<T: Drop, E: Display + Drop>(
     }
 }
 
-/// A program of the language.
+/// Returns a program of the language.
 fn typed(rt: &impl Abort, alloc: Global, text: &str) -> Typed {
     let program = parse(alloc, text).expect(rt, "a text of the language");
     type_check(alloc, program).expect(rt, "a program")
 }
 
-/// The lists of these numbers.
+/// Returns these numbers as lists.
 fn lists_of(rt: &impl Abort, alloc: Global, rows: &[&[i64]]) -> Vec<Vec<i64>> {
     let mut lists = Vec::new(alloc);
     for row in rows {

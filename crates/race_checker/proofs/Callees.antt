@@ -43,7 +43,7 @@ module _ (code : rProgram) (f : ℕ) (ss : List SectionId) (s : Summary)
   as_many : length (map section ss) ≡ length (procedure_of (program code) f).parameters
   as_many = length-map ss section ∙ number
 
-  -- what is kept of the callee is, passed to the call, what that does of it
+  -- what is kept of the callee is, passed to the call, what the callee does
   abbrev pub Passed : (kept : Accesses) (done : Access → Type 0) → Type 0
   Passed kept done =
       (xs : List Access) → AreFirsts (IsPassed (HasAccess kept) (map section ss)) xs

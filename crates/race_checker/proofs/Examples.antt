@@ -1,4 +1,4 @@
--- Worked programs: their clashes, and three that are sound, of which two are accepted.
+-- Worked programs: their clashes, and three sound programs, two of which are accepted.
 use Rattle.std.proofs.Common.{◌≡◌, ◌≢◌, ℕ, zero, suc, ◌+◌, ◌-◌, ◌^◌, ◌<◌, ◌≤◌, List, [], ◌∷◌, refl, sym, ap, ◌∙◌, arith}
 use Rattle.std.proofs.Common.{true≢false}
 use Rattle.std.specs.Prelude.{true, false, filter, slice_get, Some}

@@ -1,4 +1,4 @@
--- What is found of statements is put together from what is found of their parts.
+-- What is found of statements is combined from what is found of their parts.
 use Rattle.std.proofs.Common.{◌≡◌, ◌⊎◌, inl, inr, ℕ, zero, suc, ◌<◌, ◌≤◌, List, [], ◌∷◌, ◌++◌, map, length, drop, refl}
 use Rattle.std.proofs.Common.{sym, ap, ◌∙◌, subst, arith, Result, IfOk, All as AllOfList}
 use Rattle.std.specs.Prelude.{Option, None, slice_index_or, ◌-◌}
@@ -239,7 +239,7 @@ module _ (p : Program) where
   none_together x y h = elim h [ ]
 
   module _ (origins : List Origin) (f : ℕ) where
-    -- one statement more in front
+    -- one more statement in front
     pub found_in_front : (l : ℕ) (s : Code) (b : Codes) (here rest front : Found) → IsFoundOf p origins f l s here
         → IsFoundIn p origins f b rest → IsInFront origins f here rest front → IsFoundIn p origins f (Then l s b) front
     found_in_front l s b here rest front h g e = record {
@@ -264,7 +264,7 @@ module _ (p : Program) where
           (race_found here.race) (race_found rest.race) h.least_race g.least_race)));
     }
 
-    -- of no statements
+    -- the result for no statements
     pub found_in_none : (found : Found) → kept_in found.all ≡ [] → kept_in found.pending ≡ [] → race_found found.race ≡ None
         → IsFoundIn p origins f End found
     found_in_none found a b c = record {
@@ -282,7 +282,7 @@ module _ (p : Program) where
       least_race = least_none origins f (λ x y. ⊥) (race_found found.race) c (λ x y h. h);
     }
 
-    -- of two blocks
+    -- the result for two blocks
     pub found_inside_if : (t : Truth) (b c : Codes) (one other both : Found) → IsFoundIn p origins f b one → IsFoundIn p origins f c other
         → IsBoth one other both → IsFoundInside p origins f (If t b c) both
     found_inside_if t b c one other both h g e = record {
@@ -300,7 +300,7 @@ module _ (p : Program) where
           (least_pairs origins f (Together p accesses b) (Together p accesses c) (race_found one.race) (race_found other.race) h.least_race g.least_race);
     }
 
-    -- of a block in other names
+    -- the result for a block in other names
     pub found_inside_split : (s : ℕ) (e : Number) (l r : ℕ) (b : Codes) (inside outside : Found) → IsFoundIn p origins f b inside
         → IsRenamed (past_split s l r) inside outside → IsFoundInside p origins f (Split s e l r b) outside
     found_inside_split s e l r b inside outside h k = record {
@@ -354,7 +354,7 @@ module _ (p : Program) where
             (race_found whole.race) (λ x y t. inr t) (λ x y t. elim t [ inl a ↦ absurd (never x y a) | inr b ↦ b ]) race_with_own;
       }
 
-    -- a statement that is no loop
+    -- a statement that isn't a loop
     pub found_of_arm : (l : ℕ) (k s : Code) → k ≡ s → ((x y : Access) → TogetherInTurn p l s x y → ⊥) → (own : List Access)
         → own ≡ own_accesses l k → (inside : Found) → IsFoundInside p origins f s inside → {E : Type 0} (r : Result Found E)
         → IfOk r (IsWithOwn own inside) → IfOk r (IsFoundOf p origins f l k)

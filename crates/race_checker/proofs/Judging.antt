@@ -99,7 +99,7 @@ least_below_more p n r s whole h g e =
             let ne : x.procedure ≢ n = eqb-false x.procedure n d in
             inl (record { below = omega arith; race = c.race })
 
--- what was found of each procedure from this one on, with what was found before
+-- what was found of each procedure from this number, with what was found before
 pub least_of_more : (p : Program) (E : Type 0) (n k : ℕ) (before : Option Race) (races : List (Option rRace))
     → LeastOf (IsRaceBelow p n) before
     → AllZip (λ f (r : Result (Option rRace) E). IfOk r (λ race. LeastOf (IsRaceIn p f) (race_found race))) (range_with_len n k)

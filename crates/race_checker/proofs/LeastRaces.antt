@@ -76,7 +76,7 @@ module _ (origins : List Origin) (f : ℕ) where
     pub clash : is_clash origins p ≡ true
     pub told : race_of f p ≡ r
 
-  -- one pair more
+  -- one more pair
   tell_one : (P : Race → Type 0) (found : Option Race) (p : Access × Access) → LeastOf P found
       → LeastOf (λ r. P r ⊎ IsRaceOf p r) (tell origins f found p)
   tell_one P None p h = by (is_clash origins p) refl
@@ -147,7 +147,7 @@ module _ (origins : List Origin) (f : ℕ) where
       ])
       (tell_all (λ r. P r ⊎ IsRaceOf p r) (tell origins f found p) ps (tell_one P found p h))
 
-  -- what is found from nothing on
+  -- what is found if nothing was found before
   pub least_among : (ps : List (Access × Access)) (found : Option Race) → found ≡ fold (tell origins f) None ps
       → LeastOf (IsRaceAmong origins f ps) found
   least_among ps found e =

@@ -1,4 +1,4 @@
--- What is found of a list is put together from what is found of its pieces.
+-- What is found of a list is combined from what is found of its pieces.
 use Rattle.std.proofs.Common.{◌≡◌, ◌⊎◌, inl, inr, ℕ, zero, suc, ◌<◌, ◌≤◌, List, [], ◌∷◌, ◌++◌, map, length, refl}
 use Rattle.std.proofs.Common.{sym, ◌∙◌, subst, arith, Result, Ok, IfOk, All as AllOfList, append_assoc, append-nil}
 use Rattle.std.specs.Prelude.{◌↔◌, flat_map}
@@ -208,10 +208,10 @@ module _ (p : Program) (origins : List Origin) where
       let rest = back_piece b (side_by_side bs) body e st in
       smaller_body body (side_by_side bs) _ rest.small (pieces_of bs (side_by_side bs) refl rest.stands k d (omega arith))
 
--- The pieces as they are put together
+-- The pieces as they are combined
 
 module _ (p : Program) (origins : List Origin) (f : ℕ) (body : List Stmt) where
-  -- what is found of the statements so far, and of the pieces that are left
+  -- what is found of the statements so far, and of the remaining pieces
   pub record PutTogether (so_far : Found) (left : List Found) : Type 0 where
     pub front : List Stmt
     pub pieces : List (List Stmt)
@@ -242,7 +242,7 @@ module _ (p : Program) (origins : List Origin) (f : ℕ) (body : List Stmt) wher
             in_range (All p accesses (codes b)) piece.all (length origins) z.0.all_firsts
             (below_all p sound origins (codes b) here.stands)
 
-  -- one piece more
+  -- one more piece
   pub one_more_piece : (so_far piece front : Found) (left : List Found) → PutTogether so_far (piece ∷ left)
       → IsInFront origins f so_far piece front → PutTogether front left
   one_more_piece so_far piece front left h put = by h.pieces h.whole h.of_pieces
@@ -267,7 +267,7 @@ module _ (p : Program) (origins : List Origin) (f : ℕ) (body : List Stmt) wher
       by [] e z = subst (λ b. IsFoundIn p origins f (codes b) so_far) (sym (append-nil h.front) ∙ e) h.of_front
       by (b ∷ bs) e z = absurd z
 
-  -- what is found of pieces that are lent
+  -- what is found of lent pieces
   pub pieces_found : (E : Type 0) (lent : List (Bor (List Stmt))) (found : List Found)
       → AllZip (λ (z : Bor (List Stmt)) (r : Result Found E). IfOk r (IsFoundIn p origins f (codes z.now))) lent (map Ok found)
       → AllZip (λ piece x. IsFoundIn p origins f (codes piece) x) (map (λ (z : Bor (List Stmt)). z.now) lent) found

@@ -51,7 +51,7 @@ head_of x y b h = grind (arith, nat_tests)
 rest_of : (x y : ℕ) (b : Bool) → (if nat_eq x y then b else nat_lt x y) ≡ false → x ≡ y → b ≡ false
 rest_of x y b h e = grind (arith, nat_tests)
 
--- two rows of two numbers, neither of which is less, put together both ways
+-- two rows of two numbers, neither of which is less, combined both ways
 both_ways : (s k t j : ℕ) → is_less (t ∷ j ∷ []) (s ∷ k ∷ []) ≡ false → is_less (s ∷ k ∷ []) (t ∷ j ∷ []) ≡ false
     → is_less (s ∷ k ∷ t ∷ j ∷ []) (t ∷ j ∷ s ∷ k ∷ []) ≡ false
 both_ways s k t j h g =
@@ -126,7 +126,7 @@ first_decides true false rest h = refl
 first_decides false true rest h = refl
 first_decides false false rest h = refl
 
--- rows of numbers are compared so
+-- how rows of numbers are compared
 pub compared : (xs ys : List ℕ) → partial_lt (slice_partial_cmp (λ x y. Some (nat_cmp x y))) xs ys ≡ is_less xs ys
 compared [] [] = refl
 compared [] (y ∷ ys) = refl

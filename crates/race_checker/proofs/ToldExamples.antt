@@ -42,7 +42,7 @@ readers_and_writer_told = refl
 call_then_store_told : told_in call_then_store 1 ≡ race 1 (writes 2 0) (writes 5 0)
 call_then_store_told = refl
 
--- proc p(mut s: int) { async { s[0] = 1; } s[0] = 2; }, from a label on
+-- proc p(mut s: int) { async { s[0] = 1; } s[0] = 2; }, with labels from this one
 abbrev racing : (label : ℕ) → (name : ℕ) → Procedure
 racing l n = record {
   name = n ∷ [];
@@ -54,7 +54,7 @@ racing l n = record {
   body = (l, Async ((l + 1, Do (Store 0 (lit 0) (lit 1))) ⨾ End)) ⨾ (l + 2, Do (Store 0 (lit 0) (lit 2))) ⨾ End;
 }
 
--- two such procedures, which nobody calls
+-- two such procedures without callers
 abbrev two_racing : Program
 two_racing = record {
   arrays = [];

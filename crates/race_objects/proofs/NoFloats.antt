@@ -1,4 +1,4 @@
--- None of the values has a float, so that each has one compact text.
+-- None of the values has a float, therefore each has one compact text.
 use Rattle.std.proofs.Common.{ℕ, Bool, List, refl}
 use Rattle.serde_json.specs.Data.{string}
 use Rattle.syntax.specs.declared.place.Place.{Place}

@@ -1,4 +1,4 @@
--- The values nest no deeper than a reader goes.
+-- The values are nested no deeper than the parser accepts.
 use Rattle.std.proofs.Common.{◌≤◌, ℕ, Bool, List, Option, arith}
 use Rattle.serde_json.specs.Data.{Data, depth, string}
 use Rattle.serde_json.specs.Read.{max_depth}
@@ -55,7 +55,7 @@ way_within : (places : List Place) (p : Program) (write : Bool) (f : ℕ) (way :
 way_within places p write f way =
     list_within 1 (step_json places p write) (steps_in f way) (step_within places p write)
 
--- one that nests less
+-- one that is nested less
 deeper : (m n : ℕ) (d : Data) → Within m d → m ≤ n → Within n d
 deeper m n d within less = omega arith
 

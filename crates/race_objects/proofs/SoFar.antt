@@ -1,4 +1,4 @@
--- The values of the steps of a way so far.
+-- The values of the steps of a path so far.
 use Rattle.std.proofs.Common.{◌≡◌, ℕ, List, ◌++◌, map, drop}
 use Rattle.serde_json.specs.Data.{Data}
 use Rattle.serde_json.specs.View.{view}
@@ -7,6 +7,6 @@ use Rattle.ways.specs.declared.step.Step.{Step}
 use Rattle.race_objects.specs.Steps.{StepIn, steps_in}
 
 module _ (f : StepIn → Data) (start : ℕ) (way : List Step) where
-  -- with those of the steps from the n-th on, which begin in this procedure, the values are those of all steps
+  -- together with those of the steps from the n-th on, which start in this procedure, these are all values
   pub record SoFar (n here : ℕ) (vs : List Value) : Type 0 where
     pub left : map view vs ++ map f (steps_in here (drop n way)) ≡ map f (steps_in start way)

@@ -1,4 +1,4 @@
--- What is told of a race.
+-- The object of a race.
 use Rattle.std.specs.Prelude.{ℕ, List, [], ◌∷◌, codes, Option}
 use Rattle.serde_json.specs.Data.{Data, string}
 use Rattle.syntax.specs.declared.place.Place.{Place}
@@ -12,7 +12,7 @@ use Rattle.json_answers.specs.Pieces.{natural, object_of, or_null}
 use Rattle.json_answers.specs.Places.{column_of, line_of, place_at}
 use Rattle.race_objects.specs.Witnesses.{witness_json}
 
--- the statement and where it begins, what it does, and the section, by its name in the procedure
+-- the statement and its position, what it does, and the section, by its name in the procedure
 abbrev pub access_members : List Place → Procedure → Access → List (List ℕ × Data)
 access_members places g a =
     let place = place_at places a.label in
@@ -43,8 +43,8 @@ accesses_members places p r w =
 abbrev pub accesses_json : List Place → Program → Race → Witness → Data
 accesses_json places p r w = object_of (accesses_members places p r w)
 
--- what a refusal by a race tells, in place of an array the accesses, with the label and the place of the
--- first
+-- the members of a failure by a race: instead of an array the accesses, with the label and the position of
+-- the first
 abbrev pub told_members : (file : List ℕ) → Option Place → (label : ℕ) → (message : List ℕ)
     → (accesses : Data)
     → List (List ℕ × Data)

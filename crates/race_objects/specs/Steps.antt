@@ -1,4 +1,4 @@
--- What is told of the steps of a way.
+-- The steps of a path.
 use Rattle.std.specs.Prelude.{ℕ, Bool, List, [], ◌∷◌, codes, Option, None, Some}
 use Rattle.serde_json.specs.Data.{Data, string}
 use Rattle.syntax.specs.declared.place.Place.{Place}
@@ -10,7 +10,7 @@ use Rattle.intake.specs.Failures.{kind_of, section_name, told_procedure}
 use Rattle.json_answers.specs.Pieces.{list_by, natural, object_of, or_null}
 use Rattle.json_answers.specs.Places.{column_of, line_of, place_at}
 
--- into what a step goes; the last one is the access
+-- what a step enters; the last one is the access
 abbrev pub step_word : (write : Bool) → Rule → List ℕ
 step_word write Own = kind_of write
 step_word write Body = codes "if"
@@ -26,7 +26,7 @@ abbrev pub called_by : Program → Rule → Option (List ℕ)
 called_by p (Enter f) = Some (told_procedure p f.number).name
 called_by p _ = None
 
--- the procedure in which a way goes on behind a step
+-- the procedure in which a path continues after a step
 abbrev pub procedure_behind : (procedure : ℕ) → Rule → ℕ
 procedure_behind f (Enter g) = g.number
 procedure_behind f _ = f
@@ -39,12 +39,12 @@ pub record StepIn : Type 0 where
 abbrev pub step_in : (procedure : ℕ) → Step → StepIn
 step_in f s = record { procedure = f; step = s }
 
--- the steps of a way that begins in a procedure
+-- the steps of a path that starts in a procedure
 abbrev pub steps_in : (procedure : ℕ) → List Step → List StepIn
 steps_in f [] = []
 steps_in f (s ∷ ss) = step_in f s ∷ steps_in (procedure_behind f s.rule) ss
 
--- the statement, where it stands and what it does, and what the access goes to, in the names around it
+-- the statement, its position and what it does, and the accessed section, by its name around the step
 abbrev pub step_members : List Place → Program → (write : Bool) → StepIn → List (List ℕ × Data)
 step_members places p write s =
     let place = place_at places s.step.label in
@@ -60,6 +60,6 @@ step_members places p write s =
 abbrev pub step_json : List Place → Program → (write : Bool) → StepIn → Data
 step_json places p write s = object_of (step_members places p write s)
 
--- the steps of a way to an access
+-- the steps of a path to an access
 abbrev pub way_json : List Place → Program → (write : Bool) → (procedure : ℕ) → List Step → Data
 way_json places p write f way = list_by (step_json places p write) (steps_in f way)

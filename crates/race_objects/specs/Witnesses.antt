@@ -1,4 +1,4 @@
--- What is told of a witness.
+-- The object of a witness.
 use Rattle.std.specs.Prelude.{ℕ, Bool, List, [], ◌∷◌, codes, Option, None, Some, if◌then◌else◌}
 use Rattle.serde_json.specs.Data.{Data, string}
 use Rattle.syntax.specs.declared.place.Place.{Place}
@@ -14,14 +14,14 @@ use Rattle.intake.specs.Failures.{section_name, told_procedure}
 use Rattle.json_answers.specs.Pieces.{object_of, or_null}
 use Rattle.race_objects.specs.Steps.{way_json}
 
--- the ways to the first and to the second access of the race
+-- the paths to the first and to the second access of the race
 abbrev pub first_way : Witness → List Step
 first_way w = if w.first_pends then w.pending.items else w.later.items
 
 abbrev pub second_way : Witness → List Step
 second_way w = if w.first_pends then w.later.items else w.pending.items
 
--- how they come to run together
+-- how they can run together
 abbrev pub meeting_word : Meeting → List ℕ
 meeting_word Follows = codes "follows"
 meeting_word Turns = codes "turns"
@@ -37,7 +37,7 @@ sharing_word FirstIsPart = codes "first_is_part"
 sharing_word SecondIsPart = codes "second_is_part"
 sharing_word (OfSplits s) = codes "of_splits"
 
--- the section of whose splits both are sides
+-- the section that both are sides of splits of
 abbrev pub common_section : Procedure → Sharing → Option (List ℕ)
 common_section g (OfSplits s) = Some (section_name g s.number)
 common_section g _ = None
@@ -49,7 +49,7 @@ sharing_members g s =
 abbrev pub sharing_json : Procedure → Sharing → Data
 sharing_json g s = object_of (sharing_members g s)
 
--- both ways, from where they part down to the accesses
+-- both paths, from where they separate down to the accesses
 abbrev pub witness_members : List Place → Program → Race → Witness → List (List ℕ × Data)
 witness_members places p r w =
     (codes "first", way_json places p r.first.write r.procedure (first_way w))

@@ -5,7 +5,7 @@ use syntax::Place;
 use types::code::Program;
 use witness::witness::Witness;
 
-/// A race of a program, where the statements of its text begin, and why it is one.
+/// A race of a program, with the positions of the program's statements and a witness.
 #[derive(Clone, Copy)]
 pub struct Found<'f> {
     pub places: &'f [Place],

@@ -1,4 +1,4 @@
-//! Races as JSON: one object, with a line feed behind it.
+//! Races as JSON: one object, followed by a line feed.
 
 #![tactic(auto)]
 

@@ -1,4 +1,4 @@
-//! What procedures and sections are called, and what accesses do.
+//! Names of procedures and sections, and kinds of accesses.
 
 ghost use Rattle.std.specs.Prelude.{◌≡◌};
 ghost use Rattle.types.specs.Translation.{procedure as procedure_of, program};
@@ -9,7 +9,7 @@ use sections::id::SectionId;
 use types::code::{Procedure, Program};
 use types::ids::ProcedureId;
 
-/// The procedure of a number; `main` stands behind the others.
+/// Returns the procedure with a number; `main` comes after the others.
 pub(crate) fn procedure_in(code: &Program, procedure: ProcedureId) -> &Procedure
     ensures { procedure_of result.now ≡ told_procedure (program code.now) procedure.number }
 {
@@ -19,7 +19,7 @@ pub(crate) fn procedure_in(code: &Program, procedure: ProcedureId) -> &Procedure
     }
 }
 
-/// The name of a section.
+/// Returns the name of a section.
 pub(crate) fn section_name(procedure: &Procedure, section: SectionId) -> &str
     ensures { result.now ≡ name_of_section (procedure_of procedure.now) section.number }
 {
@@ -29,7 +29,7 @@ pub(crate) fn section_name(procedure: &Procedure, section: SectionId) -> &str
     }
 }
 
-/// What an access does.
+/// Returns the kind of an access.
 pub(crate) fn kind_of(write: bool) -> &'static str
     ensures { result.now ≡ kind_text write }
 {

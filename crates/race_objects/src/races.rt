@@ -1,4 +1,4 @@
-//! Races.
+//! The object of a race.
 
 ghost use Rattle.std.specs.Prelude.{◌≡◌, IfOk, OnOk};
 ghost use Rattle.std.specs.String.{string_bytes};
@@ -23,8 +23,8 @@ use std::alloc::{AllocError, Global};
 use syntax::Place;
 use types::code::{Label, Procedure, Program};
 
-/// A race of a program, as the refusal that it is: with both accesses, in the names of the procedure that
-/// has it, its witness, and the place of the first access. An access is
+/// Returns the object of a failure by a race: with both accesses, in the names of the procedure
+/// that has it, its witness, and the position of the first access. An access has the form
 /// `{"column":7,"kind":"write","label":3,"line":4,"section":"a"}`.
 pub fn race_object(alloc: Global, file: &str, found: Found<'_>) -> Result<String, AllocError>
     ensures text { IfOk result (λ text. string_bytes text ≡ line (race_json file.now found.entry.places.now
@@ -36,7 +36,7 @@ pub fn race_object(alloc: Global, file: &str, found: Found<'_>) -> Result<String
     line_of(alloc, &value)
 }
 
-/// A race.
+/// Returns the value of a race.
 fn race_value(alloc: Global, file: &str, found: Found<'_>) -> Result<Value, AllocError>
     ensures { IfOk result (λ v. view v ≡ race_json file.now found.entry.places.now
         (program found.entry.code.now) (race_of found.entry.race) found.entry.witness.now) }
@@ -48,7 +48,7 @@ fn race_value(alloc: Global, file: &str, found: Found<'_>) -> Result<Value, Allo
     told_value(alloc, file, place, label, message, accesses)
 }
 
-/// A refusal by a race, of what is told of it.
+/// Returns the value of a failure by a race, from its parts.
 fn told_value(
     alloc: Global,
     file: &str,
@@ -72,7 +72,7 @@ fn told_value(
     })
 }
 
-/// Both accesses of a race, the procedure that has it, and its witness.
+/// Returns both accesses of a race, the procedure that has it, and its witness.
 fn accesses_value(alloc: Global, found: Found<'_>) -> Result<Value, AllocError>
     ensures { IfOk result (λ v. view v ≡ accesses_json found.entry.places.now
         (program found.entry.code.now) (race_of found.entry.race) found.entry.witness.now) }
@@ -87,7 +87,7 @@ fn accesses_value(alloc: Global, found: Found<'_>) -> Result<Value, AllocError>
     })
 }
 
-/// An access, in the names of a procedure.
+/// Returns an access, in the names of a procedure.
 fn access_value(
     alloc: Global,
     places: &[Place],
@@ -107,7 +107,7 @@ fn access_value(
     })
 }
 
-/// The line that tells a race, without its line feed.
+/// Returns the line of a race, without its line feed.
 fn message_of_race(alloc: Global, code: &Program, race: Race) -> Result<String, AllocError>
     ensures { IfOk result (λ text. string_bytes text
         ≡ race_message (program code.now) (race_of race)) }

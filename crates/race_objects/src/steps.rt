@@ -1,4 +1,4 @@
-//! The steps of a way.
+//! The steps of a path.
 
 ghost use Rattle.std.specs.Prelude.{◌≡◌, IfOk, option_map};
 ghost use Rattle.serde_json.specs.View.{view};
@@ -16,7 +16,7 @@ use types::code::Program;
 use types::ids::ProcedureId;
 use witness::step::{Rule, Step};
 
-/// The steps of a way that begins in a procedure, down to an access that writes or reads.
+/// Returns the steps of a path that starts in a procedure, down to an access that writes or reads.
 pub(crate) fn way_value(
     alloc: Global,
     places: &[Place],
@@ -37,7 +37,7 @@ pub(crate) fn way_value(
     Ok(Value::Array(list))
 }
 
-/// A step in a procedure, on the way to an access that writes or reads:
+/// Returns a step in a procedure, on the path to an access that writes or reads:
 /// `{"calls":"f","column":3,"kind":"call","label":8,"line":16,"procedure":"main","section":"a"}`.
 fn step_value(
     alloc: Global,
@@ -63,7 +63,7 @@ fn step_value(
     })
 }
 
-/// The name of the procedure that a step calls.
+/// Returns the name of the procedure that a step calls.
 fn called_in(code: &Program, rule: Rule) -> Option<&str>
     ensures { option_map (λ name. name.now) result ≡ called_by (program code.now) rule }
 {
@@ -73,7 +73,7 @@ fn called_in(code: &Program, rule: Rule) -> Option<&str>
     }
 }
 
-/// What a step does: into what it goes, or what the access does.
+/// Returns what a step does: what it enters, or the kind of the access.
 fn word_of(write: bool, rule: Rule) -> &'static str
     ensures { result.now ≡ step_word write rule }
 {
@@ -89,7 +89,7 @@ fn word_of(write: bool, rule: Rule) -> &'static str
     }
 }
 
-/// The procedure in which a way goes on behind a step.
+/// Returns the procedure in which a path continues after a step.
 fn behind(here: ProcedureId, rule: Rule) -> ProcedureId
     ensures { result.number ≡ procedure_behind here.number rule }
 {

@@ -1,4 +1,4 @@
-//! Why a race is one.
+//! The witness of a race.
 
 ghost use Rattle.std.specs.Prelude.{◌≡◌, IfOk, option_map};
 ghost use Rattle.serde_json.specs.View.{view};
@@ -19,8 +19,9 @@ use witness::sharing::Sharing;
 use witness::step::Step;
 use witness::witness::Witness;
 
-/// A witness: the ways to the first and to the second access of the race, from where they part, how they
-/// come to run together, which of them is left pending, and why the sections share places.
+/// Returns a witness: the paths to the first and to the second access of the race, from where they
+/// separate; how they can run together; which of them is left pending; and why the sections share
+/// places.
 pub(crate) fn witness_value(alloc: Global, found: Found<'_>) -> Result<Value, AllocError>
     ensures { IfOk result (λ v. view v ≡ witness_json found.entry.places.now
         (program found.entry.code.now) (race_of found.entry.race) found.entry.witness.now) }
@@ -41,7 +42,7 @@ pub(crate) fn witness_value(alloc: Global, found: Found<'_>) -> Result<Value, Al
     })
 }
 
-/// The ways to the race's first access and to its second.
+/// Returns the paths to the race's first access and to its second.
 fn ways_of(witness: &Witness) -> (&[Step], &[Step])
     ensures first { result.0.now ≡ first_way witness.now }
     ensures second { result.1.now ≡ second_way witness.now }
@@ -53,7 +54,7 @@ fn ways_of(witness: &Witness) -> (&[Step], &[Step])
     }
 }
 
-/// How two accesses come to run together.
+/// Returns how two accesses can run together.
 fn word_of_meeting(meeting: Meeting) -> &'static str
     ensures { result.now ≡ meeting_word meeting }
 {
@@ -63,14 +64,14 @@ fn word_of_meeting(meeting: Meeting) -> &'static str
     }
 }
 
-/// Which of two accesses is left pending.
+/// Returns which of two accesses is left pending.
 fn pending(first_pends: bool) -> &'static str
     ensures { result.now ≡ pending_word first_pends }
 {
     if first_pends { "first" } else { "second" }
 }
 
-/// Why two sections of a procedure share places: `{"kind":"of_splits","section":"a"}`.
+/// Returns why two sections of a procedure share places: `{"kind":"of_splits","section":"a"}`.
 fn sharing_value(
     alloc: Global,
     procedure: &Procedure,
@@ -84,7 +85,7 @@ fn sharing_value(
     })
 }
 
-/// Why two sections share places.
+/// Returns why two sections share places.
 fn word_of_sharing(sharing: Sharing) -> &'static str
     ensures { result.now ≡ sharing_word sharing }
 {
@@ -96,7 +97,7 @@ fn word_of_sharing(sharing: Sharing) -> &'static str
     }
 }
 
-/// The name of the section of whose splits both are sides.
+/// Returns the name of the section if both are sides of splits of it.
 fn common_to(procedure: &Procedure, sharing: Sharing) -> Option<&str>
     ensures { option_map (λ name. name.now) result
         ≡ common_section (procedure_of procedure.now) sharing }

@@ -1,4 +1,4 @@
--- What `fmt --write` leaves, and why it fails.
+-- The effect of `fmt --write`, and the reasons for failures.
 use Rattle.std.proofs.Common.{◌≡◌, ℕ, List, Option, Result, Ok, Err, subst, sym}
 use Rattle.std.specs.Prelude.{IfErr, IsErrAnd}
 use Rattle.std.specs.Str.{chars}

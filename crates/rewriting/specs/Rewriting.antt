@@ -1,4 +1,4 @@
--- What `fmt --write` leaves of the file of a program, and why it fails.
+-- The effect of `fmt --write` on the file of a program, and the reasons for failures.
 use Rattle.std.specs.Prelude.{ℕ, ◌≡◌, List, [], Result, Ok, Err}
 use Rattle.std.specs.Str.{chars}
 use Rattle.std.specs.String.{string_bytes}
@@ -12,14 +12,15 @@ use Rattle.intake.specs.declared.failure.Failure.TheVariants.{Syntax, CannotWrit
 use Rattle.intake.specs.declared.failure.Failure.TheVariants.{CannotWriteOutput, NoMemory}
 use Rattle.answers.specs.Answers.{IsLayoutOf, NeedsLayout, TellsUnspelled}
 
--- nothing is told of a text that spells a program
+-- nothing is printed for a text that spells a program
 pub record AnswersRewrite (text told : List ℕ) (status : ℕ) : Type 0 where
   pub program : tree.Program
   pub spelled : AreTokensOf (chars text) (spelling program)
   pub told_is : told ≡ []
   pub status_is : status ≡ 0
 
--- a failure is one of the text, or the file can't be written, which it had to be; only want of memory is free
+-- a failure is one of the text, or the file must be written but can't be; only out of memory needs no
+-- reason
 abbrev pub ExplainsRewrite : (file text : List ℕ) → Failure → Type 0
 ExplainsRewrite file text (Syntax e) = TellsUnspelled text (Syntax e)
 ExplainsRewrite file text (CannotWrite told) = (string_bytes told ≡ file) × NeedsLayout text
@@ -37,13 +38,13 @@ pub record Rewrote (file text : List ℕ) (held later : Held) : Type 0 where
   pub given : IsGiven (later file) (Ok bytes)
   pub others : KeepsOthers file held later
 
--- so it was; or the text was laid out already, and no file was written
+-- this was done; or the text was already formatted, and no file was written
 pub data LeavesLaidOut (file text : List ℕ) (held later : Held) : Type 0 where
   rewritten : Rewrote file text held later → LeavesLaidOut file text held later
   was_laid_out : IsLaidOut (chars text) (chars text) → later ≡ held → LeavesLaidOut file text held later
 
--- of a file that can't be written nothing is known; where a command fails for another reason all files
--- hold what they held
+-- if a file can't be written, nothing is known of it; if a command fails for another reason, all files are
+-- unchanged
 abbrev pub LeavesRewritten : (file text : List ℕ) → (held later : Held) → Result ℕ Failure → Type 0
 LeavesRewritten file text held later (Ok status) = LeavesLaidOut file text held later
 LeavesRewritten file text held later (Err CannotWriteOutput) = LeavesLaidOut file text held later

@@ -1,4 +1,4 @@
-//! What is done with the text of a program in its own file.
+//! Formatting the text of a program in its own file.
 
 #![tactic(auto)]
 

@@ -12,8 +12,8 @@ use layout::laid_out;
 use std::alloc::Global;
 use std::io::Write;
 
-/// Writes the text of a program into its file in the canonical layout, whatever rules it breaks. A text
-/// that is so laid out isn't written, so that its file stays as old as it is.
+/// Writes the text of a program into its file in the canonical layout, even if it breaks rules. A
+/// text that is already formatted isn't written, to preserve the modification time of its file.
 pub fn rewrite<F: FileSource, O: Write>(
     alloc: Global,
     file: &str,

@@ -1,15 +1,16 @@
-//! Bytes, as a line of a table spells them behind the character that says where they go, and as text.
+//! Bytes in the notation of a table, after the character that says where they go; and bytes as
+//! text.
 
 use std::alloc::Global;
 use std::io;
 use std::io::ErrorKind;
 
-/// That a line of a table says nothing.
+/// Returns the error for a line of a table that can't be parsed.
 pub fn not_understood() -> io::Error {
     io::Error::from(ErrorKind::InvalidData)
 }
 
-/// The number that stands there in decimal.
+/// Parses a decimal number.
 pub fn number_in(text: &str) -> io::Result<usize> {
     match text.parse::<usize>() {
         Ok(number) => Ok(number),
@@ -17,8 +18,8 @@ pub fn number_in(text: &str) -> io::Result<usize> {
     }
 }
 
-/// Adds a whole line, as ` skip;`, a piece of one, as `+ "skip;"`, one that stands there many times, as
-/// `* 99 "("`, or bytes in hexadecimal, as `x c3 a9`.
+/// Appends a whole line (` skip;`), a part of one (`+ "skip;"`), a part that is repeated (`* 99
+/// "("`), or bytes in hexadecimal (`x c3 a9`).
 pub fn push_spelled(alloc: Global, bytes: &mut Vec<u8>, spelled: &str) -> io::Result<()> {
     if spelled.is_empty() {
         push_line(bytes, "")
@@ -31,14 +32,14 @@ pub fn push_spelled(alloc: Global, bytes: &mut Vec<u8>, spelled: &str) -> io::Re
     }
 }
 
-/// Adds a line with its line feed.
+/// Appends a line with its line feed.
 fn push_line(bytes: &mut Vec<u8>, line: &str) -> io::Result<()> {
     bytes.extend_from_slice(line.as_bytes())?;
     bytes.extend_from_slice(b"\n")?;
     Ok(())
 }
 
-/// Adds a byte for each pair of hexadecimal digits.
+/// Appends a byte for each pair of hexadecimal digits.
 fn push_hexadecimal(bytes: &mut Vec<u8>, pairs: &str) -> io::Result<()> {
     for pair in pairs.split(' ') {
         match u8::from_str_radix(pair, 16) {
@@ -49,7 +50,7 @@ fn push_hexadecimal(bytes: &mut Vec<u8>, pairs: &str) -> io::Result<()> {
     Ok(())
 }
 
-/// Adds what stands between the first quote and the last, once or in many turns.
+/// Appends the text between the first quote and the last, once or repeatedly.
 fn push_quoted(alloc: Global, bytes: &mut Vec<u8>, spelled: &str) -> io::Result<()> {
     let Some((head, piece)) = split_at_quotes(spelled) else {
         return Err(not_understood());
@@ -62,15 +63,16 @@ fn push_quoted(alloc: Global, bytes: &mut Vec<u8>, spelled: &str) -> io::Result<
     push_turns(alloc, bytes, &turns, piece)
 }
 
-/// What stands before the first quote, and what between it and the last, which ends the line.
+/// Returns the text before the first quote, and the text between it and the last quote, which ends
+/// the line.
 fn split_at_quotes(spelled: &str) -> Option<(&str, &str)> {
     let (head, behind) = spelled.split_once('"')?;
     let piece = behind.strip_suffix('"')?;
     Some((head, piece))
 }
 
-/// How often a piece stands there, and the numbers that `#` is in it: the first, and how much is added
-/// each time.
+/// The number of repetitions of a part, and the numbers that replace `#` in it: the first, and the
+/// difference between two of them.
 #[derive(Clone, Copy)]
 struct Turns {
     count: usize,
@@ -78,7 +80,7 @@ struct Turns {
     step: usize,
 }
 
-/// The turns that a head says: `* 99 `, `* 99 from 1 ` or `* 99 from 2 by 2 `.
+/// Parses the repetitions in a head: `* 99 `, `* 99 from 1 ` or `* 99 from 2 by 2 `.
 fn turns_of(head: &str) -> io::Result<Turns> {
     let Some(said) = head.trim_end().strip_prefix("* ") else {
         return Err(not_understood());
@@ -92,7 +94,7 @@ fn turns_of(head: &str) -> io::Result<Turns> {
     })
 }
 
-/// Adds a piece turn by turn.
+/// Appends all repetitions of a part.
 fn push_turns(alloc: Global, bytes: &mut Vec<u8>, turns: &Turns, piece: &str) -> io::Result<()> {
     let mut number = turns.first;
     for _ in 0..turns.count {
@@ -102,7 +104,7 @@ fn push_turns(alloc: Global, bytes: &mut Vec<u8>, turns: &Turns, piece: &str) ->
     Ok(())
 }
 
-/// Adds a piece with a number in the place of each `#`.
+/// Appends a part with a number in place of each `#`.
 fn push_turn(alloc: Global, bytes: &mut Vec<u8>, piece: &str, number: usize) -> io::Result<()> {
     let mut parts = piece.split('#');
     if let Some(first) = parts.next() {
@@ -116,7 +118,7 @@ fn push_turn(alloc: Global, bytes: &mut Vec<u8>, piece: &str, number: usize) -> 
     Ok(())
 }
 
-/// The bytes as text, if they are one.
+/// Returns the bytes as text, if they are UTF-8.
 pub fn text_of(bytes: &[u8]) -> &str {
     std::str::from_utf8(bytes).unwrap_or("not UTF-8")
 }

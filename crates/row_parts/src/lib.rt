@@ -1,5 +1,5 @@
-//! What rows of tables are made of: the files that their commands are lent, outputs that end, and what
-//! must be told.
+//! The parts of rows of tables: the files that commands can use, outputs that end, and expected
+//! results.
 
 #![tactic(auto)]
 

@@ -1,10 +1,11 @@
-//! What an object says, as it is told without `--format json`.
+//! An object, as the text that the command writes without `--format json`.
 
 use crate::values::{list_in, number_in};
 use serde_json::Value;
 use std::alloc::{AllocError, Global};
 
-/// What an object says of an answer, as it is told without it. `wanted` says in which order the arrays come.
+/// Returns an answer's object as the text of the answer. The order of the arrays is that in
+/// `wanted`.
 pub fn plain_of(alloc: Global, object: &Value, wanted: &str) -> Result<String, AllocError> {
     let mut text = String::new(alloc);
     if let Some(procedures) = number_in(object, "procedures") {
@@ -28,7 +29,7 @@ pub fn plain_of(alloc: Global, object: &Value, wanted: &str) -> Result<String, A
     Ok(text)
 }
 
-/// Adds the lines of a cost, if it is one.
+/// Appends the lines of a cost, if it is one.
 fn push_cost(text: &mut String, object: &Value) -> Result<(), AllocError> {
     let (Some(work), Some(span)) = (number_in(object, "work"), number_in(object, "span")) else {
         return Ok(());
@@ -53,7 +54,7 @@ fn push_cost(text: &mut String, object: &Value) -> Result<(), AllocError> {
     )
 }
 
-/// Adds a line for each list of numbers.
+/// Appends a line for each list of numbers.
 fn push_lines(text: &mut String, lines: &[Value]) -> Result<(), AllocError> {
     for line in lines {
         let mut before = "";
@@ -68,7 +69,7 @@ fn push_lines(text: &mut String, lines: &[Value]) -> Result<(), AllocError> {
     Ok(())
 }
 
-/// Adds a number behind a text, or `?` where it is none of 64 bits.
+/// Appends a number after a text, or `?` if the number isn't one of 64 bits.
 fn push_number(text: &mut String, before: &str, number: &Value) -> Result<(), AllocError> {
     match number.as_i64() {
         Some(number) => write!(text, "{before}{number}"),
@@ -76,7 +77,7 @@ fn push_number(text: &mut String, before: &str, number: &Value) -> Result<(), Al
     }
 }
 
-/// Adds the line of a fault.
+/// Appends the line of a fault.
 fn push_fault(text: &mut String, fault: &Value) -> Result<(), AllocError> {
     let path = fault.get("path").and_then(Value::as_str).unwrap_or("");
     let label = number_in(fault, "label").unwrap_or(0);
@@ -88,7 +89,7 @@ fn push_fault(text: &mut String, fault: &Value) -> Result<(), AllocError> {
     text.push('\n')
 }
 
-/// Adds the line of an array.
+/// Appends the line of an array.
 fn push_array(text: &mut String, object: &Value, name: &str) -> Result<(), AllocError> {
     write!(text, "array {name}")?;
     if let Some(arrays) = object.get("arrays") {
@@ -99,7 +100,7 @@ fn push_array(text: &mut String, object: &Value, name: &str) -> Result<(), Alloc
     text.push('\n')
 }
 
-/// Whether each label of an object has the place that a listing tells.
+/// Returns whether each label of an object has its position in the listing.
 pub fn is_placed(object: &Value, listing: &str) -> bool {
     if let Some(race) = object.get("race") {
         for part in ["first", "second"] {
@@ -116,7 +117,8 @@ pub fn is_placed(object: &Value, listing: &str) -> bool {
     is_at(object, listing)
 }
 
-/// Whether an access of a race, and each step of the way to it, has the place that a listing tells.
+/// Returns whether an access of a race, and each step of the path to it, has its position in the
+/// listing.
 fn is_race_part_placed(race: &Value, part: &str, listing: &str) -> bool {
     if let Some(witness) = race.get("witness") {
         for step in list_in(witness, part) {
@@ -131,7 +133,7 @@ fn is_race_part_placed(race: &Value, part: &str, listing: &str) -> bool {
     }
 }
 
-/// Whether the label of an object, if it has one, has the place that a listing tells.
+/// Returns whether the label of an object, if it has one, has its position in the listing.
 fn is_at(object: &Value, listing: &str) -> bool {
     let Some(label) = number_in(object, "label") else {
         return true;
@@ -142,7 +144,7 @@ fn is_at(object: &Value, listing: &str) -> bool {
     }
 }
 
-/// The line and the column of a label in a listing.
+/// Returns the line and the column of a label in a listing.
 fn place_in(listing: &str, label: u64) -> Option<(u64, u64)> {
     for shown in listing.lines() {
         let known = shown.get(10..15).map(str::trim);

@@ -1,4 +1,4 @@
-//! Outputs that keep what they take, and may end.
+//! Outputs that keep what they accept, and may end.
 
 ghost use Rattle.std.specs.Prelude.{◌≤◌, IfOk, length};
 
@@ -6,28 +6,28 @@ use std::alloc::Global;
 use std::io;
 use std::io::ErrorKind;
 
-/// How an output ends.
+/// The way in which an output ends.
 #[derive(Clone, Copy)]
 pub enum End {
-    /// It answers an error.
+    /// It returns an error.
     Fails,
-    /// It takes nothing.
+    /// It accepts nothing.
     TakesNothing,
 }
 
-/// When an output ends.
+/// The limit after which an output ends.
 #[derive(Clone, Copy)]
 pub enum Limit {
     /// Never.
     Never,
-    /// After so many bytes, of which it takes one a call.
+    /// After so many bytes, of which it accepts one per call.
     Bytes(usize, End),
-    /// After so many calls, of `write` and of `flush`: then it fails at each of them.
+    /// After so many calls of `write` and of `flush`: then each call fails.
     Calls(usize),
 }
 
 impl Limit {
-    /// After so many bytes, if there is a number.
+    /// Returns the limit of so many bytes, if there is a number.
     pub fn of(left: Option<usize>, end: End) -> Limit {
         match left {
             None => Limit::Never,
@@ -36,7 +36,7 @@ impl Limit {
     }
 }
 
-/// An output.
+/// An output that keeps its bytes.
 #[derive(Drop)]
 pub struct Output {
     pub taken: Vec<u8>,
@@ -45,7 +45,7 @@ pub struct Output {
 }
 
 impl Output {
-    /// One that took nothing yet.
+    /// Returns an output that has accepted nothing yet.
     pub fn new(alloc: Global, left: Limit) -> Output {
         Output {
             taken: Vec::new(alloc),
@@ -54,7 +54,7 @@ impl Output {
         }
     }
 
-    /// Takes all of these.
+    /// Accepts all of these bytes.
     fn take(&mut self, bytes: &[u8]) -> io::Result<usize>
         ensures { IfOk result (λ count. count ≤ length bytes.now) }
     {
@@ -62,7 +62,7 @@ impl Output {
         Ok(bytes.len())
     }
 
-    /// Takes the first of these, if there is one.
+    /// Accepts the first of these bytes, if there is one.
     fn take_first(&mut self, bytes: &[u8]) -> io::Result<usize>
         ensures { IfOk result (λ count. count ≤ length bytes.now) }
     {
@@ -73,7 +73,7 @@ impl Output {
         Ok(1)
     }
 
-    /// Answers an error.
+    /// Returns an error.
     fn fail(&mut self) -> io::Error {
         self.has_failed = true;
         io::Error::from(ErrorKind::Other)

@@ -1,11 +1,11 @@
-//! The witness of a race in an object, beside what `check --explain` says of the race.
+//! Comparison of the witness of a race in an object with `check --explain`.
 
 use crate::values::{list_in, number_in, text_in};
 use serde_json::Value;
 use std::alloc::{AllocError, Global};
 
-/// Whether an explanation says of a race what its witness does: the same ways, a line for each step that
-/// has one, and the same reason why its sections share places.
+/// Returns whether an explanation of a race matches its witness: the same paths, with a line for
+/// each step that has one, and the same reason why its sections share places.
 pub fn is_explained(alloc: Global, race: &Value, explained: &str) -> Result<bool, AllocError> {
     let told = lines_of(alloc, race)?;
     let reason = reason_of(alloc, race)?;
@@ -30,8 +30,8 @@ pub fn is_explained(alloc: Global, race: &Value, explained: &str) -> Result<bool
     Ok(wanted.next().is_none() && explained.contains(reason.as_str()))
 }
 
-/// The words of the lines of a race's ways, each behind two blanks: the way to the access that is left
-/// pending, and the other where it is more than the access and not the same.
+/// Returns the expected text of the lines of a race's paths, each after two spaces: the path to the
+/// access that is left pending, and the other path if it is longer than the access and different.
 fn lines_of(alloc: Global, race: &Value) -> Result<String, AllocError> {
     let mut lines = String::new(alloc);
     let Some(witness) = race.get("witness") else {
@@ -65,7 +65,7 @@ fn lines_of(alloc: Global, race: &Value) -> Result<String, AllocError> {
     Ok(lines)
 }
 
-/// Adds the words of the lines of a way.
+/// Appends the text of the lines of a path.
 fn push_way(lines: &mut String, way: &[Value]) -> Result<(), AllocError> {
     for (place, step) in way.iter().enumerate() {
         let inside = match way.get(place.saturating_add(1)) {
@@ -77,7 +77,7 @@ fn push_way(lines: &mut String, way: &[Value]) -> Result<(), AllocError> {
     Ok(())
 }
 
-/// Adds the words of the line of a step, if it has one, behind which the section has another name.
+/// Appends the text of the line of a step, if it has one. After it the section has another name.
 fn push_step(lines: &mut String, step: &Value, inside: &str) -> Result<(), AllocError> {
     let label = number_in(step, "label").unwrap_or(0);
     let section = text_in(step, "section");
@@ -99,7 +99,7 @@ fn push_step(lines: &mut String, step: &Value, inside: &str) -> Result<(), Alloc
     }
 }
 
-/// How an explanation begins to say why the sections of a race share places.
+/// Returns the start of the reason why the sections of a race share places.
 fn reason_of(alloc: Global, race: &Value) -> Result<String, AllocError> {
     let first = section_of(race, "first");
     let second = section_of(race, "second");
@@ -122,7 +122,7 @@ fn reason_of(alloc: Global, race: &Value) -> Result<String, AllocError> {
     }
 }
 
-/// The section of an access of a race.
+/// Returns the section of an access of a race.
 fn section_of<'v>(race: &'v Value, part: &str) -> &'v str {
     match race.get(part) {
         Some(access) => text_in(access, "section"),

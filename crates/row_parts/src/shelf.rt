@@ -1,5 +1,5 @@
-//! The files that a row's command is lent: those that its table gives or a command of its group wrote, and
-//! the machine's.
+//! The files that a row's command can use: those of its table, those that a command of its group
+//! wrote, and those of the machine.
 
 ghost use Rattle.std.specs.Prelude.{◌≤◌, IfOk, length};
 
@@ -10,13 +10,13 @@ use std::io;
 use std::rt::Files;
 use trials::folders::{FolderSource, MachineFolders};
 
-/// What a file gives to who reads it.
+/// The contents of a file, as a reader gets them.
 #[derive(Drop)]
 enum Contents {
     Bytes(Vec<u8>),
     /// There is no memory for it.
     NoMemory,
-    /// As many bytes as are read of it, and these are no text.
+    /// It gives as many bytes as are read, and these are not text.
     Endless,
 }
 
@@ -34,20 +34,20 @@ struct WrittenFile {
     bytes: Vec<u8>,
 }
 
-/// The files of a table, of which the last with a name counts, and those of the machine. What a command
-/// writes stands here alone.
+/// The files of a table, of which the last with a name counts, and those of the machine. Only this
+/// shelf stores what a command writes.
 #[derive(Drop)]
 pub struct Shelf<'t, R> {
     alloc: Global,
     machine: MachineFolders<'t, R>,
     files: Vec<TableFile<'t>>,
     written: Vec<WrittenFile>,
-    /// How many stand before the first group, once it has begun.
+    /// The number of files before the first group, once that has started.
     lasting: Option<usize>,
 }
 
 impl<'t, R: AllocGlobal> Shelf<'t, R> {
-    /// No file of a table.
+    /// Returns a shelf without files of a table.
     pub fn new(rt: &'t R) -> Shelf<'t, R> {
         Shelf {
             alloc: rt.alloc(),
@@ -58,14 +58,14 @@ impl<'t, R: AllocGlobal> Shelf<'t, R> {
         }
     }
 
-    /// Begins a file: `program.afx`, `heavy.afx: no memory` or `endless.afx: endless`.
+    /// Starts a file: `program.afx`, `heavy.afx: no memory` or `endless.afx: endless`.
     pub fn begin_file(&mut self, said: &'t str) -> io::Result<()> {
         let file = file_said(self.alloc, said);
         self.files.push(file)?;
         Ok(())
     }
 
-    /// Takes a line of the file that was begun last.
+    /// Adds a line to the file that was started last.
     pub fn read_line(&mut self, line: &str) -> io::Result<()> {
         let Some(spelled) = line.strip_prefix('|') else {
             return Err(not_understood());
@@ -79,7 +79,7 @@ impl<'t, R: AllocGlobal> Shelf<'t, R> {
         }
     }
 
-    /// Forgets the files of the group before; those before the first group stay.
+    /// Removes the files of the group before. Those before the first group stay.
     pub fn begin_group(&mut self) {
         self.written.clear();
         match self.lasting {
@@ -88,13 +88,13 @@ impl<'t, R: AllocGlobal> Shelf<'t, R> {
         }
     }
 
-    /// What a command wrote last to the file of a name.
+    /// Returns what a command last wrote to the file with a name.
     pub fn written_to(&self, name: &str) -> Option<&[u8]> {
         written_in(&self.written, name)
     }
 }
 
-/// What was written last to the file of a name.
+/// Returns what was last written to the file with a name.
 fn written_in<'f>(files: &'f [WrittenFile], name: &str) -> Option<&'f [u8]> {
     for file in files.iter().rev() {
         if file.name.as_str() == name {
@@ -104,7 +104,7 @@ fn written_in<'f>(files: &'f [WrittenFile], name: &str) -> Option<&'f [u8]> {
     None
 }
 
-/// Keeps what a command writes.
+/// Stores what a command writes.
 fn keep(
     alloc: Global,
     files: &mut Vec<WrittenFile>,
@@ -121,7 +121,7 @@ fn keep(
     }
 }
 
-/// The file of which a table says so.
+/// Returns the file that a line of a table specifies.
 fn file_said(alloc: Global, said: &str) -> TableFile<'_> {
     match said.split_once(": ") {
         Some((name, "no memory")) => TableFile {
@@ -139,7 +139,7 @@ fn file_said(alloc: Global, said: &str) -> TableFile<'_> {
     }
 }
 
-/// What the last file with a name holds.
+/// Returns the contents of the last file with a name.
 fn contents_of<'f>(files: &'f [TableFile<'_>], name: &str) -> Option<&'f Contents> {
     for file in files.iter().rev() {
         if file.name == name {
@@ -176,7 +176,8 @@ impl<R: Files + Input + AllocGlobal> FileSource for Shelf<'_, R> {
         }
     }
 
-    /// A file that has no memory finds none, and an endless one takes nothing; nor does the standard input.
+    /// Writes a file. It fails for the standard input, for a file without memory, and for an
+    /// endless one.
     fn write(&mut self, name: &str, bytes: &[u8]) -> Result<(), FileError> {
         if name == "-" {
             return Err(FileError::Failed);
@@ -190,8 +191,9 @@ impl<R: Files + Input + AllocGlobal> FileSource for Shelf<'_, R> {
 }
 
 impl<R: Files + Input + AllocGlobal + Clone + Drop> FolderSource for Shelf<'_, R> {
-    /// What stands behind the name of the folder, as `one.afx` in `tests/one.afx`; a folder of which the
-    /// table has no file is the machine's. One that has no memory is said as a file.
+    /// Returns the names after the folder's name: `one.afx` of `tests/one.afx`. If the table has no
+    /// file in a folder, the folder is the machine's. A folder without memory is specified like a
+    /// file.
     fn names(&mut self, folder: &str) -> Result<Vec<String>, FileError> {
         if let Some(Contents::NoMemory) = contents_of(&self.files, folder) {
             return Err(FileError::NoMemory);
@@ -204,7 +206,7 @@ impl<R: Files + Input + AllocGlobal + Clone + Drop> FolderSource for Shelf<'_, R
     }
 }
 
-/// What stands behind the name of a folder in the names of files.
+/// Returns the names of files after the name of a folder.
 fn names_behind(
     alloc: Global,
     files: &[TableFile<'_>],
@@ -221,7 +223,7 @@ fn names_behind(
     Ok(names)
 }
 
-/// The first bytes once more, so many at most.
+/// Returns a copy of the first `most` bytes at most.
 fn first_of(alloc: Global, bytes: &[u8], most: usize) -> Result<Vec<u8>, FileError>
     ensures { IfOk result (λ v. length v.items ≤ most) }
 {
@@ -230,7 +232,7 @@ fn first_of(alloc: Global, bytes: &[u8], most: usize) -> Result<Vec<u8>, FileErr
     Ok(first)
 }
 
-/// The bytes once more.
+/// Returns a copy of the bytes.
 fn copied(alloc: Global, bytes: &[u8]) -> Result<Vec<u8>, FileError> {
     bytes.to_vec(alloc).map_err(|_| FileError::NoMemory)
 }

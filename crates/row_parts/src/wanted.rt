@@ -1,4 +1,4 @@
-//! What a table says that a command must tell.
+//! The expected results of a command in a table.
 
 use crate::bytes::{not_understood, number_in, push_spelled};
 use std::alloc::Global;
@@ -11,27 +11,27 @@ pub struct LeftFile {
     pub bytes: Vec<u8>,
 }
 
-/// What a command must write and answer, and which outputs it has.
+/// The expected output and status of a command, and which outputs it gets.
 #[derive(Drop)]
 pub struct Wanted {
     alloc: Global,
     pub out: Vec<u8>,
     pub err: Vec<u8>,
     pub status: usize,
-    /// How often its watch is told how far it has come.
+    /// The number of times that its watch is notified.
     pub looks: usize,
-    /// How many bytes the standard output takes, if it ends.
+    /// The number of bytes that the standard output accepts, if it ends.
     pub out_left: Option<usize>,
-    /// How many bytes the standard error takes, if it ends.
+    /// The number of bytes that the standard error accepts, if it ends.
     pub err_left: Option<usize>,
     /// The files that it must have written.
     pub left: Vec<LeftFile>,
-    /// Whether the command is done with outputs that fail at each of their calls in turn.
+    /// Whether the command runs with outputs that fail at each of their calls in turn.
     pub is_swept: bool,
 }
 
 impl Wanted {
-    /// Nothing, and status 0.
+    /// Returns no output, and status 0.
     pub fn new(alloc: Global) -> Wanted {
         Wanted {
             alloc,
@@ -46,8 +46,9 @@ impl Wanted {
         }
     }
 
-    /// Takes a line: what is written (`>`, `!`), the status (`=`), how often a watch is told (`~`), which
-    /// outputs there are (`%`), or a file that is written (`@`) with its lines (`|`).
+    /// Parses a line: the output (`>`, `!`), the status (`=`), the number of notifications of a
+    /// watch (`~`), the kind of outputs (`%`), or a file that is written (`@`) with its lines
+    /// (`|`).
     pub fn read(&mut self, line: &str) -> io::Result<()> {
         if let Some(spelled) = line.strip_prefix('>') {
             push_spelled(self.alloc, &mut self.out, spelled)
@@ -73,7 +74,7 @@ impl Wanted {
         }
     }
 
-    /// Begins a file that must have been written.
+    /// Starts a file that must have been written.
     fn begin_left(&mut self, name: &str) -> io::Result<()> {
         self.left.push(LeftFile {
             name: String::from_str(self.alloc, name)?,
@@ -82,7 +83,7 @@ impl Wanted {
         Ok(())
     }
 
-    /// Takes which outputs there are: `out 3`, `err 6` or `sweep`.
+    /// Parses the kind of outputs: `out 3`, `err 6` or `sweep`.
     fn lend(&mut self, outputs: &str) -> io::Result<()> {
         match outputs.split_once(' ') {
             Some(("out", left)) => self.out_left = Some(number_in(left)?),

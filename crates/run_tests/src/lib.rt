@@ -1,4 +1,4 @@
-//! Tests of runs: on one thread, as tasks, by events and by choices; of their costs and traces.
+//! Tests of runs: on one thread, in parallel, by events and by choices; of their costs and traces.
 
 #![tactic(auto)]
 

@@ -1,4 +1,4 @@
-//! What no clause says of runs, by rows: a table for each area, with the calls that its rows need.
+//! Rows for what isn't specified of runs: a table for each area, with the calls that its rows need.
 
 mod costs;
 mod drawn;
@@ -37,12 +37,12 @@ const TWO_ARRAYS: &str = "main {
   print a[0], b[0];
 }";
 
-/// A child of the root ends with a fault, and so does a child of the other one, in a finish.
+/// A child of the root ends with a fault, and so does a child of the other child, in a finish.
 const FAULTS: &str = "main { array a: int[1]; array b: int[1];
   finish { async { a[0] = 1; fault 4; } async { finish { async { b[0] = 2; fault 5; } } print 1; } }
   print 2; }";
 
-/// Compares what is said at a row with what the row wants.
+/// Compares the result for a row with the expected one.
 fn compare<N: Display + Drop, D: Display + Drop>(
     rt: &impl Abort,
     alloc: Global,
@@ -57,7 +57,7 @@ fn compare<N: Display + Drop, D: Display + Drop>(
     );
 }
 
-/// A path.
+/// Returns a path.
 fn path(rt: &impl Abort, alloc: Global, turns: &[u32]) -> Path {
     let mut path = Path::root(alloc);
     for turn in turns {
@@ -67,7 +67,7 @@ fn path(rt: &impl Abort, alloc: Global, turns: &[u32]) -> Path {
     path
 }
 
-/// A program without a race.
+/// Returns a program without a race.
 fn accepted(rt: &(impl Abort + Threads + Sync), alloc: Global, text: &str) -> Accepted {
     let program = parse(alloc, text).expect(rt, "a text of the language");
     let typed = type_check(alloc, program).expect(rt, "a program");
@@ -77,7 +77,7 @@ fn accepted(rt: &(impl Abort + Threads + Sync), alloc: Global, text: &str) -> Ac
     }
 }
 
-/// The text of what a program on zeros comes to on one thread.
+/// Returns the text of the one-thread outcome of a program on zeros.
 fn one_thread_outcome(
     rt: &impl Abort,
     alloc: Global,

@@ -1,4 +1,4 @@
--- The cover that is computed is one, and has the places of the windows.
+-- The computed cover is a cover, and has the places of the windows.
 use Rattle.std.proofs.Common.{◌≡◌, inl, inr, List, [], ◌∷◌, refl, sym, ap, ◌∙◌, arith}
 use Rattle.std.proofs.lemmas.Bool.{and_from, and_parts, cases_lt, true≢false}
 use Rattle.std.specs.Prelude.{Bool, true, false, ◌&&◌, ◌||◌, if◌then◌else◌}
@@ -13,7 +13,7 @@ use Rattle.spawn_copies.specs.Cover.{cover_of, in_order, joined_all, joined_from
 
 -- ---- the order of first places
 
--- of two windows one begins no later
+-- one of two windows starts no later than the other
 one_begins : (v w : Window) → begins_no_later w v ≡ false → begins_no_later v w ≡ true
 one_begins v w h = elim (cases_lt w.array v.array) [
   | inl a ↦ absurd (true≢false (sym (begins-array w v a) ∙ h))
@@ -61,7 +61,7 @@ has-in_order q w (v ∷ vs) = by_test (begins_no_later w v) (has-in_order q w vs
     by_test true rest = refl
     by_test false rest = ap (λ b. is_in v q || b) rest ∙ or_swap (is_in v q) (is_in w q) (has vs q)
 
--- ---- those that have a place
+-- ---- windows that have a place
 
 ascending-ordered : (ws : List Window) → is_ascending (ordered ws) ≡ true
 ascending-ordered [] = refl
@@ -97,7 +97,7 @@ joined_all_covers : (ws : List Window) → is_ascending ws ≡ true → Covers w
 joined_all_covers [] h = record { places = λ q. refl; form = refl }
 joined_all_covers (w ∷ ws) h = joined_covers w ws (joined_from w ws) h (same_joined w ws)
 
--- whatever is a cover of the windows is the one that is computed
+-- every cover of the windows is the computed one
 pub cover-only : (ws : List Window) (cover : List Window) → ((q : Place) → has cover q ≡ has ws q) → is_cover cover ≡ true
     → cover ≡ cover_of ws
 cover-only ws cover places form =

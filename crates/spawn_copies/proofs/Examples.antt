@@ -1,4 +1,4 @@
--- What asyncs of worked programs copy, computed.
+-- The numbers of places that asyncs of worked programs copy, computed.
 use Rattle.std.proofs.Common.{◌≡◌, ℕ, [], ◌∷◌, refl}
 use Rattle.std.specs.Prelude.{pos, nat_eq, if◌then◌else◌}
 use Rattle.sections.specs.Origins.{Left, Right, Root}
@@ -19,14 +19,14 @@ writers = main_of (ints 97 1024 ∷ []) 0 (Root ∷ Left 0 ∷ Right 0 ∷ []) (
     Then 2 (Async (Then 3 (Do (Store 1 (lit 0) (lit 1))) (Then 4 (Do (Store 2 (lit 0) (lit 2))) End))) (
     Then 5 (Async (Then 6 (Do (Store 1 (lit 0) (lit 3))) End)) End))) End)
 
--- where l and r have these places
+-- if l and r have these places
 abbrev named : (l r : Window) → Environment
 named l r = record {
   scalars = λ x. pos 0;
   windows = λ s. if nat_eq s 1 then l else (if nat_eq s 2 then r else places 0 1024);
 }
 
--- of 300 places from the first on, those behind the first block
+-- of 300 places from the first on, those after the first block
 first_places : copied_at writers 5 (named (places 0 300) (places 300 724)) ≡ 88
 first_places = refl
 
@@ -34,7 +34,7 @@ first_places = refl
 inner_places : copied_at writers 5 (named (places 100 300) (places 400 624)) ≡ 600
 inner_places = refl
 
--- two blocks do between 100 and 800
+-- two blocks lie wholly between 100 and 800
 more_places : copied_at writers 5 (named (places 100 700) (places 800 224)) ≡ 376
 more_places = refl
 
@@ -42,14 +42,14 @@ more_places = refl
 whole_blocks : copied_at writers 5 (named (places 256 512) (places 768 256)) ≡ 0
 whole_blocks = refl
 
--- what is written side by side is taken as one
+-- adjacent places that are written are taken as one window
 both_sides : copied_at writers 2 (named (places 0 300) (places 300 724)) ≡ 0
 both_sides = refl
 
 both_taken : taken_at writers 2 (named (places 0 300) (places 300 724)) ≡ places 0 1024 ∷ []
 both_taken = refl
 
--- no other statement copies, and no label that there isn't
+-- no other statement copies, and neither does a label that doesn't exist
 other_statements : copied_at writers 3 (named (places 0 300) (places 300 724)) ≡ 0
 other_statements = refl
 

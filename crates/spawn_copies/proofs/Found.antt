@@ -1,4 +1,4 @@
--- The async of a label is found where a program has one.
+-- The async with a label is found if a program has one.
 use Rattle.std.proofs.Common.{◌≡◌, ◌⊎◌, ℕ, zero, suc, List, [], ◌∷◌, Option, None, Some, inl, inr, refl, sym, ap, subst}
 use Rattle.std.proofs.lemmas.Bool.{eqb-true, eq-eqb}
 use Rattle.std.proofs.lemmas.Option.{same_Some}
@@ -18,7 +18,7 @@ first_cases : (x y : Option Codes) (b : Codes) → first_of x y ≡ Some b → (
 first_cases (Some c) y b e = inl e
 first_cases None y b e = inr e
 
--- inside of a statement stands an async
+-- there is an async inside a statement
 record HasInside (s : Code) (l : ℕ) (c : Codes) : Type 0 where
   body : Codes
   block : Block s body
@@ -62,7 +62,7 @@ mutual
     ]
   ]
 
--- it stands in the procedure of a number
+-- the async is in the procedure with a number
 record HasProcedure (fs : List Procedure) (l : ℕ) (c : Codes) : Type 0 where
   number : ℕ
   stands : Stands (slice_index_or fs number no_procedure).body l (Async c)
@@ -136,7 +136,7 @@ misses_async p l c (in_main h) =
 
 -- ---- what it needs
 
--- the sections that it may write, of what is kept at its label
+-- the sections that the async may write, from what is kept at its label
 abbrev pub kept_writes : Option Needs → List ℕ
 kept_writes None = []
 kept_writes (Some n) = n.writes

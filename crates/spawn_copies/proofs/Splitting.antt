@@ -1,4 +1,5 @@
--- How many places of a window lie in blocks that aren't wholly inside it, reckoned from where its whole blocks begin and end.
+-- The number of places of a window in blocks that aren't wholly inside it, computed from the start
+-- and the end of its whole blocks.
 use Rattle.std.proofs.Common.{◌≡◌, ℕ, zero, suc, ◌+◌, ◌-◌, ◌*◌, ◌/◌, ◌<◌, ◌≤◌, min, max, ◌∷◌, Bool, inl, inr, true, false, refl, ap, ◌∙◌, arith, cond}
 use Rattle.std.proofs.lemmas.Bool.{cases_lt, leb-true, leb-false}
 use Rattle.std.proofs.lemmas.List.Sums.{sum_by-cons}
@@ -7,7 +8,7 @@ use Rattle.std.specs.Prelude.{◌⊎◌, not, ◌&&◌, nat_le}
 use Rattle.sections.specs.Place.{Window}
 use Rattle.block_rows.specs.Copied.{has_block, split_places}
 
--- a test passes what lies outside of a range
+-- a test passes what lies outside a range
 record Outside (p : ℕ → Bool) (from to i : ℕ) : Type 0 where
   passes : p i ≡ true
   out : (i < from) ⊎ (to ≤ i)
@@ -36,7 +37,7 @@ count_outside p from to a (suc k) parts =
           more ∙ omega (arith, rest, none, i.low, i.high))
     ]
 
--- from where the whole blocks of a window begin to where they end, in an array of n places
+-- the start and the end of the whole blocks of a window, in an array of n places
 pub record AreWhole (n : ℕ) (w : Window) (from to : ℕ) : Type 0 where
   pub first : from ≡ (w.at + 255) / 256 * 256
   pub last : n ≤ w.at + w.length → to ≡ w.at + w.length

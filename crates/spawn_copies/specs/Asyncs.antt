@@ -1,14 +1,14 @@
--- Which async has a label.
+-- The async with a given label.
 use Rattle.std.specs.Prelude.{ℕ, List, [], ◌∷◌, Option, None, Some, nat_eq, if◌then◌else◌}
 use Rattle.types.specs.Code.{Code, Do, If, While, Split, Call, Async, Finish, Codes, End, Then}
 use Rattle.types.specs.Code.{Procedure, Program}
 
--- the first, where there is one, or the second
+-- the first value if there is one, else the second
 abbrev pub first_of : (x y : Option Codes) → Option Codes
 first_of (Some b) y = Some b
 first_of None y = y
 
--- the body of a statement that has a label of its own, where it is the async of this label
+-- the body of a statement with its own label, if it is the async with this label
 abbrev pub body_at : (label own : ℕ) → Code → Option Codes
 body_at l m (Async b) = if nat_eq l m then Some b else None
 body_at l m (Do s) = None
@@ -19,7 +19,7 @@ body_at l m (Call f es ss) = None
 body_at l m (Finish b) = None
 
 abbrev mutual
-  -- the body of the async of a label inside of a statement, and that in a list
+  -- the body of the async with a label inside a statement, and in a list
   pub body_inside : (label : ℕ) → Code → Option Codes
   body_inside l (Do s) = None
   body_inside l (If t b c) = first_of (body_in l b) (body_in l c)
@@ -34,11 +34,11 @@ abbrev mutual
   body_in l (Then m s rest) =
       first_of (body_at l m s) (first_of (body_inside l s) (body_in l rest))
 
--- that in procedures
+-- the body of the async with a label in procedures
 abbrev pub body_in_all : (label : ℕ) → List Procedure → Option Codes
 body_in_all l [] = None
 body_in_all l (f ∷ fs) = first_of (body_in l f.body) (body_in_all l fs)
 
--- the body of the async of a label, where a program has one
+-- the body of the async with a label, if a program has one
 abbrev pub body_of_async : Program → (label : ℕ) → Option Codes
 body_of_async p l = first_of (body_in_all l p.procedures) (body_in l p.main.body)

@@ -1,21 +1,21 @@
--- The cover of windows: the one list in ascending order, none empty and none touching another, that has
--- their places.
+-- The cover of windows: the one list in ascending order with the same places, in which no window is
+-- empty and no two windows touch.
 use Rattle.std.specs.Prelude.{List, [], ◌∷◌, if◌then◌else◌}
 use Rattle.sections.specs.Covers.{has_places}
 use Rattle.sections.specs.Joining.{begins_no_later, joined, meets}
 use Rattle.sections.specs.Place.{Window}
 
--- a window in its place among windows in the order of their first places
+-- a window inserted into a list that is ordered by first places
 abbrev pub in_order : Window → List Window → List Window
 in_order w [] = w ∷ []
 in_order w (v ∷ vs) = if begins_no_later w v then w ∷ v ∷ vs else v ∷ in_order w vs
 
--- those of some windows that have a place, in that order
+-- the windows that have a place, in that order
 abbrev pub ordered : List Window → List Window
 ordered [] = []
 ordered (w ∷ ws) = if has_places w then in_order w (ordered ws) else ordered ws
 
--- a window and those behind it, where each that meets the one before it is joined to that
+-- a window and the windows after it; each window that meets the one before it is joined with it
 abbrev pub joined_from : Window → List Window → List Window
 joined_from v [] = v ∷ []
 joined_from v (w ∷ ws) =

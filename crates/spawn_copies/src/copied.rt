@@ -1,4 +1,4 @@
-//! What is copied at an async.
+//! The number of places copied at an async.
 
 ghost use Rattle.std.specs.Prelude.{◌≡◌, IfOk, map};
 ghost use Rattle.sections.specs.Translation.{section as section_of};
@@ -15,11 +15,11 @@ use std::alloc::{AllocError, Global};
 use types::code::{Label, Program};
 use types::value::Environment;
 
-/// How many places are copied where the async of a label begins a task in this environment, and where that
-/// has ended: none at the label of another statement. Of an array of 1,024, an async that may write the
-/// first 300 places copies 88.
+/// Returns the number of places that are copied when the async with a label starts a task in this
+/// environment, and when the task has ended. Returns 0 for the label of another statement. In an
+/// array of 1,024 places, an async that may write the first 300 copies 88.
 ///
-/// `carve` of `holdings` copies at most half of that, whoever else holds blocks of the array.
+/// `carve` of `holdings` copies at most half of that, no matter who else holds blocks of the array.
 pub fn copied_places(
     alloc: Global,
     code: &Program,
@@ -37,7 +37,7 @@ pub fn copied_places(
     plus(split, split)
 }
 
-/// The sections that the body of the async of a label may write.
+/// Returns the sections that the body of the async with a label may write.
 fn written(summaries: &Summaries, label: Label) -> &[SectionId]
     ensures { (p : Code) → AreSummaries p summaries.now
         → map section_of result.now ≡ written_at p label }

@@ -1,4 +1,4 @@
-//! How many places an async copies, where what it may write moves to its task.
+//! The number of places that an async copies when what it may write moves to its task.
 
 #![tactic(auto)]
 

@@ -1,4 +1,4 @@
-//! Places in blocks that aren't wholly inside of what moves.
+//! Places in blocks that aren't wholly inside what moves.
 
 ghost use Rattle.std.specs.Prelude.{◌≡◌, ◌+◌, IfOk, map};
 ghost use Rattle.sections.specs.Translation.{window as window_of};
@@ -10,7 +10,8 @@ use sections::window::Window;
 use std::alloc::AllocError;
 use types::code::Program;
 
-/// How many places of the windows of a cover lie in blocks of 256 that aren't wholly inside of theirs.
+/// Returns the number of places, in the windows of a cover, in blocks of 256 that aren't wholly
+/// inside their window.
 pub fn split_in(code: &Program, cover: &[Window]) -> Result<usize, AllocError>
     ensures { IfOk result (λ n. n
         ≡ split_of_all (length_of (program_of code.now)) (map window_of cover.now)) }
@@ -23,14 +24,14 @@ pub fn split_in(code: &Program, cover: &[Window]) -> Result<usize, AllocError>
     Ok(all)
 }
 
-/// Two numbers together. What is too large for memory to count is told as want of memory.
+/// Returns the sum of two numbers. Fails as if memory ran out if it is too large.
 pub fn plus(first: usize, second: usize) -> Result<usize, AllocError>
     ensures { IfOk result (λ n. n ≡ first + second) }
 {
     first.checked_add(second).ok_or(AllocError)
 }
 
-/// How many places the array of a window has.
+/// Returns the number of places of a window's array.
 fn length_in(code: &Program, window: Window) -> usize
     ensures { result ≡ length_of (program_of code.now) window.array.number }
 {
@@ -40,9 +41,9 @@ fn length_in(code: &Program, window: Window) -> usize
     }
 }
 
-/// How many places of a window, in an array of this length, lie in blocks that aren't wholly inside it:
-/// all but those from where its first whole block begins to where its last one ends. The last block of an
-/// array may be shorter.
+/// Returns the number of places of a window, in an array of this length, in blocks that aren't
+/// wholly inside the window. These are all places except those from the start of its first whole
+/// block to the end of its last one. The last block of an array may be shorter.
 fn split_places(length: usize, window: Window) -> usize
     ensures { result ≡ split_of (λ a. length) (window_of window) }
 {

@@ -83,7 +83,7 @@ module _ (p : Program) where
     behind = r.behind;
   }
 
-  -- One tree beside another
+  -- One tree next to another
 
   pub record SecondHalf (e : Tree) (z : Contents) (u : Tree) (n : ℕ) (t : Tree) (a : Contents) : Type 0 where
     pub tree : Tree

@@ -298,7 +298,7 @@ module _ (p : Program) where
     flat = ap (append b) k.flat;
   }
 
-  -- one block alone
+  -- a single block
   pub alone : (keep scope : List ℕ) (env : Environment) (g : Procedure) (b : Codes) → IsSoundIn p g
       → Among keep scope → FitsIn g env scope b → IsPlaced keep scope env b
   alone keep scope env g b is_sound m fits = record {

@@ -31,7 +31,7 @@ abbrev pub store_or : Contents → Option (Tree × Contents) → Contents
 store_or d None = d
 store_or d (Some x) = x.1
 
--- what a step inside a tree comes from
+-- the origin of a step inside a tree
 taken : (f : Tree → Tree) (o : Option (Tree × Contents)) (u : Tree) (b : Contents) → in_tree f o ≡ Some (u, b)
     → (v : Tree) × (o ≡ Some (v, b)) × (u ≡ f v)
 taken f None u b e = cc

@@ -43,7 +43,8 @@ pub fn sides_keep_apart()
         → (t u : Tree) → ParIn t u v → Separate (still p t) (still p u) }
 {}
 
-/// States that no two leaves are about to access one place that one of them writes.
+/// States that in a tree that a run of an accepted program reaches, no two leaves are about to
+/// access one place that one of them writes.
 pub fn leaves_do_not_race()
     ensures { (p : Program) → IsSound p → IsAccepted p
         → (input : Contents) (t : Tree) (a : Contents) → Reachable p input t a
@@ -123,8 +124,9 @@ pub fn labels_of_leaves_meet()
 {}
 
 /// States that in a tree that a run of an accepted program reaches, the environment of each leaf
-/// that may step fits. The environment of its owner, with which a `<k>` continues, has the windows
-/// of `<k>` for all names in scope there. So it is as if only the scalars were passed on.
+/// that may step fits. In each `t then <k>`, the environment of the owner of `t`, with which `<k>`
+/// continues, has the windows of `<k>` for all names in scope there. So it is as if only the
+/// scalars were passed on.
 pub fn environments_stay_fit()
     ensures leaf { (p : Program) → IsSound p → IsAccepted p
         → (input : Contents) (t : Tree) (a : Contents) → Reachable p input t a

@@ -32,7 +32,7 @@ impl Play<(), Share> for Draw {
     ghost then = { λ s v n w. w ≡ (share v.0.seats (v.0.drawn ++ n ∷ []), v.1) };
 }
 
-/// Splits one seat off a share, or joins a share to another.
+/// A split of one seat off a share, or a join of two shares.
 pub struct Parting;
 
 impl Split<Share> for Parting {

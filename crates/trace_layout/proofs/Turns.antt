@@ -134,7 +134,7 @@ turns_ended es n last found ss k own path e s le there is_found going same leavi
     (λ at p so f. f) turn)
     was
 
--- it stays
+-- its task stays in its worker's hand
 pub turns_own : (es : List Event) (n : ℕ) (found : Path → Option ℕ) (ss : List Spell) (k own : ℕ) (s : Spell) → k < length ss → IsInTurn es n found k s
     → AreInTurn es n found ss → AreInTurn es n found (set ss k (record s { own = own }))
 turns_own es n found ss k own s there this was =

@@ -88,7 +88,7 @@ impl Links {
         Ok(self.tasks.insert(path.clone()?, number)?)
     }
 
-    /// Returns a task's chain to its innermost scope, where it stays if no longer chain came back
+    /// Gives a task's chain back to its innermost scope, which keeps it if no longer chain came back
     /// before.
     fn come_back(&mut self, path: &Path, chains: &Chains)
         ensures { self.new.before ≡ self.old.before }

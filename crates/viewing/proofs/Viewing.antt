@@ -1,4 +1,4 @@
--- From a trace that is there, or from why it isn't, to what was done.
+-- From a trace, or from the reason why there is none, to what was done.
 use Rattle.std.proofs.Common.{◌≡◌, inl, inr, ℕ, List, [], Option, Result, ap, ◌∙◌, refl, subst}
 use Rattle.std.specs.Prelude.{IsErrAnd}
 use Rattle.types.specs.Code.{Program}
@@ -27,14 +27,14 @@ use Rattle.viewing.specs.declared.drawing.Form.TheVariants.{Picture, Spans}
 
 -- ---- a trace's file
 
--- bytes that are no text
+-- bytes that are not text
 pub no_text_no_lines : (held : Held) (name : List ℕ) (f : Failure) → TellsNotUtf8 name f → HasNoText held name
     → TellsNoLines held name f
 no_text_no_lines held name (NotUtf8 told) is bytes = (is, bytes)
 no_text_no_lines held name NoMemory is bytes = tt
 no_text_no_lines held name _ is bytes = absurd is
 
--- it holds the trace, whoever read other files before
+-- it has the trace, even if other files were read before
 pub holds_so : (later held : Held) → later ≡ held → (name known : List ℕ) → name ≡ known → (h : Header) (es : List Event)
     → HoldsTrace later name h es → HoldsTrace held known h es
 holds_so later held keeps name known same h es holds =
@@ -42,7 +42,7 @@ holds_so later held keeps name known same h es holds =
 
 -- ---- its events
 
--- what they come to, whatever job is the same
+-- where events lead, for equal jobs
 pub comes_same : (j k : WeightedJob) → j ≡ k → (es fs : List Event) → es ≡ fs → comes j es ≡ comes k fs
 comes_same j k same es fs are = ap (λ (i : WeightedJob). comes i es) same ∙ ap (comes k) are
 
@@ -81,7 +81,7 @@ module _ (s : Settings) (held : Held) (text : List ℕ) where
   not_legal run h es holds NoMemory told = tt
   not_legal run h es holds _ told = absurd told
 
-  -- ---- what is answered then
+  -- ---- the answer then
 
   explained : (c : Command) (f : Failure) → TellsNoTrace s held text f → ExplainsTrace c s held text f
   explained c (CannotRead name) told = told

@@ -1,4 +1,4 @@
--- What files hold behind a failure.
+-- The contents of files after a failure.
 use Rattle.std.proofs.Common.{◌≡◌, ℕ, List, Result, Ok, Err, ap, ◌∙◌, subst, sym}
 use Rattle.std.specs.Prelude.{IfErr}
 use Rattle.intake.specs.Held.{Held, IsGiven, KeepsOthers}
@@ -6,11 +6,11 @@ use Rattle.intake.specs.declared.failure.Failure.{Failure}
 use Rattle.intake.specs.declared.failure.Failure.TheVariants.{CannotWriteOutput}
 use Rattle.viewing.specs.Files.{Wrote, WritesTo}
 
--- files that are as they were
+-- files that are unchanged
 pub others_kept : (name : List ℕ) (held later : Held) → later ≡ held → KeepsOthers name held later
 others_kept name held later keeps = λ other _. ap (λ (h : Held). h other) keeps
 
--- what was written stays so, whether or not the answer was written behind it
+-- what was written is unchanged, whether or not the answer was written after it
 pub wrote_anyway : {T : Type 0} (name : List ℕ) (AreRight : (bytes : List ℕ) → Type 0) (held later : Held)
     (r : Result T Failure) → Wrote name AreRight held later → IfErr r (λ f. f ≡ CannotWriteOutput)
     → WritesTo name AreRight held later r

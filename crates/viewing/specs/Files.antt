@@ -1,18 +1,18 @@
--- What files hold behind a command that may write one.
+-- The contents of files after a command that may write one.
 use Rattle.std.specs.Prelude.{ℕ, ◌≡◌, List, Result, Ok, Err}
 use Rattle.intake.specs.Held.{Held, IsGiven, KeepsOthers}
 use Rattle.intake.specs.declared.failure.Failure.{Failure}
 use Rattle.intake.specs.declared.failure.Failure.TheVariants.{CannotWrite, CannotWriteOutput, NoMemory}
 
--- the file of this name was written, and no other: it has bytes that are right
+-- the file with this name was written, and no other: it has correct bytes
 pub record Wrote (name : List ℕ) (AreRight : (bytes : List ℕ) → Type 0) (held later : Held) : Type 0 where
   pub bytes : List ℕ
   pub right : AreRight bytes
   pub given : IsGiven (later name) (Ok bytes)
   pub others : KeepsOthers name held later
 
--- the file of this name is written before the standard output is; of one that can't be written nothing is
--- known; where a command fails for another reason all files hold what they held
+-- the file with this name is written before the standard output; if it can't be written, nothing is known
+-- of it; if a command fails for another reason, all files are unchanged
 abbrev pub WritesTo : {T : Type 0} → (name : List ℕ) → (AreRight : (bytes : List ℕ) → Type 0)
     → (held later : Held)
     → Result T Failure → Type 0

@@ -1,4 +1,4 @@
--- What is answered of the trace of a run, and why there is no answer.
+-- The answers for the trace of a run, and the reasons why there is none.
 use Rattle.std.specs.Prelude.{ℕ, ℤ, ◌≡◌, ◌⊎◌, List, [], Option, Result, codes, map, unwrap_or}
 use Rattle.std.specs.String.{string_bytes}
 use Rattle.types.specs.Code.{Program}
@@ -33,24 +33,24 @@ use Rattle.viewing.specs.declared.tables.Look.TheVariants.{Table, Numbers}
 
 -- ---- names
 
--- the file of the trace: words that ask for a look at one always name it
+-- the file of the trace: arguments that request to show one always name it
 abbrev pub trace_name : Settings → List ℕ
 trace_name s = unwrap_or s.trace (codes "-")
 
--- the file of the picture: words that ask for one always name it
+-- the file of the picture: arguments that request one always name it
 abbrev pub picture_name : Settings → List ℕ
 picture_name s = unwrap_or s.picture (codes "-")
 
 -- ---- traces
 
--- the file of this name has the trace of a header and of events
+-- the file with this name has the trace of a header and of events
 pub record HoldsTrace (held : Held) (name : List ℕ) (h : Header) (es : List Event) : Type 0 where
   pub lines : List ℕ
   pub has_text : HasText held name lines
   pub is_trace : IsTrace (header_of h) (map event_of es) lines
 
--- events are legal from the start of a program's run on an input, under the budget and with the weight of
--- a header
+-- events are legal from the start of a program's run on an input, under the budget and with the weight of a
+-- header
 pub record AreLegal (p : Program) (input : List (List ℤ)) (h : Header) (es : List Event) : Type 0 where
   pub world : World
   pub legal : LeadsTo p h.w0 input (budget h.budget) (map event_of es) world
@@ -63,7 +63,7 @@ pub record HasTrace (s : Settings) (held : Held) (text : List ℕ) (h : Header) 
 
 -- ---- answers
 
--- the command that has a trace looked at so
+-- the command that shows this part of a trace
 abbrev pub command_by : Look → Command
 command_by Table = View
 command_by Numbers = Summary
@@ -74,8 +74,8 @@ pub record IsSummaryText (workers : ℕ) (es : List Event) (told : List ℕ) : T
   pub are : IsSummary es numbers
   pub told_is : told ≡ summary_text workers numbers
 
--- what is told of a trace: by `view` the table of its events, by `view --summary` its numbers; by
--- `view --svg` and `view --chrome` nothing stands on the standard output
+-- the answer for a trace: by `view` the table of its events, by `view --summary` its numbers; `view --svg`
+-- and `view --chrome` write nothing to the standard output
 abbrev pub TellsTrace : Command → Header → List Event → (told : List ℕ) → Type 0
 TellsTrace View h es told = told ≡ table_text (map event_of es)
 TellsTrace Summary h es told = IsSummaryText h.workers es told
@@ -95,7 +95,7 @@ TellsTrace Cost h es told = ⊥
 TellsTrace CostByLabel h es told = ⊥
 TellsTrace CostByProcedure h es told = ⊥
 
--- the text told, with its status, answers what is asked of a trace
+-- the text written, with its status, answers the command for a trace
 pub record AnswersTrace (c : Command) (s : Settings) (held : Held) (text told : List ℕ) (status : ℕ)
     : Type 0 where
   pub header : Header
@@ -106,13 +106,13 @@ pub record AnswersTrace (c : Command) (s : Settings) (held : Held) (text told : 
 
 -- ---- failures
 
--- the file of this name has a text that is no trace, as the error says
+-- the file with this name has a text that is not a trace, for the reason in the error
 pub record HasNoTrace (held : Held) (name : List ℕ) (e : TraceError) : Type 0 where
   pub lines : List ℕ
   pub has_text : HasText held name lines
   pub why : IsRefusal lines e
 
--- why the file of this name has no trace; only want of memory is free
+-- why the file with this name has no trace; only out of memory needs no reason
 abbrev pub TellsNoLines : Held → (name : List ℕ) → Failure → Type 0
 TellsNoLines held name (CannotRead told) = TellsNoText held name (CannotRead told)
 TellsNoLines held name (NotUtf8 told) = TellsNoText held name (NotUtf8 told)
@@ -120,18 +120,18 @@ TellsNoLines held name (Trace e) = HasNoTrace held name e
 TellsNoLines held name NoMemory = Unit {0}
 TellsNoLines held name _ = ⊥
 
--- why events aren't legal: the event of this number is the first that isn't; only want of memory is free
+-- why events aren't legal: this number is that of the first illegal one; only out of memory needs no reason
 abbrev pub TellsIllegal : Program → (input : List (List ℤ)) → Header → List Event → Failure → Type 0
 TellsIllegal p input h es (Illegal n) = IsFirstIllegal p h.w0 input (budget h.budget) (map event_of es) n
 TellsIllegal p input h es NoMemory = Unit {0}
 TellsIllegal p input h es _ = ⊥
 
--- the text's program has no race, and an input, but there is no trace, as the failure says
+-- the text's program has no race, and an input, but there is no trace, for the reason in the failure
 pub record LacksTrace (s : Settings) (held : Held) (text : List ℕ) (f : Failure) : Type 0 where
   pub run : IsExplored s held text
   pub why : TellsNoLines held (trace_name s) f
 
--- there is a trace too, but it is none of the program's run on the input, as the failure says
+-- there is a trace too, but it isn't one of the program's run on the input, for the reason in the failure
 pub record HasIllegalTrace (s : Settings) (held : Held) (text : List ℕ) (f : Failure) : Type 0 where
   pub run : IsExplored s held text
   pub header : Header
@@ -139,7 +139,7 @@ pub record HasIllegalTrace (s : Settings) (held : Held) (text : List ℕ) (f : F
   pub holds : HoldsTrace held (trace_name s) header events
   pub why : TellsIllegal run.code run.input header events f
 
--- why there is no trace of the text's program; only want of memory is free
+-- why there is no trace of the text's program; only out of memory needs no reason
 abbrev pub TellsNoTrace : Settings → Held → (text : List ℕ) → Failure → Type 0
 TellsNoTrace s held text (CannotRead name) =
     LacksInput View s held text (CannotRead name) ⊎ LacksTrace s held text (CannotRead name)
@@ -171,7 +171,7 @@ Draws Cost = ⊥
 Draws CostByLabel = ⊥
 Draws CostByProcedure = ⊥
 
--- the command that has it drawn so
+-- the command that draws it in this form
 abbrev pub command_of : Form → Command
 command_of Picture = Draw
 command_of Spans = Chrome
@@ -183,20 +183,20 @@ pub record IsDrawnTo (s : Settings) (held : Held) (text told : List ℕ) : Type 
   pub trace : HasTrace s held text header events
   pub name : told ≡ picture_name s
 
--- why nothing is answered of a trace
+-- why there is no answer for a trace
 abbrev pub ExplainsTrace : Command → Settings → Held → (text : List ℕ) → Failure → Type 0
 ExplainsTrace c s held text (CannotWrite name) = Draws c × IsDrawnTo s held text (string_bytes name)
 ExplainsTrace c s held text CannotWriteOutput = Unit {0}
 ExplainsTrace c s held text f = TellsNoTrace s held text f
 
--- what is asked of a trace was done
+-- a command for a trace was carried out
 abbrev pub Views : Command → Settings → Held → (text : List ℕ) → (old new : Option (List ℕ))
     → Result ℕ Failure → Type 0
 Views c s held text = Done (AnswersTrace c s held text) (ExplainsTrace c s held text)
 
 -- ---- pictures
 
--- what was drawn is a trace of the text's program; how it is drawn is said nowhere
+-- a trace of the text's program was drawn; how it is drawn isn't specified
 pub record IsDrawn (s : Settings) (held : Held) (text bytes : List ℕ) : Type 0 where
   pub header : Header
   pub events : List Event

@@ -1,4 +1,4 @@
-//! `view --svg` and `view --chrome`: a trace is drawn, into a file.
+//! `view --svg` and `view --chrome`: drawing a trace into a file.
 
 ghost use Rattle.std.specs.Prelude.{◌≡◌};
 ghost use Rattle.command_line.specs.Requests.{settings as settings_of};
@@ -18,16 +18,16 @@ use std::io::Write;
 use std::thread::Threads;
 use trace_spans::chrome;
 
-/// What a trace is drawn as.
+/// The form in which a trace is drawn.
 #[derive(Clone, Copy)]
 pub enum Form {
     /// A picture: `view --svg`.
     Picture,
-    /// What a trace viewer reads: `view --chrome`.
+    /// The input of a trace viewer: `view --chrome`.
     Spans,
 }
 
-/// Draws a trace so, into the file of the picture; gives the exit status.
+/// Draws a trace in this form into the file of the picture. Returns the exit status.
 pub fn draw<R: Threads + Sync, F: FileSource, O: Write>(
     rt: &R,
     alloc: Global,
@@ -48,7 +48,7 @@ pub fn draw<R: Threads + Sync, F: FileSource, O: Write>(
     answer(out, "")
 }
 
-/// The name of the picture's file.
+/// Returns the name of the picture's file.
 fn picture_name<'w>(settings: Settings<'w>) -> &'w str
     ensures { result.now ≡ name_of_picture (settings_of settings.entry) }
 {
@@ -58,7 +58,7 @@ fn picture_name<'w>(settings: Settings<'w>) -> &'w str
     }
 }
 
-/// A trace drawn so; the heading is that of a picture.
+/// Returns a trace drawn in this form. The heading is that of a picture.
 fn drawn(alloc: Global, form: Form, heading: &str, trace: &Trace) -> Result<String, AllocError> {
     match form {
         Form::Picture => timeline::draw(alloc, heading, &trace.header, &trace.events),

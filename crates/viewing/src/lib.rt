@@ -1,4 +1,4 @@
-//! What is answered of the trace of a run.
+//! The answers for the trace of a run.
 
 #![tactic(auto)]
 

@@ -1,4 +1,4 @@
-//! `view` and `view --summary`: what the events of a trace are, and what they come to.
+//! `view` and `view --summary`: the events of a trace, and their numbers.
 
 ghost use Rattle.std.specs.Prelude.{◌≡◌, IfOk};
 ghost use Rattle.std.specs.String.{string_bytes};
@@ -18,16 +18,16 @@ use trace_numbers::summary::summarize;
 use trace_numbers::text::summary_text;
 use trace_text::table;
 
-/// What is told of a trace.
+/// The part of a trace that is shown.
 #[derive(Clone, Copy)]
 pub enum Look {
     /// The table of its events: `view`.
     Table,
-    /// What they come to: `view --summary`.
+    /// The numbers of its events: `view --summary`.
     Numbers,
 }
 
-/// Writes what is to be told of a trace; gives the exit status.
+/// Writes this part of a trace. Returns the exit status.
 pub fn view<R: Threads + Sync, F: FileSource, O: Write>(
     rt: &R,
     alloc: Global,
@@ -45,7 +45,7 @@ pub fn view<R: Threads + Sync, F: FileSource, O: Write>(
     answer(out, told.as_str())
 }
 
-/// What is to be told of a trace.
+/// Returns the text of this part of a trace.
 fn shown(alloc: Global, look: Look, trace: &Trace) -> Result<String, AllocError>
     ensures { IfOk result (λ text. TellsTrace (command_by look)
         trace.now.header trace.now.events.items (string_bytes text)) }
@@ -56,7 +56,7 @@ fn shown(alloc: Global, look: Look, trace: &Trace) -> Result<String, AllocError>
     }
 }
 
-/// The numbers of a trace.
+/// Returns the text of the numbers of a trace.
 fn numbers_shown(alloc: Global, trace: &Trace) -> Result<String, AllocError>
     ensures { IfOk result (λ text. IsSummaryText trace.now.header.workers trace.now.events.items
         (string_bytes text)) }

@@ -1,4 +1,4 @@
-//! The trace that a file holds.
+//! The trace in a file.
 
 ghost use Rattle.std.specs.Prelude.{◌≡◌, IfErr, IfOk, OnOk};
 ghost use Rattle.types.specs.Translation.{input as lists_in};
@@ -24,14 +24,14 @@ use trace_text::header::Header;
 use trace_text::read::read_lines;
 use types::input::Input;
 
-/// What a run was asked for, and what it did.
+/// The settings of a run, and its events.
 #[derive(Drop)]
 pub struct Trace {
     pub header: Header,
     pub events: Vec<Event>,
 }
 
-/// The trace that is asked for, where it is one of the text's program on the input.
+/// Returns the requested trace, if it is one of the text's program on the input.
 pub fn trace_of<R: Threads + Sync, F: FileSource>(
     rt: &R,
     alloc: Global,
@@ -50,7 +50,7 @@ pub fn trace_of<R: Threads + Sync, F: FileSource>(
     Ok(trace)
 }
 
-/// The name of the trace's file.
+/// Returns the name of the trace's file.
 pub fn trace_name<'w>(settings: Settings<'w>) -> &'w str
     ensures { result.now ≡ name_of_trace (settings_of settings.entry) }
 {
@@ -60,7 +60,7 @@ pub fn trace_name<'w>(settings: Settings<'w>) -> &'w str
     }
 }
 
-/// The trace that the file of this name holds.
+/// Returns the trace in the file with this name.
 fn trace_in<F: FileSource>(alloc: Global, files: &mut F, name: &str) -> Result<Trace, Failure>
     ensures holds { IfOk result (λ t. HoldsTrace (F.held files.old) name.now t.header t.events.items) }
     ensures why { IfErr result (TellsNoLines (F.held files.old) name.now) }
@@ -76,7 +76,7 @@ fn trace_in<F: FileSource>(alloc: Global, files: &mut F, name: &str) -> Result<T
     }
 }
 
-/// Finds whether the events of a trace are legal in a program's run on an input.
+/// Checks whether the events of a trace are legal in a program's run on an input.
 fn judge(alloc: Global, accepted: &Accepted, input: &Input, trace: &Trace) -> Result<(), Failure>
     requires { Fits accepted.now.typed input.now }
     ensures legal { OnOk result

@@ -1,4 +1,4 @@
--- The least two ways that meet, from the least of their parts.
+-- The shortest two ways that meet, from the shortest of their parts.
 use Rattle.std.proofs.Common.{◌≡◌, ◌⊎◌, inl, inr, ℕ, List, length, refl, sym, subst, arith}
 use Rattle.std.specs.Prelude.{true, false, Option, None, Some, IfSome}
 use Rattle.types.specs.Code.{Number, Truth, Code, Do, If, While, Split, Call, Async, Finish, Codes, End, Then, Program}

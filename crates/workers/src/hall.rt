@@ -24,7 +24,7 @@ pub struct Hall<'p, J: Running> {
     over: AtomicBool,
 }
 
-/// The place of a resting worker.
+/// A worker's bed: whether the worker rests there, and how to wake it.
 #[derive(Drop)]
 struct Bed {
     taken: AtomicBool,
@@ -125,7 +125,7 @@ impl<'p, J: Running> Hall<'p, J> {
         }
     }
 
-    /// Ends the rest of the worker in this bed. Returns false if no worker rests there.
+    /// Marks the worker in this bed as awake. Returns false if no worker rests there.
     fn rise(&self, bed: &Bed) -> bool {
         let taken = bed.taken.swap(false, Ordering::SeqCst);
         if taken {

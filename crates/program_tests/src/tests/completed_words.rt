@@ -1,4 +1,4 @@
-//! Completions and the manual name just the options that help names.
+//! Completions and the manual name exactly the options that help names.
 
 use crate::tests::compare;
 use options::reply::Reply;
@@ -7,7 +7,7 @@ use std::alloc::Global;
 use std::process::Abort;
 use std::rt::HostRuntime;
 
-/// Commands and their options, in their order.
+/// Commands and their options, in order.
 const ROWS: &[(&str, &str)] = &[
     (
         "run",
@@ -37,9 +37,9 @@ const ROWS: &[(&str, &str)] = &[
     ("man", ""),
 ];
 
-/// Where the options of COMMAND stand: in the reply to these words, from a text to another one, each behind a
-/// mark, of which so many a line count, since the text of an option may name another one; and whether
-/// `--help` is told there too, as the last.
+/// A place that lists the options of COMMAND: in the reply to these arguments, between two texts,
+/// each option after a mark. At most `a_line` marks per line count, because the text of an option
+/// may name another one. `with_help` is whether `--help` comes last there too.
 struct Source {
     words: &'static str,
     begin: &'static str,
@@ -106,7 +106,7 @@ fn each_names_the_options_of_help(rt: HostRuntime) {
     }
 }
 
-/// The options of a command at a source, each behind a space.
+/// Returns the options of a command at a source, each after a space.
 fn options_at(rt: &impl Abort, alloc: Global, source: &Source, command: &str) -> String {
     let reply = reply_to(rt, alloc, &about(rt, alloc, source.words, command));
     let begin = about(rt, alloc, source.begin, command);
@@ -122,7 +122,7 @@ fn options_at(rt: &impl Abort, alloc: Global, source: &Source, command: &str) ->
     options
 }
 
-/// Adds the name with which a text begins.
+/// Appends the name that a text starts with.
 fn push_name(rt: &impl Abort, out: &mut String, text: &str) {
     for c in text.chars() {
         if !c.is_ascii_alphanumeric() && c != '-' {
@@ -132,12 +132,12 @@ fn push_name(rt: &impl Abort, out: &mut String, text: &str) {
     }
 }
 
-/// A text about a command.
+/// Returns a text, with a command in place of COMMAND.
 fn about(rt: &impl Abort, alloc: Global, text: &str, command: &str) -> String {
     text.replace(alloc, "COMMAND", command).expect(rt, "memory")
 }
 
-/// What is replied to words between single spaces, without the backslashes before dashes.
+/// Returns the reply to arguments between single spaces, without the backslashes before dashes.
 fn reply_to(rt: &impl Abort, alloc: Global, line: &str) -> String {
     let mut words = Vec::new(alloc);
     for word in line.split(' ') {
@@ -152,7 +152,7 @@ fn reply_to(rt: &impl Abort, alloc: Global, line: &str) -> String {
     text.replace(alloc, "\\-", "-").expect(rt, "memory")
 }
 
-/// The text of a reply.
+/// Returns the text of a reply.
 fn told(rt: &impl Abort, alloc: Global, reply: Reply) -> String {
     match reply {
         Reply::Said(said) => format!(in alloc; "{said}").expect(rt, "memory"),

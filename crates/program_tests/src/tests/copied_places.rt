@@ -1,4 +1,5 @@
-//! How many places are copied where they are carved out of an array of 1,024, or come back.
+//! The number of places that are copied when they are carved out of an array of 1,024, or come
+//! back.
 
 use crate::tests::section_trees::Numbers;
 use crate::tests::{compare, typed};
@@ -9,8 +10,8 @@ use std::alloc::Global;
 use std::process::Abort;
 use types::input::Input;
 
-/// Windows that are carved out together, and how many places are copied for that, and how many when
-/// they come back.
+/// Windows that are carved out together, the number of places that are copied for that, and the
+/// number when they come back.
 type Row = (&'static [Numbers], &'static str);
 
 const ROWS: &[Row] = &[
@@ -27,14 +28,14 @@ const ROWS: &[Row] = &[
     (&[(1, 255, 45)], "1 1"),
 ];
 
-/// All places of two arrays.
+/// Returns all places of two arrays.
 fn all(rt: &impl Abort, alloc: Global) -> Holdings {
     let typed = typed(rt, alloc, "main { array a: int[1024]; array b: int[300]; }");
     let input = Input::zeros(alloc, &typed).expect(rt, "memory");
     Holdings::of_input(alloc, &typed, &input).expect(rt, "memory")
 }
 
-/// The windows of these numbers.
+/// Returns the windows with these numbers.
 fn windows(rt: &impl Abort, alloc: Global, rows: &[Numbers]) -> Vec<Window> {
     let mut windows = Vec::new(alloc);
     for (number, at, len) in rows {
@@ -50,7 +51,8 @@ fn windows(rt: &impl Abort, alloc: Global, rows: &[Numbers]) -> Vec<Window> {
     windows
 }
 
-/// How many places are copied where these windows are carved out, and where they come back.
+/// Returns the number of places that are copied when these windows are carved out, and when they
+/// come back.
 fn copied(rt: &impl Abort, alloc: Global, rows: &[Numbers]) -> String {
     let mut own = all(rt, alloc);
     let windows = windows(rt, alloc, rows);

@@ -12,7 +12,7 @@ use tickets::{Seat, Tickets};
 /// Two seats and two more.
 type Seats = ((Seat, Seat), (Seat, Seat));
 
-/// A word from which nothing was drawn, and its four seats.
+/// Returns a word from which nothing was drawn, and its four seats.
 fn four_seats(rt: &impl Abort, alloc: Global) -> (Tickets, Seats)
     ensures count { seats_of result.0 ≡ 4 }
     ensures a { IsSeatOf result.0 result.1.0.0 × (drawn_of result.1.0.0 ≡ []) }
@@ -29,7 +29,7 @@ fn four_seats(rt: &impl Abort, alloc: Global) -> (Tickets, Seats)
     (tickets, ((a, b), (c, d)))
 }
 
-/// How many numbers the four seats drew.
+/// Returns the number of draws on the four seats.
 fn closed(rt: &impl Abort, alloc: Global, tickets: Tickets, seats: Seats) -> u64
     requires count { seats_of tickets ≡ 4 }
     requires left { IsSeatOf tickets seats.0.0 × IsSeatOf tickets seats.0.1 }
@@ -41,7 +41,8 @@ fn closed(rt: &impl Abort, alloc: Global, tickets: Tickets, seats: Seats) -> u64
     tickets.close(vec![in alloc; a, b, c, d].expect(rt, "memory"))
 }
 
-/// What three seats draw in turn: the second twice, the first, the third, and the second again.
+/// Returns what three seats draw in turn: the second twice, the first, the third, and the second
+/// again.
 fn drawn_in_turn(tickets: &Tickets, a: &mut Seat, b: &mut Seat, c: &mut Seat) -> [u64; 5]
     requires first { IsSeatOf tickets.now a.old × (drawn_of a.old ≡ []) }
     requires second { IsSeatOf tickets.now b.old × (drawn_of b.old ≡ []) }
@@ -67,7 +68,7 @@ fn seats_draw_in_turn(rt: HostRuntime) {
     assert!(rt; closed(&rt, alloc, tickets, ((a, b), (c, d))) == 5);
 }
 
-/// What four draws of a seat give.
+/// A seat after four draws, and the numbers.
 type Four = (Seat, [u64; 4]);
 
 /// Draws four numbers.
@@ -86,7 +87,7 @@ fn four(tickets: &Tickets, seat: Seat) -> Four
     (seat, numbers)
 }
 
-/// Draws by two seats in two threads.
+/// Draws with two seats in two threads.
 fn by_two<R: Threads>(rt: &R, tickets: &Tickets, a: Seat, b: Seat) -> (Four, Four)
     requires first { IsSeatOf tickets.now a × (drawn_of a ≡ []) }
     requires second { IsSeatOf tickets.now b × (drawn_of b ≡ []) }
@@ -105,7 +106,7 @@ fn by_two<R: Threads>(rt: &R, tickets: &Tickets, a: Seat, b: Seat) -> (Four, Fou
     )
 }
 
-/// Draws by four seats in four threads.
+/// Draws with four seats in four threads.
 fn by_four<R: Threads + Sync>(
     rt: &R,
     tickets: &Tickets,
@@ -137,7 +138,7 @@ fn by_four<R: Threads + Sync>(
     )
 }
 
-/// The seats, and what each of them drew.
+/// Returns the seats, and what each of them drew.
 fn apart(left: (Four, Four), right: (Four, Four)) -> (Seats, [[u64; 4]; 4])
     ensures left { (result.0.0.0 ≡ left.0.0) × (result.0.0.1 ≡ left.1.0) }
     ensures right { (result.0.1.0 ≡ right.0.0) × (result.0.1.1 ≡ right.1.0) }
@@ -151,7 +152,7 @@ fn apart(left: (Four, Four), right: (Four, Four)) -> (Seats, [[u64; 4]; 4])
     (((a, b), (c, d)), [first, second, third, fourth])
 }
 
-/// Whether each number below 16 stands in one row.
+/// Returns whether each number below 16 is in one row.
 fn has_each(rows: &[[u64; 4]]) -> bool {
     (0..16u64).all(|number| rows.iter().filter(|row| row.contains(&number)).count() == 1)
 }

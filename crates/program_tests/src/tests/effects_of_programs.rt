@@ -4,7 +4,7 @@ use crate::tests::typed;
 use effects::summaries::summarize;
 use sections::id::SectionId;
 
-/// Doubles each element, half by half, each left half as a task.
+/// Doubles each element, half by half, each left half in a task.
 const DOUBLING: &str = "proc twice(mut s: int) {
   if len(s) <= 1 {
     if len(s) == 1 { s[0] = s[0] * 2; }
@@ -17,7 +17,7 @@ const DOUBLING: &str = "proc twice(mut s: int) {
 }
 main { array a: int[1024]; finish { twice(a); } }";
 
-/// The left half is the first section behind the parameter.
+/// The left half is the first section after the parameter.
 const LEFT: SectionId = SectionId { number: 1 };
 
 #[test]

@@ -1,4 +1,4 @@
-//! The lines of failures, as `emit_message` writes them and as `Display` shows them.
+//! The lines of failures, as `emit_message` writes them and as `Display` formats them.
 
 use gather::error::GatherError;
 use gather::run_error::RunError;
@@ -101,7 +101,7 @@ enum Plain {
     NoMemory,
 }
 
-/// The failure.
+/// Returns the failure.
 fn failure_of(failure: Plain) -> Failure {
     match failure {
         Plain::Syntax(error) => Failure::Syntax(error),
@@ -118,12 +118,12 @@ fn failure_of(failure: Plain) -> Failure {
     }
 }
 
-/// A text of one's own.
+/// Returns an owned copy of a text.
 fn owned(rt: &impl Abort, alloc: Global, text: &str) -> String {
     String::from_str(alloc, text).expect(rt, "memory")
 }
 
-/// The line of a failure is this one, and its `Display` shows the same.
+/// Asserts that the line of a failure is this one, and that its `Display` is the same.
 fn tells(rt: &impl Abort, alloc: Global, failure: &Failure, want: &str) {
     let mut line = Vec::new(alloc);
     emit_message(&mut line, failure).expect(rt, "memory");
@@ -141,7 +141,7 @@ fn lines_without_names(rt: HostRuntime) {
     }
 }
 
-/// Whose a name is, and its line.
+/// The failures with a name, and their lines.
 const NAMED: &[(Named, &str, &str)] = &[
     (Named::CannotRead, "a.afx", "cannot read a.afx"),
     (
@@ -165,7 +165,7 @@ const NAMED: &[(Named, &str, &str)] = &[
     (Named::WrongElement, "a", "N5 a"),
 ];
 
-/// What is told with a name.
+/// A failure with a name.
 #[derive(Clone, Copy)]
 enum Named {
     CannotRead,
@@ -176,7 +176,7 @@ enum Named {
     WrongElement,
 }
 
-/// The failure of this name.
+/// Returns the failure with this name.
 fn failure_named(failure: Named, name: String) -> Failure {
     match failure {
         Named::CannotRead => Failure::CannotRead { name },

@@ -5,7 +5,7 @@ use blocks::block::Block;
 use std::alloc::Global;
 use std::process::Abort;
 
-/// What is done to the block with a number. New ones come behind the others.
+/// A step on the block with a number. New blocks come after the others.
 #[derive(Clone, Copy)]
 enum Step {
     /// The offsets of a range are carved out of it.
@@ -16,15 +16,15 @@ enum Step {
     Write(usize, usize, i64),
     /// The last one is pasted into it.
     Paste(usize),
-    /// It is made once more.
+    /// It is copied once more.
     Again(usize),
 }
 
 use Step::{Again, Carve, Paste, Share, Write};
 
-/// Steps in turn from a block that owns all offsets, and a line before them and behind each: how many
-/// numbers were copied or whether an offset was written, and what is held then. Of each block the numbers
-/// at a few offsets are shown, those in brackets as copies.
+/// Steps in order from a block that owns all offsets, and a line before the first and after each:
+/// the number of copied numbers, or whether an offset was written, and then what is held. For each
+/// block the numbers at a few offsets are shown, in brackets if they are copies.
 type Story = (&'static [Step], &'static str);
 
 const STORIES: &[Story] = &[
@@ -82,7 +82,7 @@ false: 0 7 100 199 200 255 | (0) (99) (100) (199) (200) (255) |
 100: 0 7 100 199 200 255 |
 ",
     ),
-    // ---- a part of a block that others have too is carved out, and comes back
+    // ---- a part of a shared block is carved out, and comes back
     (
         &[
             Again(0),
@@ -103,7 +103,7 @@ true: 0 99 100 199 - - | 0 99 100 199 200 255 | - - - - 1 255 |
 
 const SHOWN: [usize; 6] = [0, 99, 100, 199, 200, 255];
 
-/// A block that owns 256 offsets, each with its own number.
+/// Returns a block that owns 256 offsets, each with a different number.
 fn begun(rt: &impl Abort, alloc: Global) -> Block {
     let mut numbers = Vec::new(alloc);
     for number in 0..256 {
@@ -113,7 +113,7 @@ fn begun(rt: &impl Abort, alloc: Global) -> Block {
     Block::of_numbers(alloc, &numbers).expect(rt, "memory")
 }
 
-/// Does a step, and says how many numbers were copied or whether an offset was written.
+/// Carries out a step. Returns the number of copied numbers, or whether an offset was written.
 fn act(rt: &impl Abort, alloc: Global, step: Step, all: &mut Vec<Block>) -> String {
     match step {
         Carve(of, from, to) => {
@@ -155,7 +155,7 @@ fn act(rt: &impl Abort, alloc: Global, step: Step, all: &mut Vec<Block>) -> Stri
     String::new(alloc)
 }
 
-/// Shows what is held by a block.
+/// Appends what a block holds.
 fn show(rt: &impl Abort, block: &Block, text: &mut String) {
     for offset in SHOWN {
         match block.number(offset) {
@@ -169,7 +169,7 @@ fn show(rt: &impl Abort, block: &Block, text: &mut String) {
     text.push_str(" |").expect(rt, "memory");
 }
 
-/// Shows what was said of a step, and what is held by all then.
+/// Appends the result of a step, and then what all blocks hold.
 fn show_all(rt: &impl Abort, said: &str, all: &[Block], text: &mut String) {
     write!(text, "{said}:").expect(rt, "memory");
     for block in all {

@@ -9,7 +9,7 @@ use std::alloc::Global;
 use std::process::Abort;
 use types::input::Input;
 
-/// What is done to the holdings with a number. New ones come behind the others.
+/// A step on the holdings with a number. New ones come after the others.
 #[derive(Clone, Copy)]
 enum Step {
     /// The places of windows are carved out of them.
@@ -18,21 +18,21 @@ enum Step {
     Share(usize, &'static [Numbers]),
     /// A number is written at a place.
     Write(usize, usize, i64),
-    /// The last ones are pasted into them; where these refuse them, they stay.
+    /// The last ones are pasted into them. If that is rejected, the last ones stay.
     Paste(usize),
-    /// All places of an array that holds 10, 11, 12 and 13 come, owned.
+    /// All places of an array with the numbers 10, 11, 12 and 13 are added, owned.
     Begin,
 }
 
 use Step::{Begin, Carve, Paste, Share, Write};
 
-/// A step, how it is refused, and what is held then.
+/// A step, why it is rejected, and what is held then.
 type Row = (Step, &'static str, &'static str);
 
 const INNER: &[Numbers] = &[(0, 1, 2)];
 
-/// Steps in turn. Of each holdings the numbers at five places of the array and at the first of another
-/// array are shown.
+/// Steps in order. For each holdings the numbers at five places of the array and at the first of
+/// another array are shown.
 const STORIES: &[&[Row]] = &[
     // ---- carved and pasted
     &[
@@ -106,7 +106,7 @@ const STORIES: &[&[Row]] = &[
 
 const ARRAY: ArrayId = ArrayId { number: 0 };
 
-/// The places of such an array.
+/// Returns the places of such an array.
 fn four(rt: &impl Abort, alloc: Global) -> Holdings {
     let typed = typed(rt, alloc, "main { array a: int[4]; }");
     let input = Input::zeros(alloc, &typed).expect(rt, "memory");
@@ -117,7 +117,7 @@ fn four(rt: &impl Abort, alloc: Global) -> Holdings {
     own
 }
 
-/// Does a step.
+/// Carries out a step.
 fn act(
     rt: &impl Abort,
     alloc: Global,
@@ -152,7 +152,7 @@ fn act(
     Ok(())
 }
 
-/// Shows what is held at a place.
+/// Appends what is held at a place.
 fn show(rt: &impl Abort, holdings: &Holdings, array: ArrayId, index: usize, text: &mut String) {
     match holdings.read(array, index) {
         Ok(number) => write!(text, "{number} ").expect(rt, "memory"),
@@ -160,7 +160,7 @@ fn show(rt: &impl Abort, holdings: &Holdings, array: ArrayId, index: usize, text
     }
 }
 
-/// Shows what is held by all.
+/// Returns what all holdings hold.
 fn shown(rt: &impl Abort, alloc: Global, all: &[Holdings]) -> String {
     let mut text = String::new(alloc);
     for holdings in all {

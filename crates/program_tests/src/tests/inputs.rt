@@ -1,4 +1,4 @@
-//! What the arrays hold at first, by lists and by JSON; budgets, and names of scopes.
+//! Initial contents of arrays, from lists and from JSON; budgets, and names of scopes.
 
 use crate::tests::{compare, lists_of, typed};
 use std::alloc::Global;
@@ -20,7 +20,7 @@ const INT: &str = "main { array a: int[1]; }";
 
 const TWO: &str = "main { array b: byte[1]; array a: int[2]; }";
 
-/// Compares the lists of an input, or why there is none, with what is wanted.
+/// Compares the lists of an input, or the error, with the expected text.
 fn compare_lists(
     rt: &impl Abort,
     alloc: Global,
@@ -53,7 +53,7 @@ const LISTS: &[(&str, &[&[i64]], &str)] = &[
         &[&[-9_223_372_036_854_775_807]],
         "[[-9223372036854775807]]",
     ),
-    // ---- the first array at fault counts
+    // ---- the first wrong array counts
     (TWO, &[&[1], &[2, -3]], "[[1], [2, -3]]"),
     (TWO, &[&[256], &[2]], "N5 b"),
     (TWO, &[&[1], &[2]], "N4 a"),
@@ -81,19 +81,19 @@ const TEXTS: &[(&str, &str, &str)] = &[
     (BYTES, "{\"a\":[1,255]}", "[[1, 255]]"),
     (BYTES, " { \"a\" : [ 7 , 0 ] } ", "[[7, 0]]"),
     (NO_ARRAYS, "{}", "[]"),
-    // ---- no JSON, or no object
+    // ---- no JSON, or not an object
     (BYTE, "{", "N1"),
     (BYTE, "", "N1"),
     (BYTE, "{\"a\":[01]}", "N1"),
     (BYTE, "[]", "N2"),
     (BYTE, "[[1]]", "N2"),
     (BYTE, "1", "N2"),
-    // ---- members that name no array: the least name
+    // ---- members that name no array: the first name in order
     (BYTE, "{\"z\":[]}", "N3 z"),
     (BYTE, "{\"z\":[],\"b\":1}", "N3 b"),
     (BYTE, "{\"a\":[256],\"b\":1}", "N3 b"),
     (NO_ARRAYS, "{\"a\":[]}", "N3 a"),
-    // ---- no list, or one of another length
+    // ---- not a list, or one of another length
     (BYTE, "{\"a\":[1,2]}", "N4 a"),
     (BYTE, "{\"a\":[]}", "N4 a"),
     (BYTE, "{\"a\":1}", "N4 a"),
@@ -138,10 +138,10 @@ fn inputs_of_json(rt: HostRuntime) {
     }
 }
 
-/// Steps and nest that make a budget.
+/// Steps and nest of valid budgets.
 const BUDGETS: &[(u64, u64)] = &[(1, 0), (1_000_000_000, 1_000)];
 
-/// Steps and nest that make none.
+/// Steps and nest of invalid budgets.
 const NO_BUDGETS: &[(u64, u64)] = &[
     (0, 0),
     (1_000_000_001, 1_000),
@@ -150,7 +150,7 @@ const NO_BUDGETS: &[(u64, u64)] = &[
     (1, 4_294_967_296),
 ];
 
-/// Whether a budget has these numbers.
+/// Returns whether a budget has these numbers.
 fn has_numbers(budget: Budget, steps: u64, nest: u64) -> bool {
     u64::from(budget.steps) == steps && u64::from(budget.nest) == nest
 }

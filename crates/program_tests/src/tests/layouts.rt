@@ -1,4 +1,4 @@
-//! Texts laid out, and texts that are none of a program.
+//! Formatted texts, and texts that are not programs.
 
 use crate::tests::compare;
 use layout::laid_out;
@@ -6,7 +6,7 @@ use std::alloc::Global;
 use std::process::Abort;
 use syntax::parse;
 
-/// The name of a row, a text, and its layout.
+/// The name of a row, a text, and the formatted text.
 const TEXTS: &[(&str, &str, &str)] = &[
     ("nothing", "", ""),
     ("blanks", " \n\t\r\n", ""),
@@ -83,7 +83,7 @@ const TEXTS: &[(&str, &str, &str)] = &[
     ),
 ];
 
-/// A text that is no program, and why.
+/// A text that is not a program, and why.
 const REFUSED: &[(&str, &str)] = &[
     ("main { ! }", "S1 at 1:8"),
     ("main { skip }", "S2 at 1:13"),
@@ -91,7 +91,7 @@ const REFUSED: &[(&str, &str)] = &[
     ("// a\n}", "S2 at 2:1"),
 ];
 
-/// The layout of a text, or why it is no program.
+/// Returns the formatted text, or why it is not a program.
 fn told(rt: &impl Abort, alloc: Global, text: &str) -> String {
     match parse(alloc, text) {
         Ok(_program) => laid_out(alloc, text).expect(rt, "memory"),

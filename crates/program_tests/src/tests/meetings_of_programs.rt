@@ -6,7 +6,7 @@ use parallel_relation::meeting::Meeting;
 use parallel_relation::meetings::{meetings, meetings_at};
 use types::ids::ProcedureId;
 
-/// A callee's async goes on after the call.
+/// A callee's async continues after the call.
 const CALLED_WRITER: &str = "proc g(mut s: int) { async { s[0] = 1; } }
 main { array a: int[1]; finish { g(a); a[0] = 2; } }";
 
@@ -25,7 +25,7 @@ fn a_callees_async_meets_what_follows_the_call(rt: HostRuntime) {
     assert!(rt; store.is_empty());
 }
 
-/// Whether there is one meeting, of writes of the array of `main` at these labels.
+/// Returns whether there is one meeting, of writes of the array of `main` at these labels.
 fn is_of_writes(meetings: &[Meeting], one: u32, other: u32) -> bool {
     match meetings {
         [Meeting { first, second }] => {

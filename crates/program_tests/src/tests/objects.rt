@@ -1,4 +1,4 @@
-//! What commands answer as JSON.
+//! The answers of commands as JSON.
 
 use crate::tests::{lists_of, typed};
 use effects::summaries::summarize;
@@ -47,7 +47,7 @@ main {
 }
 ";
 
-/// Where its statements begin.
+/// Returns the positions at which its statements start.
 fn places_of(rt: &impl Abort, alloc: Global, text: &str) -> Vec<Place> {
     if text.len() > 1_048_576 {
         return Vec::new(alloc);
@@ -55,7 +55,7 @@ fn places_of(rt: &impl Abort, alloc: Global, text: &str) -> Vec<Place> {
     statement_places(alloc, text).expect(rt, "tokens")
 }
 
-/// The least and the largest number, a byte, two lines, and two faults.
+/// Returns an outcome with the minimum and the maximum number, a byte, two lines, and two faults.
 fn ended(rt: &impl Abort, alloc: Global) -> Outcome {
     let child = Path::root(alloc).child(ChildNumber::after(0));
     let first = Fault {
@@ -75,7 +75,7 @@ fn ended(rt: &impl Abort, alloc: Global) -> Outcome {
     }
 }
 
-/// Compares how an outcome of a program is told with what is wanted.
+/// Compares the object of an outcome of a program with the expected one.
 fn compare_outcome(
     rt: &impl Abort,
     alloc: Global,
@@ -173,7 +173,7 @@ fn races_are_told(rt: HostRuntime) {
     }
 }
 
-/// Compares how a failure is told with what is wanted.
+/// Compares the object of a failure with the expected one.
 fn compare_told(
     rt: &impl Abort,
     alloc: Global,

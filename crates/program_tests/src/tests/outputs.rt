@@ -13,16 +13,16 @@ use types::fault::{Fault, FaultKind};
 use types::outcome::Outcome;
 use types::path::Path;
 
-/// How a writer ends.
+/// The way in which a writer ends.
 #[derive(Clone, Copy)]
 enum End {
-    /// It answers an error.
+    /// It returns an error.
     Fails,
-    /// It takes nothing.
+    /// It accepts nothing.
     TakesNothing,
 }
 
-/// A writer that takes one byte a call, and ends after `left` calls.
+/// A writer that accepts one byte per call, and ends after `left` calls.
 #[derive(Drop)]
 struct Ending {
     left: usize,
@@ -48,7 +48,7 @@ impl io::Write for Ending {
     }
 }
 
-/// A fault of each kind, of the task `0.1.12`.
+/// A fault of each kind, in the task `0.1.12`.
 const KINDS: &[FaultKind] = &[
     FaultKind::Index,
     FaultKind::Overflow,
@@ -58,7 +58,7 @@ const KINDS: &[FaultKind] = &[
     FaultKind::Raised(-3),
 ];
 
-/// Faults of these kinds.
+/// Returns faults of these kinds.
 fn faults_of(rt: &impl Abort, alloc: Global, kinds: &[FaultKind]) -> Vec<Fault> {
     let mut faults = Vec::new(alloc);
     for kind in kinds {
@@ -76,7 +76,7 @@ fn faults_of(rt: &impl Abort, alloc: Global, kinds: &[FaultKind]) -> Vec<Fault> 
     faults
 }
 
-/// An ending with two lines, two arrays, and a fault of each kind.
+/// Returns an outcome with two lines, two arrays, and a fault of each kind.
 fn faulted(rt: &impl Abort, alloc: Global) -> Outcome {
     Outcome::Ended {
         arrays: lists_of(rt, alloc, &[&[255], &[-1, 0, 10]]),
@@ -85,7 +85,7 @@ fn faulted(rt: &impl Abort, alloc: Global) -> Outcome {
     }
 }
 
-/// The arrays `a` and `b_2`.
+/// Returns the arrays `a` and `b_2`.
 fn two_arrays(rt: &impl Abort, alloc: Global) -> Vec<Array> {
     let mut arrays = Vec::new(alloc);
     for (name, length) in [("a", 1), ("b_2", 3)] {
@@ -110,15 +110,15 @@ fault 0.1.12 at 65535: F5
 fault 0.1.12 at 65535: F6 -3
 ";
 
-/// What stands behind that of its arrays.
+/// The lines of its arrays, which follow.
 const ARRAYS: &str = "array a 255\narray b_2 -1 0 10\n";
 
-/// Its text with arrays.
+/// Returns its text with arrays.
 fn with_arrays(rt: &impl Abort, alloc: Global) -> String {
     format!(in alloc; "{FAULTED}{ARRAYS}").expect(rt, "memory")
 }
 
-/// Compares what is written of an outcome, and of the two arrays, with what is wanted.
+/// Compares the text that is written for an outcome, and for the two arrays, with the expected one.
 fn compare_written(rt: &impl Abort, alloc: Global, outcome: &Outcome, arrays: bool, want: &str) {
     let declared = two_arrays(rt, alloc);
     let mut out = Vec::new(alloc);

@@ -1,4 +1,5 @@
-//! Texts, read by `parse`: which are programs, where the others go wrong, and which are canonical.
+//! Texts, parsed by `parse`: which are programs, where the others are wrong, and which are
+//! canonical.
 
 use crate::tests::{RIGHT, compare, compare_refusal};
 use std::alloc::Global;
@@ -6,7 +7,7 @@ use std::process::Abort;
 use syntax::{format, parse};
 use syntax_tree::tree::{Program, Stmt};
 
-/// A text, and what `parse` says of it.
+/// A text, and the result of `parse`.
 const VERDICTS: &[(&str, &str)] = &[
     ("", RIGHT),
     ("main { }", RIGHT),
@@ -43,7 +44,7 @@ const VERDICTS: &[(&str, &str)] = &[
     ("main { skip; array a: int[8]; }", "S2 at 1:14"),
     ("main { } main { }", "S2 at 1:10"),
     ("skip;", "S2 at 1:1"),
-    // ---- each production, cut short or gone wrong
+    // ---- each production, cut short or wrong
     ("main { var x; }", "S2 at 1:13"),
     ("main { x; }", "S2 at 1:9"),
     ("main { x[1]; }", "S2 at 1:12"),
@@ -66,7 +67,7 @@ const VERDICTS: &[(&str, &str)] = &[
     ("main { x = 1 < 2 < 3; }", "S2 at 1:18"),
     ("main { x = rescue; }", "S2 at 1:12"),
     ("main { parts = 1; }", "S2 at 1:8"),
-    // ---- what comes before what
+    // ---- which error comes first
     ("main { x = 1 &&", "S1 at 1:14"),
     ("main } } } { ( !", "S1 at 1:16"),
     ("main { x = 99999999999999999999999999; ! }", "S3 at 1:12"),
@@ -80,7 +81,7 @@ fn texts_are_read_or_told_where_they_go_wrong(rt: HostRuntime) {
     }
 }
 
-/// How many bytes of a comment are a text.
+/// The number of bytes of a comment, and the result for it as a text.
 const LENGTHS: &[(usize, &str)] = &[(1_048_576, RIGHT), (1_048_577, "S5")];
 
 #[test]
@@ -93,7 +94,7 @@ fn the_longest_text_is_read_and_a_longer_one_is_not(rt: HostRuntime) {
     }
 }
 
-/// A text whose `main` begins with a `fault`, and whether its value is a lone atom.
+/// A text whose `main` starts with a `fault`, and whether its value is a lone atom.
 const FAULTS: &[(&str, bool)] = &[
     ("main { fault 1; }", true),
     ("main { fault a[1 + 1]; }", true),
@@ -107,7 +108,7 @@ const FAULTS: &[(&str, bool)] = &[
     ("main { fault a or b; }", false),
 ];
 
-/// Whether the value of the `fault` with which `main` begins is a lone atom.
+/// Returns whether the value of the `fault` with which `main` starts is a lone atom.
 fn is_lone_atom(program: &Program) -> Option<bool> {
     match program.main.as_ref()?.body.first()? {
         Stmt::Fault { value } => Some(value.as_atom().is_some()),

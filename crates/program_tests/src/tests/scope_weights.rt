@@ -1,4 +1,4 @@
-//! Weight that is divided, minted and given back.
+//! Weights that are divided, minted and given back.
 
 use crate::tests::compare;
 use std::alloc::Global;
@@ -8,7 +8,7 @@ use types::path::Path;
 use weights::book::{Back, Book};
 use weights::weight::Weight;
 
-/// A weight, its child's half and the rest; no half of what isn't divided.
+/// A weight, its child's half and the rest; no halves if it isn't divided.
 const HALVES: &[(u64, u64, u64)] = &[
     (1, 0, 1),
     (2, 1, 1),
@@ -20,13 +20,13 @@ const HALVES: &[(u64, u64, u64)] = &[
 /// No scope here has more entries.
 const MOST_ENTRIES: usize = 8;
 
-/// A scope that has issued so much at its opening.
+/// Returns a scope that has issued this much at its opening.
 fn opened(rt: &impl Abort, alloc: Global, units: u64) -> (Book, Weight) {
     assert!(rt; 1 <= units && units <= 4_294_967_296);
     Book::open(alloc, units)
 }
 
-/// The halves of a weight, which is lost.
+/// Returns the halves of a weight, which is forfeited.
 fn halves(weight: Weight) -> (u64, u64) {
     match weight.divide() {
         Ok((child, rest)) => {
@@ -51,7 +51,7 @@ fn weights_divide_in_halves_and_one_is_not_divided(rt: HostRuntime) {
     }
 }
 
-/// A child's weight and the rest, by more weight where there is too little.
+/// Returns a child's weight and the rest, after issuing more weight if there is too little.
 fn share(rt: &impl Abort, book: &mut Book, weight: Weight) -> (Weight, Weight) {
     let weight = match weight.divide() {
         Ok(parts) => return parts,
@@ -68,7 +68,8 @@ fn share(rt: &impl Abort, book: &mut Book, weight: Weight) -> (Weight, Weight) {
     }
 }
 
-/// Gives a weight back, from the child of this number, or from the owner for 0: whether all is back.
+/// Gives a weight back, from the child with this number, or from the owner for 0. Returns whether
+/// all is back.
 fn completes(rt: &impl Abort, alloc: Global, book: &mut Book, weight: Weight, child: u32) -> bool {
     let owner = Path::root(alloc);
     let path = match ChildNumber::new(child) {
@@ -79,8 +80,8 @@ fn completes(rt: &impl Abort, alloc: Global, book: &mut Book, weight: Weight, ch
     book.back(weight, &path) == Back::Complete
 }
 
-/// Shows a book: what came back from whom, how many times it has issued and how much, how much came back,
-/// and how much of that isn't listed.
+/// Returns the text of a book: what came back from whom, the number of issues and the amount
+/// issued, the amount that came back, and the part of that which isn't listed.
 fn shown(rt: &impl Abort, alloc: Global, book: &Book) -> String {
     let mut text = String::new(alloc);
     for number in 0..MOST_ENTRIES {
@@ -94,7 +95,8 @@ fn shown(rt: &impl Abort, alloc: Global, book: &Book) -> String {
     text
 }
 
-/// What a scope issues at a time, how many children it has, and its book at the end. Child 0 is the owner.
+/// The weight that a scope issues at a time, its number of children, and its book at the end. Child
+/// 0 is the owner.
 const SCOPES: &[(u64, u32, &str)] = &[
     (1, 0, "0 1, 1 1 1 0"),
     (1, 3, "0.1 1, 0.2 1, 0.3 1, 0 1, 4 4 4 0"),

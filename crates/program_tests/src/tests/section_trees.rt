@@ -8,10 +8,10 @@ use sections::window::Window;
 use std::alloc::Global;
 use std::process::Abort;
 
-/// Of two roots, 0 and 1, the sections that are split in turn, each with its left side and its right one.
+/// Splits of two roots, 0 and 1, in order: the section, its left side and its right side.
 const SPLITS: &[(usize, usize, usize)] = &[(0, 2, 3), (0, 4, 5), (2, 6, 7)];
 
-/// The two roots.
+/// Returns the two roots.
 fn roots(rt: &impl Abort, alloc: Global) -> SectionTree {
     let mut tree = SectionTree::new(alloc);
     let first = tree.root().expect(rt, "memory");
@@ -20,7 +20,7 @@ fn roots(rt: &impl Abort, alloc: Global) -> SectionTree {
     tree
 }
 
-/// Whether a section is split into sides of these numbers.
+/// Returns whether a section is split into sides with these numbers.
 fn is_split(rt: &impl Abort, tree: &mut SectionTree, split: (usize, usize, usize)) -> bool {
     let (number, want_left, want_right) = split;
     assert!(rt; number < tree.len());
@@ -28,7 +28,7 @@ fn is_split(rt: &impl Abort, tree: &mut SectionTree, split: (usize, usize, usize
     left.number == want_left && right.number == want_right
 }
 
-/// The two roots and all sides.
+/// Returns the two roots and all sides.
 fn tree(rt: &impl Abort, alloc: Global) -> SectionTree {
     let mut tree = roots(rt, alloc);
     for split in SPLITS {
@@ -83,7 +83,7 @@ fn sections_that_overlap(rt: HostRuntime) {
 /// A window: its array, its first place and its length.
 pub type Numbers = (usize, usize, usize);
 
-/// The window of these numbers.
+/// Returns the window with these numbers.
 fn window(rt: &impl Abort, (array, at, len): Numbers) -> Window {
     assert!(rt; at <= 100 && len <= 100);
     Window {
@@ -93,7 +93,7 @@ fn window(rt: &impl Abort, (array, at, len): Numbers) -> Window {
     }
 }
 
-/// The windows of these numbers.
+/// Returns the windows with these numbers.
 pub fn windows(rt: &impl Abort, alloc: Global, rows: &[Numbers]) -> Vec<Window> {
     let mut windows = Vec::new(alloc);
     for row in rows {
@@ -102,7 +102,7 @@ pub fn windows(rt: &impl Abort, alloc: Global, rows: &[Numbers]) -> Vec<Window> 
     windows
 }
 
-/// Whether windows have these numbers.
+/// Returns whether windows have these numbers.
 fn have_numbers(windows: &[Window], rows: &[Numbers]) -> bool {
     windows.len() == rows.len()
         && windows.iter().zip(rows).all(|(window, row)| (window.array.number, window.at, window.len)
@@ -115,7 +115,7 @@ const COVERS: &[(&[Numbers], &[Numbers], &[Numbers], &[Numbers])] = &[
     (&[], &[(0, 0, 4)], &[], &[]),
     (&[(0, 3, 0)], &[], &[], &[]),
     (&[(0, 9, 0), (0, 1, 1)], &[], &[(0, 1, 1)], &[(0, 1, 1)]),
-    // ---- windows that touch, overlap or stand inside one another
+    // ---- windows that touch, overlap or contain one another
     (
         &[(0, 2, 2), (0, 0, 2)],
         &[(0, 1, 2)],

@@ -1,7 +1,7 @@
-//! The typing rules, each by programs that keep it and programs that break it alone.
+//! The typing rules, each with programs that keep it and programs that break only it.
 //!
-//! Of a program that breaks no rule it is told that it is right; of one that breaks a rule its code is
-//! told, and the label where it is broken in a statement.
+//! The expected result of a program that breaks no rule is that it is right. For a program that
+//! breaks a rule it is the rule's code, and the label if it is broken in a statement.
 
 use crate::tests::{RIGHT, compare, compare_refusal};
 use std::alloc::Global;
@@ -9,7 +9,7 @@ use std::process::Abort;
 use syntax::parse;
 use types::check::type_check;
 
-/// A program, and what is told of it.
+/// A program, and the expected result.
 type Verdict = (&'static str, &'static str);
 
 /// Y1: names and procedures that aren't in scope.
@@ -117,7 +117,7 @@ const DECLARED: &[Verdict] = &[
     ),
 ];
 
-/// Y3: numbers, truth values and sections where another kind is wanted.
+/// Y3: numbers, booleans and sections where another kind is expected.
 const KINDS: &[Verdict] = &[
     ("main { if 1 < 2 and not true or false { } }", RIGHT),
     ("main { var x = (1 + 2) * -3; print x % 2; }", RIGHT),
@@ -145,7 +145,7 @@ const KINDS: &[Verdict] = &[
     ("proc f(n: int) { } main { f(true); }", "Y3 at label 1"),
 ];
 
-/// Y4: calls with other arguments than the parameters ask for.
+/// Y4: calls whose arguments don't match the parameters.
 const ARGUMENTS: &[Verdict] = &[
     ("proc f() { } main { f(); }", RIGHT),
     ("proc f(n: int, m: int) { } main { f(1, 2); }", RIGHT),
@@ -318,8 +318,8 @@ const MAIN: &[Verdict] = &[
     ("proc f() { f(); } proc g() { }", "Y8"),
 ];
 
-/// Compares what is told of a text with what is wanted: where it goes wrong, or which rule its program
-/// breaks.
+/// Compares the result for a text with the expected one: where it is wrong, or which rule its
+/// program breaks.
 fn compare_told(rt: &impl Abort, alloc: Global, row: &str, text: &str, want: &str) {
     match parse(alloc, text) {
         Ok(program) => compare_refusal(rt, alloc, row, type_check(alloc, program), want),
@@ -339,7 +339,7 @@ fn a_program_keeps_the_rules_or_is_told_which_it_breaks(rt: HostRuntime) {
     }
 }
 
-/// Y9: a text with `count` times a part, in which `#` is the number of the part.
+/// Y9: a text with a part repeated `count` times, in which `#` is the number of the repetition.
 #[derive(Clone, Copy)]
 struct Many {
     head: &'static str,
@@ -350,7 +350,7 @@ struct Many {
     want: &'static str,
 }
 
-/// Each limit met, and passed by one.
+/// Each limit, met once, and exceeded by one.
 const LIMITS: &[Many] = &[
     Many {
         head: "main { ",
@@ -434,7 +434,7 @@ const LIMITS: &[Many] = &[
     },
 ];
 
-/// The text of a row.
+/// Returns the text of a row.
 fn text_of(rt: &impl Abort, alloc: Global, row: &Many) -> String {
     let mut text = String::from_str(alloc, row.head).expect(rt, "memory");
     for number in 0..row.count {

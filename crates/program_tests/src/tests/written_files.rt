@@ -9,7 +9,7 @@ use std::rt::HostRuntime;
 
 const NAME: &str = "program_tests.written";
 
-/// What is written, one after the other, to the same file.
+/// The texts that are written, one after the other, to the same file.
 const TEXTS: &[&str] = &["", "0123456789\n", "shorter\n", "not cut\0short", "\u{e4}"];
 
 #[test]
@@ -29,7 +29,7 @@ fn what_was_written_is_read(rt: HostRuntime) {
     let _ = fs::remove_file(&rt, NAME);
 }
 
-/// What a file holds behind the writing of a text.
+/// Returns how a file's contents compare with a text that was written.
 fn kept<F: FileSource>(alloc: Global, files: &mut F, text: &str) -> &'static str {
     match write_file(alloc, files, NAME, text.as_bytes()) {
         Ok(()) => {}
@@ -38,7 +38,7 @@ fn kept<F: FileSource>(alloc: Global, files: &mut F, text: &str) -> &'static str
     read(alloc, files, NAME, text)
 }
 
-/// What a file holds.
+/// Returns how a file's contents compare with a text.
 fn read<F: FileSource>(alloc: Global, files: &mut F, name: &str, text: &str) -> &'static str {
     match read_file(alloc, files, name) {
         Ok(bytes) => compared(&bytes, text),
@@ -46,7 +46,7 @@ fn read<F: FileSource>(alloc: Global, files: &mut F, name: &str, text: &str) -> 
     }
 }
 
-/// What was read, beside what was written.
+/// Returns how bytes that were read compare with a text.
 fn compared(bytes: &[u8], text: &str) -> &'static str {
     if bytes == text.as_bytes() {
         "as it was written"
@@ -105,7 +105,7 @@ fn what_cannot_be_written(rt: HostRuntime) {
     }
 }
 
-/// The failure of writing to a name.
+/// Returns the failure of writing to a name.
 fn refused<F: FileSource>(rt: &impl Abort, alloc: Global, files: &mut F, name: &str) -> String {
     let failure = match write_file(alloc, files, name, b"text") {
         Ok(()) => return String::new(alloc),

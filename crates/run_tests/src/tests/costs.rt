@@ -1,4 +1,5 @@
-//! What runs cost: numbers that are known from what the programs do, and those of the same programs' traces.
+//! Costs of runs: numbers that are known from what the programs do, and those of the same programs'
+//! traces.
 
 use crate::tests::numbers::{DOUBLING, OUTLIVED, walked};
 use crate::tests::{accepted, compare};
@@ -11,7 +12,7 @@ use types::budget::Budget;
 use types::input::Input;
 use types::outcome::Outcome;
 
-/// Tasks of an inner finish are waited for there, and the one of the outer finish at its end.
+/// The tasks of an inner finish are waited for there, and the one of the outer finish at its end.
 const NESTED: &str = "main {
   finish {
     async { skip; skip; skip; skip; }
@@ -20,13 +21,13 @@ const NESTED: &str = "main {
   }
 }";
 
-/// Turns of a loop, one behind the other, and a task for each, all at once.
+/// Iterations of a loop, one after the other, and a task for each, all in parallel.
 const TURNS: &str = "main {
   var i = 0;
   while i < 3 { async { skip; } i = i + 1; }
 }";
 
-/// Programs, and what their runs on zeros cost.
+/// Programs, and the costs of their runs on zeros.
 const ROWS: [(&str, &str); 6] = [
     (
         "main { }",
@@ -54,7 +55,7 @@ const ROWS: [(&str, &str); 6] = [
     ),
 ];
 
-/// A run of a program on zeros.
+/// Runs a program on zeros.
 fn run(rt: &impl Abort, alloc: Global, program: &Accepted, budget: Budget) -> Costed {
     let input = Input::zeros(alloc, program.typed()).expect(rt, "memory");
     measure(alloc, program.typed(), &input, budget).expect(rt, "memory")

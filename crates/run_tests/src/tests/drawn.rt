@@ -9,7 +9,7 @@ use trace_spans::chrome::spans;
 use trace_text::header::Header;
 use trace_text::read::read_lines;
 
-/// What two workers do over the program of two arrays.
+/// What two workers do in the program with two arrays.
 const TWO_WORKERS: &str = "{\"format\":1,\"nest\":100,\"steps\":1000000,\"w0\":8,\"workers\":2}
 {\"e\":\"take\",\"path\":\"0\",\"worker\":0}
 {\"e\":\"open\",\"path\":\"0\"}
@@ -27,7 +27,7 @@ const TWO_WORKERS: &str = "{\"format\":1,\"nest\":100,\"steps\":1000000,\"w0\":8
 {\"e\":\"pass\",\"number\":0,\"owner\":\"0\"}
 ";
 
-/// Lines of its picture, each of which the description of the picture asks for.
+/// Lines of its picture, each of which the description of the picture requires.
 const LINES_OF_ITS_PICTURE: &[&str] = &[
     "<text class=\"heading\" x=\"96\" y=\"24\">a &lt;b&gt; &amp; &quot;c&quot;</text>\n",
     "2 workers · 14 events · 2 tasks · 2 finish scopes · 1 steal · work 5 steps · span 4 steps · parallelism 1.25<",
@@ -44,8 +44,8 @@ const LINES_OF_ITS_PICTURE: &[&str] = &[
     "</svg>\n",
 ];
 
-/// Lines that no run makes: tasks that are taken twice or never, ends of nothing, workers that the run
-/// doesn't have.
+/// Lines that no run produces: tasks that are taken twice or never, ends of nothing, workers that
+/// the run doesn't have.
 const NO_RUN: &str = "{\"format\":1,\"nest\":100,\"steps\":1000000,\"w0\":8,\"workers\":2}
 {\"e\":\"end\",\"path\":\"0.7\"}
 {\"e\":\"spawn\",\"path\":\"0.7\"}
@@ -61,12 +61,13 @@ const NO_RUN: &str = "{\"format\":1,\"nest\":100,\"steps\":1000000,\"w0\":8,\"wo
 {\"e\":\"open\",\"path\":\"0\"}
 ";
 
-/// A trace, read.
+/// Parses a trace.
 fn trace(rt: &impl Abort, alloc: Global, text: &str) -> (Header, Vec<Event>) {
     read_lines(alloc, text).expect(rt, "a trace")
 }
 
-/// What the spans of a text are, in the order of the file: `0B0 0E8 1B4 ..` as worker, phase and time.
+/// Returns the spans of a text, in the order of the file: `0B0 0E8 1B4 ..` are worker, phase and
+/// time.
 fn told_spans(rt: &impl Abort, alloc: Global, text: &str) -> String {
     let value = Value::from_str(alloc, text).expect(rt, "JSON");
     let events = value
@@ -91,7 +92,7 @@ fn told_spans(rt: &impl Abort, alloc: Global, text: &str) -> String {
     told
 }
 
-/// Compares what the spans of events are with what is wanted.
+/// Compares the spans of events with the expected ones.
 fn compare_spans(rt: &impl Abort, alloc: Global, events: &[Event], want: &str) {
     let text = spans(alloc, events).expect(rt, "memory");
     let told = told_spans(rt, alloc, text.as_str());
@@ -108,7 +109,7 @@ fn a_picture_has_its_bars_arrows_and_brackets(rt: HostRuntime) {
     }
 }
 
-/// How many rectangles of a class a picture has.
+/// Returns the number of rectangles of a class in a picture.
 fn rectangles(picture: &str, class: &str) -> usize {
     picture.matches(class).count()
 }

@@ -1,5 +1,4 @@
-//! Runs under a log: what the workers did is legal, stands in an order that it may have had, and is told
-//! by numbers.
+//! Logged runs: what the workers did is legal, in a possible order, and has the right numbers.
 
 ghost use Rattle.types.specs.Contents.{FitsArrays};
 ghost use Rattle.types.specs.Translation.{input as lists_in};
@@ -33,17 +32,17 @@ const MANY: &str =
 const TEN_THOUSAND: &str =
     "main { var k = 0; finish { while k < 10000 { async { skip; } k = k + 1; } } }";
 
-/// A task whose child may end behind it.
+/// A task whose child may finish after it.
 const OUTLIVED: &str = "main { finish { async { async { skip; } } } }";
 
-/// A program, a task that is held, and the one for which it waits.
+/// A program, a task that is held, and the task that it waits for.
 const ROWS: [(&str, Turns, Turns); 3] = [
     (TWO_TASKS, &[1], &[2]),
     (TWO_TASKS, &[2], &[1]),
     (OUTLIVED, &[1, 1], &[1]),
 ];
 
-/// A run under a log, which comes to an outcome.
+/// Returns the outcome and the log of a run.
 fn logged<'p>(
     rt: &(impl Abort + Threads + Wait + Sync),
     alloc: Global,
@@ -57,12 +56,12 @@ fn logged<'p>(
     run_logged(rt, alloc, program, input, settings, gate).expect(rt, "an outcome")
 }
 
-/// Settings of so many workers.
+/// Returns settings with this number of workers.
 fn settings(rt: &impl Abort, budget: Budget, w0: u64, workers: u64) -> Settings {
     Settings::new(budget, 65_536, w0, workers).expect(rt, "settings")
 }
 
-/// A path's scope of this number.
+/// Returns a path's scope with this number.
 fn scope(rt: &impl Abort, alloc: Global, owner: Turns, number: u32) -> ScopeId {
     ScopeId {
         owner: path(rt, alloc, owner),
@@ -70,7 +69,7 @@ fn scope(rt: &impl Abort, alloc: Global, owner: Turns, number: u32) -> ScopeId {
     }
 }
 
-/// Where an event stands for the first time.
+/// Returns the first position of an event.
 fn place_of(rt: &impl Abort, events: &[Event], event: &Event) -> usize {
     events
         .iter()
@@ -107,8 +106,8 @@ fn what_workers_do_is_legal(rt: HostRuntime) {
     }
 }
 
-/// Where the ends of two tasks stand in a run of two workers, the first of which is held until the other
-/// has left.
+/// Returns the positions of the ends of two tasks in a run of two workers. The first task is held
+/// until the other has left.
 fn ends(
     rt: &(impl Abort + Threads + Wait + Sync),
     alloc: Global,
@@ -143,7 +142,8 @@ fn a_gate_shows_in_the_order_of_events(rt: HostRuntime) {
     }
 }
 
-/// What the scope of a finish with 10,000 tasks has issued and got back, and how often it was asked for more.
+/// Returns what the scope of a finish with 10,000 tasks has issued and got back, and the number of
+/// its replenishments.
 fn book_of_many(
     rt: &(impl Abort + Threads + Wait + Sync),
     alloc: Global,

@@ -1,4 +1,4 @@
-//! Numbers of runs: steps and span are those that are known, on any number of workers.
+//! Numbers of runs: steps and span are the known ones, on any number of workers.
 
 use crate::tests::worlds::{HALVES, NESTED};
 use crate::tests::{FAULTS, accepted, compare};
@@ -27,7 +27,7 @@ pub const DOUBLING: &str = "proc twice(mut s: int) {
 }
 main { array a: int[8]; finish { twice(a); } }";
 
-/// What is told of it where one worker does all.
+/// Its numbers if one worker does everything.
 const DONE_BY_ONE: &str = "tasks: 8
 steps: 61
 span: 17
@@ -39,10 +39,10 @@ most tasks alive: 4
 steps of worker 0: 61
 ";
 
-/// A task whose child may end behind it, and what comes behind a finish within a finish.
+/// A task whose child may finish after it, and a statement after a finish within a finish.
 pub const OUTLIVED: &str = "main { finish { async { async { skip; skip; skip; } } skip; } skip; }";
 
-/// Programs, and the first lines of what is told of their runs.
+/// Programs, and the first lines of the numbers of their runs.
 const ROWS: [(&str, &str); 4] = [
     ("main { }", "tasks: 1\nsteps: 0\nspan: 0\nparallelism: -\n"),
     (
@@ -56,10 +56,10 @@ const ROWS: [(&str, &str); 4] = [
     ),
 ];
 
-/// Programs all of whose runs end within 60 steps a task.
+/// Programs whose runs all end within 60 steps per task.
 const ENDING: [&str; 4] = [DOUBLING, FAULTS, HALVES, NESTED];
 
-/// What is told of a run on zeros.
+/// Returns the numbers of a run on zeros.
 fn told(
     rt: &(impl Abort + Threads + Wait + Sync),
     alloc: Global,
@@ -96,7 +96,7 @@ fn one_worker_does_all(rt: HostRuntime) {
     compare(&rt, alloc, DOUBLING, told.as_str(), DONE_BY_ONE);
 }
 
-/// The numbers of a list of events that a run on zeros may have, drawn from a seed on.
+/// Returns the numbers of a random list of events that a run on zeros can have, drawn with a seed.
 pub fn walked(
     rt: &impl Abort,
     alloc: Global,

@@ -1,4 +1,4 @@
-//! What tasks leave, on however many workers: the same as on one thread.
+//! Outcomes of parallel runs: the same as on one thread, on any number of workers.
 
 use crate::tests::{FAULTS, TWO_ARRAYS, accepted, compare, one_thread_outcome};
 use types::budget::Budget;
@@ -13,7 +13,7 @@ const READERS: &str = "main { array a: byte[2]; a[1] = 4;
 const OWNER: &str = "main { array a: int[1]; array b: int[1];
   async { finish { async { a[0] = 1; } } print a[0]; async { b[0] = 2; } } print 9; }";
 
-/// Doubles each element, half by half, each left half as a task.
+/// Doubles each element, half by half, each left half in a task.
 const DOUBLING: &str = "proc twice(mut s: int) {
   if len(s) <= 1 {
     if len(s) == 1 { s[0] = s[0] * 2; }
@@ -30,7 +30,8 @@ main { array a: int[1024]; finish { twice(a); } }";
 const MANY: &str = "main { var k = 0;
   finish { while k < 80 { async { print k; async { print k + 100; } } k = k + 1; } } print k; }";
 
-/// A program, the steps and the nest of its budget, and its outcome on zeros; nothing where that is long.
+/// A program, the steps and the nest of its budget, and its outcome on zeros; empty if that is
+/// long.
 const ROWS: &[(&str, u64, u64, &str)] = &[
     (
         "main { }",
@@ -70,7 +71,7 @@ const ROWS: &[(&str, u64, u64, &str)] = &[
     ),
     (DOUBLING, 1_000_000, 100, ""),
     (MANY, 1_000_000, 100, ""),
-    // ---- a budget that is met, or passed by one
+    // ---- a budget that is met, or exceeded by one
     (
         TWO_ARRAYS,
         4,

@@ -1,4 +1,4 @@
-//! Lines that tell how far a run has come.
+//! Lines that report the progress of a run.
 
 use statement_steps::watch::Watch;
 use std::cell::Cell;
@@ -6,7 +6,7 @@ use std::io;
 use std::time::{Clock, Duration};
 use texts::progress::Progress;
 
-/// A clock that goes on by 200 ms each time that it is read.
+/// A clock that advances by 200 ms each time that it is read.
 #[derive(Drop)]
 struct Ticks {
     read: Cell<u64>,

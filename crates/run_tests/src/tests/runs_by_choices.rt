@@ -1,4 +1,4 @@
-//! What is told of runs over one shared store, by given choices.
+//! Results of runs over one shared store, by given choices.
 
 use crate::tests::{TWO_ARRAYS, accepted, compare};
 use step_trees::explore::explore;
@@ -11,7 +11,7 @@ const SCALAR: &str = "main { var x = 0; finish { x = 1; } print x; }";
 
 const SEVEN_EIGHT: &str = "Ended(Ended { arrays: [[7], [8]], lines: [[7, 8]], faults: [] })";
 
-/// A program, choices, and what is told.
+/// A program, choices, and the result.
 const ROWS: &[(&str, &[u32], &str)] = &[
     (TWO_ARRAYS, &[0, 0, 0, 0, 0], SEVEN_EIGHT),
     (TWO_ARRAYS, &[0, 0, 1, 0, 0], SEVEN_EIGHT),

@@ -1,5 +1,5 @@
-//! Results put together by path, also where one is missing or too many come, or owns other places than are
-//! listed for it.
+//! Results that are combined by path, including cases in which one is missing, too many come, or
+//! one owns other places than are listed for it.
 
 use crate::tests::{accepted, compare, path};
 use gather::settle::settle;
@@ -14,11 +14,11 @@ use types::code::Label;
 use types::fault::{Fault, FaultKind};
 use types::input::Input;
 
-/// A task of a program with no array: its path, and the paths of those that it began. It ends with a
+/// A task of a program with no array: its path, and the paths of its children. It ends with a
 /// fault, whose number is that of its label.
 type Task = (&'static [u32], Label, &'static [&'static [u32]]);
 
-/// What its parent knows of a task that told nothing before it.
+/// Returns what a parent knows of a child, if the parent has no lines and faults before it.
 fn listed(rt: &impl Abort, alloc: Global, turns: &[u32], windows: Vec<Window>) -> Listed {
     Listed {
         path: path(rt, alloc, turns),
@@ -28,7 +28,7 @@ fn listed(rt: &impl Abort, alloc: Global, turns: &[u32], windows: Vec<Window>) -
     }
 }
 
-/// What such a task hands on.
+/// Returns the result of such a task.
 fn result_of(rt: &impl Abort, alloc: Global, task: Task) -> TaskResult {
     let (turns, label, begun) = task;
     let mut children = Vec::new(alloc);
@@ -51,7 +51,7 @@ fn result_of(rt: &impl Abort, alloc: Global, task: Task) -> TaskResult {
     }
 }
 
-/// What such tasks hand on.
+/// Returns the results of such tasks.
 fn results_of(rt: &impl Abort, alloc: Global, tasks: &[Task]) -> Vec<TaskResult> {
     let mut results = Vec::new(alloc);
     for task in tasks {
@@ -61,26 +61,26 @@ fn results_of(rt: &impl Abort, alloc: Global, tasks: &[Task]) -> Vec<TaskResult>
     results
 }
 
-/// The labels of faults.
+/// Returns the labels of faults.
 fn labels_of(rt: &impl Abort, alloc: Global, faults: &[Fault]) -> Vec<Label> {
     let labels = faults.iter().map(|fault| fault.label).collect(alloc);
     labels.expect(rt, "memory")
 }
 
-/// The root began 0.1 and 0.2, and told of its fault behind both.
+/// The root spawned 0.1 and 0.2, and its fault came after both.
 const ROOT: Task = (&[], 7, &[&[1], &[2]]);
 
 const FIRST: Task = (&[1], 3, &[]);
 
 const SECOND: Task = (&[2], 5, &[]);
 
-/// 0.2 with a task of its own, which it hadn't waited for.
+/// 0.2 with a child, which it hadn't waited for.
 const SECOND_WITH_CHILD: Task = (&[2], 5, &[&[2, 1]]);
 
 const CHILD: Task = (&[2, 1], 9, &[]);
 
-/// Results that come for the root, and the labels of the faults in their order, or why they don't make a
-/// whole.
+/// Results that come for the root, and the labels of the faults in their order, or why the results
+/// are inconsistent.
 const ROWS: &[(&str, &[Task], &str)] = &[
     ("both in turn", &[FIRST, SECOND], "[3, 5, 7]"),
     ("the second first", &[SECOND, FIRST], "[3, 5, 7]"),
@@ -93,7 +93,7 @@ const ROWS: &[(&str, &[Task], &str)] = &[
         "G2 0.1",
     ),
     ("the first twice", &[SECOND, FIRST, FIRST], "G2 0.1"),
-    // 0.2 had gathered 0.2.1 in a finish of its own.
+    // 0.2 had gathered 0.2.1 in a finish.
     (
         "one that nobody listed",
         &[FIRST, CHILD, SECOND],
@@ -127,12 +127,12 @@ fn results_settle_by_path(rt: HostRuntime) {
     }
 }
 
-/// Elements of an array of four: from which on, and how many.
+/// Elements of an array of four: the first one, and their number.
 type Places = &'static [(usize, usize)];
 
-/// A task of a program with such an array: its path, the number that it has at all its elements, those
-/// that it owns, those of which it has copies, and the tasks that it began, each with what is listed for
-/// it. It tells nothing.
+/// A task of a program with such an array: its path, the number that it has at all its elements,
+/// those that it owns, those of which it has copies, and its children, each with what is listed for
+/// it. It has no lines and faults.
 type Holder = (
     &'static [u32],
     i64,
@@ -143,7 +143,7 @@ type Holder = (
 
 const ARRAY: ArrayId = ArrayId { number: 0 };
 
-/// The windows of elements.
+/// Returns the windows of elements.
 fn windows(rt: &impl Abort, alloc: Global, places: &[(usize, usize)]) -> Vec<Window> {
     let mut windows = Vec::new(alloc);
     for (at, len) in places {
@@ -159,7 +159,7 @@ fn windows(rt: &impl Abort, alloc: Global, places: &[(usize, usize)]) -> Vec<Win
     windows
 }
 
-/// All elements, with a number at each.
+/// Returns all elements, with a number at each.
 fn all_elements(rt: &(impl Abort + Threads + Sync), alloc: Global, number: i64) -> Holdings {
     let program = accepted(rt, alloc, "main { array a: int[4]; }");
     let input = Input::zeros(alloc, program.typed()).expect(rt, "memory");
@@ -170,7 +170,7 @@ fn all_elements(rt: &(impl Abort + Threads + Sync), alloc: Global, number: i64) 
     all
 }
 
-/// A number at elements that are owned, and at others of which there are copies.
+/// Returns a number at elements that are owned, and at others of which there are copies.
 fn holdings_of(
     rt: &(impl Abort + Threads + Sync),
     alloc: Global,
@@ -187,7 +187,7 @@ fn holdings_of(
     holdings
 }
 
-/// What such a task hands on.
+/// Returns the result of such a task.
 fn held_result(rt: &(impl Abort + Threads + Sync), alloc: Global, holder: Holder) -> TaskResult {
     let (turns, number, owned, copied, begun) = holder;
     let mut children = Vec::new(alloc);
@@ -205,7 +205,7 @@ fn held_result(rt: &(impl Abort + Threads + Sync), alloc: Global, holder: Holder
     }
 }
 
-/// What such tasks hand on.
+/// Returns the results of such tasks.
 fn held_results(
     rt: &(impl Abort + Threads + Sync),
     alloc: Global,
@@ -219,10 +219,10 @@ fn held_results(
     results
 }
 
-/// The root owns the last element, and has copies of the others. It began 0.1 with the first two.
+/// The root owns the last element, and has copies of the others. It spawned 0.1 with the first two.
 const OWNER: Holder = (&[], 9, &[(3, 1)], &[(0, 3)], &[(&[1], &[(0, 2)])]);
 
-/// It began 0.2 with the second one, too.
+/// It spawned 0.2 with the second one, too.
 const GIVER: Holder = (
     &[],
     9,
@@ -231,7 +231,8 @@ const GIVER: Holder = (
     &[(&[1], &[(0, 2)]), (&[2], &[(1, 1)])],
 );
 
-/// A root, the results that come for it, and the elements then, or why they don't make a whole.
+/// A root, the results that come for it, and the elements afterwards, or why the results are
+/// inconsistent.
 type HeldRow = (&'static str, Holder, &'static [Holder], &'static str);
 
 const HELD_ROWS: &[HeldRow] = &[

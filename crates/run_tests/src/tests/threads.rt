@@ -1,4 +1,4 @@
-//! Workers: several work at once, each task passes the gate once, and a scope that is held stops no other.
+//! Workers: several work at once, each task passes the gate once, and a held scope stops no other.
 
 use crate::tests::{accepted, compare};
 use finish_scope::inner::{Inner, Scope};
@@ -17,7 +17,7 @@ use workers::gate::{Gate, NoGate};
 use workers::run::run;
 use workers::settings::Settings;
 
-/// How often somebody who waits for another looks, at most.
+/// The maximum number of looks of a task that waits for another.
 const TURNS: u32 = 1_000_000;
 
 const MANY_TASKS: &str =
@@ -28,11 +28,11 @@ pub(crate) const TWO_TASKS: &str = "main { finish { async { skip; } async { skip
 /// The turns of a task's path.
 pub(crate) type Turns = &'static [u32];
 
-/// A task that is held, and the one that it waits for: one worker alone would run both in one of the two
-/// orders.
+/// A task that is held, and the one that it waits for. One worker alone would run both, in one of
+/// the two orders.
 pub(crate) const HELD: [(Turns, Turns); 2] = [(&[1], &[2]), (&[2], &[1])];
 
-/// Holds one task until another one has left.
+/// A gate that holds one task until another one has left.
 #[derive(Drop)]
 pub(crate) struct Holding {
     held: Turns,
@@ -42,7 +42,7 @@ pub(crate) struct Holding {
 }
 
 impl Holding {
-    /// Holds the one until the other has left.
+    /// Returns a gate that holds the one until the other has left.
     pub(crate) fn new(held: Turns, awaited: Turns) -> Holding {
         Holding {
             held,
@@ -52,7 +52,7 @@ impl Holding {
         }
     }
 
-    /// Whether it waited in vain.
+    /// Returns whether it waited without success.
     pub(crate) fn gave_up(&self) -> bool {
         self.gave_up.load(Ordering::SeqCst)
     }
@@ -76,7 +76,7 @@ impl Gate for Holding {
     }
 }
 
-/// Whether a path has these turns.
+/// Returns whether a path has these turns.
 fn is_at(path: &Path, turns: Turns) -> bool {
     path.turns.len() == turns.len()
         && path
@@ -86,7 +86,7 @@ fn is_at(path: &Path, turns: Turns) -> bool {
             .all(|(turn, number)| turn.get() == *number)
 }
 
-/// Counts who goes through.
+/// A gate that counts the tasks that pass.
 #[derive(Drop)]
 struct Counting {
     entered: AtomicU32,
@@ -107,7 +107,7 @@ impl Gate for Counting {
     }
 }
 
-/// Whether a flag was set before the last look.
+/// Returns whether a flag was set before the last look.
 fn waited_for(flag: &AtomicBool) -> bool {
     for _ in 0..TURNS {
         if flag.load(Ordering::SeqCst) {
@@ -118,7 +118,7 @@ fn waited_for(flag: &AtomicBool) -> bool {
     false
 }
 
-/// The outcome of a program on zeros, or the code of the error.
+/// Returns the outcome of a program on zeros, or the code of the error.
 fn told(
     rt: &(impl Abort + Threads + Wait + Sync),
     alloc: Global,
@@ -135,7 +135,7 @@ fn told(
     said.expect(rt, "memory")
 }
 
-/// Settings with a usual budget.
+/// Returns settings with a default budget.
 fn settings(rt: &impl Abort, tasks: u64, w0: u64, workers: u64) -> Settings {
     Settings::new(Budget::usual(), tasks, w0, workers).expect(rt, "settings")
 }

@@ -1,4 +1,4 @@
-//! Texts of traces that are read, and texts that aren't.
+//! Texts of traces, and texts that are not traces.
 
 use std::alloc::Global;
 use std::process::Abort;
@@ -7,7 +7,7 @@ use trace_text::read::read_lines;
 use trace_text::table::view;
 use trace_text::write::write_lines;
 
-/// What one worker does over the program of two arrays, with weight 8.
+/// What one worker does in the program with two arrays, with weight 8.
 const LINES: &str = "{\"format\":1,\"nest\":100,\"steps\":1000000,\"w0\":8,\"workers\":1}
 {\"e\":\"take\",\"path\":\"0\",\"worker\":0}
 {\"e\":\"open\",\"path\":\"0\"}
@@ -41,7 +41,7 @@ const TABLE: &str = "       0 take       0    0
 
 const HEADER: &str = "{\"format\":1,\"nest\":100,\"steps\":1000000,\"w0\":8,\"workers\":1}\n";
 
-/// Lines behind a header, and the first of them, from 2, that is none.
+/// Lines after a header, and the number of the first wrong one, counted from 2.
 const BAD_EVENTS: &[(&str, usize)] = &[
     ("\n", 2),
     ("{}\n", 2),
@@ -79,7 +79,7 @@ const BAD_EVENTS: &[(&str, usize)] = &[
     ),
 ];
 
-/// Texts whose first line is no header.
+/// Texts whose first line is not a header.
 const BAD_HEADERS: &[&str] = &[
     "",
     "\n",
@@ -106,7 +106,7 @@ const WIDEST: &[&str] = &[
     "{\"e\":\"pass\",\"number\":0,\"owner\":\"0.10\"}\n",
 ];
 
-/// What a text is read as: the same text again, or what is wrong with it.
+/// Returns the formatted trace of a text, or what is wrong with the text.
 fn told(rt: &impl Abort, alloc: Global, text: &str) -> String {
     match read_lines(alloc, text) {
         Ok((header, events)) => write_lines(alloc, &header, &events).expect(rt, "memory"),

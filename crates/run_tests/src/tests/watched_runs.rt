@@ -1,4 +1,4 @@
-//! Runs that somebody looks at.
+//! Runs with a watch.
 
 use crate::tests::{accepted, compare};
 use serial_run::serial_watched;
@@ -6,7 +6,7 @@ use statement_steps::watch::Watch;
 use types::budget::Budget;
 use types::input::Input;
 
-/// Keeps what it is told.
+/// A watch that stores its notifications.
 #[derive(Drop)]
 struct Seen {
     steps: Vec<u64>,
@@ -24,16 +24,18 @@ impl Watch for Seen {
     ghost told_more = { λ _ _ _ _ _ _ _. tt };
 }
 
-/// A loop of two steps a turn.
+/// A loop with two steps per iteration.
 const COUNTING: &str = "main { var i = 0; while i < 1000000 { i = i + 1; } }";
 
-/// A loop with a finish and an async in each turn.
+/// A loop with a finish and an async in each iteration.
 const FINISHING: &str =
     "main { var i = 0; while i < 40000 { finish { async { skip; } } i = i + 1; } }";
 
-/// A look comes at the end, and behind 16 turns of the machine, where 65,536 steps are done since the last
-/// one. A loop of two steps a turn is left at its own end, behind 65,537 steps, and goes on by one more.
-/// In the other five steps are done in four turns of the machine: the finish begins, the async begins, its
+/// The watch is notified at the end, and after every 16 turns of the machine if 65,536 steps were
+/// taken since the last time. A loop with two steps per iteration is left at the end of an
+/// iteration, after 65,537 steps, and continues with one more step. In the other program five steps
+/// take four turns of the machine: the finish starts, the async starts, its body ends, and the
+/// finish ends.
 /// body ends, and the finish ends.
 const ROWS: &[(&str, &str)] = &[
     (COUNTING, "[1048608, 2000002]"),

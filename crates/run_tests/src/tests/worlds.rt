@@ -1,4 +1,4 @@
-//! Worlds that lists of events lead to, and walks at random.
+//! Worlds that lists of events lead to, and random walks.
 
 use crate::tests::{FAULTS, TWO_ARRAYS, accepted, compare, one_thread_outcome, path};
 use events::event::Event;
@@ -18,7 +18,7 @@ use types::scope_id::ScopeId;
 /// The turns of a task's path.
 type Turns = &'static [u32];
 
-/// What happens to a task, or to its scope of this number.
+/// What happens to a task, or to its scope with this number.
 #[derive(Clone, Copy)]
 enum Happens {
     Take(u32),
@@ -38,7 +38,7 @@ use Happens::{End, Open, Park, Pass, Replenish, Resume, Spawn, Steal, Step, Take
 /// What happens, and the path of its task.
 type Of = (Happens, Turns);
 
-/// The event of what happens.
+/// Returns the event of what happens.
 fn event(rt: &impl Abort, happens: Happens, path: Path) -> Event {
     match happens {
         Take(number) => Event::Take {
@@ -69,12 +69,12 @@ fn event(rt: &impl Abort, happens: Happens, path: Path) -> Event {
     }
 }
 
-/// A worker of a row.
+/// Returns a worker of a row.
 fn worker(rt: &impl Abort, number: u32) -> WorkerId {
     WorkerId::new(number).expect(rt, "a worker")
 }
 
-/// The events of several pieces of a row.
+/// Returns the events of several pieces of a row.
 fn events(rt: &impl Abort, alloc: Global, pieces: &[&[Of]]) -> Vec<Event> {
     let mut events = Vec::new(alloc);
     for piece in pieces {
@@ -96,10 +96,11 @@ const THIRD: Turns = &[3];
 
 const FOURTH: Turns = &[4];
 
-/// One worker over the two arrays, up to the spawn of the task that writes the first.
+/// One worker in the program with two arrays, up to the spawn of the task that writes the first
+/// array.
 const BEGIN: &[Of] = &[(Take(0), ROOT), (Open, ROOT), (Spawn, ROOT)];
 
-/// The root and then the task go on in the first worker's hand, and the finish ends.
+/// First the root and then the task continue in the first worker's hand, and the finish ends.
 const GO_ON: &[Of] = &[
     (Step, ROOT),
     (Park, ROOT),
@@ -110,7 +111,7 @@ const GO_ON: &[Of] = &[
     (Resume(0), ROOT),
 ];
 
-/// Behind the finish.
+/// After the finish.
 const END: &[Of] = &[(Step, ROOT), (Park, ROOT), (Pass(0), ROOT)];
 
 const THREE: &str = "main { finish { async { skip; } async { skip; } async { skip; } } }";
@@ -130,7 +131,7 @@ const SPAWN_THREE: &[Of] = &[
     (Spawn, ROOT),
 ];
 
-/// With weight 8 the fourth does, where the first has begun.
+/// With weight 8 the fourth does, if the first has been spawned.
 const SPAWN_MORE: &[Of] = &[
     (Spawn, ROOT),
     (Spawn, ROOT),
@@ -138,7 +139,7 @@ const SPAWN_MORE: &[Of] = &[
     (Spawn, ROOT),
 ];
 
-/// The parent waits, and its tasks end behind it.
+/// The parent waits, and its tasks finish after it.
 const PARK: &[Of] = &[(Park, ROOT)];
 
 const END_FIRST: &[Of] = &[(Take(0), FIRST), (Step, FIRST), (End, FIRST)];
@@ -151,8 +152,8 @@ const END_FOURTH: &[Of] = &[(Take(0), FOURTH), (Step, FOURTH), (End, FOURTH)];
 
 const PASS_FIRST: &[Of] = &[(Pass(1), ROOT)];
 
-/// A program on zeros, the weight that a scope issues at a time, events in pieces, and what is told behind
-/// them: the book of the root's first finish and the printed lines, or which event isn't legal.
+/// A program on zeros, the weight that a scope issues at a time, events in pieces, and the result:
+/// the book of the root's first finish and the printed lines, or which event isn't legal.
 type Row = (&'static str, u64, &'static [&'static [Of]], &'static str);
 
 const ROWS: &[Row] = &[
@@ -226,7 +227,8 @@ const ROWS: &[Row] = &[
     ),
 ];
 
-/// What is told behind the events of a row: the book of the root's first finish, and the printed lines.
+/// Returns the result after the events of a row: the book of the root's first finish, and the
+/// printed lines.
 fn told(rt: &(impl Abort + Threads + Sync), alloc: Global, row: Row) -> String {
     let (text, w0, pieces, _) = row;
     let program = accepted(rt, alloc, text);
@@ -275,7 +277,7 @@ fn weights_are_halved_and_issued(rt: HostRuntime) {
     }
 }
 
-/// Doubles each of 16 elements, half by half, each left half as a task.
+/// Doubles each of 16 elements, half by half, each left half in a task.
 pub(crate) const HALVES: &str = "proc twice(mut s: int) {
   if len(s) <= 1 { s[0] = s[0] * 2 + 1; }
   else { split s at len(s) / 2 as l, r { async { twice(l); } twice(r); } }

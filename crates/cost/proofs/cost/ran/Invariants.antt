@@ -3,7 +3,7 @@ use Rattle.cost.specs.Frames.{turns_left}
 use Rattle.cost.specs.Machines.{IsSound, comes_to, nothing, stack}
 use Rattle.cost.proofs.cost.ran.Given as goal
 
--- the machine is sound, and comes to what it came to at first
+-- the machine is sound, and reaches the same position as at first
 abbrev pub invariant-turns : goal.invariant-turns
 invariant-turns l = record {
   sound : IsSound l.machine;

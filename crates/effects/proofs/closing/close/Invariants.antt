@@ -12,6 +12,6 @@ invariant-loop l = record {
   reached : (f : ℕ) (r : Row) (k : ℕ) → HasIn l.table.items f r k → Reached l.flows l.initial.table.items f r k;
 }
 
--- each further round brings a label
+-- each further round adds a label
 abbrev pub decreases-loop : goal.decreases-loop
 decreases-loop l = missing l.flows l.table.items

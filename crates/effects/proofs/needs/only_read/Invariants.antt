@@ -4,7 +4,7 @@ use Rattle.effects.specs.Needs.{others_by}
 use Rattle.effects.specs.Translation.{access}
 use Rattle.effects.proofs.needs.only_read.Given as goal
 
--- the accesses from this place on are looked at
+-- the accesses from this index are done
 abbrev pub invariant-loop-place : goal.invariant-loop-place
 invariant-loop-place l =
     map section l.found.items ≡ others_by (map section l.writes) (map access (drop l.place l.accesses))

@@ -4,7 +4,7 @@ use Rattle.types.specs.Indexed.{indexed_truths}
 use Rattle.types.specs.Rows.{truths}
 use Rattle.effects.proofs.own.+indexed_in.Given as goal
 
--- with those of the operands that are left, all are found
+-- with those of the remaining operands, all are found
 abbrev pub invariant-add_indexed_in_all-loop-operand : goal.invariant-add_indexed_in_all-loop-operand
 invariant-add_indexed_in_all-loop-operand l =
     map section l.found.items ++ indexed_truths (truths (drop l.operand-index l.operands))

@@ -4,7 +4,7 @@ use Rattle.sections.specs.Member.{Member}
 use Rattle.effects.specs.declared.flows.Flow.{Flow}
 use Rattle.effects.proofs.tables.add_reversed.Given as goal
 
--- none is new, and none is gone
+-- no flow is new, and none is removed
 abbrev pub invariant-loop-place : goal.invariant-loop-place
 invariant-loop-place l = record {
   same : (x : Flow) → Member x l.flows.items ↔ Member x l.initial.flows.items;

@@ -8,7 +8,7 @@ use Rattle.effects.proofs.Appending.{in_two_steps}
 use Rattle.effects.proofs.VisitLemmas.{visits_same}
 use Rattle.effects.proofs.visits.+visit.Goals as goal
 
--- what is visited inside a statement, by what its code is
+-- what is visited inside a statement, by its code
 inside_of : (before : List Visit) (w : Standing) {of is : Code} → of ≡ is → before ++ visits_inside w is ≡ before ++ visits_inside w of
 inside_of before w e = ap (λ k. before ++ visits_inside w k) (sym e)
 

@@ -2,7 +2,7 @@ use Rattle.std.proofs.Common.{◌≡◌, length}
 use Rattle.layout.specs.Laid.{trimmed}
 use Rattle.layout.proofs.pieces.trimmed.Given as goal
 
--- what was taken off is not kept
+-- what was removed is not kept
 abbrev pub invariant-loop-last : goal.invariant-loop-last
 invariant-loop-last l = trimmed l.kept ≡ trimmed l.fn.text
 

@@ -5,7 +5,7 @@ use Rattle.layout.specs.Laid.{laid_pieces}
 use Rattle.layout.specs.Writing.{GoesOn, IsCounted}
 use Rattle.layout.proofs.text.laid.Given as goal
 
--- the layout goes on with the tokens that are left
+-- the layout continues with the remaining tokens
 abbrev pub invariant-loop-spanned : goal.invariant-loop-spanned
 invariant-loop-spanned l = record {
   counted : IsCounted l.writer;

@@ -4,7 +4,7 @@ use Rattle.std.specs.String.{string_bytes}
 use Rattle.places.specs.Lines.{placed_lines}
 use Rattle.places.proofs.listing.placed_listing.Given as goal
 
--- what was written, and what is to come of the lines that are left
+-- what was written, and what the remaining lines will give
 abbrev pub invariant-loop-line : goal.invariant-loop-line
 invariant-loop-line l =
     string_bytes l.text ++ placed_lines l.left (drop l.line-index (map (λ (s : _). s.now) l.line-items))

@@ -4,7 +4,7 @@ use Rattle.syntax.specs.Token.{plain}
 use Rattle.places.proofs.BegunLemmas.{IsFound}
 use Rattle.places.proofs.statements.begun.Given as goal
 
--- the place that was reached is right, and the statements so far are found
+-- the current place is correct, and the statements so far are found
 abbrev pub invariant-loop-spanned : goal.invariant-loop-spanned
 invariant-loop-spanned l = record {
   reached : l.reached.place ≡ place_at l.text l.reached.at;

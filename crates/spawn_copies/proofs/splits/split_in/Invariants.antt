@@ -6,7 +6,7 @@ use Rattle.block_rows.specs.Copied.{split_in}
 use Rattle.spawn_copies.specs.Copied.{length_of}
 use Rattle.spawn_copies.proofs.splits.split_in.Given as goal
 
--- so far it is that of the first windows
+-- the result so far is the result of the first windows
 abbrev pub invariant-loop-window : goal.invariant-loop-window
 invariant-loop-window l =
     l.all ≡ split_in (length_of (program l.code)) (map window (take l.window-index l.cover))

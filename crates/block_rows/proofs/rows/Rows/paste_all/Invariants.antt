@@ -3,7 +3,7 @@ use Rattle.block_rows.specs.Rows.{held_in}
 use Rattle.block_rows.proofs.PasteLemmas.{RowsSoFar}
 use Rattle.block_rows.proofs.rows.Rows.paste_all.Given as goal
 
--- the rows that aren't left have come in
+-- all rows except the remaining ones have come in
 abbrev pub invariant-rows : goal.invariant-rows
 invariant-rows l =
     RowsSoFar (held_in l.initial.self) l.self.list.items l.fn.others.list.items l.list.items l.copied

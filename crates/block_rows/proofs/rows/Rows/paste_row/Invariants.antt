@@ -3,7 +3,7 @@ use Rattle.block_rows.specs.Rows.{held_in}
 use Rattle.block_rows.proofs.PasteLemmas.{PasteSoFar}
 use Rattle.block_rows.proofs.rows.Rows.paste_row.Given as goal
 
--- the blocks that aren't left have come in
+-- all blocks except the remaining ones have come in
 abbrev pub invariant-pasting : goal.invariant-pasting
 invariant-pasting l =
     PasteSoFar (held_in l.initial.self) l.initial.self.list.items l.self.list.items l.array l.fn.row l.blocks.items l.copied

@@ -17,7 +17,7 @@ use Rattle.statement_steps.proofs.Steps.{on_ok_both}
 use Rattle.cost.specs.Resume.{standing}
 use Rattle.cost.proofs.machine.Machine.choose.Goals as goal
 
--- the block that is chosen is entered
+-- the chosen block is entered
 enters_chosen : (m new : Machine) (label : ℕ) (guard : Truth) (body other : Codes) (b : Bor (List Stmt)) (v : Bool) → HasStep m
     → codes b.now ≡ (if v then body else other) → Ok v ≡ truth_at (stands m).state guard → Enters b m new
     → Does (statement label (If guard body other)) m new
