@@ -85,16 +85,16 @@ fn copied_by_halves(rt: &impl Abort, alloc: Global) -> String {
     let low = windows(rt, alloc, &[(0, 0, 128)]);
     let high = windows(rt, alloc, &[(0, 128, 128)]);
     let first = own.carve(alloc, &low).expect(rt, "owned places");
-    let a = own.copied();
+    let low_carved = own.copied();
     let second = own.carve(alloc, &high).expect(rt, "owned places");
-    let b = own.copied();
+    let high_carved = own.copied();
     let is_back = own.paste(alloc, first).is_ok();
     assert!(rt; is_back, "places that aren't owned here");
-    let c = own.copied();
+    let low_pasted = own.copied();
     let is_back = own.paste(alloc, second).is_ok();
     assert!(rt; is_back, "places that aren't owned here");
-    let d = own.copied();
-    format!(in alloc; "{a} {b} {c} {d}").expect(rt, "memory")
+    let high_pasted = own.copied();
+    format!(in alloc; "{low_carved} {high_carved} {low_pasted} {high_pasted}").expect(rt, "memory")
 }
 
 /// The second half is all that is left, so it moves. On the way back the first half moves, and the
