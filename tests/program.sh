@@ -49,8 +49,8 @@ END
 echo 'main { array q: int[3]; print q[0]; }' >"$room/q.afx"
 expect 1 '' 'N4 q
 
-The array `q` has 3 elements, and the list has 2.
-To mend it: give one number for each element; an array that is left out begins with zeros.' \
+The array `q` has 3 elements, but the list has 2.
+help: write one number for each element; an omitted array starts with zeros.' \
     run "$room/q.afx" --input - --explain <<'END'
 {"q": [1, 2]}
 END
@@ -73,7 +73,7 @@ begins "$room/run.json" '{"traceEvents":['
 # `bench` reads the clock before and after each run: ten million steps take more than a millisecond.
 echo 'main { var k = 0; while k < 5000000 { k = k + 1; } }' >"$room/slow.afx"
 $afx bench "$room/slow.afx" --steps 20000000 >"$room/times"
-slow=$(sed -n 's/^.*: least \([0-9]*\) us, .*$/\1/p' "$room/times" | awk '$1 >= 1000' | wc -l)
+slow=$(sed -n 's/^.*: min \([0-9]*\) us, .*$/\1/p' "$room/times" | awk '$1 >= 1000' | wc -l)
 if [ "$slow" -eq 4 ]; then
     passed=$((passed + 1))
 else

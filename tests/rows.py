@@ -38,10 +38,10 @@ def piece(text):
 class Command:
     def __init__(self, place, words):
         self.place, self.runs, self.out, self.err, self.status = place, [words], b"", b"", 0
-        self.written, self.is_real = {}, True
+        self.written, self.is_real, self.is_whole = {}, True, False
 
     def expects_nothing(self):
-        return not (self.out or self.err or self.status or self.written) and self.is_real
+        return self.is_real and not (self.out or self.err or self.is_whole or self.written)
 
 
 def read_table(name):
@@ -79,7 +79,7 @@ def read_table(name):
         elif line.startswith("!"):
             command.err += piece(line[1:])
         elif line.startswith("= "):
-            command.status = int(line[2:])
+            command.status, command.is_whole = int(line[2:]), True
         elif line.startswith("@ "):
             written = line[2:]
             command.written[written] = b""
@@ -127,9 +127,12 @@ def try_group(files, commands, counts):
         return
     with tempfile.TemporaryDirectory() as room:
         lay_out(room, files)
+        is_left = False
         for command in commands:
+            # (a later command may read what this one writes)
+            is_left = is_left or not command.is_real or command.runs[0][:1] == ["bench"]
             for words in command.runs:
-                if not command.is_real or (words and words[0] in ("bench",)):
+                if is_left:
                     counts["left"] += 1
                     continue
                 said = differences(command, words, room, files.get("-", b""))

@@ -12,24 +12,23 @@ use std::alloc::{AllocError, Global};
 const MOST_BYTES: usize = 16_777_216;
 
 const TOO_LONG: &str = "
-A file of choices has at most 16777216 bytes, and this one has more.
-To mend it: give fewer choices; or let a generator draw them, by `--random 1`.
+A file of choices can have at most 16777216 bytes; this one is larger.
+help: use fewer choices, or let `--random 1` make them.
 ";
 
 const LISTED: &str =
-    "To mend it: write numbers joined by single commas, with no blank, as `--choices 0,1`.\n";
+    "help: write numbers separated by single commas, without spaces, as in `--choices 0,1`.\n";
 
-const FILED: &str =
-    "To mend it: write numbers alone, with commas, blanks or line ends between them.\n";
+const FILED: &str = "help: write numbers separated by commas or white space.\n";
 
-const NO_LEAF: &str = "so many, or the run has ended.
-To mend it: leave out this choice and those after it: `open N` then tells how many tasks may step.
+const NO_LEAF: &str = "fewer such tasks, or the run has ended.
+help: remove this choice and those after it; `open N` then gives the number of tasks that can take a step.
 More: `afx explain no-leaf`.
 ";
 
 const OPEN: &str = "
-All choices were made, and the run has not ended: so many tasks may step still.
-To mend it: choose on, by one choice more, or let `--random 1` choose to the end.
+All choices are used and the run has not ended: this many tasks can still take a step.
+help: add choices, or let `--random 1` choose until the end.
 More: `afx explain open`.
 ";
 
@@ -77,9 +76,9 @@ fn entry_explained(
     match at {
         Some(at) => {
             push_line(&mut told, text, place_behind(text.get(..at).unwrap_or("")))?;
-            told.push_str("Here a choice must stand: a whole number from 0 to 4294967295.\n")?;
+            told.push_str("Expected a choice: an integer from 0 to 4294967295.\n")?;
         }
-        None => told.push_str("A choice is a whole number from 0 to 4294967295.\n")?,
+        None => told.push_str("A choice is an integer from 0 to 4294967295.\n")?,
     }
     told.push_str(mend)?;
     Ok(told)
@@ -138,7 +137,7 @@ pub fn no_leaf_explained(alloc: Global, choice: usize) -> Result<String, AllocEr
     let mut told = String::new(alloc);
     write!(
         told,
-        "\nA choice is the number of one of the tasks that may step, from 0. Where choice {choice} stands, from 0, there are not\n"
+        "\nA choice is the number, from 0, of a task that can take a step. At choice {choice} (counting from 0) there are\n"
     )?;
     told.push_str(NO_LEAF)?;
     Ok(told)

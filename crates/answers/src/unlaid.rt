@@ -15,11 +15,11 @@ pub fn layout_explained(alloc: Global, text: &str) -> Result<String, AllocError>
     let at = alike(text, laid.as_str());
     let mut told = String::new(alloc);
     push_excerpt(&mut told, text, place_behind(text.get(..at).unwrap_or("")))?;
-    told.push_str("Here stands ")?;
+    told.push_str("Found ")?;
     push_first(&mut told, text.get(at..).unwrap_or(""))?;
-    told.push_str(", and in its layout ")?;
+    told.push_str(", but the formatted program has ")?;
     push_first(&mut told, laid.as_str().get(at..).unwrap_or(""))?;
-    told.push_str(".\nTo mend it: have it laid out in its file, by `fmt --write`.\n")?;
+    told.push_str(".\nhelp: format the file with `fmt --write`.\n")?;
     Ok(told)
 }
 
@@ -38,11 +38,11 @@ fn alike(text: &str, laid: &str) -> usize {
 /// Appends the name of the first character of a text, or that there is none.
 fn push_first(told: &mut String, text: &str) -> Result<(), AllocError> {
     match text.chars().next() {
-        None => told.push_str("the end"),
-        Some('\n') => told.push_str("a line feed"),
+        None => told.push_str("the end of the file"),
+        Some('\n') => told.push_str("a newline"),
         Some('\r') => told.push_str("a carriage return"),
         Some('\t') => told.push_str("a tab"),
-        Some(' ') => told.push_str("a blank"),
+        Some(' ') => told.push_str("a space"),
         Some(character) if character.is_control() => told.push_str("another character"),
         Some(character) => write!(told, "`{character}`"),
     }

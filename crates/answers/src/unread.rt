@@ -16,23 +16,23 @@ const MOST_BYTES: usize = 1_048_576;
 const MOST_COUNTED: usize = 16_777_216;
 
 const UNREAD: &str = "
-There is no such file, or it is a folder, or it may not be read.
-To mend it: look at the name: it counts from the folder in which afx runs. `-` is the standard input.
+The file doesn't exist, is a folder, or can't be read.
+help: check the name: it is relative to the current folder. `-` is standard input.
 ";
 
 const UNWRITTEN: &str = "
-Its folder isn't there, or it is a folder itself, or it may not be written, or the disk is full.
-To mend it: give the name of a file in a folder that is there, and in which you may write.
+The folder doesn't exist, the name is a folder, the file can't be written, or the disk is full.
+help: name a file in an existing folder that you can write to.
 ";
 
 const NEVER_WRITTEN: &str = "
-`-` is the standard input, and is never written.
-To mend it: give the name of a file.
+`-` is standard input and can't be written.
+help: name a file.
 ";
 
 const NO_TEXT: &str = "
-Programs, inputs and traces are UTF-8.
-To mend it: write the file anew in UTF-8; outside of comments a program has ASCII alone.
+Programs, inputs and traces must be UTF-8.
+help: save the file as UTF-8; outside comments a program is ASCII only.
 ";
 
 /// Explains why the file of a program gives no text, and what would be right. Returns an empty text
@@ -80,15 +80,15 @@ fn bytes_of<F: FileSource>(files: &mut F, name: &str) -> usize
 /// Explains how many bytes a program's text has that is too long.
 fn too_long_explained(alloc: Global, many: usize) -> Result<String, AllocError> {
     let mut told = String::new(alloc);
-    told.push_str("\nA text has at most 1048576 bytes, and this one has ")?;
+    told.push_str("\nA program can have at most 1048576 bytes; this one has ")?;
     if many >= MOST_COUNTED {
-        told.push_str("16777216 at least.\n")?;
+        told.push_str("at least 16777216.\n")?;
     } else if many > MOST_BYTES {
         write!(told, "{many}.\n")?;
     } else {
         told.push_str("more.\n")?;
     }
-    told.push_str("To mend it: shorten it; numbers are read from a file by --input.\n")?;
+    told.push_str("help: shorten it; use --input to read numbers from a file.\n")?;
     Ok(told)
 }
 
@@ -117,11 +117,9 @@ fn no_text_explained(alloc: Global, bytes: &[u8]) -> Result<String, AllocError> 
     push_excerpt(&mut told, front, place_behind(front))?;
     write!(
         told,
-        "Byte {at} of the file, from 0, is {byte}, and begins no character of UTF-8 there.\n"
+        "Byte {at} of the file (counting from 0) is {byte}, which is not valid UTF-8 there.\n"
     )?;
-    told.push_str(
-        "To mend it: write the file anew in UTF-8; outside of comments a program has ASCII alone.\n",
-    )?;
+    told.push_str("help: save the file as UTF-8; outside comments a program is ASCII only.\n")?;
     Ok(told)
 }
 

@@ -1,9 +1,10 @@
--- What a table by label has in all for the statements of a block.
+-- The total that a table by label has for the statements of a block.
 use Rattle.std.specs.Prelude.{ℕ, ◌+◌, List, slice_index}
 use Rattle.types.specs.Code.{Code, Do, If, While, Split, Call, Async, Finish, Codes, End, Then}
 
 abbrev mutual
-  -- for the statements inside of one, and for those of a block with all inside
+  -- the total of the statements inside a statement, and that of a block including all statements
+  -- inside
   pub share_inside : (table : List ℕ) → Code → ℕ
   share_inside ns (Do s) = 0
   share_inside ns (If t b c) = share_of ns b + share_of ns c

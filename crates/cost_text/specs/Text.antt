@@ -1,5 +1,4 @@
--- How the numbers of a cost are told, one on each line; and what share of it each label has, or each
--- procedure.
+-- The text of a cost, one number per line, and the share of each label or procedure.
 use Rattle.std.specs.Prelude.{ℕ, ◌+◌, List, [], ◌∷◌, ◌++◌, codes, slice_index, nat_eq, if◌then◌else◌}
 use Rattle.std.specs.Fmt.{decimal}
 use Rattle.trace_numbers.specs.Text.{line, parallelism}
@@ -7,14 +6,14 @@ use Rattle.types.specs.Code.{Procedure, Program}
 use Rattle.cost_text.specs.Shares.{share_of}
 use Rattle.cost.specs.declared.cost.Cost.{Cost}
 
--- how much was done, and how much of it at once
+-- the work, the span and the parallelism
 abbrev pub work_lines : Cost → List ℕ
 work_lines c =
     line (codes "work") (decimal c.work)
     ++ (line (codes "span") (decimal c.span)
     ++ line (codes "parallelism") (parallelism c.work c.span))
 
--- by how many tasks and in how many finishes, and how many places they copy
+-- the numbers of tasks, finishes and copied places, and how deep asyncs are nested
 abbrev pub task_lines : Cost → List ℕ
 task_lines c =
     line (codes "tasks") (decimal c.tasks)
@@ -25,16 +24,16 @@ task_lines c =
 abbrev pub cost_text : Cost → List ℕ
 cost_text c = work_lines c ++ task_lines c
 
--- the line of a share: how many steps were taken there, and how many of them lie on the longest chain
+-- the line of a share: the number of steps, and how many of them are on the longest chain
 abbrev pub share_line : (name : List ℕ) → (work span : ℕ) → List ℕ
 share_line name work span =
     name ++ (codes ": work " ++ (decimal work ++ (codes ", span " ++ (decimal span ++ codes "\n"))))
 
--- that of a label; 0 is the label of no statement
+-- the line of a label; 0 is the label of no statement
 abbrev pub label_line : (label work span : ℕ) → List ℕ
 label_line l work span = if nat_eq l 0 then [] else share_line (codes "label " ++ decimal l) work span
 
--- those of labels from this one on, whose steps are these
+-- the lines of labels from this one on, with these steps
 abbrev pub label_lines : (label : ℕ) → (work span : List ℕ) → List ℕ
 label_lines l [] span = []
 label_lines l (n ∷ work) span = label_line l n (slice_index span l) ++ label_lines (l + 1) work span
@@ -43,7 +42,7 @@ label_lines l (n ∷ work) span = label_line l n (slice_index span l) ++ label_l
 abbrev pub labels_text : (work span : List ℕ) → List ℕ
 labels_text work span = label_lines 0 work span
 
--- the line of a procedure, with all statements inside
+-- the line of a procedure, including all statements inside
 abbrev pub procedure_line : (work span : List ℕ) → Procedure → List ℕ
 procedure_line work span f = share_line f.name (share_of work f.body) (share_of span f.body)
 

@@ -1,4 +1,4 @@
-//! The numbers of a cost, as they are told.
+//! The text of a cost.
 
 #![tactic(auto)]
 

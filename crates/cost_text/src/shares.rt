@@ -1,4 +1,4 @@
-//! What a table by label has in all for the statements of a procedure.
+//! The total that a table by label has for the statements of a procedure.
 
 ghost use Rattle.std.specs.Prelude.{◌≡◌, ◌-◌, ◌^◌, IfSome, min, slice_index};
 ghost use Rattle.types.specs.Translation.{code as plain_code, codes};
@@ -6,7 +6,7 @@ ghost use Rattle.cost_text.specs.Shares.{share_inside, share_of};
 
 use types::code::{Procedure, Stmt, StmtKind};
 
-/// What a table has for a procedure. None where 64 bits don't hold it.
+/// Returns the total of a procedure. None if it doesn't fit in 64 bits.
 pub fn share(table: &[u64], procedure: &Procedure) -> Option<u64>
     ensures { IfSome result (λ n. n ≡ share_of table.now (codes procedure.now.body.items)) }
 {
@@ -14,14 +14,15 @@ pub fn share(table: &[u64], procedure: &Procedure) -> Option<u64>
     if all < u64::MAX { Some(all) } else { None }
 }
 
-/// The number of a label, or 0.
+/// Returns the number of a label, or 0.
 pub fn at(table: &[u64], label: usize) -> u64
     ensures { result ≡ slice_index table.now label }
 {
     table.get(label).copied().unwrap_or(0)
 }
 
-/// What it has for a block, with all statements inside; the largest number of 64 bits where that is more.
+/// Returns the total of a block, including all statements inside, or the largest 64-bit number if
+/// it is more.
 #[cycle(count)]
 fn in_block(table: &[u64], block: &[Stmt]) -> u64
     ensures { result ≡ min (share_of table.now (codes block.now)) (2 ^ 64 - 1) }
@@ -36,7 +37,7 @@ fn in_block(table: &[u64], block: &[Stmt]) -> u64
     sum
 }
 
-/// What it has for the statements inside of one.
+/// Returns the total of the statements inside a statement.
 #[cycle(count)]
 fn in_statement(table: &[u64], kind: &StmtKind) -> u64
     ensures { result ≡ min (share_inside table.now (plain_code kind.now)) (2 ^ 64 - 1) }

@@ -1,4 +1,4 @@
-//! The numbers of a cost, as they are told.
+//! The text of a cost.
 
 ghost use Rattle.std.specs.Prelude.{◌≡◌, ◌++◌, map, slice_index, IfOk, OnOk};
 ghost use Rattle.std.specs.String.{string_bytes};
@@ -14,8 +14,9 @@ use std::alloc::{AllocError, Global};
 use trace_numbers::text::push_parallelism;
 use types::code::{Procedure, Program};
 
-/// The numbers of a cost, one on each line: `work: 61`, `span: 17`, `parallelism: 3.58`, which is the work
-/// by the span with two digits, `tasks: 8`, `deepest nest: 3`, `finishes: 2`, `copied places: 24`.
+/// Returns the numbers of a cost, one per line: `work: 61`, `span: 17`, `parallelism: 3.58`, which
+/// is work divided by span with two digits, `tasks: 8`, `deepest nest: 3`, `finishes: 2`, `copied
+/// places: 24`.
 pub fn cost_text(alloc: Global, cost: &Cost) -> Result<String, AllocError>
     ensures { IfOk result (λ text. string_bytes text ≡ cost_text cost.now) }
 {
@@ -25,7 +26,7 @@ pub fn cost_text(alloc: Global, cost: &Cost) -> Result<String, AllocError>
     Ok(text)
 }
 
-/// How much was done, and how much of it at once.
+/// Adds the work, the span and the parallelism.
 fn push_work(text: &mut String, cost: &Cost) -> Result<(), AllocError>
     ensures { OnOk result (string_bytes text.new ≡ string_bytes text.old ++ work_lines cost.now) }
 {
@@ -35,7 +36,7 @@ fn push_work(text: &mut String, cost: &Cost) -> Result<(), AllocError>
     push_parallelism(text, work, span)
 }
 
-/// By how many tasks and in how many finishes, and how many places they copy.
+/// Adds the numbers of tasks, finishes and copied places, and how deep asyncs are nested.
 fn push_tasks(text: &mut String, cost: &Cost) -> Result<(), AllocError>
     ensures { OnOk result (string_bytes text.new ≡ string_bytes text.old ++ task_lines cost.now) }
 {
@@ -49,8 +50,8 @@ fn push_tasks(text: &mut String, cost: &Cost) -> Result<(), AllocError>
     )
 }
 
-/// What share each label has, one on each line: `label 3: work 7, span 2`. The tables are those of a cost
-/// by label.
+/// Returns the share of each label, one per line: `label 3: work 7, span 2`. The tables are those
+/// of a cost by label.
 pub fn labels_text(alloc: Global, work: &[u64], span: &[u64]) -> Result<String, AllocError>
     ensures { IfOk result (λ text. string_bytes text ≡ labels_text work.now span.now) }
 {
@@ -61,7 +62,7 @@ pub fn labels_text(alloc: Global, work: &[u64], span: &[u64]) -> Result<String, 
     Ok(text)
 }
 
-/// The line of a label, if it is one.
+/// Adds the line of a label, if it is one.
 fn push_label(text: &mut String, label: usize, work: u64, span: &[u64]) -> Result<(), AllocError>
     ensures { OnOk result (string_bytes text.new
         ≡ string_bytes text.old ++ label_line label work (slice_index span.now label)) }
@@ -74,7 +75,8 @@ fn push_label(text: &mut String, label: usize, work: u64, span: &[u64]) -> Resul
     Ok(())
 }
 
-/// What share each procedure has, one on each line: `twice: work 59, span 15`; behind them that of `main`.
+/// Returns the share of each procedure, one per line: `twice: work 59, span 15`, and then that of
+/// `main`.
 pub fn procedures_text(
     alloc: Global,
     code: &Program,
@@ -89,7 +91,7 @@ pub fn procedures_text(
     Ok(text)
 }
 
-/// The lines of procedures.
+/// Adds the lines of procedures.
 fn procedure_lines(
     alloc: Global,
     procedures: &[Procedure],
@@ -106,7 +108,7 @@ fn procedure_lines(
     Ok(text)
 }
 
-/// The line of a procedure, by its name.
+/// Adds the line of a procedure, by its name.
 fn push_procedure(
     text: &mut String,
     procedure: &Procedure,
@@ -120,7 +122,7 @@ fn push_procedure(
     Ok(())
 }
 
-/// The line of a procedure, by this name.
+/// Adds the line of a procedure with this name.
 fn push_share(
     text: &mut String,
     name: &str,

@@ -1,9 +1,9 @@
-//! Names from outside as messages show them.
+//! Names from outside, as messages show them.
 
 use std::fmt;
 
-/// A name from outside, as that of a file, in which a character that steers a terminal is told by
-/// its number, as `\x1b`.
+/// A name from outside, such as that of a file. Control characters are shown by their number, such
+/// as `\x1b`.
 #[derive(Clone, Copy)]
 pub struct Escaped<'n>(pub &'n str);
 

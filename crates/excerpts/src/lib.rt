@@ -1,4 +1,5 @@
-//! Parts of a program's text, as reasons show them: lines with a caret, statements, and the names in them.
+//! Excerpts of a program's text for explanations: lines with a caret, statements, and the names in
+//! them.
 
 #![tactic(auto)]
 

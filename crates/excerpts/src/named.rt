@@ -3,7 +3,7 @@
 use std::alloc::{AllocError, Global};
 use syntax::token::{Mark, Spanned, Token, Word};
 
-/// A name, and what it does where it stands.
+/// A name and its role.
 #[derive(Clone, Copy)]
 pub struct Named<'t> {
     pub name: &'t str,
@@ -12,28 +12,28 @@ pub struct Named<'t> {
     pub at: usize,
 }
 
-/// What a name does where it stands.
+/// The role of a name in its statement.
 #[derive(Clone, Copy, PartialEq, Eq)]
 pub enum Role {
-    /// `x` of `var x = 1;`, `l` and `r` of `split s at 1 as l, r { }`
+    /// `x` in `var x = 1;`, `l` and `r` in `split s at 1 as l, r { }`
     Declared,
-    /// `f` of `f(a);`
+    /// `f` in `f(a);`
     Called,
-    /// `x` of `x = 1;`
+    /// `x` in `x = 1;`
     Assigned,
-    /// `a` of `a[0] = 1;`
+    /// `a` in `a[0] = 1;`
     Stored,
-    /// `a` of `print a[0];`
+    /// `a` in `print a[0];`
     Element,
-    /// `a` of `print len(a);`
+    /// `a` in `print len(a);`
     Measured,
-    /// `s` of `split s at 1 as l, r { }`
+    /// `s` in `split s at 1 as l, r { }`
     Cut,
-    /// `x` of `print x;`
+    /// `x` in `print x;`
     Value,
 }
 
-/// The tokens of a statement's head: up to its end, or to its block.
+/// Returns the tokens of a statement's head: up to its end, or to its block.
 pub fn head(tokens: &[Spanned]) -> &[Spanned] {
     let mut many: usize = 0;
     for spanned in tokens {
@@ -46,7 +46,7 @@ pub fn head(tokens: &[Spanned]) -> &[Spanned] {
     tokens.get(..many).unwrap_or(tokens)
 }
 
-/// The names of a head, from left to right.
+/// Returns the names of a head, from left to right.
 pub fn names<'t>(alloc: Global, head: &'t [Spanned]) -> Result<Vec<Named<'t>>, AllocError> {
     let mut found = Vec::new(alloc);
     let mut before = Before::Nothing;
@@ -65,13 +65,13 @@ pub fn names<'t>(alloc: Global, head: &'t [Spanned]) -> Result<Vec<Named<'t>>, A
     Ok(found)
 }
 
-/// What stands before a token of a head, as far as that tells what a name does.
+/// What precedes a token of a head, as far as it decides the role of a name.
 #[derive(Clone, Copy, PartialEq, Eq)]
 enum Before {
     Nothing,
     Var,
     Split,
-    /// Behind the `as` of a split.
+    /// After the `as` of a split.
     As,
     Len,
     LenParen,
@@ -79,7 +79,7 @@ enum Before {
 }
 
 impl Before {
-    /// The same behind one more token.
+    /// Returns what precedes the token after this one.
     fn and(self, token: &Token) -> Before {
         if self == Before::As {
             return Before::As;
@@ -95,7 +95,7 @@ impl Before {
     }
 }
 
-/// What a name does behind these tokens and before those.
+/// Returns the role of a name, by what precedes it and what follows it.
 fn role_of(before: Before, behind: &[Spanned]) -> Role {
     match before {
         Before::Var | Before::As => Role::Declared,
@@ -112,7 +112,7 @@ fn role_of(before: Before, behind: &[Spanned]) -> Role {
     }
 }
 
-/// What a name does that stands first in its statement.
+/// Returns the role of the name at the start of a statement.
 fn role_at_first(behind: &[Spanned]) -> Role {
     if begins_with(behind, Mark::LeftParen) {
         Role::Called
@@ -123,7 +123,7 @@ fn role_at_first(behind: &[Spanned]) -> Role {
     }
 }
 
-/// Whether a mark stands first.
+/// Returns whether the first token is this mark.
 pub fn begins_with(tokens: &[Spanned], mark: Mark) -> bool {
     match tokens.first() {
         Some(first) => match &first.token {
@@ -134,7 +134,7 @@ pub fn begins_with(tokens: &[Spanned], mark: Mark) -> bool {
     }
 }
 
-/// Whether a token is an operator of numbers.
+/// Returns whether a token is an arithmetic operator.
 pub fn is_operator(token: &Token) -> bool {
     match token {
         Token::Mark(mark) => match mark {

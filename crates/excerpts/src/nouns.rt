@@ -1,6 +1,6 @@
-//! Things that are counted.
+//! Singular and plural.
 
-/// What is counted, as it is called where there is one of it, and where there is another number.
+/// Returns the singular of a noun if the count is 1, and otherwise the plural.
 pub fn noun(count: usize, one: &'static str, more: &'static str) -> &'static str {
     if count == 1 { one } else { more }
 }

@@ -1,4 +1,4 @@
-//! Colours of an explaining text.
+//! Colours of an explanation.
 
 ghost use Rattle.std.specs.Prelude.{◌≡◌, IfOk};
 ghost use Rattle.std.specs.String.{string_bytes};
@@ -8,9 +8,9 @@ use std::alloc::{AllocError, Global};
 /// Whether a text is coloured.
 #[derive(Clone, Copy)]
 pub enum Paint {
-    /// It isn't: what is written is the text.
+    /// Not coloured: the text stays as it is.
     Plain,
-    /// It is, for a terminal.
+    /// Coloured, for a terminal.
     Coloured,
 }
 
@@ -22,16 +22,16 @@ const GREEN: &str = "\x1b[1;32m";
 
 const END: &str = "\x1b[0m";
 
-/// What stands before a line of a program's text that is shown.
+/// What precedes a line of a program's text.
 const BAR: &str = " | ";
 
-/// How many characters stand before a bar at least.
+/// The minimum number of characters before a bar.
 const MARGIN: usize = 6;
 
-const MEND: &str = "To mend it:";
+const MEND: &str = "help:";
 
-/// A text that explains, with its colours where it is to have them: the numbers and bars before
-/// lines of a program, the carets under them, and the words `To mend it:`.
+/// Returns an explanation, with colours if requested. Line numbers and bars are blue, carets red,
+/// and `help:` green.
 pub fn painted(alloc: Global, told: String, paint: Paint) -> Result<String, AllocError>
     ensures { paint ≡ Paint.Plain → IfOk result (λ text. string_bytes text ≡ string_bytes told) }
 {
@@ -41,7 +41,7 @@ pub fn painted(alloc: Global, told: String, paint: Paint) -> Result<String, Allo
     }
 }
 
-/// The same text with colours.
+/// Returns the text with colours.
 fn coloured(alloc: Global, told: &str) -> Result<String, AllocError> {
     let mut text = String::new(alloc);
     for line in told.split_inclusive('\n') {
@@ -66,7 +66,7 @@ fn push_coloured(text: &mut String, line: &str) -> Result<(), AllocError> {
     }
 }
 
-/// Adds what stands behind a bar: a caret has a colour, a line of a program none.
+/// Adds what follows a bar: a caret has a colour, a line of a program has none.
 fn push_excerpt(text: &mut String, margin: &str, behind: &str) -> Result<(), AllocError> {
     match behind.trim_start().strip_prefix('^') {
         Some(_) if margin.trim().is_empty() => push_in(text, RED, behind),
@@ -74,7 +74,7 @@ fn push_excerpt(text: &mut String, margin: &str, behind: &str) -> Result<(), All
     }
 }
 
-/// The margin of a line, and what stands behind its bar, where it has both.
+/// Returns the margin of a line and what follows its bar, if it has both.
 fn cut_margin(line: &str) -> Option<(&str, &str)> {
     let (margin, behind) = line.split_once(BAR)?;
     let is_number = margin
@@ -88,7 +88,7 @@ fn cut_margin(line: &str) -> Option<(&str, &str)> {
     }
 }
 
-/// Adds a text in a colour, and its line feed behind that.
+/// Adds a text in a colour, with its newline after the colour ends.
 fn push_in(text: &mut String, colour: &str, words: &str) -> Result<(), AllocError> {
     let (words, end) = match words.strip_suffix('\n') {
         Some(front) => (front, "\n"),

@@ -1,17 +1,18 @@
-//! A program's text, and how a line of it is shown.
+//! A program's text, and how its lines are shown.
 
 use std::alloc::{AllocError, Global};
 use syntax::Place;
 use syntax::lexer::{self, Unread};
 use syntax::token::Spanned;
 
-/// The most characters of a line that are shown before a caret, and as many from it on.
+/// The number of characters of a line that are shown before a caret, and also the number from it
+/// on.
 const SHOWN: usize = 50;
 
-/// The numbers from which on one takes a seventh digit, and an eighth, and so on.
+/// The line numbers from which one has seven digits, eight digits, and so on.
 const WIDER: [u32; 4] = [1_000_000, 10_000_000, 100_000_000, 1_000_000_000];
 
-/// A text that has tokens.
+/// A text with its tokens.
 #[derive(Drop)]
 pub struct Source {
     characters: Vec<char>,
@@ -19,14 +20,14 @@ pub struct Source {
 }
 
 impl Source {
-    /// The characters and the tokens of a text.
+    /// Reads the characters and the tokens of a text.
     pub fn of(alloc: Global, text: &str) -> Result<Source, Unread> {
         let characters: Vec<char> = text.chars().collect(alloc)?;
         let tokens = lexer::tokens(alloc, &characters)?;
         Ok(Source { characters, tokens })
     }
 
-    /// The line and the column of a character, by its number from 0.
+    /// Returns the line and the column of a character, given by its number from 0.
     pub fn place(&self, at: usize) -> Place {
         let mut line: u32 = 1;
         let mut column: u32 = 1;
@@ -41,7 +42,7 @@ impl Source {
         Place { line, column }
     }
 
-    /// The tokens from the one at a place on.
+    /// Returns the tokens from a place on.
     pub fn tokens_from(&self, place: Place) -> &[Spanned] {
         let at = self.character_at(place);
         let mut left = self.tokens.as_slice();
@@ -54,7 +55,7 @@ impl Source {
         left
     }
 
-    /// The number of the character at a place.
+    /// Returns the number of the character at a place.
     fn character_at(&self, place: Place) -> usize {
         let mut line: u32 = 1;
         let mut column: u32 = 1;
@@ -79,7 +80,7 @@ pub fn push_excerpt(told: &mut String, text: &str, place: Place) -> Result<(), A
     push_line(told, text, place)
 }
 
-/// Adds the line of a place behind its number, and under it a caret at the place.
+/// Adds the line of a place with its number, and under it a caret at the place.
 pub fn push_line(told: &mut String, text: &str, place: Place) -> Result<(), AllocError> {
     let number = place.line;
     let line = line_of(text, place);
@@ -91,7 +92,7 @@ pub fn push_line(told: &mut String, text: &str, place: Place) -> Result<(), Allo
     told.push_str("^\n")
 }
 
-/// Adds blanks as wide as the number of a line, and the mark behind it.
+/// Adds spaces as wide as the number of a line, and the bar.
 fn push_margin(told: &mut String, number: u32) -> Result<(), AllocError> {
     told.push_str("      ")?;
     for power in WIDER {
@@ -102,7 +103,7 @@ fn push_margin(told: &mut String, number: u32) -> Result<(), AllocError> {
     told.push_str(" | ")
 }
 
-/// The line of a place, or nothing behind the last.
+/// Returns the line of a place, or an empty text past the last line.
 pub fn line_of(text: &str, place: Place) -> &str {
     let mut number: u32 = 1;
     for line in text.lines() {
@@ -114,13 +115,13 @@ pub fn line_of(text: &str, place: Place) -> &str {
     ""
 }
 
-/// How many characters of a line stand before those that are shown.
+/// Returns the number of characters of a line before those that are shown.
 fn first_shown(place: Place) -> usize {
     let column = usize::try_from(place.column).unwrap_or(0);
     column.saturating_sub(SHOWN)
 }
 
-/// Adds what is shown of a line, with `..` for what is left out.
+/// Adds the shown part of a line, with `..` for what is left out.
 fn push_part(told: &mut String, line: &str, place: Place) -> Result<(), AllocError> {
     let from = first_shown(place);
     if from > 0 {
@@ -137,7 +138,7 @@ fn push_part(told: &mut String, line: &str, place: Place) -> Result<(), AllocErr
     Ok(())
 }
 
-/// Adds what stands before a caret: blanks, and tabs where the line has them.
+/// Adds the space before a caret: spaces, and tabs where the line has them.
 fn push_indent(told: &mut String, line: &str, place: Place) -> Result<(), AllocError> {
     let from = first_shown(place);
     if from > 0 {
@@ -151,7 +152,7 @@ fn push_indent(told: &mut String, line: &str, place: Place) -> Result<(), AllocE
     Ok(())
 }
 
-/// A character as it is shown: a dot for one that steers a terminal.
+/// Returns a character as it is shown: a dot for a control character.
 fn shown(character: char) -> char {
     if character == '\t' {
         '\t'

@@ -1,4 +1,4 @@
-//! The statements of a text, by their labels.
+//! The statements of a program, by their labels.
 
 use crate::named::{Named, Role, head, is_operator, names};
 use crate::source::{Source, push_line};
@@ -8,7 +8,7 @@ use syntax::Place;
 use syntax::lexer::Unread;
 use syntax::token::Spanned;
 
-/// A text with its tokens, and where each of its statements begins.
+/// A text with its tokens, and the start of each of its statements.
 #[derive(Drop)]
 pub struct Statements<'t> {
     alloc: Global,
@@ -18,7 +18,7 @@ pub struct Statements<'t> {
 }
 
 impl<'t> Statements<'t> {
-    /// Those of a text, or None of one that has no tokens.
+    /// Finds the statements of a text. Returns None if the text has no tokens.
     pub fn of(alloc: Global, text: &'t str) -> Result<Option<Statements<'t>>, AllocError> {
         if text.len() > 1_048_576 {
             return Ok(None);
@@ -37,13 +37,14 @@ impl<'t> Statements<'t> {
         }))
     }
 
-    /// Where the statement of a label begins.
+    /// Returns where the statement with a label starts.
     pub fn place(&self, label: u32) -> Option<Place> {
         let number = usize::try_from(label).unwrap_or(0).saturating_sub(1);
         self.places.get(number).copied()
     }
 
-    /// Adds the line of a statement, with a caret under a character of it, or else under its first.
+    /// Adds the line of a statement, with a caret under one of its characters, or else under the
+    /// first.
     pub fn push_at(
         &self,
         told: &mut String,
@@ -60,7 +61,7 @@ impl<'t> Statements<'t> {
         }
     }
 
-    /// The name of the element of this number among those of a statement's head, from 0.
+    /// Returns the name of the element with this number, from 0, in a statement's head.
     pub fn element(&self, label: u32, nth: usize) -> Result<Option<Named<'_>>, AllocError> {
         let mut left = nth;
         for named in &names(self.alloc, self.head(label))? {
@@ -74,7 +75,7 @@ impl<'t> Statements<'t> {
         Ok(None)
     }
 
-    /// The name of the section that a split cuts.
+    /// Returns the name of the section that a split divides.
     pub fn cut(&self, label: u32) -> Result<Option<Named<'_>>, AllocError> {
         for named in &names(self.alloc, self.head(label))? {
             if named.role == Role::Cut {
@@ -84,7 +85,7 @@ impl<'t> Statements<'t> {
         Ok(None)
     }
 
-    /// Where the operator of this number stands among those of a statement's head, from 0.
+    /// Returns where the operator with this number, from 0, is in a statement's head.
     pub fn operator(&self, label: u32, nth: usize) -> Option<usize> {
         let mut left = nth;
         for spanned in self.head(label) {
@@ -98,7 +99,7 @@ impl<'t> Statements<'t> {
         None
     }
 
-    /// The tokens of a statement's head.
+    /// Returns the tokens of a statement's head.
     fn head(&self, label: u32) -> &[Spanned] {
         match self.place(label) {
             Some(place) => head(self.source.tokens_from(place)),
@@ -107,7 +108,7 @@ impl<'t> Statements<'t> {
     }
 }
 
-/// What was read of a text, or None where it has no tokens.
+/// Returns what was read of a text, or None if the text has no tokens.
 fn read<T: Drop>(read: Result<T, Unread>) -> Result<Option<T>, AllocError> {
     match read {
         Ok(read) => Ok(Some(read)),

@@ -1,4 +1,4 @@
--- A failure to read a file is one to read the input.
+-- A failure to read a file is a failure to read the input.
 use Rattle.std.proofs.Common.{ℕ, List, Some, refl}
 use Rattle.types.specs.Code.{Array}
 use Rattle.intake.specs.Failures.{TellsNotUtf8}
@@ -6,7 +6,7 @@ use Rattle.intake.specs.Held.{Held, HasNoText, TellsNoInput}
 use Rattle.intake.specs.declared.failure.Failure.{Failure}
 use Rattle.intake.specs.declared.failure.Failure.TheVariants.{NotUtf8, NoMemory}
 
--- a file whose bytes are no text gives no input
+-- a file whose bytes aren't UTF-8 gives no input
 pub no_text_no_input : (name : List ℕ) (held : Held) (arrays : List Array) (f : Failure) → TellsNotUtf8 name f
     → HasNoText held name → TellsNoInput (Some name) held arrays f
 no_text_no_input name held arrays (NotUtf8 told) is bytes = record { name = name; named = refl; fact = (is, bytes) }

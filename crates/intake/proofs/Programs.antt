@@ -1,4 +1,4 @@
--- What the first bytes of a file say of all of it.
+-- What the first bytes of a file say about the whole file.
 use Rattle.std.proofs.Common.{◌≡◌, inl, inr, ℕ, ◌<◌, ◌≤◌, List, length, take, sym, ap, ◌∙◌, subst, refl, arith}
 use Rattle.std.proofs.lemmas.Bool.{cases_lt}
 use Rattle.std.proofs.lemmas.List.{length-take-le, take_all}
@@ -12,12 +12,12 @@ use Rattle.intake.specs.declared.failure.Failure.TheVariants.{CannotRead, NotUtf
 use Rattle.intake.specs.declared.files.FileError.{FileError}
 use Rattle.intake.specs.declared.files.FileError.TheVariants.{Failed as Unread, NoMemory as NoMemoryInFile}
 
--- ---- beginnings of a list
+-- ---- prefixes of a list
 
 too_few : (n m k : ℕ) → n < m → k ≤ n → k ≡ m → ⊥
 too_few n m k less few is = omega arith
 
--- a beginning with fewer elements than it may have is the whole
+-- a prefix that is shorter than it could be is the whole list
 all_taken : (n m : ℕ) (xs : List ℕ) → n < m → length (take m xs) ≤ n → take m xs ≡ xs
 all_taken n m xs less few = elim (cases_lt m (length xs)) [
   | inl more ↦ absurd (too_few n m (length (take m xs)) less few (length-take-le m xs (omega arith)))
@@ -27,14 +27,14 @@ all_taken n m xs less few = elim (cases_lt m (length xs)) [
 beyond : (n m k l : ℕ) → n < k → k ≡ m → m < l → n < l
 beyond n m k l long is more = omega arith
 
--- a beginning is no longer than the whole
+-- a prefix is no longer than the whole list
 no_longer : (n m : ℕ) (xs : List ℕ) → n < length (take m xs) → n < length xs
 no_longer n m xs long = elim (cases_lt m (length xs)) [
   | inl more ↦ beyond n m (length (take m xs)) (length xs) long (length-take-le m xs (omega arith)) more
   | inr rest ↦ subst (λ (ys : List ℕ). n < length ys) (take_all m xs rest) long
 ]
 
--- ---- what is known of a file, and what was read of it
+-- ---- what is known about a file, and what was read of it
 
 abbrev read : List ℕ → Bytes
 read xs = Ok xs
@@ -56,18 +56,18 @@ whole_of (Some (Ok whole)) n m xs less few given = λ other.
     ap read (is ∙ all_taken n m whole less (subst (λ (ys : List ℕ). length ys ≤ n) is few))
 whole_of (Some (Err e)) n m xs less few given = λ other. absurd (was_read xs e (given other))
 
--- a file of which less was read than may be has no more
+-- a file of which less was read than the limit has no more
 pub given_whole : (held : Held) (name : List ℕ) (xs : List ℕ) → length xs ≤ 1048576
     → IsGiven (option_map (first 1048577) (held name)) (Ok xs) → IsGiven (held name) (Ok xs)
 given_whole held name xs few given = whole_of (held name) 1048576 1048577 xs (omega arith) few given
 
--- all that a file may hold, of which something holds
+-- all that a file may have, given something true of it
 pub record Whole (known : Option Bytes) (Holds : List ℕ → Type 0) : Type 0 where
   pub whole : List ℕ
   pub given : IsGiven known (Ok whole)
   pub holds : Holds whole
 
--- what its first bytes are, and what holds of these
+-- what its first bytes are, and what is true of them
 all_given : (known : Option Bytes) (Holds : List ℕ → Type 0) (m : ℕ) (xs : List ℕ) → Holds xs
     → ((whole : List ℕ) → xs ≡ take m whole → Holds whole) → IsGiven (option_map (first m) known) (Ok xs) → Whole known Holds
 all_given None Holds m xs here more given = record { whole = xs; given = tt; holds = here }
@@ -99,14 +99,14 @@ longer_says_none n xs more =
     let long : nat_lt n (length xs) ≡ true = grind (arith, nat_tests) in
     ap (λ (z : Bool). if z then None else read_of_file nothing_read xs) long
 
--- a beginning says what the whole says, where one byte more than may be was read
+-- a prefix gives the same choices as the whole, if one byte more than the limit was read
 filed_begun : (n m : ℕ) (xs : List ℕ) → n < m → filed_within n (take m xs) ≡ filed_within n xs
 filed_begun n m xs less = elim (cases_lt n (length (take m xs))) [
   | inl more ↦ longer_says_none n (take m xs) more ∙ sym (longer_says_none n xs (no_longer n m xs more))
   | inr few ↦ ap (filed_within n) (all_taken n m xs less few)
 ]
 
--- all of a file that says what its first bytes say
+-- the whole of a file that gives the same choices as its first bytes
 pub filed_whole : (known : Option Bytes) (n m : ℕ) (xs : List ℕ) → n < m → IsGiven (option_map (first m) known) (Ok xs)
     → Whole known (λ ys. filed_within n ys ≡ filed_within n xs)
 filed_whole known n m xs less given =
@@ -125,7 +125,7 @@ no_program_unread held name (CannotRead told) is given = (is, not_read (held nam
 no_program_unread held name NoMemory is given = tt
 no_program_unread held name _ is given = absurd is
 
--- a file whose bytes are no text has none
+-- a file whose bytes aren't UTF-8 has no text
 pub no_program_text : (held : Held) (name : List ℕ) (f : Failure) → TellsNotUtf8 name f → HasNoProgramText held name
     → TellsNoProgram held name f
 no_program_text held name (NotUtf8 told) is bytes = (is, bytes)

@@ -1,4 +1,4 @@
--- What is read of choices, byte by byte, and of a file of them.
+-- Reading choices byte by byte, and from a file.
 use Rattle.std.proofs.Common.{◌≡◌, ℕ, List, ◌∷◌, Option, Some, None, Ok, Err, ap, ◌∙◌, arith}
 use Rattle.std.specs.Prelude.{option_map}
 use Rattle.intake.specs.Choices.{Reading, filed_by, goes_on, read_from, read_of_file, with_byte}
@@ -12,18 +12,18 @@ use Rattle.intake.specs.declared.failure.Failure.TheVariants.{CannotRead, Choice
 use Rattle.intake.specs.declared.files.FileError.TheVariants.{Failed as Unread}
 use Rattle.intake.proofs.Programs.{filed_whole, not_read}
 
--- a byte that goes on
+-- a byte after which reading continues
 pub read_on : (r s : Reading) (byte : ℕ) (behind : List ℕ) → with_byte r byte ≡ Some s
     → read_from r (byte ∷ behind) ≡ read_from s behind
 read_on r s byte behind is = ap (goes_on (λ t. read_from t behind)) is
 
--- ---- of a file
+-- ---- in a file
 
 pub file_read_on : (r s : Reading) (byte : ℕ) (behind : List ℕ) → with_byte_of_file r byte ≡ Some s
     → read_of_file r (byte ∷ behind) ≡ read_of_file s behind
 file_read_on r s byte behind is = ap (goes_on (λ t. read_of_file t behind)) is
 
--- the first bytes of a file say what all of it says
+-- the first bytes of a file give the same choices as the whole file
 pub says_choices : (held : Held) (name xs : List ℕ) (choices : Option (List ℕ))
     → IsGiven (option_map (first 16777217) (held name)) (Ok xs) → filed_by xs ≡ choices → SaysChoices held name choices
 says_choices held name xs choices given says =

@@ -13,7 +13,7 @@ use Rattle.intake.specs.declared.failure.Failure.TheVariants.{CannotRead, NotUtf
 use Rattle.intake.specs.declared.failure.Failure.TheVariants.{Input, Run, ChoicesNotUnderstood, NoLeaf, CannotWriteOutput, NoMemory}
 use Rattle.intake.specs.declared.failure.Failure.TheVariants.{NotLaidOut, CannotWrite, Trace, Illegal, StrangeEvents}
 
--- ---- want of memory, wherever it comes
+-- ---- running out of memory, anywhere
 
 no_memory : failure_status NoMemory ≡ 4
 no_memory = refl
@@ -36,7 +36,7 @@ no_memory_in_run = refl
 no_memory_in_trace : failure_status (Trace MemoryInTrace) ≡ 4
 no_memory_in_trace = refl
 
--- ---- results that make no whole, and events that aren't the run's own
+-- ---- inconsistent results, and invalid recorded events
 
 lost_result : (path : Path) → failure_status (Run (Gather (Lost path))) ≡ 5
 lost_result path = refl
@@ -50,7 +50,7 @@ strange_result path = refl
 strange_events : failure_status StrangeEvents ≡ 5
 strange_events = refl
 
--- ---- refusals
+-- ---- rejections
 
 unread_file : (name : String Global) → failure_status (CannotRead name) ≡ 1
 unread_file name = refl

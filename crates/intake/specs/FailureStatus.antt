@@ -1,4 +1,4 @@
--- The exit status that tells a failure.
+-- The exit status of a failure.
 use Rattle.std.specs.Prelude.{ℕ}
 use Rattle.intake.specs.declared.failure.Failure.{Failure}
 use Rattle.intake.specs.declared.failure.Failure.TheVariants.{Syntax, Types, NoMemoryInCheck}
@@ -10,8 +10,8 @@ use Rattle.gather.specs.declared.run_error.RunError.TheVariants.{OutOfMemory as 
 use Rattle.gather.specs.declared.run_error.RunError.TheVariants.{TooManyTasks, Gather, Late}
 use Rattle.trace_text.specs.declared.error.TraceError.TheVariants.{NoMemory as MemoryInTrace}
 
--- 4 for want of memory and for too many tasks, 5 for a result, a weight or events that are lost or
--- strange, else 1
+-- 4 for running out of memory and for too many tasks, 5 for a result, a weight or events that are
+-- lost or inconsistent, otherwise 1
 abbrev pub failure_status : Failure → ℕ
 failure_status (Syntax MemoryInSyntax) = 4
 failure_status (Types MemoryInTypes) = 4

@@ -1,4 +1,4 @@
--- What the failures of a command tell.
+-- What the failures of a command state.
 use Rattle.std.specs.Prelude.{ℕ, ◌≡◌, Bool, true, false, List, [], ◌++◌, codes, slice_get, unwrap_or}
 use Rattle.std.specs.Fmt.{decimal}
 use Rattle.std.specs.String.{string_bytes}
@@ -9,19 +9,19 @@ use Rattle.intake.specs.declared.failure.Failure.{Failure}
 use Rattle.intake.specs.declared.failure.Failure.TheVariants.{CannotRead, CannotWrite, NotUtf8, Race}
 use Rattle.intake.specs.declared.failure.Failure.TheVariants.{NoMemoryInCheck, NoMemory}
 
--- the file of this name can't be read, if there is memory to say so
+-- the file with this name can't be read, unless memory runs out
 abbrev pub TellsUnread : (name : List ℕ) → Failure → Type 0
 TellsUnread name (CannotRead told) = string_bytes told ≡ name
 TellsUnread name NoMemory = Unit {0}
 TellsUnread name _ = ⊥
 
--- the file of this name can't be written, if there is memory to say so
+-- the file with this name can't be written, unless memory runs out
 abbrev pub TellsUnwritten : (name : List ℕ) → Failure → Type 0
 TellsUnwritten name (CannotWrite told) = string_bytes told ≡ name
 TellsUnwritten name NoMemory = Unit {0}
 TellsUnwritten name _ = ⊥
 
--- the file of this name isn't text, if there is memory to say so
+-- the file with this name isn't UTF-8, unless memory runs out
 abbrev pub TellsNotUtf8 : (name : List ℕ) → Failure → Type 0
 TellsNotUtf8 name (NotUtf8 told) = string_bytes told ≡ name
 TellsNotUtf8 name NoMemory = Unit {0}
@@ -31,14 +31,14 @@ abbrev pub kind_of : (write : Bool) → List ℕ
 kind_of true = codes "write"
 kind_of false = codes "read"
 
--- an access as a message tells it: `2 write a`
+-- an access as a message prints it: `2 write a`
 abbrev pub access_text : (label : ℕ) → (write : Bool) → (name : List ℕ) → List ℕ
 access_text label write name =
     decimal label ++ (codes " " ++ (kind_of write ++ (codes " " ++ name)))
 
 -- ---- races
 
--- the procedure of a number; `main` stands behind the others
+-- the procedure with this number; `main` is numbered after the others
 abbrev pub told_procedure : Program → ℕ → Procedure
 told_procedure p f = unwrap_or (slice_get p.procedures f) p.main
 
@@ -50,7 +50,8 @@ section_name g s = unwrap_or (slice_get g.section_names s) []
 abbrev pub section_text : Procedure → SectionAccess → List ℕ
 section_text g a = access_text a.label a.write (section_name g a.section)
 
--- a race is told by the name of its procedure and both its accesses, in the names of that procedure
+-- a race is described by the name of its procedure and by both accesses, with the names of that
+-- procedure
 pub record IsToldAs (g : Procedure) (race : ProgramRace) (procedure first second : List ℕ) : Type 0 where
   pub procedure_is : procedure ≡ g.name
   pub first_is : first ≡ section_text g race.first
@@ -61,7 +62,7 @@ IsRaceOf g race (Race procedure first second) =
     IsToldAs g race (string_bytes procedure) (string_bytes first) (string_bytes second)
 IsRaceOf g race _ = ⊥
 
--- so it is, if there is memory for it
+-- the failure describes the race, unless memory runs out
 abbrev pub TellsRaceIn : Program → ProgramRace → Failure → Type 0
 TellsRaceIn p race (Race procedure first second) =
     IsRaceOf (told_procedure p race.procedure) race (Race procedure first second)

@@ -1,4 +1,4 @@
--- The line that tells a failure.
+-- The message of a failure.
 use Rattle.std.specs.Prelude.{ℕ, List, ◌++◌, codes}
 use Rattle.std.specs.Fmt.{decimal}
 use Rattle.std.specs.String.{string_bytes}
@@ -14,7 +14,7 @@ use Rattle.intake.specs.declared.failure.Failure.TheVariants.{CannotWrite, Canno
 use Rattle.intake.specs.declared.failure.Failure.TheVariants.{Trace, Illegal, StrangeEvents}
 use Rattle.intake.specs.declared.failure.Failure.TheVariants.{ChoicesNotUnderstood, NoLeaf, NotLaidOut}
 
--- the line that tells a failure, without its line feed
+-- the line of a failure, without its newline
 abbrev pub failure_text : Failure → List ℕ
 failure_text (CannotRead name) = codes "cannot read " ++ escaped (string_bytes name)
 failure_text (NotUtf8 name) = codes "not UTF-8 " ++ escaped (string_bytes name)
@@ -30,7 +30,7 @@ failure_text (Illegal n) = codes "illegal at event " ++ decimal n
 failure_text StrangeEvents = codes "E5"
 failure_text ChoicesNotUnderstood = codes "choices not understood"
 failure_text (NoLeaf n) = codes "no leaf at choice " ++ decimal n
-failure_text NotLaidOut = codes "not laid out"
+failure_text NotLaidOut = codes "not formatted"
 failure_text (CannotWrite name) = codes "cannot write " ++ escaped (string_bytes name)
 failure_text CannotWriteOutput = codes "cannot write output"
 failure_text NoMemory = codes "no memory"

@@ -12,10 +12,10 @@ use crate::failure::Failure;
 use crate::files::{FileError, FileSource};
 use std::alloc::{AllocError, Global};
 
-/// The most bytes of a file of choices.
+/// The maximum number of bytes of a file of choices.
 const MOST_BYTES: usize = 16_777_216;
 
-/// The choices that the file of this name says. It is read no further than it can matter.
+/// Returns the choices in the file with this name. Reads no more of the file than it needs to.
 #[tactic(auto, using(crate::proofs::ReadChoices::file_unread))]
 pub fn choices_in_file<F: FileSource>(
     alloc: Global,
@@ -34,7 +34,7 @@ pub fn choices_in_file<F: FileSource>(
     }
 }
 
-/// The choices that the bytes of a file say.
+/// Returns the choices in the bytes of a file.
 fn choices_filed(alloc: Global, bytes: &[u8]) -> Result<Vec<u32>, Failure>
     ensures says { IfOk result (λ numbers. filed_by bytes.now ≡ Some numbers.items) }
     ensures why { IfErr result (TellsNone (filed_by bytes.now)) }
@@ -49,7 +49,7 @@ fn choices_filed(alloc: Global, bytes: &[u8]) -> Result<Vec<u32>, Failure>
     }
 }
 
-/// The choices that a list says: numbers in decimal, joined by commas.
+/// Returns the choices in a list: decimal numbers separated by commas.
 pub fn choices_said(alloc: Global, text: &str) -> Result<Vec<u32>, Failure>
     ensures says { IfOk result (λ numbers. said_by text.now ≡ Some numbers.items) }
     ensures why { IfErr result (TellsNone (said_by text.now)) }
@@ -61,7 +61,7 @@ pub fn choices_said(alloc: Global, text: &str) -> Result<Vec<u32>, Failure>
     }
 }
 
-/// The choices that bytes say, if they are numbers joined by commas.
+/// Returns the choices in these bytes, if they are numbers separated by commas.
 fn said(alloc: Global, text: &[u8]) -> Result<Option<Vec<u32>>, AllocError>
     ensures { IfOk result (λ r. option_map (λ numbers. numbers.items) r ≡ said_by text.now) }
 {
@@ -71,14 +71,15 @@ fn said(alloc: Global, text: &[u8]) -> Result<Option<Vec<u32>>, AllocError>
     }
 }
 
-/// What was read: the numbers before the last comma, and the one behind it, where it is begun.
+/// What was read so far: the numbers before the last comma, and the one after it, if that has a
+/// digit.
 #[derive(Drop)]
 pub struct Reading {
     pub before: Vec<u32>,
     pub number: Option<u32>,
 }
 
-/// One number or more, joined by commas.
+/// Reads one or more numbers separated by commas.
 fn numbers_in(alloc: Global, text: &[u8]) -> Result<Option<Vec<u32>>, AllocError>
     ensures { IfOk result
         (λ r. option_map (λ numbers. numbers.items) r ≡ read_from nothing_read text.now) }
@@ -98,7 +99,7 @@ fn numbers_in(alloc: Global, text: &[u8]) -> Result<Option<Vec<u32>>, AllocError
     numbers_read(reading)
 }
 
-/// One byte more.
+/// Reads one more byte.
 fn byte_read(reading: Reading, byte: u8) -> Result<Option<Reading>, AllocError>
     ensures { IfOk result (λ r. option_map reading_of r ≡ with_byte (reading_of reading) byte) }
 {
@@ -109,7 +110,7 @@ fn byte_read(reading: Reading, byte: u8) -> Result<Option<Reading>, AllocError>
     }
 }
 
-/// A comma more.
+/// Reads a comma.
 fn comma_read(reading: Reading) -> Result<Option<Reading>, AllocError>
     ensures { IfOk result
         (λ r. option_map reading_of r ≡ option_map behind_comma (numbers_of (reading_of reading))) }
@@ -123,7 +124,7 @@ fn comma_read(reading: Reading) -> Result<Option<Reading>, AllocError>
     }
 }
 
-/// All numbers, where the last one is begun.
+/// Returns all numbers, if the last one has a digit.
 fn numbers_read(reading: Reading) -> Result<Option<Vec<u32>>, AllocError>
     ensures { IfOk result
         (λ r. option_map (λ numbers. numbers.items) r ≡ numbers_of (reading_of reading)) }
@@ -138,7 +139,7 @@ fn numbers_read(reading: Reading) -> Result<Option<Vec<u32>>, AllocError>
     }
 }
 
-/// A digit more.
+/// Reads a digit.
 fn digit_read(reading: Reading, byte: u8) -> Option<Reading>
     ensures { option_map reading_of result ≡ option_map (renumbered (reading_of reading))
         (with_digit reading.number byte) }
@@ -153,7 +154,7 @@ fn digit_read(reading: Reading, byte: u8) -> Option<Reading>
     }
 }
 
-/// A number with one digit more, if it is still small.
+/// Appends a digit to a number, if the result is small enough.
 fn digit_behind(number: Option<u32>, byte: u8) -> Option<u32>
     ensures { result ≡ with_digit number byte }
 {
@@ -170,7 +171,7 @@ fn digit_behind(number: Option<u32>, byte: u8) -> Option<u32>
 
 // ---- in a file
 
-/// The numbers of a file, with commas or white space between them.
+/// Reads the numbers of a file, with commas or white space between them.
 fn filed(alloc: Global, bytes: &[u8]) -> Result<Option<Vec<u32>>, AllocError>
     ensures { IfOk result
         (λ r. option_map (λ numbers. numbers.items) r ≡ read_of_file nothing_read bytes.now) }
@@ -191,7 +192,7 @@ fn filed(alloc: Global, bytes: &[u8]) -> Result<Option<Vec<u32>>, AllocError>
     Ok(Some(numbers))
 }
 
-/// One byte of a file more.
+/// Reads one more byte of a file.
 fn byte_of_file_read(reading: Reading, byte: u8) -> Result<Option<Reading>, AllocError>
     ensures { IfOk result
         (λ r. option_map reading_of r ≡ with_byte_of_file (reading_of reading) byte) }
@@ -207,7 +208,7 @@ fn byte_of_file_read(reading: Reading, byte: u8) -> Result<Option<Reading>, Allo
     }
 }
 
-/// All numbers, the last one with them, where it is begun.
+/// Returns all numbers, including the last one if it has a digit.
 fn all_begun(reading: Reading) -> Result<Vec<u32>, AllocError>
     ensures { IfOk result
         (λ numbers. numbers.items ≡ with_begun reading.before.items reading.number) }
@@ -219,7 +220,7 @@ fn all_begun(reading: Reading) -> Result<Vec<u32>, AllocError>
     Ok(before)
 }
 
-/// Whether a byte may stand between two numbers of a file.
+/// Returns whether a byte can separate two numbers of a file.
 fn separates(byte: u8) -> bool
     ensures { result ≡ may_separate byte }
 {

@@ -1,10 +1,10 @@
-//! Mistakes in inputs as messages show them.
+//! Input errors, as messages show them.
 
 use excerpts::escaped::Escaped;
 use std::fmt;
 use types::input_error::InputError;
 
-/// A mistake in an input, whose members may have any name: `N3 z`
+/// An input error. The members of an input can have any name, so it is escaped: `N3 z`
 #[derive(Clone, Copy)]
 pub struct EscapedInput<'e>(pub &'e InputError);
 

@@ -1,4 +1,4 @@
-//! What ends a command, and the line and the exit status that tell it.
+//! The reasons why a command ends early, with their messages and exit statuses.
 
 ghost use Rattle.std.specs.Prelude.{◌≡◌, IfOk};
 ghost use Rattle.std.specs.String.{string_bytes};
@@ -24,11 +24,12 @@ use types::error::TypeError;
 use types::ids::ProcedureId;
 use types::input_error::InputError;
 
-/// Why a command ended without its answer. `message::emit_message` writes its line, and its clause says
-/// which bytes; the same text by `Display` is what the derive makes of the words here.
+/// The reason why a command ended without its answer. `message::emit_message` writes its line, and
+/// the contract of that function states the bytes. `Display`, which is derived from the texts here,
+/// gives the same text.
 #[derive(Debug, Drop, Error)]
 pub enum Failure {
-    /// `cannot read nowhere.afx`: `run nowhere.afx`, where no such file is
+    /// `cannot read nowhere.afx`: `run nowhere.afx`, if there is no such file
     #[error("cannot read {}", Escaped(.name.as_str()))]
     CannotRead {
         name: String,
@@ -51,7 +52,7 @@ pub enum Failure {
         first: String,
         second: String,
     },
-    /// `C2`: no memory for the race check, of whatever program
+    /// `C2`: out of memory during the race check, for any program
     #[error("C2")]
     NoMemoryInCheck,
     /// `N4 a`: `main { array a: int[1]; }` on `{"a": [1, 2]}`
@@ -60,42 +61,42 @@ pub enum Failure {
     /// `E1` to `E4`: `E2` is `main { async { skip; } async { skip; } }` with `--tasks 2`
     #[error("{}", .0.code())]
     Run(RunError),
-    /// `J1 line 1`: an empty file as a trace; `J2`: no memory for its lines
+    /// `J1 line 1`: an empty file as a trace; `J2`: out of memory while reading its lines
     #[error(transparent)]
     Trace(TraceError),
-    /// `illegal at event 0`: a trace whose second line is `{"e":"end","path":"0"}`. It is the first event
-    /// that can't come where it stands, numbered from 0
+    /// `illegal at event 0`: a trace whose second line is `{"e":"end","path":"0"}`. The number is
+    /// that of the first illegal event, from 0
     #[error("illegal at event {0}")]
     Illegal(usize),
-    /// `E5`: the events that were noted of a run aren't its own. No run is known that comes to it.
+    /// `E5`: the recorded events of a run are invalid. No run is known to cause this.
     #[error("E5")]
     StrangeEvents,
     /// `choices not understood`: `explore --choices 0,,1`
     #[error("choices not understood")]
     ChoicesNotUnderstood,
-    /// `no leaf at choice 0`: `main { }` with `explore --choices 7`. It is the first choice that names
-    /// none, numbered from 0
+    /// `no leaf at choice 0`: `main { }` with `explore --choices 7`. The number is that of the
+    /// first choice that names no task, from 0
     #[error("no leaf at choice {0}")]
     NoLeaf(usize),
-    /// `not laid out`: `main { }` on one line, with `fmt --check`
-    #[error("not laid out")]
+    /// `not formatted`: `main { }` on one line, with `fmt --check`
+    #[error("not formatted")]
     NotLaidOut,
     /// `cannot write /`: `run program.afx --trace /`
     #[error("cannot write {}", Escaped(.name.as_str()))]
     CannotWrite {
         name: String,
     },
-    /// `cannot write output`: whatever is told, to a full disk
+    /// `cannot write output`: any output, to a full disk
     #[error("cannot write output")]
     CannotWriteOutput,
-    /// `no memory`: none for something else, of whatever program
+    /// `no memory`: out of memory anywhere else, for any program
     #[error("no memory")]
     NoMemory,
 }
 
 impl Failure {
-    /// The exit status: 1 refused, 4 want of memory or too many tasks, 5 a lost or strange result or
-    /// weight, or strange events.
+    /// Returns the exit status: 4 for running out of memory and for too many tasks, 5 for a lost or
+    /// inconsistent result or weight and for invalid recorded events, otherwise 1.
     pub fn status(&self) -> u8
         ensures { result ≡ failure_status self.now }
     {
@@ -115,7 +116,7 @@ impl Failure {
         }
     }
 
-    /// A file that can't be read.
+    /// Returns the failure for a file that can't be read.
     pub fn cannot_read(alloc: Global, name: &str) -> Failure
         ensures { TellsUnread name.now result }
     {
@@ -125,7 +126,7 @@ impl Failure {
         }
     }
 
-    /// A file that can't be written.
+    /// Returns the failure for a file that can't be written.
     pub fn cannot_write(alloc: Global, name: &str) -> Failure
         ensures { TellsUnwritten name.now result }
     {
@@ -135,7 +136,7 @@ impl Failure {
         }
     }
 
-    /// A file that isn't text.
+    /// Returns the failure for a file that isn't UTF-8.
     pub fn not_utf8(alloc: Global, name: &str) -> Failure
         ensures { TellsNotUtf8 name.now result }
     {
@@ -145,7 +146,7 @@ impl Failure {
         }
     }
 
-    /// A program that has a race.
+    /// Returns the failure for a program that has a race.
     pub fn of_race(alloc: Global, code: &Program, race: Race) -> Failure
         ensures { TellsRaceIn (program code.now) (race_of race) result }
     {
@@ -156,7 +157,7 @@ impl Failure {
     }
 }
 
-/// The procedure of a number; `main` stands behind the others.
+/// Returns the procedure with this number. `main` is numbered after the others.
 fn procedure_of(code: &Program, procedure: ProcedureId) -> &Procedure
     ensures { plain_procedure result.now ≡ told_procedure (program code.now) procedure.number }
 {
@@ -166,7 +167,7 @@ fn procedure_of(code: &Program, procedure: ProcedureId) -> &Procedure
     }
 }
 
-/// A race of a procedure, told by the names of its sections.
+/// Returns the failure for a race in a procedure, with the names of its sections.
 fn race_in(alloc: Global, procedure: &Procedure, race: Race) -> Result<Failure, AllocError>
     ensures { IfOk result (IsRaceOf (plain_procedure procedure.now) (race_of race)) }
 {
@@ -177,7 +178,7 @@ fn race_in(alloc: Global, procedure: &Procedure, race: Race) -> Result<Failure, 
     })
 }
 
-/// An access of a section.
+/// Returns an access of a section as text.
 fn section_told(
     alloc: Global,
     procedure: &Procedure,
@@ -194,7 +195,7 @@ fn section_told(
     )
 }
 
-/// The name of a section.
+/// Returns the name of a section.
 fn section_name(procedure: &Procedure, section: SectionId) -> &str
     ensures { result.now ≡ name_of_section (plain_procedure procedure.now) section.number }
 {
@@ -204,7 +205,7 @@ fn section_name(procedure: &Procedure, section: SectionId) -> &str
     }
 }
 
-/// An access as the message tells it: `2 write a`.
+/// Returns an access as the message prints it: `2 write a`.
 fn told(alloc: Global, label: Label, write: bool, name: &str) -> Result<String, AllocError>
     ensures { IfOk result (λ text. string_bytes text ≡ access_text label write name.now) }
 {
@@ -212,7 +213,7 @@ fn told(alloc: Global, label: Label, write: bool, name: &str) -> Result<String, 
     format!(in alloc; "{label} {kind} {name}")
 }
 
-/// What an access does.
+/// Returns what an access does.
 fn kind(write: bool) -> &'static str
     ensures { result.now ≡ kind_of write }
 {

@@ -1,4 +1,4 @@
-//! Where the program finds what its words name.
+//! Reading and writing the files that a command line names.
 
 ghost use Rattle.std.specs.Prelude.{◌≡◌, ◌≤◌, length, Option, None, option_map};
 ghost use Rattle.std.specs.Prelude.{IfOk, IfErr, MatchResult, OnOk};
@@ -12,43 +12,44 @@ use std::rt::Files;
 use std::{fs, io};
 use syntax::error::SyntaxError;
 
-/// The most bytes of a program's text.
+/// The maximum number of bytes of a program.
 const MOST_BYTES: usize = 1_048_576;
 
-/// Why a file isn't there, or isn't written, with a call that says so.
+/// Why a file can't be read or written, with an example.
 #[derive(Clone, Copy, PartialEq, Eq, Debug)]
 pub enum FileError {
     /// It can't be opened, read or written: `files.read("nowhere.afx")`.
     Failed,
-    /// Memory ran out: `files.read("/dev/zero")`, which has no end.
+    /// Memory ran out: `files.read("/dev/zero")`, which never ends.
     NoMemory,
 }
 
 /// Files by their names.
 pub trait FileSource {
-    /// What a name is known to give: None where nobody can know it, as of the machine's files.
+    /// What is known about the contents of each name. None if nothing is known, as for the
+    /// machine's files.
     ghost held: { Self → Held } = { λ _ _. None };
 
-    /// What a file holds.
+    /// Returns the contents of a file.
     fn read(&mut self, name: &str) -> Result<Vec<u8>, FileError>
         ensures given { let known = held self.old name.now in
             MatchResult result (λ v. IsGiven known (Ok v.items)) (λ e. IsGiven known (Err e)) }
         ensures keeps { held self.new ≡ held self.old };
 
-    /// The first bytes of a file, so many at most, however many more it has.
+    /// Returns the first bytes of a file, at most this many, however long the file is.
     fn read_first(&mut self, name: &str, most: usize) -> Result<Vec<u8>, FileError>
         ensures given { let known = option_map (first most) (held self.old name.now) in
             MatchResult result (λ v. IsGiven known (Ok v.items)) (λ e. IsGiven known (Err e)) }
         ensures short { IfOk result (λ v. length v.items ≤ most) }
         ensures keeps { held self.new ≡ held self.old };
 
-    /// Writes a file anew, whatever it held. What an `Err` leaves of it is open.
+    /// Replaces the contents of a file. After an `Err`, the contents of this file aren't specified.
     fn write(&mut self, name: &str, bytes: &[u8]) -> Result<(), FileError>
         ensures written { OnOk result (IsGiven (held self.new name.now) (Ok bytes.now)) }
         ensures others { KeepsOthers name.now (held self.old) (held self.new) };
 }
 
-/// What a file holds, or the failure that says why there is nothing.
+/// Returns the contents of a file, or the failure that says why they can't be read.
 pub fn read_file<F: FileSource>(
     alloc: Global,
     files: &mut F,
@@ -65,9 +66,9 @@ pub fn read_file<F: FileSource>(
     }
 }
 
-/// What the file of a program holds, or the failure that says why it is no text of one. It is read no
-/// further than it can matter: with one byte more than a program may have it is too long, whatever stands
-/// behind.
+/// Returns the contents of a program file, or the failure that says why it has no program text. At
+/// most one byte more than the limit is read: the program is then too long, however the file
+/// continues.
 #[tactic(auto, using(crate::proofs::Programs::given_whole, crate::proofs::Programs::no_program_unread))]
 pub fn read_program<F: FileSource>(
     alloc: Global,
@@ -92,7 +93,7 @@ pub fn read_program<F: FileSource>(
     }
 }
 
-/// Writes a file anew, or answers the failure that says why it can't be written.
+/// Replaces the contents of a file, or returns the failure that says why it can't be written.
 pub fn write_file<F: FileSource>(
     alloc: Global,
     files: &mut F,
@@ -110,18 +111,18 @@ pub fn write_file<F: FileSource>(
     }
 }
 
-/// The files of the machine; `-` is the standard input. What `read` gave of the standard input, and of the
-/// file that it read last, is kept, since a pipe gives nothing more when it is explained what is wrong there.
+/// The files of the machine; `-` is standard input. Keeps what `read` returned for standard input
+/// and for the last file. A pipe can't be read again when an error in it is explained.
 #[derive(Drop)]
 pub struct MachineFiles<'r, R> {
     rt: &'r R,
-    /// What the standard input gave, once it was read to its end.
+    /// The contents of standard input, once it was read to its end.
     input: Option<Vec<u8>>,
-    /// The file that was read last, where there was memory to keep it and nothing was written since.
+    /// The last file that was read, if there was memory to keep it and nothing was written since.
     last: Option<LastRead>,
 }
 
-/// The file that was read last, and what it gave.
+/// The last file that was read, and its contents.
 #[derive(Drop)]
 struct LastRead {
     name: String,
@@ -129,7 +130,7 @@ struct LastRead {
 }
 
 impl<'r, R> MachineFiles<'r, R> {
-    /// The files that a runtime reaches.
+    /// Wraps the files of a runtime.
     pub fn new(rt: &'r R) -> MachineFiles<'r, R>
         ensures { result.rt ≡ rt.entry }
     {
@@ -168,8 +169,8 @@ impl<R: Files + Input + AllocGlobal> FileSource for MachineFiles<'_, R> {
         }
     }
 
-    /// The standard input isn't written, so `-` fails. A file that can't be written whole may have lost
-    /// what it held.
+    /// Standard input can't be written, so `-` fails. A file that can't be written completely may
+    /// have lost its contents.
     fn write(&mut self, name: &str, bytes: &[u8]) -> Result<(), FileError> {
         if name == "-" {
             return Err(FileError::Failed);
@@ -179,7 +180,8 @@ impl<R: Files + Input + AllocGlobal> FileSource for MachineFiles<'_, R> {
     }
 }
 
-/// All that stands on the standard input, which is read to its end by the first call and kept for later ones.
+/// Returns the contents of standard input. The first call reads it to its end and keeps it for
+/// later calls.
 fn standard_input<R: Input + AllocGlobal>(
     rt: &R,
     kept: &mut Option<Vec<u8>>,
@@ -196,7 +198,7 @@ fn standard_input<R: Input + AllocGlobal>(
     Ok(bytes)
 }
 
-/// What a file gave, to be kept. None for want of memory.
+/// Returns the contents of a file as they are kept, or None if memory runs out.
 fn given(alloc: Global, name: &str, bytes: &[u8]) -> Option<LastRead> {
     Some(LastRead {
         name: String::from_str(alloc, name).ok()?,
@@ -204,7 +206,7 @@ fn given(alloc: Global, name: &str, bytes: &[u8]) -> Option<LastRead> {
     })
 }
 
-/// The same bytes once more.
+/// Copies these bytes.
 fn copied(alloc: Global, bytes: &[u8]) -> Result<Vec<u8>, FileError> {
     match bytes.to_vec(alloc) {
         Ok(bytes) => Ok(bytes),
@@ -212,7 +214,7 @@ fn copied(alloc: Global, bytes: &[u8]) -> Result<Vec<u8>, FileError> {
     }
 }
 
-/// The first bytes of a file of the machine, so many at most.
+/// Returns the first bytes of a file of the machine, at most this many.
 fn first_bytes<R: Files + Input + AllocGlobal>(
     rt: &R,
     name: &str,
@@ -228,18 +230,18 @@ fn first_bytes<R: Files + Input + AllocGlobal>(
     first_of(alloc, file, most)
 }
 
-/// The first bytes that a reader gives, so many at most.
+/// Returns the first bytes of a reader, at most this many.
 fn first_of<R: Read + Drop>(alloc: Global, reader: R, most: usize) -> io::Result<Vec<u8>>
     ensures { IfOk result (λ v. length v.items ≤ most) }
 {
     let mut bytes = Vec::new(alloc);
     reader.take(most as u64).read_to_end(&mut bytes)?;
-    // No clause bounds what `take` gives of a reader whose bytes nobody knows.
+    // No contract bounds what `take` returns for a reader with unknown contents.
     bytes.truncate(most);
     Ok(bytes)
 }
 
-/// What an error of the machine is to the program.
+/// Converts an error of the machine.
 fn file_error(error: &io::Error) -> FileError {
     match error.kind() {
         ErrorKind::OutOfMemory => FileError::NoMemory,

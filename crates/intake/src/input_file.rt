@@ -1,4 +1,4 @@
-//! What the arrays hold at first.
+//! The initial contents of the arrays.
 
 ghost use Rattle.std.specs.Prelude.{◌≡◌, IfErr, IfOk, option_map};
 ghost use Rattle.types.specs.Inputs.{IsInput};
@@ -12,7 +12,8 @@ use std::alloc::Global;
 use types::input::Input;
 use types::typed::Typed;
 
-/// The input of a program: what the JSON text of the file says, or zeros where no file is named.
+/// Returns the input of a program: the lists in the JSON file with this name, or zeros if no file
+/// is named.
 pub fn input_of<F: FileSource>(
     alloc: Global,
     files: &mut F,
@@ -32,7 +33,7 @@ pub fn input_of<F: FileSource>(
     }
 }
 
-/// What the JSON text of a file says.
+/// Returns the lists in a JSON file.
 fn input_in<F: FileSource>(
     alloc: Global,
     files: &mut F,
@@ -56,7 +57,7 @@ fn input_in<F: FileSource>(
     }
 }
 
-/// An input of zeros.
+/// Returns an input of zeros.
 fn zeros(alloc: Global, typed: &Typed) -> Result<Input, Failure>
     ensures zeros { IfOk result (λ i. lists_of i ≡ zeros_of (code_of typed.now).arrays) }
     ensures fits { IfOk result (λ i. IsInput (code_of typed.now).arrays (lists_of i)) }

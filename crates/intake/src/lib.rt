@@ -1,4 +1,4 @@
-//! What a command takes in from files, and the failures that tell why it doesn't.
+//! What a command reads from files, and the failures that say why it can't.
 
 #![tactic(auto)]
 

@@ -1,4 +1,4 @@
-//! The line that tells a failure, piece by piece, without memory of its own.
+//! The messages of failures, written piece by piece without allocating.
 
 ghost use Rattle.std.specs.Prelude.{◌++◌, codes};
 ghost use Rattle.texts.specs.Appending.{Writes};
@@ -14,7 +14,7 @@ use texts::reasons::{
 };
 use trace_text::error::TraceError;
 
-/// Writes the line of a failure, with its line feed.
+/// Writes the line of a failure, with its newline.
 pub fn emit_message<W: Write>(err: &mut W, failure: &Failure) -> Result<(), EmitError>
     ensures { Writes (W.contents err.old) (W.contents err.new) result
         (failure_text failure.now ++ codes "\n") }
@@ -23,7 +23,7 @@ pub fn emit_message<W: Write>(err: &mut W, failure: &Failure) -> Result<(), Emit
     append(err, b"\n")
 }
 
-/// The line without its line feed.
+/// Writes the line without its newline.
 fn emit_failure<W: Write>(err: &mut W, failure: &Failure) -> Result<(), EmitError>
     ensures { Writes (W.contents err.old) (W.contents err.new) result (failure_text failure.now) }
 {
@@ -45,7 +45,7 @@ fn emit_failure<W: Write>(err: &mut W, failure: &Failure) -> Result<(), EmitErro
         Failure::StrangeEvents => emit_text(err, "E5"),
         Failure::ChoicesNotUnderstood => emit_text(err, "choices not understood"),
         Failure::NoLeaf(choice) => emit_numbered(err, "no leaf at choice ", *choice),
-        Failure::NotLaidOut => emit_text(err, "not laid out"),
+        Failure::NotLaidOut => emit_text(err, "not formatted"),
         Failure::CannotWrite { name } => emit_file(err, "cannot write ", name.as_str()),
         Failure::CannotWriteOutput => emit_text(err, "cannot write output"),
         Failure::NoMemory => emit_text(err, "no memory"),

@@ -1,4 +1,4 @@
-//! The commands and options of the program, and the replies to words that ask nothing of one of its programs.
+//! The commands and options of `afx`, and the replies to command lines that need no program file.
 
 #![tactic(auto)]
 

@@ -1,4 +1,4 @@
-//! The replies to words that ask nothing of a program.
+//! Replies to command lines that need no program file.
 
 ghost use Rattle.std.specs.Prelude.{◌≡◌, IfErr, IfOk};
 ghost use Rattle.clap.specs.Values.{kind_of};
@@ -14,15 +14,15 @@ use pages::manual::{self, Closing};
 use pages::shell::Shell;
 use std::alloc::{AllocError, Global};
 
-/// What is replied to words that ask nothing of a program.
+/// The reply to a command line that needs no program file.
 #[derive(Drop)]
 pub enum Reply {
-    /// What `clap` says: help, the version, or a mistake in the words, as to `afx chek`.
+    /// What `clap` prints: help, the version, or an error in the command line, such as `afx chek`.
     Said(Error),
-    /// A text that was asked for, for the standard output, as by `afx explain Y5`.
+    /// A requested text for standard output, such as the page of `afx explain Y5`.
     Page(String),
-    /// Lines for the standard error: no page is asked for by these words, as by `afx explain Y99`,
-    /// or a program stands in a command's place, as in `afx a.afx`.
+    /// Lines for standard error: there is no page for these words, as in `afx explain Y99`, or the
+    /// first argument is a program and not a command, as in `afx a.afx`.
     NoPage(String),
 }
 
@@ -42,7 +42,7 @@ impl From<AllocError> for Reply {
     }
 }
 
-/// What `clap` finds in words by the table, or the reply to them.
+/// Parses the arguments with `clap` and the table. Returns what `clap` finds, or the reply.
 pub fn matched<'w>(alloc: Global, words: &'w [String]) -> Result<ArgMatches<'w>, Reply> {
     match commands(alloc)?.try_get_matches_from(words) {
         Ok(matches) => Ok(matches),
@@ -50,7 +50,8 @@ pub fn matched<'w>(alloc: Global, words: &'w [String]) -> Result<ArgMatches<'w>,
     }
 }
 
-/// What `clap` says of words; where a program stands in a command's place, how that is run too.
+/// Returns what `clap` prints about the arguments. If the first one is a program, also shows how to
+/// run that program.
 fn mistaken(alloc: Global, words: &[String], error: Error) -> Result<Reply, AllocError> {
     match words.first() {
         Some(word)
@@ -62,17 +63,17 @@ fn mistaken(alloc: Global, words: &[String], error: Error) -> Result<Reply, Allo
     }
 }
 
-/// That the words give two files the same name.
+/// Returns the error for two arguments that name the same file.
 pub fn named_twice(alloc: Global) -> Result<Reply, Error>
     ensures conflict { IfOk result IsConflict }
     ensures memory { IfErr result (λ error. kind_of error ≡ OutOfMemory) }
 {
     let mistake =
-        "a file is named twice: what is written must not be read, and the standard input is read once";
+        "the same file is named twice: afx never reads and writes one file, and reads standard input once";
     Ok(Reply::Said(commands(alloc)?.error(ErrorKind::ArgumentConflict, mistake)?))
 }
 
-/// What is said of a mistake, with how a program is run behind its first paragraph.
+/// Inserts how to run the program after the first paragraph of an error.
 fn with_hint(alloc: Global, said: &str, program: &str) -> Result<String, AllocError> {
     let (first, others) = said.split_once("\n\n").unwrap_or((said, ""));
     let mut text = String::from_str(alloc, first)?;
@@ -83,7 +84,8 @@ fn with_hint(alloc: Global, said: &str, program: &str) -> Result<String, AllocEr
     Ok(text)
 }
 
-/// The page for which the words behind `explain` ask; of none, or with `--list`, the list of all.
+/// Returns the page for the words after `explain`. Without words, or with `--list`, returns the
+/// list of all pages.
 pub fn explained(alloc: Global, given: &ArgMatches<'_>) -> Result<Reply, AllocError> {
     let words = given.get_strs("WORD").unwrap_or(&[]);
     if words.is_empty() || given.get_flag("list") {
@@ -96,16 +98,16 @@ pub fn explained(alloc: Global, given: &ArgMatches<'_>) -> Result<Reply, AllocEr
     }
 }
 
-/// That a word has no page, and which words have one.
+/// Returns the error for a word without a page, with the list of words that have one.
 fn pages_but(alloc: Global, word: &str) -> Result<String, AllocError> {
-    let mut text = String::from_str(alloc, "no page of '")?;
+    let mut text = String::from_str(alloc, "no page for '")?;
     push_shown(&mut text, word)?;
-    text.push_str("'; there are:")?;
+    text.push_str("'; available pages:")?;
     push_name_lines(&mut text, &tables())?;
     Ok(text)
 }
 
-/// Adds a word with a dot for each character that steers a terminal.
+/// Adds a word, with a dot for each control character.
 fn push_shown(text: &mut String, word: &str) -> Result<(), AllocError> {
     for c in word.chars() {
         text.push(if c.is_control() { '.' } else { c })?;
@@ -113,7 +115,8 @@ fn push_shown(text: &mut String, word: &str) -> Result<(), AllocError> {
     Ok(())
 }
 
-/// The completions of a shell, which `clap` has seen to be one, for a program with these commands.
+/// Returns the completion script of the given shell for a program with these commands. `clap` has
+/// already checked the name of the shell.
 pub fn completions(
     alloc: Global,
     given: &ArgMatches<'_>,
@@ -126,7 +129,7 @@ pub fn completions(
     }
 }
 
-/// The manual page of a program with these commands.
+/// Returns the manual page of a program with these commands.
 pub fn manual(
     alloc: Global,
     program: &Command<'_>,

@@ -1,5 +1,5 @@
-//! The commands and what may stand behind them: the one table from which words are read, and from
-//! which help, completions and the manual page are.
+//! The commands with their arguments and options. Arguments are parsed by this one table, and help,
+//! completions and the manual page are written from it.
 
 use clap::{Arg, ArgAction, Command, value_parser};
 use pages::manual::Closing;
@@ -11,12 +11,12 @@ use std::alloc::{AllocError, Global};
 struct Row {
     name: &'static str,
     about: &'static str,
-    /// What stands behind its help.
+    /// The text after its help.
     example: &'static str,
     entries: &'static [Entry],
 }
 
-/// A file, a word or an option that may stand behind a command.
+/// An argument or an option of a command.
 #[derive(Clone, Copy)]
 struct Entry {
     name: &'static str,
@@ -24,210 +24,210 @@ struct Entry {
     takes: Takes,
 }
 
-/// What an entry is or takes.
+/// What an entry is, or the value that it takes.
 #[derive(Clone, Copy)]
 enum Takes {
-    /// It is the name of a file or of a folder, which must stand there.
+    /// A required argument: the name of a file or a folder.
     File,
-    /// It is the name of a shell, which must stand there.
+    /// A required argument: the name of a shell.
     Shell,
-    /// It is words.
+    /// Any number of arguments.
     Words,
     /// An option without a value.
     Nothing,
-    /// The same, with which these options don't go.
+    /// An option without a value that conflicts with these options.
     NothingBut(&'static [&'static str]),
-    /// An option with a text, of which the help says what it is.
+    /// An option with a text value. The help shows this name for the value.
     Text(&'static str),
-    /// The same, with which these options don't go.
+    /// An option with a text value that conflicts with these options.
     TextBut(&'static str, &'static [&'static str]),
-    /// An option with one of these words, of which the help says what they are.
+    /// An option whose value is one of these words. The help shows this name for the value.
     OneOf(&'static str, &'static [&'static str]),
-    /// An option with a number, from the first to the last.
+    /// An option with a number in this inclusive range.
     Number(i64, i64),
-    /// An option with a number of 64 bits.
+    /// An option with a 64-bit number.
     Seed,
 }
 
-// ---- what may stand behind a command
+// ---- arguments and options
 
 const FILE: Entry = Entry {
     name: "FILE",
-    help: "The program; - is the standard input",
+    help: "Program file, or - for standard input",
     takes: Takes::File,
 };
 
 const FOLDER: Entry = Entry {
     name: "FOLDER",
-    help: "The folder of the programs",
+    help: "Folder with the test programs",
     takes: Takes::File,
 };
 
 const LIST: Entry = Entry {
     name: "list",
-    help: "Writes the program, with its label before each statement",
+    help: "Print the listing: the program with the label of each statement",
     takes: Takes::NothingBut(&["format"]),
 };
 
 const LINES: Entry = Entry {
     name: "lines",
-    help: "Writes before each label the line and the column at which its statement begins",
+    help: "Also print the line and column of each statement",
     takes: Takes::Nothing,
 };
 
 const CHECK: Entry = Entry {
     name: "check",
-    help: "Writes no layout, and tells whether the file has it: if not, by `not laid out` and status 1",
+    help: "Print nothing if the file is formatted; otherwise print `not formatted` and exit with status 1",
     takes: Takes::NothingBut(&["write"]),
 };
 
 const WRITE: Entry = Entry {
     name: "write",
-    help: "Writes the layout into the file in place of the standard output; a file that has it stays untouched",
+    help: "Format the file in place; a file that is already formatted isn't written",
     takes: Takes::Nothing,
 };
 
 const INPUT: Entry = Entry {
     name: "input",
-    help: "The file of what the arrays hold at first; without it zeros",
+    help: "JSON file with the initial contents of the arrays [default: zeros]",
     takes: Takes::Text("JSON"),
 };
 
 const STEPS: Entry = Entry {
     name: "steps",
-    help: "How many steps each task may take, 1 to 1000000000; without it 1000000",
+    help: "Step limit for each task, 1 to 1000000000 [default: 1000000]",
     takes: Takes::Number(1, 1_000_000_000),
 };
 
 const NEST: Entry = Entry {
     name: "nest",
-    help: "How many asyncs may stand inside one another, 0 to 1000; without it 100",
+    help: "Limit on nested asyncs, 0 to 1000 [default: 100]",
     takes: Takes::Number(0, 1_000),
 };
 
 const TASKS: Entry = Entry {
     name: "tasks",
-    help: "How many tasks there may be, with the one of main, 1 to 1048576; without it 65536",
+    help: "Limit on tasks, including the one for main, 1 to 1048576 [default: 65536]",
     takes: Takes::Number(1, 1_048_576),
 };
 
 const W0: Entry = Entry {
     name: "w0",
-    help: "How much weight a finish issues at a time, for its tasks to divide, 1 to 4294967296; without it 1048576",
+    help: "Weight that a finish issues at a time, 1 to 4294967296 [default: 1048576]; doesn't change the result",
     takes: Takes::Number(1, 4_294_967_296),
 };
 
 const WORKERS: Entry = Entry {
     name: "workers",
-    help: "On how many threads the tasks run, 1 to 64; without it 4",
+    help: "Number of worker threads, 1 to 64 [default: 4]",
     takes: Takes::Number(1, 64),
 };
 
 const CHOICES: Entry = Entry {
     name: "choices",
-    help: "Which task steps next, step by step: numbers joined by commas; without it none does",
+    help: "Which task takes each step: numbers separated by commas [default: no steps]",
     takes: Takes::TextBut("LIST", &["choices-from", "random"]),
 };
 
 const CHOICES_FROM: Entry = Entry {
     name: "choices-from",
-    help: "The file of the choices: numbers with commas or white space between them",
+    help: "File with the choices: numbers separated by commas or white space",
     takes: Takes::TextBut("FILE", &["random"]),
 };
 
 const RANDOM: Entry = Entry {
     name: "random",
-    help: "Draws the choices from this number, 0 to 18446744073709551615, to the end or 1000000 of them",
+    help: "Seed for random choices, 0 to 18446744073709551615; stops at the end or after 1000000 choices",
     takes: Takes::Seed,
 };
 
 const TRACED: Entry = Entry {
     name: "trace",
-    help: "The file that the run's trace is written to, some 40 bytes for each step of each task",
+    help: "Write a trace of the run to this file, about 40 bytes per step",
     takes: Takes::Text("FILE"),
 };
 
 const TRACE: Entry = Entry {
     name: "TRACE",
-    help: "The file of the trace, which `afx run --trace` wrote; - is the standard input",
+    help: "Trace file written by `afx run --trace`, or - for standard input",
     takes: Takes::File,
 };
 
 const SUMMARY: Entry = Entry {
     name: "summary",
-    help: "Writes the numbers of the trace in place of the table: tasks, work, span, parallelism, steals and others",
+    help: "Print totals instead of the table: tasks, steps, span, parallelism, steals and more",
     takes: Takes::NothingBut(&["svg", "chrome"]),
 };
 
 const SVG: Entry = Entry {
     name: "svg",
-    help: "Draws the trace into this file in place of the table: a lane for each worker, from event to event",
+    help: "Draw the trace to this SVG file instead of printing the table, with a lane for each worker",
     takes: Takes::TextBut("OUT", &["chrome"]),
 };
 
 const CHROME: Entry = Entry {
     name: "chrome",
-    help: "Writes the trace into this file in place of the table, for Perfetto or the tracing page of Chrome",
+    help: "Write the trace to this file for Perfetto or chrome://tracing instead of printing the table",
     takes: Takes::Text("OUT"),
 };
 
 const BY_LINE: Entry = Entry {
     name: "by-line",
-    help: "Writes after the numbers the work and the span of each statement, by its label",
+    help: "Also print the work and span of each statement, by label",
     takes: Takes::NothingBut(&["by-procedure", "format"]),
 };
 
 const BY_PROCEDURE: Entry = Entry {
     name: "by-procedure",
-    help: "Writes after the numbers the work and the span of each procedure, with all statements inside",
+    help: "Also print the work and span of each procedure, not counting the procedures that it calls",
     takes: Takes::NothingBut(&["format"]),
 };
 
 const ARRAYS: Entry = Entry {
     name: "arrays",
-    help: "Shows the arrays after the outcome",
+    help: "Print the arrays after the outcome",
     takes: Takes::Nothing,
 };
 
 const PROGRESS: Entry = Entry {
     name: "progress",
-    help: "Tells at a terminal, at most twice a second, how many steps are done",
+    help: "Report the number of steps on the terminal, at most twice a second",
     takes: Takes::Nothing,
 };
 
 const EXPLAIN: Entry = Entry {
     name: "explain",
-    help: "Says after a refusal, a fault or a stopped run where it stands, why, and what would be right",
+    help: "Explain an error, a fault or a stopped run: where it is, why, and how to fix it",
     takes: Takes::Nothing,
 };
 
 const COLOR: Entry = Entry {
     name: "color",
-    help: "Whether what --explain says has colours; without it auto: at a terminal, unless NO_COLOR is set",
+    help: "Colour the output of --explain [default: auto, on a terminal unless NO_COLOR is set]",
     takes: Takes::OneOf("WHEN", &["auto", "always", "never"]),
 };
 
 const FORMAT: Entry = Entry {
     name: "format",
-    help: "Whether the answer, or the refusal, is lines of text, or one JSON object; without it text",
+    help: "Print lines of text or one JSON object [default: text]",
     takes: Takes::OneOf("KIND", &["text", "json"]),
 };
 
 const WORD: Entry = Entry {
     name: "WORD",
-    help: "A code, as Y5, another word that has a page, or a line that was told; without it a list of the pages",
+    help: "A code such as Y5, another topic, or a line that afx printed [default: list all topics]",
     takes: Takes::Words,
 };
 
 const PAGES: Entry = Entry {
     name: "list",
-    help: "Lists the words that have a page, with what each is about",
+    help: "List all topics",
     takes: Takes::Nothing,
 };
 
 const SHELL: Entry = Entry {
     name: "SHELL",
-    help: "The shell for which the script is",
+    help: "Shell to write the script for",
     takes: Takes::Shell,
 };
 
@@ -247,33 +247,34 @@ const LAYOUT_EXAMPLE: &str = "Example: afx fmt examples/race.afx --check";
 const PAIRS_EXAMPLE: &str = "Example: afx mhp examples/two_arrays.afx";
 
 const COST_EXAMPLE: &str =
-    "The run is on one thread, and the numbers are the same on every machine. Work is all steps of all tasks. Span is the
-longest chain of steps that must come one after another. No number of workers makes a run faster than work / span.
+    "The program runs on one thread, and the numbers are the same on every machine. Work is the number of steps of all
+tasks. Span is the longest chain of steps that must follow one another. No number of workers gives a speed-up of more
+than work / span.
 
 Example: afx cost examples/doubling.afx --input examples/doubling.json
 Example: afx cost examples/doubling.afx --input examples/doubling.json --by-line";
 
 const BENCH_EXAMPLE: &str =
-    "Each run is timed five times, in microseconds, and the least and the middle of its times are told. A run that has faults
-or is stopped isn't timed: its outcome is written.
+    "Each run is repeated five times; the minimum and the median are printed, in microseconds. If the program has faults or
+is stopped, its outcome is printed and nothing is timed.
 
 Example: afx bench examples/doubling.afx --input examples/doubling.json";
 
 const TEST_EXAMPLE: &str =
-    "Each NAME.afx of the folder is run on one thread, and as tasks on 1 and on 4 threads. It passes where what is told is what
-NAME.out holds. The file of its input is NAME.json, if there is one.
+    "Each NAME.afx in the folder runs serially, and in parallel on 1 and on 4 threads. It passes if each run prints exactly
+the contents of NAME.out. NAME.json, if present, is its input.
 
 Example: afx test examples/tested";
 
 const EXPLORE_EXAMPLE: &str =
-    "A choice is the number of the task that steps next, among those that may step, from 0 and in the order in which one
-thread comes to them. A task may step if it has not ended and waits for no finish.
+    "A choice is the number of the task that takes the next step. The tasks that can take one are numbered from 0 in
+depth-first order. A task can take a step unless it has ended or is waiting at a finish.
 
 Example: afx explore examples/two_arrays.afx --choices 0,0,1";
 
 const VIEW_EXAMPLE: &str =
-    "The trace tells the budget and the workers of the run; FILE and JSON are the program and the input of that run. The trace
-is refused where they can't have led to its events.
+    "FILE and JSON are the program and the input of the traced run. The trace records its budget and its workers. A trace
+that this program can't produce on this input is rejected.
 
 Example: afx run examples/two_arrays.afx --trace two_arrays.trace && afx view examples/two_arrays.afx two_arrays.trace
 Example: afx view examples/two_arrays.afx two_arrays.trace --svg two_arrays.svg";
@@ -286,7 +287,7 @@ const MAN_EXAMPLE: &str = "Example: afx man >afx.1; man -l afx.1";
 
 const RUN: Row = Row {
     name: "run",
-    about: "Runs a program as tasks",
+    about: "Run a program in parallel",
     example: RUN_EXAMPLE,
     entries: &[
         FILE, INPUT, STEPS, NEST, TASKS, W0, WORKERS, TRACED, ARRAYS, FORMAT, EXPLAIN, COLOR,
@@ -295,7 +296,7 @@ const RUN: Row = Row {
 
 const SERIAL: Row = Row {
     name: "serial",
-    about: "Runs a program on one thread",
+    about: "Run a program on one thread",
     example: SERIAL_EXAMPLE,
     entries: &[
         FILE, INPUT, STEPS, NEST, ARRAYS, PROGRESS, FORMAT, EXPLAIN, COLOR,
@@ -304,35 +305,35 @@ const SERIAL: Row = Row {
 
 const CHECKED: Row = Row {
     name: "check",
-    about: "Tells whether a program would be run",
+    about: "Check a program for errors and races",
     example: CHECK_EXAMPLE,
     entries: &[FILE, LIST, FORMAT, EXPLAIN, COLOR],
 };
 
 const LISTED: Row = Row {
     name: "list",
-    about: "Writes a program, with its label before each statement",
+    about: "Print a program with the label of each statement",
     example: LIST_EXAMPLE,
     entries: &[FILE, LINES, EXPLAIN, COLOR],
 };
 
 const FORMATTED: Row = Row {
     name: "fmt",
-    about: "Writes a program's text in the canonical layout, with its comments",
+    about: "Format a program, keeping its comments",
     example: LAYOUT_EXAMPLE,
     entries: &[FILE, CHECK, WRITE, EXPLAIN, COLOR],
 };
 
 const PAIRED: Row = Row {
     name: "mhp",
-    about: "Tells which labels of a program may run together",
+    about: "List the pairs of statements that may run in parallel",
     example: PAIRS_EXAMPLE,
     entries: &[FILE, FORMAT, EXPLAIN, COLOR],
 };
 
 const COSTED: Row = Row {
     name: "cost",
-    about: "Tells work, span and parallelism of a run, in steps",
+    about: "Measure the work, span and parallelism of a run, in steps",
     example: COST_EXAMPLE,
     entries: &[
         FILE,
@@ -349,21 +350,21 @@ const COSTED: Row = Row {
 
 const BENCHED: Row = Row {
     name: "bench",
-    about: "Times a program on one thread and as tasks on 1, 2 and 4 threads",
+    about: "Time a program serially and in parallel on 1, 2 and 4 threads",
     example: BENCH_EXAMPLE,
     entries: &[FILE, INPUT, STEPS, NEST, EXPLAIN, COLOR],
 };
 
 const TESTED: Row = Row {
     name: "test",
-    about: "Runs the programs of a folder, and compares what they tell with what they should",
+    about: "Run the programs in a folder and compare their output with the expected output",
     example: TEST_EXAMPLE,
     entries: &[FOLDER],
 };
 
 const EXPLORED: Row = Row {
     name: "explore",
-    about: "Runs a program step by step, by given choices",
+    about: "Run a program step by step under a chosen schedule",
     example: EXPLORE_EXAMPLE,
     entries: &[
         FILE,
@@ -379,53 +380,53 @@ const EXPLORED: Row = Row {
 
 const VIEWED: Row = Row {
     name: "view",
-    about: "Shows the trace of a run: as a table, by its numbers, or as a picture",
+    about: "Show the trace of a run as a table, as totals or as a picture",
     example: VIEW_EXAMPLE,
     entries: &[FILE, TRACE, INPUT, SUMMARY, SVG, CHROME, EXPLAIN, COLOR],
 };
 
 const EXPLAINED: Row = Row {
     name: "explain",
-    about: "Tells what a message means, or how a program is usually said",
+    about: "Explain a message, or show a common program pattern",
     example: EXPLAIN_EXAMPLE,
     entries: &[WORD, PAGES],
 };
 
 const COMPLETED: Row = Row {
     name: "completions",
-    about: "Writes a script by which a shell completes command lines",
+    about: "Print a shell completion script",
     example: COMPLETIONS_EXAMPLE,
     entries: &[SHELL],
 };
 
 const MANUAL: Row = Row {
     name: "man",
-    about: "Writes the manual page",
+    about: "Print the manual page",
     example: MAN_EXAMPLE,
     entries: &[],
 };
 
-/// All commands, in the order in which help tells them.
+/// All commands, in the order of the help.
 const ROWS: [Row; 14] = [
     RUN, SERIAL, CHECKED, LISTED, FORMATTED, PAIRED, COSTED, BENCHED, TESTED, EXPLORED, VIEWED,
     EXPLAINED, COMPLETED, MANUAL,
 ];
 
-/// What stands behind the help of the program.
+/// The text after the help of the program.
 const STATUSES: &str =
-    "No word is `run -`: the program is read from the standard input. At a terminal it is `--help`.
+    "Without arguments, afx runs the program on standard input, as `afx run -` does. On a terminal it prints this help.
 
 Example: afx serial examples/doubling.afx --input examples/doubling.json --arrays
 
 Exit status:
-  0  the run ended; the program is accepted; a listing; pairs of labels; a text laid out; a trace shown; no test failed; help
-  1  refused: the command line, a file, the text, a rule, a race, the input, choices, the trace, the output; not laid out; a test failed
+  0  success: the run ended without faults, the program was accepted, the answer was printed, all tests passed
+  1  rejected: command line, file, syntax, rule, race, input, choices, trace or output; not formatted; a test failed
   2  the run ended with faults
-  3  the run was stopped over its budget; it has not ended by its choices
-  4  no memory; more tasks than the run may have
-  5  the result of a task was lost; the trace of a run isn't its own";
+  3  the run exceeded its budget, or has not ended after its choices
+  4  out of memory, weight or threads; too many tasks
+  5  internal error: a task's result was lost, or a recorded trace is invalid";
 
-/// What the manual page says behind the commands.
+/// What the manual page has after the commands.
 pub const CLOSING: Closing<'static> = Closing {
     notes: STATUSES,
     examples: &[
@@ -446,15 +447,15 @@ pub const CLOSING: Closing<'static> = Closing {
     ],
 };
 
-// ---- for `clap`
+// ---- conversion to `clap`
 
-/// The program with its commands.
+/// Returns the program with its commands.
 pub fn commands<'w>(alloc: Global) -> Result<Command<'w>, AllocError> {
     let mut program = Command::new(alloc, "afx")
         .bin_name("afx")?
-        .about("Checks and runs programs of tasks")
+        .about("Check and run task-parallel programs")
         .after_help(STATUSES)
-        .version("0.1.0")
+        .version("0.2.0 (reads trace format 1)")
         .no_binary_name(true)
         .subcommand_required(true);
     for row in ROWS {
@@ -463,7 +464,7 @@ pub fn commands<'w>(alloc: Global) -> Result<Command<'w>, AllocError> {
     Ok(program)
 }
 
-/// A command with what may stand behind it.
+/// Returns a command with its arguments and options.
 fn command<'w>(alloc: Global, row: Row) -> Result<Command<'w>, AllocError> {
     let mut command = Command::new(alloc, row.name)
         .about(row.about)
@@ -474,7 +475,7 @@ fn command<'w>(alloc: Global, row: Row) -> Result<Command<'w>, AllocError> {
     Ok(command)
 }
 
-/// What may stand behind a command.
+/// Returns an argument or an option of a command.
 fn argument<'w>(alloc: Global, entry: Entry) -> Result<Arg<'w>, AllocError> {
     let argument = Arg::new(alloc, entry.name).help(entry.help);
     Ok(match entry.takes {

@@ -1,4 +1,4 @@
--- A page that is looked for stands in the first of several tables, or in the others.
+-- The page found in several tables is the one found in the first table, or else in the others.
 use Rattle.std.proofs.Common.{◌≡◌, ◌-◌, ◌≤◌, suc, List, [], ◌∷◌, Bool, Bor, Option, Some, None, find, length, take, drop}
 use Rattle.std.proofs.Common.{get_or, arith, ap, subst, sym, ◌∙◌}
 use Rattle.std.specs.List.{flat_map}

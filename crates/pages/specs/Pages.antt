@@ -1,4 +1,4 @@
--- Which page a word asks for, and what is shown of a page.
+-- Which page has a word, and the text of a page.
 use Rattle.std.specs.Prelude.{ℕ, List, [], ◌++◌, ◌||◌, Bool, Option, None, Some, codes}
 use Rattle.std.specs.Borrow.{Bor}
 use Rattle.std.specs.List.{flat_map, list_any}
@@ -19,7 +19,7 @@ answers_to page word =
 abbrev pub head_text : Page → List ℕ
 head_text page = page.name.now ++ codes ": " ++ page.about.now ++ codes "\n"
 
--- a name behind a space
+-- a name after a space
 abbrev pub spaced_name : Page → List ℕ
 spaced_name page = codes " " ++ page.name.now
 
@@ -27,11 +27,11 @@ spaced_name page = codes " " ++ page.name.now
 abbrev pub indented : Bor (List ℕ) → List ℕ
 indented line = codes "    " ++ line.now ++ codes "\n"
 
--- a program behind an empty line
+-- a program after an empty line
 abbrev pub program_text : List (Bor (List ℕ)) → List ℕ
 program_text lines = codes "\n" ++ flat_map indented lines
 
--- a command as it is typed, and what it tells
+-- a command as it is typed, and its output
 abbrev pub told_text : Told → List ℕ
 told_text t = codes "\n  $ afx " ++ t.command.now ++ codes "\n  " ++ t.line.now ++ codes "\n"
 
@@ -39,7 +39,7 @@ told_text t = codes "\n  $ afx " ++ t.command.now ++ codes "\n  " ++ t.line.now 
 abbrev pub input_text : List ℕ → List ℕ
 input_text input = codes "\n  input.json: " ++ input ++ codes "\n"
 
--- an input, a command, and what it tells of both
+-- an input, a command, and its output
 abbrev pub given_text : Given → List ℕ
 given_text g = input_text g.input.now ++ told_text g.told
 
@@ -47,16 +47,16 @@ given_text g = input_text g.input.now ++ told_text g.told
 abbrev pub trace_text : List (Bor (List ℕ)) → List ℕ
 trace_text lines = codes "\n  program.trace:\n" ++ flat_map indented lines
 
--- a trace, a command, and what it tells of both
+-- a trace, a command, and its output
 abbrev pub traced_text : Traced → List ℕ
 traced_text t = trace_text t.trace.now ++ told_text t.told
 
--- where a whole program of a shape stands
+-- the file that has the complete program of a pattern
 abbrev pub place_text : (name : List ℕ) → List ℕ
-place_text name = codes "\n  A whole program of this shape: examples/" ++ name ++ codes ".afx\n"
+place_text name = codes "\n  Complete program: examples/" ++ name ++ codes ".afx\n"
 
--- a program, with its input or its trace where there is one, and what is told of it; or where the whole
--- of it stands
+-- an example: a program, with its input or its trace if there is one, and its output; or a part of
+-- a program and the file of the complete one
 abbrev pub example_text : Example → List ℕ
 example_text Nothing = []
 example_text (Program t) = program_text t.lines.now ++ told_text t
@@ -64,16 +64,16 @@ example_text (WithInput g) = program_text g.told.lines.now ++ given_text g
 example_text (WithTrace t) = program_text t.told.lines.now ++ traced_text t
 example_text (Shape s) = program_text s.lines.now ++ place_text s.name.now
 
--- how it is mended, where that is said
+-- how to fix the problem, if the page has that
 abbrev pub mend_text : Option (Bor (List ℕ)) → List ℕ
 mend_text None = []
 mend_text (Some mend) = codes "\n" ++ mend.now ++ codes "\n"
 
--- what stands behind the rule: the program, and how it is mended
+-- the text after the rule: the example, and how to fix the problem
 abbrev pub end_text : Page → List ℕ
 end_text page = example_text page.example ++ mend_text page.mend
 
--- what stands behind the head: the rule between two line ends, and the end
+-- the text after the heading: the rule between two newlines, and the end
 abbrev pub body_text : Page → List ℕ
 body_text page = (codes "\n" ++ page.rule.now ++ codes "\n") ++ end_text page
 

@@ -5,14 +5,14 @@ use crate::page::push_all;
 use clap::{Arg, Command};
 use std::alloc::{AllocError, Global};
 
-/// What stands before the commands.
+/// The text before the commands.
 const HEAD: &str = "# Completions of afx for bash: source <(afx completions bash)
 _afx() {
     local now=${COMP_WORDS[COMP_CWORD]} before=${COMP_WORDS[COMP_CWORD-1]} command=${COMP_WORDS[1]}
     local options= offer= words=
 ";
 
-/// What stands behind them.
+/// The text after the commands.
 const TAIL: &str = "    case $now in
     -*) offer=words words=$options ;;
     esac
@@ -31,7 +31,7 @@ const TAIL: &str = "    case $now in
 complete -F _afx afx
 ";
 
-/// How an argument's offer is written.
+/// How each offer is written.
 const OFFERS: Wording = Wording {
     program: " offer=afx",
     input: " offer=json",
@@ -42,7 +42,7 @@ const OFFERS: Wording = Wording {
     nothing: " offer=",
 };
 
-/// The script by which bash completes the words of a program with these commands.
+/// Returns the script with which bash completes the arguments of a program with these commands.
 pub fn script(alloc: Global, program: &Command<'_>) -> Result<String, AllocError> {
     let mut text = String::from_str(alloc, HEAD)?;
     push_first(&mut text, program)?;
@@ -52,7 +52,7 @@ pub fn script(alloc: Global, program: &Command<'_>) -> Result<String, AllocError
     Ok(text)
 }
 
-/// What the first word may be: a command.
+/// Adds the completion of the first argument: a command.
 fn push_first(text: &mut String, program: &Command<'_>) -> Result<(), AllocError> {
     text.push_str("    local commands=\"")?;
     for command in program.get_subcommands() {
@@ -65,7 +65,7 @@ fn push_first(text: &mut String, program: &Command<'_>) -> Result<(), AllocError
     text.push_str("        return\n    fi\n")
 }
 
-/// What each command may have behind it.
+/// Adds the options and the offer of each command.
 fn push_commands(
     alloc: Global,
     text: &mut String,
@@ -78,7 +78,7 @@ fn push_commands(
     text.push_str("    help) offer=words words=$commands ;;\n    esac\n")
 }
 
-/// What may stand behind the options of each command.
+/// Adds what can follow the options of each command.
 fn push_behind_options(
     alloc: Global,
     text: &mut String,
@@ -91,7 +91,8 @@ fn push_behind_options(
     text.push_str("    esac\n")
 }
 
-/// The options of a command, and what its argument may be: `list) options="--lines --help" offer=afx ;;`
+/// Adds the options of a command and what its argument can be: `list) options="--lines --help"
+/// offer=afx ;;`
 fn push_command(alloc: Global, text: &mut String, command: &Command<'_>) -> Result<(), AllocError> {
     push_options(text, command)?;
     for arg in command.get_arguments() {
@@ -102,7 +103,7 @@ fn push_command(alloc: Global, text: &mut String, command: &Command<'_>) -> Resu
     text.push_str(" ;;\n")
 }
 
-/// The options of a command: `list) options="--lines --help"`
+/// Adds the options of a command: `list) options="--lines --help"`
 fn push_options(text: &mut String, command: &Command<'_>) -> Result<(), AllocError> {
     push_all(text, &["    ", command.get_name(), ") options=\""])?;
     for arg in command.get_arguments() {
@@ -113,7 +114,7 @@ fn push_options(text: &mut String, command: &Command<'_>) -> Result<(), AllocErr
     text.push_str("--help\"")
 }
 
-/// What may stand behind options of a command: `"run --input") offer=json ;;`
+/// Adds the values of a command's options: `"run --input") offer=json ;;`
 fn push_values(alloc: Global, text: &mut String, command: &Command<'_>) -> Result<(), AllocError> {
     for arg in command.get_arguments() {
         if let Some(long) = arg.get_long() {

@@ -1,55 +1,54 @@
-//! What is told of files and of words, and want of memory that has no code.
+//! Pages about files and arguments, and about running out of memory where no other code applies.
 
 use crate::page::{Page, page};
 
-/// These pages.
+/// Returns these pages.
 pub(crate) fn pages() -> &'static [Page] {
     PAGES
 }
 
-/// Files that can't be read or written, or are no text or not laid out; and memory
+/// Files that can't be read or written, aren't UTF-8 or aren't formatted; and memory
 const PAGES: &[Page] = &[
     page! {
         name: "cannot-read",
         others: ["cannot read"],
-        about: "a file that can't be read",
-        rule: "There is none of this name, or it may not be opened or read.",
+        about: "file can't be read",
+        rule: "The file doesn't exist, or it can't be opened or read.",
         program: ["main {", "}"],
         tells: "check absent.afx" => "cannot read absent.afx",
-        mend: "Look at the name: it counts from the folder in which `afx` runs. `-` is the standard input.",
+        mend: "Check the name: it is relative to the current folder. `-` is standard input.",
     },
     page! {
         name: "cannot-write",
         others: ["cannot write output", "cannot write"],
-        about: "a file or an answer that can't be written",
-        rule: "A trace, a picture or a layout: no file of this name may be written, or the disk is full. Then no answer is
-written either.
-`cannot write output`: the standard output failed or took nothing. A beginning of the answer may stand there.",
+        about: "file or output can't be written",
+        rule: "The trace, picture or formatted program can't be written to this file, or the disk is full. Nothing is printed then.
+`cannot write output`: writing to standard output failed. It may have received the beginning of the answer.",
         program: ["main {", "}"],
         tells: "run program.afx --trace -" => "cannot write -",
-        mend: "Look at the name: its folder must be there, and `-`, the standard input, is never written.",
+        mend: "Check the name: the folder must exist, and `-` can't be written.",
     },
     page! {
         name: "not-UTF-8",
         others: ["not UTF-8"],
-        about: "a file or a word that is no text",
-        rule: "A program, an input, a trace and each word of the command line are UTF-8.",
-        mend: "Write it anew in UTF-8. Outside of comments a program has ASCII alone.",
+        about: "file or argument is not UTF-8",
+        rule: "Programs, inputs, traces and arguments must be UTF-8.",
+        mend: "Save the file as UTF-8. Outside comments a program is ASCII only.",
     },
     page! {
-        name: "not-laid-out",
-        others: ["not laid out"],
-        about: "a text that is not its own layout",
-        rule: "`fmt --check` compares a text with what `fmt` writes of it, byte by byte, and changes nothing. The status is 1.",
+        name: "not-formatted",
+        others: ["not formatted"],
+        about: "program is not formatted",
+        rule: "`fmt --check` compares the file with the output of `fmt` byte by byte and changes nothing. The exit status is 1.",
         program: ["main {", "skip;", "}"],
-        tells: "fmt --check program.afx" => "not laid out",
-        mend: "Have it laid out in its file: `afx fmt --write program.afx`.",
+        tells: "fmt --check program.afx" => "not formatted",
+        mend: "Format the file in place: `afx fmt --write program.afx`.",
     },
     page! {
         name: "no-memory",
         others: ["no memory"],
-        about: "no memory",
-        rule: "For what no code of its own stands: `S6`, `Y10`, `C2`, `N6`, `E1` and `J2` are others. The status is 4.",
-        mend: "Try again where there is more memory.",
+        about: "out of memory",
+        rule: "Memory ran out where no other code applies (`S6`, `Y10`, `C2`, `N6`, `E1`, `J2`). The exit status is 4.",
+        mend: "Try again with more memory available.",
     },
 ];

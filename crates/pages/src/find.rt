@@ -1,4 +1,4 @@
-//! Pages by their words.
+//! Finding pages by their words.
 
 ghost use Rattle.std.specs.Prelude.{◌≡◌, ◌++◌, IfOk, OnOk, find, option_map};
 ghost use Rattle.std.specs.List.{flat_map};
@@ -9,8 +9,8 @@ use crate::page::{Page, push_all};
 use crate::{faults, files, idioms, inputs, races, rules, runs, texts, traces, words};
 use std::alloc::{AllocError, Global};
 
-/// All pages, topic by topic. (Each topic by a call: what constants in one body cost the prover
-/// goes up with the square of their length.)
+/// Returns all pages, topic by topic. (Each topic is a call, because the prover's time for
+/// constants in one body grows with the square of their length.)
 pub fn tables() -> [&'static [Page]; 10] {
     [
         texts::pages(),
@@ -26,7 +26,7 @@ pub fn tables() -> [&'static [Page]; 10] {
     ]
 }
 
-/// The first page for which a word asks, or None where no page has it.
+/// Returns the first page that has a word, or None if no page has it.
 pub fn page_of(tables: &[&'static [Page]], word: &str) -> Option<&'static Page>
     ensures { option_map (λ page. page.now) result
         ≡ find (λ page. answers_to page word.now) (flat_map (λ table. table.now) tables.now) }
@@ -40,7 +40,7 @@ pub fn page_of(tables: &[&'static [Page]], word: &str) -> Option<&'static Page>
     }
 }
 
-/// The first page of a table for which a word asks.
+/// Returns the first page of a table that has a word.
 fn page_in(table: &'static [Page], word: &str) -> Option<&'static Page>
     ensures { option_map (λ page. page.now) result
         ≡ find (λ page. answers_to page word.now) table.now }
@@ -48,9 +48,8 @@ fn page_in(table: &'static [Page], word: &str) -> Option<&'static Page>
     table.iter().find(|page| page.answers_to(word))
 }
 
-/// The page for which a line asks that may be pasted from what the program told, as `C1 race in
-/// main: ..`, `fault 0 at 2: F4` or `race.afx: C1 race in main: ..`; letters of a code may be
-/// small.
+/// Returns the page for a line that may be copied from the program's output, such as `C1 race in
+/// main: ..`, `fault 0 at 2: F4` or `race.afx: C1 race in main: ..`. Codes can be in lower case.
 pub fn page_about(
     alloc: Global,
     tables: &[&'static [Page]],
@@ -64,7 +63,8 @@ pub fn page_about(
     Ok(page_of_line(tables, capitals.as_str()))
 }
 
-/// The page of the word with which a line begins, or else of that behind its first colon.
+/// Returns the page of the word at the start of a line, or else at the start of what follows its
+/// first colon.
 fn page_of_line(tables: &[&'static [Page]], line: &str) -> Option<&'static Page> {
     if let Some(page) = page_begun(tables, line) {
         return Some(page);
@@ -75,7 +75,8 @@ fn page_of_line(tables: &[&'static [Page]], line: &str) -> Option<&'static Page>
     }
 }
 
-/// The page of a line's word, or else the first page of a word with which the line begins.
+/// Returns the page whose word is the whole line, or else the first page with a word at the start
+/// of the line.
 fn page_begun(tables: &[&'static [Page]], line: &str) -> Option<&'static Page> {
     if let Some(page) = page_of(tables, line) {
         return Some(page);
@@ -90,7 +91,7 @@ fn page_begun(tables: &[&'static [Page]], line: &str) -> Option<&'static Page> {
     None
 }
 
-/// The list of pages: what each is about, a line each.
+/// Returns the list of pages: what each is about, one per line.
 pub fn contents(alloc: Global, tables: &[&[Page]]) -> Result<String, AllocError>
     ensures { IfOk result (λ text. string_bytes text
         ≡ flat_map (λ table. flat_map head_text table.now) tables.now) }
@@ -113,7 +114,7 @@ fn push_heads(text: &mut String, table: &[Page]) -> Result<(), AllocError>
     Ok(())
 }
 
-/// Adds the names of pages, each behind a space.
+/// Adds the names of pages, with a space before each.
 pub fn push_names(text: &mut String, tables: &[&[Page]]) -> Result<(), AllocError>
     ensures { OnOk result (string_bytes text.new ≡ string_bytes text.old
         ++ flat_map (λ table. flat_map spaced_name table.now) tables.now) }
@@ -124,7 +125,7 @@ pub fn push_names(text: &mut String, tables: &[&[Page]]) -> Result<(), AllocErro
     Ok(())
 }
 
-/// Adds those of a table.
+/// Adds the names of a table's pages, with a space before each.
 fn push_names_of(text: &mut String, table: &[Page]) -> Result<(), AllocError>
     ensures { OnOk result (string_bytes text.new
         ≡ string_bytes text.old ++ flat_map spaced_name table.now) }
@@ -135,10 +136,10 @@ fn push_names_of(text: &mut String, table: &[Page]) -> Result<(), AllocError>
     Ok(())
 }
 
-/// How many bytes a line of names has at most.
+/// The maximum number of bytes in a line of names.
 const WIDTH: usize = 100;
 
-/// Adds lines of the names of pages.
+/// Adds the names of pages in lines.
 pub fn push_name_lines(text: &mut String, tables: &[&[Page]]) -> Result<(), AllocError> {
     let mut width = WIDTH;
     for table in tables {
@@ -149,8 +150,8 @@ pub fn push_name_lines(text: &mut String, tables: &[&[Page]]) -> Result<(), Allo
     text.push('\n')
 }
 
-/// Adds a name to a line that has so many bytes, or on the next line where it has no room there,
-/// and answers how many that line has then.
+/// Adds a name to a line with this many bytes, or on the next line if the name doesn't fit. Returns
+/// the length of the line that has the name.
 fn push_name(text: &mut String, width: usize, name: &str) -> Result<usize, AllocError> {
     let longer = width.saturating_add(1).saturating_add(name.len());
     if longer <= WIDTH {

@@ -6,16 +6,16 @@ use crate::quoting::Quoting;
 use clap::{Arg, Command};
 use std::alloc::{AllocError, Global};
 
-/// What stands before the commands.
+/// The text before the commands.
 const HEAD: &str =
     "# Completions of afx for fish: afx completions fish >~/.config/fish/completions/afx.fish
 complete -c afx -f
-complete -c afx -n __fish_use_subcommand -l help -d 'Prints help'
-complete -c afx -n __fish_use_subcommand -l version -d 'Prints the version'
-complete -c afx -n __fish_use_subcommand -a help -d 'Tells what a command does'
+complete -c afx -n __fish_use_subcommand -l help -d 'Print help'
+complete -c afx -n __fish_use_subcommand -l version -d 'Print version'
+complete -c afx -n __fish_use_subcommand -a help -d 'Print the help of a command'
 ";
 
-/// How an argument's offer is written.
+/// How each offer is written.
 const OFFERS: Wording = Wording {
     program: " -k -a '(__fish_complete_suffix .afx)'",
     input: " -k -a '(__fish_complete_suffix .json)'",
@@ -26,7 +26,7 @@ const OFFERS: Wording = Wording {
     nothing: " -f",
 };
 
-/// The script by which fish completes the words of a program with these commands.
+/// Returns the script with which fish completes the arguments of a program with these commands.
 pub fn script(alloc: Global, program: &Command<'_>) -> Result<String, AllocError> {
     let mut text = String::from_str(alloc, HEAD)?;
     push_names(&mut text, program)?;
@@ -36,7 +36,7 @@ pub fn script(alloc: Global, program: &Command<'_>) -> Result<String, AllocError
     Ok(text)
 }
 
-/// The commands, with what each does.
+/// Adds the commands, with what each does.
 fn push_names(text: &mut String, program: &Command<'_>) -> Result<(), AllocError> {
     for command in program.get_subcommands() {
         let line = "complete -c afx -n __fish_use_subcommand -a ";
@@ -47,22 +47,22 @@ fn push_names(text: &mut String, program: &Command<'_>) -> Result<(), AllocError
     Ok(())
 }
 
-/// The arguments of a command.
+/// Adds the arguments of a command.
 fn push_command(alloc: Global, text: &mut String, command: &Command<'_>) -> Result<(), AllocError> {
     for arg in command.get_arguments() {
         push_argument(alloc, text, command.get_name(), arg)?;
     }
     push_begin(text, command.get_name())?;
-    text.push_str(" -l help -d 'Prints help'\n")
+    text.push_str(" -l help -d 'Print help'\n")
 }
 
-/// What each line of a command begins with.
+/// Adds the start of each line of a command.
 fn push_begin(text: &mut String, command: &str) -> Result<(), AllocError> {
     let begin = "complete -c afx -n '__fish_seen_subcommand_from ";
     push_all(text, &[begin, command, "'"])
 }
 
-/// The line of an option with what it says and what stands behind it, or of a positional argument.
+/// Adds the line of an option with its help and its value, or of a positional argument.
 fn push_argument(
     alloc: Global,
     text: &mut String,

@@ -1,21 +1,21 @@
-//! Shapes of programs, which `docs/COOKBOOK.md` explains.
+//! Pages about program patterns, which `docs/COOKBOOK.md` explains.
 
 use crate::page::{Page, page};
 
-/// These pages.
+/// Returns these pages.
 pub(crate) fn pages() -> &'static [Page] {
     PAGES
 }
 
-/// The shapes, by the names of their programs in `examples/`
+/// The patterns, by the names of their programs in `examples/`
 const PAGES: &[Page] = &[
     page! {
         name: "parallel_loop",
         others: ["parallel-for"],
-        about: "a loop whose turns are tasks",
-        rule: "A procedure halves its section down to a leaf, which a loop does. The left half is a task, the right one is
-done in place. `first` goes along: `part[i]` is the element `first + i` of the whole. The finish stands round
-the first call alone: `finish { each(squares, 0); }`.",
+        about: "parallel loop",
+        rule: "A procedure halves its section recursively and runs a loop on small parts. The left half becomes a task; the right half
+runs in the same task. `first` is the offset: `part[i]` is element `first + i` of the whole array. Only the outermost
+call needs a finish: `finish { each(squares, 0); }`.",
         shape: [
             "proc each(mut part: int, first: int) {",
             "  if len(part) <= 64 {",
@@ -37,9 +37,9 @@ the first call alone: `finish { each(squares, 0); }`.",
     },
     page! {
         name: "answers",
-        about: "an answer of a task",
-        rule: "No value is returned. A task answers into a section that only it writes, of one place or more, and the
-finish ends before the answers are read.",
+        about: "result of a task",
+        rule: "Procedures return no values. Each task writes its result into a section that no other task uses, and the results are
+read after the finish.",
         shape: [
             "proc both(read a: int, mut answers: int) {",
             "  finish {",
@@ -58,9 +58,8 @@ finish ends before the answers are read.",
     },
     page! {
         name: "cut_alike",
-        about: "sections that are cut alike",
-        rule: "Split one section, then the others at the places that fit: each task gets just the elements that belong
-together.",
+        about: "splitting several arrays at the same point",
+        rule: "Split the sections at matching points, so that each task gets the elements that belong together.",
         shape: [
             "proc halves(read a: int, read b: int, mut c: int) {",
             "  var half = len(c) / 2;",
@@ -79,8 +78,8 @@ together.",
     },
     page! {
         name: "middle_part",
-        about: "a part from the middle",
-        rule: "Two splits, the second of the right side of the first. The three parts are apart, so each may be a task's.",
+        about: "a part in the middle",
+        rule: "Split twice, the second time the right side of the first split. The three parts don't overlap, so each can go to a task.",
         shape: [
             "proc three(mut a: int) {",
             "  split a at 2 as before, from {",
@@ -99,9 +98,9 @@ together.",
     },
     page! {
         name: "tiles",
-        about: "a task for each tile",
-        rule: "A tile is split off and becomes a task, and the procedure goes on with the others outside of the async, so
-the tasks stand beside one another and not inside.",
+        about: "one task per tile",
+        rule: "Each tile is split off and becomes a task. The procedure handles the remaining tiles outside the async, so the tasks are
+siblings and not nested.",
         shape: [
             "proc tiles(mut row: int, n: int, number: int) {",
             "  if len(row) > 0 {",
@@ -117,9 +116,8 @@ the tasks stand beside one another and not inside.",
     },
     page! {
         name: "scratch_space",
-        about: "scratch space of tasks",
-        rule: "Procedures have no arrays of their own. What they need beside their section is an array of `main`, handed
-down and cut alongside.",
+        about: "scratch space for tasks",
+        rule: "Procedures can't declare arrays. Declare the scratch array in `main`, pass it down and split it together with the data.",
         shape: [
             "proc turn(mut s: int, mut scratch: int) {",
             "  if len(s) > 4 {",
@@ -138,9 +136,9 @@ down and cut alongside.",
     page! {
         name: "turned_names",
         others: ["swap"],
-        about: "two arrays that change their parts",
-        rule: "A turn reads the old array whole and writes parts of the new one. The next turn calls with the names turned:
-after an even number of turns the answer is in the first array.",
+        about: "double buffering",
+        rule: "Each round reads the whole old array and writes parts of the new one. The next round swaps the two arguments. After an
+even number of rounds the result is in the first array.",
         shape: [
             "proc rows(mut old: int, mut new: int, turns: int) {",
             "  if turns > 0 {",
@@ -154,9 +152,9 @@ after an even number of turns the answer is in the first array.",
     },
     page! {
         name: "reader_of_all",
-        about: "tasks that read all of an array",
-        rule: "Any number of tasks may read one section, as long as nobody writes it. By `run` they hold it in
-common, and only of a block of 256 elements that goes in part elements are copied.",
+        about: "shared read-only array",
+        rule: "Any number of tasks can read a section that no task writes. `run` shares its blocks of 256 elements without copying;
+only partial blocks are copied.",
         shape: [
             "proc ranks(read all: int, mut part: int, first: int) {",
             "  split part at len(part) / 2 as l, r {",

@@ -1,8 +1,8 @@
-//! Why an input is none.
+//! Pages about invalid inputs.
 
 use crate::page::{Page, page};
 
-/// These pages.
+/// Returns these pages.
 pub(crate) fn pages() -> &'static [Page] {
     PAGES
 }
@@ -11,8 +11,8 @@ pub(crate) fn pages() -> &'static [Page] {
 const PAGES: &[Page] = &[
     page! {
         name: "N1",
-        about: "the input is no JSON",
-        rule: "`--input FILE` names a JSON text.",
+        about: "input is not valid JSON",
+        rule: "`--input FILE` names a JSON file.",
         program: ["main {", "  array a: int[1];", "  print a[0];", "}"],
         input: "{",
         tells: "run program.afx --input input.json" => "N1",
@@ -20,8 +20,8 @@ const PAGES: &[Page] = &[
     },
     page! {
         name: "N2",
-        about: "the input is no object",
-        rule: "The JSON text is an object with a member for each array that is not to begin with zeros.",
+        about: "input is not a JSON object",
+        rule: "The input is an object with one member for each array that doesn't start with zeros.",
         program: ["main {", "  array a: int[1];", "  print a[0];", "}"],
         input: "[7]",
         tells: "run program.afx --input input.json" => "N2",
@@ -29,36 +29,36 @@ const PAGES: &[Page] = &[
     },
     page! {
         name: "N3",
-        about: "the input names no array",
-        rule: "Each member has the name of an array of `main`. Of several others the least name is told, in the order of bytes.",
+        about: "unknown array in the input",
+        rule: "Each member must be named after an array of `main`. If several are not, the message names the first in byte order.",
         program: ["main {", "  array a: int[1];", "  print a[0];", "}"],
         input: "{\"z\": [7]}",
         tells: "run program.afx --input input.json" => "N3 z",
-        mend: "Give the member the name of an array, or declare one.",
+        mend: "Rename the member, or declare the array.",
     },
     page! {
         name: "N4",
-        about: "an array is given no list, or one of another length",
-        rule: "A member is a list with as many elements as its array has.",
+        about: "not a list, or a list of the wrong length",
+        rule: "The value must be a list with exactly as many elements as the array.",
         program: ["main {", "  array a: int[1];", "  print a[0];", "}"],
         input: "{\"a\": [7, 8]}",
         tells: "run program.afx --input input.json" => "N4 a",
-        mend: "Make both of one length: an array has that of its declaration, `array a: int[2];`.",
+        mend: "Make the lengths equal. The array's length is in its declaration, such as `array a: int[2];`.",
     },
     page! {
         name: "N5",
-        about: "an element that the array does not hold",
-        rule: "An element is written as a whole number of 64 bits with sign, without point or exponent, and its type
-holds it: that of `byte` is 0 to 255.",
+        about: "element out of range",
+        rule: "An element must be an integer that fits in 64 bits, written without a decimal point or exponent. For a `byte` array it
+must be 0 to 255.",
         program: ["main {", "  array a: byte[1];", "  print a[0];", "}"],
         input: "{\"a\": [256]}",
         tells: "run program.afx --input input.json" => "N5 a",
-        mend: "Declare the array as `int`, or write another number.",
+        mend: "Declare the array as `int`, or change the number.",
     },
     page! {
         name: "N6",
-        about: "no memory for the input",
-        rule: "The input may be right. The status is 4.",
-        mend: "Try again where there is more memory.",
+        about: "out of memory while reading the input",
+        rule: "The input may be correct. The exit status is 4.",
+        mend: "Try again with more memory available.",
     },
 ];

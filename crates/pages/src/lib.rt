@@ -1,4 +1,5 @@
-//! What `afx` says of itself: a page for each word that it prints, completions of shells, and a manual.
+//! The texts that `afx` has about itself: a page for each message, shell completions, and a manual
+//! page.
 
 #![tactic(auto)]
 

@@ -8,17 +8,18 @@ use clap::builder::ValueParser;
 use clap::{Arg, Command};
 use std::alloc::{AllocError, Global};
 
-/// What is told behind the commands.
+/// The texts of the manual page that `clap` doesn't have.
 #[derive(Clone, Copy)]
 pub struct Closing<'a> {
-    /// What stands behind the help of the program: a text, an example, and the statuses at its end.
+    /// The text after the help of the program: a paragraph, an example, and the exit statuses at
+    /// its end.
     pub notes: &'a str,
-    /// What stands behind the help of each command, in their order: a text or none, and lines that
-    /// begin with `Example: `.
+    /// The text after the help of each command, in order: a paragraph or none, and lines that begin
+    /// with `Example: `.
     pub examples: &'a [&'a str],
 }
 
-/// The manual page of a program with these commands, for `man -l`.
+/// Returns the manual page of a program with these commands, for `man -l`.
 pub fn page(
     alloc: Global,
     program: &Command<'_>,
@@ -33,7 +34,7 @@ pub fn page(
     Ok(text)
 }
 
-/// What the program does at length, and each command.
+/// Adds the description of the program, and each command.
 fn push_commands(
     alloc: Global,
     text: &mut String,
@@ -53,10 +54,10 @@ fn push_commands(
     Ok(())
 }
 
-/// What each page is about.
+/// Adds what each page is about.
 fn push_messages(text: &mut String) -> Result<(), AllocError> {
     text.push_str(
-        ".SH MESSAGES\nEach word has a page that tells more, by \\fBafx explain\\fR \\fIWORD\\fR.\n",
+        ".SH MESSAGES\n\\fBafx explain\\fR \\fIWORD\\fR prints the full page for each of these.\n",
     )?;
     for table in &tables() {
         for page in *table {
@@ -69,7 +70,7 @@ fn push_messages(text: &mut String) -> Result<(), AllocError> {
     Ok(())
 }
 
-/// The title, and what the program does.
+/// Adds the title and what the program does.
 fn push_title(text: &mut String, program: &Command<'_>) -> Result<(), AllocError> {
     let version = program.get_version().unwrap_or("");
     push_all(
@@ -84,7 +85,7 @@ fn push_title(text: &mut String, program: &Command<'_>) -> Result<(), AllocError
     text.push_str(".SH SYNOPSIS\n.B afx\n\\fICOMMAND\\fR [\\fIOPTIONS\\fR] [\\fIFILE\\fR]\n")
 }
 
-/// A command: how it is called, what it does, and its arguments.
+/// Adds a command: its usage, what it does, and its arguments.
 fn push_command(alloc: Global, text: &mut String, command: &Command<'_>) -> Result<(), AllocError> {
     push_all(text, &[".SS afx ", command.get_name()])?;
     for arg in command.get_arguments() {
@@ -100,7 +101,7 @@ fn push_command(alloc: Global, text: &mut String, command: &Command<'_>) -> Resu
     Ok(())
 }
 
-/// A positional argument of a call, in brackets where it may be left out.
+/// Adds a positional argument to a usage, in brackets if it is optional.
 fn push_positional(alloc: Global, text: &mut String, arg: &Arg<'_>) -> Result<(), AllocError> {
     let name = value_name(alloc, arg)?;
     if arg.is_required_set() {
@@ -110,7 +111,7 @@ fn push_positional(alloc: Global, text: &mut String, arg: &Arg<'_>) -> Result<()
     }
 }
 
-/// An argument, and what it says.
+/// Adds an argument and its help.
 fn push_argument(alloc: Global, text: &mut String, arg: &Arg<'_>) -> Result<(), AllocError> {
     text.push_str(".TP\n")?;
     push_option(text, arg)?;
@@ -123,7 +124,7 @@ fn push_argument(alloc: Global, text: &mut String, arg: &Arg<'_>) -> Result<(), 
     push_values(text, arg)
 }
 
-/// The option of an argument, where it has one: `--input`, in bold letters.
+/// Adds the option of an argument, if it has one: `--input`, in bold.
 fn push_option(text: &mut String, arg: &Arg<'_>) -> Result<(), AllocError> {
     if let Some(long) = arg.get_long() {
         text.push_str("\\fB\\-\\-")?;
@@ -133,7 +134,7 @@ fn push_option(text: &mut String, arg: &Arg<'_>) -> Result<(), AllocError> {
     Ok(())
 }
 
-/// The words of which an argument takes one, where it does: `(one of: text, json)`
+/// Adds the possible values of an argument, if they are words: `(one of: text, json)`
 fn push_values(text: &mut String, arg: &Arg<'_>) -> Result<(), AllocError> {
     if let ValueParser::Names(names) = arg.get_value_parser() {
         let mut mark = "(one of: ";
@@ -146,7 +147,7 @@ fn push_values(text: &mut String, arg: &Arg<'_>) -> Result<(), AllocError> {
     Ok(())
 }
 
-/// The text before the examples, as a paragraph at the margin; nothing where there is none.
+/// Adds the text before the examples as a paragraph at the margin, if there is one.
 fn push_paragraph(text: &mut String, behind: &str) -> Result<(), AllocError> {
     if behind.starts_with("Example: ") {
         return Ok(());
@@ -162,7 +163,7 @@ fn push_paragraph(text: &mut String, behind: &str) -> Result<(), AllocError> {
     Ok(())
 }
 
-/// The statuses, which stand at the end of the notes, a line each.
+/// Adds the exit statuses, which are at the end of the notes, one per line.
 fn push_statuses(text: &mut String, notes: &str) -> Result<(), AllocError> {
     text.push_str(".SH EXIT STATUS\n.nf\n")?;
     let mut here = false;
@@ -175,7 +176,7 @@ fn push_statuses(text: &mut String, notes: &str) -> Result<(), AllocError> {
     text.push_str(".fi\n")
 }
 
-/// The examples, a line each.
+/// Adds the examples, one per line.
 fn push_examples(text: &mut String, examples: &[&str]) -> Result<(), AllocError> {
     text.push_str(".SH EXAMPLES\n.nf\n")?;
     for example in examples {
@@ -188,7 +189,7 @@ fn push_examples(text: &mut String, examples: &[&str]) -> Result<(), AllocError>
     text.push_str(".fi\n")
 }
 
-/// A line of text, whatever it begins with.
+/// Adds a line of text, also if it begins with a dot.
 fn push_line(text: &mut String, line: &str) -> Result<(), AllocError> {
     if line.starts_with('.') {
         text.push_str("\\&")?;

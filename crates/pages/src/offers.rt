@@ -1,4 +1,4 @@
-//! What is offered where an argument of a command is typed.
+//! What shells offer for an argument.
 
 use crate::find::{push_names, tables};
 use crate::page::push_all;
@@ -6,7 +6,7 @@ use clap::builder::ValueParser;
 use clap::{Arg, ArgAction};
 use std::alloc::{AllocError, Global};
 
-/// What may stand there.
+/// What an argument can be.
 #[derive(Clone, Copy)]
 pub enum Offer<'a> {
     /// A program: `*.afx` before other files.
@@ -21,26 +21,26 @@ pub enum Offer<'a> {
     Page,
     /// One of these words.
     Words(&'a [&'a str]),
-    /// A number, or another value that nobody can guess.
+    /// A number, or another value that can't be completed.
     Nothing,
 }
 
-/// How a shell's script writes an offer.
+/// How the script of a shell writes each offer.
 #[derive(Clone, Copy)]
 pub struct Wording {
     pub program: &'static str,
     pub input: &'static str,
     pub file: &'static str,
     pub folder: &'static str,
-    /// before words, and before the names of pages
+    /// Before words, and before the names of pages.
     pub open: &'static str,
-    /// behind them
+    /// After them.
     pub close: &'static str,
     pub nothing: &'static str,
 }
 
 impl Wording {
-    /// What an argument may be.
+    /// Adds the offer for an argument.
     pub fn push(self, alloc: Global, text: &mut String, arg: &Arg<'_>) -> Result<(), AllocError> {
         match offer_of(alloc, arg)? {
             Offer::Program => text.push_str(self.program),
@@ -64,7 +64,8 @@ impl Wording {
     }
 }
 
-/// What may stand for an argument, by the name of its value, as `FILE`, or the words that it takes.
+/// Returns the offer for an argument, by the words that it takes or by the name of its value, such
+/// as `FILE`.
 pub fn offer_of<'a>(alloc: Global, arg: &Arg<'a>) -> Result<Offer<'a>, AllocError> {
     if let ValueParser::Names(names) = arg.get_value_parser() {
         return Ok(Offer::Words(names));
@@ -80,7 +81,8 @@ pub fn offer_of<'a>(alloc: Global, arg: &Arg<'a>) -> Result<Offer<'a>, AllocErro
     })
 }
 
-/// The name of an argument's value, as help shows it: `JSON` of `--input <JSON>`. That of a flag is empty.
+/// Returns the name of an argument's value, as the help shows it: `JSON` for `--input <JSON>`. For
+/// a flag it is empty.
 pub fn value_name(alloc: Global, arg: &Arg<'_>) -> Result<String, AllocError> {
     let mut name = String::new(alloc);
     if takes_value(arg) {
@@ -94,7 +96,7 @@ pub fn value_name(alloc: Global, arg: &Arg<'_>) -> Result<String, AllocError> {
     Ok(name)
 }
 
-/// Whether a value stands behind an option; a positional argument is one.
+/// Returns whether an option takes a value. A positional argument does.
 pub fn takes_value(arg: &Arg<'_>) -> bool {
     match arg.get_action() {
         ArgAction::Set | ArgAction::Append => true,

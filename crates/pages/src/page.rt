@@ -1,4 +1,4 @@
-//! What a page says, and its text.
+//! Pages and their texts.
 
 ghost use Rattle.std.specs.Prelude.{◌≡◌, ◌++◌, IfOk, OnOk};
 ghost use Rattle.std.specs.List.{flat_map, list_any};
@@ -13,46 +13,46 @@ use std::alloc::{AllocError, Global};
 /// What `afx explain WORD` shows.
 #[derive(Clone, Copy)]
 pub struct Page {
-    /// The word that asks for it. It has no blank.
+    /// The word by which the page is found. It has no space.
     pub name: &'static str,
-    /// Other words that do, as they stand in what the program prints.
+    /// Other words by which it is found, as the program prints them.
     pub others: &'static [&'static str],
-    /// What it is about, on a line.
+    /// What the page is about, in one line.
     pub about: &'static str,
-    /// The rule, or what the word means, in lines.
+    /// The rule, or the meaning of the word, in lines.
     pub rule: &'static str,
     pub example: Example,
-    /// How it is mended, in lines.
+    /// How to fix the problem, in lines.
     pub mend: Option<&'static str>,
 }
 
-/// What a page shows of programs.
+/// The example of a page.
 #[derive(Clone, Copy)]
 pub enum Example {
-    /// No small program comes to it, as to want of memory.
+    /// No small program shows it, such as running out of memory.
     Nothing,
-    /// A program, and what is told of it.
+    /// A program and what is printed for it.
     Program(Told),
-    /// The same with an input.
+    /// A program with an input, and what is printed for them.
     WithInput(Given),
-    /// The same with a trace.
+    /// A program with a trace, and what is printed for them.
     WithTrace(Traced),
     /// A part of a program.
     Shape(Shape),
 }
 
-/// A program, and what is told of it.
+/// A program and what is printed for it.
 #[derive(Clone, Copy)]
 pub struct Told {
     /// The lines of `program.afx`.
     pub lines: &'static [&'static str],
-    /// The words behind `afx`, as `check program.afx`.
+    /// The arguments of `afx`, such as `check program.afx`.
     pub command: &'static str,
-    /// The one line that is told.
+    /// The one line that is printed.
     pub line: &'static str,
 }
 
-/// A program with `input.json`, and what is told of both.
+/// A program with `input.json`, and what is printed for both.
 #[derive(Clone, Copy)]
 pub struct Given {
     pub told: Told,
@@ -60,7 +60,7 @@ pub struct Given {
     pub input: &'static str,
 }
 
-/// A program with `program.trace`, and what is told of both.
+/// A program with `program.trace`, and what is printed for both.
 #[derive(Clone, Copy)]
 pub struct Traced {
     pub told: Told,
@@ -68,16 +68,16 @@ pub struct Traced {
     pub trace: &'static [&'static str],
 }
 
-/// A procedure of a program in `examples/`, or one like it.
+/// A procedure of a program in `examples/`, or a similar one.
 #[derive(Clone, Copy)]
 pub struct Shape {
     pub lines: &'static [&'static str],
-    /// The name of the program, as `tiles`.
+    /// The name of the program, such as `tiles`.
     pub name: &'static str,
 }
 
-/// A page of a table. What it lacks is left out: other words, an input, a trace, a program at all,
-/// how it is mended.
+/// A page of a table. Fields that it lacks are left out: other words, an input, a trace, a program,
+/// or how to fix the problem.
 macro_rules! page {
     (
         name: $name:literal,
@@ -134,19 +134,19 @@ macro_rules! page {
 pub(crate) use page;
 
 impl Page {
-    /// Whether a word asks for it.
+    /// Returns whether a word is one of the page's words.
     pub fn answers_to(&self, word: &str) -> bool
         ensures { result ≡ answers_to self.now word.now }
     {
         self.name == word || has_word(self.others, word)
     }
 
-    /// Whether a line begins with a word that asks for it.
+    /// Returns whether a line starts with one of the page's words.
     pub fn is_begun(&self, line: &str) -> bool {
         begins(line, self.name) || begins_with_one(line, self.others)
     }
 
-    /// Its text: its head, the rule, the program with what is told of it, and how it is mended.
+    /// Returns its text: its heading, the rule, the example, and how to fix the problem.
     pub fn text(&self, alloc: Global) -> Result<String, AllocError>
         ensures { IfOk result (λ text. string_bytes text ≡ page_text self.now) }
     {
@@ -156,7 +156,7 @@ impl Page {
         Ok(text)
     }
 
-    /// Adds what stands behind its head.
+    /// Adds the text after the heading.
     fn push_body(&self, text: &mut String) -> Result<(), AllocError>
         ensures { OnOk result (string_bytes text.new ≡ string_bytes text.old ++ body_text self.now) }
     {
@@ -164,7 +164,7 @@ impl Page {
         self.push_end(text)
     }
 
-    /// Adds what stands behind the rule.
+    /// Adds the text after the rule.
     fn push_end(&self, text: &mut String) -> Result<(), AllocError>
         ensures { OnOk result (string_bytes text.new ≡ string_bytes text.old ++ end_text self.now) }
     {
@@ -172,7 +172,7 @@ impl Page {
         push_mend(text, self.mend)
     }
 
-    /// Adds its name and what it is about, on a line.
+    /// Adds its name and what it is about, in one line.
     pub fn push_head(&self, text: &mut String) -> Result<(), AllocError>
         ensures { OnOk result (string_bytes text.new ≡ string_bytes text.old ++ head_text self.now) }
     {
@@ -180,14 +180,14 @@ impl Page {
     }
 }
 
-/// Whether a word is one of these.
+/// Returns whether a word is one of these.
 fn has_word(words: &[&str], word: &str) -> bool
     ensures { result ≡ list_any (λ one. bytes_eq one.now word.now) words.now }
 {
     words.iter().any(|one| *one == word)
 }
 
-/// Whether a line begins with one of these words.
+/// Returns whether a line starts with one of these words.
 fn begins_with_one(line: &str, words: &[&str]) -> bool {
     for word in words {
         if begins(line, *word) {
@@ -197,7 +197,7 @@ fn begins_with_one(line: &str, words: &[&str]) -> bool {
     false
 }
 
-/// Whether a line is this word, or has more behind it and a space.
+/// Returns whether a line is this word, or starts with it and a space.
 fn begins(line: &str, word: &str) -> bool {
     match line.strip_prefix(word) {
         Some(rest) => rest.is_empty() || rest.starts_with(' '),
@@ -205,7 +205,7 @@ fn begins(line: &str, word: &str) -> bool {
     }
 }
 
-/// Adds a program with what is told of it.
+/// Adds an example.
 fn push_example(text: &mut String, example: Example) -> Result<(), AllocError>
     ensures { OnOk result (string_bytes text.new ≡ string_bytes text.old ++ example_text example) }
 {
@@ -230,7 +230,7 @@ fn push_example(text: &mut String, example: Example) -> Result<(), AllocError>
     }
 }
 
-/// Adds how it is mended, where that is said.
+/// Adds how to fix the problem, if the page has that.
 fn push_mend(text: &mut String, mend: Option<&str>) -> Result<(), AllocError>
     ensures { OnOk result (string_bytes text.new ≡ string_bytes text.old ++ mend_text mend.entry) }
 {
@@ -248,7 +248,7 @@ fn push_program(text: &mut String, lines: &[&str]) -> Result<(), AllocError>
     push_lines(text, lines)
 }
 
-/// Adds lines, each behind four spaces.
+/// Adds lines, each indented by four spaces.
 fn push_lines(text: &mut String, lines: &[&str]) -> Result<(), AllocError>
     ensures { OnOk result (string_bytes text.new
         ≡ string_bytes text.old ++ flat_map indented lines.now) }
@@ -259,7 +259,7 @@ fn push_lines(text: &mut String, lines: &[&str]) -> Result<(), AllocError>
     Ok(())
 }
 
-/// Adds an input, and a command with what it tells.
+/// Adds an input, and a command with its output.
 fn push_told_of(text: &mut String, given: Given) -> Result<(), AllocError>
     ensures { OnOk result (string_bytes text.new ≡ string_bytes text.old ++ given_text given) }
 {
@@ -267,7 +267,7 @@ fn push_told_of(text: &mut String, given: Given) -> Result<(), AllocError>
     push_told(text, given.told)
 }
 
-/// Adds a trace, and a command with what it tells.
+/// Adds a trace, and a command with its output.
 fn push_told_by(text: &mut String, traced: Traced) -> Result<(), AllocError>
     ensures { OnOk result (string_bytes text.new ≡ string_bytes text.old ++ traced_text traced) }
 {
@@ -290,28 +290,21 @@ fn push_input(text: &mut String, input: &str) -> Result<(), AllocError>
     push_all(text, &["\n  input.json: ", input, "\n"])
 }
 
-/// Adds where a whole program of a shape stands.
+/// Adds the file that has the complete program of a pattern.
 fn push_place(text: &mut String, name: &str) -> Result<(), AllocError>
     ensures { OnOk result (string_bytes text.new ≡ string_bytes text.old ++ place_text name.now) }
 {
-    push_all(
-        text,
-        &[
-            "\n  A whole program of this shape: examples/",
-            name,
-            ".afx\n",
-        ],
-    )
+    push_all(text, &["\n  Complete program: examples/", name, ".afx\n"])
 }
 
-/// Adds a command and what it tells.
+/// Adds a command and its output.
 fn push_told(text: &mut String, told: Told) -> Result<(), AllocError>
     ensures { OnOk result (string_bytes text.new ≡ string_bytes text.old ++ told_text told) }
 {
     push_all(text, &["\n  $ afx ", told.command, "\n  ", told.line, "\n"])
 }
 
-/// Adds these texts, one behind the other.
+/// Adds these texts, one after the other.
 pub fn push_all(text: &mut String, pieces: &[&str]) -> Result<(), AllocError>
     ensures { OnOk result (string_bytes text.new
         ≡ string_bytes text.old ++ flat_map (λ piece. piece.now) pieces.now) }

@@ -1,8 +1,8 @@
-//! How texts are spelled in scripts and in manuals.
+//! Escaping in scripts and in manual pages.
 
 use std::alloc::AllocError;
 
-/// For which reader a text is spelled.
+/// The reader of an escaped text.
 #[derive(Clone, Copy)]
 pub enum Quoting {
     /// Between single quotes of zsh, in a description of its completions.
@@ -14,7 +14,7 @@ pub enum Quoting {
 }
 
 impl Quoting {
-    /// What stands for a character, if not it itself.
+    /// Returns the escaped form of a character, or None if it stays as it is.
     fn spelling(self, c: char) -> Option<&'static str> {
         match (self, c) {
             (Quoting::Zsh, '\'') => Some("'\\''"),
@@ -30,7 +30,7 @@ impl Quoting {
         }
     }
 
-    /// Adds a text, spelled so.
+    /// Adds a text, escaped.
     pub fn push(self, out: &mut String, text: &str) -> Result<(), AllocError> {
         for c in text.chars() {
             match self.spelling(c) {

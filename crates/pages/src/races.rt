@@ -1,8 +1,8 @@
-//! Races.
+//! Pages about races.
 
 use crate::page::{Page, page};
 
-/// These pages.
+/// Returns these pages.
 pub(crate) fn pages() -> &'static [Page] {
     PAGES
 }
@@ -12,10 +12,10 @@ const PAGES: &[Page] = &[
     page! {
         name: "C1",
         others: ["race"],
-        about: "two accesses race",
-        rule: "Two statements may run together, touch sections that overlap, and one of them writes. Told is the procedure,
-and each access by its label, `read` or `write`, and the name of its section there. `afx list FILE` writes the
-labels before the statements. The check sees whole sections, whatever the indices are.",
+        about: "data race",
+        rule: "Two statements may run in parallel and access overlapping sections, and at least one of them writes. The message names
+the procedure and, for each access, its label, `read` or `write`, and its section. `afx list FILE` prints the labels.
+The check compares whole sections and ignores indices.",
         program: [
             "main {",
             "  array a: int[1];",
@@ -26,14 +26,13 @@ labels before the statements. The check sees whole sections, whatever the indice
             "}",
         ],
         tells: "check program.afx" => "C1 race in main: 2 write a, 3 read a",
-        mend: "Put the task of the access that was begun before the other into a finish, or the call that begins it:
-`finish { async { a[0] = 7; } }`.
-Or give each task a part of its own: `afx explain parallel_loop`.",
+        mend: "Put the async that starts first, or the call that starts it, inside a finish: `finish { async { a[0] = 7; } }`.
+Or give each task its own part of the array: see `afx explain parallel_loop`.",
     },
     page! {
         name: "C2",
-        about: "no memory for the race check",
-        rule: "Whether the program has a race was not found. The status is 4.",
-        mend: "Try again where there is more memory.",
+        about: "out of memory during the race check",
+        rule: "It isn't known whether the program has a race. The exit status is 4.",
+        mend: "Try again with more memory available.",
     },
 ];

@@ -1,8 +1,8 @@
-//! The rules of programs, and their limits.
+//! Pages about the rules of programs, and their limits.
 
 use crate::page::{Page, page};
 
-/// These pages.
+/// Returns these pages.
 pub(crate) fn pages() -> &'static [Page] {
     PAGES
 }
@@ -11,61 +11,61 @@ pub(crate) fn pages() -> &'static [Page] {
 const PAGES: &[Page] = &[
     page! {
         name: "Y1",
-        about: "a name that isn't in scope",
-        rule: "Each name and each procedure is declared where it is used. A variable is in scope from the end of its `var`
-to the end of its block, a side of a split in the block of the split, an array in `main`.",
+        about: "name not in scope",
+        rule: "Every name must be in scope where it is used. A variable is in scope from the end of its `var` statement to the end of
+its block, a side of a split in the split's block, and an array in `main`.",
         program: ["main {", "  print x;", "}"],
         tells: "check program.afx" => "Y1 at label 1",
-        mend: "Declare it before, as `var x = 0;`. What a procedure needs of `main` it takes as a parameter.",
+        mend: "Declare it first, as in `var x = 0;`. Pass what a procedure needs from `main` as a parameter.",
     },
     page! {
         name: "Y2",
-        about: "a name that is declared while it is in scope",
-        rule: "No inner name hides an outer one, and no two procedures have one name. A label is told where a statement
-declares the name: arrays, parameters and procedures have none.",
+        about: "name declared twice",
+        rule: "Names can't be shadowed, and two procedures can't have the same name. The message has a label if a statement declares
+the name; arrays, parameters and procedures have no label.",
         program: ["main {", "  var x = 1;", "  var x = 2;", "}"],
         tells: "check program.afx" => "Y2 at label 2",
-        mend: "Take another name, or assign: `x = 2;`. After its block a name is free again.",
+        mend: "Use another name, or assign instead: `x = 2;`. After the block the name can be used again.",
     },
     page! {
         name: "Y3",
-        about: "a number, a truth value or a section for another of these",
-        rule: "Truth values stand only in guards, and as operands of `and`, `or` and `not`. A section is no value: its
-elements are, as `a[0]`. A variable is no section.",
+        about: "wrong kind: number, boolean or section",
+        rule: "Booleans are allowed only in conditions and as operands of `and`, `or` and `not`. A section isn't a value, but its
+elements are, as in `a[0]`. A variable isn't a section.",
         program: ["main {", "  print 1 < 2;", "}"],
         tells: "check program.afx" => "Y3 at label 1",
-        mend: "Choose by `if`: `if 1 < 2 { print 1; } else { print 0; }`.",
+        mend: "Use `if`: `if 1 < 2 { print 1; } else { print 0; }`.",
     },
     page! {
         name: "Y4",
-        about: "wrong arguments of a call",
-        rule: "A call has an argument for each parameter, and where a section is wanted the bare name of a section of
-that element type.",
+        about: "wrong arguments in a call",
+        rule: "A call has one argument for each parameter. For a section parameter, the argument is the name of a section with the
+same element type.",
         program: ["proc f(read s: int) {", "}", "main {", "  array a: byte[1];", "  f(a);", "}"],
         tells: "check program.afx" => "Y4 at label 1",
-        mend: "Compare the call with the parameters. A part of a section gets a name by `split` first.",
+        mend: "Compare the call with the parameter list. To pass part of a section, name it with `split` first.",
     },
     page! {
         name: "Y5",
-        about: "a variable of a parent is assigned in a task",
-        rule: "A task begins with copies of its parent's variables, which it may read and not assign.",
+        about: "assignment to a variable of the parent task",
+        rule: "A task starts with copies of its parent's variables. It can read them but not assign to them.",
         program: ["main {", "  var x = 1;", "  async {", "    x = 2;", "  }", "}"],
         tells: "check program.afx" => "Y5 at label 3",
-        mend: "Give the task a section of its own to write into, and read that after the finish: `afx explain answers`.",
+        mend: "Let the task write into a section of its own and read it after the finish: see `afx explain answers`.",
     },
     page! {
         name: "Y6",
-        about: "a `read` section is written",
-        rule: "A parameter that is marked `read`, and each part of one, is neither written nor passed as `mut`.",
+        about: "write to a `read` section",
+        rule: "A `read` parameter, or a part of one, can be neither written nor passed as `mut`.",
         program: ["proc f(read s: int) {", "  s[0] = 1;", "}", "main {", "}"],
         tells: "check program.afx" => "Y6 at label 1",
         mend: "Mark the parameter `mut`.",
     },
     page! {
         name: "Y7",
-        about: "a `mut` argument overlaps another section of its call",
-        rule: "A section that a call passes as `mut` shares no place with another section of that call. Two sides of one
-split are apart; a section and its part are not, nor are sides of two splits of one section.",
+        about: "`mut` argument overlaps another argument",
+        rule: "A section passed as `mut` must not overlap another section in the same call. The two sides of one split don't overlap.
+A section overlaps its own parts, and sides of two different splits of one section count as overlapping.",
         program: [
             "proc f(mut s: int, read t: int) {",
             "}",
@@ -79,25 +79,25 @@ split are apart; a section and its part are not, nor are sides of two splits of 
     },
     page! {
         name: "Y8",
-        about: "no `main`",
-        rule: "A text of procedures alone, or the empty one, has nothing that is run.",
+        about: "missing `main`",
+        rule: "A program without `main` has nothing to run.",
         program: ["proc f() {", "}"],
         tells: "check program.afx" => "Y8",
         mend: "Write `main { .. }` after the procedures.",
     },
     page! {
         name: "Y9",
-        about: "over a limit",
-        rule: "A program has at most 256 procedures beside `main`, 16 parameters of a procedure, 32 arrays, 4,194,304
-elements of all arrays together, and 65,535 statements.",
+        about: "limit exceeded",
+        rule: "A program has at most 256 procedures besides `main`, 16 parameters for each procedure, 32 arrays, 4,194,304 elements in
+all arrays together, and 65,535 statements.",
         program: ["main {", "  array a: int[4194305];", "}"],
         tells: "check program.afx" => "Y9",
-        mend: "Make the arrays smaller. One array may serve for several: `split` names its parts.",
+        mend: "Use smaller arrays, or use one array for several and name its parts with `split`.",
     },
     page! {
         name: "Y10",
-        about: "no memory for the rules",
-        rule: "The program may be right. The status is 4.",
-        mend: "Try again where there is more memory.",
+        about: "out of memory while checking the rules",
+        rule: "The program may be correct. The exit status is 4.",
+        mend: "Try again with more memory available.",
     },
 ];

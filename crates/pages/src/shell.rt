@@ -1,4 +1,4 @@
-//! Completions of the command line, by shell.
+//! Shell completions, by shell.
 
 use crate::{bash, fish, zsh};
 use clap::Command;
@@ -13,10 +13,10 @@ pub enum Shell {
 }
 
 impl Shell {
-    /// The names of all.
+    /// The names of all shells.
     pub const NAMES: &'static [&'static str] = &["bash", "zsh", "fish"];
 
-    /// The shell of this name.
+    /// Returns the shell with this name.
     pub fn named(name: &str) -> Option<Shell> {
         match name {
             "bash" => Some(Shell::Bash),
@@ -26,7 +26,7 @@ impl Shell {
         }
     }
 
-    /// The script by which it completes the words of a program with these commands.
+    /// Returns the script with which it completes the arguments of a program with these commands.
     pub fn script(self, alloc: Global, program: &Command<'_>) -> Result<String, AllocError> {
         match self {
             Shell::Bash => bash::script(alloc, program),

@@ -1,8 +1,8 @@
-//! Why a text is no program.
+//! Pages about syntax errors.
 
 use crate::page::{Page, page};
 
-/// These pages.
+/// Returns these pages.
 pub(crate) fn pages() -> &'static [Page] {
     PAGES
 }
@@ -11,35 +11,34 @@ pub(crate) fn pages() -> &'static [Page] {
 const PAGES: &[Page] = &[
     page! {
         name: "S1",
-        about: "a character that begins no token",
-        rule: "Outside of comments stand names, numbers, reserved words and marks. A letter past ASCII, a quote and a
-`!` without `=` after it begin none of these. The place is that of the character.",
+        about: "unexpected character",
+        rule: "Outside comments, a program consists of names, numbers, reserved words and marks. A non-ASCII letter, a quote or a
+`!` without `=` starts none of these. The position is that of the character.",
         program: ["main {", "  print 1 ! 2;", "}"],
         tells: "check program.afx" => "S1 at 2:11",
-        mend: "Write the mark that was meant, as `1 != 2` in a guard, or put the text after `//`.",
+        mend: "Write the intended mark, such as `1 != 2` in a condition, or turn the text into a comment with `//`.",
     },
     page! {
         name: "S2",
-        about: "a token that may not stand where it stands",
-        rule: "The place is that of the first token at which no program can go on, or just after the last character
-where the text ends too soon. A reserved word is no name: see `afx explain words`.",
+        about: "unexpected token, or unexpected end of file",
+        rule: "The position is that of the first token that can't continue any program, or just past the last character if the
+program is incomplete. A reserved word can't be used as a name: see `afx explain words`.",
         program: ["main {", "  skip", "}"],
         tells: "check program.afx" => "S2 at 3:1",
-        mend: "Look before that place too: here the `;` after `skip` is missing.",
+        mend: "The mistake may be before that position: here, `;` is missing after `skip`.",
     },
     page! {
         name: "S3",
-        about: "a number that is too large",
-        rule: "The largest number that may be written is 9,223,372,036,854,775,807. The place is that of its first digit.",
+        about: "number too large",
+        rule: "The largest literal is 9,223,372,036,854,775,807. The position is that of the first digit.",
         program: ["main {", "  print 9223372036854775808;", "}"],
         tells: "check program.afx" => "S3 at 2:9",
-        mend: "Values have 64 bits with sign. The least of them is written as `-9223372036854775807 - 1`.",
+        mend: "Values are signed 64-bit integers. Write the smallest one as `-9223372036854775807 - 1`.",
     },
     page! {
         name: "S4",
-        about: "more than 100 brackets are open",
-        rule: "A bracket is open from `(`, `{` or `[` to the one that closes it. The place is that of the bracket by which
-more than 100 are open.",
+        about: "brackets nested more than 100 deep",
+        rule: "`(`, `{` and `[` count until they are closed. The position is that of the 101st open bracket.",
         program: [
             "main {",
             "  print",
@@ -52,18 +51,18 @@ more than 100 are open.",
             "}",
         ],
         tells: "check program.afx" => "S4 at 7:22",
-        mend: "Give parts of an expression to variables, and put inner blocks into procedures.",
+        mend: "Store parts of the expression in variables, and move inner blocks into procedures.",
     },
     page! {
         name: "S5",
-        about: "a text over 1,048,576 bytes",
-        rule: "Nothing is done with a file of more bytes, and no place is told.",
-        mend: "Give what is data to arrays, by `--input FILE`.",
+        about: "program larger than 1,048,576 bytes",
+        rule: "A larger file is rejected without a position.",
+        mend: "Move data into arrays and load them with `--input FILE`.",
     },
     page! {
         name: "S6",
-        about: "no memory for reading the text",
-        rule: "The text may be right. The status is 4.",
-        mend: "Try again where there is more memory.",
+        about: "out of memory while parsing",
+        rule: "The program may be correct. The exit status is 4.",
+        mend: "Try again with more memory available.",
     },
 ];

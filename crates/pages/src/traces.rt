@@ -1,8 +1,8 @@
-//! What a trace is, and why one is refused.
+//! Pages about traces, and about invalid traces.
 
 use crate::page::{Page, page};
 
-/// These pages.
+/// Returns these pages.
 pub(crate) fn pages() -> &'static [Page] {
     PAGES
 }
@@ -11,22 +11,23 @@ pub(crate) fn pages() -> &'static [Page] {
 const PAGES: &[Page] = &[
     page! {
         name: "trace",
-        about: "what the workers of a run did, event by event",
-        rule: "`run --trace FILE` writes it: a line with the budget, the weight and the workers of the run, and one for each event,
-some 40 bytes a step. `view` replays it by the program and the input that the run had, and shows it where each event
-can come: as a table, by its numbers (`--summary`), as a picture (`--svg OUT`) or for a trace viewer (`--chrome OUT`).
+        about: "a record of what the workers did, event by event",
+        rule: "`run --trace FILE` writes a trace: a header line with the budget, weight and workers of the run, then a line for each
+event, about 40 bytes per step. `view` replays it with the same program and input. If every event is legal, it prints a
+table or totals (`--summary`), draws a picture (`--svg OUT`) or writes a file for a trace viewer (`--chrome OUT`).
 
-take W P        worker W takes the task P out of its queue
-steal W F P     P goes from the queue of F to that of W
-step P          P does a statement
-spawn P         P begins a task, with half of its weight; replenish P: it has got more weight before
-open P          P begins a finish
-park P          P is at the end of a finish, and waits for the tasks begun in it
+take W P        worker W takes task P from its own queue
+steal W F P     worker W steals task P from the queue of worker F
+step P          P executes a statement
+spawn P         P starts a task and gives it half of its weight
+replenish P     P gets more weight before it spawns
+open P          P enters a finish
+park P          P waits at the end of a finish for the tasks started in it
 end P           P has ended
-pass O#N        all of finish N of O has ended
-resume W P      worker W goes on with P after its finish
+pass O#N        all tasks of finish N of O have ended
+resume W P      worker W resumes P after its finish
 
-A trace has no clock: time is the number of the event.",
+A trace has no timestamps: time is the number of the event.",
         program: ["main {", "}"],
         trace: [
             "{\"format\":1,\"nest\":100,\"steps\":1000000,\"w0\":8,\"workers\":1}",
@@ -36,35 +37,35 @@ A trace has no clock: time is the number of the event.",
     },
     page! {
         name: "J1",
-        about: "a line of a trace that is none",
-        rule: "A trace has a line for its run and one for each event, each spelled as `run --trace` spells it: the keys in their
-order, no blank, numbers in their ranges, a line feed at the end. Told is the first line that is not so, from 1.",
+        about: "malformed line in a trace",
+        rule: "Every line must be spelled exactly as `run --trace` writes it: keys in order, no spaces, numbers in range, a line feed
+at the end. The message gives the number of the first malformed line, from 1.",
         program: ["main {", "}"],
         trace: [
             "{\"format\":1,\"nest\":100,\"steps\":1000000,\"w0\":8,\"workers\":1}",
             "{\"e\":\"take\", \"path\":\"0\", \"worker\":0}",
         ],
         tells: "view program.afx program.trace" => "J1 line 2",
-        mend: "Look whether it is the right file, and the whole of it; or run the program anew.",
+        mend: "Check that it is the right file and complete, or record the trace again.",
     },
     page! {
         name: "J2",
-        about: "no memory for a trace",
-        rule: "The trace may be right. The status is 4.",
-        mend: "Try again where there is more memory.",
+        about: "out of memory while reading a trace",
+        rule: "The trace may be correct. The exit status is 4.",
+        mend: "Try again with more memory available.",
     },
     page! {
         name: "illegal",
         others: ["illegal at event"],
-        about: "an event of a trace that can't come where it stands",
-        rule: "The events are replayed, each where those before it have led: a task steps in a worker's hand, and a finish passes
-when all of its weight is back. Told is the first event that can't come, from 0.",
+        about: "illegal event in a trace",
+        rule: "`view` replays the events in order. For example, a task takes a step only while a worker runs it, and a finish passes
+only when all of its weight has come back. The message gives the number of the first illegal event, from 0.",
         program: ["main {", "}"],
         trace: [
             "{\"format\":1,\"nest\":100,\"steps\":1000000,\"w0\":8,\"workers\":1}",
             "{\"e\":\"end\",\"path\":\"0\"}",
         ],
         tells: "view program.afx program.trace" => "illegal at event 0",
-        mend: "View it with the program and the input of its run. Of a trace that was changed, run the program anew.",
+        mend: "Use the program and the input of the traced run. If the trace was edited, record it again.",
     },
 ];

@@ -1,8 +1,8 @@
-//! The reserved words.
+//! The page of the reserved words.
 
 use crate::page::{Page, page};
 
-/// These pages.
+/// Returns these pages.
 pub(crate) fn pages() -> &'static [Page] {
     PAGES
 }
@@ -10,12 +10,12 @@ pub(crate) fn pages() -> &'static [Page] {
 /// `words`
 const PAGES: &[Page] = &[page! {
         name: "words",
-        about: "the reserved words, which are no names",
+        about: "reserved words, which can't be used as names",
         rule: "and array as async at by byte else false fault finish if int len main mut
 not or parts print proc read rescue skip split true var while
 
-The words `parts`, `by` and `rescue` stand in no statement yet.",
+`parts`, `by` and `rescue` are reserved for future use.",
         program: ["main {", "  var at = 1;", "}"],
         tells: "check program.afx" => "S2 at 2:7",
-        mend: "Take another name, as `place`.",
+        mend: "Use another name, such as `place`.",
     }];

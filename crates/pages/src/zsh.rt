@@ -6,7 +6,7 @@ use crate::quoting::Quoting;
 use clap::{Arg, Command};
 use std::alloc::{AllocError, Global};
 
-/// What stands before the commands.
+/// The text before the commands.
 const HEAD: &str = "#compdef afx
 # Completions of afx for zsh: afx completions zsh >_afx, in a folder of $fpath
 _afx() {
@@ -14,17 +14,17 @@ _afx() {
     local -a commands=(
 ";
 
-/// What stands between the list of commands and their arguments.
-const MIDDLE: &str = "        'help:Tells what a command does'
+/// The text between the list of commands and their arguments.
+const MIDDLE: &str = "        'help:Print the help of a command'
     )
-    _arguments -C '(- :)--help[Prints help]' '(- :)--version[Prints the version]' ':command:->command' '*::argument:->rest'
+    _arguments -C '(- :)--help[Print help]' '(- :)--version[Print version]' ':command:->command' '*::argument:->rest'
     case $state in
     command) _describe command commands ;;
     rest)
         case $words[1] in
 ";
 
-/// What stands behind them.
+/// The text after the arguments.
 const TAIL: &str = "        help) _describe command commands ;;
         esac
         ;;
@@ -33,7 +33,7 @@ const TAIL: &str = "        help) _describe command commands ;;
 _afx \"$@\"
 ";
 
-/// How an argument's offer is written.
+/// How each offer is written.
 const OFFERS: Wording = Wording {
     program: "_files -g \"*.afx\"",
     input: "_files -g \"*.json\"",
@@ -44,7 +44,7 @@ const OFFERS: Wording = Wording {
     nothing: "",
 };
 
-/// The script by which zsh completes the words of a program with these commands.
+/// Returns the script with which zsh completes the arguments of a program with these commands.
 pub fn script(alloc: Global, program: &Command<'_>) -> Result<String, AllocError> {
     let mut text = String::from_str(alloc, HEAD)?;
     push_names(&mut text, program)?;
@@ -52,7 +52,7 @@ pub fn script(alloc: Global, program: &Command<'_>) -> Result<String, AllocError
     Ok(text)
 }
 
-/// The commands, with what each does.
+/// Adds the commands, with what each does.
 fn push_names(text: &mut String, program: &Command<'_>) -> Result<(), AllocError> {
     for command in program.get_subcommands() {
         push_all(text, &["        '", command.get_name(), ":"])?;
@@ -62,7 +62,7 @@ fn push_names(text: &mut String, program: &Command<'_>) -> Result<(), AllocError
     text.push_str(MIDDLE)
 }
 
-/// The arguments of each.
+/// Adds the arguments of each command.
 fn push_commands(
     alloc: Global,
     text: &mut String,
@@ -74,16 +74,17 @@ fn push_commands(
     text.push_str(TAIL)
 }
 
-/// The arguments of a command: `list) _arguments '--lines[..]' '--help[..]' ':FILE:_files -g "*.afx"' ;;`
+/// Adds the arguments of a command: `list) _arguments '--lines[..]' '--help[..]' ':FILE:_files -g
+/// "*.afx"' ;;`
 fn push_command(alloc: Global, text: &mut String, command: &Command<'_>) -> Result<(), AllocError> {
     push_all(text, &["        ", command.get_name(), ") _arguments"])?;
     for arg in command.get_arguments() {
         push_argument(alloc, text, arg)?;
     }
-    text.push_str(" \\\n            '--help[Prints help]' ;;\n")
+    text.push_str(" \\\n            '--help[Print help]' ;;\n")
 }
 
-/// An option with what it says and what stands behind it, or a positional argument.
+/// Adds an option with its help and its value, or a positional argument.
 fn push_argument(alloc: Global, text: &mut String, arg: &Arg<'_>) -> Result<(), AllocError> {
     text.push_str(" \\\n            '")?;
     if let Some(long) = arg.get_long() {

@@ -1,4 +1,4 @@
-//! How tasks go from lane to lane.
+//! How tasks move from lane to lane.
 
 use crate::sheet::{BAR_HEIGHT, Sheet};
 use std::alloc::{AllocError, Global};
@@ -6,14 +6,14 @@ use svg::elements::{Line, Px, Rectangle, push_line, push_rectangle};
 use trace_layout::axis::LEFT;
 use trace_layout::moves::{Steal, Taking};
 
-/// How many steals have an arrow each, at most.
+/// The maximum number of steals that have an arrow each.
 const ARROWS: usize = 500;
 
-/// In how many stretches steals are counted beyond that.
+/// The number of intervals of the axis in which steals are counted beyond that.
 const STRETCHES: usize = 200;
 
-/// An arrow for each steal, or where there are too many a row of ticks, as high as there are steals in a
-/// stretch.
+/// Adds an arrow for each steal. If there are too many, adds a row of ticks whose height is the
+/// number of steals in an interval.
 pub fn push_steals(
     text: &mut String,
     alloc: Global,
@@ -29,7 +29,7 @@ pub fn push_steals(
     Ok(())
 }
 
-/// Where the arrow of a steal stands: between the bars of the two lanes.
+/// Returns the arrow of a steal: between the bars of the two lanes.
 fn arrow(sheet: Sheet, steal: &Steal) -> Line {
     let x = sheet.axis.middle(steal.at);
     let from = sheet.bar(steal.from);
@@ -40,7 +40,7 @@ fn arrow(sheet: Sheet, steal: &Steal) -> Line {
     Line::upright(x, from.saturating_sub(60), to + BAR_HEIGHT + 40)
 }
 
-/// Ticks above the lanes, as high as there are steals in each stretch of the axis.
+/// Adds ticks above the lanes, whose height is the number of steals in each interval of the axis.
 fn push_ticks(
     text: &mut String,
     alloc: Global,
@@ -67,7 +67,7 @@ fn push_ticks(
     Ok(())
 }
 
-/// How many steals there are in each stretch of 7.5 pixels.
+/// Returns the number of steals in each interval of 7.5 pixels.
 fn counts(alloc: Global, sheet: Sheet, steals: &[Steal]) -> Result<Vec<usize>, AllocError> {
     let mut counts = vec![in alloc; 0usize; STRETCHES]?;
     for steal in steals {
@@ -79,7 +79,7 @@ fn counts(alloc: Global, sheet: Sheet, steals: &[Steal]) -> Result<Vec<usize>, A
     Ok(counts)
 }
 
-/// A thin curve, from where a task came into the queue to the beginning of the bar of its take.
+/// Adds a thin curve, from where a task came into the queue to the start of the bar of its take.
 pub fn push_taking(text: &mut String, sheet: Sheet, taking: &Taking) -> Result<(), AllocError> {
     let x1 = sheet.axis.middle(taking.came.at);
     let y1 = sheet.bar(taking.came.worker) + BAR_HEIGHT + 40;

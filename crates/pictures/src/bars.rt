@@ -1,4 +1,4 @@
-//! Bars of tasks, and what stands in them.
+//! The bars of tasks, and what is drawn in them.
 
 use crate::sheet::{BAR_HEIGHT, Sheet};
 use events::event::Event;
@@ -10,15 +10,15 @@ use trace_layout::spells::{Ending, Spell, Spells};
 use trace_numbers::counts::is_step;
 use trace_text::kind::Kind;
 
-/// How many colours of depths there are.
+/// The number of colours for depths.
 const COLOURS: usize = 8;
 
-/// The number of the colour of a task's depth.
+/// Returns the number of the colour for a task's depth.
 pub fn colour(spell: &Spell) -> usize {
     spell.path.turns.len() % COLOURS
 }
 
-/// The bars of all spells.
+/// Adds the bars of all spells.
 pub fn push_bars(
     text: &mut String,
     alloc: Global,
@@ -31,7 +31,7 @@ pub fn push_bars(
     Ok(())
 }
 
-/// A bar, with the task's path at its left where it fits.
+/// Adds a bar, with the task's path at its left if it fits.
 fn push_bar(
     text: &mut String,
     alloc: Global,
@@ -51,7 +51,9 @@ fn push_bar(
     let first = spell.first;
     let last = spell.last;
     let own = spell.own;
-    let title = format!(in alloc; "task {path}, events {first} to {last}, {own} of its own")?;
+    let title = format!(in alloc;
+        "task {path}, events {first} to {last}, {own} by the task itself"
+    )?;
     let shade = if sheet.axis.is_wide() { "p" } else { "d" };
     let colour = colour(spell);
     let class = format!(in alloc; "{shade}{colour}")?;
@@ -63,7 +65,7 @@ fn push_bar(
     Ok(())
 }
 
-/// What the events do in their bars, where their columns are wide enough.
+/// Adds what the events do in their bars, if the columns are wide enough.
 pub fn push_events(
     text: &mut String,
     alloc: Global,
@@ -80,7 +82,7 @@ pub fn push_events(
     push_edges(text, sheet, spells)
 }
 
-/// The cell of a step, and nothing of another event.
+/// Adds the cell of a step. Other events have none.
 fn push_cell(
     text: &mut String,
     alloc: Global,
@@ -107,7 +109,7 @@ fn push_cell(
     push_titled_rectangle(text, class.as_str(), &place, title.as_str())
 }
 
-/// What tells a spawn, an open and a park.
+/// Adds the mark of a spawn, an open or a park.
 fn push_mark(
     text: &mut String,
     sheet: Sheet,
@@ -125,7 +127,7 @@ fn push_mark(
     }
 }
 
-/// The black edges of the bars of tasks that end.
+/// Adds the black edges of the bars of tasks that end.
 fn push_edges(text: &mut String, sheet: Sheet, spells: &Spells) -> Result<(), AllocError> {
     for spell in &spells.all {
         if matches!(spell.ending, Ending::Ended) {
@@ -137,16 +139,17 @@ fn push_edges(text: &mut String, sheet: Sheet, spells: &Spells) -> Result<(), Al
     Ok(())
 }
 
-/// A part of the longest chain, from where to where it is drawn as one line.
+/// A part of the longest chain that is drawn as one line.
 #[derive(Clone, Copy)]
 struct Run {
-    /// The number of the spell in which it is.
+    /// The number of its spell.
     place: usize,
     first: usize,
     last: usize,
 }
 
-/// Underlines what is on the longest chain: each cell, or with narrow columns what is in one spell.
+/// Underlines what is on the longest chain: each cell, or, with narrow columns, each stretch in one
+/// spell.
 pub fn push_chain(
     text: &mut String,
     sheet: Sheet,
@@ -170,7 +173,7 @@ pub fn push_chain(
     }
 }
 
-/// The run that an event on the chain goes on with, or a new one.
+/// Returns the run that an event on the chain extends, or a new one.
 fn following(run: Option<Run>, place: usize, number: usize, sheet: Sheet) -> Run {
     match run {
         Some(run) if run.place == place && !sheet.axis.is_wide() => Run {
@@ -186,7 +189,7 @@ fn following(run: Option<Run>, place: usize, number: usize, sheet: Sheet) -> Run
     }
 }
 
-/// The line below a run.
+/// Adds the line below a run.
 fn push_run(text: &mut String, sheet: Sheet, run: Run, spells: &Spells) -> Result<(), AllocError> {
     let Some(spell) = spells.all.get(run.place) else {
         return Ok(());

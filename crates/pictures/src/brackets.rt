@@ -1,4 +1,4 @@
-//! Brackets of finishes, below the lanes.
+//! The brackets of finishes, below the lanes.
 
 ghost use Rattle.std.specs.Prelude.{◌≤◌};
 
@@ -11,7 +11,7 @@ use trace_layout::finishes::{Finish, Finishes, Return, longest};
 use trace_layout::rows::rows_of;
 use trace_layout::stretch::Stretch;
 
-/// How many rows there are, at most.
+/// The maximum number of rows.
 const ROWS: usize = 24;
 
 /// The scopes that have a bracket, by their numbers, and the row of each.
@@ -19,11 +19,11 @@ const ROWS: usize = 24;
 pub struct Brackets {
     pub shown: Vec<usize>,
     pub rows: Vec<usize>,
-    /// How many scopes have none.
+    /// The number of scopes without a bracket.
     pub left_out: usize,
 }
 
-/// A bracket for each scope, or for the longest where those take too many rows.
+/// Returns a bracket for each scope, or for the longest ones if all would take too many rows.
 pub fn brackets_of(alloc: Global, axis: Axis, all: &[Finish]) -> Result<Brackets, AllocError> {
     let every = longest(alloc, all, all.len())?;
     if let Some(rows) = rows_for(alloc, axis, all, &every)? {
@@ -45,7 +45,7 @@ pub fn brackets_of(alloc: Global, axis: Axis, all: &[Finish]) -> Result<Brackets
     })
 }
 
-/// The rows of these scopes, each with room for its name.
+/// Returns the rows of these scopes, each with room for its name. None if there are too many rows.
 fn rows_for(
     alloc: Global,
     axis: Axis,
@@ -66,14 +66,14 @@ fn rows_for(
     rows_of(alloc, &stretches, ROWS)
 }
 
-/// How wide a name of so many letters is, with some room behind it.
+/// Returns the width of a name with this many letters, with some room after it.
 fn letters_width(letters: usize) -> u32
     ensures { result ≤ 6560 }
 {
     letters.min(100) as u32 * 65 + 60
 }
 
-/// Where the name of a scope begins: above the beginning of its bracket, but as far left as it takes to
+/// Returns where the name of a scope starts: above the start of its bracket, but far enough left to
 /// end on the paper.
 fn named_at(axis: Axis, finish: &Finish, letters: usize) -> u32
     ensures { result ≤ 16000 }
@@ -83,14 +83,14 @@ fn named_at(axis: Axis, finish: &Finish, letters: usize) -> u32
     (axis.x(finish.first) + 40).min(most)
 }
 
-/// `finish 0#1`
+/// Returns `finish 0#1`.
 fn name_of(alloc: Global, finish: &Finish) -> Result<String, AllocError> {
     let name = &finish.name;
     format!(in alloc; "finish {name}")
 }
 
 impl Brackets {
-    /// How many rows there are, with that for what is left out.
+    /// Returns the number of rows, including the one for what is left out.
     pub fn count(&self) -> u32
         ensures { result ≤ 25 }
     {
@@ -105,7 +105,7 @@ impl Brackets {
         count
     }
 
-    /// All brackets.
+    /// Adds all brackets.
     pub fn push(
         &self,
         text: &mut String,
@@ -126,7 +126,7 @@ impl Brackets {
         self.push_left_out(text, alloc, sheet)
     }
 
-    /// An open circle where the weight of a task comes back.
+    /// Adds an open circle where the weight of a task comes back.
     fn push_returns(
         &self,
         text: &mut String,
@@ -143,7 +143,7 @@ impl Brackets {
         Ok(())
     }
 
-    /// `.. and 190 shorter ones`
+    /// Adds `.. and 190 shorter ones`.
     fn push_left_out(
         &self,
         text: &mut String,
@@ -160,8 +160,8 @@ impl Brackets {
     }
 }
 
-/// A bracket: solid while the owner is at work in it, dashed while it waits, and a full circle where it
-/// parked.
+/// Adds a bracket: solid while the owner works in it, dashed while the owner waits, and a full
+/// circle where it parked.
 fn push_bracket(
     text: &mut String,
     alloc: Global,

@@ -1,14 +1,14 @@
-//! The graph of how many tasks are in hands.
+//! The graph of the number of running tasks.
 
 use crate::sheet::Sheet;
 use std::alloc::{AllocError, Global};
 use svg::elements::{Line, Px, push_line, push_words};
 use trace_layout::axis::LEFT;
 
-/// How far it is from one height to the next that is drawn, at least.
+/// The minimum distance between two heights that are drawn.
 const NEXT: u32 = 5;
 
-/// The graph, 10 pixels a worker, with its scale.
+/// Adds the graph, 10 pixels for each worker, with its scale.
 pub fn push_busy(
     text: &mut String,
     alloc: Global,
@@ -33,7 +33,7 @@ pub fn push_busy(
     Ok(())
 }
 
-/// The graph alone, as one outline.
+/// Adds only the graph, as one outline.
 fn push_graph(text: &mut String, sheet: Sheet, in_hands: &[usize]) -> Result<(), AllocError> {
     let floor = sheet.busy_line();
     let left = Px(LEFT);

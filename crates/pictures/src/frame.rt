@@ -1,4 +1,4 @@
-//! What stands behind all that happens: lanes, and the axis with its grid.
+//! The background of the picture: lanes, and the axis with its grid.
 
 use crate::heading::push_count;
 use crate::sheet::{LANE_HEIGHT, Sheet};
@@ -7,7 +7,7 @@ use std::alloc::{AllocError, Global};
 use svg::elements::{Line, Rectangle, push_line, push_rectangle, push_words};
 use trace_layout::axis::LEFT;
 
-/// The beginning of the SVG, with its style sheet.
+/// Adds the beginning of the SVG, with its style sheet.
 pub fn push_beginning(text: &mut String, width: u32, height: u32) -> Result<(), AllocError> {
     let width = width / 10;
     let height = height / 10;
@@ -18,8 +18,8 @@ pub fn push_beginning(text: &mut String, width: u32, height: u32) -> Result<(), 
     text.push_str(STYLE)
 }
 
-/// How the classes of elements look: `p3` is the pale colour of tasks with three dots in their path, `d3`
-/// the full one.
+/// The style sheet: `p3` is the pale colour of tasks with three dots in their path, `d3` the full
+/// one.
 const STYLE: &str = "<style>
 text{font-family:'DejaVu Sans',sans-serif;font-size:10px;fill:#222}
 .paper{fill:#fff}
@@ -58,7 +58,7 @@ text{font-family:'DejaVu Sans',sans-serif;font-size:10px;fill:#222}
 <path d=\"M0,0 L8,4 L0,8 z\" fill=\"#c22\"/></marker></defs>
 ";
 
-/// A lane for each worker, which did so many steps by its number.
+/// Adds a lane for each worker, with its number of steps.
 pub fn push_lanes(
     text: &mut String,
     alloc: Global,
@@ -95,7 +95,7 @@ pub fn push_lanes(
     Ok(())
 }
 
-/// A lane, in turn light and lighter grey.
+/// Adds a lane, in alternating shades of grey.
 fn push_lane(text: &mut String, sheet: Sheet, worker: WorkerId) -> Result<(), AllocError> {
     let class = if worker.number() % 2 == 0 {
         "lane0"
@@ -111,7 +111,7 @@ fn push_lane(text: &mut String, sheet: Sheet, worker: WorkerId) -> Result<(), Al
     push_rectangle(text, class, &place)
 }
 
-/// The grid, with the numbers of events and the word `event` at the axis.
+/// Adds the grid, with the numbers of events and the word `event` at the axis.
 pub fn push_grid(text: &mut String, alloc: Global, sheet: Sheet) -> Result<(), AllocError> {
     let step = sheet.axis.grid();
     let end = sheet.grid_end();

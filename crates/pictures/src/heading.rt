@@ -6,10 +6,10 @@ use trace_layout::axis::LEFT;
 use trace_numbers::summary::Summary;
 use trace_numbers::text::push_parallelism;
 
-/// How many letters of a heading there is room for.
+/// The maximum number of letters of a heading.
 const LETTERS: usize = 150;
 
-/// The heading, of which two dots stand for what there is no room for.
+/// Returns the heading, with two dots for what doesn't fit.
 pub fn heading_of(alloc: Global, heading: &str) -> Result<String, AllocError> {
     let mut text = String::new(alloc);
     for (number, letter) in heading.chars().enumerate() {
@@ -22,8 +22,8 @@ pub fn heading_of(alloc: Global, heading: &str) -> Result<String, AllocError> {
     Ok(text)
 }
 
-/// `4 workers · 96 events · 8 tasks · 2 finish scopes · 15 steals · work 61 steps · span 17 steps ·
-/// parallelism 3.59`
+/// Returns `4 workers · 96 events · 8 tasks · 2 finish scopes · 15 steals · work 61 steps · span 17
+/// steps · parallelism 3.59`.
 pub fn numbers_of(
     alloc: Global,
     summary: &Summary,
@@ -41,12 +41,12 @@ pub fn numbers_of(
     push_count(&mut text, " · span ", summary.span, "step")?;
     text.push_str(" · parallelism ")?;
     push_parallelism(&mut text, summary.steps, summary.span)?;
-    // The line feed behind it.
+    // Remove the newline at the end.
     let _ = text.pop();
     Ok(text)
 }
 
-/// ` · 96 events`
+/// Adds ` · 96 events`.
 pub fn push_count(
     text: &mut String,
     before: &str,
@@ -57,7 +57,7 @@ pub fn push_count(
     write!(text, "{before}{count} {what}{ending}")
 }
 
-/// Both lines.
+/// Adds both lines.
 pub fn push_heading(text: &mut String, heading: &str, numbers: &str) -> Result<(), AllocError> {
     push_words(text, "heading", LEFT, 240, heading)?;
     push_words(text, "numbers", LEFT, 430, numbers)

@@ -1,4 +1,4 @@
-//! The legend: what colours and marks say.
+//! The legend: the meaning of colours and marks.
 
 use crate::bars::colour;
 use crate::sheet::Sheet;
@@ -9,10 +9,10 @@ use svg::elements::{
 use trace_layout::axis::LEFT;
 use trace_layout::spells::Spell;
 
-/// How wide the picture is for all of it.
+/// The width of the picture that fits all of it.
 pub const LEGEND_WIDTH: u32 = 9600;
 
-/// Both lines: the depths that there are, and the marks.
+/// Adds both lines: the depths that occur, and the marks.
 pub fn push_legend(
     text: &mut String,
     alloc: Global,
@@ -23,7 +23,7 @@ pub fn push_legend(
     push_marks(text, sheet.legend() + 220)
 }
 
-/// The colours of the depths.
+/// Adds the colours of the depths.
 fn push_depths(
     text: &mut String,
     alloc: Global,
@@ -48,7 +48,7 @@ fn push_depths(
     Ok(())
 }
 
-/// The marks.
+/// Adds the marks.
 fn push_marks(text: &mut String, y: u32) -> Result<(), AllocError> {
     let words = y.saturating_add(100);
     let middle = y.saturating_add(60);

@@ -1,4 +1,4 @@
-//! Pictures of a trace: a timeline as SVG, and spans for the viewers of browsers.
+//! Pictures of a trace: a timeline as SVG, and spans for the trace viewers of browsers.
 
 #![tactic(auto)]
 

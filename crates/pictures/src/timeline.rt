@@ -18,9 +18,9 @@ use trace_layout::layout::{Layout, layout_of};
 use trace_numbers::summary::{Summary, summarize};
 use trace_text::header::Header;
 
-/// The picture of a trace under a heading: a lane for each worker, in which the tasks stand that it did,
-/// along an axis of events; below them finishes, how many tasks were in hands, and a legend. Any list of
-/// events has a picture.
+/// Returns the picture of a trace under a heading: a lane for each worker with the tasks that it
+/// ran, along an axis of events; below them finishes, the number of running tasks, and a legend.
+/// Any list of events has a picture.
 pub fn draw(
     alloc: Global,
     heading: &str,
@@ -60,7 +60,7 @@ pub fn draw(
     Ok(text)
 }
 
-/// The paper, wide enough for all events and for the lines of so many letters above them.
+/// Adds the paper, wide enough for all events and for lines with this many letters above them.
 fn push_paper(
     text: &mut String,
     sheet: Sheet,
@@ -81,7 +81,7 @@ fn push_paper(
     )
 }
 
-/// How wide the paper is.
+/// Returns the width of the paper.
 fn width_of(sheet: Sheet, heading: usize, numbers: usize) -> u32
     ensures { result ≤ 16200 }
 {
@@ -97,7 +97,8 @@ fn width_of(sheet: Sheet, heading: usize, numbers: usize) -> u32
         + 240
 }
 
-/// The tasks in the lanes: where columns are wide enough with each of their events, and how they were taken.
+/// Adds the tasks in the lanes. If the columns are wide enough, also adds their events, and how
+/// they were taken.
 fn push_tasks(
     text: &mut String,
     alloc: Global,

@@ -1,4 +1,4 @@
-//! Why a race is one, in words.
+//! Explanations of races.
 
 #![tactic(auto)]
 

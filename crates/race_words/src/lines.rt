@@ -1,4 +1,4 @@
-//! Lines of a way beside the lines of the text.
+//! The lines of a way next to the lines of the program.
 
 use crate::way::Line;
 use excerpts::source::line_of;
@@ -6,10 +6,10 @@ use excerpts::statements::Statements;
 use std::alloc::AllocError;
 use types::code::Label;
 
-/// The most characters of a line of the text that are shown.
+/// The number of characters that are shown of a line of the program.
 const SHOWN: usize = 44;
 
-/// The line where a statement begins, without the blanks around it.
+/// Returns the line at which a statement starts, without white space around it.
 fn line_at<'t>(statements: &Statements<'t>, label: Label) -> &'t str {
     match statements.place(label) {
         Some(place) => line_of(statements.text, place).trim(),
@@ -17,7 +17,7 @@ fn line_at<'t>(statements: &Statements<'t>, label: Label) -> &'t str {
     }
 }
 
-/// Adds each line behind the line of the text where its statement begins.
+/// Adds each line after the line of the program at which its statement starts.
 pub fn push_lines(
     told: &mut String,
     statements: &Statements<'_>,
@@ -36,7 +36,7 @@ pub fn push_lines(
     Ok(())
 }
 
-/// Adds the number and the text of a statement's line, filled up with blanks.
+/// Adds the number and the text of a statement's line, padded with spaces.
 fn push_shown(
     told: &mut String,
     statements: &Statements<'_>,
@@ -63,7 +63,7 @@ fn push_shown(
     Ok(())
 }
 
-/// How many characters of a statement's line are shown.
+/// Returns the number of characters that are shown of a statement's line.
 fn shown_length(statements: &Statements<'_>, label: Label) -> usize {
     let mut length: usize = 0;
     for _ in line_at(statements, label).chars().take(SHOWN) {

@@ -1,4 +1,4 @@
-//! Why two sections share places, and what would be right.
+//! Why two sections overlap, and how to fix the race.
 
 use crate::names::{procedure_of, section_name};
 use crate::way::is_begun;
@@ -15,18 +15,18 @@ use witness::witness::Witness;
 pub fn push_unfinished(told: &mut String, witness: &Witness) -> Result<(), AllocError> {
     let begun = begun_label(&witness.pending);
     match witness.meeting {
-        Meeting::Turns => write!(told, "  No finish inside the loop is around {begun}.\n"),
+        Meeting::Turns => write!(told, "  No finish inside the loop encloses {begun}.\n"),
         Meeting::Follows => {
             let second = first_label(&witness.later);
             write!(
                 told,
-                "  No finish around {begun} closes before {second}, so that task may still run.\n"
+                "  No finish around {begun} ends before {second}, so the task may still be running.\n"
             )
         }
     }
 }
 
-/// Adds why the sections of a race share places.
+/// Adds why the sections of a race overlap.
 pub fn push_sharing(
     told: &mut String,
     code: &Program,
@@ -37,24 +37,24 @@ pub fn push_sharing(
     let first = section_name(procedure, race.first.section);
     let second = section_name(procedure, race.second.section);
     match sharing {
-        Sharing::Same => write!(told, "  Both are the section {first}. {WHOLE}"),
+        Sharing::Same => write!(told, "  Both access the section {first}. {WHOLE}"),
         Sharing::FirstIsPart => write!(told, "  {first} is a part of {second}. {WHOLE}"),
         Sharing::SecondIsPart => write!(told, "  {second} is a part of {first}. {WHOLE}"),
         Sharing::OfSplits { section } => {
             let common = section_name(procedure, section);
             write!(
                 told,
-                "  {first} and {second} lie in sides of different splits of {common}: they may share places. {SIDES}"
+                "  {first} and {second} come from different splits of {common}, so they may overlap. {SIDES}"
             )
         }
     }
 }
 
-const WHOLE: &str = "The check sees whole sections, whatever the indices are.\n";
+const WHOLE: &str = "The check compares whole sections and ignores indices.\n";
 
-const SIDES: &str = "Only the two sides of one split are known to be apart.\n";
+const SIDES: &str = "Only the two sides of one split are known not to overlap.\n";
 
-/// Adds what would be right.
+/// Adds how to fix the race.
 pub fn push_mend(
     told: &mut String,
     statements: &Statements<'_>,
@@ -71,13 +71,13 @@ pub fn push_mend(
     };
     write!(
         told,
-        "To mend it: put {first} (line {line}) into a finish: then {second} waits for its tasks"
+        "help: put {first} (line {line}) inside a finish, so that {second} waits for its tasks"
     )?;
     told.push_str(match witness.sharing {
-        Sharing::OfSplits { .. } => "; or name the parts by one split.\n",
+        Sharing::OfSplits { .. } => "; or use one split for both parts.\n",
         _ => {
             if is_begun(&witness.later) {
-                "; or give each task a part of its own by split.\n"
+                "; or use split to give each task its own part.\n"
             } else {
                 ".\n"
             }
@@ -86,10 +86,10 @@ pub fn push_mend(
 }
 
 const LOOP: &str =
-    "To mend it: give each task a part of its own by split, half by half; or put the loop's body into a finish: then its
-turns come one after another.\n";
+    "help: use split to give each task its own part, half by half; or put the loop's body inside a finish, so that the
+iterations run one after another.\n";
 
-/// The label of the first async on a way, or of its first step.
+/// Returns the label of the first async on a way, or of its first step.
 fn begun_label(way: &[Step]) -> u32 {
     for step in way {
         if matches!(step.rule, Rule::Begin) {
@@ -99,7 +99,7 @@ fn begun_label(way: &[Step]) -> u32 {
     first_label(way)
 }
 
-/// The label of a way's first step.
+/// Returns the label of a way's first step.
 fn first_label(way: &[Step]) -> u32 {
     match way.first() {
         Some(step) => step.label,

@@ -1,10 +1,10 @@
-//! What sections and procedures are called.
+//! The names of sections and procedures.
 
 use sections::id::SectionId;
 use types::code::{Procedure, Program};
 use types::ids::ProcedureId;
 
-/// The procedure of a number; `main` is numbered behind the others.
+/// Returns the procedure with this number. `main` is numbered after the others.
 pub fn procedure_of(code: &Program, procedure: ProcedureId) -> &Procedure {
     match code.procedures.get(procedure.number) {
         Some(procedure) => procedure,
@@ -12,7 +12,7 @@ pub fn procedure_of(code: &Program, procedure: ProcedureId) -> &Procedure {
     }
 }
 
-/// The name of a section of a procedure, or nothing where it has none.
+/// Returns the name of a section of a procedure, or an empty text if it has none.
 pub fn section_name(procedure: &Procedure, section: SectionId) -> &str {
     match procedure.section_names.get(section.number) {
         Some(name) => name.as_str(),
@@ -20,12 +20,12 @@ pub fn section_name(procedure: &Procedure, section: SectionId) -> &str {
     }
 }
 
-/// The name of a procedure.
+/// Returns the name of a procedure.
 pub fn procedure_name(code: &Program, procedure: ProcedureId) -> &str {
     procedure_of(code, procedure).name.as_str()
 }
 
-/// What an access does, as `writes`.
+/// Returns what an access does, such as `writes`.
 pub fn kind_word(write: bool) -> &'static str {
     if write { "writes" } else { "reads" }
 }

@@ -1,4 +1,4 @@
-//! What stands behind the line of a race.
+//! The text after the line of a race.
 
 use crate::lines::push_lines;
 use crate::mends::{push_mend, push_sharing, push_unfinished};
@@ -15,8 +15,8 @@ use witness::crossing::Meeting;
 use witness::step::Step;
 use witness::witness::Witness;
 
-/// Where both accesses of a race stand, how they come to run together, why they share places, and
-/// what would be right. Nothing of a text over a mebibyte.
+/// Returns where both accesses of a race are, why they may run in parallel, why the sections
+/// overlap, and how to fix it. The text is empty if the program is larger than a mebibyte.
 pub fn explained(
     alloc: Global,
     text: &str,
@@ -35,7 +35,7 @@ pub fn explained(
         witness.later.as_slice(),
     );
     push_accesses(&mut told, &statements, code, race, ways)?;
-    told.push_str("They may run together:\n")?;
+    told.push_str("They may run in parallel:\n")?;
     push_ways(alloc, &mut told, &statements, code, race, witness)?;
     push_unfinished(&mut told, witness)?;
     push_sharing(&mut told, code, race, witness.sharing)?;
@@ -43,7 +43,8 @@ pub fn explained(
     Ok(told)
 }
 
-/// Two things as they come where the first access of the race is left pending, and else the other way round.
+/// Returns two things in this order if the first access of the race is the pending one, and
+/// otherwise in the reverse order.
 fn in_order<T>(witness: &Witness, one: T, other: T) -> (T, T) {
     if witness.first_pends {
         (one, other)
@@ -67,7 +68,7 @@ fn push_accesses(
     statements.push_at(told, race.second.label, None)
 }
 
-/// Adds what an access of a procedure does, and its section's name where it is made.
+/// Adds what an access of a procedure does, and the name of its section where it is made.
 fn push_access(
     told: &mut String,
     code: &Program,
@@ -83,14 +84,14 @@ fn push_access(
     let there = section_name(procedure_of(code, end.procedure), end.section);
     if end.procedure != procedure {
         let called = procedure_name(code, end.procedure);
-        write!(told, ", by its name {there} in {called}")?;
+        write!(told, ", as {there} in {called}")?;
     } else if end.section != access.section {
-        write!(told, ", by its name {there}")?;
+        write!(told, ", as {there}")?;
     }
     told.push_str(":\n")
 }
 
-/// Adds the ways to both accesses; the second only where it is more than the access.
+/// Adds the ways to both accesses. The second is left out if it is only the access.
 fn push_ways(
     alloc: Global,
     told: &mut String,
@@ -127,7 +128,7 @@ fn push_ways(
     push_lines(told, statements, &lines)
 }
 
-/// Adds the line of the loop in whose turns the two meet.
+/// Adds the line of the loop, if the two accesses are in different iterations.
 fn push_loop(alloc: Global, witness: &Witness, lines: &mut Vec<Line>) -> Result<(), AllocError> {
     if matches!(witness.meeting, Meeting::Follows) {
         return Ok(());
@@ -136,7 +137,7 @@ fn push_loop(alloc: Global, witness: &Witness, lines: &mut Vec<Line>) -> Result<
         Some(step) => {
             let label = step.label;
             let words = format!(in alloc;
-                "{label} goes round while tasks of earlier turns may still run"
+                "{label} loops while tasks from earlier iterations may still be running"
             )?;
             lines.push(Line { label, words })?;
             Ok(())

@@ -1,4 +1,4 @@
-//! What the steps of a way do.
+//! The steps of a way in words.
 
 use crate::names::{kind_word, procedure_name, procedure_of, section_name};
 use sections::id::SectionId;
@@ -7,21 +7,21 @@ use types::code::{Label, Program};
 use types::ids::ProcedureId;
 use witness::step::{Rule, Step};
 
-/// A line of a way: the statement with this label does that.
+/// A line of a way: what the statement with this label does.
 #[derive(Drop)]
 pub struct Line {
     pub label: Label,
     pub words: String,
 }
 
-/// Where the access of a way is made: in this procedure, to what is this section there.
+/// Where the access of a way is made: in this procedure, to this section there.
 #[derive(Clone, Copy)]
 pub struct End {
     pub procedure: ProcedureId,
     pub section: SectionId,
 }
 
-/// The end of a way that begins in a procedure.
+/// Returns the end of a way that starts in a procedure.
 pub fn end_of(procedure: ProcedureId, way: &[Step]) -> End {
     let mut end = End {
         procedure,
@@ -36,7 +36,7 @@ pub fn end_of(procedure: ProcedureId, way: &[Step]) -> End {
     end
 }
 
-/// Whether a way goes through an async.
+/// Returns whether a way goes through an async.
 pub fn is_begun(way: &[Step]) -> bool {
     for step in way {
         if matches!(step.rule, Rule::Begin) {
@@ -46,7 +46,7 @@ pub fn is_begun(way: &[Step]) -> bool {
     false
 }
 
-/// Adds the lines of a way that begins in a procedure: of its calls, tasks and splits, and of its access.
+/// Adds the lines of a way that starts in a procedure: its calls, tasks and splits, and its access.
 pub fn push_way(
     alloc: Global,
     code: &Program,
@@ -77,8 +77,8 @@ pub fn push_way(
     Ok(())
 }
 
-/// What a step in a procedure does, where the section of the access has the name of `inside` behind
-/// it. Nothing of a step that only goes into a block.
+/// Returns what a step in a procedure does. `inside` is the section of the access after the step.
+/// The text is empty if the step only goes into a block.
 fn words_of(
     alloc: Global,
     code: &Program,

@@ -1,4 +1,4 @@
-//! Which tokens may stand behind others, as the parser says of each of them.
+//! Which tokens can follow others, found by running the parser on each of them.
 
 use std::alloc::{AllocError, Global};
 use syntax::cursor::Stuck;
@@ -18,7 +18,7 @@ const MARKS: &[&str] = &[
     ">=", "==", "!=",
 ];
 
-/// The tokens before a place at which a text goes wrong.
+/// The tokens before the place of a syntax error.
 #[derive(Drop)]
 pub struct Front {
     alloc: Global,
@@ -26,17 +26,17 @@ pub struct Front {
 }
 
 impl Front {
-    /// These tokens.
+    /// Wraps these tokens.
     pub fn new(alloc: Global, tokens: Vec<Spanned>) -> Front {
         Front { alloc, tokens }
     }
 
-    /// All of them.
+    /// Returns all of them.
     pub fn tokens(&self) -> &[Spanned] {
         &self.tokens
     }
 
-    /// Whether they are a whole program with its `main`, behind which nothing may stand.
+    /// Returns whether they are a whole program with its `main`, which nothing may follow.
     pub fn is_ended(&self) -> Result<bool, AllocError> {
         match program(self.alloc, &self.tokens) {
             Ok(read) => Ok(read.main.is_some()),
@@ -45,18 +45,18 @@ impl Front {
         }
     }
 
-    /// Whether a program can go on with a name behind them.
+    /// Returns whether a name can follow them.
     fn takes_name(&mut self) -> Result<bool, AllocError> {
         let name = String::from_str(self.alloc, "x")?;
         self.takes(Token::Name(name))
     }
 
-    /// Whether a program can go on with a mark behind them.
+    /// Returns whether a mark can follow them.
     pub fn takes_mark(&mut self, mark: Mark) -> Result<bool, AllocError> {
         self.takes(Token::Mark(mark))
     }
 
-    /// Whether a name must stand behind them, and no value, no statement and no parameter may.
+    /// Returns whether a name must follow them, and no value, statement or parameter can.
     pub fn wants_name(&mut self) -> Result<bool, AllocError> {
         let takes_others = self.takes(Token::Number(0))?
             || self.takes(Token::Word(Word::Skip))?
@@ -64,7 +64,7 @@ impl Front {
         Ok(self.takes_name()? && !takes_others)
     }
 
-    /// Whether they end with a name as a value, as in `print x`.
+    /// Returns whether they end with a name as a value, as in `print x`.
     pub fn ends_with_value(&mut self) -> Result<bool, AllocError> {
         let is_name = match self.tokens.last() {
             Some(last) => matches!(&last.token, Token::Name(_)),
@@ -73,9 +73,9 @@ impl Front {
         Ok(is_name && self.takes_mark(Mark::Plus)?)
     }
 
-    /// Adds what may stand behind them.
+    /// Adds what can follow them.
     pub fn push_expected(&mut self, told: &mut String) -> Result<(), AllocError> {
-        told.push_str("Here may stand:")?;
+        told.push_str("Expected one of:")?;
         if self.takes_name()? {
             told.push_str(" a name")?;
         }
@@ -87,7 +87,7 @@ impl Front {
         told.push('\n')
     }
 
-    /// Adds the reserved words that may.
+    /// Adds the reserved words that can follow them.
     fn push_words(&mut self, told: &mut String) -> Result<(), AllocError> {
         for text in WORDS {
             if let Some(word) = Word::of(text) {
@@ -99,7 +99,7 @@ impl Front {
         Ok(())
     }
 
-    /// Adds the marks that may.
+    /// Adds the marks that can follow them.
     fn push_marks(&mut self, told: &mut String) -> Result<(), AllocError> {
         for text in MARKS {
             if let Some(mark) = mark_of(text) {
@@ -111,7 +111,7 @@ impl Front {
         Ok(())
     }
 
-    /// Whether a program can go on with this token: the parser wants more only behind it.
+    /// Returns whether this token can follow them: the parser then expects more only after it.
     fn takes(&mut self, token: Token) -> Result<bool, AllocError> {
         self.tokens.push(Spanned { token, at: 0 })?;
         let read = program(self.alloc, &self.tokens);
@@ -124,7 +124,7 @@ impl Front {
     }
 }
 
-/// The text of a reserved word.
+/// Returns the text of a reserved word.
 pub fn word_text(word: Word) -> &'static str {
     for text in WORDS {
         if let Some(found) = Word::of(text) {
@@ -136,7 +136,7 @@ pub fn word_text(word: Word) -> &'static str {
     ""
 }
 
-/// The text of a mark.
+/// Returns the text of a mark.
 pub fn mark_text(mark: Mark) -> &'static str {
     for text in MARKS {
         if let Some(found) = mark_of(text) {
@@ -148,7 +148,7 @@ pub fn mark_text(mark: Mark) -> &'static str {
     ""
 }
 
-/// The mark that a text is.
+/// Returns the mark with this text.
 fn mark_of(text: &str) -> Option<Mark> {
     let mut characters = text.chars();
     let first = characters.next()?;

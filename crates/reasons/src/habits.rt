@@ -1,29 +1,29 @@
-//! What those write who come from other languages, and what would be right.
+//! Habits from other languages, and what to write instead.
 
 use excerpts::named::{begins_with, is_operator};
 use syntax::token::{Mark, Spanned, Token, Word};
 
 const ELSE_IF: &str = "there is no `else if`: write `else { if .. { .. } }`";
 
-const BLOCK: &str = "begin the block with `{`";
+const BLOCK: &str = "start the block with `{`";
 
 const FOR: &str = "there is no `for`: write `var i = 0; while i < n { .. i = i + 1; }`";
 
-/// What would be right in place of a character that begins no token.
+/// Returns what to write instead of an unexpected character.
 pub fn mend_of_character(character: Option<char>) -> &'static str {
     match character {
-        Some('&') => "write `and` between truth values",
-        Some('|') => "write `or` between truth values",
-        Some('!') => "write `not` before a truth value; not equal is !=",
-        Some('"') | Some('\'') => "print numbers: there are no texts",
-        Some('.') => "write a whole number; the length of a section is len(s)",
-        Some('#') => "begin a comment with //",
-        Some('\u{feff}') => "save the text without the byte order mark that stands here",
-        _ => "take it away; a comment begins with //, and not equal is !=",
+        Some('&') => "use `and`",
+        Some('|') => "use `or`",
+        Some('!') => "use `not` to negate; not equal is `!=`",
+        Some('"') | Some('\'') => "print only numbers; there are no strings",
+        Some('.') => "use an integer; the length of a section is `len(s)`",
+        Some('#') => "use `//` for a comment",
+        Some('\u{feff}') => "save the file without a byte order mark",
+        _ => "remove it; comments start with `//`, and not equal is `!=`",
     }
 }
 
-/// The tokens around the place at which a text goes wrong: three before it, and two from it on.
+/// The tokens around the place of a syntax error: three before it, and two from it on.
 #[derive(Clone, Copy)]
 pub struct Around<'t> {
     last_but_two: Option<&'t Token>,
@@ -34,7 +34,7 @@ pub struct Around<'t> {
 }
 
 impl<'t> Around<'t> {
-    /// Those between the tokens before and behind the place.
+    /// Takes the tokens around the place from those before and after it.
     pub fn of(before: &'t [Spanned], behind: &'t [Spanned]) -> Around<'t> {
         Around {
             last_but_two: before
@@ -51,7 +51,7 @@ impl<'t> Around<'t> {
         }
     }
 
-    /// What would be right, where it can be told what was meant.
+    /// Returns what to write instead, if the intention is recognised.
     pub fn mend(self) -> Option<&'static str> {
         if let Some(mend) = mend_of_name(self.first) {
             return Some(mend);
@@ -66,7 +66,7 @@ impl<'t> Around<'t> {
             Some(Token::Name(name)) if is_before_block(name) => Some(BLOCK),
             Some(Token::Mark(mark)) => self.mend_of_mark(*mark),
             Some(Token::Word(Word::Array)) => {
-                Some("arrays are declared in main alone, before its first statement")
+                Some("declare arrays only at the beginning of main")
             }
             Some(Token::Word(Word::Int)) | Some(Token::Word(Word::Byte)) => self.mend_of_type(),
             Some(Token::Word(Word::Mut)) | Some(Token::Word(Word::Read)) => self.mend_of_passed(),
@@ -74,28 +74,28 @@ impl<'t> Around<'t> {
         }
     }
 
-    /// Where a type stands that may not.
+    /// Handles an unexpected type.
     fn mend_of_type(self) -> Option<&'static str> {
         if self.is_ended() {
             Some("declare a variable as in `var x = 1;`")
         } else if self.is_parameter() {
-            Some("write the type behind the name, as in `n: int` or `mut s: int`")
+            Some("write the type after the name, as in `n: int` or `mut s: int`")
         } else {
             self.mend_behind()
         }
     }
 
-    /// Where `mut` or `read` stands that may not.
+    /// Handles an unexpected `mut` or `read`.
     fn mend_of_passed(self) -> Option<&'static str> {
         match self.last {
             Some(Token::Mark(Mark::LeftParen)) | Some(Token::Mark(Mark::Comma)) => {
-                Some("write the name alone, as in `f(a);`: the parameter tells `mut` or `read`")
+                Some("write only the name, as in `f(a);`: the parameter declares `mut` or `read`")
             }
             _ => self.mend_behind(),
         }
     }
 
-    /// Where a mark stands that may not.
+    /// Handles an unexpected mark.
     fn mend_of_mark(self, mark: Mark) -> Option<&'static str> {
         match (self.last, mark) {
             (Some(Token::Word(Word::Main)), Mark::LeftParen) => {
@@ -103,32 +103,32 @@ impl<'t> Around<'t> {
             }
             (Some(Token::Word(Word::Int)), Mark::LeftBracket)
             | (Some(Token::Word(Word::Byte)), Mark::LeftBracket) => {
-                Some("take the brackets away: the length of a section s is len(s)")
+                Some("remove the brackets: the length of a section s is `len(s)`")
             }
             (Some(Token::Mark(Mark::RightBracket)), Mark::LeftBracket) => {
-                Some("write one index, as in `a[i * n + j]`: arrays have no rows")
+                Some("use one index, as in `a[i * n + j]`: arrays have one dimension")
             }
             (Some(Token::Name(_)), Mark::LeftBracket) if self.declares(Word::Array) => {
                 Some("write the type before the length, as in `array a: int[8];`")
             }
             (Some(Token::Name(_)), Mark::Colon) if self.declares(Word::Var) => {
-                Some("take the type away: variables are numbers, as in `var x = 1;`")
+                Some("remove the type: variables are integers, as in `var x = 1;`")
             }
             (_, Mark::Semicolon) if self.is_ended() => {
-                Some("take it away: a statement that does nothing is `skip;`")
+                Some("remove it; the empty statement is `skip;`")
             }
             _ => self.mend_of_step(mark),
         }
     }
 
-    /// Where a variable is to be changed in place.
+    /// Handles `x++`, `x += 1` and the like.
     fn mend_of_step(self, mark: Mark) -> Option<&'static str> {
         match self.second {
             Some(Token::Mark(second)) => {
                 if *second == mark && (mark == Mark::Plus || mark == Mark::Minus) {
                     Some("there is no `x++`: write `x = x + 1;`")
                 } else if *second == Mark::Becomes && self.first.is_some_and(is_operator) {
-                    Some("there is no `+=` and its like: write `x = x + ..;`")
+                    Some("there are no compound assignments such as `+=`: write `x = x + ..;`")
                 } else {
                     self.mend_behind()
                 }
@@ -137,15 +137,15 @@ impl<'t> Around<'t> {
         }
     }
 
-    /// By what stands before alone.
+    /// Handles the other cases, by the tokens before the place alone.
     fn mend_behind(self) -> Option<&'static str> {
         match (self.last_but_one, self.last) {
             (_, Some(Token::Word(Word::Else))) => Some(self.mend_of_else()),
             (_, Some(Token::Word(Word::Async))) => {
-                Some("write what the task does in braces, as in `async { f(a); }`")
+                Some("put the body of the task in braces, as in `async { f(a); }`")
             }
             (_, Some(Token::Word(Word::Finish))) => {
-                Some("write what is waited for in braces, as in `finish { f(a); }`")
+                Some("put the body of the finish in braces, as in `finish { f(a); }`")
             }
             (Some(Token::Word(Word::Int)), Some(Token::Mark(Mark::LeftBracket)))
             | (Some(Token::Word(Word::Byte)), Some(Token::Mark(Mark::LeftBracket))) => {
@@ -155,7 +155,7 @@ impl<'t> Around<'t> {
         }
     }
 
-    /// Behind `else`.
+    /// Handles what follows `else`.
     fn mend_of_else(self) -> &'static str {
         match self.first {
             Some(Token::Word(Word::If)) => ELSE_IF,
@@ -163,7 +163,7 @@ impl<'t> Around<'t> {
         }
     }
 
-    /// Whether the last token is what a word declares.
+    /// Returns whether the last token is a name that follows this declaring word.
     fn declares(self, declaring: Word) -> bool {
         match self.last_but_one {
             Some(Token::Word(word)) => *word == declaring,
@@ -171,7 +171,8 @@ impl<'t> Around<'t> {
         }
     }
 
-    /// Whether a parameter begins here: behind `proc f(`, or behind the type of another and a comma.
+    /// Returns whether a parameter starts here: after `proc f(`, or after the type of another one
+    /// and a comma.
     fn is_parameter(self) -> bool {
         match (self.last_but_two, self.last_but_one, self.last) {
             (Some(Token::Word(Word::Proc)), _, Some(Token::Mark(Mark::LeftParen))) => true,
@@ -182,7 +183,7 @@ impl<'t> Around<'t> {
         }
     }
 
-    /// Whether `for` stands before a parenthesis that has just been opened, as in `for (i = 0;`.
+    /// Returns whether `for` precedes a parenthesis that was just opened, as in `for (i = 0;`.
     fn begins_for(self) -> bool {
         match (self.last_but_one, self.last) {
             (Some(called), Some(Token::Mark(Mark::LeftParen))) => is_for(called),
@@ -191,18 +192,18 @@ impl<'t> Around<'t> {
         }
     }
 
-    /// Whether a statement has just ended, or none has begun.
+    /// Returns whether a statement has just ended, or none has started.
     fn is_ended(self) -> bool {
         self.last.is_some_and(ends_statement)
     }
 }
 
-/// Whether a name is a word that stands before a block in other languages.
+/// Returns whether a name is a word that precedes a block in other languages.
 fn is_before_block(name: &str) -> bool {
     matches!(name, "then" | "do")
 }
 
-/// Whether a token is the name by which loops begin in other languages.
+/// Returns whether a token is a name that starts a loop in other languages.
 fn is_for(token: &Token) -> bool {
     match token {
         Token::Name(name) => matches!(name.as_str(), "for" | "foreach"),
@@ -210,12 +211,12 @@ fn is_for(token: &Token) -> bool {
     }
 }
 
-/// A token by its number, where there are so many.
+/// Returns a token by its number, if there are that many.
 fn token_at(tokens: &[Spanned], at: usize) -> Option<&Token> {
     tokens.get(at).map(|spanned| &spanned.token)
 }
 
-/// What would be right in place of a name that is a word of other languages.
+/// Returns what to write instead of a name that is a reserved word of other languages.
 fn mend_of_name(token: Option<&Token>) -> Option<&'static str> {
     let Some(Token::Name(name)) = token else {
         return None;
@@ -224,27 +225,31 @@ fn mend_of_name(token: Option<&Token>) -> Option<&'static str> {
         "for" | "foreach" | "loop" => Some(FOR),
         "let" | "const" => Some("declare a variable as in `var x = 1;`"),
         "fn" | "func" | "function" | "def" | "void" => {
-            Some("begin a procedure with `proc`, as in `proc f(mut s: int) { .. }`")
+            Some("declare a procedure with `proc`, as in `proc f(mut s: int) { .. }`")
         }
-        "return" => Some("a procedure answers nothing: it writes into a section of its caller"),
-        "break" | "continue" => Some("there is no `break`: a loop ends by its guard alone"),
+        "return" => Some(
+            "procedures return no value; write the result into a section of the caller",
+        ),
+        "break" | "continue" => Some(
+            "there is no `break` or `continue`: a loop ends only by its condition",
+        ),
         "elif" | "elsif" | "elseif" => Some(ELSE_IF),
         "spawn" | "sync" | "await" => {
-            Some("begin a task by `async { .. }`, and wait for tasks by `finish { .. }`")
+            Some("start a task with `async { .. }` and wait for tasks with `finish { .. }`")
         }
         _ => None,
     }
 }
 
-/// What would be right where a statement could end, and goes on with a second assignment, or with a
+/// Returns what to write if a statement could end, and continues with a second assignment or a
 /// second variable.
 pub fn mend_of_second(before: &[Spanned], behind: &[Spanned]) -> Option<&'static str> {
     match first_of_statement(before) {
         Some(Token::Word(Word::Var)) | Some(Token::Name(_)) => {
             if begins_with(behind, Mark::Becomes) {
-                Some("write a statement for each assignment, as in `y = 1; x = y;`")
+                Some("use one statement per assignment, as in `y = 1; x = y;`")
             } else if begins_with(behind, Mark::Comma) {
-                Some("write a statement for each variable, as in `var x = 1; var y = 2;`")
+                Some("use one statement per variable, as in `var x = 1; var y = 2;`")
             } else {
                 None
             }
@@ -253,7 +258,7 @@ pub fn mend_of_second(before: &[Spanned], behind: &[Spanned]) -> Option<&'static
     }
 }
 
-/// The first token of the statement in which the last one stands.
+/// Returns the first token of the statement that contains the last one.
 fn first_of_statement(tokens: &[Spanned]) -> Option<&Token> {
     let mut first = None;
     let mut is_new = true;
@@ -266,7 +271,7 @@ fn first_of_statement(tokens: &[Spanned]) -> Option<&Token> {
     first
 }
 
-/// Whether a statement has ended with a token, or none has begun.
+/// Returns whether a token ends a statement, or none has started.
 fn ends_statement(token: &Token) -> bool {
     match token {
         Token::Mark(mark) => {

@@ -1,4 +1,4 @@
-//! Inputs that don't fit their program.
+//! Inputs that don't match their program.
 
 use excerpts::escaped::Escaped;
 use excerpts::nouns::noun;
@@ -10,8 +10,8 @@ use syntax_tree::tree::ElementType;
 use types::code::Array;
 use types::input_error::InputError;
 
-/// What stands behind the line of an error of an input: where, why, and what would be right. The
-/// text is that of the input, the arrays are those of the program.
+/// Returns the text after the line of an input error: where, why, and how to fix it. The text is
+/// that of the input; the arrays are those of the program.
 pub fn explained_input(
     alloc: Global,
     arrays: &[Array],
@@ -40,11 +40,11 @@ pub fn explained_input(
 }
 
 const NO_OBJECT: &str = "
-The input must be one object with a list of numbers for each array that doesn't begin with zeros.
-To mend it: write {\"a\": [1, 2]}, with the names of arrays for a.
+The input must be one object with a list of numbers for each array that doesn't start with zeros.
+help: write {\"a\": [1, 2]}, where a is the name of an array.
 ";
 
-/// Adds where a text is no JSON: the column counts bytes.
+/// Adds where the text stops being JSON. The column counts bytes.
 fn push_no_json(
     told: &mut String,
     text: &str,
@@ -58,11 +58,12 @@ fn push_no_json(
     let characters = characters_of(line_of(text, place), column);
     place.column = u32::try_from(characters).unwrap_or(1);
     push_excerpt(told, text, place)?;
-    told.push_str("The input goes wrong as JSON here.\n")?;
-    told.push_str("To mend it: write {\"a\": [1, 2]}, with the names of arrays for a.\n")
+    told.push_str("Invalid JSON.\n")?;
+    told.push_str("help: write {\"a\": [1, 2]}, where a is the name of an array.\n")
 }
 
-/// How many characters begin in the first bytes of a line; each byte behind its end is one.
+/// Returns the number of characters that start in the first bytes of a line. Each byte past its end
+/// counts as one.
 fn characters_of(line: &str, bytes: usize) -> usize {
     let mut many = bytes.saturating_sub(line.len());
     for (at, _) in line.char_indices() {
@@ -73,12 +74,12 @@ fn characters_of(line: &str, bytes: usize) -> usize {
     many
 }
 
-/// Adds which arrays a program has.
+/// Adds which arrays the program has.
 fn push_arrays(told: &mut String, arrays: &[Array]) -> Result<(), AllocError> {
     if arrays.is_empty() {
         return told.push_str("The program has no arrays.\n");
     }
-    let mut before = "Arrays of the program: ";
+    let mut before = "Arrays: ";
     for array in arrays {
         let name = array.name.as_str();
         let element = element_text(array.element);
@@ -89,7 +90,7 @@ fn push_arrays(told: &mut String, arrays: &[Array]) -> Result<(), AllocError> {
     told.push('\n')
 }
 
-/// The name of an element type.
+/// Returns the name of an element type.
 fn element_text(element: ElementType) -> &'static str {
     match element {
         ElementType::Int => "int",
@@ -97,15 +98,15 @@ fn element_text(element: ElementType) -> &'static str {
     }
 }
 
-/// Adds that the program has no such array.
+/// Explains a member that names no array.
 fn push_unknown(told: &mut String, arrays: &[Array], name: &str) -> Result<(), AllocError> {
     let name = Escaped(name);
     write!(told, "\nThe program has no array `{name}`.\n")?;
     push_arrays(told, arrays)?;
-    told.push_str("To mend it: take the member away, or give it the name of an array.\n")
+    told.push_str("help: remove the member, or rename it to an array.\n")
 }
 
-/// The array of a name.
+/// Returns the array with this name.
 fn array_of<'a>(arrays: &'a [Array], name: &str) -> Option<&'a Array> {
     for array in arrays {
         if array.name.as_str() == name {
@@ -130,24 +131,22 @@ fn push_length(
                 let elements = noun(wanted, "element", "elements");
                 write!(
                     told,
-                    "\nThe array `{name}` has {wanted} {elements}, and the list has {given}.\n"
+                    "\nThe array `{name}` has {wanted} {elements}, but the list has {given}.\n"
                 )?;
             }
             None => {
                 let numbers = noun(wanted, "number", "numbers");
                 write!(
                     told,
-                    "\nThe array `{name}` wants a list of {wanted} {numbers}.\n"
+                    "\nThe array `{name}` needs a list of {wanted} {numbers}.\n"
                 )?;
             }
         }
     }
-    told.push_str(
-        "To mend it: give one number for each element; an array that is left out begins with zeros.\n",
-    )
+    told.push_str("help: write one number for each element; an omitted array starts with zeros.\n")
 }
 
-/// Adds which element an array can't hold.
+/// Adds which element doesn't fit in an array.
 fn push_element(
     alloc: Global,
     told: &mut String,
@@ -163,24 +162,23 @@ fn push_element(
     };
     for (number, element) in list.iter().enumerate() {
         if !fits(array.element, element) {
-            write!(told, "\nElement {number} of `{name}`, from 0, is ")?;
+            write!(told, "\nElement {number} of `{name}` (counting from 0) is ")?;
             push_value(alloc, told, element)?;
             break;
         }
     }
     told.push_str(match array.element {
-        ElementType::Int =>
-            "An int is a whole number from -9223372036854775808 to 9223372036854775807",
-        ElementType::Byte => "A byte is a whole number from 0 to 255",
+        ElementType::Int => "An int is an integer from -9223372036854775808 to 9223372036854775807",
+        ElementType::Byte => "A byte is an integer from 0 to 255",
     })?;
-    told.push_str(", written without a point or an exponent.\n")?;
-    told.push_str("To mend it: give a number that the array holds.\n")
+    told.push_str(", written without a decimal point or exponent.\n")?;
+    told.push_str("help: use a number in this range.\n")
 }
 
-/// The most characters of an element that are shown.
+/// The number of characters that are shown of an element.
 const SHOWN: usize = 60;
 
-/// Adds an element as JSON writes it, with `..` for what is left out, and the end of the line.
+/// Adds an element as JSON, with `..` for what is left out, and a newline.
 fn push_value(alloc: Global, told: &mut String, value: &Value) -> Result<(), AllocError> {
     let text = value.to_string(alloc)?;
     let mut begin = String::new(alloc);
@@ -196,7 +194,7 @@ fn push_value(alloc: Global, told: &mut String, value: &Value) -> Result<(), All
     })
 }
 
-/// Whether a value is a number that an array with such elements holds.
+/// Returns whether a value is a number that fits in an element of this type.
 fn fits(element: ElementType, value: &Value) -> bool {
     match value.as_i64() {
         Some(number) => match element {

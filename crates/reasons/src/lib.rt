@@ -1,4 +1,4 @@
-//! Why a text, a program or an input is refused, said at length.
+//! Explanations of rejected programs and inputs.
 
 #![tactic(auto)]
 

@@ -3,8 +3,8 @@
 use excerpts::statements::Statements;
 use std::alloc::{AllocError, Global};
 
-/// What stands behind the line of a race: where both accesses stand, why they may meet, and what
-/// would be right. The accesses are given as that line tells them, as `2 write a`.
+/// Returns the text after the line of a race: where both accesses are, why they conflict, and how
+/// to fix it. The accesses are given as that line prints them, such as `2 write a`.
 pub fn explained_race(
     alloc: Global,
     text: &str,
@@ -27,20 +27,21 @@ pub fn explained_race(
     Ok(told)
 }
 
-const ONE: &str = "The statement may run in two tasks at once, and both may touch one place.
+const ONE: &str =
+    "The statement may run in two tasks at the same time, and both may access the same element.
 ";
 
 const TWO: &str =
-    "One of them may still run in a task while the other runs, since no finish waits for it, and both may touch one place.
+    "One of them may still be running in a task while the other runs, because no finish waits for it. Both may access the same element.
 ";
 
 const MEND: &str =
-    "The check sees whole sections, whatever the indices are; only the two sides of one split are known to be apart.
-To mend it: put the statements that start the tasks into a finish, behind which the other access stands; or give each
-task a part of its own by split.
+    "The check compares whole sections and ignores indices; only the two sides of one split are known not to overlap.
+help: put the statements that start the tasks inside a finish that ends before the other access, or use split to give
+each task its own part.
 ";
 
-/// Adds the line of the statement that has an access, told as `2 write a`.
+/// Adds the line of the statement that has an access, given as `2 write a`.
 fn push_access(
     told: &mut String,
     statements: &Statements<'_>,
@@ -57,7 +58,7 @@ fn push_access(
     statements.push_at(told, label, None)
 }
 
-/// The label of an access that is told as `2 write a`.
+/// Returns the label of an access that is given as `2 write a`.
 fn label_of(access: &str) -> u32 {
     match access.split_once(' ') {
         Some((label, _)) => u32::from_str_radix(label, 10).unwrap_or(0),

@@ -1,4 +1,4 @@
-//! Texts that spell no program.
+//! Syntax errors.
 
 use crate::expected::{Front, WORDS, mark_text, word_text};
 use crate::habits::{Around, mend_of_character, mend_of_second};
@@ -11,7 +11,7 @@ use syntax::programs::program;
 use syntax::token::{Mark, Spanned, Token, Word};
 use syntax::{Place, lexer};
 
-/// What stands behind the line of an error of a text: where, why, and what would be right.
+/// Returns the text after the line of a syntax error: where, why, and how to fix it.
 pub fn explained_syntax(
     alloc: Global,
     text: &str,
@@ -32,37 +32,34 @@ pub fn explained_syntax(
     Ok(told)
 }
 
-/// How many tokens may stand before the place at which a text goes wrong, where it is said what may
-/// stand there: the parser goes over all of them for each.
+/// The number of tokens before the error up to which the expected tokens are listed. The parser
+/// reads all of them once for each token that it tries.
 const MOST_TOKENS: usize = 50_000;
 
-const TOO_LARGE: &str = "A number is at most 9223372036854775807.
-To mend it: write a smaller one.
+const TOO_LARGE: &str = "The largest number is 9223372036854775807.
+help: use a smaller number.
 ";
 
-const TOO_DEEP: &str = "With this bracket more than 100 are open.
-To mend it: put a part of the expression into a variable, or of the block into a procedure.
+const TOO_DEEP: &str = "Brackets are nested more than 100 deep here.
+help: move part of the expression into a variable, or part of the block into a procedure.
 ";
 
 const TOO_LONG: &str = "
-A text has at most 1048576 bytes.
-To mend it: shorten it; numbers are read from a file by --input.
+A program can have at most 1048576 bytes.
+help: shorten it; use --input to read numbers from a file.
 ";
 
 const NO_VALUE: &str =
-    "a procedure gives no value: call it as a statement, as in `f(a);`, and let it write into a section";
+    "procedures return no value: call it as a statement, as in `f(a);`, and let it write into a section";
 
-/// Adds that no token begins with the character at a place.
+/// Explains an unexpected character.
 fn push_no_token(told: &mut String, text: &str, place: Place) -> Result<(), AllocError> {
     let before = usize::try_from(place.column).unwrap_or(1).saturating_sub(1);
     let mend = mend_of_character(line_of(text, place).chars().nth(before));
-    write!(
-        told,
-        "No token begins with this character.\nTo mend it: {mend}.\n"
-    )
+    write!(told, "Unexpected character.\nhelp: {mend}.\n")
 }
 
-/// Adds which token may not stand where it does, and what may stand there.
+/// Adds which token is unexpected, and which ones are expected.
 fn push_unexpected(alloc: Global, told: &mut String, text: &str) -> Result<(), AllocError> {
     let characters: Vec<char> = text.chars().collect(alloc)?;
     let Ok(mut tokens) = lexer::tokens(alloc, &characters) else {
@@ -75,14 +72,14 @@ fn push_unexpected(alloc: Global, told: &mut String, text: &str) -> Result<(), A
     let behind = tokens.split_off(at)?;
     let mut front = Front::new(alloc, tokens);
     match behind.as_slice() {
-        [] => told.push_str("The text ends here, and a program can't end so.\n")?,
+        [] => told.push_str("Unexpected end of file.\n")?,
         [stood, ..] => push_stood(told, &stood.token)?,
     }
     if front.is_ended()? {
         return push_ended(told, &behind);
     }
     if at > MOST_TOKENS {
-        return told.push_str("To mend it: look at what stands before it.\n");
+        return told.push_str("help: look at the code before this.\n");
     }
     if is_word(&behind) && front.wants_name()? {
         return push_reserved(told);
@@ -91,33 +88,33 @@ fn push_unexpected(alloc: Global, told: &mut String, text: &str) -> Result<(), A
     push_mend(told, &mut front, &behind)
 }
 
-/// Adds what stood there.
+/// Adds the unexpected token.
 fn push_stood(told: &mut String, stood: &Token) -> Result<(), AllocError> {
     match stood {
-        Token::Name(name) => write!(told, "The name `{name}` may not stand here.\n"),
-        Token::Number(number) => write!(told, "The number {number} may not stand here.\n"),
+        Token::Name(name) => write!(told, "Unexpected name `{name}`.\n"),
+        Token::Number(number) => write!(told, "Unexpected number {number}.\n"),
         Token::Word(word) => {
             let word = word_text(*word);
-            write!(told, "`{word}`, a reserved word, may not stand here.\n")
+            write!(told, "Unexpected reserved word `{word}`.\n")
         }
         Token::Mark(mark) => {
             let mark = mark_text(*mark);
-            write!(told, "`{mark}` may not stand here.\n")
+            write!(told, "Unexpected `{mark}`.\n")
         }
     }
 }
 
-/// Adds that nothing may stand behind main.
+/// Explains text after main.
 fn push_ended(told: &mut String, behind: &[Spanned]) -> Result<(), AllocError> {
-    told.push_str("A program ends with the `}` of main, and nothing may stand behind it.\n")?;
+    told.push_str("The program ends with the `}` of main; nothing may follow it.\n")?;
     told.push_str(if is_procedure(behind) {
-        "To mend it: write the procedure before main.\n"
+        "help: move the procedure before main.\n"
     } else {
-        "To mend it: take this away; or is a `}` before it one too many?\n"
+        "help: remove this, or check for an extra `}` before it.\n"
     })
 }
 
-/// Whether a `proc` stands first.
+/// Returns whether the first token is `proc`.
 fn is_procedure(behind: &[Spanned]) -> bool {
     match behind {
         [first, ..] => matches!(&first.token, Token::Word(Word::Proc)),
@@ -125,7 +122,7 @@ fn is_procedure(behind: &[Spanned]) -> bool {
     }
 }
 
-/// Whether a reserved word stands first.
+/// Returns whether the first token is a reserved word.
 fn is_word(tokens: &[Spanned]) -> bool {
     match tokens {
         [first, ..] => matches!(&first.token, Token::Word(_)),
@@ -133,9 +130,9 @@ fn is_word(tokens: &[Spanned]) -> bool {
     }
 }
 
-/// Adds that a name would be right, and the words that are none.
+/// Adds that a name is expected, and lists the reserved words.
 fn push_reserved(told: &mut String) -> Result<(), AllocError> {
-    told.push_str("A name must stand here, and a reserved word is none. Reserved:\n ")?;
+    told.push_str("Expected a name. Reserved words:\n ")?;
     let mut width: usize = 1;
     for word in WORDS {
         if width > 90 {
@@ -145,12 +142,12 @@ fn push_reserved(told: &mut String) -> Result<(), AllocError> {
         write!(told, " {word}")?;
         width = width.saturating_add(word.len()).saturating_add(1);
     }
-    told.push_str("\nTo mend it: take another name.\n")
+    told.push_str("\nhelp: use another name.\n")
 }
 
-/// Adds what would be right.
+/// Adds how to fix it.
 fn push_mend(told: &mut String, front: &mut Front, behind: &[Spanned]) -> Result<(), AllocError> {
-    told.push_str("To mend it: ")?;
+    told.push_str("help: ")?;
     told.push_str(match Around::of(front.tokens(), behind).mend() {
         Some(mend) => mend,
         None => usual_mend(front, behind)?,
@@ -158,7 +155,7 @@ fn push_mend(told: &mut String, front: &mut Front, behind: &[Spanned]) -> Result
     told.push_str(".\n")
 }
 
-/// What would be right as far as what may stand here tells it.
+/// Returns the usual fix, found by which tokens can follow.
 fn usual_mend(front: &mut Front, behind: &[Spanned]) -> Result<&'static str, AllocError> {
     let may_end = front.takes_mark(Mark::Semicolon)?;
     if may_end && front.takes_mark(Mark::Plus)? {
@@ -167,16 +164,16 @@ fn usual_mend(front: &mut Front, behind: &[Spanned]) -> Result<&'static str, All
         }
     }
     if begins_with(behind, Mark::Becomes) && front.takes_mark(Mark::Equal)? {
-        return Ok("equal is ==");
+        return Ok("use `==` for equality");
     }
     if begins_with(behind, Mark::LeftParen) && front.ends_with_value()? {
         return Ok(NO_VALUE);
     }
     if may_end {
-        return Ok("a statement ends with `;`: write it before this");
+        return Ok("add `;` before this");
     }
     if behind.is_empty() && front.takes_mark(Mark::RightBrace)? {
-        return Ok("close each block that is open with `}`");
+        return Ok("close every open block with `}`");
     }
-    Ok("write one of these here")
+    Ok("use one of these")
 }

@@ -23,7 +23,7 @@ pub fn is_explained(alloc: Global, race: &Value, explained: &str) -> Result<bool
                 return Ok(false);
             }
         }
-        if line == "They may run together:" {
+        if line == "They may run in parallel:" {
             is_way = true;
         }
     }
@@ -52,7 +52,7 @@ fn lines_of(alloc: Global, race: &Value) -> Result<String, AllocError> {
             let label = number_in(step, "label").unwrap_or(0);
             write!(
                 lines,
-                "  {label} goes round while tasks of earlier turns may still run\n"
+                "  {label} loops while tasks from earlier iterations may still be running\n"
             )?;
         }
     }
@@ -110,14 +110,12 @@ fn reason_of(alloc: Global, race: &Value) -> Result<String, AllocError> {
         return String::from_str(alloc, "no reason");
     };
     match text_in(sharing, "kind") {
-        "same" => format!(in alloc; "  Both are the section {first}. "),
+        "same" => format!(in alloc; "  Both access the section {first}. "),
         "first_is_part" => format!(in alloc; "  {first} is a part of {second}. "),
         "second_is_part" => format!(in alloc; "  {second} is a part of {first}. "),
         _ => {
             let common = text_in(sharing, "section");
-            format!(in alloc;
-                "  {first} and {second} lie in sides of different splits of {common}: "
-            )
+            format!(in alloc; "  {first} and {second} come from different splits of {common}, so ")
         }
     }
 }

@@ -1,4 +1,4 @@
-//! Why a program breaks a rule, said at length.
+//! Explanations of broken rules.
 
 #![tactic(auto)]
 

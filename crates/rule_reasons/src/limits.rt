@@ -1,4 +1,4 @@
-//! Programs that have more of a thing than they may.
+//! Programs that exceed a limit.
 
 use crate::rule_texts::is_word;
 use excerpts::source::push_excerpt;
@@ -8,11 +8,11 @@ use std::alloc::{AllocError, Global};
 use syntax::Place;
 use syntax::token::{Spanned, Token, Word};
 
-/// A limit, and what is said of a program that is over it.
+/// A limit, and what is printed about a program that exceeds it.
 #[derive(Clone, Copy)]
 struct Limit {
     most: u64,
-    /// Who may have no more, and of what.
+    /// What the limit applies to: a program or a procedure.
     owner: &'static str,
     what: &'static str,
     mend: &'static str,
@@ -21,46 +21,46 @@ struct Limit {
 const PROCEDURES: Limit = Limit {
     most: 256,
     owner: "A program",
-    what: "procedures beside main",
-    mend: "take those away that nothing calls, or write one for several.",
+    what: "procedures besides main",
+    mend: "remove procedures that nothing calls, or merge several into one.",
 };
 
 const PARAMETERS: Limit = Limit {
     most: 16,
     owner: "A procedure",
     what: "parameters",
-    mend: "pass several numbers as the elements of one section.",
+    mend: "pass several numbers as elements of one section.",
 };
 
 const ARRAYS: Limit = Limit {
     most: 32,
     owner: "A program",
     what: "arrays",
-    mend: "write a larger one for several, and name its parts by split.",
+    mend: "use one larger array for several, and name its parts with split.",
 };
 
 const ELEMENTS: Limit = Limit {
     most: 4_194_304,
     owner: "A program",
-    what: "elements of all arrays together",
-    mend: "declare smaller arrays, or fewer.",
+    what: "elements in all arrays together",
+    mend: "declare smaller or fewer arrays.",
 };
 
 const STATEMENTS: Limit = Limit {
     most: 65_535,
     owner: "A program",
     what: "statements",
-    mend: "write loops and procedures for what stands there several times.",
+    mend: "use loops and procedures for repeated code.",
 };
 
 const LIMITS: &str = "
-A program has at most 256 procedures beside main, each with at most 16 parameters, 32 arrays, 4194304 elements of all
+A program has at most 256 procedures besides main, 16 parameters for each procedure, 32 arrays, 4194304 elements in all
 arrays together, and 65535 statements.
-To mend it: stay below these.
+help: stay within these limits.
 ";
 
-/// How many a program has of what is limited, and the number of the character at which the first
-/// stands that is too many.
+/// The number of things in a program that a limit counts, and the character at which the first one
+/// over the limit starts.
 #[derive(Clone, Copy)]
 struct Count {
     limit: Limit,
@@ -69,7 +69,7 @@ struct Count {
 }
 
 impl Count {
-    /// None yet.
+    /// Starts to count at 0.
     fn of(limit: Limit) -> Count {
         Count {
             limit,
@@ -78,7 +78,7 @@ impl Count {
         }
     }
 
-    /// Counts so many more, which stand at a character.
+    /// Counts this many more things, at a character.
     fn add(&mut self, many: u64, at: usize) {
         self.many = self.many.saturating_add(many);
         if self.many > self.limit.most && self.over.is_none() {
@@ -87,7 +87,7 @@ impl Count {
     }
 }
 
-/// Adds which limit a program is over, by how many, and what would be right.
+/// Adds which limit a program exceeds, by how much, and how to fix it.
 pub fn push_over_limit(
     alloc: Global,
     told: &mut String,
@@ -108,7 +108,7 @@ pub fn push_over_limit(
     }
 }
 
-/// Adds a limit, and where what is too many begins.
+/// Adds a limit, and the place at which it is exceeded.
 fn push_limit(
     told: &mut String,
     text: &str,
@@ -120,13 +120,13 @@ fn push_limit(
     let (owner, most, what) = (limit.owner, limit.most, limit.what);
     write!(
         told,
-        "{owner} has at most {most} {what}, and this one has {many}.\n"
+        "{owner} can have at most {most} {what}; this one has {many}.\n"
     )?;
     let mend = limit.mend;
-    write!(told, "To mend it: {mend}\n")
+    write!(told, "help: {mend}\n")
 }
 
-/// What a program has of all but statements.
+/// Returns the counts of everything except statements.
 fn counts(alloc: Global, tokens: &[Spanned]) -> Result<Vec<Count>, AllocError> {
     let mut found = Vec::new(alloc);
     found.push(words(tokens, Word::Proc, PROCEDURES))?;
@@ -136,7 +136,7 @@ fn counts(alloc: Global, tokens: &[Spanned]) -> Result<Vec<Count>, AllocError> {
     Ok(found)
 }
 
-/// How often a word stands there.
+/// Counts the occurrences of a reserved word.
 fn words(tokens: &[Spanned], word: Word, limit: Limit) -> Count {
     let mut count = Count::of(limit);
     for spanned in tokens {
@@ -147,7 +147,7 @@ fn words(tokens: &[Spanned], word: Word, limit: Limit) -> Count {
     count
 }
 
-/// The parameters of the first procedure that has too many.
+/// Counts the parameters of the first procedure that has too many.
 fn most_parameters(alloc: Global, tokens: &[Spanned]) -> Result<Count, AllocError> {
     for (number, spanned) in tokens.iter().enumerate() {
         if is_word(&spanned.token, Word::Proc) {
@@ -164,7 +164,7 @@ fn most_parameters(alloc: Global, tokens: &[Spanned]) -> Result<Count, AllocErro
     Ok(Count::of(PARAMETERS))
 }
 
-/// The elements of the arrays, each declared as `array a: int[8];`.
+/// Counts the elements of the arrays, each declared as in `array a: int[8];`.
 fn elements(tokens: &[Spanned]) -> Count {
     let mut count = Count::of(ELEMENTS);
     for (number, spanned) in tokens.iter().enumerate() {

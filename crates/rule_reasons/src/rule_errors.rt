@@ -14,8 +14,8 @@ use syntax::Place;
 use syntax::token::{Spanned, Token, Word};
 use types::error::TypeError;
 
-/// What stands behind the line of a rule that a text's program breaks: where, why, and what would
-/// be right. Nothing where the text isn't that of such a program.
+/// Returns the text after the line of a rule that a program breaks: where, why, and how to fix it.
+/// It is empty if the text isn't that of such a program.
 pub fn explained_rule(alloc: Global, text: &str, error: TypeError) -> Result<String, AllocError> {
     let mut told = String::new(alloc);
     let Some(statements) = Statements::of(alloc, text)? else {
@@ -46,12 +46,12 @@ pub struct Broken<'t> {
     head: &'t [Spanned],
     names: Vec<Named<'t>>,
     scope: Scope<'t>,
-    /// What was declared before the statement, and is in scope no more.
+    /// What was declared before the statement and is no longer in scope.
     over: Vec<Declared<'t>>,
 }
 
 impl<'t> Broken<'t> {
-    /// The statement that begins at a place.
+    /// Finds the statement that starts at a place.
     fn at(
         alloc: Global,
         text: &'t str,
@@ -77,7 +77,7 @@ impl<'t> Broken<'t> {
         })
     }
 
-    /// Adds where the statement stands, why it breaks the rule, and what would be right.
+    /// Adds where the statement is, why it breaks the rule, and how to fix it.
     fn push(&self, told: &mut String, error: TypeError) -> Result<(), AllocError> {
         match error {
             TypeError::NotInScope { .. } => self.push_not_in_scope(told),
@@ -98,12 +98,12 @@ impl<'t> Broken<'t> {
         push_excerpt(told, self.text, self.source.place(at))
     }
 
-    /// Adds the line at which the statement begins.
+    /// Adds the line at which the statement starts.
     fn push_start(&self, told: &mut String) -> Result<(), AllocError> {
         push_excerpt(told, self.text, self.place)
     }
 
-    /// Adds the place at which a declaration stands.
+    /// Adds the place of a declaration.
     fn push_place(&self, told: &mut String, declared: Declared<'t>) -> Result<(), AllocError> {
         let place = self.source.place(declared.at);
         write!(told, "{place}")
@@ -111,7 +111,7 @@ impl<'t> Broken<'t> {
 
     // ---- the rules
 
-    /// A name or a procedure that isn't in scope.
+    /// Explains a name or a procedure that isn't in scope.
     fn push_not_in_scope(&self, told: &mut String) -> Result<(), AllocError> {
         for named in &self.names {
             if named.role == Role::Called {
@@ -125,16 +125,16 @@ impl<'t> Broken<'t> {
         self.push_start(told)
     }
 
-    /// A procedure that the text doesn't have.
+    /// Explains a call of a procedure that doesn't exist.
     fn push_no_procedure(&self, told: &mut String, named: Named<'t>) -> Result<(), AllocError> {
         self.push_at(told, named.at)?;
         let name = named.name;
-        write!(told, "No procedure of the text is called `{name}`.\n")?;
+        write!(told, "There is no procedure `{name}`.\n")?;
         rule_texts::push_procedures(told, &self.source.tokens)?;
-        told.push_str("To mend it: call one that the text has, or add it before main.\n")
+        told.push_str("help: call an existing procedure, or add this one before main.\n")
     }
 
-    /// A name that isn't in scope.
+    /// Explains a name that isn't in scope.
     fn push_no_name(&self, told: &mut String, named: Named<'t>) -> Result<(), AllocError> {
         self.push_at(told, named.at)?;
         let name = named.name;
@@ -147,18 +147,18 @@ impl<'t> Broken<'t> {
         told.push('\n')?;
         self.push_scope(told)?;
         let is_section = wants_section(named.role) || self.is_section_argument(named)?;
-        told.push_str("To mend it: ")?;
+        told.push_str("help: ")?;
         told.push_str(if !is_section {
-            "declare it before, in this block or in one around it"
+            "declare it first, in this block or an enclosing one"
         } else if self.is_in_main() {
-            "declare an array of that name at the beginning of main"
+            "declare an array with this name at the beginning of main"
         } else {
-            "a procedure takes sections as parameters: declare it as one"
+            "add a section parameter with this name to the procedure"
         })?;
-        told.push_str("; or take a name that is in scope.\n")
+        told.push_str("; or use a name that is in scope.\n")
     }
 
-    /// Whether the statement stands in main.
+    /// Returns whether the statement is in main.
     fn is_in_main(&self) -> bool {
         let Some(begin) = self.head.first() else {
             return false;
@@ -184,7 +184,7 @@ impl<'t> Broken<'t> {
         told.push('\n')
     }
 
-    /// A name that is declared while the same name is in scope.
+    /// Explains a name that is declared while the same name is in scope.
     fn push_declared_twice(&self, told: &mut String) -> Result<(), AllocError> {
         let mut is_told = false;
         for named in &self.names {
@@ -193,10 +193,7 @@ impl<'t> Broken<'t> {
                     is_told = true;
                     self.push_at(told, named.at)?;
                     let name = named.name;
-                    write!(
-                        told,
-                        "`{name}` is in scope here already: it was declared at "
-                    )?;
+                    write!(told, "`{name}` is already in scope: it was declared at ")?;
                     self.push_place(told, declared)?;
                     told.push_str(".\n")?;
                 }
@@ -204,12 +201,13 @@ impl<'t> Broken<'t> {
         }
         if !is_told {
             self.push_start(told)?;
-            told.push_str("Both sides of the split have one name.\n")?;
+            told.push_str("Both sides of the split have the same name.\n")?;
         }
-        told.push_str("To mend it: take another name.\n")
+        told.push_str("help: use another name.\n")
     }
 
-    /// A section for a scalar or a truth value for a number, or the other way.
+    /// Explains a section where a variable is expected or a boolean where a number is expected, or
+    /// the reverse.
     fn push_wrong_kind(&self, told: &mut String) -> Result<(), AllocError> {
         let most = self.head.len().saturating_mul(2).saturating_add(1);
         if let Some(part) = wrong_part(self.alloc, self.parts()?, most)? {
@@ -232,7 +230,7 @@ impl<'t> Broken<'t> {
         told.push_str(rule_texts::COMPARED)
     }
 
-    /// The expressions of the statement, with what each must give.
+    /// Returns the expressions of the statement, with the kind of value that each must have.
     fn parts(&self) -> Result<Vec<Part<'t>>, AllocError> {
         let Some((called, given)) = self.call()? else {
             return parts_of(self.alloc, self.head);
@@ -248,7 +246,7 @@ impl<'t> Broken<'t> {
         Ok(parts)
     }
 
-    /// A truth value where a number must stand, or the other way.
+    /// Explains a boolean where a number is expected, or the reverse.
     fn push_wrong_part(&self, told: &mut String, part: Part<'t>) -> Result<(), AllocError> {
         match part.tokens.first() {
             Some(first) => self.push_at(told, first.at)?,
@@ -263,30 +261,30 @@ impl<'t> Broken<'t> {
         }
         match part.wanted {
             Value::Number => {
-                told.push_str("A truth value stands here, and a number must.\n")?;
+                told.push_str("Expected a number, found a boolean.\n")?;
                 told.push_str(rule_texts::TRUTHS)?;
                 told.push_str(rule_texts::KEPT)
             }
             Value::Truth => {
-                told.push_str("A number stands here, and a truth value must.\n")?;
+                told.push_str("Expected a boolean, found a number.\n")?;
                 told.push_str(rule_texts::TRUTHS)?;
                 told.push_str(rule_texts::COMPARED)
             }
         }
     }
 
-    /// A section where a truth value must stand.
+    /// Explains a section where a boolean is expected.
     fn push_no_truth(&self, told: &mut String, section: Declared<'t>) -> Result<(), AllocError> {
         let name = section.name;
         self.push_kind(told, section)?;
-        told.push_str("a truth value must stand here.\n")?;
+        told.push_str("expected a boolean.\n")?;
         write!(
             told,
-            "To mend it: compare an element of it, as `{name}[0] != 0`, or its length, as `len({name}) != 0`.\n"
+            "help: compare an element, as in `{name}[0] != 0`, or the length, as in `len({name}) != 0`.\n"
         )
     }
 
-    /// Whether a scalar must stand where a name stands.
+    /// Returns whether a variable is expected where a name is used.
     fn wants_scalar(&self, named: Named<'t>) -> Result<bool, AllocError> {
         match named.role {
             Role::Assigned => Ok(true),
@@ -295,7 +293,7 @@ impl<'t> Broken<'t> {
         }
     }
 
-    /// Whether a name is an argument where the parameter is a section.
+    /// Returns whether a name is an argument for a section parameter.
     fn is_section_argument(&self, named: Named<'t>) -> Result<bool, AllocError> {
         let Some((called, given)) = self.call()? else {
             return Ok(false);
@@ -308,7 +306,7 @@ impl<'t> Broken<'t> {
         Ok(false)
     }
 
-    /// A section where a scalar must stand, or a scalar where a section must.
+    /// Explains a section where a variable is expected, or a variable where a section is expected.
     fn push_other_kind(
         &self,
         told: &mut String,
@@ -319,18 +317,18 @@ impl<'t> Broken<'t> {
         self.push_kind(told, declared)?;
         let name = named.name;
         if !declared.kind.is_section() {
-            told.push_str("a section must stand here.\n")?;
+            told.push_str("expected a section.\n")?;
             return told.push_str(
-                "To mend it: name an array, a side of a split, or a `mut` or `read` parameter.\n",
+                "help: use an array, a side of a split, or a `mut` or `read` parameter.\n",
             );
         }
         if named.role == Role::Assigned {
             return push_no_variable(told, declared);
         }
-        told.push_str("a number must stand here.\n")?;
+        told.push_str("expected a number.\n")?;
         write!(
             told,
-            "To mend it: write an element of it, as `{name}[0]`, or its length, `len({name})`.\n"
+            "help: use an element, as in `{name}[0]`, or the length, `len({name})`.\n"
         )
     }
 
@@ -340,14 +338,14 @@ impl<'t> Broken<'t> {
         let kind = if declared.kind.is_section() {
             "section"
         } else {
-            "scalar"
+            "variable"
         };
         write!(told, "`{name}` is a {kind}, declared at ")?;
         self.push_place(told, declared)?;
         told.push_str("; ")
     }
 
-    /// A call with arguments that don't fit.
+    /// Explains a call with arguments that don't match.
     fn push_wrong_arguments(&self, told: &mut String) -> Result<(), AllocError> {
         let Some((called, given)) = self.call()? else {
             return self.push_unfit(told);
@@ -363,13 +361,13 @@ impl<'t> Broken<'t> {
         self.push_unfit(told)
     }
 
-    /// Arguments that don't fit, whichever they are.
+    /// Explains arguments that don't match, without naming one.
     fn push_unfit(&self, told: &mut String) -> Result<(), AllocError> {
         self.push_start(told)?;
         told.push_str(rule_texts::ARGUMENTS)
     }
 
-    /// A wrong number of arguments.
+    /// Explains a wrong number of arguments.
     fn push_count(
         &self,
         told: &mut String,
@@ -382,17 +380,17 @@ impl<'t> Broken<'t> {
         let place = self.source.place(called.at);
         write!(
             told,
-            "The procedure, declared at {place}, wants {wanted} {arguments}, and the call gives {given}.\n"
+            "The procedure declared at {place} takes {wanted} {arguments}, but the call passes {given}.\n"
         )?;
         rule_texts::push_parameters(told, &called.parameters)?;
         told.push_str(if wanted == 0 {
-            "To mend it: give no argument.\n"
+            "help: remove the arguments.\n"
         } else {
-            "To mend it: give one argument for each parameter, in their order.\n"
+            "help: pass one argument for each parameter, in order.\n"
         })
     }
 
-    /// Whether an argument is the name of a section of the parameter's element type.
+    /// Returns whether an argument is the name of a section with the parameter's element type.
     fn fits(&self, argument: &Argument<'t>, parameter: Parameter<'t>) -> bool {
         match argument.name() {
             Some(name) => match self.scope.find(name) {
@@ -405,7 +403,7 @@ impl<'t> Broken<'t> {
         }
     }
 
-    /// An argument that isn't a section of the right elements.
+    /// Explains an argument that isn't a section with the right element type.
     fn push_argument(
         &self,
         told: &mut String,
@@ -422,15 +420,15 @@ impl<'t> Broken<'t> {
         let element = parameter.kind.element();
         write!(
             told,
-            "The parameter `{name}` wants the name of a section of `{element}` here.\n"
+            "The parameter `{name}` takes the name of a section of `{element}`.\n"
         )?;
         rule_texts::push_parameters(told, &called.parameters)?;
         told.push_str(
-            "To mend it: name an array, a side of a split or a section parameter with such elements.\n",
+            "help: pass an array, a side of a split or a section parameter with this element type.\n",
         )
     }
 
-    /// Adds what stands as an argument where the name of a section must.
+    /// Adds what was found as an argument where a section is expected.
     fn push_found(&self, told: &mut String, argument: &Argument<'t>) -> Result<(), AllocError> {
         let Some(name) = argument.name() else {
             return Ok(());
@@ -442,13 +440,13 @@ impl<'t> Broken<'t> {
             let element = declared.kind.element();
             write!(told, "`{name}` is a section of `{element}`, declared at ")?;
         } else {
-            write!(told, "`{name}` is a scalar, declared at ")?;
+            write!(told, "`{name}` is a variable, declared at ")?;
         }
         self.push_place(told, declared)?;
         told.push_str(".\n")
     }
 
-    /// A scalar that is assigned in an async outside of which it is declared.
+    /// Explains an assignment in an async to a variable that is declared outside it.
     fn push_assigned(&self, told: &mut String) -> Result<(), AllocError> {
         self.push_start(told)?;
         let Some(named) = self.names.first() else {
@@ -462,24 +460,24 @@ impl<'t> Broken<'t> {
         self.push_place(told, declared)?;
         if let Some(at) = self.scope.task_around(declared) {
             let place = self.source.place(at);
-            write!(told, ", outside of the async at {place}")?;
+            write!(told, ", outside the async at {place}")?;
         }
         told.push_str(
-            ": a task has its own copies of such variables, and nobody would see what it assigns.\n",
+            ": the task has its own copy of the variable, so the assignment would be lost.\n",
         )?;
         write!(
             told,
-            "To mend it: write the answer into a section, as `out[0] = ..;`, or declare a variable inside of the async.\n"
+            "help: write the result into a section, as in `out[0] = ..;`, or declare a variable inside the async.\n"
         )
     }
 
-    /// A section that is only read, and is written or passed as `mut`.
+    /// Explains a read-only section that is written or passed as `mut`.
     fn push_read_only(&self, told: &mut String) -> Result<(), AllocError> {
         let Some((name, at)) = self.written_one()? else {
             return self.push_start(told);
         };
         self.push_at(told, at)?;
-        write!(told, "`{name}` is only read")?;
+        write!(told, "`{name}` is read-only")?;
         if let Some(declared) = self.scope.find(name) {
             told.push_str(": it is declared at ")?;
             self.push_place(told, declared)?;
@@ -490,11 +488,11 @@ impl<'t> Broken<'t> {
             })?;
         }
         told.push_str(
-            ".\nTo mend it: declare the parameter as `mut`, and pass it as `mut` all the way; or write into another section.\n",
+            ".\nhelp: declare the parameter as `mut` here and in every caller, or write into another section.\n",
         )
     }
 
-    /// The `read` section that the statement writes, or passes as `mut`, with its place.
+    /// Returns the `read` section that the statement writes or passes as `mut`, with its place.
     fn written_one(&self) -> Result<Option<(&'t str, usize)>, AllocError> {
         let Some((called, given)) = self.call()? else {
             return Ok(self.names.first().map(|named| (named.name, named.at)));
@@ -509,7 +507,7 @@ impl<'t> Broken<'t> {
         Ok(None)
     }
 
-    /// Whether a name is of a section that is only read.
+    /// Returns whether a name belongs to a read-only section.
     fn is_only_read(&self, name: &str) -> bool {
         match self.scope.find(name) {
             Some(declared) => declared.kind.is_read(),
@@ -517,22 +515,22 @@ impl<'t> Broken<'t> {
         }
     }
 
-    /// A `mut` argument that overlaps another.
+    /// Explains a `mut` argument that overlaps another argument.
     fn push_overlapping(&self, told: &mut String) -> Result<(), AllocError> {
         self.push_start(told)?;
         if let Some((one, other)) = self.overlapping_ones()? {
             let (first, second) = (one.name, other.name);
             write!(
                 told,
-                "`{first}` and `{second}` may share places, and one of them is passed as `mut`.\n"
+                "`{first}` and `{second}` may overlap, and one of them is passed as `mut`.\n"
             )?;
         }
         told.push_str(
-            "To mend it: pass sections that are apart: other arrays, or the two sides of one split.\n",
+            "help: pass sections that don't overlap: different arrays, or the two sides of one split.\n",
         )
     }
 
-    /// Two arguments that may share places, one of which is written.
+    /// Returns two arguments that may overlap and of which one is written.
     fn overlapping_ones(&self) -> Result<Option<(Declared<'t>, Declared<'t>)>, AllocError> {
         let Some((called, given)) = self.call()? else {
             return Ok(None);
@@ -549,15 +547,15 @@ impl<'t> Broken<'t> {
         Ok(None)
     }
 
-    /// The section that an argument is.
+    /// Returns the section that an argument is.
     fn section(&self, argument: &Argument<'t>) -> Option<Declared<'t>> {
         self.scope
             .find(argument.name()?)
             .filter(|declared| declared.kind.is_section())
     }
 
-    /// The first of the sections that were passed before that shares places with one, where one of
-    /// both is written.
+    /// Returns the first of the sections passed earlier that may overlap this one, if at least one
+    /// of the two is written.
     fn clash(
         &self,
         passed: &[(Declared<'t>, Parameter<'t>)],
@@ -573,7 +571,7 @@ impl<'t> Broken<'t> {
         None
     }
 
-    /// The procedure that the statement calls, and the arguments.
+    /// Returns the procedure that the statement calls, and the arguments.
     fn call(&self) -> Result<Option<(Procedure<'t>, Vec<Argument<'t>>)>, AllocError> {
         let Some(named) = self.names.first() else {
             return Ok(None);
@@ -588,20 +586,20 @@ impl<'t> Broken<'t> {
     }
 }
 
-/// Adds that a section is no variable, to which a number is assigned.
+/// Explains an assignment of a number to a section.
 fn push_no_variable(told: &mut String, section: Declared<'_>) -> Result<(), AllocError> {
-    told.push_str("only a variable takes a number so.\n")?;
+    told.push_str("only a variable can be assigned like this.\n")?;
     if section.kind.is_read() {
-        return told.push_str("To mend it: name a variable; a `read` section is never written.\n");
+        return told.push_str("help: assign to a variable; a `read` section can't be written.\n");
     }
     let name = section.name;
     write!(
         told,
-        "To mend it: store it in an element, as `{name}[0] = ..;`, or name a variable.\n"
+        "help: store it in an element, as in `{name}[0] = ..;`, or assign to a variable.\n"
     )
 }
 
-/// Whether a section must stand where a name does this.
+/// Returns whether a name with this role must be a section.
 fn wants_section(role: Role) -> bool {
     match role {
         Role::Stored | Role::Element | Role::Measured | Role::Cut => true,

@@ -1,4 +1,4 @@
-//! Texts of rules that are broken, where no statement has to be looked at.
+//! Texts for broken rules that need no look at a statement.
 
 use excerpts::named::begins_with;
 use excerpts::source::push_excerpt;
@@ -8,29 +8,29 @@ use std::alloc::AllocError;
 use syntax::token::{Mark, Spanned, Token, Word};
 use types::error::TypeError;
 
-/// What gives a truth value, and where one must stand.
+/// What gives a boolean, and where one is expected.
 pub const TRUTHS: &str =
-    "Comparisons, `true`, `false`, `not`, `and` and `or` give truth values; the guards of `if` and `while` and the operands
-of `not`, `and` and `or` want them; all else is numbers.
+    "Comparisons, `true`, `false`, `not`, `and` and `or` give booleans. The conditions of `if` and `while` and the operands of
+`not`, `and` and `or` must be booleans. Everything else is a number.
 ";
 
-/// What would be right for a truth value where a number must stand.
-pub const KEPT: &str = "To mend it: keep the answer as a number, by an `if`.\n";
+/// How to fix a boolean where a number is expected.
+pub const KEPT: &str = "help: use an `if` to turn it into a number.\n";
 
-/// What would be right for a number where a truth value must stand.
-pub const COMPARED: &str = "To mend it: compare the number, as `x != 0`.\n";
+/// How to fix a number where a boolean is expected.
+pub const COMPARED: &str = "help: compare the number, as in `x != 0`.\n";
 
-/// What a call gives.
-pub const ARGUMENTS: &str = "An argument of the call doesn't fit its parameter.
-To mend it: give a number, or the name of a section of the same elements, as the parameter says.
+/// What a call passes.
+pub const ARGUMENTS: &str = "An argument doesn't match its parameter.
+help: pass a number, or the name of a section with the same element type, as the parameter requires.
 ";
 
 const NO_MAIN: &str = "
-The text has no `main`, with which a run begins.
-To mend it: add `main { .. }` behind the procedures.
+The program has no `main`.
+help: add `main { .. }` after the procedures.
 ";
 
-/// Adds why a rule is broken that names no statement.
+/// Explains a broken rule whose message names no statement.
 pub fn push_without_label(
     told: &mut String,
     statements: &Statements<'_>,
@@ -49,12 +49,13 @@ fn push_twice(told: &mut String, statements: &Statements<'_>) -> Result<(), Allo
     if let Some((first, second)) = twice(&source.tokens) {
         push_excerpt(told, statements.text, source.place(second.at))?;
         let place = source.place(first.at);
-        write!(told, "The same name was declared at {place}.\n")?;
+        write!(told, "The name was first declared at {place}.\n")?;
     }
-    told.push_str("To mend it: take another name.\n")
+    told.push_str("help: use another name.\n")
 }
 
-/// The first array, parameter or procedure that is declared a second time, behind the first time.
+/// Returns the first array, parameter or procedure that is declared twice: the first declaration
+/// and the second.
 fn twice(tokens: &[Spanned]) -> Option<(&Spanned, &Spanned)> {
     let mut left = tokens;
     'tokens: while let [first, behind @ ..] = left {
@@ -68,7 +69,7 @@ fn twice(tokens: &[Spanned]) -> Option<(&Spanned, &Spanned)> {
     None
 }
 
-/// Where a name that stands behind this token is declared again.
+/// Returns where a name that follows this token is declared again.
 fn declared_again<'t>(
     before: &Token,
     name: &Spanned,
@@ -83,7 +84,7 @@ fn declared_again<'t>(
     }
 }
 
-/// The next parameter of the same name, where the name is one's of a parameter.
+/// Returns the next parameter of the same name, if the name is that of a parameter.
 fn parameter<'t>(name: &Spanned, behind: &'t [Spanned]) -> Option<&'t Spanned> {
     if !begins_with(behind, Mark::Colon) {
         return None;
@@ -99,7 +100,7 @@ fn parameter<'t>(name: &Spanned, behind: &'t [Spanned]) -> Option<&'t Spanned> {
     None
 }
 
-/// The first token that is a name and stands behind a word.
+/// Returns the first token after a reserved word that is the same name.
 fn behind_word<'t>(word: Word, name: &Spanned, tokens: &'t [Spanned]) -> Option<&'t Spanned> {
     let mut is_behind = false;
     for spanned in tokens {
@@ -111,7 +112,7 @@ fn behind_word<'t>(word: Word, name: &Spanned, tokens: &'t [Spanned]) -> Option<
     None
 }
 
-/// Whether a token is a word.
+/// Returns whether a token is this reserved word.
 pub fn is_word(token: &Token, word: Word) -> bool {
     match token {
         Token::Word(found) => *found == word,
@@ -119,7 +120,7 @@ pub fn is_word(token: &Token, word: Word) -> bool {
     }
 }
 
-/// Whether two tokens are one name.
+/// Returns whether two tokens are the same name.
 fn same_name(one: &Spanned, other: &Spanned) -> bool {
     match (&one.token, &other.token) {
         (Token::Name(first), Token::Name(second)) => first == second,
@@ -127,18 +128,14 @@ fn same_name(one: &Spanned, other: &Spanned) -> bool {
     }
 }
 
-/// Adds the names of the procedures of a text.
+/// Adds the names of the procedures.
 pub fn push_procedures(told: &mut String, tokens: &[Spanned]) -> Result<(), AllocError> {
     let mut count: usize = 0;
     let mut is_behind = false;
     for spanned in tokens {
         if is_behind {
             if let Token::Name(name) = &spanned.token {
-                told.push_str(if count == 0 {
-                    "Procedures of the text: "
-                } else {
-                    ", "
-                })?;
+                told.push_str(if count == 0 { "Procedures: " } else { ", " })?;
                 told.push_str(name)?;
                 count = count.saturating_add(1);
             }
@@ -146,7 +143,7 @@ pub fn push_procedures(told: &mut String, tokens: &[Spanned]) -> Result<(), Allo
         is_behind = is_word(&spanned.token, Word::Proc);
     }
     if count == 0 {
-        told.push_str("The text has no procedures.\n")
+        told.push_str("The program has no procedures.\n")
     } else {
         told.push('\n')
     }

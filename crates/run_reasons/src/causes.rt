@@ -1,4 +1,4 @@
-//! What faults come from, in words.
+//! The causes of faults.
 
 use excerpts::named::Named;
 use excerpts::statements::Statements;
@@ -8,16 +8,16 @@ use sections::window::Window;
 use std::alloc::AllocError;
 use types::code::{Label, Operator, Program};
 
-/// Where a fault stands in its statement.
+/// Where a fault is in its statement.
 #[derive(Clone, Copy)]
 pub struct Spot<'t> {
-    /// The number of the character, if it is another than the statement's first.
+    /// The number of the character, if it isn't the statement's first.
     pub at: Option<usize>,
-    /// The name of the section that has no such element, or no such split point.
+    /// The name of the section that has no such element or no such split point.
     name: &'t str,
 }
 
-/// Where a fault of a statement stands in it.
+/// Returns where a fault is in its statement.
 pub fn spot_of<'s>(
     statements: &'s Statements<'_>,
     label: Label,
@@ -36,7 +36,7 @@ pub fn spot_of<'s>(
     }
 }
 
-/// The spot of a name.
+/// Returns the spot of a name.
 fn named_spot(named: Option<Named<'_>>) -> Spot<'_> {
     match named {
         Some(named) => Spot {
@@ -47,7 +47,7 @@ fn named_spot(named: Option<Named<'_>>) -> Spot<'_> {
     }
 }
 
-/// Adds the values from which a fault comes.
+/// Adds the values that caused a fault.
 pub fn push_cause(
     told: &mut String,
     code: &Program,
@@ -74,16 +74,13 @@ pub fn push_cause(
             "Split point {point}, length {length}: `{name}` can be split at 0 to {length}.\n"
         ),
         Cause::Raised(number) => {
-            write!(
-                told,
-                "The statement itself raises the fault, with {number}.\n"
-            )
+            write!(told, "The statement raised this fault with {number}.\n")
         }
     }
 }
 
-/// Adds why an operator has no result for two numbers. Of `%` it is refused where `/` has none, though it
-/// would be 0.
+/// Adds why an operator has no result for two numbers. `%` faults if `/` has no result, though its
+/// own result would be 0.
 fn push_overflow(
     told: &mut String,
     left: i64,
@@ -93,17 +90,17 @@ fn push_overflow(
     if operator == Operator::Modulo {
         return write!(
             told,
-            "{left} % {right}: the least int by -1 is refused by `%` as by `/`, whose result wouldn't fit.\n"
+            "{left} % {right}: `%` overflows where `/` does, for the smallest int and -1.\n"
         );
     }
     let sign = sign_of(operator);
     write!(
         told,
-        "What {left} {sign} {right} gives doesn't fit in an int.\n"
+        "The result of {left} {sign} {right} doesn't fit in an int.\n"
     )
 }
 
-/// Adds an index that is no element's.
+/// Explains an index out of bounds.
 fn push_index(
     told: &mut String,
     code: &Program,
@@ -129,7 +126,7 @@ fn push_index(
     told.push_str(".\n")
 }
 
-/// Adds a number that an array doesn't hold.
+/// Explains a number that doesn't fit in an array.
 fn push_value(
     told: &mut String,
     code: &Program,
@@ -144,38 +141,40 @@ fn push_value(
     told.push_str(".\n")
 }
 
-/// Adds what would be right.
+/// Adds how to fix it.
 pub fn push_mend(told: &mut String, spot: Spot<'_>, cause: Cause) -> Result<(), AllocError> {
     let name = spot.name;
-    told.push_str("To mend it: ")?;
+    told.push_str("help: ")?;
     match cause {
         Cause::Index { .. } => write!(
             told,
-            "test the index before, as `if 0 <= i and i < len({name}) {{ .. }}`, or give the array more elements.\n"
+            "test the index first, as in `if 0 <= i and i < len({name}) {{ .. }}`, or make the array larger.\n"
         ),
         Cause::Overflow {
             operator: Operator::Modulo,
             ..
-        } => told.push_str("test the divisor before, as `if d != -1 { .. }`.\n"),
+        } => told.push_str("test the divisor first, as in `if d != -1 { .. }`.\n"),
         Cause::Overflow { .. } | Cause::Negative { .. } => told.push_str(SMALLER),
         Cause::ZeroDivisor { .. } => {
-            told.push_str("test the divisor before, as `if d != 0 { .. }`.\n")
+            told.push_str("test the divisor first, as in `if d != 0 { .. }`.\n")
         }
         Cause::OutOfElement { .. } => told.push_str(
-            "store a number from 0 to 255, or declare the array with elements of `int`.\n",
+            "store a number from 0 to 255, or declare the array as `int`.\n",
         ),
         Cause::SplitPoint { .. } => write!(
             told,
-            "split at a number from 0 to the length, as at `len({name}) / 2`.\n"
+            "split at a number from 0 to the length, such as `len({name}) / 2`.\n"
         ),
-        Cause::Raised(_) => told.push_str("look what leads the run here: such a fault is meant.\n"),
+        Cause::Raised(_) => told.push_str(
+            "the program raised this fault on purpose; check how the run got here.\n",
+        ),
     }
 }
 
 const SMALLER: &str =
-    "keep the numbers from -9223372036854775808 to 9223372036854775807, by a test before, or by `%`.\n";
+    "keep the numbers in the range -9223372036854775808 to 9223372036854775807, with a test or with `%`.\n";
 
-/// An operator as it is written.
+/// Returns an operator as it is written.
 fn sign_of(operator: Operator) -> char {
     match operator {
         Operator::Plus => '+',

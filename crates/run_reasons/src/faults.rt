@@ -6,7 +6,7 @@ use second_run::seen::{Seen, SeenFault};
 use std::alloc::AllocError;
 use types::code::{Label, Program};
 
-/// Adds the faults that were seen, and how many more there are.
+/// Adds the recorded faults, and the number of the others.
 pub fn push_faults(
     told: &mut String,
     statements: &Statements<'_>,
@@ -18,13 +18,14 @@ pub fn push_faults(
         push_fault(told, statements, code, fault)?;
         more = more.saturating_sub(1);
     }
-    if more > 0 {
-        write!(told, "\nFaults behind these: {more}\n")?;
+    match more {
+        0 => Ok(()),
+        1 => told.push_str("\n1 more fault\n"),
+        _ => write!(told, "\n{more} more faults\n"),
     }
-    Ok(())
 }
 
-/// Adds one fault: where, from which values, and what would be right.
+/// Adds one fault: where, from which values, and how to fix it.
 fn push_fault(
     told: &mut String,
     statements: &Statements<'_>,
@@ -42,7 +43,7 @@ fn push_fault(
     push_mend(told, spot, fault.cause)
 }
 
-/// Adds in which call a statement stands.
+/// Adds the call that a statement was executed in.
 pub fn push_call(
     told: &mut String,
     statements: &Statements<'_>,

@@ -1,4 +1,4 @@
-//! Why a run had faults or was stopped, and why a trace isn't one of it, said at length.
+//! Explanations of faults, of stopped runs, and of invalid traces.
 
 #![tactic(auto)]
 

@@ -8,9 +8,9 @@ use std::alloc::{AllocError, Global};
 use types::budget::Budget;
 use types::code::Program;
 
-/// What stands behind the outcome of a run with faults, or of one that was stopped: where, why, and
-/// what would be right. The text is that of the program, the budget is that of the run. Nothing of
-/// a run that ended without faults.
+/// Returns the text after the outcome of a run with faults or of a stopped run: where, why, and how
+/// to fix it. The text is that of the program; the budget is that of the run. For a run without
+/// faults it is empty.
 pub fn explained_run(
     alloc: Global,
     text: &str,

@@ -1,4 +1,4 @@
-//! Tasks over their budget.
+//! Tasks that exceed their budget.
 
 use crate::faults::push_call;
 use excerpts::statements::Statements;
@@ -6,7 +6,7 @@ use second_run::seen::{Overrun, Part};
 use std::alloc::AllocError;
 use types::budget::{Budget, MOST_NEST, MOST_STEPS};
 
-/// Adds which task was over which part of its budget, where, and which option allows more.
+/// Adds which task exceeded which part of its budget, where, and which option raises the limit.
 pub fn push_overrun(
     told: &mut String,
     statements: &Statements<'_>,
@@ -20,7 +20,7 @@ pub fn push_overrun(
     match overrun.part {
         Part::Steps => {
             let steps = budget.steps;
-            write!(told, "Task {path} had taken ")?;
+            write!(told, "Task {path} had used ")?;
             if steps == 1 {
                 told.push_str("its only step")?;
             } else {
@@ -34,7 +34,7 @@ pub fn push_overrun(
             let nest = budget.nest;
             write!(
                 told,
-                "Task {path} would begin another at label {label}, and asyncs may stand inside one another at most {nest} deep.\n"
+                "Task {path} would start another task at label {label}, but asyncs can be nested at most {nest} deep.\n"
             )?;
             push_call(told, statements, overrun.call)?;
             push_more_nest(told, nest)
@@ -42,30 +42,30 @@ pub fn push_overrun(
     }
 }
 
-/// Adds how a task gets more steps.
+/// Adds how to raise the step limit.
 fn push_more_steps(told: &mut String, steps: u32) -> Result<(), AllocError> {
     if steps >= MOST_STEPS {
         return told.push_str(
-            "To mend it: look for a loop or a call without end; no task takes more than 1000000000 steps.\n",
+            "help: look for an infinite loop or recursion; no task can take more than 1000000000 steps.\n",
         );
     }
     let more = steps.saturating_mul(2).min(MOST_STEPS);
     write!(
         told,
-        "To mend it: allow each task more, as by `--steps {more}`; or look for a loop or a call without end.\n"
+        "help: raise the limit with `--steps {more}`, or look for an infinite loop or recursion.\n"
     )
 }
 
-/// Adds how more asyncs may stand inside one another.
+/// Adds how to raise the nesting limit.
 fn push_more_nest(told: &mut String, nest: u32) -> Result<(), AllocError> {
     if nest >= MOST_NEST {
         return told.push_str(
-            "To mend it: look for a recursion without end; no run has more than 1000 inside one another.\n",
+            "help: look for infinite recursion; the limit can't be more than 1000.\n",
         );
     }
     let more = nest.saturating_mul(2).saturating_add(1).min(MOST_NEST);
     write!(
         told,
-        "To mend it: allow more, as by `--nest {more}`; or look for a recursion without end.\n"
+        "help: raise the limit with `--nest {more}`, or look for infinite recursion.\n"
     )
 }

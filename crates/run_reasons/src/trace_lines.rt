@@ -1,18 +1,18 @@
-//! How the lines of a trace are written, and when events may come.
+//! The form of trace lines, and when events are legal.
 
 use std::alloc::AllocError;
 use trace_text::kind::Kind;
 
-const HEADER: &str = "The first line says what was asked of the run:
+const HEADER: &str = "The first line is the header:
   {\"format\":1,\"nest\":100,\"steps\":1000000,\"w0\":1048576,\"workers\":4}
-with no blank, and its numbers in the ranges of those options.
+It has no spaces, and its numbers are in the ranges of the options of the same names.
 ";
 
 const KINDS: &str =
-    "A line is an event, as {\"e\":\"step\",\"path\":\"0.1\"}. Events: take steal step replenish spawn open park end pass resume.
+    "Each line is an event, such as {\"e\":\"step\",\"path\":\"0.1\"}. Events: take steal step replenish spawn open park end pass resume.
 ";
 
-/// Adds how a line of a trace is written.
+/// Adds the form of a line of a trace.
 pub fn push_line_form(told: &mut String, line: &str, number: usize) -> Result<(), AllocError> {
     if number <= 1 {
         return told.push_str(HEADER);
@@ -25,19 +25,19 @@ pub fn push_line_form(told: &mut String, line: &str, number: usize) -> Result<()
             let form = form_of(kind);
             write!(
                 told,
-                "{article} {name} is written so, with no blank, and no zero before a number:\n  {form}\n"
+                "{article} {name} event is written like this, without spaces or leading zeros:\n  {form}\n"
             )
         }
     }
 }
 
-/// The kind of event that a line begins to tell.
+/// Returns the kind of event that the start of a line names.
 fn kind_in(line: &str) -> Option<Kind> {
     let (name, _) = line.strip_prefix("{\"e\":\"")?.split_once('"')?;
     Kind::named(name)
 }
 
-/// What stands before the name of a kind.
+/// Returns the article before the name of a kind.
 fn article_of(kind: Kind) -> &'static str {
     match kind {
         Kind::Open | Kind::End => "An",
@@ -45,7 +45,7 @@ fn article_of(kind: Kind) -> &'static str {
     }
 }
 
-/// An event of a kind.
+/// Returns an example event of a kind.
 fn form_of(kind: Kind) -> &'static str {
     match kind {
         Kind::Take => "{\"e\":\"take\",\"path\":\"0.1\",\"worker\":0}",
@@ -61,7 +61,7 @@ fn form_of(kind: Kind) -> &'static str {
     }
 }
 
-/// Adds when an event of the kind that a line tells may come.
+/// Adds when an event of the kind in a line is legal.
 pub fn push_kind_rule(told: &mut String, line: &str) -> Result<(), AllocError> {
     match kind_in(line) {
         Some(kind) => told.push_str(rule_of(kind)),
@@ -69,27 +69,24 @@ pub fn push_kind_rule(told: &mut String, line: &str) -> Result<(), AllocError> {
     }
 }
 
-/// When an event of a kind may come.
+/// Returns when an event of a kind is legal.
 fn rule_of(kind: Kind) -> &'static str {
     match kind {
-        Kind::Take =>
-            "A worker takes the task that stands in its own queue, where it works on no other.\n",
-        Kind::Steal => "A worker steals a task that stands in another's queue.\n",
+        Kind::Take => "A worker that runs no task takes one from its own queue.\n",
+        Kind::Steal => "A worker steals a task from another worker's queue.\n",
         Kind::Step =>
-            "A task in a worker's hand takes a step where its next statement is neither an async nor a finish.\n",
+            "A running task takes a step if its next statement is neither an async nor a finish.\n",
         Kind::Replenish =>
-            "A task in a worker's hand is replenished where its next statement is an async, and its weight is 1.\n",
+            "A running task is replenished if its next statement is an async and its weight is 1.\n",
         Kind::Spawn =>
-            "A task in a worker's hand spawns where its next statement is an async, and its weight is over 1.\n",
-        Kind::Open =>
-            "A task in a worker's hand opens a finish where that is its next statement.\n",
+            "A running task spawns if its next statement is an async and its weight is at least 2.\n",
+        Kind::Open => "A running task opens a finish if that is its next statement.\n",
         Kind::Park =>
-            "A task in a worker's hand parks at the end of a finish that it has opened, or the root at its end.\n",
-        Kind::End =>
-            "A task in a worker's hand, other than the root, ends where nothing is left of it.\n",
+            "A running task parks at the end of a finish that it opened; the root also parks at its own end.\n",
+        Kind::End => "A running task other than the root ends when it has no statements left.\n",
         Kind::Pass =>
-            "A finish passes where its owner is parked at it, and all that was begun in it has ended.\n",
+            "A finish passes when its owner is parked and all tasks started in it have ended.\n",
         Kind::Resume =>
-            "A worker resumes a task that was parked at a finish that has passed, where it works on no other.\n",
+            "A worker that runs no task resumes a task parked at a finish that has passed.\n",
     }
 }

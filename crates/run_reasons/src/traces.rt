@@ -1,4 +1,4 @@
-//! Traces that aren't those of a run.
+//! Traces that no run of the program has.
 
 use crate::trace_lines::{push_kind_rule, push_line_form};
 use excerpts::source::push_excerpt;
@@ -8,14 +8,13 @@ use syntax::Place;
 /// What is wrong with a trace.
 #[derive(Clone, Copy, PartialEq, Eq, Debug)]
 pub enum Wrong {
-    /// The line of this number, from 1, is none: 1 of an empty text.
+    /// The line with this number, from 1, is malformed: 1 for an empty text.
     Line(usize),
-    /// The event of this number, from 0, can't come where it stands: 0 where a trace begins with the end
-    /// of a task.
+    /// The event with this number, from 0, is illegal: 0 if a trace starts with the end of a task.
     Event(usize),
 }
 
-/// What stands behind the line that tells what is wrong with a trace.
+/// Returns the text after the line that reports what is wrong with a trace.
 pub fn explained_trace(alloc: Global, trace: &str, wrong: Wrong) -> Result<String, AllocError> {
     let mut told = String::new(alloc);
     match wrong {
@@ -25,32 +24,28 @@ pub fn explained_trace(alloc: Global, trace: &str, wrong: Wrong) -> Result<Strin
     Ok(told)
 }
 
-/// A line that is none.
+/// Explains a malformed line.
 fn push_no_line(told: &mut String, trace: &str, number: usize) -> Result<(), AllocError> {
     push_excerpt(told, trace, beginning(number))?;
     if is_cut(trace, number) {
-        told.push_str(
-            "Each line of a trace ends with a line feed, and this one, the last, doesn't.\n",
-        )?;
+        told.push_str("The last line has no line feed at its end.\n")?;
     }
     push_line_form(told, line_of(trace, number), number)?;
-    told.push_str("To mend it: write the trace anew, by `run --trace`.\n")
+    told.push_str("help: record the trace again with `run --trace`.\n")
 }
 
-/// An event that can't come where it stands.
+/// Explains an illegal event.
 fn push_event(told: &mut String, trace: &str, event: usize) -> Result<(), AllocError> {
     let number = event.saturating_add(2);
     push_excerpt(told, trace, beginning(number))?;
-    told.push_str(
-        "All before it can happen in a run of this program on this input, and this can't come next.\n",
-    )?;
+    told.push_str("All earlier events are legal for this program and input; this one isn't.\n")?;
     push_kind_rule(told, line_of(trace, number))?;
     told.push_str(
-        "To mend it: give the program, the input and the trace of one run; or write the trace anew, by `run --trace`.\n",
+        "help: use the program and input of the traced run, or record the trace again with `run --trace`.\n",
     )
 }
 
-/// The beginning of a line.
+/// Returns the beginning of a line.
 fn beginning(number: usize) -> Place {
     Place {
         line: u32::try_from(number).unwrap_or(u32::MAX),
@@ -58,12 +53,12 @@ fn beginning(number: usize) -> Place {
     }
 }
 
-/// The line of a number, from 1, or nothing behind the last.
+/// Returns the line with a number, from 1, or an empty text past the last line.
 fn line_of(text: &str, number: usize) -> &str {
     text.lines().nth(number.saturating_sub(1)).unwrap_or("")
 }
 
-/// Whether a line is the last, and has no line feed.
+/// Returns whether a line is the last one and has no line feed.
 fn is_cut(text: &str, number: usize) -> bool {
     !text.is_empty() && !text.ends_with('\n') && text.lines().count() == number
 }

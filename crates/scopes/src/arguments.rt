@@ -21,12 +21,12 @@ pub struct Argument<'t> {
 }
 
 impl<'t> Argument<'t> {
-    /// The name that it is, where it is one alone.
+    /// Returns the name that it is, if it is a single name.
     pub fn name(&self) -> Option<&'t str> {
         only_name(self.tokens)
     }
 
-    /// Whether it begins at a character.
+    /// Returns whether it starts at a character.
     pub fn stands_at(&self, at: usize) -> bool {
         match self.tokens.first() {
             Some(first) => first.at == at,
@@ -35,7 +35,7 @@ impl<'t> Argument<'t> {
     }
 }
 
-/// A procedure of a text.
+/// A procedure of the program.
 #[derive(Drop)]
 pub struct Procedure<'t> {
     /// The number of the first character of its name.
@@ -43,7 +43,7 @@ pub struct Procedure<'t> {
     pub parameters: Vec<Parameter<'t>>,
 }
 
-/// The procedure of a name, where the text has one.
+/// Returns the procedure with this name, if there is one.
 pub fn procedure_of<'t>(
     alloc: Global,
     tokens: &'t [Spanned],
@@ -64,7 +64,7 @@ pub fn procedure_of<'t>(
     Ok(None)
 }
 
-/// Whether a token is this name.
+/// Returns whether a token is this name.
 pub fn is_name(spanned: &Spanned, name: &str) -> bool {
     match &spanned.token {
         Token::Name(found) => found.as_str() == name,
@@ -72,7 +72,7 @@ pub fn is_name(spanned: &Spanned, name: &str) -> bool {
     }
 }
 
-/// The parameters that stand here, behind the name of their procedure.
+/// Returns the parameters in these tokens, which follow the name of the procedure.
 pub fn parameters<'t>(
     alloc: Global,
     tokens: &'t [Spanned],
@@ -104,7 +104,7 @@ pub fn parameters<'t>(
     Ok(found)
 }
 
-/// Whether the type behind the name that stands first is `byte`.
+/// Returns whether the type after the name that comes first is `byte`.
 pub fn is_of_bytes(tokens: &[Spanned]) -> bool {
     match tokens.get(2) {
         Some(third) => matches!(&third.token, Token::Word(Word::Byte)),
@@ -112,7 +112,7 @@ pub fn is_of_bytes(tokens: &[Spanned]) -> bool {
     }
 }
 
-/// The arguments of a call, whose head is `f(a, b)`.
+/// Returns the arguments of a call with the head `f(a, b)`.
 pub fn arguments<'t>(alloc: Global, head: &'t [Spanned]) -> Result<Vec<Argument<'t>>, AllocError> {
     let mut found = Vec::new(alloc);
     let given = inside(head.get(2..).unwrap_or(head));

@@ -1,4 +1,4 @@
-//! What is declared where a statement stands.
+//! The declarations that are in scope at a statement.
 
 use crate::arguments::{is_of_bytes, parameters};
 use crate::kind::Kind;
@@ -12,22 +12,22 @@ pub struct Declared<'t> {
     pub kind: Kind,
     /// The number of the first character of the name.
     pub at: usize,
-    /// Of a side of a split: what is split.
+    /// For a side of a split: the section that is split.
     pub part_of: Option<Part<'t>>,
-    /// How many blocks are open in which it is in scope.
+    /// The number of open blocks in which it is in scope.
     level: usize,
 }
 
-/// Where a side of a split comes from.
+/// The origin of a side of a split.
 #[derive(Clone, Copy)]
 pub struct Part<'t> {
-    /// What is split.
+    /// The section that is split.
     pub whole: &'t str,
     /// The number of the first character of its name in the split.
     pub at: usize,
 }
 
-/// A block that is open, with the character at which its `async` begins where it is one's.
+/// An open block. If it is the body of an `async`, it has the character at which that starts.
 #[derive(Clone, Copy)]
 struct Block {
     task: Option<usize>,
@@ -38,12 +38,13 @@ struct Block {
 pub struct Scope<'t> {
     pub declared: Vec<Declared<'t>>,
     blocks: Vec<Block>,
-    /// Where the `async` stands whose block comes next.
+    /// Where the `async` is whose block comes next.
     task: Option<usize>,
 }
 
 impl<'t> Scope<'t> {
-    /// The scope behind these tokens, and what was declared in them and is over.
+    /// Returns the scope after these tokens. Adds to `over` what was declared in them and is no
+    /// longer in scope.
     pub fn behind(
         alloc: Global,
         tokens: &'t [Spanned],
@@ -62,7 +63,7 @@ impl<'t> Scope<'t> {
         Ok(scope)
     }
 
-    /// Goes over one token, before those behind it.
+    /// Handles one token, given those after it.
     fn pass(
         &mut self,
         alloc: Global,
@@ -86,7 +87,7 @@ impl<'t> Scope<'t> {
         Ok(())
     }
 
-    /// Declares the name that stands first, in the block that is open.
+    /// Declares the name that comes first, in the open block.
     fn declare(&mut self, tokens: &'t [Spanned], kind: Kind) -> Result<(), AllocError> {
         if let Some((name, at)) = first_name(tokens) {
             self.declared.push(Declared {
@@ -100,7 +101,8 @@ impl<'t> Scope<'t> {
         Ok(())
     }
 
-    /// Declares the sides of a split, of the kind of what is split, whose name stands first.
+    /// Declares the sides of a split, with the kind of the section that is split, whose name comes
+    /// first.
     fn split(&mut self, tokens: &'t [Spanned]) -> Result<(), AllocError> {
         let Some((whole, at)) = first_name(tokens) else {
             return Ok(());
@@ -126,7 +128,7 @@ impl<'t> Scope<'t> {
         Ok(())
     }
 
-    /// Declares a side of a split, in its block, where its name stands first.
+    /// Declares a side of a split in its block. Its name comes first.
     fn side(
         &mut self,
         tokens: &'t [Spanned],
@@ -145,7 +147,7 @@ impl<'t> Scope<'t> {
         Ok(())
     }
 
-    /// Declares the parameters of a procedure, whose name stands first.
+    /// Declares the parameters of a procedure, whose name comes first.
     fn parameters(&mut self, alloc: Global, tokens: &'t [Spanned]) -> Result<(), AllocError> {
         let parameters = parameters(alloc, tokens.get(1..).unwrap_or(tokens))?;
         for parameter in &parameters {
@@ -160,7 +162,7 @@ impl<'t> Scope<'t> {
         Ok(())
     }
 
-    /// Closes a block: what was declared in it is over.
+    /// Closes a block: what was declared in it goes out of scope.
     fn close(&mut self, over: &mut Vec<Declared<'t>>) -> Result<(), AllocError> {
         let _ = self.blocks.pop();
         for _ in 0..self.declared.len() {
@@ -176,12 +178,13 @@ impl<'t> Scope<'t> {
         Ok(())
     }
 
-    /// The declaration of a name that is in scope.
+    /// Returns the declaration of a name that is in scope.
     pub fn find(&self, name: &str) -> Option<Declared<'t>> {
         find(&self.declared, name)
     }
 
-    /// Whether two sections may share places: they come from one, and are not on the two sides of one split.
+    /// Returns whether two sections may overlap: they come from the same section, and are not on
+    /// the two sides of one split.
     pub fn may_share(&self, one: Declared<'t>, other: Declared<'t>) -> bool {
         let mut left = Some(one);
         for _ in 0..=self.declared.len() {
@@ -196,7 +199,8 @@ impl<'t> Scope<'t> {
         self.root_of(one) == self.root_of(other)
     }
 
-    /// Whether another section is, or comes from, the other side of the split of which this one is a side.
+    /// Returns whether another section is, or comes from, the other side of the split that this one
+    /// is a side of.
     fn is_apart(&self, side: Declared<'t>, other: Declared<'t>) -> bool {
         let mut right = Some(other);
         for _ in 0..=self.declared.len() {
@@ -211,7 +215,7 @@ impl<'t> Scope<'t> {
         false
     }
 
-    /// The section from which another comes by no split.
+    /// Returns the section that this one comes from and that is not itself a side of a split.
     fn root_of(&self, section: Declared<'t>) -> &'t str {
         let mut root = section;
         for _ in 0..=self.declared.len() {
@@ -223,12 +227,12 @@ impl<'t> Scope<'t> {
         root.name
     }
 
-    /// What is split into a section and another.
+    /// Returns the section that is split into this one and another.
     fn whole_of(&self, section: Declared<'t>) -> Option<Declared<'t>> {
         self.find(section.part_of?.whole)
     }
 
-    /// Where the innermost async begins outside of which a declaration stands.
+    /// Returns where the innermost async starts that a declaration is outside of.
     pub fn task_around(&self, declared: Declared<'t>) -> Option<usize> {
         let mut task = None;
         for block in self.blocks.iter().skip(declared.level) {
@@ -240,7 +244,7 @@ impl<'t> Scope<'t> {
     }
 }
 
-/// Whether two sections are the two sides of one split.
+/// Returns whether two sections are the two sides of one split.
 fn are_sides(one: Declared<'_>, other: Declared<'_>) -> bool {
     match (one.part_of, other.part_of) {
         (Some(left), Some(right)) => left.at == right.at && one.name != other.name,
@@ -248,7 +252,7 @@ fn are_sides(one: Declared<'_>, other: Declared<'_>) -> bool {
     }
 }
 
-/// The declaration of a name among these.
+/// Returns the declaration of a name among these.
 pub fn find<'t>(declared: &[Declared<'t>], name: &str) -> Option<Declared<'t>> {
     for one in declared {
         if one.name == name {
@@ -258,14 +262,14 @@ pub fn find<'t>(declared: &[Declared<'t>], name: &str) -> Option<Declared<'t>> {
     None
 }
 
-/// What an array is whose name stands first.
+/// Returns the kind of the array whose name comes first.
 fn array_kind(tokens: &[Spanned]) -> Kind {
     Kind::Written {
         bytes: is_of_bytes(tokens),
     }
 }
 
-/// The name that stands first, with the number of its first character.
+/// Returns the name that comes first, with the number of its first character.
 fn first_name(tokens: &[Spanned]) -> Option<(&str, usize)> {
     match tokens {
         [first, ..] => match &first.token {

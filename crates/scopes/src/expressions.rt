@@ -1,37 +1,37 @@
-//! Which part of an expression gives a truth value where it must give a number, or the other way.
+//! Finding the part of an expression that is a boolean where a number is expected, or the reverse.
 
 use std::alloc::{AllocError, Global};
 use syntax::token::{Mark, Spanned, Token, Word};
 
-/// What an expression gives.
+/// The kind of value of an expression.
 #[derive(Clone, Copy, PartialEq, Eq)]
 pub enum Value {
     Number,
     Truth,
 }
 
-/// An expression, or a part of one, and what it must give.
+/// An expression or a part of one, and the kind of value that it must have.
 #[derive(Clone, Copy)]
 pub struct Part<'t> {
     pub tokens: &'t [Spanned],
     pub wanted: Value,
 }
 
-/// Tokens that stand between parts.
+/// Tokens that separate parts.
 #[derive(Clone, Copy, PartialEq, Eq)]
 pub(crate) enum Between {
-    /// What stands in a statement before, between and behind its expressions.
+    /// What separates the expressions of a statement.
     Expressions,
-    /// The commas of a call
+    /// The commas of a call.
     Arguments,
-    /// `and`, `or` and `not`
+    /// `and`, `or` and `not`.
     Truths,
-    /// `<` and its like
+    /// `<` and the other comparisons.
     Compared,
 }
 
 impl Between {
-    /// Whether a token is one of these.
+    /// Returns whether a token is one of these.
     fn has(self, token: &Token) -> bool {
         match self {
             Between::Expressions => is_no_expression(token),
@@ -47,7 +47,7 @@ impl Between {
         }
     }
 
-    /// Whether one of these stands in tokens, outside of brackets.
+    /// Returns whether one of these is in the tokens, outside brackets.
     fn is_in(self, tokens: &[Spanned]) -> bool {
         let mut open: usize = 0;
         for spanned in tokens {
@@ -59,7 +59,7 @@ impl Between {
         false
     }
 
-    /// What stands before, between and behind these, outside of brackets.
+    /// Returns the pieces before, between and after these, outside brackets.
     pub(crate) fn pieces<'t>(
         self,
         alloc: Global,
@@ -80,7 +80,8 @@ impl Between {
     }
 }
 
-/// The expressions of a statement's head that is no call's, with what each must give.
+/// Returns the expressions in the head of a statement that isn't a call, with the kind of value
+/// that each must have.
 pub fn parts_of<'t>(alloc: Global, head: &'t [Spanned]) -> Result<Vec<Part<'t>>, AllocError> {
     let wanted = if has_guard(head) {
         Value::Truth
@@ -95,7 +96,8 @@ pub fn parts_of<'t>(alloc: Global, head: &'t [Spanned]) -> Result<Vec<Part<'t>>,
     Ok(parts)
 }
 
-/// The first of so many parts, those in their brackets among them, that gives something else than it must.
+/// Returns the first part with the wrong kind of value. Looks at no more parts than `most`,
+/// including those in brackets.
 pub fn wrong_part<'t>(
     alloc: Global,
     parts: Vec<Part<'t>>,
@@ -118,7 +120,8 @@ pub fn wrong_part<'t>(
 }
 
 impl<'t> Part<'t> {
-    /// What of it is no number, outside of brackets. What stands in brackets goes to the other parts.
+    /// Returns the part of it that isn't a number, outside brackets. Adds what is in brackets to
+    /// the other parts.
     fn wrong_number(self, parts: &mut Vec<Part<'t>>) -> Result<Option<Part<'t>>, AllocError> {
         if Between::Truths.is_in(self.tokens) || Between::Compared.is_in(self.tokens) {
             return Ok(Some(self));
@@ -126,7 +129,7 @@ impl<'t> Part<'t> {
         self.wrong_operand(parts)
     }
 
-    /// The first of its operands that is `true` or `false`, where all must be numbers.
+    /// Returns the first of its operands that is `true` or `false`, if all must be numbers.
     fn wrong_operand(self, parts: &mut Vec<Part<'t>>) -> Result<Option<Part<'t>>, AllocError> {
         let mut open: usize = 0;
         for (number, spanned) in self.tokens.iter().enumerate() {
@@ -145,7 +148,7 @@ impl<'t> Part<'t> {
         Ok(None)
     }
 
-    /// What of it is no truth value, outside of brackets.
+    /// Returns the part of it that isn't a boolean, outside brackets.
     fn wrong_truth(
         self,
         alloc: Global,
@@ -162,8 +165,8 @@ impl<'t> Part<'t> {
         Ok(None)
     }
 
-    /// What is no truth value of an operand of `and`, `or` and `not`: no comparison, `true`,
-    /// `false`, or brackets alone.
+    /// Returns this operand of `and`, `or` or `not` if it isn't a boolean: a comparison, `true`,
+    /// `false`, or only brackets.
     fn wrong_side(self, parts: &mut Vec<Part<'t>>) -> Result<Option<Part<'t>>, AllocError> {
         if Between::Compared.is_in(self.tokens) {
             return self.wrong_operand(parts);
@@ -183,13 +186,13 @@ impl<'t> Part<'t> {
         Ok(Some(self))
     }
 
-    /// The name that it is, where it is one alone.
+    /// Returns the name that it is, if it is a single name.
     pub fn name(self) -> Option<&'t str> {
         only_name(self.tokens)
     }
 }
 
-/// The name that tokens are, where they are one alone.
+/// Returns the name that the tokens are, if they are a single name.
 pub(crate) fn only_name(tokens: &[Spanned]) -> Option<&str> {
     match tokens {
         [only] => match &only.token {
@@ -200,7 +203,7 @@ pub(crate) fn only_name(tokens: &[Spanned]) -> Option<&str> {
     }
 }
 
-/// Whether a head has a guard.
+/// Returns whether a head has a condition.
 fn has_guard(head: &[Spanned]) -> bool {
     match head {
         [first, ..] => match &first.token {
@@ -211,7 +214,7 @@ fn has_guard(head: &[Spanned]) -> bool {
     }
 }
 
-/// Whether a token of a head belongs to none of its expressions.
+/// Returns whether a token of a head belongs to none of its expressions.
 fn is_no_expression(token: &Token) -> bool {
     match token {
         Token::Word(word) => match word {
@@ -224,7 +227,7 @@ fn is_no_expression(token: &Token) -> bool {
     }
 }
 
-/// Whether a token compares two numbers.
+/// Returns whether a token compares two numbers.
 fn is_relation(token: &Token) -> bool {
     match token {
         Token::Mark(mark) => match mark {
@@ -236,7 +239,7 @@ fn is_relation(token: &Token) -> bool {
     }
 }
 
-/// Whether a token is `true` or `false`.
+/// Returns whether a token is `true` or `false`.
 fn is_constant(token: &Token) -> bool {
     match token {
         Token::Word(word) => *word == Word::True || *word == Word::False,
@@ -244,7 +247,7 @@ fn is_constant(token: &Token) -> bool {
     }
 }
 
-/// Whether a token opens brackets.
+/// Returns whether a token opens brackets.
 fn is_open(token: &Token) -> bool {
     match token {
         Token::Mark(mark) => *mark == Mark::LeftParen || *mark == Mark::LeftBracket,
@@ -252,7 +255,7 @@ fn is_open(token: &Token) -> bool {
     }
 }
 
-/// Whether a token closes brackets.
+/// Returns whether a token closes brackets.
 fn is_close(token: &Token) -> bool {
     match token {
         Token::Mark(mark) => *mark == Mark::RightParen || *mark == Mark::RightBracket,
@@ -260,7 +263,7 @@ fn is_close(token: &Token) -> bool {
     }
 }
 
-/// How many brackets are open behind a token, before which so many are.
+/// Returns the number of open brackets after a token, given the number before it.
 fn open_behind(open: usize, token: &Token) -> usize {
     if is_open(token) {
         open.saturating_add(1)
@@ -271,7 +274,7 @@ fn open_behind(open: usize, token: &Token) -> usize {
     }
 }
 
-/// The first of these tokens, up to where the brackets close that stand around them.
+/// Returns the first of these tokens, up to where the enclosing brackets close.
 pub(crate) fn inside(tokens: &[Spanned]) -> &[Spanned] {
     let mut open: usize = 0;
     for (number, spanned) in tokens.iter().enumerate() {

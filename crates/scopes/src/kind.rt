@@ -1,17 +1,17 @@
-//! What names stand for.
+//! The kinds of names.
 
-/// What a name stands for.
+/// What a name denotes.
 #[derive(Clone, Copy, PartialEq, Eq)]
 pub enum Kind {
     Scalar,
-    /// A section that may be written; the first of it is whether its elements are bytes.
+    /// A section that can be written. `bytes` is whether its elements are bytes.
     Written { bytes: bool },
-    /// A section that is only read.
+    /// A section that is read-only.
     Read { bytes: bool },
 }
 
 impl Kind {
-    /// Whether it is a section.
+    /// Returns whether it is a section.
     pub fn is_section(self) -> bool {
         match self {
             Kind::Scalar => false,
@@ -19,7 +19,7 @@ impl Kind {
         }
     }
 
-    /// Whether it is a section that may be written.
+    /// Returns whether it is a section that can be written.
     pub fn is_written(self) -> bool {
         match self {
             Kind::Written { .. } => true,
@@ -27,7 +27,7 @@ impl Kind {
         }
     }
 
-    /// Whether its elements are bytes.
+    /// Returns whether its elements are bytes.
     pub fn bytes(self) -> bool {
         match self {
             Kind::Scalar => false,
@@ -36,12 +36,12 @@ impl Kind {
         }
     }
 
-    /// The name of its element type.
+    /// Returns the name of its element type.
     pub fn element(self) -> &'static str {
         if self.bytes() { "byte" } else { "int" }
     }
 
-    /// Whether it is a section that is only read.
+    /// Returns whether it is a read-only section.
     pub fn is_read(self) -> bool {
         match self {
             Kind::Read { .. } => true,

@@ -1,5 +1,5 @@
-//! What the tokens of a program's text mean: what is in scope at one, what a call gives, what an
-//! expression gives.
+//! Name resolution and kinds over the tokens of a program: what is in scope at a token, what a call
+//! passes, and what kind of value an expression has.
 
 #![tactic(auto)]
 

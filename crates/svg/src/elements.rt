@@ -1,9 +1,9 @@
-//! Elements of an SVG. Places and lengths are in tenths of a pixel.
+//! Elements of an SVG. Positions and lengths are in tenths of a pixel.
 
 use std::alloc::AllocError;
 use std::fmt;
 
-/// A place or a length in tenths of a pixel: `96.5` of 965.
+/// A position or a length in tenths of a pixel: `96.5` for 965.
 #[derive(Clone, Copy, PartialEq, Eq, Debug)]
 pub struct Px(pub u32);
 
@@ -18,7 +18,7 @@ impl fmt::Display for Px {
     }
 }
 
-/// A rectangle, by its upper left corner.
+/// A rectangle, given by its upper left corner.
 #[derive(Clone, Copy, Debug)]
 pub struct Rectangle {
     pub x: u32,
@@ -28,7 +28,7 @@ pub struct Rectangle {
 }
 
 impl Rectangle {
-    /// Its lengths, by their names.
+    /// Returns its positions and lengths, by their names.
     fn lengths(&self) -> [(&'static str, u32); 4] {
         [
             ("x", self.x),
@@ -39,7 +39,7 @@ impl Rectangle {
     }
 }
 
-/// A line, from its beginning to its end.
+/// A line, from its start to its end.
 #[derive(Clone, Copy, Debug)]
 pub struct Line {
     pub x1: u32,
@@ -49,7 +49,7 @@ pub struct Line {
 }
 
 impl Line {
-    /// A line from left to right, or from right to left.
+    /// Returns a horizontal line.
     pub fn level(x1: u32, x2: u32, y: u32) -> Line {
         Line {
             x1,
@@ -59,12 +59,12 @@ impl Line {
         }
     }
 
-    /// A short upright line, by its middle.
+    /// Returns a short vertical line, given by its middle.
     pub fn tick(x: u32, y: u32) -> Line {
         Line::upright(x, y.saturating_sub(60), y.saturating_add(60))
     }
 
-    /// A line down, or up.
+    /// Returns a vertical line.
     pub fn upright(x: u32, y1: u32, y2: u32) -> Line {
         Line {
             x1: x,
@@ -75,13 +75,13 @@ impl Line {
     }
 }
 
-/// A rectangle of a class of the style sheet.
+/// Adds a rectangle with a class of the style sheet.
 pub fn push_rectangle(text: &mut String, class: &str, place: &Rectangle) -> Result<(), AllocError> {
     push_open(text, "rect", class, &place.lengths())?;
     text.push_str("/>\n")
 }
 
-/// A rectangle with a text that is shown while one points at it.
+/// Adds a rectangle with a tooltip.
 pub fn push_titled_rectangle(
     text: &mut String,
     class: &str,
@@ -94,7 +94,7 @@ pub fn push_titled_rectangle(
     text.push_str("</title></rect>\n")
 }
 
-/// A line of a class.
+/// Adds a line with a class.
 pub fn push_line(text: &mut String, class: &str, line: &Line) -> Result<(), AllocError> {
     let ends = [
         ("x1", line.x1),
@@ -106,20 +106,20 @@ pub fn push_line(text: &mut String, class: &str, line: &Line) -> Result<(), Allo
     text.push_str("/>\n")
 }
 
-/// A small circle of a class, by its middle.
+/// Adds a small circle with a class, given by its middle.
 pub fn push_circle(text: &mut String, class: &str, x: u32, y: u32) -> Result<(), AllocError> {
     push_open(text, "circle", class, &[("cx", x), ("cy", y)])?;
     text.push_str(" r=\"3\"/>\n")
 }
 
-/// A small triangle that points down, by its upper left corner.
+/// Adds a small triangle that points down, given by its upper left corner.
 pub fn push_triangle(text: &mut String, x: u32, y: u32) -> Result<(), AllocError> {
     let x = Px(x);
     let y = Px(y);
     write!(text, "<path class=\"spawn\" d=\"M{x},{y} h8 l-4,6 z\"/>\n")
 }
 
-/// Words of a class, which says where they stand to the place.
+/// Adds words with a class, which determines how they are aligned to the position.
 pub fn push_words(
     text: &mut String,
     class: &str,
@@ -133,8 +133,8 @@ pub fn push_words(
     text.push_str("</text>\n")
 }
 
-/// An element of a class without its end: `<line class="steal" x1="14.5" y1="12.6"`
-/// of two lengths in tenths of a pixel.
+/// Adds an element with a class, without its end: `<line class="steal" x1="14.5" y1="12.6"` for two
+/// lengths in tenths of a pixel.
 fn push_open(
     text: &mut String,
     element: &str,
@@ -149,7 +149,7 @@ fn push_open(
     Ok(())
 }
 
-/// A text as it is written between the tags of XML.
+/// Adds a text as it is written between the tags of XML.
 pub fn push_escaped(text: &mut String, words: &str) -> Result<(), AllocError> {
     for letter in words.chars() {
         match letter {
@@ -157,7 +157,7 @@ pub fn push_escaped(text: &mut String, words: &str) -> Result<(), AllocError> {
             '<' => text.push_str("&lt;")?,
             '>' => text.push_str("&gt;")?,
             '"' => text.push_str("&quot;")?,
-            // XML has no place for these.
+            // XML doesn't allow these.
             '\u{0}'..='\u{8}' | '\u{b}'..='\u{1f}' | '\u{fffe}'..='\u{ffff}' => text.push(
                 '\u{fffd}',
             )?,

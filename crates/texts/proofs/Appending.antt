@@ -1,4 +1,4 @@
--- One write of a text after another.
+-- Writing one text after another.
 use Rattle.std.proofs.Common.{◌≡◌, ℕ, ◌+◌, ◌<◌, ◌≤◌, List, [], ◌++◌, length, take, drop, get_or, sym, ap, ◌∙◌, subst}
 use Rattle.std.proofs.Common.{append_assoc, take-append-drop, take_all}
 use Rattle.std.specs.Prelude.{Option, Result, Ok, Err}
@@ -11,12 +11,12 @@ use Rattle.std.proofs.lemmas.List.Concat.{flat_map-append}
 use Rattle.std.proofs.lemmas.Result.{MatchResult-from_err}
 use Rattle.texts.specs.Appending.{AppendsBeginning, Writes}
 
--- whether or not all was taken, a beginning was appended
+-- a prefix was appended, whether or not everything was accepted
 pub beginning_written : {T E : Type 0} (a b : Option (List ℕ)) (r : Result T E) (t : List ℕ) → Writes a b r t → AppendsBeginning a b t
 beginning_written a b (Ok x) t written = record { begun = t; rest = []; parts = sym (append-nil t); appended = written }
 beginning_written a b (Err e) t begun = begun
 
--- a beginning of a text is one of a longer text
+-- a prefix of a text is a prefix of a longer text
 pub begins_longer : (a b : Option (List ℕ)) (s t : List ℕ) → AppendsBeginning a b s → AppendsBeginning a b (s ++ t)
 begins_longer a b s t p = record {
   begun = p.begun;
@@ -25,7 +25,7 @@ begins_longer a b s t p = record {
   appended = p.appended;
 }
 
--- a text, and then a beginning of the next
+-- a text, and then a prefix of the next
 pub then_begins : (a b c : Option (List ℕ)) (s t : List ℕ) → Appends a b s → AppendsBeginning b c t → AppendsBeginning a c (s ++ t)
 then_begins a b c s t first p = record {
   begun = s ++ p.begun;
@@ -40,7 +40,7 @@ pub then_writes : {T E : Type 0} (a b c : Option (List ℕ)) (r : Result T E) (s
 then_writes a b c (Ok x) s t first p = Appends-trans a b c s t first p
 then_writes a b c (Err e) s t first p = then_begins a b c s t first p
 
--- a call that fails with a beginning of the text
+-- a call that fails after a prefix of the text
 pub fails : {T E : Type 0} {a b : Option (List ℕ)} {t : List ℕ} (r : Result T E) → IsErr r → AppendsBeginning a b t → Writes a b r t
 fails r failed p = MatchResult-from_err r _ _ failed (λ _. p)
 
@@ -64,7 +64,7 @@ module _ {A : Type 0} (text : A → List ℕ) (xs : List A) where
     so_far = subst (Appends a c) (sym (flat_map_one_more n x d inside is)) (Appends-trans a b c _ _ p.so_far next);
   }
 
-  -- the text of the next element was begun
+  -- a prefix of the text of the next element
   pub first_begins : (n : ℕ) (x d : A) (a b c : Option (List ℕ)) → n < length xs → x ≡ get_or xs n d
       → AppendsFirst text xs n a b → AppendsBeginning b c (text x) → AppendsBeginning a c (flat_map text xs)
   first_begins n x d a b c inside is p next =

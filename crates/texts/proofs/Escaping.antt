@@ -1,4 +1,4 @@
--- A name from outside, told character by character.
+-- A name from outside, written character by character.
 use Rattle.std.proofs.Common.{◌≡◌, ℕ, List, [], ◌++◌, length, sym, ap, ◌∙◌, subst, append_assoc}
 use Rattle.std.proofs.lemmas.List.{append-nil, nil_from_length}
 use Rattle.std.proofs.lemmas.Str.{chars-nil, chars_past_char, IsUtf8-past_char}
@@ -10,7 +10,7 @@ use Rattle.texts.specs.Appending.{AppendsBeginning}
 use Rattle.texts.specs.Reasons.{escaped, escaped_character}
 use Rattle.texts.proofs.Appending.{begins_longer, then_begins}
 
--- a name was told but for what is left of it
+-- a name was written, except what is left of it
 pub record ToldBefore (name left : List ℕ) (a b : Option (List ℕ)) : Type 0 where
   pub done : List ℕ
   pub parts : escaped name ≡ done ++ escaped left
@@ -36,7 +36,7 @@ module _ (name left rest : List ℕ) (character : ℕ) (a b c : Option (List ℕ
     utf8 = IsUtf8-past_char left rest character told.utf8 is;
   }
 
-  -- one more was begun
+  -- a prefix of one more character
   pub told_begun : AppendsBeginning b c text → AppendsBeginning a c (escaped name)
   told_begun next =
       subst (AppendsBeginning a c) (sym split)

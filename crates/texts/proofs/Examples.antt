@@ -1,4 +1,4 @@
--- The texts and the statuses of worked outcomes, computed.
+-- The texts and the statuses of example outcomes, computed.
 use Rattle.std.proofs.Common.{◌≡◌, List, [], ◌∷◌, ◌++◌, Some, refl, codes}
 use Rattle.std.specs.Prelude.{ℕ, ℤ, pos, negsuc, true, false}
 use Rattle.std.specs.Fmt.{digits}
@@ -20,11 +20,11 @@ fault_at path label kind = record { path = path; label = label; kind = kind }
 abbrev array_named : List ℕ → Array
 array_named name = record { name = name; element = Byte; length = 1 }
 
--- a run that has ended with these arrays, lines and faults
+-- a run that ended with these arrays, lines and faults
 abbrev ended : (arrays lines : List (List ℤ)) → List Fault → Outcome
 ended arrays lines faults = Ended (record { arrays = arrays; lines = lines; faults = faults })
 
--- two arrays that hold 7 and 8, and a line that shows them
+-- two arrays with 7 and 8, and a line that prints them
 abbrev seven_and_eight : Outcome
 seven_and_eight = ended ((pos 7 ∷ []) ∷ (pos 8 ∷ []) ∷ []) ((pos 7 ∷ pos 8 ∷ []) ∷ []) []
 
@@ -48,7 +48,7 @@ three_faults_text = refl
 three_faults_status : status_of three_faults ≡ 2
 three_faults_status = refl
 
--- a byte that 256 doesn't fit
+-- 256 doesn't fit in a byte
 abbrev full_byte : Outcome
 full_byte = ended ((pos 255 ∷ []) ∷ []) [] (fault_at [] 2 OutOfElement ∷ [])
 
@@ -62,7 +62,7 @@ stopped_text = refl
 stopped_status : status_of Stopped ≡ 3
 stopped_status = refl
 
--- two parts may step
+-- two leaves can take a step
 two_open : explored_text [] false (Open 2) ≡ Some (codes "open 2\n")
 unfolding digits
 two_open = refl
@@ -73,7 +73,7 @@ two_open_status = refl
 no_leaf_status : explored_status (NoSuchChoice 2) ≡ 1
 no_leaf_status = refl
 
--- what steers a terminal, below 128 and above, and a letter of two bytes
+-- control characters, below 128 and above, and a letter of two bytes
 steering_name : flat_map escaped_character (98 ∷ 27 ∷ 155 ∷ 228 ∷ []) ≡ codes "b\\x1b\\x9b" ++ (195 ∷ 164 ∷ [])
 unfolding lib.Utf8.encode
 steering_name = refl

@@ -10,12 +10,12 @@ use Rattle.types.specs.Code.{Array}
 use Rattle.types.specs.Run.{Fault}
 use Rattle.texts.specs.OutcomeText.{space, joined_text, spaced_text, line_text, fault_text, array_text, ending_text}
 
--- the first value, and then each other behind a space
+-- the first value, and then each other after a space
 pub joined_text-cons : (x : ℤ) (xs : List ℤ) → joined_text (x ∷ xs) ≡ signed_decimal x ++ spaced_text xs
 joined_text-cons x [] = sym (append-nil (signed_decimal x))
 joined_text-cons x (y ∷ ys) = ap (λ l. signed_decimal x ++ (space ∷ l)) (joined_text-cons y ys)
 
--- a place of both lists, and the pair there
+-- an element of both lists, and the pair at that position
 pub zip_inside : {A B : Type 0} (xs : List A) (ys : List B) (n : ℕ) → n < length xs → n < length ys → n < length (zip xs ys)
 zip_inside xs ys n left right = omega (arith, length-zip xs ys)
 

@@ -1,4 +1,4 @@
--- The text of an outcome: what `afx` prints where a run ended, and the status that tells it.
+-- The text of an outcome: what `afx` prints after a run, and its exit status.
 use Rattle.std.specs.Prelude.{ℕ, List, [], ◌∷◌, ◌++◌, map, codes, Bool, if◌then◌else◌, ℤ}
 use Rattle.std.specs.Fmt.{decimal, signed_decimal}
 use Rattle.std.specs.List.{concat, flat_map, join_with_byte, zip}
@@ -11,11 +11,11 @@ use Rattle.types.specs.Outcome.{Outcome, Ended, Stopped, Ending}
 abbrev pub space : ℕ
 space = 32
 
--- values in decimal, joined by one space
+-- values in decimal, separated by one space
 abbrev pub joined_text : List ℤ → List ℕ
 joined_text values = join_with_byte space (map signed_decimal values)
 
--- values in decimal, each behind one space
+-- values in decimal, with one space before each
 abbrev pub spaced_text : List ℤ → List ℕ
 spaced_text values = flat_map (λ n. codes " " ++ signed_decimal n) values
 
@@ -33,7 +33,7 @@ fault_text f =
 abbrev pub array_text : Array × List ℤ → List ℕ
 array_text (a, elements) = concat (codes "array " ∷ a.name ∷ spaced_text elements ∷ codes "\n" ∷ [])
 
--- the printed lines, then the faults, then, where they are to be shown, the arrays that are declared
+-- the printed lines, then the faults, then, if they are to be shown, the arrays that are declared
 -- and have elements
 abbrev pub ending_text : (declared : List Array) → (arrays : Bool) → Ending → List ℕ
 ending_text declared arrays e =
@@ -45,12 +45,12 @@ abbrev pub outcome_text : (declared : List Array) → (arrays : Bool) → Outcom
 outcome_text declared arrays (Ended e) = ending_text declared arrays e
 outcome_text declared arrays Stopped = codes "stopped\n"
 
--- 0 without faults, 2 with some
+-- 0 without faults, 2 with faults
 abbrev pub status_by : List Fault → ℕ
 status_by [] = 0
 status_by (f ∷ fs) = 2
 
--- the exit status that tells an outcome: 3 where the run was stopped
+-- the exit status of an outcome: 3 if the run was stopped
 abbrev pub status_of : Outcome → ℕ
 status_of (Ended e) = status_by e.faults
 status_of Stopped = 3

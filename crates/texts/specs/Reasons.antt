@@ -1,4 +1,4 @@
--- The pieces of the line that tells why something is refused.
+-- The pieces of error messages.
 use Rattle.std.specs.Prelude.{ℕ, ◌+◌, ◌/◌, ◌%◌, List, [], ◌∷◌, ◌++◌, codes}
 use Rattle.std.specs.Prelude.{chars, encode_utf8, if◌then◌else◌, nat_lt}
 use Rattle.std.specs.Char.{is_control}
@@ -19,7 +19,7 @@ race_text procedure first second =
 abbrev pub digit : ℕ → ℕ
 digit n = if nat_lt n 10 then 48 + n else 87 + n
 
--- a character of a name: one that steers a terminal is told by its number, as `\x1b`
+-- a character of a name: a control character is escaped by its number, as in `\x1b`
 abbrev pub escaped_character : ℕ → List ℕ
 escaped_character c =
     if is_control c
@@ -28,7 +28,8 @@ escaped_character c =
 abbrev pub escaped : List ℕ → List ℕ
 escaped name = flat_map escaped_character (chars name)
 
--- a mistake in an input: the name of a member may have any characters, that of an array has none that steers
+-- an input error: the name of a member can have any characters, that of an array has no control
+-- characters
 abbrev pub input_text : InputError → List ℕ
 input_text (UnknownArray name) = codes "N3 " ++ escaped (string_bytes name)
 input_text e = error_text e

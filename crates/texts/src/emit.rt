@@ -21,12 +21,13 @@ use types::fault::{Fault, FaultKind};
 use types::outcome::Outcome;
 use types::path::Path;
 
-/// The writer failed, or took nothing, as where a disk is full.
+/// The writer failed or accepted no bytes, for example because a disk is full.
 #[derive(Clone, Copy, PartialEq, Eq, Debug)]
 pub struct EmitError;
 
-/// Writes an outcome, a line each: the printed lines, then the faults, then, where asked for, the arrays; or
-/// the one line `stopped`. `declared` are the arrays of the program. Takes no memory of its own.
+/// Writes an outcome, one item per line: the printed lines, then the faults, then, if requested,
+/// the arrays; or the one line `stopped`. `declared` are the arrays of the program. Doesn't
+/// allocate.
 pub fn emit<W: Write>(
     out: &mut W,
     outcome: &Outcome,
@@ -53,7 +54,7 @@ pub fn emit<W: Write>(
     }
 }
 
-/// The printed lines.
+/// Writes the printed lines.
 fn emit_lines<W: Write>(out: &mut W, lines: &[Vec<i64>]) -> Result<(), EmitError>
     ensures { Writes (W.contents out.old) (W.contents out.new) result
         (flat_map (λ line. line_text line.items) lines.now) }
@@ -64,7 +65,7 @@ fn emit_lines<W: Write>(out: &mut W, lines: &[Vec<i64>]) -> Result<(), EmitError
     Ok(())
 }
 
-/// A printed line: its values in decimal, joined by one space.
+/// Writes a printed line: its values in decimal, separated by one space.
 fn emit_line<W: Write>(out: &mut W, line: &[i64]) -> Result<(), EmitError>
     ensures { Writes (W.contents out.old) (W.contents out.new) result (line_text line.now) }
 {
@@ -72,7 +73,7 @@ fn emit_line<W: Write>(out: &mut W, line: &[i64]) -> Result<(), EmitError>
     append(out, b"\n")
 }
 
-/// The values in decimal, joined by one space.
+/// Writes the values in decimal, separated by one space.
 fn emit_joined<W: Write>(out: &mut W, values: &[i64]) -> Result<(), EmitError>
     ensures { Writes (W.contents out.old) (W.contents out.new) result (joined_text values.now) }
 {
@@ -85,7 +86,7 @@ fn emit_joined<W: Write>(out: &mut W, values: &[i64]) -> Result<(), EmitError>
     }
 }
 
-/// The values in decimal, each behind a space.
+/// Writes the values in decimal, with a space before each.
 fn emit_spaced<W: Write>(out: &mut W, values: &[i64]) -> Result<(), EmitError>
     ensures { Writes (W.contents out.old) (W.contents out.new) result (spaced_text values.now) }
 {
@@ -95,7 +96,7 @@ fn emit_spaced<W: Write>(out: &mut W, values: &[i64]) -> Result<(), EmitError>
     Ok(())
 }
 
-/// A space and a number.
+/// Writes a space and a number.
 fn emit_behind_space<W: Write>(out: &mut W, number: &i64) -> Result<(), EmitError>
     ensures { Writes (W.contents out.old) (W.contents out.new) result
         (codes " " ++ signed_decimal number.now) }
@@ -104,7 +105,7 @@ fn emit_behind_space<W: Write>(out: &mut W, number: &i64) -> Result<(), EmitErro
     emit_number(out, number)
 }
 
-/// The faults.
+/// Writes the faults.
 fn emit_faults<W: Write>(out: &mut W, faults: &[Fault]) -> Result<(), EmitError>
     ensures { Writes (W.contents out.old) (W.contents out.new) result
         (flat_map (λ fault. fault_text (fault_of fault)) faults.now) }
@@ -115,7 +116,7 @@ fn emit_faults<W: Write>(out: &mut W, faults: &[Fault]) -> Result<(), EmitError>
     Ok(())
 }
 
-/// `fault PATH at LABEL: CODE`
+/// Writes `fault PATH at LABEL: CODE`.
 fn emit_fault<W: Write>(out: &mut W, fault: &Fault) -> Result<(), EmitError>
     ensures { Writes (W.contents out.old) (W.contents out.new) result
         (fault_text (fault_of fault.now)) }
@@ -129,7 +130,7 @@ fn emit_fault<W: Write>(out: &mut W, fault: &Fault) -> Result<(), EmitError>
     append(out, b"\n")
 }
 
-/// `0.1.2`
+/// Writes `0.1.2`.
 fn emit_path<W: Write>(out: &mut W, path: &Path) -> Result<(), EmitError>
     ensures { Writes (W.contents out.old) (W.contents out.new) result
         (path_text path.now.turns.items) }
@@ -138,7 +139,7 @@ fn emit_path<W: Write>(out: &mut W, path: &Path) -> Result<(), EmitError>
     emit_turns(out, &path.turns)
 }
 
-/// `.1.2`
+/// Writes `.1.2`.
 fn emit_turns<W: Write>(out: &mut W, turns: &[ChildNumber]) -> Result<(), EmitError>
     ensures { Writes (W.contents out.old) (W.contents out.new) result
         (flat_map (λ turn. codes "." ++ decimal turn) turns.now) }
@@ -149,7 +150,7 @@ fn emit_turns<W: Write>(out: &mut W, turns: &[ChildNumber]) -> Result<(), EmitEr
     Ok(())
 }
 
-/// `.1`
+/// Writes `.1`.
 fn emit_turn<W: Write>(out: &mut W, turn: ChildNumber) -> Result<(), EmitError>
     ensures { Writes (W.contents out.old) (W.contents out.new) result (codes "." ++ decimal turn) }
 {
@@ -157,7 +158,7 @@ fn emit_turn<W: Write>(out: &mut W, turn: ChildNumber) -> Result<(), EmitError>
     emit_label(out, turn.get())
 }
 
-/// `F1` to `F5`, or `F6` with its number.
+/// Writes `F1` to `F5`, or `F6` with its number.
 fn emit_kind<W: Write>(out: &mut W, kind: &FaultKind) -> Result<(), EmitError>
     ensures { Writes (W.contents out.old) (W.contents out.new) result (kind_text kind.now) }
 {
@@ -174,7 +175,7 @@ fn emit_kind<W: Write>(out: &mut W, kind: &FaultKind) -> Result<(), EmitError>
     }
 }
 
-/// The arrays that are declared and have elements.
+/// Writes the arrays that are declared and have elements.
 fn emit_arrays<W: Write>(
     out: &mut W,
     declared: &[Array],
@@ -190,7 +191,7 @@ fn emit_arrays<W: Write>(
     Ok(())
 }
 
-/// `array NAME` and each element behind a space.
+/// Writes `array NAME` and the elements, with a space before each.
 fn emit_array<W: Write>(out: &mut W, declared: &Array, elements: &[i64]) -> Result<(), EmitError>
     ensures { Writes (W.contents out.old) (W.contents out.new) result
         (array_text (array declared.now, elements.now)) }
@@ -201,7 +202,7 @@ fn emit_array<W: Write>(out: &mut W, declared: &Array, elements: &[i64]) -> Resu
     append(out, b"\n")
 }
 
-/// A number in decimal.
+/// Writes a number in decimal.
 fn emit_number<W: Write>(out: &mut W, number: &i64) -> Result<(), EmitError>
     ensures { Writes (W.contents out.old) (W.contents out.new) result (signed_decimal number.now) }
 {
@@ -209,7 +210,7 @@ fn emit_number<W: Write>(out: &mut W, number: &i64) -> Result<(), EmitError>
     append(out, buffer.format(*number).as_bytes())
 }
 
-/// Pairs of labels, a line each.
+/// Writes pairs of labels, one per line.
 pub fn emit_pairs<W: Write>(out: &mut W, pairs: PairList<'_>) -> Result<(), EmitError>
     ensures { Writes (W.contents out.old) (W.contents out.new) result
         (flat_map pair_text (pairs_left pairs.entry)) }
@@ -220,7 +221,7 @@ pub fn emit_pairs<W: Write>(out: &mut W, pairs: PairList<'_>) -> Result<(), Emit
     Ok(())
 }
 
-/// `3 6`
+/// Writes `3 6`.
 fn emit_pair<W: Write>(out: &mut W, one: Label, other: Label) -> Result<(), EmitError>
     ensures { Writes (W.contents out.old) (W.contents out.new) result (pair_text (one, other)) }
 {
@@ -230,7 +231,7 @@ fn emit_pair<W: Write>(out: &mut W, one: Label, other: Label) -> Result<(), Emit
     append(out, b"\n")
 }
 
-/// A label, a part of a path or of a place, or how many leaves may step, in decimal.
+/// Writes a label, a part of a path or of a place, or a number of leaves in decimal.
 pub fn emit_label<W: Write>(out: &mut W, number: Label) -> Result<(), EmitError>
     ensures { Writes (W.contents out.old) (W.contents out.new) result (decimal number) }
 {
@@ -238,7 +239,7 @@ pub fn emit_label<W: Write>(out: &mut W, number: Label) -> Result<(), EmitError>
     append(out, buffer.format(number).as_bytes())
 }
 
-/// The number of a choice, in decimal.
+/// Writes the number of a choice in decimal.
 pub fn emit_count<W: Write>(out: &mut W, number: usize) -> Result<(), EmitError>
     ensures { Writes (W.contents out.old) (W.contents out.new) result (decimal number) }
 {
@@ -246,7 +247,7 @@ pub fn emit_count<W: Write>(out: &mut W, number: usize) -> Result<(), EmitError>
     append(out, digits.format(number).as_bytes())
 }
 
-/// `open 2`: so many leaves may step.
+/// Writes `open 2`: the number of leaves that can take a step.
 pub fn emit_open<W: Write>(out: &mut W, leaves: u32) -> Result<(), EmitError>
     ensures { Writes (W.contents out.old) (W.contents out.new) result (open_text leaves) }
 {
@@ -255,7 +256,7 @@ pub fn emit_open<W: Write>(out: &mut W, leaves: u32) -> Result<(), EmitError>
     append(out, b"\n")
 }
 
-/// All of the bytes, in as many calls as the writer wants.
+/// Writes all bytes, in as many calls as the writer needs.
 pub fn append<W: Write>(out: &mut W, bytes: &[u8]) -> Result<(), EmitError>
     ensures { Writes (W.contents out.old) (W.contents out.new) result bytes.now }
 {

@@ -1,4 +1,4 @@
-//! How many procedures and labels a program has.
+//! The numbers of procedures and labels in a program.
 
 ghost use Rattle.std.specs.Prelude.{◌≡◌, ◌-◌, ◌^◌, IfOk, IfSome, map, min};
 ghost use Rattle.std.specs.String.{string_bytes};
@@ -9,7 +9,7 @@ ghost use Rattle.texts.specs.Labels.{accepted_text, labels_in, labels_in_procedu
 use std::alloc::{AllocError, Global};
 use types::code::{Procedure, Program, Stmt, StmtKind};
 
-/// The line that tells an accepted program: `accepted: 1 procedures, 9 labels`.
+/// Returns the line for an accepted program: `accepted: 1 procedures, 9 labels`.
 pub fn accepted_line(alloc: Global, code: &Program) -> Result<String, AllocError>
     ensures { IfOk result (λ text. string_bytes text ≡ accepted_text (program code.now)) }
 {
@@ -20,8 +20,8 @@ pub fn accepted_line(alloc: Global, code: &Program) -> Result<String, AllocError
     format!(in alloc; "accepted: {procedures} procedures, {labels} labels\n")
 }
 
-/// How many labels a program has: one for each statement. None where 64 bits don't hold it, which no memory
-/// holds.
+/// Returns the number of labels in a program: one for each statement. None if it doesn't fit in 64
+/// bits, which is more than any memory can store.
 pub fn labels(code: &Program) -> Option<u64>
     ensures { IfSome result (λ n. n ≡ labels_in (program code.now)) }
 {
@@ -29,7 +29,7 @@ pub fn labels(code: &Program) -> Option<u64>
     if all < u64::MAX { Some(all) } else { None }
 }
 
-/// How many statements procedures have; the largest number of 64 bits where there are more.
+/// Returns the number of statements in procedures, or the largest 64-bit number if there are more.
 fn in_procedures(procedures: &[Procedure]) -> u64
     ensures { result ≡ min (labels_in_procedures (map plain procedures.now)) (2 ^ 64 - 1) }
 {
@@ -40,7 +40,7 @@ fn in_procedures(procedures: &[Procedure]) -> u64
     sum
 }
 
-/// The statements of a block, those inside others among them.
+/// Counts the statements of a block, including those inside others.
 #[cycle(count)]
 fn in_block(block: &[Stmt]) -> u64
     ensures { result ≡ min (statements (codes block.now)) (2 ^ 64 - 1) }
@@ -52,7 +52,7 @@ fn in_block(block: &[Stmt]) -> u64
     sum
 }
 
-/// A statement and those inside.
+/// Counts a statement and those inside it.
 #[cycle(count)]
 fn in_statement(kind: &StmtKind) -> u64
     ensures { result ≡ min (statements_in (plain_code kind.now)) (2 ^ 64 - 1) }

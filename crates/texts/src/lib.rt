@@ -1,4 +1,4 @@
-//! What is written: outcomes, pairs of labels, the pieces of messages, and how far a run has come.
+//! What `afx` writes: outcomes, pairs of labels, the pieces of messages, and the progress of a run.
 
 #![tactic(auto)]
 

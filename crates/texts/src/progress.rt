@@ -1,4 +1,4 @@
-//! Lines that tell how far a run has come.
+//! Lines that report the progress of a run.
 
 use crate::emit::append;
 use statement_steps::watch::Watch;
@@ -6,24 +6,24 @@ use std::alloc::Global;
 use std::io::Write;
 use std::time::{Clock, Duration, Instant};
 
-/// The least time between two lines, in milliseconds.
+/// The minimum time between two lines, in milliseconds.
 const BETWEEN: u64 = 500;
 
-/// Writes a line twice a second: how many steps are done, and how many seconds have gone by.
+/// Writes a line at most twice a second: how many steps are done, and how many seconds have passed.
 #[derive(Drop)]
 pub struct Progress<C: Clock, W: Write> {
     alloc: Global,
     clock: C,
-    /// None where nobody reads the lines.
+    /// None if nobody reads the lines.
     lines: Option<W>,
-    /// None where the clock can't be read.
+    /// None if the clock can't be read.
     start: Option<Instant>,
-    /// How long after the start the last line was written.
+    /// The time from the start to the last line.
     told: Duration,
 }
 
 impl<C: Clock + Drop, W: Write + Drop> Progress<C, W> {
-    /// Of a run that starts now.
+    /// Starts to report on a run that starts now.
     pub fn new(alloc: Global, clock: C, lines: Option<W>) -> Progress<C, W> {
         let start = Instant::now(&clock).ok();
         Progress {
@@ -35,7 +35,7 @@ impl<C: Clock + Drop, W: Write + Drop> Progress<C, W> {
         }
     }
 
-    /// What was written.
+    /// Returns the writer of the lines.
     pub fn into_lines(self) -> Option<W> {
         self.lines
     }
@@ -56,7 +56,7 @@ impl<C: Clock, W: Write> Watch for Progress<C, W> {
         }
         self.told = time;
         let tenths = time.subsec_millis() / 100;
-        // A line for which there is no memory, or that can't be written, is left out.
+        // A line is left out if there is no memory for it or it can't be written.
         if let Ok(line) = format!(in self.alloc; "{steps} steps, {}.{tenths} s\n", time.as_secs()) {
             let _ = append(lines, line.as_bytes());
         }

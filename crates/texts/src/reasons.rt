@@ -1,4 +1,4 @@
-//! Why something is refused, piece by piece, without memory of its own.
+//! The pieces of error messages, written without allocating.
 
 ghost use Rattle.std.specs.Prelude.{◌≡◌, ◌<◌, ◌++◌};
 ghost use Rattle.std.specs.Fmt.{decimal};
@@ -15,14 +15,14 @@ use types::code::Label;
 use types::error::TypeError;
 use types::input_error::InputError;
 
-/// A text.
+/// Writes a text.
 pub fn emit_text<W: Write>(err: &mut W, text: &str) -> Result<(), EmitError>
     ensures { Writes (W.contents err.old) (W.contents err.new) result text.now }
 {
     append(err, text.as_bytes())
 }
 
-/// What is told, and a name.
+/// Writes a text and a name.
 fn emit_named<W: Write>(err: &mut W, told: &str, name: &str) -> Result<(), EmitError>
     ensures { Writes (W.contents err.old) (W.contents err.new) result (told.now ++ name.now) }
 {
@@ -30,7 +30,7 @@ fn emit_named<W: Write>(err: &mut W, told: &str, name: &str) -> Result<(), EmitE
     emit_text(err, name)
 }
 
-/// What is told, and a name that comes from outside: of a file, or of a member of an input.
+/// Writes a text and a name that comes from outside: that of a file, or of a member of an input.
 pub fn emit_file<W: Write>(err: &mut W, told: &str, name: &str) -> Result<(), EmitError>
     ensures { Writes (W.contents err.old) (W.contents err.new) result
         (told.now ++ escaped name.now) }
@@ -39,7 +39,7 @@ pub fn emit_file<W: Write>(err: &mut W, told: &str, name: &str) -> Result<(), Em
     emit_escaped(err, name)
 }
 
-/// A name, character by character.
+/// Writes a name, character by character.
 fn emit_escaped<W: Write>(err: &mut W, name: &str) -> Result<(), EmitError>
     ensures { Writes (W.contents err.old) (W.contents err.new) result (escaped name.now) }
 {
@@ -49,7 +49,7 @@ fn emit_escaped<W: Write>(err: &mut W, name: &str) -> Result<(), EmitError>
     Ok(())
 }
 
-/// A character of a name: one that steers a terminal is told by its number.
+/// Writes a character of a name. Control characters are escaped by their number.
 fn emit_character<W: Write>(err: &mut W, character: char) -> Result<(), EmitError>
     ensures { Writes (W.contents err.old) (W.contents err.new) result (escaped_character character) }
 {
@@ -64,7 +64,7 @@ fn emit_character<W: Write>(err: &mut W, character: char) -> Result<(), EmitErro
     }
 }
 
-/// A hexadecimal digit.
+/// Returns a hexadecimal digit.
 fn digit_of(number: u8) -> u8
     requires { number < 16 }
     ensures { result ≡ digit number }
@@ -76,7 +76,7 @@ fn digit_of(number: u8) -> u8
     }
 }
 
-/// `S2 at 1:13`
+/// Writes `S2 at 1:13`.
 pub fn emit_syntax_error<W: Write>(err: &mut W, error: &SyntaxError) -> Result<(), EmitError>
     ensures { Writes (W.contents err.old) (W.contents err.new) result (syntax_text error.now) }
 {
@@ -87,7 +87,7 @@ pub fn emit_syntax_error<W: Write>(err: &mut W, error: &SyntaxError) -> Result<(
     }
 }
 
-/// ` at 1:13`: the line before the column.
+/// Writes ` at 1:13`: the line before the column.
 fn emit_place<W: Write>(err: &mut W, place: Place) -> Result<(), EmitError>
     ensures { Writes (W.contents err.old) (W.contents err.new) result (at_text (Some place)) }
 {
@@ -97,7 +97,7 @@ fn emit_place<W: Write>(err: &mut W, place: Place) -> Result<(), EmitError>
     emit_label(err, place.column)
 }
 
-/// `Y1 at label 2`
+/// Writes `Y1 at label 2`.
 pub fn emit_type_error<W: Write>(err: &mut W, error: TypeError) -> Result<(), EmitError>
     ensures { Writes (W.contents err.old) (W.contents err.new) result (error_text error) }
 {
@@ -107,7 +107,7 @@ pub fn emit_type_error<W: Write>(err: &mut W, error: TypeError) -> Result<(), Em
     }
 }
 
-/// A code and a label.
+/// Writes a code and a label.
 fn emit_at_label<W: Write>(err: &mut W, code: &str, label: Label) -> Result<(), EmitError>
     ensures { Writes (W.contents err.old) (W.contents err.new) result
         (labelled code.now (Some label)) }
@@ -117,7 +117,7 @@ fn emit_at_label<W: Write>(err: &mut W, code: &str, label: Label) -> Result<(), 
     emit_label(err, label)
 }
 
-/// `C1 race in main: 2 write a, 4 read a`
+/// Writes `C1 race in main: 2 write a, 4 read a`.
 pub fn emit_race<W: Write>(
     err: &mut W,
     procedure: &str,
@@ -132,7 +132,7 @@ pub fn emit_race<W: Write>(
     emit_named(err, ", ", second)
 }
 
-/// `N4 a`
+/// Writes `N4 a`.
 pub fn emit_input_error<W: Write>(err: &mut W, error: &InputError) -> Result<(), EmitError>
     ensures { Writes (W.contents err.old) (W.contents err.new) result (input_text error.now) }
 {
@@ -147,7 +147,7 @@ pub fn emit_input_error<W: Write>(err: &mut W, error: &InputError) -> Result<(),
     }
 }
 
-/// What is told, and a number: `no leaf at choice 2`
+/// Writes a text and a number: `no leaf at choice 2`
 pub fn emit_numbered<W: Write>(err: &mut W, told: &str, number: usize) -> Result<(), EmitError>
     ensures { Writes (W.contents err.old) (W.contents err.new) result
         (told.now ++ decimal number) }

@@ -13,7 +13,7 @@ use Rattle.trace_numbers.specs.Hands.{Hands, did_more, handled, hands_after, no_
 use Rattle.trace_numbers.specs.Tables.{DidWithin, ShowsHands}
 use Rattle.trace_numbers.specs.declared.hands.Hands.{Hands as rHands}
 
--- who holds a task where one took the task of a path
+-- who holds a task after a worker took the task of a path
 pub held_at : (key path other : List ℕ) (worker : ℕ) (old new : Option ℕ) → AllZip (λ x y. y ≡ x) path key
     → new ≡ cond (pointwise nat_eq key other) (Some worker) old → new ≡ (if pointwise nat_eq path other then Some worker else old)
 held_at key path other worker old new cloned is =
@@ -53,7 +53,7 @@ within_more (Pass scope) count h w = still count h.did w
 within_more (Resume worker path) count h w = still count h.did w
 
 -- ---- from event to event
--- the first events led to it, and those behind them lead on to what all workers do
+-- the first events led to it, and those after them lead on to what all workers do
 pub record IsHeld (es : List Event) (i : ℕ) (r : rHands) : Type 0 where
   pub hands : Hands
   pub within : DidWithin i hands.did

@@ -7,7 +7,7 @@ use Rattle.facts.proofs.Lists.{same_elements}
 use Rattle.trace_numbers.specs.Tables.{known}
 use Rattle.trace_numbers.specs.declared.chains.Chain.{Chain}
 
--- what is known where a table has a chain at a path, and all else as it was
+-- what is known if a table has a chain at a path, and everything else is unchanged
 pub known_put : (b : Bool) (chain : Chain) (old : Option Chain) → known (cond b (Some chain) old) ≡ (if b then chain else known old)
 known_put true chain old = refl
 known_put false chain old = refl

@@ -7,7 +7,7 @@ use Rattle.trace_numbers.specs.Tables.{AreWithin, Shows, scope_at}
 use Rattle.trace_numbers.specs.declared.chains.Chains.{Chains as rChains}
 use Rattle.trace_numbers.proofs.Within.{within_more}
 
--- the first events led to it, and those behind them lead on to the span of all
+-- the first events led to it, and those after them lead on to the span of all
 pub record IsAt (es : List Event) (i : ℕ) (r : rChains) : Type 0 where
   pub chains : Chains
   pub within : AreWithin i chains
@@ -25,7 +25,7 @@ at_more es i e d old new there is at goes = record {
       ∙ at.rest;
 }
 
--- the root's scope is there
+-- the root's scope exists
 pub root_there : (es : List Event) (i : ℕ) (r : rChains) → IsAt es i r → 0 < length r.scopes.items
 root_there es i r at = omega (arith, at.within.stands [], at.shows.scopes)
 

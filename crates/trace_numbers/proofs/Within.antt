@@ -1,4 +1,4 @@
--- No number is larger than there were events, and whatever scope is named is there.
+-- No number is larger than the number of events, and each scope that is named exists.
 use Rattle.std.proofs.Common.{ℕ, ◌+◌, ◌<◌, ◌≤◌, List, [], ◌∷◌, ◌++◌, arith, nat_eq}
 use Rattle.std.specs.Prelude.{max}
 use Rattle.std.specs.Cmp.Lexicographic.{pointwise}
@@ -18,7 +18,7 @@ at_number-all : (P : ℕ → Type 0) (k n : ℕ) (f : ℕ → ℕ) → P n → (
 at_number-all P k n f new was other = if_either P (nat_eq k other) n (f other) new (was other)
 
 module _ (count : ℕ) (c : Chains) (h : AreWithin count c) where
-  -- one event more
+  -- one more event
   later : AreWithin (count + 1) c
   later = record {
     cost = λ path. omega (arith, h.cost path);
@@ -83,7 +83,7 @@ module _ (count : ℕ) (c : Chains) (h : AreWithin count c) where
         around = at_number-all (λ n. n < c.scopes + 1) c.scopes (c.stands path) c.around (omega (arith, h.stands path)) (λ n. omega (arith, h.around n));
       }
 
--- behind one event more
+-- after one more event
 pub within_more : (e : Event) (count : ℕ) (c : Chains) → AreWithin count c → AreWithin (count + 1) (chained e c)
 within_more (Take worker path) count c h = later count c h
 within_more (Steal worker from path) count c h = later count c h

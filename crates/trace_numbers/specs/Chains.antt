@@ -1,15 +1,15 @@
--- The longest chain of steps in a list of events. A step comes behind the steps of its task before it,
--- behind the one that spawned its task, and, behind a finish, behind all that was done in that.
+-- The longest chain of steps in a list of events. A step comes after the earlier steps of its task,
+-- after the step that spawned its task, and, after a finish, after all that was done in it.
 use Rattle.std.specs.Prelude.{ℕ, ◌+◌, max, List, [], ◌∷◌, ◌++◌, if◌then◌else◌, nat_eq}
 use Rattle.std.specs.Cmp.Lexicographic.{pointwise}
 use Rattle.events.specs.declared.event.Event.{Event}
 use Rattle.events.specs.declared.event.Event.TheVariants.{Take, Steal, Step, Replenish, Spawn}
 use Rattle.events.specs.declared.event.Event.TheVariants.{Open, Park, End, Pass, Resume}
 
--- of each task, by its path, what the longest chain costs that leads to where it is, the innermost scope
--- in which it stands, and how many tasks it has spawned; scopes go by their numbers, in the order in which
--- they were opened behind the root's, 0: how many there are, and of each what the longest chain costs that
--- came back to it, and the scope in which its owner stood when it opened it
+-- for each task, by its path: the cost of the longest chain that leads to it, its innermost scope,
+-- and the number of tasks that it has spawned. Scopes are numbered in the order in which they were
+-- opened, after the root's, 0: the number of scopes, and for each the cost of the longest chain
+-- that came back to it, and the scope that its owner was in when it opened this one
 pub record Chains : Type 0 where
   pub cost : List ℕ → ℕ
   pub stands : List ℕ → ℕ
@@ -25,11 +25,11 @@ at_path path n f other = if pointwise nat_eq path other then n else f other
 abbrev pub at_number : (k : ℕ) → ℕ → (ℕ → ℕ) → ℕ → ℕ
 at_number k n f other = if nat_eq k other then n else f other
 
--- a step more
+-- one more step
 abbrev pub one_more : List ℕ → Chains → Chains
 one_more path c = record c { cost = at_path path (c.cost path + 1) c.cost }
 
--- a task begins where its parent has come to, in the innermost scope of that
+-- a task starts after what its parent has done, in the innermost scope of the parent
 abbrev pub begin : (child path : List ℕ) → Chains → Chains
 begin child path c = record c {
   cost = at_path child (c.cost path) c.cost;
@@ -37,11 +37,11 @@ begin child path c = record c {
   spawned = at_path child 0 (at_path path (c.spawned path + 1) c.spawned);
 }
 
--- a task begins its next child
+-- a task starts its next child
 abbrev pub begin_child : List ℕ → Chains → Chains
 begin_child path c = begin (path ++ (c.spawned path + 1) ∷ []) path c
 
--- a task stands in a scope of its own, to which nothing came back
+-- a task is in a scope that it opened, to which nothing came back yet
 abbrev pub begin_finish : List ℕ → Chains → Chains
 begin_finish path c = record c {
   stands = at_path path c.scopes c.stands;
@@ -56,7 +56,7 @@ come_back path c =
     let s = c.stands path in
     record c { came_back = at_number s (max (c.came_back s) (c.cost path)) c.came_back }
 
--- a task goes on behind its innermost scope
+-- a task continues after its innermost scope
 abbrev pub leave : List ℕ → Chains → Chains
 leave path c =
     let s = c.stands path in
@@ -81,7 +81,7 @@ abbrev pub chains_after : List Event → Chains → Chains
 chains_after [] c = c
 chains_after (e ∷ es) c = chains_after es (chained e c)
 
--- nothing has been done, and there is the root's scope
+-- nothing is done yet, and the root's scope exists
 abbrev pub no_chains : Chains
 no_chains = record {
   cost = λ path. 0;
@@ -92,6 +92,6 @@ no_chains = record {
   around = λ n. 0;
 }
 
--- what the longest chain costs that came back to the root's scope
+-- the cost of the longest chain that came back to the root's scope
 abbrev pub span_of : List Event → ℕ
 span_of es = (chains_after es no_chains).came_back 0

@@ -1,4 +1,4 @@
--- What is counted in a list of events: steps, tasks, steals, and tasks that live at once.
+-- Counts in a list of events: steps, tasks, steals, and live tasks.
 use Rattle.std.specs.Prelude.{ℕ, ◌+◌, ◌-◌, max, List, [], ◌∷◌, length, Bool, true, false, count_by}
 use Rattle.events.specs.declared.event.Event.{Event}
 use Rattle.events.specs.declared.event.Event.TheVariants.{Steal, Step, Replenish, Spawn, Open, End}
@@ -30,7 +30,7 @@ steps_in es = count_by is_step es
 abbrev pub tasks_in : List Event → ℕ
 tasks_in es = count_by is_spawn es + 1
 
--- in how many asyncs a task stands that is spawned
+-- the number of asyncs that a spawned task is nested in
 abbrev pub nest_of : Event → ℕ
 nest_of (Spawn path) = length path.turns.items + 1
 nest_of _ = 0
@@ -40,18 +40,18 @@ abbrev pub deepest : List Event → ℕ
 deepest [] = 0
 deepest (e ∷ es) = max (nest_of e) (deepest es)
 
--- how many tasks live behind an event
+-- the number of live tasks after an event
 abbrev pub alive_after : Event → ℕ → ℕ
 alive_after (Spawn path) n = n + 1
 alive_after (End path) n = n - 1
 alive_after _ n = n
 
--- the most that live at once, where so many live now and so many lived at most
+-- the maximum number of live tasks, given the number now and the maximum so far
 abbrev pub most_alive_from : (now most : ℕ) → List Event → ℕ
 most_alive_from now most [] = most
 most_alive_from now most (e ∷ es) =
     most_alive_from (alive_after e now) (max most (alive_after e now)) es
 
--- at first the root lives
+-- at first, the root is live
 abbrev pub most_alive : List Event → ℕ
 most_alive = most_alive_from 1 1

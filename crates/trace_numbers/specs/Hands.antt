@@ -1,4 +1,4 @@
--- Which worker did how many steps: those of the tasks that it took or resumed last.
+-- The steps of each worker: those of the tasks that it took or resumed last.
 use Rattle.std.specs.Prelude.{ℕ, ◌+◌, List, [], ◌∷◌, Option, None, Some, if◌then◌else◌, nat_eq}
 use Rattle.std.specs.Prelude.{replicate, slice_index, slice_set}
 use Rattle.std.specs.Cmp.Lexicographic.{pointwise}
@@ -6,7 +6,7 @@ use Rattle.events.specs.declared.event.Event.{Event}
 use Rattle.events.specs.declared.event.Event.TheVariants.{Take, Steal, Step, Replenish, Spawn}
 use Rattle.events.specs.declared.event.Event.TheVariants.{Open, Park, End, Pass, Resume}
 
--- of each task, by its path, who took or resumed it last; the steps of each worker, by its number
+-- for each task, by its path: who took or resumed it last; the steps of each worker, by its number
 pub record Hands : Type 0 where
   pub holder : List ℕ → Option ℕ
   pub did : List ℕ
@@ -17,12 +17,12 @@ taken worker path h = record h {
   holder = λ other. if pointwise nat_eq path other then Some worker else h.holder other;
 }
 
--- a worker did a step more; nobody did what was done by a task that nobody took
+-- a worker did one more step; a step of a task that no worker took counts for nobody
 abbrev pub did_more : Option ℕ → List ℕ → List ℕ
 did_more None did = did
 did_more (Some worker) did = slice_set did worker (slice_index did worker + 1)
 
--- a task does a step
+-- a task takes a step
 abbrev pub one_step : (path : List ℕ) → Hands → Hands
 one_step path h = record h { did = did_more (h.holder path) h.did }
 
@@ -42,7 +42,7 @@ abbrev pub hands_after : List Event → Hands → Hands
 hands_after [] h = h
 hands_after (e ∷ es) h = hands_after es (handled e h)
 
--- no task was taken, and no worker of the 64 has done a step
+-- no task was taken, and none of the 64 workers has done a step
 abbrev pub no_hands : Hands
 no_hands = record { holder = λ path. None; did = replicate 64 0 }
 

@@ -1,4 +1,4 @@
--- What the tables stand for by which the numbers of a trace are found.
+-- The meaning of the tables that the numbers of a trace are computed with.
 use Rattle.std.specs.Prelude.{ℕ, ◌≡◌, ◌<◌, ◌≤◌, List, length, Option, None, Some, slice_index, slice_index_or}
 use Rattle.std.specs.HashMap.{HashMap, get}
 use Rattle.types.specs.Translation.{is_path}
@@ -19,7 +19,7 @@ known (Some chain) = chain
 abbrev pub chain_at : {S : Type 0} → HashMap Path Chain S → Path → Chain
 chain_at tasks path = known (get is_path tasks path)
 
--- the scope of a number
+-- the scope with this number
 abbrev pub none_back : Scope
 none_back = record { came_back = 0; around = 0 }
 
@@ -34,7 +34,7 @@ pub record Shows (r : rChains) (c : Chains) : Type 0 where
   pub came_back : (n : ℕ) → n < c.scopes → (scope_at r.scopes.items n).came_back ≡ c.came_back n
   pub around : (n : ℕ) → n < c.scopes → (scope_at r.scopes.items n).around ≡ c.around n
 
--- behind so many events no number is larger, and whatever scope is named is there
+-- after this many events no number is larger, and each scope that is named exists
 pub record AreWithin (count : ℕ) (c : Chains) : Type 0 where
   pub cost : (path : List ℕ) → c.cost path ≤ count
   pub spawned : (path : List ℕ) → c.spawned path ≤ count
@@ -55,7 +55,7 @@ pub record ShowsHands (r : rHands) (h : Hands) : Type 0 where
   pub holder : (path : Path) → get is_path r.tasks path ≡ h.holder path.turns.items
   pub did : r.did.items ≡ h.did
 
--- the 64 workers, none of whom did more steps than there were events
+-- the 64 workers, none of which did more steps than there were events
 pub record DidWithin (count : ℕ) (did : List ℕ) : Type 0 where
   pub workers : length did ≡ 64
   pub few : (w : ℕ) → slice_index did w ≤ count

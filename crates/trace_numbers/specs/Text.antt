@@ -1,10 +1,10 @@
--- How the numbers of a trace are told, one on each line.
+-- The text of the numbers of a trace, one per line.
 use Rattle.std.specs.Prelude.{ℕ, zero, suc, ◌+◌, ◌*◌, ◌/◌, ◌%◌, List, [], ◌∷◌, ◌++◌, codes}
 use Rattle.std.specs.Prelude.{if◌then◌else◌, nat_lt, ◌||◌}
 use Rattle.std.specs.Fmt.{decimal}
 use Rattle.trace_numbers.specs.declared.summary.Summary.{Summary}
 
--- `3.59`: the steps by the span, with two digits, and what is behind them cut; `-` where there is no span
+-- `3.59`: the steps divided by the span, with two digits, rounded down; `-` if there is no span
 abbrev pub parallelism : (steps span : ℕ) → List ℕ
 parallelism steps zero = codes "-"
 parallelism steps (suc n) =
@@ -14,7 +14,7 @@ parallelism steps (suc n) =
 abbrev pub line : (name number : List ℕ) → List ℕ
 line name number = name ++ (codes ": " ++ (number ++ codes "\n"))
 
--- how much was done, and how much of it at once
+-- the number of steps, the span and the parallelism
 abbrev pub work_lines : Summary → List ℕ
 work_lines s =
     line (codes "tasks") (decimal s.tasks)
@@ -22,15 +22,15 @@ work_lines s =
     ++ (line (codes "span") (decimal s.span)
     ++ line (codes "parallelism") (parallelism s.steps s.span)))
 
--- how tasks went from worker to worker, and how many there were at once
+-- how tasks moved between workers, and how many were live
 abbrev pub task_lines : Summary → List ℕ
 task_lines s =
     line (codes "steals") (decimal s.steals)
-    ++ (line (codes "replenishings") (decimal s.replenishings)
+    ++ (line (codes "replenishments") (decimal s.replenishings)
     ++ (line (codes "deepest nest") (decimal s.deepest_nest)
-    ++ line (codes "most tasks alive") (decimal s.most_tasks)))
+    ++ line (codes "most live tasks") (decimal s.most_tasks)))
 
--- the steps of a worker, where it is one of the run's, which has so many, or did some
+-- the steps of a worker, if it is one of the run's workers or did some steps
 abbrev pub worker_line : (workers number steps : ℕ) → List ℕ
 worker_line workers number steps =
     if nat_lt number workers || nat_lt 0 steps

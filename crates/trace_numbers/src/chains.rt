@@ -1,4 +1,4 @@
-//! The longest chain of steps: no number of workers makes a run faster than that.
+//! The longest chain of steps. No number of workers makes a run shorter than that.
 
 ghost use Rattle.std.specs.Prelude.{◌≡◌, IfOk, OnOk, if◌then◌else◌};
 ghost use Rattle.trace_numbers.specs.Chains.{Chains as AnyChains, begin_child, begin_finish, chained};
@@ -13,36 +13,36 @@ use std::collections::HashMap;
 use types::child_number::ChildNumber;
 use types::path::Path;
 
-/// How a task has come to where it is.
+/// What a task has done so far.
 #[derive(Clone, Copy)]
 pub struct Chain {
-    /// What the longest chain of steps costs that leads to it.
+    /// The cost of the longest chain of steps that leads to it.
     pub cost: usize,
-    /// The number of the innermost scope in which it stands.
+    /// The number of its innermost open scope.
     pub stands: usize,
-    /// How many tasks it has spawned.
+    /// The number of tasks that it has spawned.
     pub spawned: usize,
 }
 
 /// A scope, and what came back to it.
 #[derive(Clone, Copy)]
 pub struct Scope {
-    /// What the longest chain costs that came back.
+    /// The cost of the longest chain that came back.
     pub came_back: usize,
-    /// The number of the scope in which its owner stood when it opened it.
+    /// The number of the scope that its owner was in when it opened this one.
     pub around: usize,
 }
 
-/// All tasks that did something, and all scopes by their numbers: 0 is the root's, and then as they were
-/// opened.
+/// All tasks that did something, and all scopes by their numbers: 0 is the root's, and the others
+/// follow in the order in which they were opened.
 #[derive(Drop)]
 pub struct Chains {
     tasks: HashMap<Path, Chain>,
     pub scopes: Vec<Scope>,
 }
 
-/// What the longest chain of steps costs: 4 of the one trace of
-/// `main { finish { async { skip; } skip; } skip; }`, whose two tasks do a step each at once.
+/// Returns the cost of the longest chain of steps: 4 for the only trace of `main { finish { async {
+/// skip; } skip; } skip; }`, whose two tasks can take a step at the same time.
 pub fn span(alloc: Global, events: &[Event]) -> Result<usize, AllocError>
     ensures { IfOk result (λ n. n ≡ span_of events.now) }
 {
@@ -54,7 +54,7 @@ pub fn span(alloc: Global, events: &[Event]) -> Result<usize, AllocError>
 }
 
 impl Chains {
-    /// Nothing has been done.
+    /// Starts before any event.
     pub fn start(alloc: Global) -> Result<Chains, AllocError>
         ensures { IfOk result (λ r. Shows r no_chains) }
     {
@@ -69,7 +69,7 @@ impl Chains {
         })
     }
 
-    /// An event happens.
+    /// Applies an event.
     pub fn happens(&mut self, event: &Event) -> Result<(), AllocError>
         requires { AreAfter self.old }
         ensures { OnOk result ((c : AnyChains) → Shows self.old c → Shows self.new (chained event.now c)) }
@@ -90,7 +90,7 @@ impl Chains {
         }
     }
 
-    /// A step more.
+    /// Counts one more step.
     fn one_more(&mut self, path: &Path) -> Result<(), AllocError>
         requires { AreAfter self.old }
         ensures { OnOk result ((c : AnyChains) → Shows self.old c
@@ -101,7 +101,7 @@ impl Chains {
         self.put(path, chain)
     }
 
-    /// A task takes a step, and begins another where it has come to by that, in its innermost scope.
+    /// Lets a task take a step and start another task after it, in its innermost scope.
     fn begin_child(&mut self, path: &Path) -> Result<(), AllocError>
         requires { AreAfter self.old }
         ensures { OnOk result ((c : AnyChains) → Shows self.old c
@@ -111,7 +111,7 @@ impl Chains {
         chain.cost += 1;
         chain.spawned += 1;
         self.put(path, chain)?;
-        // A path names no more children.
+        // A path can't name more children.
         let Ok(number) = u32::try_from(chain.spawned) else {
             return Err(AllocError);
         };
@@ -123,7 +123,7 @@ impl Chains {
         self.put(&child, chain)
     }
 
-    /// A task takes a step, and stands in a scope of its own.
+    /// Lets a task take a step and open a scope.
     fn begin_finish(&mut self, path: &Path) -> Result<(), AllocError>
         requires { AreAfter self.old }
         ensures { OnOk result ((c : AnyChains) → Shows self.old c
@@ -140,7 +140,7 @@ impl Chains {
         self.put(path, chain)
     }
 
-    /// What leads to a task comes back to its innermost scope.
+    /// Lets what leads to a task come back to its innermost scope.
     fn come_back(&mut self, path: &Path)
         requires { AreAfter self.old }
         ensures { (c : AnyChains) → Shows self.old c
@@ -151,7 +151,7 @@ impl Chains {
         scope.came_back = scope.came_back.max(chain.cost);
     }
 
-    /// A task goes on behind its innermost scope.
+    /// Lets a task continue after its innermost scope.
     fn leave(&mut self, path: &Path) -> Result<(), AllocError>
         requires { AreAfter self.old }
         ensures { OnOk result ((c : AnyChains) → Shows self.old c
@@ -164,7 +164,7 @@ impl Chains {
         self.put(path, chain)
     }
 
-    /// How a task has come to where it is; nothing is known of most.
+    /// Returns what a task has done so far. Most tasks are unknown.
     pub fn chain(&self, path: &Path) -> Chain
         ensures { result ≡ chain_at self.now.tasks path.now }
     {
@@ -178,7 +178,7 @@ impl Chains {
         }
     }
 
-    /// A task has come to somewhere else.
+    /// Sets what a task has done so far.
     fn put(&mut self, path: &Path, chain: Chain) -> Result<(), AllocError>
         ensures scopes { self.new.scopes ≡ self.old.scopes }
         ensures others { OnOk result ((other : AnyPath) → chain_at self.new.tasks other

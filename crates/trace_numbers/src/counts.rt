@@ -1,39 +1,40 @@
-//! How many events there are of some kinds.
+//! The numbers of some kinds of events.
 
 ghost use Rattle.std.specs.Prelude.{◌≡◌, count_by};
 ghost use Rattle.trace_numbers.specs.Counts.{is_replenishing, is_spawn, is_steal, is_step, steps_in};
 
 use events::event::Event;
 
-/// How many steps all tasks did: 5 of the one trace of `main { finish { async { skip; } skip; } skip; }`.
+/// Returns the number of steps of all tasks: 5 for the only trace of `main { finish { async { skip;
+/// } skip; } skip; }`.
 pub fn steps(events: &[Event]) -> usize
     ensures { result ≡ steps_in events.now }
 {
     events.iter().filter(|event| is_step(event)).count()
 }
 
-/// How many tasks began behind the root.
+/// Returns the number of tasks, not counting the root.
 pub fn spawns(events: &[Event]) -> usize
     ensures { result ≡ count_by is_spawn events.now }
 {
     events.iter().filter(|event| is_spawn(event)).count()
 }
 
-/// How many steals there were.
+/// Returns the number of steals.
 pub fn steals(events: &[Event]) -> usize
     ensures { result ≡ count_by is_steal events.now }
 {
     events.iter().filter(|event| is_steal(event)).count()
 }
 
-/// How often a scope issued more weight to a task.
+/// Returns how often a scope issued more weight to a task.
 pub fn replenishings(events: &[Event]) -> usize
     ensures { result ≡ count_by is_replenishing events.now }
 {
     events.iter().filter(|event| is_replenishing(event)).count()
 }
 
-/// Whether a task does one of the language's steps by it.
+/// Returns whether a task takes one of the language's steps in this event.
 pub fn is_step(event: &Event) -> bool
     ensures { result ≡ is_step event.now }
 {

@@ -1,4 +1,4 @@
-//! Which worker did how many steps.
+//! The steps of each worker.
 
 ghost use Rattle.std.specs.Prelude.{◌≡◌, IfOk, OnOk};
 ghost use Rattle.trace_numbers.specs.Hands.{Hands as AnyHands, handled, no_hands, steps_by_worker};
@@ -12,7 +12,7 @@ use std::alloc::{AllocError, Global};
 use std::collections::HashMap;
 use types::path::Path;
 
-/// Who took each task last, and how many steps each worker did.
+/// Who took each task last, and the number of steps of each worker.
 #[derive(Drop)]
 struct Hands {
     tasks: HashMap<Path, WorkerId>,
@@ -20,7 +20,8 @@ struct Hands {
     did: Vec<usize>,
 }
 
-/// How many steps each worker did, by its number: those of tasks that it had taken or resumed last.
+/// Returns the number of steps of each worker, by its number: those of tasks that it took or
+/// resumed last.
 pub fn steps_of_workers(alloc: Global, events: &[Event]) -> Result<Vec<usize>, AllocError>
     ensures { IfOk result (λ v. v.items ≡ steps_by_worker events.now) }
 {
@@ -32,7 +33,7 @@ pub fn steps_of_workers(alloc: Global, events: &[Event]) -> Result<Vec<usize>, A
 }
 
 impl Hands {
-    /// No worker has taken a task.
+    /// Starts before any worker has taken a task.
     fn start(alloc: Global) -> Result<Hands, AllocError>
         ensures { IfOk result (λ r. ShowsHands r no_hands) }
     {
@@ -42,7 +43,7 @@ impl Hands {
         })
     }
 
-    /// An event happens.
+    /// Applies an event.
     fn happens(&mut self, event: &Event) -> Result<(), AllocError>
         requires { AreHandsAfter self.old }
         ensures { OnOk result ((h : AnyHands) → ShowsHands self.old h
@@ -64,7 +65,7 @@ impl Hands {
         }
     }
 
-    /// A worker takes a task.
+    /// Lets a worker take a task.
     fn take(&mut self, worker: WorkerId, path: &Path) -> Result<(), AllocError>
         ensures { OnOk result ((h : AnyHands) → ShowsHands self.old h
             → ShowsHands self.new (taken worker path.now.turns.items h)) }
@@ -77,7 +78,7 @@ impl Hands {
         Ok(())
     }
 
-    /// A task does a step, and so does who took it last.
+    /// Counts a step of a task for the worker who took it last.
     fn one_step(&mut self, path: &Path)
         requires { AreHandsAfter self.old }
         ensures { (h : AnyHands) → ShowsHands self.old h

@@ -1,4 +1,4 @@
-//! The numbers of a trace: what its tasks did, and what stood in the way of more at once.
+//! The numbers of a trace: what its tasks did, and what limited its parallelism.
 
 #![tactic(auto)]
 

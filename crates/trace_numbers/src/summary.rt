@@ -13,25 +13,25 @@ use std::alloc::{AllocError, Global};
 /// The numbers of a trace.
 #[derive(Debug, Drop)]
 pub struct Summary {
-    /// How many tasks there were, the root among them.
+    /// The number of tasks, including the root.
     pub tasks: usize,
-    /// How many steps all tasks did.
+    /// The number of steps of all tasks.
     pub steps: usize,
-    /// What the longest chain of steps costs.
+    /// The cost of the longest chain of steps.
     pub span: usize,
-    /// How many steals there were.
+    /// The number of steals.
     pub steals: usize,
     /// How often a scope issued more weight to a task.
     pub replenishings: usize,
-    /// In how many asyncs the deepest task stands.
+    /// The number of asyncs that the deepest task is nested in.
     pub deepest_nest: usize,
-    /// How many tasks lived at once, at most.
+    /// The maximum number of tasks that were live at the same time.
     pub most_tasks: usize,
-    /// How many steps each of the 64 workers did that a run may have, by its number.
+    /// The number of steps of each of the 64 workers that a run can have, by its number.
     pub by_worker: Vec<usize>,
 }
 
-/// The numbers of a list of events, in whatever order they stand.
+/// Returns the numbers of a list of events, in any order.
 pub fn summarize(alloc: Global, events: &[Event]) -> Result<Summary, AllocError>
     ensures { IfOk result (IsSummary events.now) }
 {

@@ -1,11 +1,11 @@
-//! How deep tasks stand, and how many live at once.
+//! How deep tasks are nested, and how many are live at the same time.
 
 ghost use Rattle.std.specs.Prelude.{◌≡◌, ◌<◌};
 ghost use Rattle.trace_numbers.specs.Counts.{alive_after, deepest, most_alive, nest_of};
 
 use events::event::Event;
 
-/// In how many asyncs the deepest task stands: 2 of the task 0.1.1.
+/// Returns the number of asyncs that the deepest task is nested in: 2 for the task 0.1.1.
 pub fn deepest_nest(events: &[Event]) -> usize
     ensures { result ≡ deepest events.now }
 {
@@ -16,7 +16,7 @@ pub fn deepest_nest(events: &[Event]) -> usize
     most
 }
 
-/// In how many asyncs the task stands that an event spawns.
+/// Returns the number of asyncs that the task spawned by an event is nested in.
 fn nest(event: &Event) -> usize
     ensures { result ≡ nest_of event.now }
 {
@@ -26,7 +26,7 @@ fn nest(event: &Event) -> usize
     }
 }
 
-/// How many tasks lived at once, at most.
+/// Returns the maximum number of tasks that were live at the same time.
 pub fn most_tasks(events: &[Event]) -> usize
     ensures { result ≡ most_alive events.now }
 {
@@ -39,7 +39,7 @@ pub fn most_tasks(events: &[Event]) -> usize
     most
 }
 
-/// How many tasks live behind an event, of so many before it.
+/// Returns the number of live tasks after an event, given the number before it.
 fn alive_behind(event: &Event, alive: usize) -> usize
     requires { alive < 18446744073709551615 }
     ensures { result ≡ alive_after event.now alive }

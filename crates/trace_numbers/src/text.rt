@@ -1,4 +1,4 @@
-//! The numbers of a trace, as they are told.
+//! The text of the numbers of a trace.
 
 ghost use Rattle.std.specs.Prelude.{◌≡◌, ◌++◌, codes, IfOk, OnOk};
 ghost use Rattle.std.specs.String.{string_bytes};
@@ -7,8 +7,8 @@ ghost use Rattle.trace_numbers.specs.Text.{parallelism, summary_text, task_lines
 use crate::summary::Summary;
 use std::alloc::{AllocError, Global};
 
-/// The numbers of a trace, one on each line: of all, and then the steps of each worker of the run, which
-/// had so many, and of any other that did some.
+/// Returns the numbers of a trace, one per line: the totals, and then the steps of each worker of
+/// the run, which had this many, and of any other worker that did some.
 pub fn summary_text(alloc: Global, summary: &Summary, workers: u32) -> Result<String, AllocError>
     ensures { IfOk result (λ text. string_bytes text ≡ summary_text workers summary.now) }
 {
@@ -21,7 +21,7 @@ pub fn summary_text(alloc: Global, summary: &Summary, workers: u32) -> Result<St
     Ok(text)
 }
 
-/// How much was done, and how much of it at once.
+/// Adds the number of steps, the span and the parallelism.
 fn push_work(text: &mut String, summary: &Summary) -> Result<(), AllocError>
     ensures { OnOk result (string_bytes text.new ≡ string_bytes text.old ++ work_lines summary.now) }
 {
@@ -35,7 +35,7 @@ fn push_work(text: &mut String, summary: &Summary) -> Result<(), AllocError>
     push_parallelism(text, steps, span)
 }
 
-/// The steps by the span, with two digits, and what is behind them cut; `-` where there is no span.
+/// Adds the steps divided by the span, with two digits, rounded down; `-` if there is no span.
 pub fn push_parallelism(text: &mut String, steps: usize, span: usize) -> Result<(), AllocError>
     ensures { OnOk result (string_bytes text.new
         ≡ string_bytes text.old ++ (parallelism steps span ++ codes "\n")) }
@@ -50,7 +50,7 @@ pub fn push_parallelism(text: &mut String, steps: usize, span: usize) -> Result<
     write!(text, "{whole}.{tenth}{hundredth}\n")
 }
 
-/// How tasks went from worker to worker, and how many there were at once.
+/// Adds how tasks moved between workers, and how many were live.
 fn push_tasks(text: &mut String, summary: &Summary) -> Result<(), AllocError>
     ensures { OnOk result (string_bytes text.new ≡ string_bytes text.old ++ task_lines summary.now) }
 {
@@ -60,12 +60,12 @@ fn push_tasks(text: &mut String, summary: &Summary) -> Result<(), AllocError>
     let most_tasks = summary.most_tasks;
     write!(
         text,
-        "steals: {steals}\nreplenishings: {replenishings}\n\
-         deepest nest: {deepest_nest}\nmost tasks alive: {most_tasks}\n"
+        "steals: {steals}\nreplenishments: {replenishings}\n\
+         deepest nest: {deepest_nest}\nmost live tasks: {most_tasks}\n"
     )
 }
 
-/// The steps of a worker, where it is one of the run's, which has so many, or did some.
+/// Adds the steps of a worker, if it is one of the run's workers or did some steps.
 fn push_worker(
     text: &mut String,
     number: usize,

@@ -1,4 +1,4 @@
-//! Spans of a trace in the trace event format, which Perfetto and chrome's tracing open.
+//! The spans of a trace in the trace event format, which Perfetto and Chrome's tracing page open.
 
 use events::event::Event;
 use events::worker_id::WorkerId;
@@ -8,9 +8,9 @@ use trace_layout::moves::Birth;
 use trace_layout::spells::{Beginning, Ending, Spell};
 use types::path::Path;
 
-/// The spans of a list of events, one for each spell of a task in its worker's thread, with the number of
-/// an event for a time; arrows from a spawn to the child's take, a mark for each steal and pass, and how
-/// many tasks are in hands.
+/// Returns the spans of a list of events. There is one for each spell of a task in its worker's
+/// thread, with the number of an event as the time. There are also arrows from a spawn to the
+/// child's take, a mark for each steal and pass, and the number of running tasks.
 pub fn spans(alloc: Global, events: &[Event]) -> Result<String, AllocError> {
     let layout = layout_of(alloc, events)?;
     let mut text = String::from_str(
@@ -35,7 +35,7 @@ pub fn spans(alloc: Global, events: &[Event]) -> Result<String, AllocError> {
     Ok(text)
 }
 
-/// The name of a worker's thread.
+/// Adds the name of a worker's thread.
 fn push_thread(text: &mut String, number: u32) -> Result<(), AllocError> {
     write!(
         text,
@@ -43,7 +43,7 @@ fn push_thread(text: &mut String, number: u32) -> Result<(), AllocError> {
     )
 }
 
-/// The beginning of a spell, with the arrow from its spawn.
+/// Adds the start of a spell, with the arrow from its spawn.
 fn push_beginning(text: &mut String, spell: &Spell) -> Result<(), AllocError> {
     let path = &spell.path;
     let depth = path.turns.len();
@@ -64,7 +64,7 @@ fn push_beginning(text: &mut String, spell: &Spell) -> Result<(), AllocError> {
     Ok(())
 }
 
-/// The end of a spell, behind its last event.
+/// Adds the end of a spell, after its last event.
 fn push_end(text: &mut String, spell: &Spell) -> Result<(), AllocError> {
     let worker = spell.worker.number();
     let last = spell.last;
@@ -81,12 +81,12 @@ fn push_end(text: &mut String, spell: &Spell) -> Result<(), AllocError> {
     write!(text, "\"args\":{{\"event\":{last},\"by\":\"{by}\"}}}}")
 }
 
-/// The beginning of the arrow from a spawn.
+/// Adds the start of the arrow from a spawn.
 fn push_birth(text: &mut String, birth: &Birth) -> Result<(), AllocError> {
     push_arrow(text, "\"s\"", birth.worker, birth.at, &birth.child)
 }
 
-/// An end of the arrow that leads to a task.
+/// Adds an end of the arrow that leads to a task.
 fn push_arrow(
     text: &mut String,
     phase: &str,
@@ -102,7 +102,7 @@ fn push_arrow(
     write!(text, "\"pid\":0,\"tid\":{worker},\"ts\":{at}}}")
 }
 
-/// The mark of a steal or a pass.
+/// Adds the mark of a steal or a pass.
 fn push_instant(text: &mut String, number: usize, event: &Event) -> Result<(), AllocError> {
     match event {
         Event::Steal { worker, from, path } => {
@@ -131,7 +131,7 @@ fn push_instant(text: &mut String, number: usize, event: &Event) -> Result<(), A
     }
 }
 
-/// How many tasks are in hands, wherever that changes.
+/// Adds the number of running tasks, wherever it changes.
 fn push_counter(text: &mut String, in_hands: &[usize]) -> Result<(), AllocError> {
     let mut told: usize = 0;
     for (number, count) in in_hands.iter().enumerate() {
@@ -143,10 +143,10 @@ fn push_counter(text: &mut String, in_hands: &[usize]) -> Result<(), AllocError>
     push_count(text, in_hands.len(), 0)
 }
 
-/// How many tasks are in hands from an event on.
+/// Adds the number of running tasks from an event on.
 fn push_count(text: &mut String, number: usize, count: usize) -> Result<(), AllocError> {
     write!(
         text,
-        ",\n{{\"ph\":\"C\",\"name\":\"tasks in hands\",\"pid\":0,\"ts\":{number},\"args\":{{\"tasks\":{count}}}}}"
+        ",\n{{\"ph\":\"C\",\"name\":\"running tasks\",\"pid\":0,\"ts\":{number},\"args\":{{\"tasks\":{count}}}}}"
     )
 }

@@ -1,4 +1,4 @@
-//! A trace in the trace event format, for the viewers of browsers.
+//! A trace in the trace event format, for the trace viewers of browsers.
 
 #![tactic(auto)]
 

@@ -1,4 +1,4 @@
--- What stands before the ending of a name.
+-- The part of a name before its ending.
 use Rattle.std.proofs.Common.{◌≡◌, ◌≢◌, ℕ, ◌+◌, ◌-◌, List, [], ◌∷◌, ◌++◌, length, take, drop, Option, Some, None, Bor}
 use Rattle.std.proofs.Common.{refl, sym, ap, ◌∙◌, arith, codes}
 use Rattle.std.proofs.Math.Seq.{drop-append_seam, take-append_seam}
@@ -9,7 +9,7 @@ use Rattle.std.specs.Str.{bytes_eq}
 use Rattle.std.specs.Str.Pattern.{FindsTextSuffix, StripsSuffix}
 use Rattle.trials.specs.Trials.{stem}
 
--- what stands before the last bytes of a name, where these are the ending
+-- the part before the last bytes of a name, if these are the ending
 abbrev stem_by : (n : ℕ) → (name : List ℕ) → List (List ℕ)
 stem_by n name = if bytes_eq (drop n name) (codes ".afx") then take n name ∷ [] else []
 
@@ -33,7 +33,7 @@ no_ending n name lacks true is =
     ∙ ap (λ (t : List ℕ). take n name ++ t) ((bytes_eq-Decides (drop n name) (codes ".afx")).0 is)))
 no_ending n name lacks false is = refl
 
--- what `strip_suffix` gives of a name
+-- what `strip_suffix` returns for a name
 pub stem_stripped : (name : List ℕ) (r : Option (Bor (List ℕ)))
     → MatchOption r (FindsTextSuffix (codes ".afx") name None) (λ x. StripsSuffix (FindsTextSuffix (codes ".afx")) name x.now)
     → MatchOption r (stem name ≡ []) (λ s. stem name ≡ s.now ∷ [])

@@ -1,4 +1,4 @@
--- Why a run as tasks has no outcome.
+-- Why a parallel run has no outcome.
 use Rattle.std.proofs.Common.{◌≡◌, subst, refl}
 use Rattle.gather.specs.RunErrors.{IsCause}
 use Rattle.command_line.specs.Requests.{Settings}
@@ -11,13 +11,13 @@ use Rattle.answers.specs.Answers.{Explains, IsExplored}
 use Rattle.answers.proofs.Answering.{IsOther}
 use Rattle.trials.specs.Runs.{TellsNoRun}
 
--- it is the same of as many tasks
+-- the same cause for the same number of tasks
 pub same_tasks : (s t : Settings) → s.spread.tasks ≡ t.spread.tasks → (f : Failure) → TellsNoRun s f → TellsNoRun t f
 same_tasks s t same (RunFailed e) told = subst (λ (n : ℕ). IsCause n e) same told
 same_tasks s t same NoMemory told = tt
 same_tasks s t same _ told = absurd told
 
--- of a text's program without a race, on its input
+-- for a program without a race, on its input
 pub no_run_explained : (s : Settings) (held : Held) (text : List ℕ) → IsExplored s held text → (f : Failure) → TellsNoRun s f
     → Explains Run s held text f
 no_run_explained s held text run (RunFailed e) told = record { as_tasks = refl; run = run; why = told }

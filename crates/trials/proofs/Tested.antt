@@ -32,7 +32,7 @@ memory_other f is = subst IsOther (sym is) tt
 -- ---- one after the other
 
 module _ (held : Held) (f : Folder) (ss : List (String Global)) where
-  -- the first n of them are tested, and files hold what they held
+  -- the first n of them are tested, and the contents of files are unchanged
   pub record HaveTested (now : Held) (n : ℕ) (lines : List ℕ) (passed failed : ℕ) : Type 0 where
     pub tested : AreTested held f (map string_bytes (take n ss)) lines passed failed
     pub keeps : now ≡ held
@@ -40,7 +40,7 @@ module _ (held : Held) (f : Folder) (ss : List (String Global)) where
   pub none_tested : HaveTested held 0 [] 0 0
   none_tested = record { tested = none; keeps = refl }
 
-  -- the next one, by what stands before `.afx` in its name
+  -- the next one, given by the part of its name before `.afx`
   abbrev pub next : String Global → Trial
   next s = record { folder = f; stem = string_bytes s }
 
@@ -74,7 +74,7 @@ module _ (held : Held) (f : Folder) (ss : List (String Global)) where
     keeps = same ∙ so_far.keeps;
   }
 
-  -- one more, by whether it has a line
+  -- one more, with a line or without
   pub one_more : (mid now : Held) (n : ℕ) (s d : String Global) (lines longer : List ℕ) (p m q k : ℕ)
       (line : Option (String Global)) → n < length ss → s ≡ get_or ss n d → HaveTested mid n lines p m
       → MatchOption line (IsCompared mid (next s) true) (λ l. IsLine mid (next s) (string_bytes l)) → now ≡ mid

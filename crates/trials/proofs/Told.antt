@@ -1,4 +1,4 @@
--- What is answered of times, and of folders.
+-- The answers of `bench` and `test`.
 use Rattle.std.proofs.Common.{◌≡◌, ℕ, List, Option, Result, IfOk, IfErr, sym, subst}
 use Rattle.std.specs.Prelude.{IsErrAnd}
 use Rattle.texts.specs.Appending.{Writes}
@@ -15,7 +15,7 @@ use Rattle.trials.specs.Trials.{AnswersTest, ExplainsTest}
 use Rattle.trials.proofs.Tested.{memory_explained, memory_other, no_folder_explained, no_folder_other}
 
 module _ (s : Settings) (held : Held) (text : List ℕ) where
-  -- a failure that comes before anything is written
+  -- a failure before anything is written
   pub times_passed : (b : Option (List ℕ)) (r : Result ℕ Failure) (f : Failure) → IsErrAnd r (λ y. y ≡ f)
       → Explains Run s held text f → IsOther f → Done (AnswersTimes s held text) (Explains Run s held text) b b r
   times_passed b r f is why other =

@@ -1,8 +1,8 @@
--- The least and the middle one of five times.
+-- The minimum and the median of five durations.
 use Rattle.std.specs.Prelude.{ℕ, ◌≡◌, List, slice_index, IsPermutation, IsSorted}
 use Rattle.std.specs.Ordering.{nat_cmp}
 
--- of these times this is the least, and this the one in the middle
+-- this is the minimum of these durations, and this the median
 pub record AreOf (times : List ℕ) (least median : ℕ) : Type 0 where
   pub ordered : List ℕ
   pub same : IsPermutation times ordered

@@ -1,4 +1,4 @@
--- What is known of folders, and what reading them gives.
+-- What is known about folders, and what reading them returns.
 use Rattle.std.specs.Prelude.{ℕ, ◌≡◌, ◌≢◌, List, Option, None, Some, Result, Err}
 use Rattle.std.specs.String.{string_bytes}
 use Rattle.intake.specs.declared.failure.Failure.{Failure}
@@ -6,20 +6,20 @@ use Rattle.intake.specs.declared.failure.Failure.TheVariants.{CannotRead, NoMemo
 use Rattle.intake.specs.declared.files.FileError.{FileError}
 use Rattle.intake.specs.declared.files.FileError.TheVariants.{Failed as Unread, NoMemory as NoMemoryInFile}
 
--- the names of all that stands in a folder, or why there are none
+-- the names of all entries of a folder, or why there are none
 abbrev pub Names : Type 0
 Names = Result (List (List ℕ)) FileError
 
--- what each folder is known to have: None where nobody can know it
+-- what is known about each folder: None if nothing is known
 abbrev pub Folders : Type 0
 Folders = List ℕ → Option Names
 
--- a folder that is known is given as it is, memory aside
+-- a folder whose names are known is returned as it is, unless memory runs out
 abbrev pub AreGiven : (known : Option Names) → Names → Type 0
 AreGiven None given = Unit {0}
 AreGiven (Some known) given = given ≢ Err NoMemoryInFile → given ≡ known
 
--- the failure says why a folder of this name gives no names, if there is memory to say so
+-- the failure says why a folder with this name can't be read, unless memory runs out
 abbrev pub TellsNoFolder : Folders → (name : List ℕ) → Failure → Type 0
 TellsNoFolder folders name (CannotRead told) =
     (string_bytes told ≡ name) × AreGiven (folders name) (Err Unread)

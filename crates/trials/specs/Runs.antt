@@ -1,10 +1,10 @@
--- Why a run as tasks has no outcome.
+-- Why a parallel run has no outcome.
 use Rattle.gather.specs.RunErrors.{IsCause}
 use Rattle.command_line.specs.Requests.{Settings}
 use Rattle.intake.specs.declared.failure.Failure.{Failure}
 use Rattle.intake.specs.declared.failure.Failure.TheVariants.{Run as RunFailed, NoMemory}
 
--- a cause that its settings allow; only want of memory is free
+-- a cause that its settings allow; running out of memory is always allowed
 abbrev pub TellsNoRun : Settings → Failure → Type 0
 TellsNoRun s (RunFailed e) = IsCause s.spread.tasks e
 TellsNoRun s NoMemory = Unit {0}

@@ -1,4 +1,4 @@
--- What the programs of a folder should tell, and what is told of them.
+-- The expected output of the programs of a folder, and what is printed about them.
 use Rattle.std.specs.Prelude.{ℕ, zero, suc, ℤ, ◌≡◌, ◌≢◌, ◌-◌, ◌+◌, Bool, true, false, if◌then◌else◌, List, []}
 use Rattle.std.specs.Prelude.{◌∷◌, ◌++◌, codes, Option, None, Some, Result, Ok, MatchOption, length, map}
 use Rattle.std.specs.Prelude.{take, drop, IsPermutation}
@@ -30,7 +30,7 @@ use Rattle.trials.specs.declared.trial.Trial.{Trial as rTrial}
 
 -- ---- names
 
--- a folder, and the names of all that stands in it
+-- a folder, and the names of all its entries
 pub record Folder : Type 0 where
   pub name : List ℕ
   pub names : List (List ℕ)
@@ -38,7 +38,7 @@ pub record Folder : Type 0 where
 abbrev pub folder : rFolder → Folder
 folder f = record { name = f.name.now; names = map string_bytes f.names.now }
 
--- a program of it, by what stands before `.afx` in the name of its file
+-- a program of it, given by the part of its file name before `.afx`
 pub record Trial : Type 0 where
   pub folder : Folder
   pub stem : List ℕ
@@ -51,7 +51,7 @@ abbrev pub has_name : (names : List (List ℕ)) → (name : List ℕ) → Bool
 has_name [] name = false
 has_name (one ∷ names) name = if bytes_eq one name then true else has_name names name
 
--- what stands before the ending `.afx` of a name, if it has that
+-- the part of a name before `.afx`, if it ends with that
 abbrev pub stem : (name : List ℕ) → List (List ℕ)
 stem name =
     if bytes_eq (drop (length name - 4) name) (codes ".afx") then take (length name - 4) name ∷ [] else []
@@ -60,30 +60,31 @@ stem name =
 abbrev pub file : Trial → (ending : List ℕ) → List ℕ
 file t ending = t.folder.name ++ (codes "/" ++ (t.stem ++ ending))
 
--- that of its input, where the folder has one
+-- the file of its input, if the folder has one
 abbrev pub input_file : Trial → Option (List ℕ)
 input_file t =
     if has_name t.folder.names (t.stem ++ codes ".json") then Some (file t (codes ".json")) else None
 
--- it is run as usual, on its input
+-- it runs under the default settings, on its input
 abbrev pub settings_of : Trial → Settings
 settings_of t = record usual { input = input_file t }
 
 -- ---- one program
 
--- what a program tells, run as usual
+-- what a program prints under the default settings
 abbrev pub told_by : Program → (input : List (List ℤ)) → List ℕ
 told_by p input = outcome_text p.arrays false (outcome p input usual.budget)
 
--- whether what is told of an outcome of a case's program is what it should tell
+-- whether the text of an outcome of a case's program is the expected output
 abbrev pub is_wanted : Case → Outcome → Bool
 is_wanted c o = bytes_eq (outcome_text (code_of c.accepted.now.typed).arrays false o) c.wanted.now
 
--- whether what it tells, run as usual, is
+-- whether what it prints under the default settings is the expected output
 abbrev pub tells_wanted : Case → Bool
 tells_wanted c = bytes_eq (told_by (code_of c.accepted.now.typed) (lists_of c.input.now)) c.wanted.now
 
--- `run` answers so much to its text, and its `.out` file holds bytes: whether these are the same
+-- `run` prints this much for its text, and its `.out` file has these bytes: whether the two are
+-- equal
 pub record IsCompared (held : Held) (t : Trial) (same : Bool) : Type 0 where
   pub text : List ℕ
   pub has_text : HasText held (file t (codes ".afx")) text
@@ -94,28 +95,28 @@ pub record IsCompared (held : Held) (t : Trial) (same : Bool) : Type 0 where
   pub given : IsGiven (held (file t (codes ".out"))) (Ok bytes)
   pub same_is : same ≡ bytes_eq told bytes
 
--- the failure says why it isn't compared: its file gives no text, `run` fails before it answers, or there
--- is no `.out` file
+-- the failure says why it can't be compared: its file has no text, `run` fails before it answers,
+-- or there is no `.out` file
 pub data IsUncompared (held : Held) (t : Trial) (f : Failure) : Type 0 where
   without_text : TellsNoProgram held (file t (codes ".afx")) f → IsUncompared held t f
   without_answer : (text : List ℕ) → HasText held (file t (codes ".afx")) text
       → Explains Run (settings_of t) held text f → f ≢ CannotWriteOutput → IsUncompared held t f
   without_output : TellsNoText held (file t (codes ".out")) f → IsUncompared held t f
 
--- the line of one that fails, with what steers a terminal in its name told by numbers
+-- the line of a program that fails, with control characters in its name escaped
 pub data IsLine (held : Held) (t : Trial) (line : List ℕ) : Type 0 where
-  otherwise : IsCompared held t false → line ≡ escaped t.stem ++ codes ".afx: tells otherwise\n"
+  otherwise : IsCompared held t false → line ≡ escaped t.stem ++ codes ".afx: output differs\n"
       → IsLine held t line
   uncompared : (f : Failure) → IsUncompared held t f
       → line ≡ escaped t.stem ++ (codes ".afx: " ++ (failure_text f ++ codes "\n")) → IsLine held t line
 
--- one without a line passes, and any other has the line of one that fails
+-- a program without a line passes, and any other has the line of one that fails
 abbrev pub HasLine : Held → Trial → Option (String Global) → Type 0
 HasLine held t line = MatchOption line (IsCompared held t true) (λ l. IsLine held t (string_bytes l))
 
 -- ---- all of them
 
--- of these programs of a folder so many passed, and so many failed, of which these lines tell
+-- of these programs of a folder, this many passed and this many failed, with these lines
 pub data AreTested (held : Held) (f : Folder)
     : (stems : List (List ℕ)) → (lines : List ℕ) → (passed failed : ℕ) → Type 0 where
   none : AreTested held f [] [] 0 0
@@ -126,13 +127,13 @@ pub data AreTested (held : Held) (f : Folder)
       → IsLine held (record { folder = f; stem = s }) line
       → AreTested held f (ss ++ s ∷ []) (lines ++ line) n (m + 1)
 
--- one more is counted, which passed
+-- one more program is counted that passed
 abbrev pub AddsPassed : (old new : Found) → Type 0
 AddsPassed old new =
     (string_bytes new.lines ≡ string_bytes old.lines) × (new.passed ≡ old.passed + 1)
     × (new.failed ≡ old.failed)
 
--- one more is counted, which failed, and its line stands behind the others
+-- one more program is counted that failed, and its line follows the others
 abbrev pub AddsFailed : (line : String Global) → (old new : Found) → Type 0
 AddsFailed line old new =
     (string_bytes new.lines ≡ string_bytes old.lines ++ string_bytes line) × (new.passed ≡ old.passed)
@@ -142,12 +143,12 @@ AddsFailed line old new =
 abbrev pub closing : (passed failed : ℕ) → List ℕ
 closing n m = decimal n ++ (codes " passed, " ++ (decimal m ++ codes " failed\n"))
 
--- 0 where none failed
+-- 0 if none failed
 abbrev pub tested_status : (failed : ℕ) → ℕ
 tested_status zero = 0
 tested_status (suc n) = 1
 
--- the programs of a folder, in the order of their names, were tested, and what was found is told
+-- the programs of a folder were tested, sorted by name, and the results are printed
 pub record AnswersTest (named : Folders) (held : Held) (name told : List ℕ) (status : ℕ) : Type 0 where
   pub names : List (List ℕ)
   pub given : AreGiven (named name) (Ok names)
@@ -162,7 +163,7 @@ pub record AnswersTest (named : Folders) (held : Held) (name told : List ℕ) (s
   pub told_is : told ≡ lines ++ closing passed failed
   pub status_is : status ≡ tested_status failed
 
--- why none was
+-- why none was tested
 abbrev pub ExplainsTest : Folders → (name : List ℕ) → Failure → Type 0
 ExplainsTest named name CannotWriteOutput = Unit {0}
 ExplainsTest named name f = TellsNoFolder named name f

@@ -1,14 +1,14 @@
-//! Time that goes by.
+//! Measuring time.
 
 use statement_steps::watch::Unwatched;
 
-/// Tells the time.
+/// A clock.
 pub trait Stopwatch {
-    /// How many microseconds have gone by since some moment, the same at each call; 0 where nobody can tell.
+    /// Returns the number of microseconds since some fixed moment, or 0 if the time isn't known.
     fn micros(&mut self) -> u64;
 }
 
-/// Nobody looks, at a clock either.
+/// Without a watcher, there is no clock either.
 impl Stopwatch for Unwatched {
     fn micros(&mut self) -> u64 {
         0

@@ -1,4 +1,4 @@
-//! Folders, and the names of what stands in them.
+//! Folders, and the names of their entries.
 
 ghost use Rattle.std.specs.Prelude.{◌≡◌, map, IfErr, IfOk, MatchResult, None, Ok, Err};
 ghost use Rattle.std.specs.String.{string_bytes};
@@ -11,19 +11,20 @@ use std::io::ErrorKind;
 use std::rt::Files;
 use std::{fs, io};
 
-/// Files by their names, and folders of them.
+/// Files by their names, and folders of files.
 pub trait FolderSource: FileSource {
-    /// The names that a folder is known to have: None where nobody can know them, as of the machine's.
+    /// What is known about the names in a folder. None if nothing is known, as for the machine's
+    /// folders.
     ghost named: { Self → Folders } = { λ _ _. None };
 
-    /// The names of all that stands in a folder, in whatever order.
+    /// Returns the names of all entries of a folder, in any order.
     fn names(&mut self, folder: &str) -> Result<Vec<String>, FileError>
         ensures given { let known = named self.old folder.now in MatchResult result
             (λ v. AreGiven known (Ok (map string_bytes v.items))) (λ e. AreGiven known (Err e)) }
         ensures keeps { Self.held self.new ≡ Self.held self.old };
 }
 
-/// The names of all that stands in a folder, or the failure that says why there are none.
+/// Returns the names of all entries of a folder, or the failure that says why it can't be read.
 pub fn read_folder<F: FolderSource>(
     alloc: Global,
     files: &mut F,
@@ -41,7 +42,7 @@ pub fn read_folder<F: FolderSource>(
     }
 }
 
-/// The files and the folders of the machine; `-` is the standard input.
+/// The files and the folders of the machine; `-` is standard input.
 #[derive(Drop)]
 pub struct MachineFolders<'r, R> {
     rt: &'r R,
@@ -49,7 +50,7 @@ pub struct MachineFolders<'r, R> {
 }
 
 impl<'r, R> MachineFolders<'r, R> {
-    /// Those that a runtime reaches.
+    /// Wraps the files and folders of a runtime.
     pub fn new(rt: &'r R) -> MachineFolders<'r, R>
         ensures { result.rt ≡ rt.entry }
     {
@@ -86,7 +87,7 @@ impl<R: Files + Input + AllocGlobal + Clone + Drop> FolderSource for MachineFold
     }
 }
 
-/// The names of all that stands in a folder of the machine.
+/// Returns the names of all entries of a folder of the machine.
 fn names_in<R: Files + AllocGlobal + Clone + Drop>(
     rt: &R,
     folder: &str,

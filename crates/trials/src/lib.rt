@@ -1,4 +1,4 @@
-//! Programs run in several ways: compared with what they should tell, and timed.
+//! Programs run in several ways: compared with their expected output, and timed.
 
 #![tactic(auto)]
 

@@ -1,4 +1,4 @@
-//! Whether a program tells what it should, however it is run.
+//! Whether a program prints its expected output, however it is run.
 
 ghost use Rattle.std.specs.Prelude.{◌≡◌, ◌≤◌, IfErr, IfOk};
 ghost use Rattle.types.specs.Translation.{outcome as outcome_in};
@@ -19,7 +19,7 @@ use texts::emit::emit;
 use types::input::Input;
 use types::outcome::Outcome;
 
-/// A program on an input, and the bytes that it should tell, run as usual.
+/// A program on an input, and its expected output under the default settings.
 #[derive(Clone, Copy)]
 pub struct Case<'c> {
     pub alloc: Global,
@@ -29,7 +29,8 @@ pub struct Case<'c> {
 }
 
 impl Case<'_> {
-    /// Whether it tells them: on one thread, and as tasks on 1 and on 4 workers.
+    /// Returns whether it prints the expected output: serially, and in parallel on 1 and on 4
+    /// workers.
     pub fn tells<R: Threads + Wait + Sync, W: Runs>(
         &self,
         rt: &R,
@@ -48,7 +49,7 @@ impl Case<'_> {
         self.tells_as_tasks(rt, runs, 4)
     }
 
-    /// Whether it does on one thread.
+    /// Returns whether it does on one thread.
     fn tells_on_one_thread(&self) -> Result<bool, Failure>
         requires { Fits self.now.accepted.now.typed self.now.input.now }
         ensures same { IfOk result (λ same. same ≡ tells_wanted self.now) }
@@ -65,7 +66,7 @@ impl Case<'_> {
         }
     }
 
-    /// Whether it does as tasks on so many workers.
+    /// Returns whether it does in parallel on this many workers.
     fn tells_as_tasks<R: Threads + Wait + Sync, W: Runs>(
         &self,
         rt: &R,
@@ -84,7 +85,7 @@ impl Case<'_> {
         }
     }
 
-    /// Whether they are what is told of an outcome of the program.
+    /// Returns whether the text of an outcome of the program is the expected output.
     fn is_told(&self, outcome: &Outcome) -> Result<bool, Failure>
         ensures same { IfOk result (λ same. same ≡ is_wanted self.now (outcome_in outcome.now)) }
         ensures why { IfErr result (λ f. f ≡ Failure.NoMemory) }

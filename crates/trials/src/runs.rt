@@ -1,4 +1,4 @@
-//! A way to run a program as tasks.
+//! A way to run a program in parallel.
 
 ghost use denote.Param.Send.{IsSync};
 ghost use Rattle.std.specs.Prelude.{◌≡◌, ◌≤◌, IfErr, IfOk};
@@ -15,9 +15,10 @@ use std::thread::Threads;
 use types::input::Input;
 use types::outcome::Outcome;
 
-/// Runs programs as tasks. What threads they run on is not known here: `driver` has the one that starts some.
+/// Runs programs in parallel. The threads that they run on aren't known here: `driver` has the
+/// implementation that starts threads.
 pub trait Runs {
-    /// The outcome of a program on an input, by these settings.
+    /// Returns the outcome of a program on an input, under these settings.
     fn outcome<R: Threads + Wait + Sync>(
         &self,
         rt: &R,
@@ -33,7 +34,7 @@ pub trait Runs {
         ensures why { IfErr result (TellsNoRun (settings_of settings.entry)) };
 }
 
-/// These settings, but for the number of workers.
+/// Returns these settings with another number of workers.
 pub fn on_workers<'w>(settings: Settings<'w>, workers: u64) -> Settings<'w>
     requires { (1 ≤ workers) × (workers ≤ 64) }
     ensures budget { (settings_of result).budget ≡ (settings_of settings.entry).budget }

@@ -8,8 +8,8 @@ ghost use Rattle.trials.specs.Trials.{has_name as has_name_of, stem};
 use intake::failure::Failure;
 use std::alloc::{AllocError, Global};
 
-/// The programs of a folder with these files, by what stands before `.afx` in their names, in the order of
-/// these.
+/// Returns the programs of a folder with these files, in sorted order: the part of each name before
+/// `.afx`.
 pub fn stems_in(alloc: Global, names: &[String]) -> Result<Vec<String>, Failure>
     ensures all { IfOk result (λ v. IsPermutation
         (flat_map stem (map string_bytes names.now)) (map string_bytes v.items)) }
@@ -22,7 +22,7 @@ pub fn stems_in(alloc: Global, names: &[String]) -> Result<Vec<String>, Failure>
     }
 }
 
-/// The same, if there is memory for them.
+/// Returns the programs in sorted order, if there is enough memory.
 fn sorted(alloc: Global, names: &[String]) -> Result<Vec<String>, AllocError>
     ensures all { IfOk result (λ v. IsPermutation
         (flat_map stem (map string_bytes names.now)) (map string_bytes v.items)) }
@@ -33,7 +33,7 @@ fn sorted(alloc: Global, names: &[String]) -> Result<Vec<String>, AllocError>
     Ok(stems)
 }
 
-/// The same in the order of the files.
+/// Returns the programs in the order of the files.
 fn unordered(alloc: Global, names: &[String]) -> Result<Vec<String>, AllocError>
     ensures { IfOk result
         (λ v. map string_bytes v.items ≡ flat_map stem (map string_bytes names.now)) }
@@ -47,14 +47,14 @@ fn unordered(alloc: Global, names: &[String]) -> Result<Vec<String>, AllocError>
     Ok(stems)
 }
 
-/// What stands before the ending `.afx` of a name, if it has that.
+/// Returns the part of a name before `.afx`, if it ends with that.
 fn stem_of(name: &str) -> Option<&str>
     ensures { MatchOption result (stem name.now ≡ []) (λ s. stem name.now ≡ s.now ∷ []) }
 {
     name.strip_suffix(".afx")
 }
 
-/// Whether a folder with these files has one of this name.
+/// Returns whether a folder with these files has one with this name.
 pub fn has_name(names: &[String], name: &str) -> bool
     ensures { result ≡ has_name_of (map string_bytes names.now) name.now }
 {

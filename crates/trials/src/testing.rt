@@ -1,4 +1,4 @@
-//! `test`: the programs of a folder, and what they should tell.
+//! `test`: the programs of a folder, and their expected output.
 
 ghost use Rattle.std.specs.Prelude.{◌≡◌, ◌+◌, ◌++◌, map, IfErr, IfOk, MatchOption, OnOk};
 ghost use Rattle.std.specs.String.{string_bytes};
@@ -18,9 +18,9 @@ use std::sync::Wait;
 use std::thread::Threads;
 use texts::emit::append;
 
-/// Runs each program of a folder, in the order of their names, and compares what it tells with its `.out`
-/// file. Writes a line for each that fails, and behind these how many passed and failed; gives the exit
-/// status: 1 where one failed.
+/// Runs each program of a folder, sorted by name, and compares its output with its `.out` file.
+/// Writes a line for each program that fails, and then how many passed and failed. Returns the exit
+/// status: 1 if one failed.
 pub fn test_folder<R: Threads + Wait + Sync, F: FolderSource, O: Write, W: Runs>(
     rt: &R,
     alloc: Global,
@@ -44,7 +44,7 @@ pub fn test_folder<R: Threads + Wait + Sync, F: FolderSource, O: Write, W: Runs>
     write(out, text.as_str(), found.status())
 }
 
-/// What was found of some programs.
+/// The results of some programs.
 #[derive(Drop)]
 struct Found {
     /// A line for each that failed.
@@ -54,7 +54,7 @@ struct Found {
 }
 
 impl Found {
-    /// One more: one that passed, or one that failed with this line.
+    /// Counts one more program: one that passed, or one that failed with this line.
     fn add(&mut self, line: &Option<String>) -> Result<(), Failure>
         ensures added { OnOk result (MatchOption line.now (AddsPassed self.old self.new)
             (λ l. AddsFailed l self.old self.new)) }
@@ -73,7 +73,7 @@ impl Found {
         }
     }
 
-    /// The lines, and behind them how many passed and failed.
+    /// Returns the lines, followed by how many passed and failed.
     fn text(&self, alloc: Global) -> Result<String, Failure>
         ensures text { IfOk result (λ text. string_bytes text
             ≡ string_bytes self.now.lines ++ closing self.now.passed self.now.failed) }
@@ -90,7 +90,7 @@ impl Found {
         }
     }
 
-    /// The exit status.
+    /// Returns the exit status.
     fn status(&self) -> u8
         ensures { result ≡ tested_status self.now.failed }
     {
@@ -98,7 +98,7 @@ impl Found {
     }
 }
 
-/// What is found of programs of a folder, one after the other.
+/// Runs these programs of a folder, one after the other.
 fn tested<R: Threads + Wait + Sync, F: FileSource, W: Runs>(
     rt: &R,
     alloc: Global,
@@ -128,7 +128,7 @@ fn tested<R: Threads + Wait + Sync, F: FileSource, W: Runs>(
     Ok(found)
 }
 
-/// A number of programs, and one more. One that is too large is told as want of memory.
+/// Adds 1 to a number. If the result is too large, reports that memory ran out.
 fn one_more(number: u64) -> Result<u64, Failure>
     ensures more { IfOk result (λ n. n ≡ number + 1) }
     ensures why { IfErr result (λ f. f ≡ Failure.NoMemory) }
@@ -150,7 +150,7 @@ fn add(lines: &mut String, line: &str) -> Result<(), Failure>
     }
 }
 
-/// Writes what was found.
+/// Writes the results.
 fn write<O: Write>(out: &mut O, text: &str, status: u8) -> Result<u8, Failure>
     ensures text { Writes (O.contents out.old) (O.contents out.new) result text.now }
     ensures status { IfOk result (λ s. s ≡ status) }

@@ -1,8 +1,8 @@
-//! How long something took.
+//! Durations.
 
 ghost use Rattle.trials.specs.Five.{AreOf};
 
-/// The least and the middle one of five times, in microseconds.
+/// The minimum and the median of five durations, in microseconds.
 #[derive(Clone, Copy, PartialEq, Eq, Debug)]
 pub struct Times {
     pub least: u64,
@@ -10,7 +10,7 @@ pub struct Times {
 }
 
 impl Times {
-    /// Those of these.
+    /// Returns the minimum and the median of these.
     pub fn of(times: [u64; 5]) -> Times
         ensures { AreOf times result.least result.median }
     {
@@ -23,7 +23,7 @@ impl Times {
     }
 }
 
-/// The times of the runs of a program: on one thread, and as tasks on 1, 2 and 4 workers.
+/// The durations of the runs of a program: serially, and in parallel on 1, 2 and 4 workers.
 #[derive(Clone, Copy, PartialEq, Eq, Debug)]
 pub struct Timed {
     pub serial: Times,

@@ -1,4 +1,4 @@
-//! `bench`: how long a program runs on one thread and as tasks.
+//! `bench`: how long a program runs serially and in parallel.
 
 ghost use Rattle.std.specs.Prelude.{◌≡◌, ◌≤◌, ◌++◌, IfErr, IfOk, OnOk};
 ghost use Rattle.std.specs.String.{string_bytes};
@@ -29,18 +29,18 @@ use std::sync::Wait;
 use std::thread::Threads;
 use types::input::Input;
 
-/// What times are taken with.
+/// What is needed to measure durations.
 #[derive(Drop)]
 pub struct Timing<'t, W, C> {
     pub alloc: Global,
-    /// Runs programs as tasks.
+    /// Runs programs in parallel.
     pub runs: &'t W,
     pub clock: &'t mut C,
 }
 
-/// Runs a program five times on one thread, and five times each as tasks on 1, 2 and 4 workers, and writes
-/// how long that took, how many tasks there were, and how many places are copied for them. Of a run that
-/// has faults or is stopped its outcome is written in their place; gives the exit status.
+/// Runs a program five times serially, and five times each in parallel on 1, 2 and 4 workers.
+/// Writes how long the runs took, how many tasks there were, and how many places are copied for
+/// them. If the run has faults or is stopped, writes its outcome instead. Returns the exit status.
 pub fn bench<R: Threads + Wait + Sync, F: FileSource, O: Write, W: Runs, C: Stopwatch>(
     rt: &R,
     timing: Timing<'_, W, C>,
@@ -70,7 +70,7 @@ pub fn bench<R: Threads + Wait + Sync, F: FileSource, O: Write, W: Runs, C: Stop
     }
 }
 
-/// What the run comes to, and costs.
+/// Returns the outcome and the cost of the run.
 fn measured(
     alloc: Global,
     accepted: &Accepted,
@@ -100,7 +100,7 @@ struct Job<'j> {
 }
 
 impl Job<'_> {
-    /// How long its runs take, a line each, and what one of them costs.
+    /// Returns how long its runs take, one line each, and what one of them costs.
     fn told<R: Threads + Wait + Sync, W: Runs, C: Stopwatch>(
         &self,
         rt: &R,
@@ -129,7 +129,7 @@ impl Job<'_> {
         }
     }
 
-    /// The times of five runs on one thread.
+    /// Returns the durations of five serial runs.
     fn on_one_thread<C: Stopwatch>(&self, clock: &mut C) -> Result<Times, Failure>
         requires { Fits self.now.accepted.now.typed self.now.input.now }
         ensures five { IfOk result AreOfFive }
@@ -144,7 +144,7 @@ impl Job<'_> {
         ]))
     }
 
-    /// The time of one.
+    /// Returns the duration of one serial run.
     fn once_on_one_thread<C: Stopwatch>(&self, clock: &mut C) -> Result<u64, Failure>
         requires { Fits self.now.accepted.now.typed self.now.input.now }
         ensures why { IfErr result (λ f. f ≡ Failure.NoMemory) }
@@ -161,7 +161,7 @@ impl Job<'_> {
         }
     }
 
-    /// The times of five runs as tasks on so many workers.
+    /// Returns the durations of five parallel runs on this many workers.
     fn as_tasks<R: Threads + Wait + Sync, W: Runs, C: Stopwatch>(
         &self,
         rt: &R,
@@ -183,7 +183,7 @@ impl Job<'_> {
         ]))
     }
 
-    /// The time of one.
+    /// Returns the duration of one parallel run.
     fn once_as_tasks<R: Threads + Wait + Sync, W: Runs, C: Stopwatch>(
         &self,
         rt: &R,
@@ -204,17 +204,17 @@ impl Job<'_> {
     }
 }
 
-/// The line of a run.
+/// Adds the line of a run.
 fn push_times(text: &mut String, run: &str, times: Times) -> Result<(), AllocError>
     ensures { OnOk result (string_bytes text.new
         ≡ string_bytes text.old ++ line_of_times run.now times) }
 {
     let least = times.least;
     let median = times.median;
-    write!(text, "{run}: least {least} us, median {median} us\n")
+    write!(text, "{run}: min {least} us, median {median} us\n")
 }
 
-/// How many tasks there were, and how many places are copied for them.
+/// Adds how many tasks there were, and how many places are copied for them.
 fn push_counts(text: &mut String, cost: &Cost) -> Result<(), AllocError>
     ensures { OnOk result (string_bytes text.new ≡ string_bytes text.old ++ counts cost.now) }
 {
@@ -223,7 +223,7 @@ fn push_counts(text: &mut String, cost: &Cost) -> Result<(), AllocError>
     write!(text, "tasks: {tasks}\ncopied places: {copied}\n")
 }
 
-/// A line for each of the times, and those counts.
+/// Returns a line for each of the durations, followed by those counts.
 fn text_of(alloc: Global, timed: &Timed, cost: &Cost) -> Result<String, AllocError>
     ensures { IfOk result (λ text. string_bytes text ≡ times_text timed.now cost.now) }
 {

@@ -1,4 +1,4 @@
-//! Whether a program of a folder tells what it should.
+//! Whether a program of a folder prints its expected output.
 
 ghost use Rattle.std.specs.Prelude.{◌≡◌, ◌++◌, codes, IfErr, IfOk, Ok};
 ghost use Rattle.std.specs.String.{string_bytes};
@@ -26,14 +26,14 @@ use texts::reasons::emit_file;
 use types::input::Input;
 use types::typed::Typed;
 
-/// A folder, and the names of all that stands in it.
+/// A folder, and the names of all its entries.
 #[derive(Clone, Copy)]
 pub struct Folder<'f> {
     pub name: &'f str,
     pub names: &'f [String],
 }
 
-/// A program of a folder, by what stands before `.afx` in the name of its file.
+/// A program of a folder, given by the part of its file name before `.afx`.
 #[derive(Clone, Copy)]
 pub struct Trial<'f> {
     pub folder: Folder<'f>,
@@ -41,7 +41,7 @@ pub struct Trial<'f> {
 }
 
 impl Trial<'_> {
-    /// The line of one that fails; None where it passes.
+    /// Returns the line of a program that fails, or None if it passes.
     pub fn line<R: Threads + Wait + Sync, F: FileSource, W: Runs>(
         &self,
         rt: &R,
@@ -63,7 +63,7 @@ impl Trial<'_> {
         }
     }
 
-    /// Whether it tells what its `.out` file holds.
+    /// Returns whether it prints the contents of its `.out` file.
     fn passes<R: Threads + Wait + Sync, F: FileSource, W: Runs>(
         &self,
         rt: &R,
@@ -83,7 +83,7 @@ impl Trial<'_> {
         }
     }
 
-    /// Whether the program of this text does.
+    /// Returns whether the program with this text does.
     fn tells_as_wanted<R: Threads + Wait + Sync, F: FileSource, W: Runs>(
         &self,
         rt: &R,
@@ -109,7 +109,8 @@ impl Trial<'_> {
         case.tells(rt, runs)
     }
 
-    /// What its arrays hold at first: what its `.json` file says, if the folder has one.
+    /// Returns the initial contents of its arrays: the lists in its `.json` file, if the folder has
+    /// one.
     fn input<F: FileSource>(
         &self,
         alloc: Global,
@@ -130,7 +131,7 @@ impl Trial<'_> {
         input_of(alloc, files, typed, Some(name.as_str()))
     }
 
-    /// Whether the folder has its `.json` file.
+    /// Returns whether the folder has its `.json` file.
     fn has_input(&self, alloc: Global) -> Result<bool, Failure>
         ensures has { let t = trial_of self.now in IfOk result
             (λ has. has ≡ has_name_of t.folder.names (t.stem ++ codes ".json")) }
@@ -143,7 +144,7 @@ impl Trial<'_> {
         }
     }
 
-    /// What its `.out` file holds.
+    /// Returns the contents of its `.out` file.
     fn wanted<F: FileSource>(&self, alloc: Global, files: &mut F) -> Result<Vec<u8>, Failure>
         ensures given { IfOk result (λ v. IsGiven
             (F.held files.old (file_of (trial_of self.now) (codes ".out"))) (Ok v.items)) }
@@ -155,7 +156,7 @@ impl Trial<'_> {
         read_file(alloc, files, name.as_str())
     }
 
-    /// The name of its file with this ending.
+    /// Returns the name of its file with this ending.
     fn file(&self, alloc: Global, ending: &str) -> Result<String, Failure>
         ensures name { IfOk result
             (λ name. string_bytes name ≡ file_of (trial_of self.now) ending.now) }
@@ -170,20 +171,20 @@ impl Trial<'_> {
     }
 }
 
-/// The line of a program that tells otherwise.
+/// Returns the line of a program whose output differs.
 fn otherwise(alloc: Global, stem: &str) -> Result<String, Failure>
     ensures line { IfOk result
-        (λ line. string_bytes line ≡ escaped stem.now ++ codes ".afx: tells otherwise\n") }
+        (λ line. string_bytes line ≡ escaped stem.now ++ codes ".afx: output differs\n") }
     ensures why { IfErr result (λ f. f ≡ Failure.NoMemory) }
 {
     let shown = shown_of(alloc, stem)?;
-    match format!(in alloc; "{shown}.afx: tells otherwise\n") {
+    match format!(in alloc; "{shown}.afx: output differs\n") {
         Ok(line) => Ok(line),
         Err(AllocError) => Err(Failure::NoMemory),
     }
 }
 
-/// The line of a program that isn't compared.
+/// Returns the line of a program that can't be compared.
 fn failed(alloc: Global, stem: &str, failure: &Failure) -> Result<String, Failure>
     ensures line { IfOk result (λ line. string_bytes line
         ≡ escaped stem.now ++ (codes ".afx: " ++ (failure_text failure.now ++ codes "\n"))) }
@@ -197,7 +198,7 @@ fn failed(alloc: Global, stem: &str, failure: &Failure) -> Result<String, Failur
     }
 }
 
-/// A name of a folder, in which nothing steers a terminal.
+/// Returns a name of a folder, with control characters escaped.
 fn shown_of(alloc: Global, name: &str) -> Result<String, Failure>
     ensures text { IfOk result (λ text. string_bytes text ≡ escaped name.now) }
     ensures why { IfErr result (λ f. f ≡ Failure.NoMemory) }
@@ -209,7 +210,7 @@ fn shown_of(alloc: Global, name: &str) -> Result<String, Failure>
     text_of(bytes)
 }
 
-/// The line that tells a failure, with its line feed.
+/// Returns the message of a failure, with its newline.
 fn message_of(alloc: Global, failure: &Failure) -> Result<String, Failure>
     ensures text { IfOk result (λ text. string_bytes text ≡ failure_text failure.now ++ codes "\n") }
     ensures why { IfErr result (λ f. f ≡ Failure.NoMemory) }
@@ -221,14 +222,14 @@ fn message_of(alloc: Global, failure: &Failure) -> Result<String, Failure>
     text_of(bytes)
 }
 
-/// The text that these bytes are.
+/// Returns the text that these bytes are.
 fn text_of(bytes: Vec<u8>) -> Result<String, Failure>
     ensures text { IfOk result (λ text. string_bytes text ≡ bytes.items) }
     ensures why { IfErr result (λ f. f ≡ Failure.NoMemory) }
 {
     match String::from_utf8(bytes) {
         Ok(text) => Ok(text),
-        // No clause says that they are one; they are put together of texts.
+        // No contract states that they are UTF-8; they consist of texts.
         Err(_) => Err(Failure::NoMemory),
     }
 }

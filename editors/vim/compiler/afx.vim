@@ -1,4 +1,4 @@
-" `:compiler afx`, then `:make`: what `afx check` refuses, by the object that it writes with `--format json`.
+" `:compiler afx`, then `:make`: the errors of `afx check`, from the object that it prints with `--format json`.
 if exists("current_compiler")
   finish
 endif

@@ -77,7 +77,7 @@ const SOURCES: &[Source] = &[
     Source {
         words: "completions fish",
         begin: "\ncomplete -c afx -n '__fish_seen_subcommand_from COMMAND'",
-        end: "Prints help",
+        end: "Print help",
         mark: " -l ",
         a_line: usize::MAX,
         with_help: true,

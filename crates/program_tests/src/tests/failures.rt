@@ -80,7 +80,7 @@ const PLAIN: &[(Plain, &str)] = &[
     (Plain::StrangeEvents, "E5"),
     (Plain::ChoicesNotUnderstood, "choices not understood"),
     (Plain::NoLeaf(5), "no leaf at choice 5"),
-    (Plain::NotLaidOut, "not laid out"),
+    (Plain::NotLaidOut, "not formatted"),
     (Plain::CannotWriteOutput, "cannot write output"),
     (Plain::NoMemory, "no memory"),
 ];

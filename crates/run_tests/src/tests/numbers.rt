@@ -33,9 +33,9 @@ steps: 61
 span: 17
 parallelism: 3.58
 steals: 0
-replenishings: 0
+replenishments: 0
 deepest nest: 3
-most tasks alive: 4
+most live tasks: 4
 steps of worker 0: 61
 ";
 

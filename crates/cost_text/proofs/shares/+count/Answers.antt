@@ -6,7 +6,7 @@ use Rattle.types.proofs.Blocks.{code_If, code_While, code_Split, code_Async, cod
 use Rattle.cost_text.specs.Shares.{share_inside, share_of}
 use Rattle.cost_text.proofs.shares.+count.Goals as goal
 
--- of a statement with one block, as far as 64 bits hold it
+-- for a statement with one block, if the total fits in 64 bits
 one_block : (ns : List ℕ) (n : ℕ) (b items : List Stmt) (c : Code) → n ≡ min (share_of ns (codes b)) 18446744073709551615 → b ≡ items
     → share_inside ns c ≡ share_of ns (codes items) → n ≡ min (share_inside ns c) 18446744073709551615
 one_block ns n b items c block same inside =

@@ -3,7 +3,7 @@ use Rattle.types.specs.Translation.{codes}
 use Rattle.cost_text.specs.Shares.{share_of}
 use Rattle.cost_text.proofs.shares.+count.Given as goal
 
--- with those that are left, there is as much as there was
+-- the count and what is left add up to the total
 abbrev pub invariant-in_block-loop-stmt : goal.invariant-in_block-loop-stmt
 invariant-in_block-loop-stmt l =
     (min (l.sum + share_of l.table (codes (drop l.stmt-index l.block))) 18446744073709551615

@@ -2,7 +2,7 @@ use Rattle.std.proofs.Common.{◌≡◌, length}
 use Rattle.intake.specs.Choices.{nothing_read, read_of_file, reading_of}
 use Rattle.intake.proofs.choices.filed.Given as goal
 
--- what was read and what is left say what all bytes say
+-- what was read and what is left give what all bytes give
 abbrev pub invariant-bytes : goal.invariant-bytes
 invariant-bytes l = read_of_file (reading_of l.reading) l.left ≡ read_of_file nothing_read l.fn.bytes
 

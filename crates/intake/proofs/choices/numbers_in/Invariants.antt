@@ -2,7 +2,7 @@ use Rattle.std.proofs.Common.{◌≡◌, length}
 use Rattle.intake.specs.Choices.{nothing_read, read_from, reading_of}
 use Rattle.intake.proofs.choices.numbers_in.Given as goal
 
--- what was read and what is left say what the whole text says
+-- what was read and what is left give what the whole text gives
 abbrev pub invariant-bytes : goal.invariant-bytes
 invariant-bytes l = read_from (reading_of l.reading) l.left ≡ read_from nothing_read l.fn.text
 

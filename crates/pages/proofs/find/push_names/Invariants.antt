@@ -4,7 +4,7 @@ use Rattle.std.specs.String.{string_bytes}
 use Rattle.pages.specs.Pages.{spaced_name}
 use Rattle.pages.proofs.find.push_names.Given as goal
 
--- what stands there, and the pages that are left
+-- the text so far, and the pages that are left
 abbrev pub invariant-loop-table : goal.invariant-loop-table
 invariant-loop-table l =
     string_bytes l.text ++ flat_map (λ table. flat_map spaced_name table.now) (drop l.table-index l.tables)

@@ -3,7 +3,7 @@ use Rattle.types.specs.Statements.{statements}
 use Rattle.types.specs.Translation.{codes}
 use Rattle.texts.proofs.labels.+count.Given as goal
 
--- with those that are left, there are as many as there were
+-- the count and those that are left add up to the total
 abbrev pub invariant-in_block-loop-stmt : goal.invariant-in_block-loop-stmt
 invariant-in_block-loop-stmt l =
     (min (l.sum + statements (codes (drop l.stmt-index l.block))) 18446744073709551615

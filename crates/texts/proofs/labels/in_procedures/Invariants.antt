@@ -3,7 +3,7 @@ use Rattle.types.specs.Translation.{procedure}
 use Rattle.texts.specs.Labels.{labels_in_procedures}
 use Rattle.texts.proofs.labels.in_procedures.Given as goal
 
--- with those that are left, there are as many as there were
+-- the count and those that are left add up to the total
 abbrev pub invariant-loop-procedure : goal.invariant-loop-procedure
 invariant-loop-procedure l =
     (min (l.sum + labels_in_procedures (map procedure (drop l.procedure-index l.procedures))) 18446744073709551615

@@ -3,7 +3,7 @@ use Rattle.std.specs.String.{string_bytes}
 use Rattle.trace_numbers.specs.Text.{summary_text, worker_lines}
 use Rattle.trace_numbers.proofs.text.summary_text.Given as goal
 
--- what was written, and the lines to come
+-- what was written, and the lines that are left
 abbrev pub invariant-loop-number : goal.invariant-loop-number
 invariant-loop-number l =
     string_bytes l.text ++ worker_lines l.workers l.number (drop l.number l.summary.by_worker.items)

@@ -4,7 +4,7 @@ use Rattle.std.specs.String.{string_bytes}
 use Rattle.trials.specs.Trials.{stem}
 use Rattle.trials.proofs.stems.unordered.Given as goal
 
--- what was found, and what is to come
+-- what was found, and what is left
 abbrev pub invariant-loop-name : goal.invariant-loop-name
 invariant-loop-name l =
     map string_bytes l.stems.items ++ flat_map stem (map string_bytes (drop l.name-index l.names))

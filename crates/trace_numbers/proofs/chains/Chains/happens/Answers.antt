@@ -6,7 +6,7 @@ use Rattle.trace_numbers.specs.Tables.{Shows}
 use Rattle.trace_numbers.specs.declared.chains.Chains.{Chains}
 use Rattle.trace_numbers.proofs.chains.Chains.happens.Goals as goal
 
--- what comes of an event comes of one that is the same
+-- what follows from an event follows from an equal one
 module _ {T E : Type 0} (r : Result T E) (old new : Chains) where
   as_it : {e other : Event} → e ≡ other → OnOk r ((x : AnyChains) → Shows old x → Shows new (chained other x))
       → OnOk r ((x : AnyChains) → Shows old x → Shows new (chained e x))
