@@ -15,7 +15,8 @@ import pathlib
 import sys
 import tempfile
 
-from rows import DATA, lay_out, read_table, run
+sys.dont_write_bytecode = True
+from rows import DATA, lay_out, read_table, run  # noqa: E402
 
 TAKES_VALUE = ("--input", "--steps", "--nest", "--w0")
 MOST_EVENTS = 20_000
