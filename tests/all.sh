@@ -40,8 +40,6 @@ part() {
 
 part 'exit statuses and small stacks' sh tests/program.sh
 part 'rows of command lines' python3 tests/rows.py
-part 'children first' python3 tests/child_first.py
-part 'threads' sh tests/threads.sh
 part 'cookbook' sh tests/cookbook.sh
 part 'editor words' sh tests/editor_words.sh
 part 'schedules' sh tests/schedules.sh 3 60

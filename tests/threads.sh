@@ -1,7 +1,7 @@
 #!/bin/sh
 # Counts the threads that commands start. No contract states on how many threads `bench` and `test` run a program: the
 # outcome is the same on any number. `bench` runs it five times each as `run` does with 1, 2 and 4 workers, and `test` once
-# each with 1 and 4. So they start as many threads as these runs do. tests/all.sh runs it. Needs a C compiler: CC, `cc` or the
+# each with 1 and 4. So they start as many threads as these runs do. Needs a C compiler: CC, `cc` or the
 # kit's. Prints each number that differs; the last line is `N passed, M failed`, and the status is 1 if one failed.
 #     sh tests/threads.sh      AFX='./afx' names another program, RT another rt
 set -eu

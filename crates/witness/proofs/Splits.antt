@@ -219,13 +219,13 @@ module _ (origins : List Origin) where
         let up : b ≤ s = part_above h in
         let below : s < a = parent_below origins numbered s a i in
         overlap-walks origins numbered b a s (omega (arith, up, below)) i (false_from_ne_true (are_opposite origins b a) (λ o.
-            elim (opposite_cases origins b a o) [
-              | inl t ↦
-                  (let own : t.parent < b = parent_below origins numbered t.parent b (left t.left_of) in
-                  let same : s ≡ t.parent = one_parent i (right t.right_of) in
-                  omega (arith, own, same, up))
-              | inr t ↦ (let turn : b ≡ a + 1 = t.turn in omega (arith, turn, up, below))
-            ])) ∙ part_overlaps h
+        elim (opposite_cases origins b a o) [
+          | inl t ↦
+              (let own : t.parent < b = parent_below origins numbered t.parent b (left t.left_of) in
+              let same : s ≡ t.parent = one_parent i (right t.right_of) in
+              omega (arith, own, same, up))
+          | inr t ↦ (let turn : b ≡ a + 1 = t.turn in omega (arith, turn, up, below))
+        ])) ∙ part_overlaps h
 
     pub shared_overlap : (a b : ℕ) (why : Sharing) → Shares origins a b why → overlap origins a b ≡ true
     shared_overlap a b why (Shares.same e) = subst (λ q. overlap origins a q ≡ true) e (overlap-self origins numbered a)
@@ -279,9 +279,11 @@ module _ (origins : List Origin) where
             | inl e ↦ (SecondIsPart, Shares.second_is_part other (subst (LiesIn origins b) (sym e) near.second))
             | inr up ↦ elim (cases_eq b found.0) [
               | inl e ↦ (FirstIsPart, Shares.first_is_part other (subst (LiesIn origins a) (sym e) near.first))
-              | inr over ↦
-                  (OfSplits (record { number = found.0 }), apart_at_nearest a b found.0
-                  (λ m. over (one_part (near.nearest b m LiesIn.itself) near.second)) (λ m. up (one_part (near.nearest a LiesIn.itself m) near.first)) h near)
+              | inr over ↦ (
+                OfSplits (record { number = found.0 }),
+                apart_at_nearest a b found.0
+                    (λ m. over (one_part (near.nearest b m LiesIn.itself) near.second)) (λ m. up (one_part (near.nearest a LiesIn.itself m) near.first)) h near,
+              )
             ]
           ])
     ]

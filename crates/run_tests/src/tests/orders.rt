@@ -18,7 +18,9 @@ use types::input::Input;
 use types::path::Path;
 
 /// Programs whose runs all end within 60 steps per task, or are stopped by then.
-const PROGRAMS: [&str; 7] = [DOUBLING, FAULTS, HALVES, NESTED, OUTLIVED, STOPPING, TWO_ARRAYS];
+const PROGRAMS: [&str; 7] = [
+    DOUBLING, FAULTS, HALVES, NESTED, OUTLIVED, STOPPING, TWO_ARRAYS,
+];
 
 /// Returns the events of a random walk of a run on zeros, with one worker or more.
 fn walked(
@@ -47,7 +49,10 @@ fn walks_depend_on_their_seeds(rt: HostRuntime) {
                 others = others.saturating_add(1);
             }
         }
-        assert!(rt; others > 24, "{others} of 49 walks of {text} differ from the first");
+        assert!(rt;
+            others > 24,
+            "{others} of 49 walks of {text} differ from the first"
+        );
         let again = walked(&rt, alloc, &program, 4, 0);
         assert!(rt; again == first, "two walks of {text} with one seed");
     }
