@@ -4,7 +4,6 @@ mod costs;
 mod drawn;
 mod logged_runs;
 mod numbers;
-mod orders;
 mod outcomes_of_tasks;
 mod pieces;
 mod progress_lines;
