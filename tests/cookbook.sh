@@ -29,7 +29,7 @@ inside { print >(folder "/" name ".afx") }' $page
 for file in "$folder"/*.afx; do
     name=$(basename "$file")
     grep -v '^//' "examples/$name" >"$folder/own" || true
-    count "$name isn't what stands in examples/" cmp -s "$file" "$folder/own"
+    count "$name differs from the file in examples/" cmp -s "$file" "$folder/own"
     count "$name is refused" $afx check "$file" >/dev/null
 done
 
