@@ -1,10 +1,15 @@
 #!/bin/sh
 # Tries the mutants that no contract excludes. A contract states what an Ok means and nothing about time, so these bodies
 # are proved. They are the edits tests/bodies/*.edit, in the form of wrong bodies, with each file named from the top folder.
-# Each edit is applied to a copy of the crates. One of the tests of `run_tests`, unproved, must then fail, and not because
-# it takes too long: the mutant is caught. Without an edit all tests must pass. Arguments are names of edits; without any,
-# all are tried. Each takes a minute or two. The last line is `N caught, M not`; the status is 1 if one isn't caught.
-# Not part of CI.
+# Each edit is applied to a copy of the crates, which are then run unproved. The mutant is caught if something shows it:
+#
+# - One of the tests of `run_tests` fails, and not because it takes too long. Without an edit all tests must pass.
+# - If the edit has a line `try: CRATE ARGUMENT..`: the program of that crate, with these arguments, prints something else or
+#   ends with another status than without the edit. `fault.afx` is tests/bodies/fault.afx.
+#
+# Arguments are names of edits; without any, all are tried. Each takes a minute or more. The last line is `N caught, M not`;
+# the status is 1 if one isn't caught. Not part of CI. The edits in tests/bodies/built are caught only by scripts over a built
+# program: tests/threads.sh and tests/program.sh. They aren't tried here.
 set -eu
 cd "$(dirname "$0")/.."
 top=$PWD
@@ -19,6 +24,8 @@ import sys
 edit, folder = sys.argv[1:]
 for line in open(edit):
     word, _, text = line.rstrip("\n").partition(": ")
+    if word == "try":
+        continue
     if word == "file":
         path = f"{folder}/{text}"
     elif word == "old":
@@ -26,7 +33,7 @@ for line in open(edit):
     else:
         body = open(path).read()
         if body.count(old) != 1:
-            sys.exit(f"{edit}: {old!r} stands {body.count(old)} times")
+            sys.exit(f"{edit}: {old!r} appears {body.count(old)} times")
         open(path, "w").write(body.replace(old, text))
 PYTHON
 }
@@ -49,11 +56,44 @@ as_they_stand() {
     tar -cf - --exclude=out --exclude=must-fail crates crates.txt HANDLES | tar -xf - -C "$1"
 }
 as_they_stand "$room/as_it_is"
-tested "$room/as_it_is"
-grep -q '^test result: ok' "$room/as_it_is/log" || {
-    tail -20 "$room/as_it_is/log"
-    echo "the tests fail without an edit, so nothing was tried"
-    exit 1
+
+# The tests must pass without an edit. Runs them once, before the first edit that they are to catch.
+tested_as_it_is() {
+    [ ! -e "$room/as_it_is/log" ] || return 0
+    tested "$room/as_it_is"
+    grep -q '^test result: ok' "$room/as_it_is/log" || {
+        tail -20 "$room/as_it_is/log"
+        echo "the tests fail without an edit, so nothing was tried"
+        exit 1
+    }
+}
+
+# printed FOLDER CRATE ARGUMENT..: what a crate's program prints, and its status. Empty if it doesn't compile or end.
+printed() (
+    cd "$1/crates/$2"
+    shift 2
+    timeout 1200 rt try --seconds 600 --data fault.afx="$top/tests/bodies/fault.afx" -- "$@" >"$room/out" 2>"$room/err" || true
+    grep -q '^run=ended' "$room/out" "$room/err" || exit 0
+    grep -hvE '^(races|checked|interpreter|allocations): ' "$room/out" "$room/err"
+)
+
+# shown_by_tests FOLDER: the tests that catch the edit of a folder, if any.
+shown_by_tests() {
+    tested_as_it_is
+    tested "$1"
+    # The tests must have run: a mutant that doesn't compile shows nothing.
+    failed "$1"
+}
+
+# shown_by_program FOLDER CRATE ARGUMENT..: the program that catches the edit of a folder, or nothing.
+shown_by_program() {
+    folder=$1
+    shift
+    printed "$room/as_it_is" "$@" >"$folder/wanted"
+    printed "$folder" "$@" >"$folder/log"
+    if [ -s "$folder/wanted" ] && [ -s "$folder/log" ] && ! cmp -s "$folder/wanted" "$folder/log"; then
+        echo "$*"
+    fi
 }
 
 caught=0
@@ -62,9 +102,12 @@ for name in "$@"; do
     copy=$room/$name
     as_they_stand "$copy"
     apply "$top/tests/bodies/$name.edit" "$copy"
-    tested "$copy"
-    # The tests must have run: a mutant that doesn't compile shows nothing.
-    names=$(failed "$copy")
+    way=$(sed -n 's/^try: //p' "$top/tests/bodies/$name.edit")
+    if [ -n "$way" ]; then
+        names=$(shown_by_program "$copy" $way)
+    else
+        names=$(shown_by_tests "$copy")
+    fi
     if [ -n "$names" ]; then
         echo "$name: caught by $names"
         caught=$((caught + 1))

@@ -2,7 +2,8 @@
 # Runs the built program `afx` once for each exit status from 0 to 4, and compares its status, its standard output and its
 # standard error with docs/FORMATS.md. No contract specifies with which status `main` ends, and `rt ci` runs only programs
 # that end with 0. (No arguments are known that lead to status 5.) Also runs it once for the explanation of an input on
-# standard input, which rows don't cover, and five times for step trees that are deep or wide, with a small stack.
+# standard input, which rows don't cover, a few times for files and times that no contract specifies, and five times for step
+# trees that are deep or wide, with a small stack.
 # `./afx` makes the program first if it has to. Prints a line for each run that went wrong; the last line is
 # `N passed, M failed`, and the status is 1 if one failed. tests/all.sh runs it.
 #     sh tests/program.sh      AFX='./afx' names another program
@@ -45,6 +46,10 @@ expect 4 '' 'E2' run - <<'END'
 main { var k = 0; while k < 65536 { async { skip; } k = k + 1; } }
 END
 
+$afx --help >"$room/help"
+expect 0 "$(cat "$room/help")" '' help --help
+expect 0 "$(cat "$room/help")" '' help -h
+
 echo 'main { array q: int[3]; print q[0]; }' >"$room/q.afx"
 expect 1 '' 'N4 q
 
@@ -53,6 +58,32 @@ help: write one number for each element; an omitted array starts with zeros.' \
     run "$room/q.afx" --input - --explain <<'END'
 {"q": [1, 2]}
 END
+
+# A trace as a picture and as spans: no contract states what these files show.
+expect 0 '7 8' '' run examples/two_arrays.afx --trace "$room/run.trace"
+expect 0 '' '' view examples/two_arrays.afx "$room/run.trace" --svg "$room/run.svg"
+expect 0 '' '' view examples/two_arrays.afx "$room/run.trace" --chrome "$room/run.json"
+begins() {
+    if [ "$(head -c ${#2} "$1")" = "$2" ]; then
+        passed=$((passed + 1))
+    else
+        failed=$((failed + 1))
+        echo "$1 doesn't begin with $2"
+    fi
+}
+begins "$room/run.svg" '<svg '
+begins "$room/run.json" '{"traceEvents":['
+
+# `bench` reads the clock before and after each run: ten million steps take more than a millisecond.
+echo 'main { var k = 0; while k < 5000000 { k = k + 1; } }' >"$room/slow.afx"
+$afx bench "$room/slow.afx" --steps 20000000 >"$room/times"
+slow=$(sed -n 's/^.*: min \([0-9]*\) us, .*$/\1/p' "$room/times" | awk '$1 >= 1000' | wc -l)
+if [ "$slow" -eq 4 ]; then
+    passed=$((passed + 1))
+else
+    failed=$((failed + 1))
+    echo "bench: not four times of a millisecond or more in '$(cat "$room/times")'"
+fi
 
 # Choices, with a small stack: always the leftmost leaf, always the owner, back and forth between the first and the last
 # of 20,000 tasks, 20,000 tasks in one finish, and nested finishes.

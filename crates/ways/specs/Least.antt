@@ -7,11 +7,12 @@ module _ {A : Type 0} (size : A → ℕ) where
   AtMost None n = ⊥
   AtMost (Some a) n = size a ≤ n
 
-  -- one of two optional values, and no larger than either
+  -- one of two optional values, no larger than either: the first, if the other isn't smaller
   pub record IsLesserOf (one other found : Option A) : Type 0 where
     pub either : (found ≡ one) ⊎ (found ≡ other)
     pub first : (n : ℕ) → AtMost one n → AtMost found n
     pub second : (n : ℕ) → AtMost other n → AtMost found n
+    pub kept : (a b : A) → one ≡ Some a → other ≡ Some b → size a ≤ size b → found ≡ one
 
   -- one of those values, and no other of a covered size is smaller
   pub record IsLeast (covered : ℕ → Type 0) (those : A → Type 0) (found : Option A) : Type 0 where

@@ -1,13 +1,14 @@
 -- The result for a race, from the shortest ways that meet in both directions.
-use Rattle.std.proofs.Common.{◌≡◌, ◌⊎◌, inl, inr, ℕ, ◌+◌, ◌≤◌, length, refl, sym, subst, arith, true≢false}
+use Rattle.std.proofs.Common.{◌≡◌, ◌⊎◌, inl, inr, ℕ, ◌+◌, ◌<◌, ◌≤◌, length, refl, sym, ◌∙◌, ap, subst, arith, true≢false}
+use Rattle.std.proofs.lemmas.Bool.{cases_lt}
 use Rattle.std.specs.Prelude.{Bool, true, false, Option, None, Some}
 use Rattle.types.specs.Code.{Codes, Program}
 use Rattle.effects.specs.Sound.{IsSound}
 use Rattle.race_checker.specs.Races.{Race, IsRace, numbered}
-use Rattle.witness.specs.Crossed.{Crossed, MeetIn, both, crossed, toward}
+use Rattle.witness.specs.Crossed.{Crossed, MeetIn, both, crossed, plain, toward}
 use Rattle.ways.specs.Least.{AtMost, IsLesserOf, IsLeast, all_covered}
 use Rattle.witness.specs.Meets.{Meets}
-use Rattle.witness.specs.Witness.{IsShortest, ShowIn, pending_one, later_one}
+use Rattle.witness.specs.Witness.{IsShortest, PrefersFirst, PrefersThese, ShowIn, pending_one, later_one}
 use Rattle.witness.specs.declared.crossing.Crossing.{Crossing}
 use Rattle.witness.specs.declared.witness.Witness.{Witness}
 use Rattle.ways.proofs.Leasts.{least_either}
@@ -76,4 +77,53 @@ found_fewest p r b w d e same h = record {
       h.least (f, record { meeting = kind; pending = one; later = other })
       (subst (λ (c : Codes). Meets p c kind one other (pending_one f r) (later_one f r)) e m) tt in
       omega (arith, fewer, same);
+}
+
+abbrev direction : Option (Bool × Crossed) → Bool
+direction None = false
+direction (Some d) = d.0
+
+abbrev steps_of : Option (Bool × Crossed) → ℕ
+steps_of None = 0
+steps_of (Some d) = size d
+
+-- of two as short the first direction is found
+pub prefers_forth : (those : Crossed → Type 0) (one other : Option Crossing) (found : Option (Bool × Crossed))
+    → IsLesserOf size (toward true one) (toward false other) found
+    → IsLeast both all_covered those (crossed one) → PrefersThese those found
+prefers_forth those None other found l h = record { more = λ d is back c m. absurd (h.least c m tt) }
+prefers_forth those (Some a) other found l h = record { more = more }
+  where
+    not_forth : (d : Bool × Crossed) → found ≡ Some d → d.0 ≡ false → found ≡ Some (true, plain a) → ⊥
+    not_forth d is back e = true≢false (ap direction (sym e ∙ is) ∙ back)
+
+    fewer : (o : Option Crossing) → (found ≡ toward false o)
+        → ((x y : Bool × Crossed) → Some (true, plain a) ≡ Some x → toward false o ≡ Some y → size x ≤ size y → found ≡ Some (true, plain a))
+        → (d : Bool × Crossed) → found ≡ Some d → d.0 ≡ false → size d < both (plain a)
+    fewer None e kept d is back = let k : None ≡ Some d = sym e ∙ is in absurd cc
+    fewer (Some b) e kept d is back =
+        let same : both (plain b) ≡ size d = ap steps_of (sym e ∙ is) in
+        elim (cases_lt (both (plain b)) (both (plain a))) [
+          | inl less ↦ omega (arith, same, less)
+          | inr most ↦ absurd (not_forth d is back (kept (true, plain a) (false, plain b) refl refl most))
+        ]
+
+    more : (d : Bool × Crossed) → found ≡ Some d → d.0 ≡ false → (c : Crossed) → those c → both d.1 < both c
+    more d is back c m =
+        let least : both (plain a) ≤ both c = h.least c m tt in
+        elim l.either [
+          | inl e ↦ absurd (not_forth d is back e)
+          | inr e ↦ (let less : size d < both (plain a) = fewer other e l.kept d is back in omega (arith, less, least))
+        ]
+
+-- the witness that is found
+pub prefers_first : (p : Program) (r : Race) (b : Codes) (w : Witness) (d : Bool × Crossed) → (numbered p r.procedure).body ≡ b
+    → w.first_pends ≡ d.0 → both d.1 ≡ length w.pending.items + length w.later.items
+    → PrefersThese (MeetIn p b r.first r.second) (Some d) → PrefersFirst p r w
+prefers_first p r b w d e way same h = record {
+  more = λ back kind one other m.
+      let less : both d.1 < length one + length other =
+      h.more d refl (sym way ∙ back) (record { meeting = kind; pending = one; later = other })
+      (subst (λ (c : Codes). Meets p c kind one other r.first r.second) e m) in
+      omega (arith, less, same);
 }

@@ -3,3 +3,4 @@ pub mod Crossings
 mod Examples
 pub mod Parts
 pub mod Showing
+pub mod Splits

@@ -11,12 +11,12 @@ use Rattle.witness.specs.Sharing.{LiesIn}
 
 module _ (origins : List Origin) where
   -- a part is a side of something that lies there
-  record SideThere (a b : ℕ) : Type 0 where
-    parent : ℕ
-    is_side : IsSideOf origins parent a
-    lies : LiesIn origins parent b
+  pub record SideThere (a b : ℕ) : Type 0 where
+    pub parent : ℕ
+    pub is_side : IsSideOf origins parent a
+    pub lies : LiesIn origins parent b
 
-  lies_cases : {a b : ℕ} → LiesIn origins a b → (a ≡ b) ⊎ SideThere a b
+  pub lies_cases : {a b : ℕ} → LiesIn origins a b → (a ≡ b) ⊎ SideThere a b
   lies_cases LiesIn.itself = inl refl
   lies_cases (LiesIn.side {a} {s} {b} i h) = inr (record { parent = s; is_side = i; lies = h })
 
@@ -79,15 +79,7 @@ module _ (origins : List Origin) (numbered : IsNumbered origins) where
       | inr apart ↦ overlap-sym origins s low ∙ sym (above_right origins numbered low high order s e apart) ∙ h
     ]
 
-    side_overlap : (s : ℕ) → IsSideOf origins s high → overlap origins low high ≡ true
+    pub side_overlap : (s : ℕ) → IsSideOf origins s high → overlap origins low high ≡ true
         → overlap origins s low ≡ true
     side_overlap s (IsSideOf.left e) h = left_overlap s e h
     side_overlap s (IsSideOf.right e) h = right_overlap s e h
-
-    pub low_lies : (s r : ℕ) → IsSideOf origins s high → (overlap origins s low ≡ true → LiesIn origins low r)
-        → overlap origins low high ≡ true → LiesIn origins low r
-    low_lies s r side down h = down (side_overlap s side h)
-
-    pub high_lies : (s r : ℕ) → IsSideOf origins s high → (overlap origins s low ≡ true → LiesIn origins s r)
-        → overlap origins low high ≡ true → LiesIn origins high r
-    high_lies s r side up h = LiesIn.side side (up (side_overlap s side h))

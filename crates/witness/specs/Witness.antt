@@ -1,9 +1,10 @@
 -- The witness of a race.
-use Rattle.std.specs.Prelude.{◌+◌, ◌≤◌, Bool, List, length, if◌then◌else◌}
+use Rattle.std.specs.Prelude.{◌≡◌, ◌+◌, ◌<◌, ◌≤◌, Bool, false, true, List, length, Option, Some}
+use Rattle.std.specs.Prelude.{if◌then◌else◌}
 use Rattle.types.specs.Code.{Codes, Program}
 use Rattle.effects.specs.Accesses.{Access}
 use Rattle.race_checker.specs.Races.{Race, numbered}
-use Rattle.witness.specs.Crossed.{Crossed, MeetIn}
+use Rattle.witness.specs.Crossed.{Crossed, MeetIn, both}
 use Rattle.witness.specs.Sharing.{Shares}
 use Rattle.witness.specs.Meets.{Meets}
 use Rattle.witness.specs.declared.crossing.Meeting.{Meeting}
@@ -46,3 +47,14 @@ pub record IsShortest (p : Program) (r : Race) (w : Witness) : Type 0 where
   pub fewest : (first_pends : Bool) (kind : Meeting) (pending later : List Step)
       → Shows p r first_pends kind pending later
       → length w.pending.items + length w.later.items ≤ length pending + length later
+
+-- the first access is the one left pending, unless all ways that leave it pending have more steps
+pub record PrefersFirst (p : Program) (r : Race) (w : Witness) : Type 0 where
+  pub more : w.first_pends ≡ false → (kind : Meeting) (pending later : List Step)
+      → Shows p r true kind pending later
+      → length w.pending.items + length w.later.items < length pending + length later
+
+-- ways that leave the second access pending are found only if all these have more steps
+pub record PrefersThese (those : Crossed → Type 0) (found : Option (Bool × Crossed)) : Type 0 where
+  pub more : (d : Bool × Crossed) → found ≡ Some d → d.0 ≡ false → (c : Crossed) → those c
+      → both d.1 < both c

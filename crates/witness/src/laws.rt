@@ -1,15 +1,21 @@
 //! Theorems about the definitions. Each is the contract of a function that does nothing.
 
-ghost use Rattle.std.specs.Prelude.{◌≤◌, List, false, length, true};
+ghost use Rattle.std.specs.Prelude.{◌≡◌, ◌≤◌, ◌↔◌, ℕ, List, false, length, true};
 ghost use Rattle.effects.specs.Accesses.{Access};
 ghost use Rattle.effects.specs.Effects.{accesses, All, Pending};
 ghost use Rattle.effects.specs.Sound.{IsSound};
+ghost use Rattle.sections.specs.Origins.{IsNumbered, Origin};
+ghost use Rattle.sections.specs.Overlap.{overlap};
+ghost use Rattle.sections.specs.declared.id.SectionId.{SectionId as TheSectionId};
 ghost use Rattle.types.specs.Code.{Codes, Program};
 ghost use Rattle.race_checker.specs.Races.{IsRace, Race};
 ghost use Rattle.parallel_relation.specs.Together.{Together};
 ghost use Rattle.ways.specs.Ways.{Way};
 ghost use Rattle.witness.specs.Meets.{Meets};
 ghost use Rattle.witness.specs.declared.crossing.Meeting.{Meeting};
+ghost use Rattle.witness.specs.Sharing.{IsNearest, LiesIn, Shares};
+ghost use Rattle.witness.specs.declared.sharing.Sharing.{Sharing as TheSharing};
+ghost use Rattle.witness.specs.declared.sharing.Sharing.TheVariants.{OfSplits};
 ghost use Rattle.witness.specs.Witness.{IsShortest, IsShown, Shows};
 ghost use Rattle.ways.specs.declared.step.Step.{Step};
 ghost use Rattle.witness.specs.declared.witness.Witness.{Witness as TheWitness};
@@ -40,4 +46,17 @@ pub fn each_way_is_shortest()
     ensures later { (p : Program) (r : Race) (w : TheWitness) (way : List Step) → IsShortest p r w
         → Shows p r w.first_pends w.meeting w.pending.items way
         → length w.later.items ≤ length way }
+{}
+
+/// States that two sections share places for one of the reasons exactly if they overlap. They lie in
+/// sides of different splits of a third exactly if, too, neither is a part of the other. The third
+/// is then the nearest section of which both are parts.
+pub fn reasons_to_share_places()
+    ensures shared { (origins : List Origin) → IsNumbered origins → (a b : ℕ)
+        → ((why : TheSharing) × Shares origins a b why) ↔ (overlap origins a b ≡ true) }
+    ensures of_splits { (origins : List Origin) → IsNumbered origins → (a b : ℕ)
+        → ((s : TheSectionId) × Shares origins a b (OfSplits s))
+        ↔ ((overlap origins a b ≡ true) × (LiesIn origins a b → ⊥) × (LiesIn origins b a → ⊥)) }
+    ensures nearest { (origins : List Origin) → IsNumbered origins → (a b : ℕ) (s : TheSectionId)
+        → Shares origins a b (OfSplits s) → IsNearest origins a b s.number }
 {}

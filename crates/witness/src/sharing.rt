@@ -3,7 +3,7 @@
 ghost use Rattle.std.specs.Prelude.{◌≡◌, ◌↔◌, ◌<◌, IfSome, IsSome, IsTrue, length, true};
 ghost use Rattle.sections.specs.Overlap.{overlap as overlap_of};
 ghost use Rattle.sections.specs.Tree.{origins_of};
-ghost use Rattle.witness.specs.Sharing.{LiesIn, Shares};
+ghost use Rattle.witness.specs.Sharing.{IsNearest, LiesIn, Shares};
 
 use sections::id::SectionId;
 use sections::origin::Origin;
@@ -18,12 +18,12 @@ pub enum Sharing {
     FirstIsPart,
     /// The second is a part of the first.
     SecondIsPart,
-    /// They lie in sides of different splits of this section. It is the nearest section of which
-    /// both are parts.
+    /// They lie in sides of different splits of this section, the nearest one of which both are
+    /// parts.
     OfSplits { section: SectionId },
 }
 
-/// Returns why two sections may share places, or `None` if no section contains both.
+/// Returns why two sections may share places, or `None` if they share none.
 pub(crate) fn sharing_of(
     sections: &SectionTree,
     first: SectionId,
@@ -46,12 +46,11 @@ pub(crate) fn sharing_of(
     if lies_in(sections, second, first) {
         return Some(Sharing::SecondIsPart);
     }
-    let section = nearest(sections, first, second);
-    if lies_in(sections, first, section) && lies_in(sections, second, section) {
-        Some(Sharing::OfSplits { section })
-    } else {
-        None
+    if !sections.overlap(first, second) {
+        return None;
     }
+    let section = nearest(sections, first, second);
+    Some(Sharing::OfSplits { section })
 }
 
 /// Returns whether a section is another section or a part of it, by a walk up from it.
@@ -69,15 +68,13 @@ fn lies_in(sections: &SectionTree, inner: SectionId, outer: SectionId) -> bool
     }
 }
 
-/// Returns the nearest section in which both lie, if there is one.
+/// Returns the nearest section of which both are parts, if they overlap.
 #[cycle(nearest)]
 fn nearest(sections: &SectionTree, first: SectionId, second: SectionId) -> SectionId
     requires first { first.number < length (origins_of sections.now) }
     requires second { second.number < length (origins_of sections.now) }
-    ensures first { overlap_of (origins_of sections.now) first.number second.number ≡ true
-        → LiesIn (origins_of sections.now) first.number result.number }
-    ensures second { overlap_of (origins_of sections.now) first.number second.number ≡ true
-        → LiesIn (origins_of sections.now) second.number result.number }
+    ensures { overlap_of (origins_of sections.now) first.number second.number ≡ true
+        → IsNearest (origins_of sections.now) first.number second.number result.number }
 {
     if first.number == second.number {
         first
@@ -93,10 +90,8 @@ fn nearest(sections: &SectionTree, first: SectionId, second: SectionId) -> Secti
 fn nearest_above(sections: &SectionTree, low: SectionId, high: SectionId) -> SectionId
     requires order { low.number < high.number }
     requires there { high.number < length (origins_of sections.now) }
-    ensures low { overlap_of (origins_of sections.now) low.number high.number ≡ true
-        → LiesIn (origins_of sections.now) low.number result.number }
-    ensures high { overlap_of (origins_of sections.now) low.number high.number ≡ true
-        → LiesIn (origins_of sections.now) high.number result.number }
+    ensures { overlap_of (origins_of sections.now) low.number high.number ≡ true
+        → IsNearest (origins_of sections.now) low.number high.number result.number }
 {
     match sections.origin(high) {
         Origin::Root => high,

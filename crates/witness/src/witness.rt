@@ -7,9 +7,9 @@ ghost use Rattle.types.specs.Translation.{program as program_of};
 ghost use Rattle.types.specs.Typed.{code_of};
 ghost use Rattle.race_checker.specs.Races.{IsRace, numbered};
 ghost use Rattle.race_checker.specs.Translation.{race as race_of};
-ghost use Rattle.witness.specs.Crossed.{both, directed, toward};
+ghost use Rattle.witness.specs.Crossed.{MeetIn, both, directed, toward};
 ghost use Rattle.ways.specs.Least.{IsLeast, IsLesserOf, all_covered};
-ghost use Rattle.witness.specs.Witness.{IsShortest, IsWitness, ShowIn};
+ghost use Rattle.witness.specs.Witness.{IsShortest, IsWitness, PrefersFirst, PrefersThese, ShowIn};
 
 use crate::crossing::{Crossing, Meeting, Pairing, crossing_in};
 use crate::sharing::{Sharing, sharing_of};
@@ -39,13 +39,16 @@ pub struct Witness {
     pub sharing: Sharing,
 }
 
-/// Returns a witness of a race that `check` reports, with the minimum number of steps. Returns
-/// `None` only if the two accesses are no race of the program.
+/// Returns a witness of a race that `check` reports, with the minimum number of steps. If both
+/// directions have witnesses with that number of steps, the race's first access is the one left
+/// pending. Returns `None` only if the two accesses are no race of the program.
 pub fn witness_of(alloc: Global, typed: &Typed, race: Race) -> Result<Option<Witness>, AllocError>
     ensures witness { IfOk result (λ found.
         IfSome found (IsWitness (code_of typed.now) (race_of race))) }
     ensures shortest { IfOk result (λ found.
         IfSome found (IsShortest (code_of typed.now) (race_of race))) }
+    ensures first { IfOk result (λ found.
+        IfSome found (PrefersFirst (code_of typed.now) (race_of race))) }
     ensures found { IfOk result (λ found.
         IsRace (code_of typed.now) (race_of race) → IsSome found) }
 {
@@ -97,8 +100,10 @@ fn shortest(
     race: Race,
     body: &[Stmt],
 ) -> Result<Option<(bool, Crossing)>, AllocError>
-    ensures { IfOk result (λ found. IsLeast (λ d. both d.1) all_covered
+    ensures least { IfOk result (λ found. IsLeast (λ d. both d.1) all_covered
         (ShowIn (program_of code.now) (codes_of body.now) (race_of race)) (directed found)) }
+    ensures first { let r = race_of race in IfOk result (λ found. PrefersThese
+        (MeetIn (program_of code.now) (codes_of body.now) r.first r.second) (directed found)) }
 {
     let first = Aim::at(alloc, code, race.first)?;
     let second = Aim::at(alloc, code, race.second)?;
@@ -114,7 +119,7 @@ fn shortest(
 }
 
 /// Returns the shorter of two crossings, and whether it leaves the race's first access pending, as
-/// `forth` does.
+/// `forth` does. Of two that are equally short it returns `forth`.
 fn shorter_direction(forth: Option<Crossing>, back: Option<Crossing>) -> Option<(bool, Crossing)>
     ensures { IsLesserOf (λ d. both d.1) (toward true forth) (toward false back)
         (directed result) }
