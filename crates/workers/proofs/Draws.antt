@@ -14,7 +14,7 @@ use Rattle.gather.specs.declared.job.Job.{Job}
 use Rattle.gather.specs.declared.run_error.RunError.{RunError}
 use Rattle.gather.specs.declared.run_error.RunError.TheVariants.{OutOfMemory, RefusedPush, RefusedThread}
 use Rattle.gather.specs.declared.run_error.RunError.TheVariants.{IssuedTooOften, TooManyTasks, Gather}
-use Rattle.gather.specs.declared.run_error.RunError.TheVariants.{NotDue, NoOwner, NoScope, NoReport}
+use Rattle.gather.specs.declared.run_error.RunError.TheVariants.{NotDue, NoOwner, NoScope, NoReport, Unlogged}
 use Rattle.tickets.specs.Seats.{AreOnly, IsSeatOf, drawn_by, drawn_of}
 use Rattle.tickets.specs.Shares.{times, one_below}
 use Rattle.tickets.specs.declared.word.Seat.{Seat}
@@ -80,6 +80,7 @@ drawn_more NotDue xs ys more has = tt
 drawn_more NoOwner xs ys more has = tt
 drawn_more NoScope xs ys more has = tt
 drawn_more NoReport xs ys more has = tt
+drawn_more Unlogged xs ys more has = tt
 
 both : (seats : List Seat) (s : Seat) (n : ℕ) → times n (drawn_by (seats ++ s ∷ [])) ≡ times n (drawn_by seats) + times n (drawn_of s)
 both seats s n = ap (times n) (pushed seats s) ∙ times_append n (drawn_by seats) (drawn_of s)
@@ -103,6 +104,7 @@ ticket workers n NotDue seats all only has = tt
 ticket workers n NoOwner seats all only has = tt
 ticket workers n NoScope seats all only has = tt
 ticket workers n NoReport seats all only has = tt
+ticket workers n Unlogged seats all only has = tt
 
 module _ (o : Option Job) (t : Tickets) (j : Job) (tasks : ℕ) where
   abbrev pub IsTold : Option Outcome → Type 0

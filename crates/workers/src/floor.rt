@@ -125,7 +125,8 @@ impl<'p, J: Running, G: Gate, L: Recorder<'p, J>> Floor<'p, J, G, L> {
     /// of the log's lock.
     fn noted_step<R: Wait>(&self, rt: &R, task: Task<'p>) -> Result<Turn<'p>, Trouble>
         requires { IsOwnTask J.job task }
-        ensures { IfOk result (IsOwnTurn J.job) }
+        ensures next { IfOk result (IsOwnTurn J.job) }
+        ensures cause { IfErr result (Happens J.job) }
     {
         let mut page = self.hold(rt);
         let steps = steps_of::<J>(&task);

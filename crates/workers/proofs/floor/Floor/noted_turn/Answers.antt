@@ -4,7 +4,7 @@ use Rattle.workers.proofs.floor.Floor.noted_turn.Goals as goal
 
 pub loop-preserved : goal.loop-preserved
 loop-preserved g c =
-    (search rules, search rules, subst (IsOwnTurn g.J.Running.job) c.in-Going.is c.in_ok-turn.ensures)
+    (search rules, search rules, subst (IsOwnTurn g.J.Running.job) c.in-Going.is c.in_ok-turn.ensures.next)
 
 pub returns-then-is_over : goal.returns-then-is_over
-returns-then-is_over g c = subst (IsOwnTurn g.J.Running.job) c.in-Going.is c.in_ok-turn.ensures
+returns-then-is_over g c = subst (IsOwnTurn g.J.Running.job) c.in-Going.is c.in_ok-turn.ensures.next
