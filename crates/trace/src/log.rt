@@ -113,10 +113,10 @@ impl<'p> Log<'p> {
     /// Returns the log with one more event, and with the world that this event leads to. It copies
     /// no task before the task acts, unlike `record`. After an error the log is lost.
     pub fn append(self, event: Event) -> Result<Log<'p>, EventError>
-        ensures appended { IfOk result (λ l. l.events ≡ self.entry.events ++ event.entry ∷ []) }
-        ensures moved { IfOk result (λ l. Becomes (event_of event.entry) self.entry.world l.world) }
+        ensures appended { IfOk result (λ l. l.events ≡ self.entry.events ++ event ∷ []) }
+        ensures moved { IfOk result (λ l. Becomes (event_of event) self.entry.world l.world) }
         ensures refused { IfErr result
-            (λ e. e ≡ Illegal → IsIllegal self.entry.world (event_of event.entry)) }
+            (λ e. e ≡ Illegal → IsIllegal self.entry.world (event_of event)) }
         ensures job { IfOk result (λ l. l.world.job ≡ self.entry.world.job) }
     {
         let Log { world, events } = self;

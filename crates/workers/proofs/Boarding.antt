@@ -16,6 +16,7 @@ use Rattle.workers.specs.contracts.floor.Floor as Floor
 use Rattle.workers.specs.contracts.hall.Bed as Bed
 use Rattle.workers.specs.contracts.hall.Hall as Hall
 use Rattle.workers.specs.contracts.kit.Kit as Kit
+use Rattle.workers.specs.contracts.locked_log.LockedLog as LockedLog
 use Rattle.workers.specs.contracts.post.Post as Post
 use Rattle.workers.specs.contracts.ready.First as First
 use Rattle.workers.specs.contracts.ready.First.TheInside as InFirst
@@ -46,6 +47,7 @@ use Rattle.tickets.proofs.word.Tickets.TheSendSync as OfTickets
 use Rattle.finish_scope.proofs.Crossing.{job_sync, child_send, task_send}
 use Rattle.finish_scope.proofs.Boarding.{scope_send, shelf_send}
 use Rattle.workers.proofs.Flats.{program_code_sync}
+use Rattle.workers.proofs.Recording.{locked_log_sync}
 
 module _ (κ : NamedLft) (J : RattleType) (gh : Ghosts J.Denot) where
   scope_field : IsSend (denote.Hole.as_row (Arc.the_field (Mutex.the_row (Inner.the_row κ J gh)) Heap.the_row ghosts))
@@ -113,10 +115,10 @@ module _ (κ : NamedLft) (J : RattleType) (gh : Ghosts J.Denot) where
         (as_row_sync (PhantomData.the_field J) (OfPhantom.the_field_sync J), tt),
       ))
 
-  -- the caller lends the gate, and picks the recorder
-  pub floor_sync : (G L : RattleType) → IsSync G → IsSync L → IsSync (Floor.the_row κ J G L gh)
-  floor_sync G L gate recorder =
-      declared_sync (Floor.the_type κ J G L gh) (
+  -- the caller lends the gate
+  pub floor_sync : (G : RattleType) → IsSync G → IsSync (Floor.the_row κ J G gh)
+  floor_sync G gate =
+      declared_sync (Floor.the_type κ J G gh) (
         job_sync κ,
         (
           own_code_sync,
@@ -126,7 +128,14 @@ module _ (κ : NamedLft) (J : RattleType) (gh : Ghosts J.Denot) where
               search (sendable, crosses) depth 30 fits 5000,
               (
                 OfTickets.the_sync,
-                (hall_sync, (recorder, tt)),
+                (
+                  hall_sync,
+                  (
+                    as_row_sync (Option.the_field (LockedLog.the_row κ J gh))
+                        (OfOption.the_field_sync (LockedLog.the_row κ J gh) (locked_log_sync κ J gh)),
+                    tt,
+                  ),
+                ),
               ),
             ),
           ),

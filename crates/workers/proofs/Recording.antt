@@ -28,7 +28,7 @@ use Rattle.trace.specs.contracts.log.Log as Log
 use Rattle.trace.specs.contracts.log.Log.TheInside as InLog
 use Rattle.workers.specs.contracts.page.OwnLog as OwnLog
 use Rattle.workers.specs.contracts.page.OwnLog.TheInside as InOwnLog
-use Rattle.workers.specs.contracts.recorder.LockedLog as LockedLog
+use Rattle.workers.specs.contracts.locked_log.LockedLog as LockedLog
 
 doing_send : (κ : NamedLft) → IsSend (Doing.the_row κ)
 doing_send κ = search (sendable, crosses, carried, start_send, run_send, paused_send) depth 60 fits 50000

@@ -1,6 +1,6 @@
 //! The workers of a run.
 
-ghost use Rattle.std.specs.Prelude.{◌≡◌, IfErr, IfOk, IfSome, OnOk, Option, Some};
+ghost use Rattle.std.specs.Prelude.{◌≡◌, ◌≤◌, IfErr, IfOk, IfSome, OnOk, Option, Some};
 ghost use Rattle.types.specs.Translation.{outcome as outcome_in};
 ghost use Rattle.gather.specs.Jobs.{outcome_of};
 ghost use Rattle.finish_scope.specs.Own.{IsOwnPassing};
@@ -11,14 +11,14 @@ ghost use Rattle.workers.specs.Desks.{Fails, HasSeat, Tells};
 
 use crate::code::OwnCode;
 use crate::error::{RunError, Trouble};
-use crate::gate::{Gate, Note};
+use crate::gate::Gate;
 use crate::hall::Hall;
 use crate::kit::{Desk, Kit, Report};
+use crate::locked_log::{LockedLog, hold};
 use crate::page::Page;
 use crate::passing::pass;
 use crate::post::{Next, Post, Step};
 use crate::ready::{First, Ready};
-use crate::recorder::Recorder;
 use crate::scopes;
 use crate::scopes::Clerk;
 use crate::settings::Settings;
@@ -39,24 +39,25 @@ use task_machine::task::{Child, Task};
 use task_machine::turn::{TaskResult as Ended, Turn};
 use tickets::Tickets;
 use types::outcome::Outcome;
+use weights::weight::Weight;
 
 /// The number of times that a worker looks for a task before it rests.
 const LOOKS: u32 = 64;
 
 /// The state that the workers of a run share.
 #[derive(Drop)]
-pub struct Floor<'p, J: Running, G: Gate, L: Recorder<'p, J>> {
+pub struct Floor<'p, J: Running, G: Gate> {
     pub job: Job<'p>,
     pub code: OwnCode<'p, J>,
     pub settings: Settings,
     pub gate: &'p G,
     pub tickets: Tickets,
     pub hall: Hall<'p, J>,
-    pub recorder: L,
+    pub log: Option<LockedLog<'p, J>>,
     pub ghost of: { J.job ≡ Some job },
 }
 
-impl<'p, J: Running, G: Gate, L: Recorder<'p, J>> Floor<'p, J, G, L> {
+impl<'p, J: Running, G: Gate> Floor<'p, J, G> {
     // ---- turns
 
     /// Continues a task up to a turn that is more than a step.
@@ -94,7 +95,7 @@ impl<'p, J: Running, G: Gate, L: Recorder<'p, J>> Floor<'p, J, G, L> {
         ensures next { IfOk result (IsOwnTurn J.job) }
         ensures cause { IfErr result (Happens J.job) }
     {
-        if self.recorder.records() {
+        if self.log.is_some() {
             self.noted_turn(rt, task)
         } else {
             Ok(go::<J>(task, self.code.lend())?)
@@ -147,13 +148,13 @@ impl<'p, J: Running, G: Gate, L: Recorder<'p, J>> Floor<'p, J, G, L> {
 
     /// Takes the log's lock, if events are recorded and the run isn't over.
     fn hold<R: Wait>(&self, rt: &R) -> Page<'_, 'p, J> {
-        self.recorder.hold(rt, &self.hall)
+        hold::<J, R>(&self.log, rt, &self.hall)
     }
 
-    /// Returns the recorder of what happens at a scope.
-    fn clerk(&self, scope: ScopeMark) -> Clerk<'_, 'p, J, L> {
+    /// Returns what records events at this scope.
+    fn clerk(&self, scope: ScopeMark) -> Clerk<'_, 'p, J> {
         Clerk {
-            recorder: &self.recorder,
+            log: &self.log,
             hall: &self.hall,
             scope,
         }
@@ -211,16 +212,25 @@ impl<'p, J: Running, G: Gate, L: Recorder<'p, J>> Floor<'p, J, G, L> {
         ensures next { IfOk result (IsOwnNext J.job) }
         ensures cause { IfErr result (Happens J.job) }
     {
-        let mut page = self.hold(rt);
         let (inner, weight) = Inner::open(self.job.alloc, self.settings.w0);
-        let task = entering.enter(weight);
-        note_open::<J>(&mut page, &task);
-        drop(page);
+        let task = self.start_finish(rt, entering, weight);
         let scope = Arc::new(self.job.alloc, Mutex::new(inner))?;
         post.outer.push(post.place)?;
         post.place = self.hall.put(rt, number, Arc::try_clone(&scope)?)?;
         post.scope = scope;
         Ok(Next::Goes(task))
+    }
+
+    /// Starts a finish with the first weight of its scope, and records that.
+    fn start_finish<R: Wait>(&self, rt: &R, entering: Entering<'p>, weight: Weight) -> Task<'p>
+        requires own { IsOwnBody J.job entering.body.value }
+        requires enough { 1 ≤ weight }
+        ensures { IsOwnTask J.job result }
+    {
+        let mut page = self.hold(rt);
+        let task = entering.enter(weight);
+        note_open::<J>(&mut page, &task);
+        task
     }
 
     /// Parks a task at the end of a finish, or of `main`.
@@ -256,11 +266,15 @@ impl<'p, J: Running, G: Gate, L: Recorder<'p, J>> Floor<'p, J, G, L> {
         ensures next { IfOk result (IsOwnNext J.job) }
         ensures cause { IfErr result (Happens J.job) }
     {
-        let note = <G::Note as Note>::of(&ended.made.path)?;
+        let path = if G::wants_paths() {
+            Some(ended.made.path.clone()?)
+        } else {
+            None
+        };
         let clerk = self.clerk(ended.scope);
         let (weight, made) = ended.take_weight();
         let passing = scopes::give_back(rt, &post.scope, weight, made, &clerk)?;
-        self.gate.leave(&note);
+        self.gate.leave(path.as_ref());
         self.after(rt, number, post, passing)
     }
 
@@ -579,8 +593,7 @@ fn passed<'p, J: Running>(
     pass(owner, results)
 }
 
-impl<'p, J: Running + Send + Sync, G: Gate + Sync, L: Recorder<'p, J> + Sync> Crew
-    for Floor<'p, J, G, L> {
+impl<'p, J: Running + Send + Sync, G: Gate + Sync> Crew for Floor<'p, J, G> {
     type Kit = Kit<'p, J>;
 
     type Report = Report;

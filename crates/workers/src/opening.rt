@@ -1,6 +1,6 @@
 //! The state before a run.
 
-ghost use Rattle.std.specs.Prelude.{◌≡◌, ◌+◌, All, IfErr, IfOk, OnOk, Some, vec_len};
+ghost use Rattle.std.specs.Prelude.{◌≡◌, ◌+◌, ◌↔◌, All, IfErr, IfOk, IsSome, OnOk, Some, vec_len};
 ghost use Rattle.gather.specs.Jobs.{IsJob};
 ghost use Rattle.tickets.specs.Seats.{seats_of};
 ghost use Rattle.workers.specs.Causes.{Happens};
@@ -12,9 +12,9 @@ use crate::floor::Floor;
 use crate::gate::Gate;
 use crate::hall::Hall;
 use crate::kit::{Desk, Kit};
+use crate::locked_log::LockedLog;
 use crate::post::Post;
 use crate::ready::First;
-use crate::recorder::Recorder;
 use crate::settings::Settings;
 use crossbeam_utils::sync::Parker;
 use finish_scope::inner::Inner;
@@ -26,18 +26,19 @@ use task_machine::task::Task;
 use tickets::{Seat, Tickets};
 
 /// Returns the floor before the run, the kit of the first worker, and those of the others.
-pub fn open<'p, J: Running, G: Gate, L: Recorder<'p, J>, R: Wait>(
+pub fn open<'p, J: Running, G: Gate, R: Wait>(
     rt: &R,
     job: Job<'p>,
     code: OwnCode<'p, J>,
     settings: Settings,
     gate: &'p G,
-    recorder: L,
-) -> Result<(Floor<'p, J, G, L>, Kit<'p, J>, Vec<Kit<'p, J>>), Trouble>
+    log: Option<LockedLog<'p, J>>,
+) -> Result<(Floor<'p, J, G>, Kit<'p, J>, Vec<Kit<'p, J>>), Trouble>
     requires of { J.job ≡ Some job }
     requires job { IsJob job }
     ensures job { IfOk result (λ r. r.0.job ≡ job.entry) }
     ensures settings { IfOk result (λ r. r.0.settings ≡ settings) }
+    ensures log { IfOk result (λ r. IsSome r.0.log ↔ IsSome log.entry) }
     ensures own { IfOk result (λ r. HasSeat r.0.tickets settings.tasks r.1.desk.seat) }
     ensures kits { IfOk result
         (λ r. All (λ k. HasSeat r.0.tickets settings.tasks k.desk.seat) r.2.items) }
@@ -62,7 +63,7 @@ pub fn open<'p, J: Running, G: Gate, L: Recorder<'p, J>, R: Wait>(
         gate,
         tickets,
         hall,
-        recorder,
+        log,
     };
     Ok((floor, Kit { desk, own, first }, kits))
 }

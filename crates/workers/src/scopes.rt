@@ -8,8 +8,8 @@ ghost use Rattle.workers.specs.Own.{IsOwnChild, IsOwnTask, IsOwnWanting};
 
 use crate::error::Trouble;
 use crate::hall::Hall;
+use crate::locked_log::{LockedLog, hold};
 use crate::page::Page;
-use crate::recorder::Recorder;
 use finish_scope::inner::{Inner, Scope};
 use finish_scope::late::{Late, Reason};
 use finish_scope::resting::{Passing, Resting};
@@ -22,29 +22,29 @@ use task_machine::turn::Wanting;
 use weights::book::Back;
 use weights::weight::Weight;
 
-/// The recorder of a run, for what a worker does at a scope. The log's lock is taken while the
+/// The log of a run, for what a worker does at a scope. The log's lock is taken while the
 /// scope's lock is held, never the other way round.
 #[derive(Drop)]
-pub struct Clerk<'c, 'p, J: Running, L: Recorder<'p, J>> {
-    pub recorder: &'c L,
+pub struct Clerk<'c, 'p, J: Running> {
+    pub log: &'c Option<LockedLog<'p, J>>,
     pub hall: &'c Hall<'p, J>,
     /// The scope, identified relative to the task that gives back.
     pub scope: ScopeMark,
 }
 
-impl<'c, 'p, J: Running, L: Recorder<'p, J>> Clerk<'c, 'p, J, L> {
+impl<'c, 'p, J: Running> Clerk<'c, 'p, J> {
     /// Takes the log's lock, if events are recorded.
     fn hold<R: Wait>(&self, rt: &R) -> Page<'c, 'p, J> {
-        self.recorder.hold(rt, self.hall)
+        hold::<J, R>(self.log, rt, self.hall)
     }
 }
 
 /// Issues more weight to a task that has too little for its child.
-pub fn replenish<'p, J: Running, L: Recorder<'p, J>, R: Wait>(
+pub fn replenish<'p, J: Running, R: Wait>(
     rt: &R,
     scope: &Scope<'p, J>,
     wanting: Wanting<'p>,
-    clerk: &Clerk<'_, 'p, J, L>,
+    clerk: &Clerk<'_, 'p, J>,
 ) -> Result<(Task<'p>, Child<'p>), Trouble>
     requires { IsOwnWanting J.job wanting }
     ensures task { IfOk result (λ p. IsOwnTask J.job p.0) }
@@ -76,12 +76,12 @@ fn note_more<'p, J: Running>(page: &mut Page<'_, 'p, J>, task: &Task<'p>)
 
 /// Gives back the weight and the result of a task that has finished. If it was the last, the
 /// scope's owner is returned.
-pub fn give_back<'p, J: Running, L: Recorder<'p, J>, R: Wait>(
+pub fn give_back<'p, J: Running, R: Wait>(
     rt: &R,
     scope: &Scope<'p, J>,
     weight: Weight,
     made: TaskResult,
-    clerk: &Clerk<'_, 'p, J, L>,
+    clerk: &Clerk<'_, 'p, J>,
 ) -> Result<Option<Passing<'p>>, Trouble>
     requires own { IsResultOfRun J.job made }
     ensures own { IfOk result (λ p. IfSome p (IsOwnPassing J.job)) }
@@ -96,7 +96,7 @@ pub fn give_back<'p, J: Running, L: Recorder<'p, J>, R: Wait>(
         Ok(back) => {
             page.ended(path);
             drop(page);
-            passes::<J, L, R>(rt, inner, back, clerk)
+            passes::<J, R>(rt, inner, back, clerk)
         }
         Err(late) => {
             let Late { reason: _, back } = late;
@@ -109,12 +109,12 @@ pub fn give_back<'p, J: Running, L: Recorder<'p, J>, R: Wait>(
 
 /// Parks a task as the owner of the scope. If all tasks of the scope have finished, the owner is
 /// returned.
-pub fn park<'p, J: Running, L: Recorder<'p, J>, R: Wait>(
+pub fn park<'p, J: Running, R: Wait>(
     rt: &R,
     scope: &Scope<'p, J>,
     weight: Weight,
     owner: Resting<'p>,
-    clerk: &Clerk<'_, 'p, J, L>,
+    clerk: &Clerk<'_, 'p, J>,
 ) -> Result<Option<Passing<'p>>, Trouble>
     requires own { IsOwnResting J.job owner }
     ensures own { IfOk result (λ p. IfSome p (IsOwnPassing J.job)) }
@@ -129,7 +129,7 @@ pub fn park<'p, J: Running, L: Recorder<'p, J>, R: Wait>(
         Ok(back) => {
             page.parked(path);
             drop(page);
-            passes::<J, L, R>(rt, inner, back, clerk)
+            passes::<J, R>(rt, inner, back, clerk)
         }
         Err(late) => {
             let Late { reason: _, back } = late;
@@ -141,11 +141,11 @@ pub fn park<'p, J: Running, L: Recorder<'p, J>, R: Wait>(
 }
 
 /// Takes the owner out of a scope if the weight that came back was the last.
-fn passes<'p, J: Running, L: Recorder<'p, J>, R: Wait>(
+fn passes<'p, J: Running, R: Wait>(
     rt: &R,
     inner: &mut Inner<'p, J>,
     back: Back,
-    clerk: &Clerk<'_, 'p, J, L>,
+    clerk: &Clerk<'_, 'p, J>,
 ) -> Result<Option<Passing<'p>>, Trouble>
     requires { (back ≡ Back.Complete) → IsEven inner.old }
     ensures own { IfOk result (λ p. IfSome p (IsOwnPassing J.job)) }

@@ -60,7 +60,11 @@ impl Holding {
 }
 
 impl Gate for Holding {
-    type Note = Path;
+    ghost wants = { Unit {0} };
+
+    fn wants_paths() -> bool {
+        true
+    }
 
     fn enter(&self, task: &Task<'_>) {
         if is_at(task.path(), self.held) && !waited_for(&self.has_left) {
@@ -68,9 +72,11 @@ impl Gate for Holding {
         }
     }
 
-    fn leave(&self, path: &Path) {
-        if is_at(path, self.awaited) {
-            self.has_left.store(true, Ordering::SeqCst);
+    fn leave(&self, path: Option<&Path>) {
+        if let Some(path) = path {
+            if is_at(path, self.awaited) {
+                self.has_left.store(true, Ordering::SeqCst);
+            }
         }
     }
 }
@@ -93,13 +99,17 @@ struct Counting {
 }
 
 impl Gate for Counting {
-    type Note = ();
+    ghost wants = { ⊥ };
+
+    fn wants_paths() -> bool {
+        false
+    }
 
     fn enter(&self, _task: &Task<'_>) {
         self.entered.fetch_add(1, Ordering::SeqCst);
     }
 
-    fn leave(&self, _path: &()) {
+    fn leave(&self, _path: Option<&Path>) {
         self.left.fetch_add(1, Ordering::SeqCst);
     }
 }

@@ -1,6 +1,6 @@
-//! The recording of a run's events, in a log under a lock.
+//! The log of a run, under a lock.
 
-ghost use Rattle.std.specs.Prelude.{◌≡◌, IfErr, IfOk};
+ghost use Rattle.std.specs.Prelude.{◌≡◌, ◌↔◌, IfErr, IfOk, IfSome, IsSome};
 ghost use Rattle.workers.specs.Causes.{IsOfLog};
 ghost use Rattle.workers.specs.Logs.{IsLogOfRun, IsOwnLog, of_log};
 
@@ -11,29 +11,6 @@ use gather::run_error::RunError;
 use interleave::error::EventError;
 use std::sync::{Mutex, Wait};
 use trace::log::Log;
-
-/// What records the events of a run: nothing, or a log under a lock.
-pub trait Recorder<'p, J: Running>: Drop {
-    /// Returns whether events are recorded.
-    fn records(&self) -> bool;
-
-    /// Takes the log's lock. The page is closed if nothing is recorded, or the run is over.
-    fn hold<'h, R: Wait>(&'h self, rt: &R, hall: &'h Hall<'p, J>) -> Page<'h, 'p, J>;
-}
-
-/// The recorder of a run without a log.
-#[derive(Drop)]
-pub struct NoLog;
-
-impl<'p, J: Running> Recorder<'p, J> for NoLog {
-    fn records(&self) -> bool {
-        false
-    }
-
-    fn hold<'h, R: Wait>(&'h self, _rt: &R, hall: &'h Hall<'p, J>) -> Page<'h, 'p, J> {
-        Page::closed(hall)
-    }
-}
 
 /// A run's log, under a lock. Whenever the lock is free, the log is clean and of this run; or it is
 /// lost, and the run is over.
@@ -51,8 +28,17 @@ impl<'p, J: Running> LockedLog<'p, J> {
         }
     }
 
+    /// Takes the lock. The page is closed if the run is over.
+    pub fn hold<'h, R: Wait>(&'h self, rt: &R, hall: &'h Hall<'p, J>) -> Page<'h, 'p, J> {
+        let guard = self.log.lock(rt);
+        if hall.is_over() {
+            return Page::closed(hall);
+        }
+        Page::open(guard, hall)
+    }
+
     /// Returns the log once the run is over. Its events must lead to the end of the run.
-    pub fn close(self) -> Result<Log<'p>, RunError>
+    fn close(self) -> Result<Log<'p>, RunError>
         ensures log { IfOk result (IsLogOfRun J.job J.w0) }
         ensures failed { IfErr result IsOfLog }
     {
@@ -63,17 +49,43 @@ impl<'p, J: Running> LockedLog<'p, J> {
     }
 }
 
-impl<'p, J: Running> Recorder<'p, J> for LockedLog<'p, J> {
-    fn records(&self) -> bool {
-        true
+/// Puts a log under a lock, if the run has one.
+pub fn locked<'p, J: Running>(log: Option<Log<'p>>) -> Option<LockedLog<'p, J>>
+    requires { IfSome log (IsOwnLog J.job J.w0) }
+    ensures { IsSome result ↔ IsSome log.entry }
+{
+    match log {
+        Some(log) => Some(LockedLog::new(log)),
+        None => None,
     }
+}
 
-    fn hold<'h, R: Wait>(&'h self, rt: &R, hall: &'h Hall<'p, J>) -> Page<'h, 'p, J> {
-        let guard = self.log.lock(rt);
-        if hall.is_over() {
-            return Page::closed(hall);
-        }
-        Page::open(guard, hall)
+/// Takes the log's lock. The page is closed if the run has no log, or is over.
+pub fn hold<'h, 'p, J: Running, R: Wait>(
+    log: &'h Option<LockedLog<'p, J>>,
+    rt: &R,
+    hall: &'h Hall<'p, J>,
+) -> Page<'h, 'p, J> {
+    match log {
+        Some(log) => log.hold(rt, hall),
+        None => Page::closed(hall),
+    }
+}
+
+/// Returns the log once the run is over, if the run has one. Its events must lead to the end of the
+/// run.
+pub fn close<'p, J: Running>(log: Option<LockedLog<'p, J>>) -> Result<Option<Log<'p>>, RunError>
+    ensures kept { IfOk result (λ l. IsSome l ↔ IsSome log.entry) }
+    ensures log { IfOk result (λ l. IfSome l (IsLogOfRun J.job J.w0)) }
+    ensures failed { IfErr result IsOfLog }
+    ensures logged { IfErr result (λ _. IsSome log.entry) }
+{
+    match log {
+        Some(log) => match log.close() {
+            Ok(log) => Ok(Some(log)),
+            Err(error) => Err(error),
+        },
+        None => Ok(None),
     }
 }
 
