@@ -35,10 +35,10 @@ fresh t tasks s is = record {
 one_more : (x n : ℕ) (xs : List ℕ) → times x (xs ++ n ∷ []) ≡ times x xs + cond (n == x) 1 0
 one_more x n xs = sum_by_push (λ y. cond (y == x) 1 0) xs n
 
-other : (x n : ℕ) → n < x → cond (n == x) 1 0 ≡ 0
+other : (x n : ℕ) → n < x → ◌≡◌ {A = ℕ} (cond (n == x) 1 0) 0
 other x n less = grind (arith, less)
 
-same : (n : ℕ) → cond (n == n) 1 0 ≡ 1
+same : (n : ℕ) → ◌≡◌ {A = ℕ} (cond (n == n) 1 0) 1
 same n = grind arith
 
 -- a number below the maximum was drawn

@@ -8,7 +8,11 @@ use Rattle.gather.specs.declared.run_error.RunError.{RunError}
 use Rattle.gather.proofs.RunCauses.{run_cause}
 use Rattle.interleave.specs.declared.job.WeightedJob.{WeightedJob}
 use Rattle.trace.specs.Logs.{LeadsToOutcome, Recorded}
-use Rattle.workers.specs.Causes.{IsReason, IsRunReason}
+use Rattle.gather.specs.RunErrors.{IsRunCause}
+use Rattle.gather.specs.declared.run_error.RunError.TheVariants.{OutOfMemory, RefusedPush, RefusedThread}
+use Rattle.gather.specs.declared.run_error.RunError.TheVariants.{IssuedTooOften, TooManyTasks, Gather}
+use Rattle.gather.specs.declared.run_error.RunError.TheVariants.{NotDue, NoOwner, NoScope, NoReport, Unlogged}
+use Rattle.workers.specs.Causes.{IsOfLog, IsReason, IsRunReason}
 use Rattle.workers.specs.Logs.{IsOwnLog, weighted}
 
 -- what workers report ends a run with a log too
@@ -16,6 +20,25 @@ pub run_reason : (o : Option Job) (workers tasks : ℕ) (HasLog : Type 0) (e : R
     → IsRunReason o workers tasks HasLog e
 run_reason o workers tasks HasLog e r =
     record { cause = run_cause tasks HasLog e r.cause; ticket = r.ticket; happened = r.happened }
+
+-- the log ends a run only if the run has one
+with_log : (tasks : ℕ) (HasLog : Type 0) (e : RunError) → HasLog → IsRunCause tasks (Unit {0}) e → IsRunCause tasks HasLog e
+with_log tasks HasLog Unlogged has cause = has
+with_log tasks HasLog OutOfMemory has cause = cause
+with_log tasks HasLog RefusedPush has cause = cause
+with_log tasks HasLog RefusedThread has cause = cause
+with_log tasks HasLog IssuedTooOften has cause = cause
+with_log tasks HasLog (TooManyTasks ticket) has cause = cause
+with_log tasks HasLog (Gather e) has cause = cause
+with_log tasks HasLog NotDue has cause = cause
+with_log tasks HasLog NoOwner has cause = cause
+with_log tasks HasLog NoScope has cause = cause
+with_log tasks HasLog NoReport has cause = cause
+
+pub log_reason : (o : Option Job) (workers tasks : ℕ) (HasLog : Type 0) (e : RunError) → IsOfLog e → HasLog
+    → IsRunReason o workers tasks HasLog e
+log_reason o workers tasks HasLog e r has =
+    record { cause = with_log tasks HasLog e has (r.cause tasks); ticket = r.ticket workers; happened = r.happened o }
 
 module _ (o : Option Job) (w0 : ℕ) (j : Job) (v : ℕ) (of : o ≡ Some j) (weight : w0 ≡ v) (l : Recorded) where
   pub own_log : l.world.job ≡ weighted j v → IsOwnLog o w0 l

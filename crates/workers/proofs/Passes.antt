@@ -14,6 +14,8 @@ use Rattle.own_run.specs.declared.result.TaskResult.{TaskResult as Made}
 use Rattle.own_run.proofs.Lists.{each_last, each_map}
 use Rattle.gather.specs.GivesBack.{GiveBack, all_owned}
 use Rattle.gather.specs.Jobs.{program_of, lists_of, budget_of, outcome_of, IsJob}
+use Rattle.gather.specs.Refusal.{IsCaseOf}
+use Rattle.gather.specs.declared.error.GatherError.{GatherError}
 use Rattle.gather.specs.declared.job.Job.{Job}
 use Rattle.gather.proofs.TasksGiveBack.{give_back}
 use Rattle.task_machine.specs.Ends.{Comes, EndsSo, IsAtEnd, IsParked}
@@ -78,6 +80,10 @@ comes p rs ends all w y job owner outer opened settles owned = record {
   settles = settles;
   owned = owned (gives p.job rs all p.owner p.made p.outer.items p.opened ends);
 }
+
+-- the case of an owner whose results don't settle
+pub case_of : (m p : Made) (rs : List Results) (e : GatherError) → m ≡ p → IsCaseOf (task_result m) rs e → IsCaseOf (task_result p) rs e
+case_of m p rs e is case = subst (λ (x : Made). IsCaseOf (task_result x) rs e) is case
 
 -- what a worker continues with is of the run
 pub next_own : (o : Option Job) (j : Job) (n : Next) → o ≡ Some j → IsNext j n → IsOwnNext o n

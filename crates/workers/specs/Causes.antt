@@ -134,7 +134,7 @@ pub record IsRunReason (o : Option Job) (workers tasks : ℕ) (HasLog : Type 0) 
 
 -- the error of a run whose log was lost, or hasn't ended
 pub record IsOfLog (e : RunError) : Type 0 where
-  pub cause : (tasks : ℕ) → (HasLog : Type 0) → HasLog → IsRunCause tasks HasLog e
+  pub cause : (tasks : ℕ) → IsRunCause tasks (Unit {0}) e
   pub ticket : (workers : ℕ) → HasTicket workers e
   pub happened : (o : Option Job) → Happened o e
 

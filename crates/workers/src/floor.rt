@@ -151,10 +151,11 @@ impl<'p, J: Running, G: Gate> Floor<'p, J, G> {
         hold::<J, R>(&self.log, rt, &self.hall)
     }
 
-    /// Returns what records events at this scope.
-    fn clerk(&self, scope: ScopeMark) -> Clerk<'_, 'p, J> {
+    /// Returns the log and the gate for what the worker does at this scope.
+    fn clerk(&self, scope: ScopeMark) -> Clerk<'_, 'p, J, G> {
         Clerk {
             log: &self.log,
+            gate: self.gate,
             hall: &self.hall,
             scope,
         }

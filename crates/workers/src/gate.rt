@@ -6,8 +6,8 @@ ghost use Rattle.task_machine.specs.Tasks.{IsTask};
 use task_machine::task::Task;
 use types::path::Path;
 
-/// An observer of each task except the root: as the task starts, and once it has finished. It may
-/// wait.
+/// An observer of each task except the root: as the task starts, and once it has finished. It also
+/// observes when a worker holds the lock of a scope. It may wait.
 pub trait Gate {
     ghost wants: { Type 0 };
 
@@ -23,6 +23,10 @@ pub trait Gate {
     /// of the task. A gate that doesn't want paths gets none.
     fn leave(&self, path: Option<&Path>)
         requires { wants → IsSome path };
+
+    /// Observes that this thread holds the lock of a scope, to which a task gives weight back. All
+    /// other scopes are free.
+    fn hold(&self);
 }
 
 /// A gate that lets every task pass.
@@ -38,4 +42,6 @@ impl Gate for NoGate {
     fn enter(&self, _task: &Task<'_>) {}
 
     fn leave(&self, _path: Option<&Path>) {}
+
+    fn hold(&self) {}
 }

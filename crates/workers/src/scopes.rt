@@ -7,6 +7,7 @@ ghost use Rattle.workers.specs.Causes.{Happens, HappensAtScope, trouble_of};
 ghost use Rattle.workers.specs.Own.{IsOwnChild, IsOwnTask, IsOwnWanting};
 
 use crate::error::Trouble;
+use crate::gate::Gate;
 use crate::hall::Hall;
 use crate::locked_log::{LockedLog, hold};
 use crate::page::Page;
@@ -22,17 +23,18 @@ use task_machine::turn::Wanting;
 use weights::book::Back;
 use weights::weight::Weight;
 
-/// The log of a run, for what a worker does at a scope. The log's lock is taken while the
+/// The log and the gate of a run, for what a worker does at a scope. The log's lock is taken while the
 /// scope's lock is held, never the other way round.
 #[derive(Drop)]
-pub struct Clerk<'c, 'p, J: Running> {
+pub struct Clerk<'c, 'p, J: Running, G: Gate> {
     pub log: &'c Option<LockedLog<'p, J>>,
+    pub gate: &'c G,
     pub hall: &'c Hall<'p, J>,
     /// The scope, identified relative to the task that gives back.
     pub scope: ScopeMark,
 }
 
-impl<'c, 'p, J: Running> Clerk<'c, 'p, J> {
+impl<'c, 'p, J: Running, G: Gate> Clerk<'c, 'p, J, G> {
     /// Takes the log's lock, if events are recorded.
     fn hold<R: Wait>(&self, rt: &R) -> Page<'c, 'p, J> {
         hold::<J, R>(self.log, rt, self.hall)
@@ -40,11 +42,11 @@ impl<'c, 'p, J: Running> Clerk<'c, 'p, J> {
 }
 
 /// Issues more weight to a task that has too little for its child.
-pub fn replenish<'p, J: Running, R: Wait>(
+pub fn replenish<'p, J: Running, G: Gate, R: Wait>(
     rt: &R,
     scope: &Scope<'p, J>,
     wanting: Wanting<'p>,
-    clerk: &Clerk<'_, 'p, J>,
+    clerk: &Clerk<'_, 'p, J, G>,
 ) -> Result<(Task<'p>, Child<'p>), Trouble>
     requires { IsOwnWanting J.job wanting }
     ensures task { IfOk result (λ p. IsOwnTask J.job p.0) }
@@ -76,12 +78,12 @@ fn note_more<'p, J: Running>(page: &mut Page<'_, 'p, J>, task: &Task<'p>)
 
 /// Gives back the weight and the result of a task that has finished. If it was the last, the
 /// scope's owner is returned.
-pub fn give_back<'p, J: Running, R: Wait>(
+pub fn give_back<'p, J: Running, G: Gate, R: Wait>(
     rt: &R,
     scope: &Scope<'p, J>,
     weight: Weight,
     made: TaskResult,
-    clerk: &Clerk<'_, 'p, J>,
+    clerk: &Clerk<'_, 'p, J, G>,
 ) -> Result<Option<Passing<'p>>, Trouble>
     requires own { IsResultOfRun J.job made }
     ensures own { IfOk result (λ p. IfSome p (IsOwnPassing J.job)) }
@@ -89,6 +91,7 @@ pub fn give_back<'p, J: Running, R: Wait>(
     ensures cause { IfErr result (Happens J.job) }
 {
     let mut guard = scope.lock(rt);
+    clerk.gate.hold();
     let inner = &mut *guard;
     let mut page = clerk.hold(rt);
     let path = page.copy(&made.path);
@@ -96,7 +99,7 @@ pub fn give_back<'p, J: Running, R: Wait>(
         Ok(back) => {
             page.ended(path);
             drop(page);
-            passes::<J, R>(rt, inner, back, clerk)
+            passes::<J, G, R>(rt, inner, back, clerk)
         }
         Err(late) => {
             let Late { reason: _, back } = late;
@@ -109,12 +112,12 @@ pub fn give_back<'p, J: Running, R: Wait>(
 
 /// Parks a task as the owner of the scope. If all tasks of the scope have finished, the owner is
 /// returned.
-pub fn park<'p, J: Running, R: Wait>(
+pub fn park<'p, J: Running, G: Gate, R: Wait>(
     rt: &R,
     scope: &Scope<'p, J>,
     weight: Weight,
     owner: Resting<'p>,
-    clerk: &Clerk<'_, 'p, J>,
+    clerk: &Clerk<'_, 'p, J, G>,
 ) -> Result<Option<Passing<'p>>, Trouble>
     requires own { IsOwnResting J.job owner }
     ensures own { IfOk result (λ p. IfSome p (IsOwnPassing J.job)) }
@@ -122,6 +125,7 @@ pub fn park<'p, J: Running, R: Wait>(
     ensures cause { IfErr result (Happens J.job) }
 {
     let mut guard = scope.lock(rt);
+    clerk.gate.hold();
     let inner = &mut *guard;
     let mut page = clerk.hold(rt);
     let path = page.copy(owner.parked.path());
@@ -129,7 +133,7 @@ pub fn park<'p, J: Running, R: Wait>(
         Ok(back) => {
             page.parked(path);
             drop(page);
-            passes::<J, R>(rt, inner, back, clerk)
+            passes::<J, G, R>(rt, inner, back, clerk)
         }
         Err(late) => {
             let Late { reason: _, back } = late;
@@ -141,11 +145,11 @@ pub fn park<'p, J: Running, R: Wait>(
 }
 
 /// Takes the owner out of a scope if the weight that came back was the last.
-fn passes<'p, J: Running, R: Wait>(
+fn passes<'p, J: Running, G: Gate, R: Wait>(
     rt: &R,
     inner: &mut Inner<'p, J>,
     back: Back,
-    clerk: &Clerk<'_, 'p, J>,
+    clerk: &Clerk<'_, 'p, J, G>,
 ) -> Result<Option<Passing<'p>>, Trouble>
     requires { (back ≡ Back.Complete) → IsEven inner.old }
     ensures own { IfOk result (λ p. IfSome p (IsOwnPassing J.job)) }

@@ -1,7 +1,8 @@
-use Rattle.std.proofs.Common.{rules, arith, ◌≡◌, ◌+◌, vec_len}
-use Rattle.std.proofs.lemmas.List.Elements.{All-rest}
+use Rattle.std.proofs.Common.{rules, arith, ◌≡◌, ◌+◌, All, vec_len, subst, sym}
+use Rattle.std.proofs.lemmas.List.Elements.{All-push, All-rest}
 use Rattle.std.specs.Vec.Iter.{into_iter_len}
-use Rattle.workers.specs.Desks.{IsFresh}
+use Rattle.workers.specs.Desks.{HasSeat, IsFresh}
+use Rattle.workers.specs.declared.kit.Kit.{Kit}
 use Rattle.workers.proofs.opening.make_kits.Goals as goal
 
 pub loop-seat-preserved : goal.loop-seat-preserved
@@ -9,4 +10,11 @@ loop-seat-preserved g c =
     let was = c.loop-seat.invariant in let step = c.in-Some.ensures.steps in
     let long : into_iter_len c.loop-seat.seat-iterator ≡ into_iter_len c.next.new.self + 1 = search rules in
     let more : vec_len c.push.new.self ≡ vec_len c.loop-seat.kits + 1 = search rules in
-    (tt, tt, All-rest (IsFresh c.args.tickets.now) c.in-Some.seat _ _ step.0 was.2, search rules, omega (arith, was.4, long, more))
+    let Fits = λ (k : Kit _). HasSeat c.args.tickets.now c.args.settings.tasks k.desk.seat in
+    (
+      tt,
+      tt,
+      All-rest (IsFresh c.args.tickets.now) c.in-Some.seat _ _ step.0 was.2,
+      subst (All Fits) (sym c.in_ok-push.ensures.items) (All-push Fits c.loop-seat.kits.items _ was.3 c.desk_at-desk.ensures),
+      omega (arith, was.4, long, more),
+    )

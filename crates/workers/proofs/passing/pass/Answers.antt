@@ -1,4 +1,5 @@
-use Rattle.std.proofs.Common.{◌∙◌, ap, map, subst, sym}
+use Rattle.std.proofs.Common.{◌∙◌, ap, map, refl, subst, sym, Some}
+use Rattle.facts.proofs.Results.{err_passed}
 use Rattle.sections.specs.Place.{Place}
 use Rattle.own_run.specs.Settling.{settle}
 use Rattle.own_run.specs.Translation.{task_result}
@@ -6,7 +7,9 @@ use Rattle.own_run.specs.declared.result.TaskResult.{TaskResult}
 use Rattle.gather.specs.GivesBack.{GiveBack, all_owned}
 use Rattle.gather.specs.Jobs.{outcome_of}
 use Rattle.task_machine.specs.Tasks.{IsResultOf}
-use Rattle.workers.proofs.Passes.{comes, each_either}
+use Rattle.workers.specs.Causes.{Happens}
+use Rattle.workers.specs.declared.error.Trouble.TheVariants.{Gather}
+use Rattle.workers.proofs.Passes.{case_of, comes, each_either}
 use Rattle.workers.proofs.passing.pass.Goals as goal
 
 pub outcome-requires-clause-comes : goal.outcome-requires-clause-comes
@@ -23,7 +26,7 @@ outcome-requires-clause-comes c =
 
 pub returns-in_ok-outcome-in-Main : goal.returns-in_ok-outcome-in-Main
 returns-in_ok-outcome-in-Main c =
-    c.in_ok-outcome-in-Main.ensures.told ∙ ap outcome_of c.open-waiting.ensures.job
+    record { next = c.in_ok-outcome-in-Main.ensures.told ∙ ap outcome_of c.open-waiting.ensures.job; cause = tt }
 
 pub go_on-requires-clause-comes : goal.go_on-requires-clause-comes
 go_on-requires-clause-comes c =
@@ -36,3 +39,17 @@ go_on-requires-clause-comes c =
     (λ gives (q : Place).
     c.in_ok-settled.ensures.owned (subst (λ (m : TaskResult). GiveBack (task_result m) (map task_result rs)) (sym w.made) gives) q
     ∙ ap (λ (m : TaskResult). all_owned (task_result m) q) w.made)
+
+pub returns-in_err-settled-clause-cause : goal.returns-in_err-settled-clause-cause
+returns-in_err-settled-clause-cause c =
+    let p = c.args.owner.value in
+    let rs = c.with_least_first-results.result.items in
+    err_passed c.from_residual.result (Gather _) (Happens (Some p.job)) c.from_residual.ensures.1
+    (record {
+      owner = p;
+      job = refl;
+      ends = c.requires.ends;
+      results = rs;
+      tasks = each_either (IsResultOf p.job) c.args.results.items rs c.with_least_first-results.ensures c.requires.results;
+      own_case = case_of _ _ _ _ c.open-waiting.ensures.made c.in_err-settled.ensures.own_case;
+    })
