@@ -136,7 +136,7 @@ impl<'p> Log<'p> {
 
     /// Returns whether the run has finished according to the events.
     pub fn has_ended(&self) -> bool
-        ensures ended { OnTrue result (LeadsToOutcome self.now (outcome_of self.now.world.job.job)) }
+        ensures { OnTrue result (LeadsToOutcome self.now (outcome_of self.now.world.job.job)) }
     {
         self.world().outcome().is_some()
     }
