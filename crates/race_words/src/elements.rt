@@ -24,6 +24,13 @@ pub enum Elements {
     Different(u64, u64),
 }
 
+impl Elements {
+    /// Returns whether both accesses use one element.
+    pub fn is_one(self) -> bool {
+        matches!(self, Elements::Only | Elements::Same(_))
+    }
+}
+
 /// Returns what is known of the elements that the two accesses of a race use.
 pub fn elements_of(
     code: &Program,

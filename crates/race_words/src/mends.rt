@@ -107,38 +107,41 @@ fn advice_of<'c>(
     }
     let name = section_name(procedure, race.first.section);
     let is_alike = are_alike(witness);
-    match elements {
-        Elements::Only | Elements::Same(_) if is_alike => return Advice::Results,
-        Elements::Different(_, index) if is_alike || is_direct(witness) => {
+    if let Elements::Different(_, index) = elements {
+        if is_alike || is_direct(witness) {
             return Advice::Between(name, index);
         }
-        _ => {}
     }
     if matches!(witness.meeting, Meeting::Turns) {
-        return advice_for_loop(witness, name, is_alike);
+        return advice_for_loop(witness, name, elements, is_alike);
     }
     if is_alike || writes_directly(race, witness) {
         if let Some(advice) = other_side_of(procedure, statements, race, witness) {
             return advice;
         }
     }
-    if is_alike {
-        Advice::Halves(name)
-    } else if are_both_ifs(statements, witness) {
-        Advice::Else
-    } else {
-        Advice::Order
+    let is_root = other_side(procedure, race.first.section).is_none();
+    match (is_alike, is_root && elements.is_one()) {
+        (true, true) => Advice::Results,
+        (true, false) => Advice::Halves(name),
+        (false, _) if are_both_ifs(statements, witness) => Advice::Else,
+        (false, _) => Advice::Order,
     }
 }
 
 /// Returns how to fix a race between iterations of a loop that access a section.
-fn advice_for_loop<'c>(witness: &Witness, name: &'c str, is_alike: bool) -> Advice<'c> {
-    if !is_alike {
-        Advice::Rounds
-    } else if splits_first(&witness.pending) {
-        Advice::Tiles
-    } else {
-        Advice::Halves(name)
+fn advice_for_loop<'c>(
+    witness: &Witness,
+    name: &'c str,
+    elements: Elements,
+    is_alike: bool,
+) -> Advice<'c> {
+    match (is_alike, elements.is_one()) {
+        (true, true) => Advice::Results,
+        (true, false) if splits_first(&witness.pending) => Advice::Tiles,
+        (true, false) => Advice::Halves(name),
+        (false, true) => Advice::Order,
+        (false, false) => Advice::Rounds,
     }
 }
 
@@ -221,9 +224,7 @@ fn push_advice(told: &mut String, advice: Advice<'_>) -> Result<(), AllocError> 
             told,
             "help: give each its own part: `split {name} at {index} as l, r {{ .. }}`; `r[0]` is then `{name}[{index}]`.\n"
         ),
-        Advice::OtherSide { whole, other, side } => {
-            push_other_side(told, whole, other, side)
-        }
+        Advice::OtherSide { whole, other, side } => { push_other_side(told, whole, other, side) }
         Advice::OneSplit(name) => write!(
             told,
             "help: split {name} only once, and then one of its sides; see `afx explain middle_part`.\n"
@@ -283,7 +284,8 @@ fn push_finish(
     )
 }
 
-const LOOP: &str = "the loop's body inside a finish, so that the iterations run one after another.\n";
+const LOOP: &str =
+    "the loop's body inside a finish, so that the iterations run one after another.\n";
 
 /// Returns the label of the first async on a way, or of its first step.
 fn begun_label(way: &[Step]) -> u32 {

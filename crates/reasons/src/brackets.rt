@@ -75,11 +75,7 @@ fn innermost(block: Block) -> Unclosed {
 
 /// Opens and closes the blocks of a line. Returns a block that a `}` at the start of the line
 /// closes, if their lines are indented differently.
-fn pass_line(
-    open: &mut Vec<Block>,
-    number: u32,
-    line: &str,
-) -> Result<Option<Block>, AllocError> {
+fn pass_line(open: &mut Vec<Block>, number: u32, line: &str) -> Result<Option<Block>, AllocError> {
     let code = without_comment(line);
     let indent = code.len().saturating_sub(code.trim_start().len());
     let mut column: u32 = 0;

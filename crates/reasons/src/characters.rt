@@ -43,12 +43,7 @@ pub fn mend_of_character(text: &str, place: Place) -> &'static str {
 }
 
 /// Handles an operator on bits, or a reference: after an opening parenthesis or a comma.
-fn mend_of_bits(
-    line: &str,
-    before: usize,
-    character: char,
-    next: Option<char>,
-) -> &'static str {
+fn mend_of_bits(line: &str, before: usize, character: char, next: Option<char>) -> &'static str {
     let is_twice = next == Some(character);
     match (character, last_before(line, before)) {
         ('&', _) if is_twice => "use `and`",

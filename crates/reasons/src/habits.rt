@@ -15,8 +15,7 @@ pub const FOR: &str = "there is no `for`: write `var i = 0; while i < n { .. i =
 pub const COMMENT: &str =
     "there are no comments between `/*` and `*/`: start a comment with `//`; it ends with its line";
 
-const TASKS: &str =
-    "start a task with `async { .. }` and wait for tasks with `finish { .. }`";
+const TASKS: &str = "start a task with `async { .. }` and wait for tasks with `finish { .. }`";
 
 const SHIFT: &str = "there are no shifts: multiply or divide by a power of 2";
 

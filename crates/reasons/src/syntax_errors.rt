@@ -293,10 +293,12 @@ impl Site<'_> {
     /// Adds which block is open at the end of the text.
     fn push_unclosed(&self, told: &mut String) -> Result<(), AllocError> {
         match unclosed_block(self.alloc, self.text)? {
-            Some(Unclosed {
-                place,
-                is_guessed: false,
-            }) => write!(told, "close the block that starts at {place} with `}}`"),
+            Some(
+                Unclosed {
+                    place,
+                    is_guessed: false,
+                },
+            ) => write!(told, "close the block that starts at {place} with `}}`"),
             Some(Unclosed { place, .. }) => write!(
                 told,
                 "add a `}}`: that of the block that starts at {place} seems to be missing"
