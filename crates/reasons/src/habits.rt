@@ -76,7 +76,7 @@ impl<'t> Around<'t> {
         }
     }
 
-    /// Handles a statement that starts with a word of another language, as in `lock (m) { }`.
+    /// Handles a statement that starts with a word of another language, as in `atomic { .. }`.
     fn mend_of_statement(self) -> Option<&'static str> {
         let is_first = match self.last_but_one {
             Some(token) => ends_statement(token),

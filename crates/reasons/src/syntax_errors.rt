@@ -96,8 +96,8 @@ fn push_unexpected(alloc: Global, told: &mut String, text: &str) -> Result<(), A
     let site = Site {
         alloc,
         text,
-        characters: &characters,
-        behind: &behind,
+        characters: characters.as_slice(),
+        behind: behind.as_slice(),
         many,
     };
     site.push_mend(told, &mut front)
@@ -250,7 +250,7 @@ impl Site<'_> {
         })
     }
 
-    /// Handles `=` behind a number: in an index, the index ends before it.
+    /// Handles `=` after a value: in an index, the index ends before it.
     fn mend_of_equality(&self, front: &mut Front) -> Result<Option<&'static str>, AllocError> {
         Ok(if front.takes_mark(Mark::RightBracket)? {
             None
@@ -319,7 +319,7 @@ impl Site<'_> {
     }
 }
 
-/// Returns whether the first token starts a value and isn't an operator.
+/// Returns whether the first token is a name or a number.
 fn begins_with_value(tokens: &[Spanned]) -> bool {
     match tokens.first() {
         Some(first) => match &first.token {
