@@ -203,7 +203,11 @@ fn push_length(
             }
         }
     }
-    told.push_str("help: write one number for each element; an omitted array starts with zeros.\n")
+    told.push_str(if value.get(name).and_then(Value::as_str).is_some() {
+        "help: write a list with the code of each letter, as in [107, 105]: there are no strings.\n"
+    } else {
+        "help: write one number for each element; an omitted array starts with zeros.\n"
+    })
 }
 
 /// Adds which element doesn't fit in an array.

@@ -532,10 +532,14 @@ impl<'t> Broken<'t> {
         self.push_start(told)?;
         if let Some((one, other)) = self.overlapping_ones()? {
             let (first, second) = (one.name, other.name);
-            write!(
-                told,
-                "`{first}` and `{second}` may overlap, and one of them is passed as `mut`.\n"
-            )?;
+            if first == second {
+                write!(told, "`{first}` is passed twice, and once as `mut`.\n")?;
+            } else {
+                write!(
+                    told,
+                    "`{first}` and `{second}` may overlap, and one of them is passed as `mut`.\n"
+                )?;
+            }
         }
         told.push_str(
             "help: pass sections that don't overlap: different arrays, or the two sides of one split.\n",
