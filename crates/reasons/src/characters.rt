@@ -26,18 +26,18 @@ pub fn mend_of_character(text: &str, place: Place) -> &'static str {
     if text.starts_with("{\"") {
         return INPUT;
     }
-    let line = line_of(text, place);
-    let before = usize::try_from(place.column).unwrap_or(1).saturating_sub(1);
     if is_in_comment(text, place) {
         return COMMENT;
     }
-    let mut rest = line.chars().skip(before);
-    let Some(character) = rest.next() else {
+    let line = line_of(text, place);
+    let before = usize::try_from(place.column).unwrap_or(1).saturating_sub(1);
+    let Some(character) = line.chars().nth(before) else {
         return "remove it";
     };
+    let next = line.chars().nth(before.saturating_add(1));
     match character {
-        '&' | '|' | '^' | '~' => mend_of_bits(line, before, character, rest.next()),
-        '.' => mend_of_point(line, before, rest.next()),
+        '&' | '|' | '^' | '~' => mend_of_bits(line, before, character, next),
+        '.' => mend_of_point(line, before, next),
         _ => mend_of_other(character),
     }
 }
