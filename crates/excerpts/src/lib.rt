@@ -7,5 +7,7 @@ pub mod escaped;
 pub mod named;
 pub mod nouns;
 pub mod paint;
+pub mod sides;
+pub mod similar;
 pub mod source;
 pub mod statements;

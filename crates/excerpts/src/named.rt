@@ -134,6 +134,14 @@ pub fn begins_with(tokens: &[Spanned], mark: Mark) -> bool {
     }
 }
 
+/// Returns whether a token is this name.
+pub fn is_name(spanned: &Spanned, name: &str) -> bool {
+    match &spanned.token {
+        Token::Name(found) => found.as_str() == name,
+        _ => false,
+    }
+}
+
 /// Returns whether a token is an arithmetic operator.
 pub fn is_operator(token: &Token) -> bool {
     match token {

@@ -29,17 +29,7 @@ impl Source {
 
     /// Returns the line and the column of a character, given by its number from 0.
     pub fn place(&self, at: usize) -> Place {
-        let mut line: u32 = 1;
-        let mut column: u32 = 1;
-        for character in self.characters.iter().take(at) {
-            if *character == '\n' {
-                line = line.saturating_add(1);
-                column = 1;
-            } else {
-                column = column.saturating_add(1);
-            }
-        }
-        Place { line, column }
+        place_of(&self.characters, at)
     }
 
     /// Returns the tokens from a place on.
@@ -72,6 +62,21 @@ impl Source {
         }
         self.characters.len()
     }
+}
+
+/// Returns the line and the column of a character of a text, given by its number from 0.
+pub fn place_of(characters: &[char], at: usize) -> Place {
+    let mut line: u32 = 1;
+    let mut column: u32 = 1;
+    for character in characters.iter().take(at) {
+        if *character == '\n' {
+            line = line.saturating_add(1);
+            column = 1;
+        } else {
+            column = column.saturating_add(1);
+        }
+    }
+    Place { line, column }
 }
 
 /// Adds an empty line, and the line of a place with a caret.

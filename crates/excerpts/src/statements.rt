@@ -1,12 +1,13 @@
 //! The statements of a program, by their labels.
 
-use crate::named::{Named, Role, head, is_operator, names};
+use crate::named::{Named, Role, begins_with, head, is_name, is_operator, names};
+use crate::sides::is_used;
 use crate::source::{Source, push_line};
 use places::statement_places;
 use std::alloc::{AllocError, Global};
 use syntax::Place;
 use syntax::lexer::Unread;
-use syntax::token::Spanned;
+use syntax::token::{Mark, Spanned, Token, Word};
 
 /// A text with its tokens, and the start of each of its statements.
 #[derive(Drop)]
@@ -99,12 +100,58 @@ impl<'t> Statements<'t> {
         None
     }
 
+    /// Returns whether a statement is an `if`.
+    pub fn is_if(&self, label: u32) -> bool {
+        match self.head(label).first() {
+            Some(first) => matches!(&first.token, Token::Word(Word::If)),
+            None => false,
+        }
+    }
+
+    /// Returns the index at which the head of a statement uses a section, if it is a number and the
+    /// only one: 0 for `sum` in `sum[0] = sum[0] + a[i];`.
+    pub fn constant_index(&self, label: u32, section: &str) -> Option<u64> {
+        let head = self.head(label);
+        let mut index = None;
+        for (number, spanned) in head.iter().enumerate() {
+            let behind = head.get(number.saturating_add(1)..).unwrap_or(&[]);
+            if is_name(spanned, section) && begins_with(behind, Mark::LeftBracket) {
+                let found = only_number(behind)?;
+                if index.is_some() && index != Some(found) {
+                    return None;
+                }
+                index = Some(found);
+            }
+        }
+        index
+    }
+
+    /// Returns whether the block of the split around a statement uses this side of the split.
+    pub fn uses_side(&self, label: u32, side: &str) -> bool {
+        match self.head(label).first() {
+            Some(first) => is_used(&self.source.tokens, first.at, side),
+            None => false,
+        }
+    }
+
     /// Returns the tokens of a statement's head.
     fn head(&self, label: u32) -> &[Spanned] {
         match self.place(label) {
             Some(place) => head(self.source.tokens_from(place)),
             None => &[],
         }
+    }
+}
+
+/// Returns the number in brackets that comes first, as in `[0]`, if only that is in them.
+fn only_number(tokens: &[Spanned]) -> Option<u64> {
+    let number = tokens.get(1)?;
+    if !begins_with(tokens.get(2..)?, Mark::RightBracket) {
+        return None;
+    }
+    match &number.token {
+        Token::Number(number) => Some(*number),
+        _ => None,
     }
 }
 

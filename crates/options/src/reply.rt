@@ -6,7 +6,7 @@ ghost use Rattle.clap.specs.declared.error.kind.ErrorKind.TheVariants.{OutOfMemo
 ghost use Rattle.options.specs.Replies.{IsConflict};
 ghost use Rattle.options.specs.declared.reply.Reply.TheVariants.{Said};
 
-use crate::table::commands;
+use crate::table::{commands, owners_of, range_of};
 use clap::error::ErrorKind;
 use clap::{ArgMatches, Command, Error};
 use pages::find::{contents, page_about, push_name_lines, tables};
@@ -50,17 +50,77 @@ pub fn matched<'w>(alloc: Global, words: &'w [String]) -> Result<ArgMatches<'w>,
     }
 }
 
-/// Returns what `clap` prints about the arguments. If the first one is a program, also shows how to
-/// run that program.
+/// Returns what `clap` prints about the arguments, with what is right if that is known: how to run
+/// a program that comes first, the commands that have an option, or the range of a number.
 fn mistaken(alloc: Global, words: &[String], error: Error) -> Result<Reply, AllocError> {
-    match words.first() {
-        Some(word)
-            if error.kind() == ErrorKind::InvalidSubcommand && word.as_str().ends_with(".afx") => {
-            let said = format!(in alloc; "{error}")?;
-            Ok(Reply::NoPage(with_hint(alloc, &said, word)?))
-        }
-        _ => Ok(Reply::Said(error)),
+    let mut hint = String::new(alloc);
+    match error.kind() {
+        ErrorKind::InvalidSubcommand => push_run(&mut hint, words)?,
+        ErrorKind::UnknownArgument => push_owners(alloc, &mut hint, &error)?,
+        ErrorKind::ValueValidation => push_range(alloc, &mut hint, &error)?,
+        _ => {}
     }
+    if hint.is_empty() {
+        return Ok(Reply::Said(error));
+    }
+    let said = format!(in alloc; "{error}")?;
+    Ok(Reply::NoPage(with_hint(alloc, &said, &hint)?))
+}
+
+/// Adds how to run the program that the first argument names, if it names one.
+fn push_run(hint: &mut String, words: &[String]) -> Result<(), AllocError> {
+    match words.first() {
+        Some(word) if word.as_str().ends_with(".afx") => {
+            hint.push_str("to run it: afx run ")?;
+            push_shown(hint, word)
+        }
+        _ => Ok(()),
+    }
+}
+
+/// Adds which commands have the option that is unexpected after another command.
+fn push_owners(alloc: Global, hint: &mut String, error: &Error) -> Result<(), AllocError> {
+    let said = format!(in alloc; "{error}")?;
+    let Some(option) = quoted_behind(&said, "unexpected argument '--") else {
+        return Ok(());
+    };
+    let owners = owners_of(alloc, option)?;
+    if owners.is_empty() {
+        return Ok(());
+    }
+    write!(hint, "tip: '--{option}' is an option of")?;
+    let mut before = " ";
+    for owner in &owners {
+        write!(hint, "{before}'afx {owner}'")?;
+        before = ", ";
+    }
+    Ok(())
+}
+
+/// Adds which numbers the option takes whose value is invalid.
+fn push_range(alloc: Global, hint: &mut String, error: &Error) -> Result<(), AllocError> {
+    let said = format!(in alloc; "{error}")?;
+    let Some(named) = quoted_behind(&said, "' for '--") else {
+        return Ok(());
+    };
+    let (option, _) = named.split_once(' ').unwrap_or((named, ""));
+    match range_of(option) {
+        Some(range) => {
+            let (least, most) = (range.least, range.most);
+            write!(
+                hint,
+                "tip: '--{option}' takes an integer from {least} to {most}, in digits"
+            )
+        }
+        None => Ok(()),
+    }
+}
+
+/// Returns what follows some words of a message, up to the next quote.
+fn quoted_behind<'s>(said: &'s str, words: &str) -> Option<&'s str> {
+    let (_, behind) = said.split_once(words)?;
+    let (quoted, _) = behind.split_once('\'')?;
+    Some(quoted)
 }
 
 /// Returns the error for two arguments that name the same file.
@@ -73,15 +133,24 @@ pub fn named_twice(alloc: Global) -> Result<Reply, Error>
     Ok(Reply::Said(commands(alloc)?.error(ErrorKind::ArgumentConflict, mistake)?))
 }
 
-/// Inserts how to run the program after the first paragraph of an error.
-fn with_hint(alloc: Global, said: &str, program: &str) -> Result<String, AllocError> {
+/// Inserts a line after the first paragraph of an error, in place of a tip of `clap`.
+fn with_hint(alloc: Global, said: &str, hint: &str) -> Result<String, AllocError> {
     let (first, others) = said.split_once("\n\n").unwrap_or((said, ""));
     let mut text = String::from_str(alloc, first)?;
-    text.push_str("\n\n  to run it: afx run ")?;
-    push_shown(&mut text, program)?;
-    text.push_str("\n\n")?;
-    text.push_str(others)?;
+    write!(text, "\n\n  {hint}\n\n")?;
+    text.push_str(without_tip(others))?;
     Ok(text)
+}
+
+/// Returns the paragraphs of a message without a tip at their start.
+fn without_tip(paragraphs: &str) -> &str {
+    match paragraphs.strip_prefix("  tip:") {
+        Some(behind) => match behind.split_once("\n\n") {
+            Some((_, others)) => others,
+            None => "",
+        },
+        None => paragraphs,
+    }
 }
 
 /// Returns the page for the words after `explain`. Without words, or with `--list`, returns the

@@ -447,6 +447,63 @@ pub const CLOSING: Closing<'static> = Closing {
     ],
 };
 
+// ---- what a message about a mistake says
+
+/// The numbers that an option takes, both ends included.
+#[derive(Clone, Copy)]
+pub struct Range {
+    pub least: u64,
+    pub most: u64,
+}
+
+/// Returns the commands that have an option with this name.
+pub fn owners_of(alloc: Global, option: &str) -> Result<Vec<&'static str>, AllocError> {
+    let mut owners = Vec::new(alloc);
+    for row in ROWS {
+        for entry in row.entries {
+            if entry.name == option && is_option(entry.takes) {
+                owners.push(row.name)?;
+            }
+        }
+    }
+    Ok(owners)
+}
+
+/// Returns the numbers that the option with this name takes, if it takes one.
+pub fn range_of(option: &str) -> Option<Range> {
+    for row in ROWS {
+        for entry in row.entries {
+            if entry.name == option {
+                return numbers_of(entry.takes);
+            }
+        }
+    }
+    None
+}
+
+/// Returns whether an entry is an option.
+fn is_option(takes: Takes) -> bool {
+    match takes {
+        Takes::File | Takes::Shell | Takes::Words => false,
+        _ => true,
+    }
+}
+
+/// Returns the numbers that an entry takes.
+fn numbers_of(takes: Takes) -> Option<Range> {
+    match takes {
+        Takes::Number(least, most) => Some(Range {
+            least: u64::try_from(least).unwrap_or(0),
+            most: u64::try_from(most).unwrap_or(0),
+        }),
+        Takes::Seed => Some(Range {
+            least: 0,
+            most: u64::MAX,
+        }),
+        _ => None,
+    }
+}
+
 // ---- conversion to `clap`
 
 /// Returns the program with its commands.

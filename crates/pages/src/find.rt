@@ -6,12 +6,12 @@ ghost use Rattle.std.specs.String.{string_bytes};
 ghost use Rattle.pages.specs.Pages.{answers_to, head_text, spaced_name};
 
 use crate::page::{Page, push_all};
-use crate::{faults, files, idioms, inputs, races, rules, runs, texts, traces, words};
+use crate::{faults, files, idioms, inputs, races, rules, runs, tasks, texts, traces, words};
 use std::alloc::{AllocError, Global};
 
 /// Returns all pages, topic by topic. (Each topic is a call, because the prover's time for
 /// constants in one body grows with the square of their length.)
-pub fn tables() -> [&'static [Page]; 10] {
+pub fn tables() -> [&'static [Page]; 11] {
     [
         texts::pages(),
         rules::pages(),
@@ -23,6 +23,7 @@ pub fn tables() -> [&'static [Page]; 10] {
         traces::pages(),
         words::pages(),
         idioms::pages(),
+        tasks::pages(),
     ]
 }
 

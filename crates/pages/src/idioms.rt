@@ -11,7 +11,7 @@ pub(crate) fn pages() -> &'static [Page] {
 const PAGES: &[Page] = &[
     page! {
         name: "parallel_loop",
-        others: ["parallel-for"],
+        others: ["parallel-loop", "parallel_for", "parallel-for"],
         about: "parallel loop",
         rule: "A procedure halves its section recursively and runs a loop on small parts. The left half becomes a task; the right half
 runs in the same task. `first` is the offset: `part[i]` is element `first + i` of the whole array. Only the outermost
@@ -58,6 +58,7 @@ read after the finish.",
     },
     page! {
         name: "cut_alike",
+        others: ["cut-alike"],
         about: "splitting several arrays at the same point",
         rule: "Split the sections at matching points, so that each task gets the elements that belong together.",
         shape: [
@@ -78,6 +79,7 @@ read after the finish.",
     },
     page! {
         name: "middle_part",
+        others: ["middle-part"],
         about: "a part in the middle",
         rule: "Split twice, the second time the right side of the first split. The three parts don't overlap, so each can go to a task.",
         shape: [
@@ -116,6 +118,7 @@ siblings and not nested.",
     },
     page! {
         name: "scratch_space",
+        others: ["scratch-space"],
         about: "scratch space for tasks",
         rule: "Procedures can't declare arrays. Declare the scratch array in `main`, pass it down and split it together with the data.",
         shape: [
@@ -135,7 +138,7 @@ siblings and not nested.",
     },
     page! {
         name: "turned_names",
-        others: ["swap"],
+        others: ["turned-names", "swap"],
         about: "double buffering",
         rule: "Each round reads the whole old array and writes parts of the new one. The next round swaps the two arguments. After an
 even number of rounds the result is in the first array.",
@@ -152,6 +155,7 @@ even number of rounds the result is in the first array.",
     },
     page! {
         name: "reader_of_all",
+        others: ["reader-of-all"],
         about: "shared read-only array",
         rule: "Any number of tasks can read a section that no task writes. `run` shares its blocks of 256 elements without copying;
 only partial blocks are copied.",

@@ -18,6 +18,7 @@ pub mod races;
 pub mod rules;
 pub mod runs;
 pub mod shell;
+pub mod tasks;
 pub mod texts;
 pub mod traces;
 pub mod words;

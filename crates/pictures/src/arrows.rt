@@ -7,7 +7,7 @@ use trace_layout::axis::LEFT;
 use trace_layout::moves::{Steal, Taking};
 
 /// The maximum number of steals that have an arrow each.
-const ARROWS: usize = 500;
+pub const ARROWS: usize = 500;
 
 /// The number of intervals of the axis in which steals are counted beyond that.
 const STRETCHES: usize = 200;

@@ -7,13 +7,14 @@ use std::alloc::{AllocError, Global};
 use svg::elements::{Line, Rectangle, push_line, push_rectangle, push_words};
 use trace_layout::axis::LEFT;
 
-/// Adds the beginning of the SVG, with its style sheet.
+/// Adds the beginning of the SVG, with its style sheet. It has a view box, so that a page can scale
+/// it.
 pub fn push_beginning(text: &mut String, width: u32, height: u32) -> Result<(), AllocError> {
     let width = width / 10;
     let height = height / 10;
     write!(
         text,
-        "<svg xmlns=\"http://www.w3.org/2000/svg\" width=\"{width}\" height=\"{height}\">\n"
+        "<svg xmlns=\"http://www.w3.org/2000/svg\" width=\"{width}\" height=\"{height}\" viewBox=\"0 0 {width} {height}\">\n"
     )?;
     text.push_str(STYLE)
 }

@@ -3,6 +3,7 @@
 use std::alloc::{AllocError, Global};
 use svg::elements::push_words;
 use trace_layout::axis::LEFT;
+use trace_layout::finishes::Finish;
 use trace_numbers::summary::Summary;
 use trace_numbers::text::push_parallelism;
 
@@ -23,19 +24,19 @@ pub fn heading_of(alloc: Global, heading: &str) -> Result<String, AllocError> {
 }
 
 /// Returns `4 workers · 96 events · 8 tasks · 2 finish scopes · 15 steals · work 61 steps · span 17
-/// steps · parallelism 3.59`.
+/// steps · parallelism 3.59`, and ` · the trace ends early` if it does.
 pub fn numbers_of(
     alloc: Global,
     summary: &Summary,
     workers: u32,
     events: usize,
-    finishes: usize,
+    finishes: &[Finish],
 ) -> Result<String, AllocError> {
     let mut text = String::new(alloc);
     push_count(&mut text, "", workers as usize, "worker")?;
     push_count(&mut text, " · ", events, "event")?;
     push_count(&mut text, " · ", summary.tasks, "task")?;
-    push_count(&mut text, " · ", finishes, "finish scope")?;
+    push_count(&mut text, " · ", finishes.len(), "finish scope")?;
     push_count(&mut text, " · ", summary.steals, "steal")?;
     push_count(&mut text, " · work ", summary.steps, "step")?;
     push_count(&mut text, " · span ", summary.span, "step")?;
@@ -43,7 +44,18 @@ pub fn numbers_of(
     push_parallelism(&mut text, summary.steps, summary.span)?;
     // Remove the newline at the end.
     let _ = text.pop();
+    if !is_whole(finishes) {
+        text.push_str(" · the trace ends early")?;
+    }
     Ok(text)
+}
+
+/// Returns whether a trace leads to the end of its run: the root's scope, the first one, has passed.
+fn is_whole(finishes: &[Finish]) -> bool {
+    match finishes.first() {
+        Some(root) => root.is_passed,
+        None => false,
+    }
 }
 
 /// Adds ` · 96 events`.

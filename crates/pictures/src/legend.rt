@@ -1,5 +1,6 @@
 //! The legend: the meaning of colours and marks.
 
+use crate::arrows::ARROWS;
 use crate::bars::colour;
 use crate::sheet::Sheet;
 use std::alloc::{AllocError, Global};
@@ -18,9 +19,10 @@ pub fn push_legend(
     alloc: Global,
     sheet: Sheet,
     spells: &[Spell],
+    steals: usize,
 ) -> Result<(), AllocError> {
     push_depths(text, alloc, sheet, spells)?;
-    push_marks(text, sheet.legend() + 220)
+    push_marks(text, sheet, steals)
 }
 
 /// Adds the colours of the depths.
@@ -48,31 +50,56 @@ fn push_depths(
     Ok(())
 }
 
-/// Adds the marks.
-fn push_marks(text: &mut String, y: u32) -> Result<(), AllocError> {
+/// Adds the marks that the picture has: those of single events only if the columns are wide enough.
+fn push_marks(text: &mut String, sheet: Sheet, steals: usize) -> Result<(), AllocError> {
+    let y = sheet.legend() + 220;
+    let chain = Rectangle {
+        x: 960,
+        y: y + 70,
+        width: 140,
+        height: 30,
+    };
+    push_rectangle(text, "chain", &chain)?;
+    push_words(text, "path", 1140, y + 100, "longest chain (span)")?;
+    push_steal(text, y, steals)?;
+    push_line(text, "wait", &Line::level(3060, 3320, y + 60))?;
+    push_words(text, "path", 3380, y + 100, "owner waits")?;
+    if sheet.axis.is_wide() {
+        push_event_marks(text, y)?;
+    }
+    Ok(())
+}
+
+/// Adds the mark of a steal: an arrow, or a tick if steals are counted.
+fn push_steal(text: &mut String, y: u32, steals: usize) -> Result<(), AllocError> {
+    if steals > ARROWS {
+        let tick = Rectangle {
+            x: 2480,
+            y,
+            width: 60,
+            height: 120,
+        };
+        push_rectangle(text, "tick", &tick)?;
+    } else {
+        let middle = y.saturating_add(60);
+        push_line(text, "steal", &Line::level(2360, 2580, middle))?;
+    }
+    push_words(text, "path", 2640, y.saturating_add(100), "steal")
+}
+
+/// Adds the marks of single events.
+fn push_event_marks(text: &mut String, y: u32) -> Result<(), AllocError> {
     let words = y.saturating_add(100);
     let middle = y.saturating_add(60);
-    push_rectangle(
-        text,
-        "chain",
-        &Rectangle {
-            x: 960,
-            y: y.saturating_add(70),
-            width: 140,
-            height: 30,
-        },
-    )?;
-    push_words(text, "path", 1140, words, "longest chain (span)")?;
-    push_line(text, "steal", &Line::level(2360, 2580, middle))?;
-    push_words(text, "path", 2640, words, "steal")?;
-    push_triangle(text, 3060, y.saturating_add(20))?;
-    push_words(text, "path", 3180, words, "spawn")?;
-    push_words(text, "mark", 3660, words, "[ ]")?;
-    push_words(text, "path", 3800, words, "finish opened, owner parked")?;
-    push_line(text, "edge", &Line::upright(5520, y, y.saturating_add(130)))?;
-    push_words(text, "path", 5600, words, "task's end")?;
-    push_line(text, "wait", &Line::level(6360, 6620, middle))?;
-    push_words(text, "path", 6680, words, "owner waits")?;
-    push_circle(text, "back", 7500, middle)?;
-    push_words(text, "path", 7580, words, "weight back")
+    push_triangle(text, 4200, y.saturating_add(20))?;
+    push_words(text, "path", 4320, words, "spawn")?;
+    push_words(text, "mark", 4780, words, "[")?;
+    push_words(text, "path", 4880, words, "finish opened")?;
+    push_words(text, "mark", 5760, words, "]")?;
+    push_circle(text, "owner", 5880, middle)?;
+    push_words(text, "path", 5980, words, "owner parked")?;
+    push_line(text, "edge", &Line::upright(6820, y, y.saturating_add(130)))?;
+    push_words(text, "path", 6900, words, "task's end")?;
+    push_circle(text, "back", 7660, middle)?;
+    push_words(text, "path", 7740, words, "weight back")
 }

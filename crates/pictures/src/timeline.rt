@@ -44,7 +44,7 @@ pub fn draw(
         &summary,
         header.workers,
         events.len(),
-        layout.finishes.all.len(),
+        &layout.finishes.all,
     )?;
     let mut text = String::new(alloc);
     push_paper(&mut text, sheet, heading.len(), numbers.len())?;
@@ -55,7 +55,13 @@ pub fn draw(
     push_steals(&mut text, alloc, sheet, &layout.moves.steals)?;
     brackets.push(&mut text, alloc, sheet, &layout.finishes)?;
     push_busy(&mut text, alloc, sheet, &layout.in_hands)?;
-    push_legend(&mut text, alloc, sheet, &layout.spells.all)?;
+    push_legend(
+        &mut text,
+        alloc,
+        sheet,
+        &layout.spells.all,
+        layout.moves.steals.len(),
+    )?;
     text.push_str("</svg>\n")?;
     Ok(text)
 }

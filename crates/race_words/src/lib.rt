@@ -2,8 +2,10 @@
 
 #![tactic(auto)]
 
+mod elements;
 mod lines;
 mod mends;
 mod names;
+mod starts;
 pub mod told;
 mod way;

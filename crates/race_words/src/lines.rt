@@ -9,11 +9,15 @@ use types::code::Label;
 /// The number of characters that are shown of a line of the program.
 const SHOWN: usize = 44;
 
-/// Returns the line at which a statement starts, without white space around it.
-fn line_at<'t>(statements: &Statements<'t>, label: Label) -> &'t str {
+/// Returns the line at which a statement starts, without white space at its end, and the number of
+/// characters before the statement.
+fn line_at<'t>(statements: &Statements<'t>, label: Label) -> (&'t str, usize) {
     match statements.place(label) {
-        Some(place) => line_of(statements.text, place).trim(),
-        None => "",
+        Some(place) => {
+            let before = usize::try_from(place.column).unwrap_or(1).saturating_sub(1);
+            (line_of(statements.text, place).trim_end(), before)
+        }
+        None => ("", 0),
     }
 }
 
@@ -36,7 +40,7 @@ pub fn push_lines(
     Ok(())
 }
 
-/// Adds the number and the text of a statement's line, padded with spaces.
+/// Adds the number of a statement's line and its text from the statement on, padded with spaces.
 fn push_shown(
     told: &mut String,
     statements: &Statements<'_>,
@@ -48,8 +52,9 @@ fn push_shown(
         None => 0,
     };
     write!(told, "{number:>6}   ")?;
+    let (line, before) = line_at(statements, label);
     let mut left = width;
-    for character in line_at(statements, label).chars().take(SHOWN) {
+    for character in line.chars().skip(before).take(SHOWN) {
         told.push(if character.is_control() {
             ' '
         } else {
@@ -65,8 +70,9 @@ fn push_shown(
 
 /// Returns the number of characters that are shown of a statement's line.
 fn shown_length(statements: &Statements<'_>, label: Label) -> usize {
+    let (line, before) = line_at(statements, label);
     let mut length: usize = 0;
-    for _ in line_at(statements, label).chars().take(SHOWN) {
+    for _ in line.chars().skip(before).take(SHOWN) {
         length = length.saturating_add(1);
     }
     length

@@ -1,6 +1,7 @@
 //! The names of sections and procedures.
 
 use sections::id::SectionId;
+use sections::origin::Origin;
 use types::code::{Procedure, Program};
 use types::ids::ProcedureId;
 
@@ -9,6 +10,28 @@ pub fn procedure_of(code: &Program, procedure: ProcedureId) -> &Procedure {
     match code.procedures.get(procedure.number) {
         Some(procedure) => procedure,
         None => &code.main,
+    }
+}
+
+/// Returns whether a procedure is `main`.
+pub fn is_main(code: &Program, procedure: ProcedureId) -> bool {
+    code.procedures.get(procedure.number).is_none()
+}
+
+/// Returns the other side of the split that a section is a side of.
+pub fn other_side(procedure: &Procedure, side: SectionId) -> Option<SectionId> {
+    let sections = &procedure.sections;
+    if side.number >= sections.len() {
+        return None;
+    }
+    match sections.origin(side) {
+        Origin::Root => None,
+        Origin::Left { .. } => Some(SectionId {
+            number: side.number.saturating_add(1),
+        }),
+        Origin::Right { .. } => Some(SectionId {
+            number: side.number.saturating_sub(1),
+        }),
     }
 }
 

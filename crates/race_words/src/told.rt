@@ -1,5 +1,6 @@
 //! The text after the line of a race.
 
+use crate::elements::elements_of;
 use crate::lines::push_lines;
 use crate::mends::{push_mend, push_sharing, push_unfinished};
 use crate::names::{kind_word, procedure_name, procedure_of, section_name};
@@ -37,9 +38,10 @@ pub fn explained(
     push_accesses(&mut told, &statements, code, race, ways)?;
     told.push_str("They may run in parallel:\n")?;
     push_ways(alloc, &mut told, &statements, code, race, witness)?;
+    let elements = elements_of(code, &statements, race, witness);
     push_unfinished(&mut told, witness)?;
-    push_sharing(&mut told, code, race, witness.sharing)?;
-    push_mend(&mut told, &statements, witness)?;
+    push_sharing(&mut told, code, race, witness.sharing, elements)?;
+    push_mend(&mut told, code, &statements, race, witness, elements)?;
     Ok(told)
 }
 

@@ -36,16 +36,6 @@ pub fn end_of(procedure: ProcedureId, way: &[Step]) -> End {
     end
 }
 
-/// Returns whether a way goes through an async.
-pub fn is_begun(way: &[Step]) -> bool {
-    for step in way {
-        if matches!(step.rule, Rule::Begin) {
-            return true;
-        }
-    }
-    false
-}
-
 /// Adds the lines of a way that starts in a procedure: its calls, tasks and splits, and its access.
 pub fn push_way(
     alloc: Global,

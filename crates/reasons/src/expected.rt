@@ -18,6 +18,15 @@ const MARKS: &[&str] = &[
     ">=", "==", "!=",
 ];
 
+/// A token that is expected.
+#[derive(Clone, Copy)]
+enum Choice {
+    /// Any token of a kind: `a name`
+    Kind(&'static str),
+    /// The token with this text: `while`
+    Text(&'static str),
+}
+
 /// The tokens before the place of a syntax error.
 #[derive(Drop)]
 pub struct Front {
@@ -51,6 +60,11 @@ impl Front {
         self.takes(Token::Name(name))
     }
 
+    /// Returns whether a reserved word can follow them.
+    pub fn takes_word(&mut self, word: Word) -> Result<bool, AllocError> {
+        self.takes(Token::Word(word))
+    }
+
     /// Returns whether a mark can follow them.
     pub fn takes_mark(&mut self, mark: Mark) -> Result<bool, AllocError> {
         self.takes(Token::Mark(mark))
@@ -73,26 +87,27 @@ impl Front {
         Ok(is_name && self.takes_mark(Mark::Plus)?)
     }
 
-    /// Adds what can follow them.
-    pub fn push_expected(&mut self, told: &mut String) -> Result<(), AllocError> {
-        told.push_str("Expected one of:")?;
+    /// Adds what can follow them. Returns the number of different tokens.
+    pub fn push_expected(&mut self, told: &mut String) -> Result<usize, AllocError> {
+        let mut choices = Vec::new(self.alloc);
         if self.takes_name()? {
-            told.push_str(" a name")?;
+            choices.push(Choice::Kind("a name"))?;
         }
         if self.takes(Token::Number(0))? {
-            told.push_str(" a number")?;
+            choices.push(Choice::Kind("a number"))?;
         }
-        self.push_words(told)?;
-        self.push_marks(told)?;
-        told.push('\n')
+        self.add_words(&mut choices)?;
+        self.add_marks(&mut choices)?;
+        push_choices(told, &choices)?;
+        Ok(choices.len())
     }
 
     /// Adds the reserved words that can follow them.
-    fn push_words(&mut self, told: &mut String) -> Result<(), AllocError> {
+    fn add_words(&mut self, choices: &mut Vec<Choice>) -> Result<(), AllocError> {
         for text in WORDS {
             if let Some(word) = Word::of(text) {
                 if self.takes(Token::Word(word))? {
-                    write!(told, " {text}")?;
+                    choices.push(Choice::Text(*text))?;
                 }
             }
         }
@@ -100,11 +115,11 @@ impl Front {
     }
 
     /// Adds the marks that can follow them.
-    fn push_marks(&mut self, told: &mut String) -> Result<(), AllocError> {
+    fn add_marks(&mut self, choices: &mut Vec<Choice>) -> Result<(), AllocError> {
         for text in MARKS {
             if let Some(mark) = mark_of(text) {
                 if self.takes(Token::Mark(mark))? {
-                    write!(told, " {text}")?;
+                    choices.push(Choice::Text(*text))?;
                 }
             }
         }
@@ -122,6 +137,24 @@ impl Front {
             Err(Stuck::OutOfMemory) => Err(AllocError),
         }
     }
+}
+
+/// Adds a sentence with what is expected.
+fn push_choices(told: &mut String, choices: &[Choice]) -> Result<(), AllocError> {
+    let mut before = match choices.len() {
+        0 => return Ok(()),
+        1 => "Expected ",
+        _ => "Expected one of: ",
+    };
+    for choice in choices {
+        told.push_str(before)?;
+        match *choice {
+            Choice::Kind(words) => told.push_str(words)?,
+            Choice::Text(text) => write!(told, "`{text}`")?,
+        }
+        before = ", ";
+    }
+    told.push_str(".\n")
 }
 
 /// Returns the text of a reserved word.

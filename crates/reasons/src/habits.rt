@@ -5,23 +5,22 @@ use syntax::token::{Mark, Spanned, Token, Word};
 
 const ELSE_IF: &str = "there is no `else if`: write `else { if .. { .. } }`";
 
-const BLOCK: &str = "start the block with `{`";
+/// What to write before a block.
+pub const BLOCK: &str = "start the block with `{`";
 
-const FOR: &str = "there is no `for`: write `var i = 0; while i < n { .. i = i + 1; }`";
+/// What to write instead of a loop that counts.
+pub const FOR: &str = "there is no `for`: write `var i = 0; while i < n { .. i = i + 1; }`";
 
-/// Returns what to write instead of an unexpected character.
-pub fn mend_of_character(character: Option<char>) -> &'static str {
-    match character {
-        Some('&') => "use `and`",
-        Some('|') => "use `or`",
-        Some('!') => "use `not` to negate; not equal is `!=`",
-        Some('"') | Some('\'') => "print only numbers; there are no strings",
-        Some('.') => "use an integer; the length of a section is `len(s)`",
-        Some('#') => "use `//` for a comment",
-        Some('\u{feff}') => "save the file without a byte order mark",
-        _ => "remove it; comments start with `//`, and not equal is `!=`",
-    }
-}
+/// What to write instead of a comment between marks.
+pub const COMMENT: &str =
+    "there are no comments between `/*` and `*/`: start a comment with `//`; it ends with its line";
+
+const TASKS: &str = "start a task with `async { .. }` and wait for tasks with `finish { .. }`";
+
+const SHIFT: &str = "there are no shifts: multiply or divide by a power of 2";
+
+/// What to write instead of a computed length of an array.
+const LENGTH: &str = "write the length as one number; it can't be computed";
 
 /// The tokens around the place of a syntax error: three before it, and two from it on.
 #[derive(Clone, Copy)]
@@ -59,6 +58,9 @@ impl<'t> Around<'t> {
         if let Some(mend) = mend_of_name(self.last) {
             return Some(mend);
         }
+        if let Some(mend) = self.mend_of_statement() {
+            return Some(mend);
+        }
         if self.begins_for() {
             return Some(FOR);
         }
@@ -74,12 +76,26 @@ impl<'t> Around<'t> {
         }
     }
 
+    /// Handles a statement that starts with a word of another language, as in `atomic { .. }`.
+    fn mend_of_statement(self) -> Option<&'static str> {
+        let is_first = match self.last_but_one {
+            Some(token) => ends_statement(token),
+            None => true,
+        };
+        match self.last {
+            Some(Token::Name(name)) if is_first => mend_of_statement_name(name),
+            _ => None,
+        }
+    }
+
     /// Handles an unexpected type.
     fn mend_of_type(self) -> Option<&'static str> {
         if self.is_ended() {
             Some("declare a variable as in `var x = 1;`")
         } else if self.is_parameter() {
             Some("write the type after the name, as in `n: int` or `mut s: int`")
+        } else if matches!(self.last, Some(Token::Mark(Mark::Colon))) {
+            Some("declare a number as `int`; only sections have bytes, as in `mut s: byte`")
         } else {
             self.mend_behind()
         }
@@ -111,27 +127,43 @@ impl<'t> Around<'t> {
             (Some(Token::Name(_)), Mark::LeftBracket) if self.declares(Word::Array) => {
                 Some("write the type before the length, as in `array a: int[8];`")
             }
+            (_, Mark::Colon) if matches!(self.second, Some(Token::Mark(Mark::Becomes))) => {
+                Some("assign with `=`, as in `x = 1;`, and declare with `var`, as in `var x = 1;`")
+            }
             (Some(Token::Name(_)), Mark::Colon) if self.declares(Word::Var) => {
                 Some("remove the type: variables are integers, as in `var x = 1;`")
             }
             (_, Mark::Semicolon) if self.is_ended() => {
                 Some("remove it; the empty statement is `skip;`")
             }
+            (Some(Token::Number(_)), _) if self.computes_length() => Some(LENGTH),
+            (Some(Token::Mark(last)), _) => self.mend_of_marks(*last, mark),
+            _ => self.mend_of_step(mark),
+        }
+    }
+
+    /// Handles a mark after another one, as in `1 << 2` or `/* c */`.
+    fn mend_of_marks(self, last: Mark, mark: Mark) -> Option<&'static str> {
+        match (last, mark) {
+            (Mark::Slash, Mark::Star) => Some(COMMENT),
+            (Mark::Less, Mark::Less) | (Mark::Greater, Mark::Greater) => Some(SHIFT),
+            (Mark::Star, Mark::Star) => Some("there are no powers: multiply in a loop"),
             _ => self.mend_of_step(mark),
         }
     }
 
     /// Handles `x++`, `x += 1` and the like.
     fn mend_of_step(self, mark: Mark) -> Option<&'static str> {
-        match self.second {
-            Some(Token::Mark(second)) => {
-                if *second == mark && (mark == Mark::Plus || mark == Mark::Minus) {
-                    Some("there is no `x++`: write `x = x + 1;`")
-                } else if *second == Mark::Becomes && self.first.is_some_and(is_operator) {
-                    Some("there are no compound assignments such as `+=`: write `x = x + ..;`")
-                } else {
-                    self.mend_behind()
-                }
+        let Some(Token::Mark(second)) = self.second else {
+            return self.mend_behind();
+        };
+        match (mark, *second) {
+            (Mark::Plus, Mark::Plus) | (Mark::Minus, Mark::Minus) => {
+                Some("there is no `x++`: write `x = x + 1;`")
+            }
+            (Mark::Slash, Mark::Star) | (Mark::Star, Mark::Slash) => Some(COMMENT),
+            (_, Mark::Becomes) if self.first.is_some_and(is_operator) => {
+                Some("there are no compound assignments such as `+=`: write `x = x + ..;`")
             }
             _ => self.mend_behind(),
         }
@@ -148,9 +180,7 @@ impl<'t> Around<'t> {
                 Some("put the body of the finish in braces, as in `finish { f(a); }`")
             }
             (Some(Token::Word(Word::Int)), Some(Token::Mark(Mark::LeftBracket)))
-            | (Some(Token::Word(Word::Byte)), Some(Token::Mark(Mark::LeftBracket))) => {
-                Some("write the length as a number")
-            }
+            | (Some(Token::Word(Word::Byte)), Some(Token::Mark(Mark::LeftBracket))) => Some(LENGTH),
             _ => None,
         }
     }
@@ -167,6 +197,16 @@ impl<'t> Around<'t> {
     fn declares(self, declaring: Word) -> bool {
         match self.last_but_one {
             Some(Token::Word(word)) => *word == declaring,
+            _ => false,
+        }
+    }
+
+    /// Returns whether an operator follows the length of an array, as in `int[3 * 4]`.
+    fn computes_length(self) -> bool {
+        match (self.last_but_two, self.last_but_one) {
+            (Some(Token::Word(word)), Some(Token::Mark(Mark::LeftBracket))) => {
+                (*word == Word::Int || *word == Word::Byte) && self.first.is_some_and(is_operator)
+            }
             _ => false,
         }
     }
@@ -234,10 +274,63 @@ fn mend_of_name(token: Option<&Token>) -> Option<&'static str> {
             "there is no `break` or `continue`: a loop ends only by its condition",
         ),
         "elif" | "elsif" | "elseif" => Some(ELSE_IF),
-        "spawn" | "sync" | "await" => {
-            Some("start a task with `async { .. }` and wait for tasks with `finish { .. }`")
-        }
+        "spawn" | "sync" | "await" => Some(TASKS),
         _ => None,
+    }
+}
+
+/// Returns what to write instead of a statement that starts with a name as in other languages.
+fn mend_of_statement_name(name: &str) -> Option<&'static str> {
+    match name {
+        "cilk_spawn" | "cilk_sync" | "cilk_scope" | "cobegin" => Some(TASKS),
+        "parallel_for" | "cilk_for" | "parallel" | "parfor" | "forall" | "coforall" => Some(
+            "there is no parallel loop: halve a section, with a task for each half; see `afx explain parallel_loop`",
+        ),
+        "atomic" | "critical" | "mutex" | "lock" | "synchronized" => Some(
+            "there are no locks or atomics: give each task its own result, and read them after the finish; see `afx explain answers`",
+        ),
+        "switch" | "match" => Some("write an `if` for each case"),
+        "print_int" | "println" | "printf" | "puts" | "echo" => {
+            Some("print numbers with `print`, as in `print x, a[0];`")
+        }
+        "bool" | "auto" | "long" | "float" | "double" | "i32" | "i64" | "u32" | "usize" => Some(
+            "declare a variable as in `var x = 1;`",
+        ),
+        _ => None,
+    }
+}
+
+/// Returns whether the first token compares two numbers.
+pub fn begins_with_relation(tokens: &[Spanned]) -> bool {
+    match token_at(tokens, 0) {
+        Some(Token::Mark(mark)) => match *mark {
+            Mark::Less | Mark::AtMost | Mark::Greater | Mark::AtLeast => true,
+            Mark::Equal | Mark::Differs => true,
+            _ => false,
+        },
+        _ => false,
+    }
+}
+
+/// Returns what to write in the head of a procedure that would give a value, as in `proc f() -> int`.
+pub fn mend_of_head(before: &[Spanned], behind: &[Spanned]) -> Option<&'static str> {
+    let Some(Token::Word(Word::Proc)) = first_of_statement(before) else {
+        return None;
+    };
+    match token_at(behind, 0) {
+        Some(Token::Mark(Mark::Minus)) | Some(Token::Mark(Mark::Colon)) => Some(
+            "start the body with `{`: procedures return no value; write the result into a `mut` section",
+        ),
+        _ => None,
+    }
+}
+
+/// Returns what to write instead of a name where a type is expected.
+pub fn mend_of_type_name(name: &str) -> &'static str {
+    match name {
+        "bool" | "boolean" | "Bool" => "declare a boolean as `int`, and use 0 and 1",
+        "char" | "u8" | "uint8_t" => "use `int`, or `byte` for the elements of sections",
+        _ => "use `int`, a number of 64 bits, or `byte` for the elements of sections",
     }
 }
 

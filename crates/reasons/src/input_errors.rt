@@ -2,6 +2,7 @@
 
 use excerpts::escaped::Escaped;
 use excerpts::nouns::noun;
+use excerpts::similar::similar;
 use excerpts::source::{line_of, push_excerpt};
 use serde_json::Value;
 use std::alloc::{AllocError, Global};
@@ -25,13 +26,14 @@ pub fn explained_input(
             if wrong.is_memory() {
                 return Err(AllocError);
             }
-            push_no_json(&mut told, text, wrong.line(), wrong.column())?;
+            let place = place_in(text, wrong.line(), wrong.column());
+            push_no_json(&mut told, text, place, wrong.is_eof())?;
             return Ok(told);
         }
     };
     match error {
         InputError::NotAnObject => told.push_str(NO_OBJECT)?,
-        InputError::UnknownArray { name } => push_unknown(&mut told, arrays, name)?,
+        InputError::UnknownArray { name } => push_unknown(alloc, &mut told, arrays, name)?,
         InputError::WrongLength { name } => push_length(&mut told, arrays, &value, name)?,
         InputError::WrongElement { name } => push_element(alloc, &mut told, arrays, &value, name)?,
         _ => {}
@@ -44,22 +46,58 @@ The input must be one object with a list of numbers for each array that doesn't 
 help: write {\"a\": [1, 2]}, where a is the name of an array.
 ";
 
-/// Adds where the text stops being JSON. The column counts bytes.
-fn push_no_json(
-    told: &mut String,
-    text: &str,
-    line: usize,
-    column: usize,
-) -> Result<(), AllocError> {
+/// Returns the place of a byte of a line, given by its number from 1.
+fn place_in(text: &str, line: usize, byte: usize) -> Place {
     let mut place = Place {
         line: u32::try_from(line).unwrap_or(1),
         column: 1,
     };
-    let characters = characters_of(line_of(text, place), column);
+    let characters = characters_of(line_of(text, place), byte);
     place.column = u32::try_from(characters).unwrap_or(1);
+    place
+}
+
+/// Adds where the text stops being JSON, and how to fix it.
+fn push_no_json(
+    told: &mut String,
+    text: &str,
+    place: Place,
+    is_cut: bool,
+) -> Result<(), AllocError> {
     push_excerpt(told, text, place)?;
-    told.push_str("Invalid JSON.\n")?;
-    told.push_str("help: write {\"a\": [1, 2]}, where a is the name of an array.\n")
+    told.push_str(if is_cut {
+        "The JSON ends too early.\n"
+    } else {
+        "Invalid JSON.\n"
+    })?;
+    let mend = if !text.trim_start().starts_with('{') {
+        FORM
+    } else if is_cut {
+        "close every open list with `]`, and the object with `}`"
+    } else {
+        mend_of_json(text, place)
+    };
+    write!(told, "help: {mend}.\n")
+}
+
+const FORM: &str = "write {\"a\": [1, 2]}, where a is the name of an array";
+
+/// Returns what to write instead of a character that JSON doesn't have there.
+fn mend_of_json(text: &str, place: Place) -> &'static str {
+    let before = usize::try_from(place.column).unwrap_or(1).saturating_sub(1);
+    match line_of(text, place).chars().nth(before) {
+        Some('\'') => "write names in double quotes, as in {\"a\": [1, 2]}",
+        Some(']') | Some('}') => "remove the comma before it, or write a number there",
+        Some('/') | Some('#') => "remove the comment: JSON has no comments",
+        Some(',') => "remove the comma, or write a number before it",
+        Some(digit) if digit.is_ascii_digit() => {
+            "separate numbers with `,`, and write them with digits only and no leading zeros"
+        }
+        Some(letter) if letter.is_ascii_alphabetic() => {
+            "write numbers with digits only, and names in double quotes, as in {\"a\": [1, 2]}"
+        }
+        _ => FORM,
+    }
 }
 
 /// Returns the number of characters that start in the first bytes of a line. Each byte past its end
@@ -99,11 +137,33 @@ fn element_text(element: ElementType) -> &'static str {
 }
 
 /// Explains a member that names no array.
-fn push_unknown(told: &mut String, arrays: &[Array], name: &str) -> Result<(), AllocError> {
-    let name = Escaped(name);
-    write!(told, "\nThe program has no array `{name}`.\n")?;
+fn push_unknown(
+    alloc: Global,
+    told: &mut String,
+    arrays: &[Array],
+    name: &str,
+) -> Result<(), AllocError> {
+    let shown = Escaped(name);
+    write!(told, "\nThe program has no array `{shown}`.")?;
+    match similar_array(alloc, arrays, name)? {
+        Some(other) => write!(told, " Did you mean `{other}`?\n")?,
+        None => told.push('\n')?,
+    }
     push_arrays(told, arrays)?;
     told.push_str("help: remove the member, or rename it to an array.\n")
+}
+
+/// Returns the name of the array that is spelled most like a name.
+fn similar_array<'a>(
+    alloc: Global,
+    arrays: &'a [Array],
+    name: &str,
+) -> Result<Option<&'a str>, AllocError> {
+    let mut names = Vec::new(alloc);
+    for array in arrays {
+        names.push(array.name.as_str())?;
+    }
+    similar(alloc, name, &names)
 }
 
 /// Returns the array with this name.
@@ -143,7 +203,11 @@ fn push_length(
             }
         }
     }
-    told.push_str("help: write one number for each element; an omitted array starts with zeros.\n")
+    told.push_str(if value.get(name).and_then(Value::as_str).is_some() {
+        "help: write a list with the code of each letter, as in [107, 105]: there are no strings.\n"
+    } else {
+        "help: write one number for each element; an omitted array starts with zeros.\n"
+    })
 }
 
 /// Adds which element doesn't fit in an array.

@@ -2,6 +2,8 @@
 
 #![tactic(auto)]
 
+mod brackets;
+mod characters;
 mod expected;
 mod habits;
 pub mod input_errors;

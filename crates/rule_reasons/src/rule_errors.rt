@@ -4,6 +4,7 @@ use crate::limits::push_over_limit;
 use crate::rule_texts;
 use excerpts::named::{Named, Role, head, names};
 use excerpts::nouns::noun;
+use excerpts::similar::similar;
 use excerpts::source::{Source, push_excerpt};
 use excerpts::statements::Statements;
 use scopes::arguments::{Argument, Parameter, Procedure, arguments, procedure_of};
@@ -129,8 +130,10 @@ impl<'t> Broken<'t> {
     fn push_no_procedure(&self, told: &mut String, named: Named<'t>) -> Result<(), AllocError> {
         self.push_at(told, named.at)?;
         let name = named.name;
-        write!(told, "There is no procedure `{name}`.\n")?;
-        rule_texts::push_procedures(told, &self.source.tokens)?;
+        write!(told, "There is no procedure `{name}`.")?;
+        let procedures = rule_texts::procedures(self.alloc, &self.source.tokens)?;
+        push_similar(told, similar(self.alloc, name, &procedures)?)?;
+        rule_texts::push_procedures(told, &procedures)?;
         told.push_str("help: call an existing procedure, or add this one before main.\n")
     }
 
@@ -144,7 +147,7 @@ impl<'t> Broken<'t> {
             self.push_place(told, declared)?;
             told.push_str(", in a block that has ended.")?;
         }
-        told.push('\n')?;
+        push_similar(told, self.similar_in_scope(name)?)?;
         self.push_scope(told)?;
         let is_section = wants_section(named.role) || self.is_section_argument(named)?;
         told.push_str("help: ")?;
@@ -156,6 +159,15 @@ impl<'t> Broken<'t> {
             "add a section parameter with this name to the procedure"
         })?;
         told.push_str("; or use a name that is in scope.\n")
+    }
+
+    /// Returns the name in scope that is spelled most like a name.
+    fn similar_in_scope(&self, name: &str) -> Result<Option<&'t str>, AllocError> {
+        let mut names = Vec::new(self.alloc);
+        for declared in &self.scope.declared {
+            names.push(declared.name)?;
+        }
+        similar(self.alloc, name, &names)
     }
 
     /// Returns whether the statement is in main.
@@ -467,7 +479,7 @@ impl<'t> Broken<'t> {
         )?;
         write!(
             told,
-            "help: write the result into a section, as in `out[0] = ..;`, or declare a variable inside the async.\n"
+            "help: write the result into a section, as in `out[0] = ..;` (see `afx explain answers`), or declare a variable inside the async.\n"
         )
     }
 
@@ -520,10 +532,14 @@ impl<'t> Broken<'t> {
         self.push_start(told)?;
         if let Some((one, other)) = self.overlapping_ones()? {
             let (first, second) = (one.name, other.name);
-            write!(
-                told,
-                "`{first}` and `{second}` may overlap, and one of them is passed as `mut`.\n"
-            )?;
+            if first == second {
+                write!(told, "`{first}` is passed twice, and once as `mut`.\n")?;
+            } else {
+                write!(
+                    told,
+                    "`{first}` and `{second}` may overlap, and one of them is passed as `mut`.\n"
+                )?;
+            }
         }
         told.push_str(
             "help: pass sections that don't overlap: different arrays, or the two sides of one split.\n",
@@ -583,6 +599,14 @@ impl<'t> Broken<'t> {
             Some(called) => Ok(Some((called, arguments(self.alloc, self.head)?))),
             None => Ok(None),
         }
+    }
+}
+
+/// Adds which name may be meant, and the end of the line.
+fn push_similar(told: &mut String, name: Option<&str>) -> Result<(), AllocError> {
+    match name {
+        Some(name) => write!(told, " Did you mean `{name}`?\n"),
+        None => told.push('\n'),
     }
 }
 

@@ -4,7 +4,7 @@ use excerpts::named::begins_with;
 use excerpts::source::push_excerpt;
 use excerpts::statements::Statements;
 use scopes::arguments::Parameter;
-use std::alloc::AllocError;
+use std::alloc::{AllocError, Global};
 use syntax::token::{Mark, Spanned, Token, Word};
 use types::error::TypeError;
 
@@ -128,25 +128,33 @@ fn same_name(one: &Spanned, other: &Spanned) -> bool {
     }
 }
 
-/// Adds the names of the procedures.
-pub fn push_procedures(told: &mut String, tokens: &[Spanned]) -> Result<(), AllocError> {
-    let mut count: usize = 0;
+/// Returns the names of the procedures.
+pub fn procedures(alloc: Global, tokens: &[Spanned]) -> Result<Vec<&str>, AllocError> {
+    let mut names = Vec::new(alloc);
     let mut is_behind = false;
     for spanned in tokens {
         if is_behind {
             if let Token::Name(name) = &spanned.token {
-                told.push_str(if count == 0 { "Procedures: " } else { ", " })?;
-                told.push_str(name)?;
-                count = count.saturating_add(1);
+                names.push(name.as_str())?;
             }
         }
         is_behind = is_word(&spanned.token, Word::Proc);
     }
-    if count == 0 {
-        told.push_str("The program has no procedures.\n")
-    } else {
-        told.push('\n')
+    Ok(names)
+}
+
+/// Adds the names of the procedures.
+pub fn push_procedures(told: &mut String, names: &[&str]) -> Result<(), AllocError> {
+    if names.is_empty() {
+        return told.push_str("The program has no procedures.\n");
     }
+    let mut before = "Procedures: ";
+    for name in names {
+        told.push_str(before)?;
+        told.push_str(*name)?;
+        before = ", ";
+    }
+    told.push('\n')
 }
 
 /// Adds the parameters of a procedure as they are declared.

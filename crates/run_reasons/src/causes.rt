@@ -114,16 +114,36 @@ fn push_index(
         return told.push_str("no elements here.\n");
     }
     let last = length - 1;
-    write!(told, "the elements 0 to {last}")?;
-    if let Some(array) = code.arrays.get(window.array.number) {
-        if array.length != length {
-            let whole = array.name.as_str();
-            let from = window.at;
-            let to = from.saturating_add(last);
-            write!(told, ", which are {from} to {to} of the array `{whole}`")?;
-        }
+    if last == 0 {
+        told.push_str("only the element 0")?;
+    } else {
+        write!(told, "the elements 0 to {last}")?;
     }
+    push_origin(told, code, window, last)?;
     told.push_str(".\n")
+}
+
+/// Adds which elements of its array a section has, if it isn't all of it. `last` is the index of the
+/// section's last element.
+fn push_origin(
+    told: &mut String,
+    code: &Program,
+    window: Window,
+    last: usize,
+) -> Result<(), AllocError> {
+    let Some(array) = code.arrays.get(window.array.number) else {
+        return Ok(());
+    };
+    if array.length == window.len {
+        return Ok(());
+    }
+    let whole = array.name.as_str();
+    let from = window.at;
+    if last == 0 {
+        return write!(told, ", which is element {from} of the array `{whole}`");
+    }
+    let to = from.saturating_add(last);
+    write!(told, ", which are {from} to {to} of the array `{whole}`")
 }
 
 /// Explains a number that doesn't fit in an array.

@@ -27,11 +27,32 @@ pub fn explained_trace(alloc: Global, trace: &str, wrong: Wrong) -> Result<Strin
 /// Explains a malformed line.
 fn push_no_line(told: &mut String, trace: &str, number: usize) -> Result<(), AllocError> {
     push_excerpt(told, trace, beginning(number))?;
+    if is_program(trace) {
+        return told.push_str(PROGRAM);
+    }
     if is_cut(trace, number) {
         told.push_str("The last line has no line feed at its end.\n")?;
     }
     push_line_form(told, line_of(trace, number), number)?;
     told.push_str("help: record the trace again with `run --trace`.\n")
+}
+
+const PROGRAM: &str = "This is a program, and no trace.
+help: name the program first and the trace second, as in `afx view p.afx run.trace`.
+";
+
+/// Returns whether a text looks like a program: it doesn't start as a trace, and a line starts with
+/// `main` or `proc`.
+fn is_program(text: &str) -> bool {
+    if text.starts_with('{') {
+        return false;
+    }
+    for line in text.lines() {
+        if line.starts_with("main") || line.starts_with("proc") {
+            return true;
+        }
+    }
+    false
 }
 
 /// Explains an illegal event.

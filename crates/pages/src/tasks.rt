@@ -1,0 +1,94 @@
+//! Pages about tasks, and about the limits of a run.
+
+use crate::page::{Page, page};
+
+/// Returns these pages.
+pub(crate) fn pages() -> &'static [Page] {
+    PAGES
+}
+
+/// `async`, `finish`, `split` and `budget`
+const PAGES: &[Page] = &[
+    page! {
+        name: "async",
+        others: ["task", "spawn"],
+        about: "start a task",
+        rule: "`async { .. }` starts a task that runs its block. The program continues at once with the next statement, and both may run
+in parallel. The task starts with copies of the variables, and can't assign to them. It uses the sections around it; no
+section that it writes may be used by what can run at the same time. A finish waits for it, at the latest the end of
+main.",
+        program: [
+            "main {",
+            "  array a: int[1];",
+            "  array b: int[1];",
+            "  finish {",
+            "    async {",
+            "      a[0] = 7;",
+            "    }",
+            "    b[0] = 8;",
+            "  }",
+            "  print a[0], b[0];",
+            "}",
+        ],
+        tells: "run program.afx" => "7 8",
+    },
+    page! {
+        name: "finish",
+        others: ["sync", "join"],
+        about: "wait for tasks",
+        rule: "`finish { .. }` runs its block and then waits for all tasks that were started in it, also by procedures that it calls and
+by other tasks. What comes after it can use the results. A procedure doesn't wait for the tasks that it starts: put its
+call inside a finish. The fewer things a finish encloses, the fewer run in parallel.",
+        program: [
+            "proc start(mut s: int) {",
+            "  async {",
+            "    s[0] = 7;",
+            "  }",
+            "}",
+            "main {",
+            "  array a: int[1];",
+            "  finish {",
+            "    start(a);",
+            "  }",
+            "  print a[0];",
+            "}",
+        ],
+        tells: "run program.afx" => "7",
+    },
+    page! {
+        name: "split",
+        about: "give parts of a section to different tasks",
+        rule: "`split s at n as l, r { .. }` names two parts of the section `s` for its block: `l` has the first n elements, and `r` the
+others. `r[0]` is `s[n]`. Nothing is copied. The two parts never overlap, so one task can write `l` while another one
+writes `r`. Sides of different splits of one section may overlap: for a third part, split a side. n is a number from 0
+to `len(s)`.",
+        program: [
+            "main {",
+            "  array a: int[4];",
+            "  finish {",
+            "    split a at 3 as l, r {",
+            "      async {",
+            "        l[0] = 7;",
+            "      }",
+            "      r[0] = 8;",
+            "    }",
+            "  }",
+            "  print a[0], a[3], len(a);",
+            "}",
+        ],
+        tells: "run program.afx" => "7 8 4",
+        mend: "For halves of halves see `afx explain parallel_loop`, for a middle part `afx explain middle_part`.",
+    },
+    page! {
+        name: "budget",
+        others: ["limits", "steps", "nest", "tasks"],
+        about: "limits of a run",
+        rule: "Each task can take `--steps` steps (default: 1,000,000); a step is about one statement. Asyncs can be nested `--nest`
+deep (default: 100). A run that exceeds one of these two limits prints `stopped`, with status 3. A parallel run can have
+`--tasks` tasks (default: 65,536). One that would have more prints `E2`, with status 4. `--explain` says which task
+exceeded which limit, and where.",
+        program: ["main {", "  while true {", "    skip;", "  }", "}"],
+        tells: "serial program.afx --steps 1000" => "stopped",
+        mend: "Raise the limit, as in `--steps 100000000`, or give each task less work: see `afx explain parallel_loop`.",
+    },
+];
