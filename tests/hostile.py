@@ -3,6 +3,7 @@
 import contextlib
 import os
 import pathlib
+import random
 import resource
 import signal
 import stat
@@ -13,9 +14,11 @@ import threading
 import time
 
 from hostile_traces import LINES, cut_anywhere, of_other_runs, spelled_otherwise, swapped_and_doubled
-from runs import Counts, built_program, finish, run, shown, start
+from runs import Counts, built_program, fail, finish, run, shown, start
 
 SMALL_STACK = 512 * 1024
+# The most seconds of a part in the short sweep, for those whose tables are long.
+SHORT_SECONDS = {"texts": 8, "traces": 8, "stack": 24}
 TWO_ARRAYS = "main { array a: int[1]; array b: int[1]; finish { async { a[0] = 7; } b[0] = 8; } print a[0], b[0]; }\n"
 LONG_PRINTS = "main { var k = 0; while k < 20000 { print k, k, k; k = k + 1; } }\n"
 
@@ -25,7 +28,21 @@ class Tests:
 
     def __init__(self, program, room):
         self.program, self.room, self.counts = program, pathlib.Path(room), Counts()
-        self.is_open = False
+        # (when a table has to end, in the short sweep)
+        self.end, self.left_out = None, 0
+        # (what the program has to learn before a test can be counted)
+        self.awaits, self.open = None, 0
+
+    def until_over(self, cases):
+        """The cases of a table. In the short sweep they come in a mixed order, as many as there is time for."""
+        cases = list(cases)
+        if self.end:
+            random.Random(71).shuffle(cases)
+        for at, case in enumerate(cases):
+            if self.end and time.monotonic() > self.end:
+                self.left_out += len(cases) - at
+                return
+            yield case
 
     def file(self, name, content):
         path = self.room / name
@@ -37,10 +54,11 @@ class Tests:
 
     def judge(self, name, fault):
         """Counts a test; what is known to be wrong is printed and not counted."""
-        if not self.is_open:
+        if not self.awaits:
             self.counts.judge(name, fault)
         elif fault:
-            print(f"open: {name}: {fault}", flush=True)
+            self.open += 1
+            print(f"open, awaits {self.awaits}: {name}: {fault}", flush=True)
         else:
             print(f"mended, so it can be counted: {name}", flush=True)
 
@@ -90,60 +108,75 @@ def deep_texts():
 
 
 # What a text that is as deep or long as it may be is tried with. A check of very many labels takes its time.
-SHORT_WAYS = (["check"], ["list"], ["list", "--lines"], ["fmt"], ["fmt", "--check"], ["mhp"], ["cost"],
-              ["serial"], ["run", "--workers", "1"], ["run", "--workers", "8"], ["explore", "--random", "1"],
-              ["check", "--explain"], ["check", "--format", "json"], ["serial", "--explain"])
+WAYS = (["check"], ["list"], ["list", "--lines"], ["fmt"], ["fmt", "--check"], ["mhp"], ["cost"], ["bench"],
+        ["serial"], ["run", "--workers", "1"], ["run", "--workers", "8"], ["explore", "--random", "1"],
+        ["run", "--workers", "2", "--trace", "deep.trace"], ["check", "--explain"], ["check", "--format", "json"],
+        ["serial", "--explain"])
+# These texts need about 500 to 520 KB, so they are counted with a little more, and known_open tries them with 512 KB.
+DEEPEST = {"brackets", "indices", "ifs", "elses", "splits"}
+LARGER_STACK = 640 * 1024
 
 
 def stack(tests):
-    small = {"stack": SMALL_STACK}
-    for name, text, out in deep_texts():
+    for words, status, out in tests.until_over(deep_runs(tests)):
+        tests.expect(words, status, out, stack=SMALL_STACK, environment={})
+    try_deep_texts(tests, lambda name: LARGER_STACK if name in DEEPEST else SMALL_STACK, {"bench"})
+
+
+def try_deep_texts(tests, stack_of, left_out=frozenset()):
+    """Each deep text by each command: the environment lies on the stack too, so there is none."""
+    texts = {name: (text, out) for name, text, out in deep_texts() if stack_of(name)}
+    for name, way in tests.until_over((name, way) for name in texts for way in WAYS):
+        text, out = texts[name]
+        command, *options = way
+        if command in left_out and name not in DEEPEST:
+            # (a run of a second five times by each of four ways says no more about the stack)
+            continue
+        given = {"stack": stack_of(name), "environment": {}}
         file = tests.file("deep.afx", text)
-        for command, *options in SHORT_WAYS:
-            ended = tests.run(command, file, *options, **small)
-            outcome = out if command in ("serial", "run", "explore") else None
-            status = 1 if "--check" in options else 0
-            fault = None
-            if ended.status != status or (outcome is not None and ended.out != outcome.encode()):
-                fault = str(ended)
-            tests.judge(f"512 KB of stack, {name}: {command} {' '.join(options)}", fault)
-    deep_runs(tests, small)
-    deep_choices(tests, small)
+        ended = tests.run(command, file, *options, **given)
+        wanted = out if command in ("serial", "run", "explore") else None
+        status = 1 if "--check" in options else 0
+        good = ended.status == status and (wanted is None or ended.out == wanted.encode())
+        told = f"{given['stack'] // 1024} KB of stack, {name}: {' '.join(way)}"
+        tests.judge(told, None if good else str(ended))
+        if "--trace" in options and good:
+            for more in ([], ["--summary"], ["--svg", "deep.svg"], ["--chrome", "deep.json"]):
+                ended = tests.run("view", file, "deep.trace", *more, **given)
+                tests.judge(f"{told}; view {' '.join(more)}", None if ended.status == 0 else str(ended))
 
 
-def deep_runs(tests, small):
-    """Calls, tasks in a row, and tasks in tasks."""
+def deep_runs(tests):
+    """Calls, tasks in a row, tasks in tasks, and trees of 100,000 choices: words, status, output (None: any)."""
     calls = tests.file("calls.afx", "proc d(n: int) { if n > 0 { d(n - 1); } } main { d(100000); }\n")
     row = tests.file("row.afx", "main { var k = 0; finish { while k < 1000000 { async { skip; } k = k + 1; } } print k; }\n")
     path = tests.file("path.afx", "proc f(n: int) { if n > 0 { async { f(n - 1); } } else { print 7; } } main { f(1000); }\n")
-    ways = (["serial"], ["run", "--workers", "1"], ["run", "--workers", "8"])
-    for command, *options in ways:
-        tests.expect([command, calls, *options], 0, "", **small)
+    for command, *options in (["serial"], ["run", "--workers", "1"], ["run", "--workers", "8"]):
+        yield [command, calls, *options], 0, ""
         large = ["--steps", "1000000000"] + (["--tasks", "1048576"] if command == "run" else [])
-        tests.expect([command, row, *options, *large], 0, "1000000\n", **small)
-        tests.expect([command, path, *options, "--nest", "1000"], 0, "7\n", **small)
-        tests.expect([command, path, *options, "--nest", "999"], 3, "stopped\n", **small)
+        yield [command, row, *options, *large], 0, "1000000\n"
+        yield [command, path, *options, "--nest", "1000"], 0, "7\n"
+        yield [command, path, *options, "--nest", "999"], 3, "stopped\n"
     for workers in ("1", "8"):
-        words = ["run", path, "--nest", "1000", "--workers", workers, "--trace", "path.trace"]
-        tests.expect(words, 0, "7\n", **small)
+        trace = f"path{workers}.trace"
+        words = ["run", path, "--nest", "1000", "--workers", workers, "--trace", trace]
+        tests.run(*words)
+        yield words[:-1] + ["again.trace"], 0, "7\n"
         for options in ([], ["--summary"], ["--svg", "path.svg"], ["--chrome", "path.json"]):
-            tests.expect(["view", path, "path.trace", *options], 0, None, **small)
-    tests.expect(["explore", path, "--random", "1"], 0, "7\n", **small)
-    tests.expect(["explore", calls, "--random", "1"], 0, "", **small)
-    tests.expect(["cost", calls], 0, None, **small)
-
-
-def deep_choices(tests, small):
-    """Trees of 100,000 choices."""
-    deep = tests.file("deep.afx", "main { while true { async { skip; } } }\n")
+            yield ["view", path, trace, *options], 0, None
+    for command in ("explore", "cost"):
+        random_choices = ["--random", "1"] if command == "explore" else []
+        yield [command, path, *random_choices], 0, "7\n" if command == "explore" else None
+        yield [command, calls, *random_choices], 0, "" if command == "explore" else None
+    deep = tests.file("deep_choices.afx", "main { while true { async { skip; } } }\n")
     nest = tests.file("nest.afx", "proc down() { finish { down(); } } main { down(); }\n")
     rising = tests.file("rising.afx", "proc f() { async { f(); } } main { f(); }\n")
     zeros = tests.file("zeros", "0\n" * 100_000)
     owner = tests.file("owner", "\n".join(str(n // 2) for n in range(100_000)))
-    tests.expect(["explore", deep, "--choices-from", zeros], 3, "open 1\n", **small)
-    tests.expect(["explore", deep, "--choices-from", owner], 3, "open 50001\n", **small)
-    tests.expect(["explore", nest, "--choices-from", zeros], 3, "open 1\n", **small)
-    tests.expect(["explore", rising, "--choices-from", zeros], 3, "open 1\n", **small)
+    yield ["explore", deep, "--choices-from", zeros], 3, "open 1\n"
+    yield ["explore", deep, "--choices-from", owner], 3, "open 50001\n"
+    yield ["explore", nest, "--choices-from", zeros], 3, "open 1\n"
+    yield ["explore", rising, "--choices-from", zeros], 3, "open 1\n"
 
 
 # ---- texts of programs and inputs
@@ -170,7 +203,7 @@ INPUTS = [
 def texts(tests):
     file = tests.file("two.afx", "main { array a: int[2]; array b: byte[1]; print a[0], a[1], b[0]; }\n")
     small = {"stack": SMALL_STACK}
-    for at, (text, wanted) in enumerate(INPUTS):
+    for at, (text, wanted) in tests.until_over(enumerate(INPUTS)):
         given = tests.file("given.json", text)
         for command in ("serial", "run", "explore"):
             words = [command, file, "--input", given] + (["--random", "1"] if command == "explore" else [])
@@ -196,7 +229,7 @@ def programs(tests):
     """Texts that are no programs, or as large as one may be."""
     limit = 1_048_576
     many = "main { " + "skip;" * 65_536 + " }"
-    for text, status, out, err in (
+    for text, status, out, err in tests.until_over((
             (b"main { print 1; }\0", 1, "", "S1 at 1:18\n"), (b"\xef\xbb\xbfmain { }", 1, "", "S1 at 1:1\n"),
             (b"main { } // \0", 0, "", ""), (b"", 1, "", "Y8\n"), (b"\xff", 1, "", "not UTF-8 p.afx\n"),
             (b"main { print " + b"(" * 100, 1, "", "S4 at 1:113\n"), (b"main { print 9" + b"9" * 100_000, 1, "", "S3 at 1:14\n"),
@@ -204,7 +237,7 @@ def programs(tests):
             (b"main { }".ljust(limit + 1), 1, "", "S5\n"), (b"\xff" * (limit + 1), 1, "", "S5\n"), (many.encode(), 1, "", "Y9\n"),
             (b"main { var " + b"x" * 1_000_000 + b" = 1; }", 0, "", ""), (b"}" * limit, 1, "", "S2 at 1:1\n"),
             (b"(" * limit, 1, "", "S4 at 1:101\n"), (b"main { array a: int[4194305]; }", 1, "", "Y9\n"),
-            (b"main { array a: int[9223372036854775807]; }", 1, "", "Y9\n"), (b"main {\r\n print\t1;}", 0, "1\n", "")):
+            (b"main { array a: int[9223372036854775807]; }", 1, "", "Y9\n"), (b"main {\r\n print\t1;}", 0, "1\n", ""))):
         file = tests.file("p.afx", text)
         tests.expect(["serial", file], status, out, err, name=f"program {shown(text)}", stack=SMALL_STACK)
         tests.expect(["run", "-"], status, out, err.replace("p.afx", "-"), name=f"program {shown(text)} on -", stdin=text)
@@ -219,9 +252,8 @@ def traces(tests):
     held = (tests.room / "t.trace").read_bytes()
     tests.judge("the trace of the page", None if held.decode() == "".join(LINES) and ended.status == 0 else str(ended))
     tests.run("run", "nested.afx", "--workers", "1", "--trace", "nested.trace")
-    for cases in (cut_anywhere(), swapped_and_doubled(), spelled_otherwise()):
-        for name, text, wanted in cases:
-            judge_trace(tests, name, text, wanted)
+    for name, text, wanted in tests.until_over([*cut_anywhere(), *swapped_and_doubled(), *spelled_otherwise()]):
+        judge_trace(tests, name, text, wanted)
     for name, words, status, err in of_other_runs(tests):
         tests.expect(words, status, None if status == 0 else "", err, name=name)
 
@@ -355,20 +387,36 @@ def odd_names(tests):
 
 def changing(tests):
     """A file that another process writes again and again while it is read: the answer is one of the two, or an error."""
-    short, long = b"main { print 1; }\n", b"main { " + b"print 2; " * 20_000 + b"}\n"
-    path, stop = tests.room / "changing.afx", threading.Event()
-    path.write_bytes(short)
+    trace = (tests.room / "t.trace").read_bytes()
+    zeros = b'{"a":[' + b" " * 200_000 + b"5,6]}"
+    for name, short, long, commands in (
+            ("changing.afx", b"main { print 1; }\n", b"main { " + b"print 2; " * 20_000 + b"}\n",
+             (["serial", "changing.afx"], ["check", "changing.afx", "--explain"], ["fmt", "changing.afx"])),
+            ("changing.json", b'{"a":[5,6]}', zeros, (["serial", "in.afx", "--input", "changing.json"],
+                                                     ["run", "in.afx", "--input", "changing.json", "--explain"])),
+            ("changing.trace", trace, trace + b'{"e":"step","path":"0"}\n' * 10_000,
+             (["view", "t.afx", "changing.trace"], ["view", "t.afx", "changing.trace", "--explain"]))):
+        path, stop = tests.room / name, threading.Event()
+        path.write_bytes(short)
+        with written_again(path, (short, long), stop):
+            for n in range(30):
+                words = commands[n % len(commands)]
+                ended = tests.run(*words)
+                good = not ended.is_bad() and ended.status <= 1 and (ended.status == 1) == bool(ended.err)
+                tests.judge(f"{' '.join(words)}, which changes", None if good else str(ended))
 
+
+@contextlib.contextmanager
+def written_again(path, contents, stop):
+    """Another thread writes these contents into a file, again and again."""
     def change():
         while not stop.is_set():
-            for content in (short, long):
+            for content in contents:
                 path.write_bytes(content)
     thread = threading.Thread(target=change)
     thread.start()
     try:
-        for n in range(60):
-            ended = tests.run(*(["serial"], ["check", "--explain"], ["fmt"])[n % 3], "changing.afx")
-            tests.judge("a file that changes", str(ended) if ended.is_bad() or ended.status > 1 else None)
+        yield
     finally:
         stop.set()
         thread.join()
@@ -534,15 +582,19 @@ def rows(tests):
 
 def known_open(tests):
     """What the program has to learn: each line of these says what it does today."""
-    tests.is_open = True
     tests.file("t.afx", TWO_ARRAYS)
     tests.file("in.afx", "main { array a: int[2]; print a[0], a[1]; }\n")
     tests.file("loop.afx", "main { var k = 0; finish { while k < 600 { async { skip; } k = k + 1; } } }\n")
     tests.run("run", "loop.afx", "--workers", "1", "--trace", "loop.trace")
     tests.run("run", "t.afx", "--workers", "1", "--trace", "t.trace")
-    for part in (over_own_files, without_end, half_files):
+    # Files are written in place, compared by their names alone, and read to their end.
+    tests.awaits = "files"
+    for part in (over_own_files, over_standard_input, without_end, half_files):
         part(tests)
-    tests.is_open = False
+    # The parser keeps too much on the stack for each bracket and block.
+    tests.awaits = "stack"
+    try_deep_texts(tests, lambda name: SMALL_STACK if name in DEEPEST else None)
+    tests.awaits = None
 
 
 def over_own_files(tests):
@@ -565,6 +617,20 @@ def over_own_files(tests):
             tests.judge(f"afx {' '.join(words)} {name} ({kind} of {target})", fault)
             (room / target).write_bytes(before)
             (room / "link").unlink(missing_ok=True)
+
+
+def over_standard_input(tests):
+    """A trace over the program or the input that is the standard input."""
+    for target, words in (("t.afx", ["run", "-", "--trace", "t.afx"]),
+                          ("in.json", ["run", "in.afx", "--input", "-", "--trace", "in.json"])):
+        (tests.room / "in.json").write_text('{"a":[5,6]}')
+        before = (tests.room / target).read_bytes()
+        ended = by_shell(tests, f"<{target}", words)
+        now = (tests.room / target).read_bytes()
+        good = ended.key() == (1, b"", f"cannot write {target}\n".encode())
+        fault = f"{target} is overwritten ({ended})" if now != before else None if good else str(ended)
+        tests.judge(f"afx {' '.join(words)} <{target}", fault)
+        (tests.room / target).write_bytes(before)
 
 
 def without_end(tests):
@@ -659,21 +725,28 @@ def small_disk(tests):
         subprocess.run(["umount", str(disk)], check=True)
 
 
-PARTS = {part.__name__: part for part in (stack, texts, traces, files, outputs, signals, rows, known_open)}
+PARTS = {part.__name__: part for part in (files, outputs, signals, rows, texts, traces, stack, known_open)}
 
 
 def main():
-    program, wanted = built_program(), sys.argv[1:] or list(PARTS)
+    program, wanted = built_program(), sys.argv[1:]
+    is_short = wanted[:1] == ["short"]
+    wanted = wanted[is_short:] or [name for name in PARTS if not (is_short and name == "known_open")]
+    if not set(wanted) <= set(PARTS):
+        fail(f"usage: tests/hostile.sh [short] [{' | '.join(PARTS)}]..")
     with tempfile.TemporaryDirectory() as room:
         tests = Tests(program, room)
         for name in wanted:
-            began, before = time.monotonic(), tests.counts.passed
+            began, passed, is_open, left_out = time.monotonic(), tests.counts.passed, tests.open, tests.left_out
+            tests.end = began + SHORT_SECONDS[name] if is_short and name in SHORT_SECONDS else None
             try:
                 PARTS[name](tests)
             except (OSError, ValueError) as error:
                 # (a file that a run should have left, say)
                 tests.counts.judge(f"{name} ends early", repr(error))
-            print(f"{name}: {tests.counts.passed - before} passed, {time.monotonic() - began:.0f} s", flush=True)
+            more = [f", {many} {what}" for many, what in ((tests.open - is_open, "open"),
+                                                         (tests.left_out - left_out, "left out by the clock")) if many]
+            print(f"{name}: {tests.counts.passed - passed} passed{''.join(more)}, {time.monotonic() - began:.0f} s", flush=True)
     return tests.counts.close()
 
 

@@ -19,6 +19,7 @@ long atol(const char *digits);
 int open(const char *name, int flags, ...);
 void *mmap(void *wanted, size_t length, int protection, int flags, int file, long at);
 void *dlsym(void *library, const char *name);
+int *__errno_location(void);
 
 #define NEXT_LIBRARY ((void *)-1L)
 #define NOT_MAPPED ((void *)-1L)
@@ -56,12 +57,16 @@ __attribute__((constructor)) static void begin(void) {
     ready = 1;
 }
 
-/* Counts a request, and returns whether it is refused. */
+/* Counts a request, and returns whether it is refused. A refusal sets `errno`, as the C library does: its own start of a
+   thread relies on that. */
 static int is_refused(void) {
     if (!ready) return 0;
     long at = __atomic_add_fetch(&counts->requests, 1, __ATOMIC_RELAXED);
     int is = at == nth || (from && from <= at) || (each && at % each == 0);
-    if (is) __atomic_add_fetch(&counts->refused, 1, __ATOMIC_RELAXED);
+    if (is) {
+        __atomic_add_fetch(&counts->refused, 1, __ATOMIC_RELAXED);
+        *__errno_location() = NO_MEMORY;
+    }
     return is;
 }
 

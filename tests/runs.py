@@ -1,4 +1,5 @@
 """Runs of the built program, for the scripts of this folder: with a bound in time, and under limits."""
+import contextlib
 import os
 import pathlib
 import resource
@@ -99,8 +100,10 @@ class Fast:
 
     def over(self, _number, _frame):
         self.hangs = True
-        if self.child:
-            os.kill(self.child, signal.SIGKILL)
+        # (the run may have ended in this moment)
+        with contextlib.suppress(ProcessLookupError):
+            if self.child:
+                os.kill(self.child, signal.SIGKILL)
 
     def run(self, words, environment, stdin=os.devnull):
         new = os.O_WRONLY | os.O_CREAT | os.O_TRUNC
