@@ -4,7 +4,7 @@ import contextlib
 import os
 import pathlib
 import random
-import resource
+import shutil
 import signal
 import stat
 import subprocess
@@ -14,7 +14,7 @@ import threading
 import time
 
 from hostile_traces import LINES, cut_anywhere, of_other_runs, spelled_otherwise, swapped_and_doubled
-from runs import Counts, built_program, fail, finish, run, shown, start
+from runs import LIMIT, Counts, Ended, built_program, fail, finish, run, shown, start
 
 SMALL_STACK = 512 * 1024
 # The most seconds of a part in the short sweep, for those whose tables are long.
@@ -290,6 +290,11 @@ def files(tests):
     rewritten(tests)
     same_names(tests)
     formatted_links(tests)
+    over_own_files(tests)
+    over_standard_input(tests)
+    replaced(tests)
+    by_another_user(tests)
+    without_end(tests)
 
 
 def rewritten(tests):
@@ -446,6 +451,114 @@ def formatted_links(tests):
         (room / "link.afx").unlink()
 
 
+def over_own_files(tests):
+    """A trace, a picture or a formatted text over a file that is read: by another name, or by a link."""
+    room = tests.room
+    for kind, make in (("another name", None), ("a symbolic link", os.symlink), ("a hard link", os.link)):
+        for target, words in (("t.afx", ["run", "t.afx", "--trace"]), ("in.json", ["run", "in.afx", "--input", "in.json", "--trace"]),
+                              ("t.afx", ["view", "t.afx", "t.trace", "--svg"]),
+                              ("t.trace", ["view", "t.afx", "t.trace", "--chrome"])):
+            (room / "in.json").write_text('{"a":[5,6]}')
+            before, name = (room / target).read_bytes(), "link"
+            if make:
+                make(room / target if make is os.link else target, room / name)
+            else:
+                name = f"../{room.name}/{target}"
+            ended = tests.run(*words, name)
+            now = (room / target).read_bytes()
+            named = ended.status == 1 and ended.err and not ended.err.startswith(b"cannot read")
+            fault = f"{target} is overwritten ({ended})" if now != before else None if named else str(ended)
+            tests.judge(f"afx {' '.join(words)} {name} ({kind} of {target})", fault)
+            (room / target).write_bytes(before)
+            (room / "link").unlink(missing_ok=True)
+
+
+def over_standard_input(tests):
+    """A trace over the program or the input that is the standard input."""
+    for target, words in (("t.afx", ["run", "-", "--trace", "t.afx"]),
+                          ("in.json", ["run", "in.afx", "--input", "-", "--trace", "in.json"])):
+        (tests.room / "in.json").write_text('{"a":[5,6]}')
+        before = (tests.room / target).read_bytes()
+        ended = by_shell(tests, f"<{target}", words)
+        now = (tests.room / target).read_bytes()
+        good = ended.key() == (1, b"", f"cannot write {target}\n".encode())
+        fault = f"{target} is overwritten ({ended})" if now != before else None if good else str(ended)
+        tests.judge(f"afx {' '.join(words)} <{target}", fault)
+        (tests.room / target).write_bytes(before)
+
+
+def without_end(tests):
+    """An input or a trace without an end: it is refused after 1 GiB, and not read until there is no memory."""
+    for words in (["serial", "in.afx", "--input", "/dev/zero"], ["run", "in.afx", "--input", "/dev/zero"],
+                  ["view", "t.afx", "/dev/zero"], ["serial", "in.afx", "--input", "-"]):
+        ended, most = with_peak(tests, words)
+        good = ended.key() == (1, b"", f"cannot read {words[-1]}\n".encode()) and most < 2500
+        tests.judge(f"afx {' '.join(words)} </dev/zero", None if good else f"{ended}, after {most} MB")
+
+
+def with_peak(tests, words):
+    """A run whose standard input doesn't end, and the most MB that it had."""
+    with open("/dev/zero", "rb") as zero, tempfile.TemporaryFile() as out, tempfile.TemporaryFile() as err:
+        process = subprocess.Popen([tests.program, *words], stdin=zero, stdout=out, stderr=err, cwd=tests.room)
+        killer = threading.Timer(LIMIT, process.kill)
+        killer.start()
+        _, status, used = os.wait4(process.pid, 0)
+        killer.cancel()
+        process.returncode = os.waitstatus_to_exitcode(status)
+        out.seek(0)
+        err.seek(0)
+        ended = process.returncode
+        return Ended(ended if ended >= 0 else 128 - ended, out.read(), err.read()), used.ru_maxrss // 1024
+
+
+def replaced(tests):
+    """Files that are written where there is a link, or with a long name; what is there is kept, and nothing is left."""
+    room = tests.room
+    trace = ["run", "t.afx", "--workers", "1", "--w0", "8", "--trace"]
+    whole = "".join(LINES).encode()
+    os.symlink("aimed", room / "dangling")
+    os.symlink("dangling", room / "second")
+    for name, target in (("dangling", "aimed"), ("second", "aimed"), ("x" * 255, "x" * 255), ("x" * 255, "x" * 255)):
+        there = set(os.listdir(room)) | {target}
+        tests.expect([*trace, name], 0, "7 8\n")
+        good = (room / target).read_bytes() == whole and set(os.listdir(room)) == there
+        good = good and (room / name).is_symlink() == (name != target)
+        tests.judge(f"a trace to {name[:10]}", None if good else f"{sorted(set(os.listdir(room)) - there)}")
+    (room / "loop").symlink_to("loop")
+    tests.expect([*trace, "loop"], 1, "", "cannot write loop\n")
+    for name in ("dangling", "second", "aimed", "x" * 255, "loop"):
+        (room / name).unlink()
+
+
+def by_another_user(tests):
+    """A file that may not be written stays, though its folder may be. One in a folder that may not is written in place."""
+    if os.getuid() != 0:
+        print("left out: files of another user, which need root")
+        return
+    with tempfile.TemporaryDirectory() as name:
+        room = pathlib.Path(name)
+        shutil.copy(tests.program, room / "afx")
+        (room / "afx").chmod(0o755)
+        (room / "closed").mkdir()
+        text, laid = b"main { }\n", b"main {\n}\n"
+        for path, mode in ((room / "fixed.afx", 0o444), (room / "closed" / "own.afx", 0o666), (room / "given.afx", 0o666)):
+            path.write_bytes(text)
+            path.chmod(mode)
+        room.chmod(0o777)
+        other = {"user": 54321, "group": 54321, "extra_groups": []}
+        for words, status, now, owner in ((["fmt", "fixed.afx", "--write"], 1, text, 0), (["fmt", "closed/own.afx", "--write"], 0, laid, 0),
+                                          (["fmt", "given.afx", "--write"], 0, laid, 54321)):
+            ended = run(str(room / "afx"), words, room=room, user=other)
+            path = room / words[1]
+            good = (ended.status, path.read_bytes(), path.stat().st_uid) == (status, now, owner)
+            tests.judge(f"another user: {' '.join(words)}", None if good else f"{ended}, {path.stat()}")
+        (room / "given.afx").write_bytes(text)
+        tests.expect(["fmt", room / "given.afx", "--write"], 0, "")
+        found = (room / "given.afx").stat()
+        good = (found.st_uid, found.st_mode & 0o777) == (54321, 0o666)
+        tests.judge("root formats the file of another user", None if good else str(found))
+
+
 # ---- outputs
 
 def outputs(tests):
@@ -468,6 +581,7 @@ def outputs(tests):
         tests.judge(f"{' '.join(words)} >&-", None if good else str(ended))
     first_files(tests)
     full_files(tests)
+    half_files(tests)
 
 
 def by_shell(tests, redirected, words, before=""):
@@ -527,129 +641,6 @@ def writers(trace, svg, chrome):
     yield ["run", "loop.afx", "--workers", "2", "--trace", trace]
     yield ["view", "loop.afx", "loop.trace", "--svg", svg]
     yield ["view", "loop.afx", "loop.trace", "--chrome", chrome]
-
-
-# ---- signals
-
-def signals(tests):
-    """Ctrl-C and other signals while `run` works: it ends at once, and writes nothing."""
-    tests.file("long.afx", "main { var k = 0; finish { while k < 64 { async { while true { skip; } } k = k + 1; } } }\n")
-    for number in (signal.SIGINT, signal.SIGTERM, signal.SIGHUP):
-        for workers in ("1", "8"):
-            for options in ([], ["--trace", "long.trace"]):
-                words = ["run", "long.afx", "--workers", workers, "--steps", "1000000000", *options]
-                interrupt(tests, words, number)
-    interrupt(tests, ["serial", "long.afx", "--steps", "1000000000"], signal.SIGINT)
-
-
-def interrupt(tests, words, number):
-    """Sends a signal to a run that works. 128 and its number is the status that a shell tells: 130 for Ctrl-C."""
-    process = start(tests.program, words, cwd=tests.room)
-    time.sleep(0.2)
-    still = process.poll() is None
-    process.send_signal(number)
-    began = time.monotonic()
-    ended = finish(process)
-    took = time.monotonic() - began
-    left = [name for name in words if name.endswith(".trace") and (tests.room / name).exists()]
-    good = still and ended.key() == (128 + number, b"", b"") and took < 5 and not left
-    tests.judge(f"{' '.join(words)}, signal {number}", None if good else f"{ended}, after {took:.1f} s, leaves {left}")
-
-
-# ---- rows
-
-def rows(tests):
-    """Weights of a finish of 10,000 tasks, and asyncs inside asyncs."""
-    tests.file("w.afx", "main { var k = 0; finish { while k < 10000 { async { skip; } k = k + 1; } } }\n")
-    for w0, replenishings, issued in ((1, 10_000, 10_001), (4_294_967_296, 303, 1_305_670_057_984)):
-        tests.expect(["run", "w.afx", "--w0", str(w0), "--workers", "1", "--trace", "w.trace"], 0, "")
-        lines = (tests.room / "w.trace").read_text().splitlines()
-        # All are of the scope 0#1, where the root is innermost, and pass says that what it issued is back.
-        found = lines.count('{"e":"replenish","path":"0"}')
-        passed = lines.count('{"e":"pass","number":1,"owner":"0"}')
-        fault = None if (found, w0 * (1 + found), passed) == (replenishings, issued, 1) else f"{found} replenishings"
-        tests.judge(f"--w0 {w0}: book of 0#1", fault)
-        ended = tests.expect(["view", "w.afx", "w.trace", "--summary"], 0, None)
-        good = f"replenishments: {replenishings}\n".encode() in ended.out and b"tasks: 10001\n" in ended.out
-        tests.judge(f"--w0 {w0}: the summary", None if good else str(ended))
-    tests.file("n.afx", nested("async { ", "print 5;", 99))
-    for command in (["serial"], ["run", "--workers", "1"], ["run", "--workers", "8"]):
-        tests.expect([command[0], "n.afx", *command[1:], "--nest", "99"], 0, "5\n")
-        tests.expect([command[0], "n.afx", *command[1:], "--nest", "98"], 3, "stopped\n")
-
-
-# ---- what is wrong today
-
-def known_open(tests):
-    """What the program has to learn: each line of these says what it does today."""
-    tests.file("t.afx", TWO_ARRAYS)
-    tests.file("in.afx", "main { array a: int[2]; print a[0], a[1]; }\n")
-    tests.file("loop.afx", "main { var k = 0; finish { while k < 600 { async { skip; } k = k + 1; } } }\n")
-    tests.run("run", "loop.afx", "--workers", "1", "--trace", "loop.trace")
-    tests.run("run", "t.afx", "--workers", "1", "--trace", "t.trace")
-    # Files are written in place, compared by their names alone, and read to their end.
-    tests.awaits = "files"
-    for part in (over_own_files, over_standard_input, without_end, half_files):
-        part(tests)
-    # The parser keeps too much on the stack for each bracket and block.
-    tests.awaits = "stack"
-    try_deep_texts(tests, lambda name: SMALL_STACK if name in DEEPEST else None)
-    tests.awaits = None
-
-
-def over_own_files(tests):
-    """A trace, a picture or a formatted text over a file that is read: by another name, or by a link."""
-    room = tests.room
-    for kind, make in (("another name", None), ("a symbolic link", os.symlink), ("a hard link", os.link)):
-        for target, words in (("t.afx", ["run", "t.afx", "--trace"]), ("in.json", ["run", "in.afx", "--input", "in.json", "--trace"]),
-                              ("t.afx", ["view", "t.afx", "t.trace", "--svg"]),
-                              ("t.trace", ["view", "t.afx", "t.trace", "--chrome"])):
-            (room / "in.json").write_text('{"a":[5,6]}')
-            before, name = (room / target).read_bytes(), "link"
-            if make:
-                make(room / target if make is os.link else target, room / name)
-            else:
-                name = f"../{room.name}/{target}"
-            ended = tests.run(*words, name)
-            now = (room / target).read_bytes()
-            named = ended.status == 1 and ended.err and not ended.err.startswith(b"cannot read")
-            fault = f"{target} is overwritten ({ended})" if now != before else None if named else str(ended)
-            tests.judge(f"afx {' '.join(words)} {name} ({kind} of {target})", fault)
-            (room / target).write_bytes(before)
-            (room / "link").unlink(missing_ok=True)
-
-
-def over_standard_input(tests):
-    """A trace over the program or the input that is the standard input."""
-    for target, words in (("t.afx", ["run", "-", "--trace", "t.afx"]),
-                          ("in.json", ["run", "in.afx", "--input", "-", "--trace", "in.json"])):
-        (tests.room / "in.json").write_text('{"a":[5,6]}')
-        before = (tests.room / target).read_bytes()
-        ended = by_shell(tests, f"<{target}", words)
-        now = (tests.room / target).read_bytes()
-        good = ended.key() == (1, b"", f"cannot write {target}\n".encode())
-        fault = f"{target} is overwritten ({ended})" if now != before else None if good else str(ended)
-        tests.judge(f"afx {' '.join(words)} <{target}", fault)
-        (tests.room / target).write_bytes(before)
-
-
-def without_end(tests):
-    """An input or a trace without an end: a named refusal at a bound, not as much memory as there is."""
-    for words in (["serial", "in.afx", "--input", "/dev/zero"], ["run", "in.afx", "--input", "/dev/zero"],
-                  ["view", "t.afx", "/dev/zero"]):
-        ended, most = with_peak(tests, words)
-        good = ended.status == 1 and ended.out == b"" and most < 512
-        tests.judge(f"afx {' '.join(words)}", None if good else f"{ended}, after {most} MB (ulimit -v 1 GB)")
-    ended = by_shell(tests, "</dev/zero", ["serial", "in.afx", "--input", "-"], before="ulimit -v 1000000; ")
-    tests.judge("afx serial in.afx --input - </dev/zero", None if ended.status == 1 and ended.out == b"" else str(ended))
-
-
-def with_peak(tests, words):
-    """A run with at most 1 GB, and the most MB that a run of this script has had so far."""
-    before = resource.getrusage(resource.RUSAGE_CHILDREN).ru_maxrss
-    ended = tests.run(*words, memory=1 << 30)
-    after = resource.getrusage(resource.RUSAGE_CHILDREN).ru_maxrss
-    return ended, after // 1024 if after > before or ended.status == 4 else 0
 
 
 def half_files(tests):
@@ -723,6 +714,65 @@ def small_disk(tests):
             tests.judge(f"a full disk: afx {' '.join(words)}", fault)
     finally:
         subprocess.run(["umount", str(disk)], check=True)
+
+
+# ---- signals
+
+def signals(tests):
+    """Ctrl-C and other signals while `run` works: it ends at once, and writes nothing."""
+    tests.file("long.afx", "main { var k = 0; finish { while k < 64 { async { while true { skip; } } k = k + 1; } } }\n")
+    for number in (signal.SIGINT, signal.SIGTERM, signal.SIGHUP):
+        for workers in ("1", "8"):
+            for options in ([], ["--trace", "long.trace"]):
+                words = ["run", "long.afx", "--workers", workers, "--steps", "1000000000", *options]
+                interrupt(tests, words, number)
+    interrupt(tests, ["serial", "long.afx", "--steps", "1000000000"], signal.SIGINT)
+
+
+def interrupt(tests, words, number):
+    """Sends a signal to a run that works. 128 and its number is the status that a shell tells: 130 for Ctrl-C."""
+    process = start(tests.program, words, cwd=tests.room)
+    time.sleep(0.2)
+    still = process.poll() is None
+    process.send_signal(number)
+    began = time.monotonic()
+    ended = finish(process)
+    took = time.monotonic() - began
+    left = [name for name in words if name.endswith(".trace") and (tests.room / name).exists()]
+    good = still and ended.key() == (128 + number, b"", b"") and took < 5 and not left
+    tests.judge(f"{' '.join(words)}, signal {number}", None if good else f"{ended}, after {took:.1f} s, leaves {left}")
+
+
+# ---- rows
+
+def rows(tests):
+    """Weights of a finish of 10,000 tasks, and asyncs inside asyncs."""
+    tests.file("w.afx", "main { var k = 0; finish { while k < 10000 { async { skip; } k = k + 1; } } }\n")
+    for w0, replenishings, issued in ((1, 10_000, 10_001), (4_294_967_296, 303, 1_305_670_057_984)):
+        tests.expect(["run", "w.afx", "--w0", str(w0), "--workers", "1", "--trace", "w.trace"], 0, "")
+        lines = (tests.room / "w.trace").read_text().splitlines()
+        # All are of the scope 0#1, where the root is innermost, and pass says that what it issued is back.
+        found = lines.count('{"e":"replenish","path":"0"}')
+        passed = lines.count('{"e":"pass","number":1,"owner":"0"}')
+        fault = None if (found, w0 * (1 + found), passed) == (replenishings, issued, 1) else f"{found} replenishings"
+        tests.judge(f"--w0 {w0}: book of 0#1", fault)
+        ended = tests.expect(["view", "w.afx", "w.trace", "--summary"], 0, None)
+        good = f"replenishments: {replenishings}\n".encode() in ended.out and b"tasks: 10001\n" in ended.out
+        tests.judge(f"--w0 {w0}: the summary", None if good else str(ended))
+    tests.file("n.afx", nested("async { ", "print 5;", 99))
+    for command in (["serial"], ["run", "--workers", "1"], ["run", "--workers", "8"]):
+        tests.expect([command[0], "n.afx", *command[1:], "--nest", "99"], 0, "5\n")
+        tests.expect([command[0], "n.afx", *command[1:], "--nest", "98"], 3, "stopped\n")
+
+
+# ---- what is wrong today
+
+def known_open(tests):
+    """What the program has to learn: each line of these says what it does today."""
+    # The parser keeps too much on the stack for each bracket and block.
+    tests.awaits = "stack"
+    try_deep_texts(tests, lambda name: SMALL_STACK if name in DEEPEST else None)
+    tests.awaits = None
 
 
 PARTS = {part.__name__: part for part in (files, outputs, signals, rows, texts, traces, stack, known_open)}

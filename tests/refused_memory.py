@@ -111,6 +111,13 @@ class Sweep:
             return None
         return f"leaves {case.written} with {shown(held or b'')}"
 
+    def left_over(self):
+        """A new file that a run has left, or nothing."""
+        left = [name for name in os.listdir(self.room) if name.endswith(".new")]
+        for name in left:
+            os.unlink(name)
+        return f"leaves {left}" if left else None
+
     def is_trace(self, case, held):
         """Whether a trace of several workers is whole."""
         # (the same events often come again)
@@ -132,7 +139,7 @@ class Sweep:
         else:
             fault = str(ended)
         if not fault and case.written:
-            fault = self.fault_of_file(case, ended)
+            fault = self.fault_of_file(case, ended) or self.left_over()
         self.counts.judge(f"{' '.join(case.words)}, refused: {said}", fault)
 
     def first(self, case):
