@@ -112,8 +112,9 @@ WAYS = (["check"], ["list"], ["list", "--lines"], ["fmt"], ["fmt", "--check"], [
         ["serial"], ["run", "--workers", "1"], ["run", "--workers", "8"], ["explore", "--random", "1"],
         ["run", "--workers", "2", "--trace", "deep.trace"], ["check", "--explain"], ["check", "--format", "json"],
         ["serial", "--explain"])
-# These texts need about 500 to 520 KB, so they are counted with a little more, and known_open tries them with 512 KB.
-DEEPEST = {"brackets", "indices", "ifs", "elses", "splits"}
+# These texts need up to 520 KB, so they are counted with a little more, and known_open tries them with 512 KB. Brackets and
+# indices need about 500 KB.
+DEEPEST = {"ifs", "elses"}
 LARGER_STACK = 640 * 1024
 
 
@@ -129,8 +130,8 @@ def try_deep_texts(tests, stack_of, left_out=frozenset()):
     for name, way in tests.until_over((name, way) for name in texts for way in WAYS):
         text, out = texts[name]
         command, *options = way
-        if command in left_out and name not in DEEPEST:
-            # (a run of a second five times by each of four ways says no more about the stack)
+        if command in left_out and len(text) > 10_000:
+            # (five runs by each of four ways say no more about the stack)
             continue
         given = {"stack": stack_of(name), "environment": {}}
         file = tests.file("deep.afx", text)
