@@ -549,7 +549,11 @@ def by_another_user(tests):
         other = {"user": 54321, "group": 54321, "extra_groups": []}
         for words, status, now, owner in ((["fmt", "fixed.afx", "--write"], 1, text, 0), (["fmt", "closed/own.afx", "--write"], 0, laid, 0),
                                           (["fmt", "given.afx", "--write"], 0, laid, 54321)):
-            ended = run(str(room / "afx"), words, room=room, user=other)
+            try:
+                ended = run(str(room / "afx"), words, room=room, user=other)
+            except (OSError, subprocess.SubprocessError) as error:
+                print(f"left out: files of another user: {error}")
+                return
             path = room / words[1]
             good = (ended.status, path.read_bytes(), path.stat().st_uid) == (status, now, owner)
             tests.judge(f"another user: {' '.join(words)}", None if good else f"{ended}, {path.stat()}")
