@@ -13,7 +13,7 @@ trap 'rm -rf "$room"' EXIT
 passed=0
 failed=0
 
-# part NAME COMMAND..: runs a script whose last line is `N passed, M failed`, or `N runs, M differ`.
+# part NAME COMMAND..: runs a script whose last line is `N passed, M failed`, `N runs, M differ` or `N cases, M differ`.
 part() {
     name=$1
     shift
@@ -21,13 +21,13 @@ part() {
     "$@" >"$room/out" 2>&1 || true
     last=$(tail -n 1 "$room/out")
     case $last in
-    *' passed, '*' failed' | *' runs, '*' differ') ;;
+    *' passed, '*' failed' | *' runs, '*' differ' | *' cases, '*' differ') ;;
     *) last='0 passed, 1 failed' ;;
     esac
     good=${last%% *}
     bad=${last#*, }
     bad=${bad%% *}
-    # (of a script that counts runs, those that differ are among them)
+    # (of a script that counts runs or cases, those that differ are among them)
     case $last in *differ) good=$((good - bad)) ;; esac
     passed=$((passed + good))
     failed=$((failed + bad))
@@ -43,6 +43,8 @@ part 'rows of command lines' python3 tests/rows.py
 part 'cookbook' sh tests/cookbook.sh
 part 'editor words' sh tests/editor_words.sh
 part 'schedules' sh tests/schedules.sh 3 60
-part 'refused memory' sh tests/refused_memory.sh
+part 'refused memory' sh tests/refused_memory.sh short
+part 'hostile use' sh tests/hostile.sh short
+part 'changed at random' sh tests/fuzz.sh 20 71
 echo "$passed passed, $failed failed"
 [ "$failed" -eq 0 ]

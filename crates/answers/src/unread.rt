@@ -16,12 +16,13 @@ const MOST_BYTES: usize = 1_048_576;
 const MOST_COUNTED: usize = 16_777_216;
 
 const UNREAD: &str = "
-The file doesn't exist, is a folder, or can't be read.
+The file doesn't exist, is a folder, can't be read, or has more than 1 GiB.
 help: check the name: it is relative to the current folder. `-` is standard input.
 ";
 
 const UNWRITTEN: &str = "
 The folder doesn't exist, the name is a folder, the file can't be written, or the disk is full.
+Or the command has read this file under another name.
 help: name a file in an existing folder that you can write to.
 ";
 

@@ -6,7 +6,9 @@ ghost use Rattle.intake.specs.Failures.{TellsUnwritten};
 ghost use Rattle.intake.specs.Held.{Held, IsGiven, KeepsOthers, TellsNoProgram, TellsNoText, first};
 
 use crate::failure::Failure;
+use crate::replacing::{FileNumber, number_of, replace};
 use std::alloc::Global;
+use std::fs::OpenFile;
 use std::io::{ErrorKind, Read};
 use std::rt::Files;
 use std::{fs, io};
@@ -15,12 +17,19 @@ use syntax::error::SyntaxError;
 /// The maximum number of bytes of a program.
 const MOST_BYTES: usize = 1_048_576;
 
+/// The maximum number of bytes of any file of the machine: 1 GiB.
+const MOST_READ: usize = 1_073_741_824;
+
+/// The file that is the standard input, which has the name `-` here.
+const STANDARD_INPUT: &str = "/dev/stdin";
+
 /// Why a file can't be read or written, with an example.
 #[derive(Clone, Copy, PartialEq, Eq, Debug)]
 pub enum FileError {
-    /// It can't be opened, read or written: `files.read("nowhere.afx")`.
+    /// It can't be opened, read or written, as in `files.read("nowhere.afx")`. Or it has more than
+    /// 1 GiB, as in `files.read("/dev/zero")`.
     Failed,
-    /// Memory ran out: `files.read("/dev/zero")`, which never ends.
+    /// Memory ran out.
     NoMemory,
 }
 
@@ -112,7 +121,9 @@ pub fn write_file<F: FileSource>(
 }
 
 /// The files of the machine; `-` is standard input. Keeps what `read` returned for standard input
-/// and for the last file. A pipe can't be read again when an error in it is explained.
+/// and for the last file. A pipe can't be read again when an error in it is explained. A file that
+/// was read is written only under the same name, so no program, input or trace is lost through a
+/// link or another path.
 #[derive(Drop)]
 pub struct MachineFiles<'r, R> {
     rt: &'r R,
@@ -120,6 +131,15 @@ pub struct MachineFiles<'r, R> {
     input: Option<Vec<u8>>,
     /// The last file that was read, if there was memory to keep it and nothing was written since.
     last: Option<LastRead>,
+    /// The regular files that were read.
+    known: Option<Vec<KnownFile>>,
+}
+
+/// A file that was read, and under which name.
+#[derive(Drop)]
+struct KnownFile {
+    name: String,
+    number: FileNumber,
 }
 
 /// The last file that was read, and its contents.
@@ -138,13 +158,53 @@ impl<'r, R> MachineFiles<'r, R> {
             rt,
             input: None,
             last: None,
+            known: None,
         }
+    }
+}
+
+impl<R: Files + AllocGlobal> MachineFiles<'_, R> {
+    /// Remembers the name under which a file was read.
+    fn remember(&mut self, name: &str, number: Option<FileNumber>) -> Result<(), FileError> {
+        let Some(number) = number else {
+            return Ok(());
+        };
+        let alloc = self.rt.alloc();
+        let name = match String::from_str(alloc, name) {
+            Ok(name) => name,
+            Err(_) => return Err(FileError::NoMemory),
+        };
+        let mut known = match self.known.take() {
+            Some(known) => known,
+            None => Vec::new(alloc),
+        };
+        let added = known.push(KnownFile { name, number });
+        self.known = Some(known);
+        match added {
+            Ok(()) => Ok(()),
+            Err(_) => Err(FileError::NoMemory),
+        }
+    }
+
+    /// Returns whether a name denotes a file that was read under another name.
+    fn was_read_otherwise(&self, name: &str) -> bool {
+        let Some(known) = &self.known else {
+            return false;
+        };
+        let Some(number) = number_of(self.rt, name) else {
+            return false;
+        };
+        known
+            .iter()
+            .any(|file| file.number == number && file.name.as_str() != name)
     }
 }
 
 impl<R: Files + Input + AllocGlobal> FileSource for MachineFiles<'_, R> {
     fn read(&mut self, name: &str) -> Result<Vec<u8>, FileError> {
         if name == "-" {
+            let number = number_of(self.rt, STANDARD_INPUT);
+            self.remember(name, number)?;
             return standard_input(self.rt, &mut self.input);
         }
         let alloc = self.rt.alloc();
@@ -153,8 +213,12 @@ impl<R: Files + Input + AllocGlobal> FileSource for MachineFiles<'_, R> {
                 return copied(alloc, &last.bytes);
             }
         }
-        match fs::read(self.rt, name) {
-            Ok(bytes) => {
+        match first_bytes(self.rt, name, MOST_READ + 1) {
+            Ok((bytes, number)) => {
+                if bytes.len() > MOST_READ {
+                    return Err(FileError::Failed);
+                }
+                self.remember(name, number)?;
                 self.last = given(alloc, name, &bytes);
                 Ok(bytes)
             }
@@ -164,19 +228,23 @@ impl<R: Files + Input + AllocGlobal> FileSource for MachineFiles<'_, R> {
 
     fn read_first(&mut self, name: &str, most: usize) -> Result<Vec<u8>, FileError> {
         match first_bytes(self.rt, name, most) {
-            Ok(bytes) => Ok(bytes),
+            Ok((bytes, number)) => {
+                self.remember(name, number)?;
+                Ok(bytes)
+            }
             Err(error) => Err(file_error(&error)),
         }
     }
 
-    /// Standard input can't be written, so `-` fails. A file that can't be written completely may
-    /// have lost its contents.
+    /// Standard input can't be written, so `-` fails. A file that was read under another name isn't
+    /// written. A file that can't be written completely keeps its contents, unless `replace` writes
+    /// it in place.
     fn write(&mut self, name: &str, bytes: &[u8]) -> Result<(), FileError> {
-        if name == "-" {
+        if name == "-" || self.was_read_otherwise(name) {
             return Err(FileError::Failed);
         }
         self.last = None;
-        fs::write(self.rt, name, bytes).map_err(|error| file_error(&error))
+        replace(self.rt, name, bytes).map_err(|error| file_error(&error))
     }
 }
 
@@ -190,9 +258,12 @@ fn standard_input<R: Input + AllocGlobal>(
     if let Some(bytes) = kept {
         return copied(alloc, bytes);
     }
-    let mut bytes = Vec::new(alloc);
-    if let Err(error) = rt.reader().read_to_end(&mut bytes) {
-        return Err(file_error(&error));
+    let bytes = match first_of(alloc, rt.reader(), MOST_READ + 1) {
+        Ok(bytes) => bytes,
+        Err(error) => return Err(file_error(&error)),
+    };
+    if bytes.len() > MOST_READ {
+        return Err(FileError::Failed);
     }
     *kept = Some(copied(alloc, &bytes)?);
     Ok(bytes)
@@ -214,20 +285,26 @@ fn copied(alloc: Global, bytes: &[u8]) -> Result<Vec<u8>, FileError> {
     }
 }
 
-/// Returns the first bytes of a file of the machine, at most this many.
+/// Returns the first bytes of a file of the machine, at most this many, and the file's number.
 fn first_bytes<R: Files + Input + AllocGlobal>(
     rt: &R,
     name: &str,
     most: usize,
-) -> io::Result<Vec<u8>>
-    ensures { IfOk result (λ v. length v.items ≤ most) }
+) -> io::Result<(Vec<u8>, Option<FileNumber>)>
+    ensures { IfOk result (λ v. length v.0.items ≤ most) }
 {
     let alloc = rt.alloc();
     if name == "-" {
-        return first_of(alloc, rt.reader(), most);
+        let bytes = first_of(alloc, rt.reader(), most)?;
+        return Ok((bytes, number_of(rt, STANDARD_INPUT)));
     }
     let file = fs::open(rt, name)?;
-    first_of(alloc, file, most)
+    let number = match file.metadata() {
+        Ok(found) => FileNumber::of(&found),
+        Err(_) => None,
+    };
+    let bytes = first_of(alloc, file, most)?;
+    Ok((bytes, number))
 }
 
 /// Returns the first bytes of a reader, at most this many.

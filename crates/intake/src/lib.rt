@@ -8,3 +8,4 @@ pub mod failure;
 pub mod files;
 pub mod input_file;
 pub mod message;
+mod replacing;

@@ -13,7 +13,7 @@ const PAGES: &[Page] = &[
         name: "cannot-read",
         others: ["cannot read"],
         about: "file can't be read",
-        rule: "The file doesn't exist, or it can't be opened or read.",
+        rule: "The file doesn't exist, it can't be opened or read, or it has more than 1 GiB.",
         program: ["main {", "}"],
         tells: "check absent.afx" => "cannot read absent.afx",
         mend: "Check the name: it is relative to the current folder. `-` is standard input.",
@@ -22,7 +22,8 @@ const PAGES: &[Page] = &[
         name: "cannot-write",
         others: ["cannot write output", "cannot write"],
         about: "file or output can't be written",
-        rule: "The trace, picture or formatted program can't be written to this file, or the disk is full. Nothing is printed then.
+        rule: "The trace, picture or formatted program can't be written to this file, or the disk is full.
+Or the command has read this file under another name, such as a link. Nothing is printed then.
 `cannot write output`: writing to standard output failed. It may have received the beginning of the answer.",
         program: ["main {", "}"],
         tells: "run program.afx --trace -" => "cannot write -",

@@ -4,6 +4,7 @@ use crate::tests::compare;
 use intake::files::{FileSource, MachineFiles, read_file, write_file};
 use std::alloc::Global;
 use std::fs;
+use std::os::unix::fs::symlink;
 use std::process::Abort;
 use std::rt::HostRuntime;
 
@@ -83,6 +84,40 @@ fn what_was_read_last_is_given_again(rt: HostRuntime) {
         read(alloc, &mut files, "no_such_folder/read", "once"),
         "not read",
     );
+}
+
+/// Returns how writing to a name ends.
+fn written<F: FileSource>(alloc: Global, files: &mut F, name: &str) -> &'static str {
+    match write_file(alloc, files, name, b"new") {
+        Ok(()) => "written",
+        Err(_failure) => "not written",
+    }
+}
+
+/// Names of a file that was read under the last of them.
+const OTHERWISE: &[(&str, &str)] = &[
+    ("program_tests.link", "not written"),
+    ("./program_tests.known", "not written"),
+    ("program_tests.known", "written"),
+];
+
+#[test]
+fn what_was_read_is_written_under_its_name_only(rt: HostRuntime) {
+    let alloc = rt.alloc();
+    let (name, link) = ("program_tests.known", "program_tests.link");
+    let mut files = MachineFiles::new(&rt);
+    let _ = fs::remove_file(&rt, link);
+    let _ = fs::write(&rt, name, b"old");
+    let _ = symlink(&rt, name, link);
+    for (other, want) in OTHERWISE {
+        let before = read(alloc, &mut files, name, "old");
+        compare(&rt, alloc, *other, before, "as it was written");
+        compare(&rt, alloc, *other, written(alloc, &mut files, other), want);
+    }
+    let target = read(alloc, &mut files, link, "new");
+    compare(&rt, alloc, "the link", target, "as it was written");
+    let _ = fs::remove_file(&rt, link);
+    let _ = fs::remove_file(&rt, name);
 }
 
 /// Names that can't be written.
