@@ -39,7 +39,9 @@ part() {
 "$AFX" --version >"$room/version"
 
 part 'exit statuses and small stacks' sh tests/program.sh
+part 'threads' sh tests/threads.sh
 part 'rows of command lines' python3 tests/rows.py
+part 'children first' python3 tests/child_first.py
 part 'cookbook' sh tests/cookbook.sh
 part 'editor words' sh tests/editor_words.sh
 part 'schedules' sh tests/schedules.sh 3 60

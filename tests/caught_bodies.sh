@@ -7,15 +7,20 @@
 # - If the edit has a line `try: CRATE ARGUMENT..`: the program of that crate, with these arguments, prints something else or
 #   ends with another status than without the edit. `fault.afx` is tests/bodies/fault.afx.
 #
-# Arguments are names of edits; without any, all are tried. Each takes a minute or more. The last line is `N caught, M not`;
-# the status is 1 if one isn't caught. Not part of CI. The edits in tests/bodies/built are caught only by scripts over a built
-# program: tests/threads.sh and tests/program.sh. They aren't tried here.
+# Arguments are names of edits; without any, all are tried, and if all are caught, the line `tests/bodies` of
+# wrong_bodies/RESULT is renewed. Each takes a minute or more. The last line is `N caught, M not`; the status is 1 if one
+# isn't caught. Not part of CI. The edits in tests/bodies/built are caught only by scripts over a built program:
+# tests/threads.sh and tests/program.sh. They aren't tried here.
 set -eu
 cd "$(dirname "$0")/.."
 top=$PWD
 room=$(mktemp -d)
 trap 'rm -rf "$room"' EXIT
-[ $# -gt 0 ] || set -- $(basename -s .edit tests/bodies/*.edit)
+is_whole=0
+[ $# -gt 0 ] || {
+    set -- $(basename -s .edit tests/bodies/*.edit)
+    is_whole=1
+}
 
 # Applies an edit to the crates below the folder: replaces each old text, which must occur once, by the new one.
 apply() {
@@ -96,6 +101,17 @@ shown_by_program() {
     fi
 }
 
+# renew NUMBER: renews the line of these mutants in wrong_bodies/RESULT.
+renew() {
+    tip=$(git rev-parse --short HEAD)
+    git diff --quiet HEAD -- crates tests/bodies || tip="$tip with later changes"
+    {
+        grep -v '^tests/bodies:' wrong_bodies/RESULT || true
+        echo "tests/bodies: $1 caught, at $tip"
+    } | sort >"$room/result"
+    cp "$room/result" wrong_bodies/RESULT
+}
+
 caught=0
 missed=0
 for name in "$@"; do
@@ -118,5 +134,6 @@ for name in "$@"; do
     fi
     rm -rf "$copy"
 done
+[ "$is_whole" = 0 ] || [ "$missed" -gt 0 ] || renew "$caught"
 echo "$caught caught, $missed not"
 [ "$missed" -eq 0 ]

@@ -26,7 +26,7 @@ fi
 # started ARGUMENT..: the number of threads that a command starts.
 started() {
     LD_PRELOAD=$room/started.so "$program" "$@" 9>"$room/number" >"$room/out" 2>"$room/err" || true
-    cat "$room/number"
+    wc -c <"$room/number"
 }
 
 passed=0

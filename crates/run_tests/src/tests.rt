@@ -2,6 +2,7 @@
 
 mod costs;
 mod drawn;
+mod held_scopes;
 mod logged_runs;
 mod numbers;
 mod outcomes_of_tasks;

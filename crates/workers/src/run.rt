@@ -50,7 +50,7 @@ pub fn run<'p, G: Gate + Sync, R: Threads + Wait + Sync>(
     requires fits { FitsArrays (code_of accepted.now.typed).arrays (lists_in input.now) }
     requires begun { IfSome log (λ l. l.events ≡ []) }
     requires job { IfSome log (λ l. l.world.job
-        ≡ weighted_job_of alloc accepted.entry input.entry settings.budget settings.w0) }
+        ≡ weighted_job_of alloc accepted input settings.budget settings.w0) }
     ensures outcome { IfOk result (λ r. outcome_in r.0.outcome ≡ one_thread_outcome
         (code_of accepted.now.typed) (lists_in input.now) (budget_of settings.budget)) }
     ensures drawn { IfOk result (λ r. AreDrawn settings.workers r.0.tasks.number) }

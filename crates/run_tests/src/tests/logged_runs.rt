@@ -5,7 +5,7 @@ ghost use Rattle.types.specs.Translation.{input as lists_in};
 ghost use Rattle.types.specs.Typed.{code_of};
 
 use crate::tests::threads::{Holding, TWO_TASKS, Turns};
-use crate::tests::worlds::{HALVES, NESTED, STOPPING};
+use crate::tests::worlds::{FOUR, HALVES, NESTED, STOPPING, THREE};
 use crate::tests::{FAULTS, TWO_ARRAYS, accepted, compare, one_thread_outcome, path};
 use events::event::Event;
 use race_checker::accepted::Accepted;
@@ -145,16 +145,18 @@ fn a_gate_shows_in_the_order_of_events(rt: HostRuntime) {
     }
 }
 
-/// Returns what the scope of a finish with 10,000 tasks has issued and got back, and the number of
-/// its replenishments.
-fn book_of_many(
+/// Returns what the scope of the root's first finish has issued and got back, and the number of
+/// replenishments of a run.
+fn book(
     rt: &(impl Abort + Threads + Wait + Sync),
     alloc: Global,
+    text: &str,
     w0: u64,
+    workers: u64,
 ) -> (Option<(u64, u64)>, usize) {
-    let program = accepted(rt, alloc, TEN_THOUSAND);
+    let program = accepted(rt, alloc, text);
     let input = Input::zeros(alloc, program.typed()).expect(rt, "memory");
-    let settings = settings(rt, Budget::usual(), w0, 1);
+    let settings = settings(rt, Budget::usual(), w0, workers);
     let (_, log) = logged(rt, alloc, (&program, &input), settings, &NoGate);
     let replenishings = log
         .events()
@@ -168,10 +170,27 @@ fn book_of_many(
 #[test]
 fn a_book_tells_how_much_weight_was_issued(rt: HostRuntime) {
     let alloc = rt.alloc();
-    let (book, replenishings) = book_of_many(&rt, alloc, 1);
-    assert_eq!(rt; book, Some((10_001, 10_001)));
+    let (told, replenishings) = book(&rt, alloc, TEN_THOUSAND, 1, 1);
+    assert_eq!(rt; told, Some((10_001, 10_001)));
     assert_eq!(rt; replenishings, 10_000);
-    let (book, replenishings) = book_of_many(&rt, alloc, 4_294_967_296);
-    assert_eq!(rt; book, Some((1_305_670_057_984, 1_305_670_057_984)));
+    let (told, replenishings) = book(&rt, alloc, TEN_THOUSAND, 4_294_967_296, 1);
+    assert_eq!(rt; told, Some((1_305_670_057_984, 1_305_670_057_984)));
     assert_eq!(rt; replenishings, 303);
+}
+
+/// Three tasks and four, the weight that a scope issues at a time, how much it has issued and got
+/// back, and the number of replenishments. Only the owner spawns tasks, so these numbers are the
+/// same on any number of workers.
+const FEW_TASKS: [(&str, u64, u64, usize); 2] = [(THREE, 1, 4, 3), (FOUR, 8, 16, 1)];
+
+#[test]
+fn a_book_of_few_tasks_is_the_same_on_any_number_of_workers(rt: HostRuntime) {
+    let alloc = rt.alloc();
+    for (text, w0, issued, times) in FEW_TASKS {
+        for workers in [1, 2, 8, 64] {
+            let (told, replenishings) = book(&rt, alloc, text, w0, workers);
+            assert_eq!(rt; told, Some((issued, issued)), "{workers} workers");
+            assert_eq!(rt; replenishings, times, "{workers} workers");
+        }
+    }
 }

@@ -1,15 +1,15 @@
-//! Workers: several work at once, each task passes the gate once, and a held scope stops no other.
+//! Workers: several work at once, and each task passes the gate once.
 
 use crate::tests::{accepted, compare};
-use finish_scope::inner::{Inner, Scope};
+use finish_scope::inner::Inner;
 use finish_scope::late::{Late, Reason};
 use std::alloc::Global;
 use std::marker::Brand;
 use std::process::Abort;
+use std::sync::Wait;
 use std::sync::atomic::{AtomicBool, AtomicU32, Ordering};
-use std::sync::{Mutex, Wait};
 use std::thread;
-use std::thread::{Threads, join};
+use std::thread::Threads;
 use task_machine::task::Task;
 use types::budget::Budget;
 use types::input::Input;
@@ -79,10 +79,12 @@ impl Gate for Holding {
             }
         }
     }
+
+    fn hold(&self) {}
 }
 
 /// Returns whether a path has these turns.
-fn is_at(path: &Path, turns: Turns) -> bool {
+pub(crate) fn is_at(path: &Path, turns: Turns) -> bool {
     path.turns.len() == turns.len()
         && path
             .turns
@@ -112,10 +114,12 @@ impl Gate for Counting {
     fn leave(&self, _path: Option<&Path>) {
         self.left.fetch_add(1, Ordering::SeqCst);
     }
+
+    fn hold(&self) {}
 }
 
 /// Returns whether a flag was set before the last look.
-fn waited_for(flag: &AtomicBool) -> bool {
+pub(crate) fn waited_for(flag: &AtomicBool) -> bool {
     for _ in 0..TURNS {
         if flag.load(Ordering::SeqCst) {
             return true;
@@ -126,7 +130,7 @@ fn waited_for(flag: &AtomicBool) -> bool {
 }
 
 /// Returns the outcome of a program on zeros, or the code of the error.
-fn told(
+pub(crate) fn told(
     rt: &(impl Abort + Threads + Wait + Sync),
     alloc: Global,
     text: &str,
@@ -143,7 +147,7 @@ fn told(
 }
 
 /// Returns settings with a default budget.
-fn settings(rt: &impl Abort, tasks: u64, w0: u64, workers: u64) -> Settings {
+pub(crate) fn settings(rt: &impl Abort, tasks: u64, w0: u64, workers: u64) -> Settings {
     Settings::new(Budget::usual(), tasks, w0, workers).expect(rt, "settings")
 }
 
@@ -206,32 +210,6 @@ fn tasks_are_counted(rt: HostRuntime) {
         let tasks = finished.tasks.number();
         assert!(rt; tasks == 501, "{tasks} tasks");
     }
-}
-
-#[test]
-fn a_scope_that_is_held_stops_no_other(rt: HostRuntime) {
-    let alloc = rt.alloc();
-    let has_passed = AtomicBool::new(false);
-    let (waited, said) = join(
-        &rt,
-        || {
-            let (inner, weight) = Inner::<Brand>::open(alloc, 8);
-            weight.forfeit();
-            let scope: Scope<'_, Brand> = Mutex::new(inner);
-            let guard = scope.lock(&rt);
-            let waited = waited_for(&has_passed);
-            drop(guard);
-            waited
-        },
-        || {
-            let said = told(&rt, alloc, TWO_TASKS, settings(&rt, 65_536, 8, 1), &NoGate);
-            has_passed.store(true, Ordering::SeqCst);
-            said
-        },
-    );
-    assert!(rt; waited, "a run waited for a scope of another one");
-    let want = "Ended { arrays: [], lines: [], faults: [] }";
-    compare(&rt, alloc, "a run beside a held scope", said.as_str(), want);
 }
 
 #[test]

@@ -6,6 +6,7 @@ use events::worker_id::WorkerId;
 use interleave::job::WeightedJob;
 use interleave::replay::replay;
 use interleave::walk::random_walk;
+use race_checker::accepted::Accepted;
 use std::alloc::Global;
 use std::process::Abort;
 use std::thread::Threads;
@@ -114,9 +115,9 @@ const GO_ON: &[Of] = &[
 /// After the finish.
 const END: &[Of] = &[(Step, ROOT), (Park, ROOT), (Pass(0), ROOT)];
 
-const THREE: &str = "main { finish { async { skip; } async { skip; } async { skip; } } }";
+pub(crate) const THREE: &str = "main { finish { async { skip; } async { skip; } async { skip; } } }";
 
-const FOUR: &str =
+pub(crate) const FOUR: &str =
     "main { finish { async { skip; } async { skip; } async { skip; } async { skip; } } }";
 
 /// With weight 1 each async needs more.
@@ -313,5 +314,32 @@ fn walks_come_to_the_one_thread_outcome(rt: HostRuntime) {
                 one_thread.as_str(),
             );
         }
+    }
+}
+
+/// Returns the events of a random walk on zeros, with four workers.
+fn walked(rt: &impl Abort, alloc: Global, program: &Accepted, seed: u64) -> Vec<Event> {
+    let budget = Budget::new(60, 100).expect(rt, "a budget");
+    let input = Input::zeros(alloc, program.typed()).expect(rt, "memory");
+    let job = WeightedJob::new(alloc, program, &input, budget, 2).expect(rt, "a weight");
+    let walk = random_walk(job, 4, seed, 1_000_000).expect(rt, "memory");
+    walk.events
+}
+
+#[test]
+fn walks_depend_on_their_seeds(rt: HostRuntime) {
+    let alloc = rt.alloc();
+    for text in [HALVES, FAULTS, NESTED] {
+        let program = accepted(&rt, alloc, text);
+        let first = walked(&rt, alloc, &program, 0);
+        let mut others = 0u32;
+        for seed in 1..50u64 {
+            if walked(&rt, alloc, &program, seed) != first {
+                others = others.saturating_add(1);
+            }
+        }
+        assert!(rt; others > 24, "{others} of 49 walks of {text} differ");
+        let again = walked(&rt, alloc, &program, 0);
+        assert!(rt; again == first, "two walks of {text} with one seed");
     }
 }
