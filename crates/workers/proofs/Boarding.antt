@@ -10,6 +10,7 @@ use Rattle.finish_scope.specs.declared.running.Running.{Ghosts}
 use Rattle.finish_scope.specs.contracts.inner.Inner as Inner
 use Rattle.finish_scope.specs.contracts.shelf.Shelf as Shelf
 use Rattle.finish_scope.specs.contracts.resting.Place as Place
+use Rattle.workers.specs.declared.gate.Gate.{Ghosts as GateGhosts}
 use Rattle.workers.specs.contracts.code.OwnCode as OwnCode
 use Rattle.workers.specs.contracts.code.OwnCode.TheInside as InOwnCode
 use Rattle.workers.specs.contracts.floor.Floor as Floor
@@ -116,9 +117,9 @@ module _ (κ : NamedLft) (J : RattleType) (gh : Ghosts J.Denot) where
       ))
 
   -- the caller lends the gate
-  pub floor_sync : (G : RattleType) → IsSync G → IsSync (Floor.the_row κ J G gh)
-  floor_sync G gate =
-      declared_sync (Floor.the_type κ J G gh) (
+  pub floor_sync : (G : RattleType) → (gg : GateGhosts G.Denot) → IsSync G → IsSync (Floor.the_row κ J G gh gg)
+  floor_sync G gg gate =
+      declared_sync (Floor.the_type κ J G gh gg) (
         job_sync κ,
         (
           own_code_sync,

@@ -1,5 +1,6 @@
 -- The log of a run is of its job.
-use Rattle.std.proofs.Common.{◌≡◌, ℕ, Option, Some, sym, ap, ◌∙◌, subst}
+use Rattle.std.proofs.Common.{◌≡◌, ℕ, Option, Some, None, Result, Ok, Err, sym, ap, ◌∙◌, subst}
+use Rattle.std.specs.Prelude.{IfOk, IfSome}
 use Rattle.std.proofs.lemmas.Option.{same_Some}
 use Rattle.types.specs.Outcome.{Outcome}
 use Rattle.gather.specs.Jobs.{outcome_of}
@@ -13,7 +14,7 @@ use Rattle.gather.specs.declared.run_error.RunError.TheVariants.{OutOfMemory, Re
 use Rattle.gather.specs.declared.run_error.RunError.TheVariants.{IssuedTooOften, TooManyTasks, Gather}
 use Rattle.gather.specs.declared.run_error.RunError.TheVariants.{NotDue, NoOwner, NoScope, NoReport, Unlogged}
 use Rattle.workers.specs.Causes.{IsOfLog, IsReason, IsRunReason}
-use Rattle.workers.specs.Logs.{IsOwnLog, weighted}
+use Rattle.workers.specs.Logs.{IsLogOfRun, IsOwnLog, weighted}
 
 -- what workers report ends a run with a log too
 pub run_reason : (o : Option Job) (workers tasks : ℕ) (HasLog : Type 0) (e : RunError) → IsReason o workers tasks e
@@ -57,3 +58,17 @@ module _ (o : Option Job) (w0 : ℕ) (j : Job) (v : ℕ) (of : o ≡ Some j) (we
 
   pub told_of_log : IsOwnLog o w0 l → LeadsToOutcome l (outcome_of l.world.job.job) → LeadsToOutcome l (outcome_of j)
   told_of_log own told = subst (λ (k : Job). LeadsToOutcome l (outcome_of k)) (same_job own) told
+
+leads_both : (j : Job) (w0 : ℕ) (x : Outcome) (l : Option Recorded) → x ≡ outcome_of j → IfSome l (IsLogOfRun (Some j) w0)
+    → IfSome l (λ y. LeadsToOutcome y x)
+leads_both j w0 x None is own = tt
+leads_both j w0 x (Some y) is own =
+    subst (LeadsToOutcome y) (sym is)
+    (subst (λ (k : Job). LeadsToOutcome y (outcome_of k)) (same_Some _ _ (sym own.own.job)) own.told)
+
+-- the log leads to the outcome that is returned with it
+pub told_by : {A : Type 0} (j : Job) (w0 : ℕ) (out : A → Outcome) (log : A → Option Recorded) (r : Result A RunError)
+    → IfOk r (λ a. out a ≡ outcome_of j) → IfOk r (λ a. IfSome (log a) (IsLogOfRun (Some j) w0))
+    → IfOk r (λ a. IfSome (log a) (λ l. LeadsToOutcome l (out a)))
+told_by j w0 out log (Ok a) is own = leads_both j w0 (out a) (log a) is own
+told_by j w0 out log (Err e) is own = tt

@@ -10,13 +10,16 @@ use Rattle.std.specs.contracts.marker.PhantomData as PhantomData
 use Rattle.std.specs.contracts.result.Result as Result
 use Rattle.std.specs.contracts.sync.Mutex as Mutex
 use Rattle.std.proofs.marker.PhantomData.TheSendSync as OfPhantom
+use Rattle.std.proofs.result.Result.TheSendSync as OfResult
 use Rattle.std.proofs.sync.Mutex.TheSendSync as OfMutex
+use Rattle.own_run.proofs.result.TaskResult.TheSendSync as OfTaskResult
 use Rattle.finish_scope.specs.declared.running.Running.{Ghosts}
 use Rattle.finish_scope.proofs.Crossing.{carried, job_send, paused_send, run_send, start_send}
 use Rattle.events.proofs.event.Event.TheSendSync as OfEvent
 use Rattle.events.proofs.worker_id.WorkerId.TheSendSync as OfWorkerId
 use Rattle.types.proofs.scope_id.ScopeId.TheSendSync as OfScopeId
 use Rattle.interleave.specs.contracts.doing.Doing as Doing
+use Rattle.interleave.specs.contracts.error.EventError as EventError
 use Rattle.interleave.specs.contracts.job.WeightedJob as WeightedJob
 use Rattle.interleave.specs.contracts.task.Task as Task
 use Rattle.interleave.specs.contracts.world.World as World
@@ -31,7 +34,23 @@ use Rattle.workers.specs.contracts.page.OwnLog.TheInside as InOwnLog
 use Rattle.workers.specs.contracts.locked_log.LockedLog as LockedLog
 
 doing_send : (κ : NamedLft) → IsSend (Doing.the_row κ)
-doing_send κ = search (sendable, crosses, carried, start_send, run_send, paused_send) depth 60 fits 50000
+doing_send κ =
+    variants_send (Doing.enum κ) (
+      (start_send κ, tt),
+      (
+        (run_send κ, tt),
+        (
+          (run_send κ, tt),
+          (
+            (run_send κ, (start_send κ, tt)),
+            ((run_send κ, tt), ((paused_send κ, (OfTaskResult.the_send, tt)), ((OfTaskResult.the_send, tt), tt))),
+          ),
+        ),
+      ),
+    )
+
+weighted_job_send : (κ : NamedLft) → IsSend (WeightedJob.the_row κ)
+weighted_job_send κ = declared_send (WeightedJob.the_type κ) (job_send κ, (search sendable, tt))
 
 task_send : (κ : NamedLft) → IsSend (Task.the_row κ)
 task_send κ =
@@ -49,7 +68,7 @@ task_send κ =
 world_send : (κ : NamedLft) → IsSend (World.the_row κ)
 world_send κ =
     declared_send (World.the_type κ) (
-      search (sendable, crosses, job_send) depth 60 fits 50000,
+      weighted_job_send κ,
       (
         search (sendable, crosses, maps.crosses, carried, task_send) depth 60 fits 50000,
         (
@@ -79,12 +98,13 @@ module _ (κ : NamedLft) (J : RattleType) (gh : Ghosts J.Denot) where
         (as_row_send (PhantomData.the_field J) (OfPhantom.the_field_send J), tt),
       ))
 
-  kept_send : IsSend (Result.the_row (OwnLog.the_row κ J gh) _)
-  kept_send = search (sendable, own_log_send, OfError.the_send) depth 30 fits 5000
+  kept_send : IsSend (Result.the_row (OwnLog.the_row κ J gh) EventError.the_row)
+  kept_send = OfResult.the_send (OwnLog.the_row κ J gh) EventError.the_row own_log_send OfError.the_send
 
   pub locked_log_sync : IsSync (LockedLog.the_row κ J gh)
   locked_log_sync =
       declared_sync (LockedLog.the_type κ J gh) (
-        as_row_sync (Mutex.the_field _) (OfMutex.the_sync _ kept_send),
+        as_row_sync (Mutex.the_field (Result.the_row (OwnLog.the_row κ J gh) EventError.the_row))
+            (OfMutex.the_sync (Result.the_row (OwnLog.the_row κ J gh) EventError.the_row) kept_send),
         tt,
       )

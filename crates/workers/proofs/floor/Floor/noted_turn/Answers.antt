@@ -7,4 +7,5 @@ loop-preserved g c =
     (search rules, search rules, subst (IsOwnTurn g.J.Running.job) c.in-Going.is c.in_ok-turn.ensures.next)
 
 pub returns-then-is_over : goal.returns-then-is_over
-returns-then-is_over g c = subst (IsOwnTurn g.J.Running.job) c.in-Going.is c.in_ok-turn.ensures.next
+returns-then-is_over g c =
+    record { next = subst (IsOwnTurn g.J.Running.job) c.in-Going.is c.in_ok-turn.ensures.next; cause = tt }

@@ -1,0 +1,11 @@
+use Rattle.workers.proofs.Logged.{log_reason}
+use Rattle.workers.proofs.run.run_as.Goals as goal
+
+pub returns-in-Ok-told-clause-failed : goal.returns-in-Ok-told-clause-failed
+returns-in-Ok-told-clause-failed g c =
+    log_reason _ _ _ _ _ c.in-Err-close.ensures.failed (c.locked.ensures.0 (c.in-Ok.ensures.log.0 c.in-Err-close.ensures.logged))
+
+pub returns-in-Err-NoReport-clause-failed : goal.returns-in-Err-NoReport-clause-failed
+returns-in-Err-NoReport-clause-failed g c =
+    log_reason _ _ _ _ _ c.in-Err-close-2.ensures.failed
+    (c.locked.ensures.0 (c.in-Ok.ensures.log.0 c.in-Err-close-2.ensures.logged))
