@@ -471,14 +471,15 @@ pub fn owners_of(alloc: Global, option: &str) -> Result<Vec<&'static str>, Alloc
 
 /// Returns the numbers that the option with this name takes, if it takes one.
 pub fn range_of(option: &str) -> Option<Range> {
+    let mut range = None;
     for row in ROWS {
         for entry in row.entries {
-            if entry.name == option {
-                return numbers_of(entry.takes);
+            if range.is_none() && entry.name == option {
+                range = numbers_of(entry.takes);
             }
         }
     }
-    None
+    range
 }
 
 /// Returns whether an entry is an option.
