@@ -1,7 +1,7 @@
 //! A run in which a worker holds the lock of a scope for long: it stops no other worker.
 
-use crate::tests::threads::{Turns, is_at, settings, told, waited_for};
 use crate::tests::compare;
+use crate::tests::threads::{Turns, is_at, settings, told, waited_for};
 use std::sync::atomic::{AtomicBool, Ordering};
 use task_machine::task::Task;
 use types::path::Path;
@@ -53,8 +53,8 @@ impl Meeting {
     /// Keeps the caller's lock if 0.1 and 0.2 have started. Then only the worker of 0.1 can be the
     /// caller: the other one waits in the gate. All later calls return at once.
     fn keep(&self) {
-        let both_are_in =
-            self.first_is_in.load(Ordering::SeqCst) && self.second_is_in.load(Ordering::SeqCst);
+        let both_are_in = self.first_is_in.load(Ordering::SeqCst)
+            && self.second_is_in.load(Ordering::SeqCst);
         if both_are_in && !self.is_held.swap(true, Ordering::SeqCst) {
             self.wait_for(&self.third_has_left);
         }
@@ -96,7 +96,13 @@ impl Gate for Meeting {
 fn a_scope_that_is_held_stops_no_other(rt: HostRuntime) {
     let alloc = rt.alloc();
     let meeting = Meeting::new();
-    let said = told(&rt, alloc, THREE_SCOPES, settings(&rt, 65_536, 8, 2), &meeting);
+    let said = told(
+        &rt,
+        alloc,
+        THREE_SCOPES,
+        settings(&rt, 65_536, 8, 2),
+        &meeting,
+    );
     let want = "Ended { arrays: [], lines: [], faults: [] }";
     compare(&rt, alloc, "three scopes", said.as_str(), want);
     assert!(rt; meeting.is_held.load(Ordering::SeqCst), "no scope was held");

@@ -115,7 +115,8 @@ const GO_ON: &[Of] = &[
 /// After the finish.
 const END: &[Of] = &[(Step, ROOT), (Park, ROOT), (Pass(0), ROOT)];
 
-pub(crate) const THREE: &str = "main { finish { async { skip; } async { skip; } async { skip; } } }";
+pub(crate) const THREE: &str =
+    "main { finish { async { skip; } async { skip; } async { skip; } } }";
 
 pub(crate) const FOUR: &str =
     "main { finish { async { skip; } async { skip; } async { skip; } async { skip; } } }";

@@ -10,8 +10,7 @@ loop-seat-preserved g c =
     let was = c.loop-seat.invariant in let step = c.in-Some.ensures.steps in
     let long : into_iter_len c.loop-seat.seat-iterator ≡ into_iter_len c.next.new.self + 1 = search rules in
     let more : vec_len c.push.new.self ≡ vec_len c.loop-seat.kits + 1 = search rules in
-    let Fits = λ (k : Kit _). HasSeat c.args.tickets.now c.args.settings.tasks k.desk.seat in
-    (
+    let Fits = λ (k : Kit _). HasSeat c.args.tickets.now c.args.settings.tasks k.desk.seat in (
       tt,
       tt,
       All-rest (IsFresh c.args.tickets.now) c.in-Some.seat _ _ step.0 was.2,
