@@ -17,7 +17,17 @@ import tempfile
 
 TOP = pathlib.Path(__file__).resolve().parent.parent
 DATA = TOP / "crates" / "examples" / "data"
-PROGRAM = os.path.abspath(os.environ.get("AFX", str(TOP / "afx")))
+
+
+def program():
+    """Returns the program that AFX names, or else the one that ./afx runs: ./afx itself adds a line to `--version`."""
+    if os.environ.get("AFX"):
+        return os.path.abspath(os.environ["AFX"])
+    subprocess.run([str(TOP / "afx"), "--version"], stdout=subprocess.DEVNULL, check=True)
+    return str(TOP / "crates/afx/out/afx")
+
+
+PROGRAM = program()
 
 
 def piece(text):
