@@ -1,5 +1,6 @@
 -- The trace of a run, by the events of its log.
-use Rattle.std.proofs.Common.{◌≡◌, ℕ, ℤ, List, Some, ap, ◌∙◌, subst, map}
+use Rattle.std.proofs.Common.{◌≡◌, ℕ, ℤ, List, Option, Some, ap, ◌∙◌, subst, map}
+use Rattle.std.specs.Prelude.{IfSome}
 use Rattle.types.specs.Code.{Program}
 use Rattle.types.specs.Outcome.{Budget, Outcome, outcome}
 use Rattle.types.specs.Translation.{budget}
@@ -17,6 +18,10 @@ use Rattle.trace.specs.Logs.{LeadsToOutcome, Recorded}
 use Rattle.command_line.specs.Requests.{settings}
 use Rattle.command_line.specs.declared.request.Settings.{Settings as rSettings}
 use Rattle.driver.specs.Traced.{IsTraceOf, header_of}
+
+-- what is known of a value if there is one, where there is one
+pub of_some : {A : Type 0} (P : A → Type 0) (o : Option A) (a : A) → o ≡ Some a → IfSome o P → P a
+of_some P o a is known = subst (λ x. IfSome x P) is known
 
 abbrev header_with : (b : rBudget) (w0 workers : ℕ) → TraceHeader
 header_with b w0 workers = record { steps = b.steps; nest = b.nest; w0 = w0; workers = workers }

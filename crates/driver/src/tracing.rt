@@ -118,13 +118,13 @@ fn traced<R: Threads + Wait + Sync>(
     let Ok(log) = Log::new(alloc, &header, accepted, input) else {
         return Err(Failure::Run(RunError::OutOfMemory));
     };
-    let (outcome, log) = match run(rt, alloc, accepted, input, on, &NoGate, Some(log)) {
+    let (finished, log) = match run(rt, alloc, accepted, input, on, &NoGate, Some(log)) {
         Ok(ran) => ran,
         Err(error) => return Err(Failure::Run(error)),
     };
     let Some(log) = log else { unreachable!() };
     match write_lines(alloc, &header, log.events()) {
-        Ok(lines) => Ok((outcome, lines)),
+        Ok(lines) => Ok((finished.outcome, lines)),
         Err(_) => Err(Failure::NoMemory),
     }
 }

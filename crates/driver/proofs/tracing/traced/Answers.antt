@@ -12,7 +12,7 @@ use Rattle.gather.specs.RunErrors.{IsRunCause}
 use Rattle.gather.proofs.RunCauses.{cause_so}
 use Rattle.command_line.specs.Requests.{settings}
 use Rattle.answers.specs.Answers.{IsTraced}
-use Rattle.driver.proofs.TracedRuns.{is_trace}
+use Rattle.driver.proofs.TracedRuns.{is_trace, of_some}
 use Rattle.driver.proofs.tracing.traced.Goals as goal
 
 pub returns-in-Err-clause-why : goal.returns-in-Err-clause-why
@@ -23,7 +23,7 @@ returns-in-Err-clause-why g c =
 
 pub returns-in-Ok-write_lines-clause-outcome : goal.returns-in-Ok-write_lines-clause-outcome
 returns-in-Ok-write_lines-clause-outcome g c =
-    c.in-Ok.ensures.outcome
+    c.in-Ok-run.ensures.outcome
     ∙ ap (λ (b : Budget). outcome (code_of c.args.given.now.accepted.typed) (lists_in c.args.given.now.input) (budget b))
     c.run_settings-on.ensures.budget
 
@@ -31,9 +31,9 @@ pub returns-in-Ok-write_lines-clause-trace : goal.returns-in-Ok-write_lines-clau
 returns-in-Ok-write_lines-clause-trace g c =
     let on = c.run_settings-on.ensures in
     let h = c.header_of-header.result in
-    is_trace c.in-Some.log _ h c.args.settings (outcome_in c.in-Ok.ran.0) (string_bytes c.in-Ok-write_lines.lines)
-    c.in-Some.ensures.job on.budget on.w0 (c.header_of-header.ensures.budget ∙ on.budget) (c.header_of-header.ensures.w0 ∙ on.w0)
-    (c.header_of-header.ensures.workers ∙ on.workers) c.in-Some.ensures.told
-    (c.in-Ok.ensures.outcome
+    is_trace c.in-Some.log _ h c.args.settings (outcome_in c.in-Ok-run.ran.0.outcome) (string_bytes c.in-Ok-write_lines.lines)
+    (of_some _ _ _ c.in-Some.is c.in-Ok-run.ensures.job) on.budget on.w0 (c.header_of-header.ensures.budget ∙ on.budget) (c.header_of-header.ensures.w0 ∙ on.w0)
+    (c.header_of-header.ensures.workers ∙ on.workers) (of_some _ _ _ c.in-Some.is c.in-Ok-run.ensures.told)
+    (c.in-Ok-run.ensures.outcome
     ∙ ap (λ (b : Budget). outcome (code_of c.args.given.now.accepted.typed) (lists_in c.args.given.now.input) (budget b)) on.budget)
     (c.in-Ok-write_lines.ensures ∙ ap (λ (es : List Event). trace_text (header_in h) (map event_of es)) c.events.ensures)
