@@ -1,8 +1,13 @@
 //! Workers: several work at once, and each task passes the gate once.
 
+ghost use Rattle.types.specs.Contents.{FitsArrays};
+ghost use Rattle.types.specs.Translation.{input as lists_in};
+ghost use Rattle.types.specs.Typed.{code_of};
+
 use crate::tests::{accepted, compare};
 use finish_scope::inner::Inner;
 use finish_scope::late::{Late, Reason};
+use race_checker::accepted::Accepted;
 use std::alloc::Global;
 use std::marker::Brand;
 use std::process::Abort;
@@ -14,7 +19,9 @@ use task_machine::task::Task;
 use types::budget::Budget;
 use types::input::Input;
 use types::path::Path;
+use workers::error::RunError;
 use workers::gate::{Gate, NoGate};
+use workers::reports::Finished;
 use workers::run::run;
 use workers::settings::Settings;
 
@@ -129,6 +136,23 @@ pub(crate) fn waited_for(flag: &AtomicBool) -> bool {
     false
 }
 
+/// Returns what a run without a log reports.
+fn unlogged<'p>(
+    rt: &(impl Abort + Threads + Wait + Sync),
+    alloc: Global,
+    of: (&'p Accepted, &'p Input),
+    settings: Settings,
+    gate: &'p (impl Gate + Sync),
+) -> Result<Finished, RunError>
+    requires { FitsArrays (code_of of.0.now.typed).arrays (lists_in of.1.now) }
+{
+    let (program, input) = of;
+    match run(rt, alloc, program, input, settings, gate, None) {
+        Ok((finished, _)) => Ok(finished),
+        Err(error) => Err(error),
+    }
+}
+
 /// Returns the outcome of a program on zeros, or the code of the error.
 pub(crate) fn told(
     rt: &(impl Abort + Threads + Wait + Sync),
@@ -139,8 +163,8 @@ pub(crate) fn told(
 ) -> String {
     let program = accepted(rt, alloc, text);
     let input = Input::zeros(alloc, program.typed()).expect(rt, "memory");
-    let said = match run(rt, alloc, &program, &input, settings, gate, None) {
-        Ok((finished, _)) => format!(in alloc; "{:?}", finished.outcome),
+    let said = match unlogged(rt, alloc, (&program, &input), settings, gate) {
+        Ok(finished) => format!(in alloc; "{:?}", finished.outcome),
         Err(error) => format!(in alloc; "{}", error.code()),
     };
     said.expect(rt, "memory")
