@@ -167,7 +167,8 @@ def deep_runs(tests):
             yield ["view", path, trace, *options], 0, None
     for command in ("explore", "cost"):
         random_choices = ["--random", "1"] if command == "explore" else []
-        yield [command, path, "--nest", "1000", *random_choices], 0, "7\n" if command == "explore" else None
+        nest_limit = ["--nest", "1000"] if command == "cost" else []
+        yield [command, path, *nest_limit, *random_choices], 0, "7\n" if command == "explore" else None
         yield [command, calls, *random_choices], 0, "" if command == "explore" else None
     deep = tests.file("deep_choices.afx", "main { while true { async { skip; } } }\n")
     nest = tests.file("nest.afx", "proc down() { finish { down(); } } main { down(); }\n")
