@@ -5,8 +5,9 @@ ghost use Rattle.types.specs.Contents.{FitsArrays};
 ghost use Rattle.types.specs.Translation.{input as lists_in};
 ghost use Rattle.types.specs.Typed.{code_of};
 ghost use Rattle.interleave.specs.Replaying.{event as event_of};
-ghost use Rattle.interleave.specs.Shown.{Becomes};
-ghost use Rattle.interleave.specs.declared.error.EventError.TheVariants.{NoMemory};
+ghost use Rattle.interleave.specs.Shown.{Becomes, IsLegal};
+ghost use Rattle.interleave.specs.declared.error.EventError.TheVariants.{Illegal, NoMemory};
+ghost use Rattle.interleave.specs.Walks.{IsIllegal};
 ghost use Rattle.trace.specs.Logs.{IsClean, IsRefusedBy, Leaves, job_of};
 
 use events::event::Event;
@@ -21,7 +22,8 @@ use trace_text::header::Header;
 use types::input::Input;
 
 /// The events of a run, in the order in which they were recorded, and the world that they lead to.
-/// Whenever a lock around the log is free, the events are legal and lead to that world.
+/// By the type's invariant, the events of each log are legal and lead to its world. So whoever
+/// takes a log out of a lock has a clean one.
 #[derive(Drop)]
 pub struct Log<'p> {
     world: World<'p>,
@@ -98,13 +100,38 @@ impl<'p> Log<'p> {
         ensures recorded { OnOk result (self.new.events ≡ self.old.events ++ event ∷ []) }
         ensures moved { OnOk result (Becomes (event_of event) self.old.world self.new.world) }
         ensures refused { IfErr result (Leaves event self.old self.new) }
+        ensures memory { IfErr result
+            (λ e. e ≡ NoMemory → IsLegal self.old.world (event_of event)) }
         ensures job { self.new.world.job ≡ self.old.world.job }
     {
+        // It is judged before memory is taken.
+        if !self.world.is_legal(&event) {
+            return Err(EventError::Illegal);
+        }
         self.events.reserve(1)?;
         self.world.event(&event)?;
         // There is room for it.
         self.events.push(event)?;
         Ok(())
+    }
+
+    /// Returns the log with one more event, and with the world that this event leads to. It copies
+    /// no task before the task acts, unlike `record`. After an error the log is lost.
+    pub fn append(self, event: Event) -> Result<Log<'p>, EventError>
+        ensures appended { IfOk result (λ l. l.events ≡ self.entry.events ++ event.entry ∷ []) }
+        ensures moved { IfOk result (λ l. Becomes (event_of event.entry) self.entry.world l.world) }
+        ensures refused { IfErr result
+            (λ e. e ≡ Illegal → IsIllegal self.entry.world (event_of event.entry)) }
+        ensures memory { IfErr result
+            (λ e. e ≡ NoMemory → IsLegal self.entry.world (event_of event.entry)) }
+        ensures job { IfOk result (λ l. l.world.job ≡ self.entry.world.job) }
+    {
+        let Log { world, events } = self;
+        let mut world = world;
+        let mut events = events;
+        world.go_by(&event)?;
+        events.push(event)?;
+        Ok(Log { world, events })
     }
 
     /// Returns the events, in the order in which they were recorded.

@@ -74,7 +74,7 @@ piece_is piece (Some behind) text front (n ∷ ns) lacks same cut =
     let both = one_cut 46 piece behind front (decimal n ++ turns_text ns) cut.first lacks (sym cut.parts ∙ same) in
     (both.0, ap Some both.1)
 
-root_lacks : Lacks 46 (codes "0")
+pub root_lacks : Lacks 46 (codes "0")
 root_lacks zero within e = let h : 48 ≡ 46 = e in omega arith
 root_lacks (suc i) within e = let w : suc i < 1 = within in omega arith
 

@@ -29,7 +29,7 @@ unfolding line
 body_is text d same = append_cancel_right text (compact_text d) (codes "\n") same
 
 -- ---- the first line of a text
-line_then : (d : Data) (behind : List ℕ) → line d ++ behind ≡ compact_text d ++ (10 ∷ behind)
+pub line_then : (d : Data) (behind : List ℕ) → line d ++ behind ≡ compact_text d ++ (10 ∷ behind)
 unfolding line
 line_then d behind = append_assoc (compact_text d) (codes "\n") behind
 

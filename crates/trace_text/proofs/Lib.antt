@@ -6,3 +6,4 @@ pub mod Found
 pub mod PathReading
 pub mod Arms
 pub mod TableText
+pub mod OneTrace

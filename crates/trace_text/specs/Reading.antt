@@ -20,6 +20,12 @@ pub record IsTrace (h : TraceHeader) (es : List Event) (text : List ℕ) : Type 
   pub spelled : All IsSpelled es
   pub lines : text ≡ trace_text h es
 
+-- a text is the trace of at most one header and one list of events
+abbrev pub SpellsOneTrace : Type 0
+SpellsOneTrace =
+    (text : List ℕ) (h g : TraceHeader) (es fs : List Event) → IsTrace h es text → IsTrace g fs text
+    → (h ≡ g) × (es ≡ fs)
+
 -- a text starts with a header's line
 pub record BeginsWithHeader (text : List ℕ) : Type 0 where
   pub header : TraceHeader

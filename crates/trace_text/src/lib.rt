@@ -6,6 +6,7 @@ mod cut;
 pub mod error;
 pub mod header;
 pub mod kind;
+pub mod laws;
 mod line;
 mod path;
 pub mod read;
