@@ -20,15 +20,22 @@ crate_lines() {
     needed_crates | awk -F'[ :]' 'NR == FNR { needed[$1] = 1; next } $1 in needed' - "$top/crates.txt"
 }
 
+# Prints the folders of these crates that have sources, one per line.
+source_folders() (
+    cd "$top"
+    for name in $(needed_crates); do
+        for part in src specs proofs; do
+            [ ! -d "crates/$name/$part" ] || echo "crates/$name/$part"
+        done
+    done
+)
+
 # Prints the names of the files that the program is built from, sorted, one per line.
 source_files() (
     cd "$top"
     echo HANDLES
-    for name in $(needed_crates); do
-        for part in src specs proofs; do
-            [ ! -d "crates/$name/$part" ] || find "crates/$name/$part" -type f
-        done
-    done | LC_ALL=C sort
+    # (without quotes: names without spaces)
+    find $(source_folders) -type f | LC_ALL=C sort
 )
 
 # Prints the sum of all sources: of the lines of crates.txt and of each file with its name.

@@ -33,7 +33,7 @@ for line in open(edit):
     else:
         body = open(path).read()
         if body.count(old) != 1:
-            sys.exit(f"{edit}: {old!r} stands {body.count(old)} times")
+            sys.exit(f"{edit}: {old!r} appears {body.count(old)} times")
         open(path, "w").write(body.replace(old, text))
 PYTHON
 }

@@ -1,8 +1,8 @@
 #!/bin/sh
 # Checks that each program in docs/COOKBOOK.md is the file in examples/ that its heading names, without the comment of that
 # file. Checks that each name there is a file, that `afx check` accepts the programs, and that it reports for those in
-# examples/refused/ what the page says. Prints a line for each that is wrong; the last line is `N passed, M failed`.
-# tests/all.sh runs it.
+# examples/refused/ what the page says, and the same for docs/DATARACE.md and examples/datarace/. Prints a line for each that
+# is wrong; the last line is `N passed, M failed`. tests/all.sh runs it.
 #
 #     sh tests/cookbook.sh      AFX='./afx' names another program
 set -eu
@@ -29,7 +29,7 @@ inside { print >(folder "/" name ".afx") }' $page
 for file in "$folder"/*.afx; do
     name=$(basename "$file")
     grep -v '^//' "examples/$name" >"$folder/own" || true
-    count "$name isn't what stands in examples/" cmp -s "$file" "$folder/own"
+    count "$name differs from the file in examples/" cmp -s "$file" "$folder/own"
     count "$name is refused" $afx check "$file" >/dev/null
 done
 
@@ -46,6 +46,24 @@ done <"$folder/lines"
 for file in examples/refused/*.afx; do
     name=$(basename "$file" .afx)
     count "$name isn't on the page" grep -q "^$name " "$folder/lines"
+done
+
+# The programs of docs/DATARACE.md: what is reported for each, and its accepted form.
+verdict() {
+    got=accepted
+    $afx check "examples/datarace/$1.afx" >/dev/null 2>"$folder/err" || got=$(cat "$folder/err")
+    [ "$got" = "$2" ]
+}
+sed -n 's/^| `\(DRB[^`]*\)` | [a-z]* | `*\([^|`]*[^|` ]\)`* |.*/\1 \2/p' docs/DATARACE.md >"$folder/kernels"
+while read -r name line; do
+    count "$name: $line isn't reported" verdict "$name" "$line"
+done <"$folder/kernels"
+for name in $(sed -n 's/.*| `\(DRB[^`]*\)` |$/\1/p' docs/DATARACE.md); do
+    count "$name isn't accepted" grep -q "^$name accepted$" "$folder/kernels"
+done
+for file in examples/datarace/*.afx; do
+    name=$(basename "$file" .afx)
+    count "$name isn't on the page" grep -q "^$name " "$folder/kernels"
 done
 
 echo "$passed passed, $failed failed"

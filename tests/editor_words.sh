@@ -52,7 +52,7 @@ function compare(what, where,    own, named, wanted, count, at, times, known) {
     for (at = 1; at <= count; at++) times[named[at]]++
     for (at = 1; at <= wanted; at++) {
         known[own[at]] = 1
-        look(times[own[at]] == 1, where ": " own[at] " stands " times[own[at]] + 0 " times among the " what)
+        look(times[own[at]] == 1, where ": " own[at] " appears " times[own[at]] + 0 " times among the " what)
     }
     for (at = 1; at <= count; at++)
         if (!(named[at] in known)) look(0, where ": " named[at] " is none of the " what)
@@ -63,7 +63,7 @@ function longest_first(where,    named, count, at, before) {
     count = lines_of(folder "/marks." where, named)
     for (at = 1; at <= count; at++) {
         if (length(named[at]) == 2)
-            look(!(substr(named[at], 1, 1) in before), where ": " named[at] " stands behind its first character")
+            look(!(substr(named[at], 1, 1) in before), where ": " named[at] " comes after its first character")
         before[named[at]] = 1
     }
 }

@@ -46,6 +46,10 @@ expect 4 '' 'E2' run - <<'END'
 main { var k = 0; while k < 65536 { async { skip; } k = k + 1; } }
 END
 
+$afx --help >"$room/help"
+expect 0 "$(cat "$room/help")" '' help --help
+expect 0 "$(cat "$room/help")" '' help -h
+
 echo 'main { array q: int[3]; print q[0]; }' >"$room/q.afx"
 expect 1 '' 'N4 q
 

@@ -36,8 +36,8 @@ stripped() {
 }
 
 make() {
-    paths="crates.txt HANDLES $(needed_crates | sed 's|.*|crates/&/src crates/&/specs crates/&/proofs|' | tr '\n' ' ')"
-    # (without quotes: a list of paths without spaces)
+    # (without quotes below: a list of paths without spaces)
+    paths="crates.txt HANDLES $(source_folders | tr '\n' ' ')"
     [ -z "$(git status --porcelain -- $paths)" ] || fail "commit the sources first"
     if [ -r crates/afx/out/origin ] && grep -q '^release of ' crates/afx/out/origin &&
         [ ! "$built" -nt crates/afx/out/origin ]; then

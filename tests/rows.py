@@ -60,7 +60,7 @@ def read_table(name):
             if not groups:
                 shared[target] = files[target]
         elif line.startswith("$ afx"):
-            words = ["" if word == '""' else word for word in line[5:].split(" ")[1:]]
+            words = [quoted or plain for quoted, plain in re.findall(r'"([^"]*)"|([^ ]+)', line[6:])]
             if command and command.expects_nothing():
                 command.runs.append(words)
             else:

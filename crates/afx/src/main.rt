@@ -52,15 +52,31 @@ fn refuses_colours(rt: &HostRuntime) -> bool {
 }
 
 /// Returns the arguments after the program's name, and a buffered standard output. Without
-/// arguments at a terminal it requests help, because nobody types a program there.
+/// arguments at a terminal it requests help, because nobody types a program there. `help --help`
+/// requests help too; for `clap` it would be an error.
 fn lent(rt: &HostRuntime) -> io::Result<(Vec<String>, BufWriter<Stdout>)> {
     let alloc = rt.alloc();
     let mut words = Vec::new(alloc);
     for word in env::args(rt)?.skip(1) {
         words.push(word)?;
     }
+    if asks_about_help(&words) {
+        words.clear();
+        words.push(String::from_str(alloc, "--help")?)?;
+    }
     if words.is_empty() && rt.stdin().is_terminal() {
         words.push(String::from_str(alloc, "--help")?)?;
     }
     Ok((words, BufWriter::new(alloc, rt.stdout())?))
+}
+
+/// Returns whether the arguments are `help --help` or `help -h`.
+fn asks_about_help(words: &[String]) -> bool {
+    match words {
+        [first, second] => {
+            let second = second.as_str();
+            first.as_str() == "help" && (second == "--help" || second == "-h")
+        }
+        _ => false,
+    }
 }

@@ -32,7 +32,7 @@ use Rattle.parallel_relation.specs.Together.{LabelsMeet}
 use Rattle.race_checker.specs.Clash.{IsAccepted}
 use Rattle.race_checker.specs.Races.{IsLeastRace, Race as ProgramRace}
 use Rattle.texts.specs.Appending.{AppendsBeginning}
-use Rattle.gather.specs.RunErrors.{IsCause}
+use Rattle.gather.specs.RunErrors.{IsRunCause}
 use Rattle.answers.specs.Chosen.{ComesTo, HasLeaves}
 use Rattle.answers.specs.declared.costing.Shares.{Shares}
 use Rattle.answers.specs.declared.costing.Shares.TheVariants.{Untold, ByLabel, ByProcedure}
@@ -49,7 +49,7 @@ use Rattle.intake.specs.declared.failure.Failure.{Failure}
 use Rattle.intake.specs.declared.failure.Failure.TheVariants.{CannotRead, NotUtf8, Syntax, Types, Race}
 use Rattle.intake.specs.declared.failure.Failure.TheVariants.{NoMemoryInCheck, Input, CannotWriteOutput}
 use Rattle.intake.specs.declared.failure.Failure.TheVariants.{NoMemory, ChoicesNotUnderstood, NoLeaf}
-use Rattle.intake.specs.declared.failure.Failure.TheVariants.{NotLaidOut, Trace, Illegal, StrangeEvents}
+use Rattle.intake.specs.declared.failure.Failure.TheVariants.{NotLaidOut, Trace, Illegal}
 use Rattle.intake.specs.declared.failure.Failure.TheVariants.{CannotWrite, Run as RunFailed}
 use Rattle.command_line.specs.declared.request.Command.{Command}
 use Rattle.command_line.specs.declared.request.Command.TheVariants.{Run, Serial, Check, Listing, Pairs}
@@ -405,12 +405,11 @@ Explains c s held text (Race procedure first second) =
     LooksForRaces c × HasRace text (string_bytes procedure) (string_bytes first) (string_bytes second)
 Explains c s held text NoMemoryInCheck = LooksForRaces c
 Explains c s held text (Input e) = LacksInput c s held text (Input e)
-Explains c s held text (RunFailed e) = FailsAsTasks c s held text (IsCause s.spread.tasks e)
+Explains c s held text (RunFailed e) = FailsAsTasks c s held text (IsRunCause s.spread.tasks (IsTraced s) e)
 Explains c s held text ChoicesNotUnderstood = LacksChoices c s held text ChoicesNotUnderstood
 Explains c s held text (NoLeaf n) = LacksLeaf c s held text n
 Explains c s held text (Trace e) = ⊥
 Explains c s held text (Illegal n) = ⊥
-Explains c s held text StrangeEvents = FailsAsTasks c s held text (IsTraced s)
 Explains c s held text (CannotWrite name) = FailsAsTasks c s held text (s.trace ≡ Some (string_bytes name))
 Explains c s held text NotLaidOut = (c ≡ CheckFormat) × NeedsLayout text
 Explains c s held text CannotWriteOutput = Unit {0}

@@ -95,8 +95,7 @@ impl Numbers {
         })
     }
 
-    /// Copies the numbers of a range, and counts the copies. No other loop copies numbers that are
-    /// carved out.
+    /// Copies the numbers of a range into a new list, and counts the copies.
     pub fn part(&self, alloc: Global, from: usize, to: usize) -> Result<(Numbers, u64), AllocError>
         requires range { from < to }
         requires there { ReachOver self.now from to }

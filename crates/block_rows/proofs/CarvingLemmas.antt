@@ -1,25 +1,19 @@
 -- What is cut out of blocks, and moves.
 use Rattle.std.proofs.Common.{◌≡◌, ℕ, ◌+◌, ◌-◌, ◌*◌, ◌/◌, ◌%◌, ◌<◌, ◌≤◌, List, length, IsSome, is_some}
 use Rattle.std.proofs.Common.{Option, Some, None, Bool, true, false, refl, sym, ap, ◌∙◌, arith, rules, subst, option_map}
-use Rattle.std.proofs.lemmas.Bool.{and_parts, and_from, eqb-true, eqb-false, eq-eqb, false≢true, leb-true, ltb-true}
+use Rattle.std.proofs.lemmas.Bool.{and_parts, and_from, eqb-true, eq-eqb, false≢true, leb-true, ltb-true}
 use Rattle.std.proofs.lemmas.Option.{same_Some}
-use Rattle.std.specs.Arc.{arc_value}
-use Rattle.std.specs.Prelude.{ℤ, ◌&&◌, nat_eq, nat_le, nat_lt, MatchOption, if◌then◌else◌}
-use Rattle.std.specs.declared.alloc.Global.{Global}
-use Rattle.std.specs.declared.sync.Arc.{Arc}
+use Rattle.std.specs.Prelude.{ℤ, ◌&&◌, nat_eq, nat_le, nat_lt, if◌then◌else◌}
 use Rattle.sections.specs.Covers.{is_in}
 use Rattle.sections.specs.Place.{In, Place, Window}
 use Rattle.sections.proofs.Covering.{is_in-from}
-use Rattle.block_numbers.specs.Numbers.{number_in}
 use Rattle.blocks.specs.Blocks.{held_at, owned_at}
-use Rattle.blocks.specs.Copies.{OwnsCopies}
 use Rattle.blocks.specs.Held.{Held, IsThere, Map, Owned, first_of, owned, owned_number, without}
 use Rattle.block_numbers.specs.Offsets.{Agree, HasAll, HasOnly, in_range, inside, outside}
-use Rattle.blocks.specs.Ready.{IsCutOut, IsReady}
+use Rattle.blocks.specs.Ready.{IsReady}
 use Rattle.blocks.specs.declared.block.Block.{Block}
 use Rattle.blocks.specs.declared.cut.Cut.{Cut}
-use Rattle.block_numbers.specs.declared.numbers.Numbers.{Numbers}
-use Rattle.blocks.proofs.BlockLemmas.{held_at-behind, owned_number-owned}
+use Rattle.blocks.proofs.BlockLemmas.{held_at-behind}
 use Rattle.block_numbers.proofs.WalkLemmas.{in_range-high, in_range-low, in_range-true}
 use Rattle.block_rows.specs.Carvings.{CanMove, IsMovable, IsPiece, IsWhole, StandClear, moves, piece_of}
 use Rattle.block_rows.specs.Pieces.{taking}
@@ -154,9 +148,7 @@ can_move-kept own new a b r s v c is rep keeps can = by_here (nat_eq v.array a &
 -- a block that moves unchanged holds nothing else
 pub whole-only : (own others : List Row) (c : Carving) (m : IsMovable own others c) → moves c ≡ true
     → HasOnly ((piece_of c).at % 256) ((piece_of c).at % 256 + (piece_of c).length) (held_at m.ready.mine)
-whole-only own others c m moved =
-    let w = piece_of c in
-    subst (IsCutOut m.ready.mine (w.at % 256) (w.at % 256 + w.length)) (m.whole moved) m.ready.ready.cut
+whole-only own others c m moved = m.ready.ready.whole (eqb-true c.cut.copied 0 moved)
 
 -- nothing else of that block can move
 pub whole-alone : (own others : List Row) (c : Carving) (m : IsMovable own others c) → moves c ≡ true → (v : Window) → IsPiece v
@@ -222,7 +214,6 @@ still_movable own others own' others' w r s ch piece owned d clear n =
       ready = can_move-kept own own' w.array (w.at / 256) r s v d.cut ch.there ch.back
           (λ array block ready. ch.keeps v d.cut n.piece array block clear ready) n.ready;
       room = ch.rooms v.array (v.at / 256) n.room;
-      whole = n.whole;
       alone = λ moved q e. by_block moved q e (in_block w.array (w.at / 256) q) refl;
     }
   where
@@ -271,6 +262,16 @@ whole_only rs w r is whole k out = by_place (nat_lt k 256) refl
     by_place true e = here (ltb-true _ _ e)
     by_place false e = let le : 256 ≤ k = search rules in held_at-behind r k le
 
+-- a piece that is all that its block holds
+pub only_whole : (rs : List Row) (w : Window) (r : Block) → block_of rs w.array (w.at / 256) ≡ Some r
+    → HasOnly (w.at % 256) (w.at % 256 + w.length) (held_at r) → IsWhole (held_in_list rs) w
+only_whole rs w r is only q at held = by_in (is_in w q) refl
+  where
+    by_in : (t : Bool) → is_in w q ≡ t → is_in w q ≡ true
+    by_in true e = e
+    by_in false e =
+        absurd (held (held-there rs w.array (w.at / 256) r q at is ∙ only (q.index % 256) (sym (is_in-block w q at) ∙ e)))
+
 -- if none or all of them are counted, the count is at most all of them
 pub at_most : (only : Type 0) (n length : ℕ) → (only → n ≡ 0) → ((only → ⊥) → n ≡ length) → n ≤ length
 at_most only n length moved counted = by_test (nat_le n length) refl
@@ -280,39 +281,6 @@ at_most only n length moved counted = by_test (nat_le n length) refl
     by_test false e =
         let lt : length < n = search rules in
         omega (arith, counted (λ o. absurd (omega (arith, moved o, lt))), lt)
-
--- others have received the copies
-pub held-copied : (w : Window) (r : Block) (n : Numbers) (own old new : List Row) → w.at % 256 + w.length ≤ 256
-    → block_of own w.array (w.at / 256) ≡ Some r → HasAll (w.at % 256) (w.at % 256 + w.length) (owned_at r)
-    → Agree (λ k. option_map Owned (number_in n k)) (inside (w.at % 256) (w.at % 256 + w.length) (held_at r))
-    → ((q : Place) → held_in_list new q ≡ (if in_block w.array (w.at / 256) q
-    then first_of (option_map Owned (number_in n (q.index % 256))) (held_in_list old q) else held_in_list old q))
-    → held_in_list new ≡ taking (is_in w) (held_in_list own) (held_in_list old)
-held-copied w r n own old new fits is all copies says = λ t q. at_place q (in_block w.array (w.at / 256) q) refl t
-  where
-    first : (q : Place) (c : Bool) → in_range (w.at % 256) (w.at % 256 + w.length) (q.index % 256) ≡ c
-        → first_of (if c then held_at r (q.index % 256) else None) (held_in_list old q)
-        ≡ (if c then held_at r (q.index % 256) else held_in_list old q)
-    first q false e = refl
-    first q true e = by_held (held_at r (q.index % 256)) refl
-      where
-        by_held : (o : Option Held) → held_at r (q.index % 256) ≡ o → first_of (held_at r (q.index % 256)) (held_in_list old q) ≡ held_at r (q.index % 256)
-        by_held None f = absurd (all (q.index % 256) e (ap owned_number f))
-        by_held (Some h) f = ap (λ (o : Option Held). first_of o (held_in_list old q)) f ∙ sym f
-
-    at_place : (q : Place) (c : Bool) → in_block w.array (w.at / 256) q ≡ c
-        → held_in_list new q ≡ taking (is_in w) (held_in_list own) (held_in_list old) q
-    at_place q true e =
-        says q
-        ∙ ap (λ c. if c then first_of (option_map Owned (number_in n (q.index % 256))) (held_in_list old q) else held_in_list old q) e
-        ∙ ap (λ (o : Option Held). first_of o (held_in_list old q)) (copies (q.index % 256))
-        ∙ first q (in_range (w.at % 256) (w.at % 256 + w.length) (q.index % 256)) refl
-        ∙ ap (λ c. if c then held_at r (q.index % 256) else held_in_list old q) (sym (is_in-block w q e))
-        ∙ ap (λ (h : Option Held). if is_in w q then h else held_in_list old q) (sym (held-there own w.array (w.at / 256) r q e is))
-    at_place q false e =
-        says q
-        ∙ ap (λ c. if c then first_of (option_map Owned (number_in n (q.index % 256))) (held_in_list old q) else held_in_list old q) e
-        ∙ ap (λ c. if c then held_in_list own q else held_in_list old q) (sym (is_in-elsewhere w q fits e))
 
 -- others hold nothing of a block all of which is to move
 pub alone-from : (w : Window) (r : Block) (own others : List Row) → block_of own w.array (w.at / 256) ≡ Some r
@@ -333,24 +301,24 @@ alone-from w r own others is only within clear q at = by_range (in_range (w.at %
 
 -- ---- a block that was taken out, carved, and put back
 
-pub record HasCarved (own own' : List Row) (w : Window) (r s out : Block) : Type 0 where
+pub record HasCarved (own own' : List Row) (w : Window) (r s out : Block) (moved : Type 0) : Type 0 where
   pub there : block_of own w.array (w.at / 256) ≡ Some r
   pub back : Replaces w.array (w.at / 256) s own own'
-  pub taken : Agree (held_at out) (inside (w.at % 256) (w.at % 256 + w.length) (held_at r))
+  pub taken : moved → Agree (held_at out) (inside (w.at % 256) (w.at % 256 + w.length) (held_at r))
   pub left : Agree (held_at s) (outside (w.at % 256) (w.at % 256 + w.length) (held_at r))
   pub keeps : (f t : ℕ) (c : Cut) → f < t
       → ((k : ℕ) → in_range f t k ≡ true → in_range (w.at % 256) (w.at % 256 + w.length) k ≡ false)
       → IsReady r f t c → IsReady s f t c
 
-pub has_carved : (own mid own' : List Row) (w : Window) (n from to : ℕ) (r s out x : Block) → n ≡ w.at / 256 → from ≡ w.at % 256
+pub has_carved : (own mid own' : List Row) (w : Window) (n from to : ℕ) (r s out x : Block) (moved : Type 0) → n ≡ w.at / 256 → from ≡ w.at % 256
     → to ≡ w.at % 256 + w.length → block_of own w.array n ≡ Some r → Replaces w.array n x own mid → Replaces w.array n s mid own'
-    → Agree (held_at out) (inside from to (held_at r)) → Agree (held_at s) (outside from to (held_at r))
+    → (moved → Agree (held_at out) (inside from to (held_at r))) → Agree (held_at s) (outside from to (held_at r))
     → ((f t : ℕ) (c : Cut) → f < t → ((k : ℕ) → in_range f t k ≡ true → in_range from to k ≡ false) → IsReady r f t c → IsReady s f t c)
-    → HasCarved own own' w r s out
-has_carved own mid own' w n from to r s out x at e g there gone back taken left keeps = record {
+    → HasCarved own own' w r s out moved
+has_carved own mid own' w n from to r s out x moved at e g there gone back taken left keeps = record {
   there = ap (block_of own w.array) (sym at) ∙ there;
   back = subst (λ m. Replaces w.array m s own own') at (replaced-twice w.array n x s own mid own' gone back);
-  taken = λ k. taken k ∙ range k (held_at r k) None;
+  taken = λ is k. taken is k ∙ range k (held_at r k) None;
   left = λ k. left k ∙ range k None (held_at r k);
   keeps = λ f t c lt apart ready. keeps f t c lt (λ k here. same k ∙ apart k here) ready;
 }
@@ -368,22 +336,20 @@ pub record HasCut (own own' : List Row) (w : Window) (r s : Block) (c : Cut) : T
   pub ready : IsReady s (w.at % 256) (w.at % 256 + w.length) c
   pub moved : HasOnly (w.at % 256) (w.at % 256 + w.length) (held_at r) → c.copied ≡ 0
   pub counted : (HasOnly (w.at % 256) (w.at % 256 + w.length) (held_at r) → ⊥) → c.copied ≡ w.length
-  pub whole : c.copied ≡ 0 → c.numbers ≡ None
   pub keeps : (f t : ℕ) (d : Cut) → IsReady r f t d → IsReady s f t d
 
 pub has_cut : (own mid own' : List Row) (w : Window) (n from to : ℕ) (r s x : Block) (c : Cut) → n ≡ w.at / 256 → from ≡ w.at % 256
     → to ≡ w.at % 256 + w.length → block_of own w.array n ≡ Some r → Replaces w.array n x own mid → Replaces w.array n s mid own'
     → Agree (held_at s) (held_at r) → IsReady s from to c → (HasOnly from to (held_at r) → c.copied ≡ 0)
-    → ((HasOnly from to (held_at r) → ⊥) → c.copied ≡ to - from) → (c.copied ≡ 0 → c.numbers ≡ None)
+    → ((HasOnly from to (held_at r) → ⊥) → c.copied ≡ to - from)
     → ((f t : ℕ) (d : Cut) → IsReady r f t d → IsReady s f t d) → HasCut own own' w r s c
-has_cut own mid own' w n from to r s x c at e g there gone back same ready moved counted whole keeps = record {
+has_cut own mid own' w n from to r s x c at e g there gone back same ready moved counted keeps = record {
   there = ap (block_of own w.array) (sym at) ∙ there;
   back = subst (λ m. Replaces w.array m s own own') at (replaced-twice w.array n x s own mid own' gone back);
   same = same;
   ready = subst (λ t. IsReady s (w.at % 256) t c) g (subst (λ f. IsReady s f to c) e ready);
   moved = λ only. moved (λ k out. only k (sym (range k) ∙ out));
   counted = λ never. counted (λ only. never (λ k out. only k (range k ∙ out))) ∙ omega (arith, e, g);
-  whole = whole;
   keeps = keeps;
 }
   where
@@ -403,44 +369,25 @@ took_in a b r s old new o is rep says q = by_here (in_block a b q) refl
         ∙ ap (first_of (option_map Owned (o (q.index % 256)))) (sym (held-there old a b r q e is))
     by_here false e = held-elsewhere a b s old new rep q e
 
-pub copies_taken : (o : Option (Arc Numbers Global)) (b : Block) (a n : ℕ) (old new : Map Held) → OwnsCopies o b
-    → ((q : Place) → new q ≡ (if in_block a n q then first_of (option_map Owned (owned_at b (q.index % 256))) (old q) else old q))
-    → MatchOption o (new ≡ old) (λ m. (q : Place) → new q ≡ (if in_block a n q
-    then first_of (option_map Owned (number_in (arc_value m) (q.index % 256))) (old q) else old q))
-copies_taken None b a n old new owns says = absurd owns
-copies_taken (Some m) b a n old new owns says = λ q.
-    says q ∙ ap (λ (x : Option ℤ). if in_block a n q then first_of (option_map Owned x) (old q) else old q)
-    (ap owned_number (owns (q.index % 256)) ∙ owned_number-owned (number_in (arc_value m) (q.index % 256)))
-
 -- ---- a piece was cut out
 
--- others after a cut: room is kept, and the copies are held if there are any
-pub record HasCopies (others others' : List Row) (w : Window) (c : Cut) : Type 0 where
+-- others after a cut: room is kept, and they hold the copies if there are any
+pub record HasCopies (own others others' : List Row) (w : Window) (c : Cut) : Type 0 where
   pub rooms : (i j : ℕ) → IsSome (block_of others i j) → IsSome (block_of others' i j)
   pub room : IsSome (block_of others' w.array (w.at / 256))
-  pub taken : MatchOption c.numbers (held_in_list others' ≡ held_in_list others) (λ m. (q : Place) → held_in_list others' q
-      ≡ (if in_block w.array (w.at / 256) q
-      then first_of (option_map Owned (number_in (arc_value m) (q.index % 256))) (held_in_list others q) else held_in_list others q))
+  pub taken : held_in_list others' ≡ (if nat_eq c.copied 0 then held_in_list others
+      else taking (is_in w) (held_in_list own) (held_in_list others))
 
-cut_elsewhere : (others others' : List Row) (w : Window) (o : Option (Arc Numbers Global))
-    → MatchOption o (held_in_list others' ≡ held_in_list others) (λ m. (q : Place) → held_in_list others' q
-    ≡ (if in_block w.array (w.at / 256) q
-    then first_of (option_map Owned (number_in (arc_value m) (q.index % 256))) (held_in_list others q) else held_in_list others q))
+cut_elsewhere : (own others others' : List Row) (w : Window) (b : Bool) → w.at % 256 + w.length ≤ 256
+    → held_in_list others' ≡ (if b then held_in_list others else taking (is_in w) (held_in_list own) (held_in_list others))
     → (q : Place) → in_block w.array (w.at / 256) q ≡ false → held_in_list others' q ≡ held_in_list others q
-cut_elsewhere others others' w None taken q e = ap (λ (m : Map Held). m q) taken
-cut_elsewhere others others' w (Some m) taken q e =
-    taken q ∙ ap (λ b. if b then first_of (option_map Owned (number_in (arc_value m) (q.index % 256))) (held_in_list others q) else held_in_list others q) e
-
-cut_moved : (others others' : List Row) (w : Window) (o : Option (Arc Numbers Global)) → o ≡ None
-    → MatchOption o (held_in_list others' ≡ held_in_list others) (λ m. (q : Place) → held_in_list others' q
-    ≡ (if in_block w.array (w.at / 256) q
-    then first_of (option_map Owned (number_in (arc_value m) (q.index % 256))) (held_in_list others q) else held_in_list others q))
-    → held_in_list others' ≡ held_in_list others
-cut_moved others others' w None e taken = taken
-cut_moved others others' w (Some m) e taken = absurd (cc)
+cut_elsewhere own others others' w true fits taken q e = ap (λ (m : Map Held). m q) taken
+cut_elsewhere own others others' w false fits taken q e =
+    ap (λ (m : Map Held). m q) taken
+    ∙ ap (λ b. if b then held_in_list own q else held_in_list others q) (is_in-elsewhere w q fits e)
 
 pub cut_keeps : (own others own' others' : List Row) (w : Window) (r s : Block) (c : Cut) → HasCut own own' w r s c
-    → HasCopies others others' w c → IsPiece w → HasAll (w.at % 256) (w.at % 256 + w.length) (owned_at r) → (d : Carving)
+    → HasCopies own others others' w c → IsPiece w → HasAll (w.at % 256) (w.at % 256 + w.length) (owned_at r) → (d : Carving)
     → StandClear (piece_of d) w → IsMovable own others d → IsMovable own' others' d
 cut_keeps own others own' others' w r s c h k piece owned d clear n =
     still_movable own others own' others' w r s
@@ -448,13 +395,13 @@ cut_keeps own others own' others' w r s c h k piece owned d clear n =
       there = h.there;
       back = h.back;
       rooms = k.rooms;
-      held = λ q e. cut_elsewhere others others' w c.numbers k.taken q e;
+      held = λ q e. cut_elsewhere own others others' w (nat_eq c.copied 0) piece.block k.taken q e;
       keeps = λ v x p array block apart ready. h.keeps (v.at % 256) (v.at % 256 + v.length) x ready;
     })
     piece owned d clear n
 
 pub cut_movable : (own others own' others' : List Row) (w : Window) (r s : Block) (c : Carving) → piece_of c ≡ w
-    → HasCut own own' w r s c.cut → HasCopies others others' w c.cut → IsPiece w
+    → HasCut own own' w r s c.cut → HasCopies own others others' w c.cut → IsPiece w
     → ((q : Place) → (held_in_list others q ≡ None → ⊥) → held_in_list own q ≡ None → ⊥)
     → ((q : Place) → is_in w q ≡ true → held_in_list others q ≡ None) → IsMovable own' others' c
 cut_movable own others own' others' w r s c same h k piece within clear = record {
@@ -462,46 +409,24 @@ cut_movable own others own' others' w r s c same h k piece within clear = record
   ready = subst (λ v. CanMove own' v c.cut) (sym same)
       (record { mine = s; there = replaced-here w.array (w.at / 256) s own own' h.back; ready = h.ready });
   room = subst (λ (v : Window). IsSome (block_of others' v.array (v.at / 256))) (sym same) k.room;
-  whole = λ moved. h.whole (eqb-true c.cut.copied 0 moved);
   alone = λ moved. subst (λ (v : Window). (q : Place) → in_block v.array (v.at / 256) q ≡ true → held_in_list others' q ≡ None) (sym same)
-      (λ q at. let none = h.whole (eqb-true c.cut.copied 0 moved) in
-      ap (λ (m : Map Held). m q) (cut_moved others others' w c.cut.numbers none k.taken)
-      ∙ alone-from w r own others h.there (only none) within clear q at);
+      (λ q at.
+      ap (λ (m : Map Held). m q) (k.taken
+      ∙ ap (λ b. if b then held_in_list others else taking (is_in w) (held_in_list own) (held_in_list others)) moved)
+      ∙ alone-from w r own others h.there (only (eqb-true c.cut.copied 0 moved)) within clear q at);
 }
   where
-    only : c.cut.numbers ≡ None → HasOnly (w.at % 256) (w.at % 256 + w.length) (held_at r)
-    only none k out =
-        sym (h.same k) ∙ subst (IsCutOut s (w.at % 256) (w.at % 256 + w.length)) none h.ready.cut k out
-
--- what others hold then
-pub cut_taken : (own others own' others' : List Row) (w : Window) (r s : Block) (c : Cut) → HasCut own own' w r s c
-    → HasCopies others others' w c → IsPiece w → HasAll (w.at % 256) (w.at % 256 + w.length) (owned_at r)
-    → held_in_list others' ≡ (if nat_eq c.copied 0 then held_in_list others else taking (is_in w) (held_in_list own) (held_in_list others))
-cut_taken own others own' others' w r s c h k piece owned = by_copied (nat_eq c.copied 0) refl
-  where
-    copies : (o : Option (Arc Numbers Global)) → (c.copied ≡ 0 → ⊥) → IsCutOut s (w.at % 256) (w.at % 256 + w.length) o
-        → MatchOption o (held_in_list others' ≡ held_in_list others) (λ m. (q : Place) → held_in_list others' q
-        ≡ (if in_block w.array (w.at / 256) q
-        then first_of (option_map Owned (number_in (arc_value m) (q.index % 256))) (held_in_list others q) else held_in_list others q))
-        → held_in_list others' ≡ taking (is_in w) (held_in_list own) (held_in_list others)
-    copies None some cut taken = absurd (some (h.moved (λ j out. sym (h.same j) ∙ cut j out)))
-    copies (Some m) some cut taken =
-        held-copied w r (arc_value m) own others others' piece.block h.there owned
-        (λ j. cut.1 j ∙ ap (λ (x : Option Held). if in_range (w.at % 256) (w.at % 256 + w.length) j then x else None) (h.same j)) taken
-
-    by_copied : (b : Bool) → nat_eq c.copied 0 ≡ b
-        → held_in_list others' ≡ (if b then held_in_list others else taking (is_in w) (held_in_list own) (held_in_list others))
-    by_copied true e = cut_moved others others' w c.numbers (h.whole (eqb-true c.copied 0 e)) k.taken
-    by_copied false e = copies c.numbers (eqb-false c.copied 0 e) h.ready.cut k.taken
+    only : c.cut.copied ≡ 0 → HasOnly (w.at % 256) (w.at % 256 + w.length) (held_at r)
+    only none k out = sym (h.same k) ∙ h.ready.whole none k out
 
 -- ---- a piece has moved
 
-pub carve_keeps : (own others own' others' : List Row) (c : Carving) (m : IsMovable own others c) (r s out : Block) → r ≡ m.ready.mine
-    → HasCarved own own' (piece_of c) r s out
+pub carve_keeps : (own others own' others' : List Row) (c : Carving) (m : IsMovable own others c) (r s out : Block) (moved : Type 0) → r ≡ m.ready.mine
+    → HasCarved own own' (piece_of c) r s out moved
     → ((i j : ℕ) → IsSome (block_of others i j) → IsSome (block_of others' i j))
     → ((q : Place) → in_block (piece_of c).array ((piece_of c).at / 256) q ≡ false → held_in_list others' q ≡ held_in_list others q)
     → (d : Carving) → StandClear (piece_of d) (piece_of c) → IsMovable own others d → IsMovable own' others' d
-carve_keeps own others own' others' c m r s out same h rooms held d clear n =
+carve_keeps own others own' others' c m r s out moved same h rooms held d clear n =
     let w = piece_of c in
     still_movable own others own' others' w r s
     (record {
@@ -514,23 +439,53 @@ carve_keeps own others own' others' c m r s out same h rooms held d clear n =
     })
     m.piece (subst (λ z. HasAll (w.at % 256) (w.at % 256 + w.length) (owned_at z)) (sym same) m.ready.ready.owned) d clear n
 
-pub copies_none : {X : Type 0} (o : Option X) (P : Type 0) (Q : X → Type 0) → o ≡ None → P → MatchOption o P Q
-copies_none None P Q e p = p
-copies_none (Some x) P Q e p = absurd (cc)
-
-pub has_copies : (others mid others' : List Row) (w : Window) (n : ℕ) (c : Cut) → n ≡ w.at / 256 → Widens others mid
-    → IsSome (block_of mid w.array n) → ((i j : ℕ) → IsSome (block_of mid i j) → IsSome (block_of others' i j))
-    → MatchOption c.numbers (held_in_list others' ≡ held_in_list mid) (λ m. (q : Place) → held_in_list others' q
-    ≡ (if in_block w.array n q then first_of (option_map Owned (number_in (arc_value m) (q.index % 256))) (held_in_list mid q)
-    else held_in_list mid q))
-    → HasCopies others others' w c
-has_copies others mid others' w n c at widens some there taken = record {
-  rooms = λ i j is. there i j (ap is_some (before-kept (block_of others i j) (block_of mid i j) (widens i j) is) ∙ is);
-  room = there w.array (w.at / 256) (subst (λ m. IsSome (block_of mid w.array m)) at some);
-  taken = subst (λ b. MatchOption c.numbers (held_in_list others' ≡ held_in_list others) (λ m. (q : Place) → held_in_list others' q
-      ≡ (if in_block w.array b q then first_of (option_map Owned (number_in (arc_value m) (q.index % 256))) (held_in_list others q)
-      else held_in_list others q))) at
-      (subst (λ (h : Map Held). MatchOption c.numbers (held_in_list others' ≡ h) (λ m. (q : Place) → held_in_list others' q
-      ≡ (if in_block w.array n q then first_of (option_map Owned (number_in (arc_value m) (q.index % 256))) (h q) else h q)))
-      (held-widened others mid widens) taken);
+-- a block of others that was taken out, took in copies of a piece, and was put back
+pub has_copies : (own others mid out others' : List Row) (w : Window) (n from to : ℕ) (r t u x : Block) (c : Cut) → n ≡ w.at / 256
+    → from ≡ w.at % 256 → to ≡ w.at % 256 + w.length → w.at % 256 + w.length ≤ 256 → Widens others mid
+    → block_of mid w.array n ≡ Some t → Replaces w.array n x mid out → Replaces w.array n u out others'
+    → block_of own w.array (w.at / 256) ≡ Some r
+    → ((k : ℕ) → held_at u k ≡ (if nat_eq c.copied 0 then held_at t k else (if in_range from to k then held_at r k else held_at t k)))
+    → HasCopies own others others' w c
+has_copies own others mid out others' w n from to r t u x c at e g fits widens there gone back is says = record {
+  rooms = λ i j some. replaced-some w.array b u mid others' rep i j
+      (ap is_some (before-kept (block_of others i j) (block_of mid i j) (widens i j) some) ∙ some);
+  room = ap is_some (replaced-here w.array b u mid others' rep);
+  taken = by_copied (nat_eq c.copied 0) refl;
 }
+  where
+    b : ℕ
+    b = w.at / 256
+
+    mine : block_of mid w.array b ≡ Some t
+    mine = ap (block_of mid w.array) (sym at) ∙ there
+
+    rep : Replaces w.array b u mid others'
+    rep = subst (λ m. Replaces w.array m u mid others') at (replaced-twice w.array n x u mid out others' gone back)
+
+    wider : held_in_list mid ≡ held_in_list others
+    wider = held-widened others mid widens
+
+    range : (k : ℕ) → in_range from to k ≡ in_range (w.at % 256) (w.at % 256 + w.length) k
+    range k = ap (λ f. in_range f to k) e ∙ ap (λ y. in_range (w.at % 256) y k) g
+
+    at_place : nat_eq c.copied 0 ≡ false → (q : Place) (z : Bool) → in_block w.array b q ≡ z
+        → held_in_list others' q ≡ taking (is_in w) (held_in_list own) (held_in_list others) q
+    at_place some q true here =
+        let k = q.index % 256 in
+        held-there others' w.array b u q here (replaced-here w.array b u mid others' rep) ∙ says k
+        ∙ ap (λ z. if z then held_at t k else (if in_range from to k then held_at r k else held_at t k)) some
+        ∙ ap (λ z. if z then held_at r k else held_at t k) (range k ∙ sym (is_in-block w q here))
+        ∙ ap (λ h. if is_in w q then h else held_at t k) (sym (held-there own w.array b r q here is))
+        ∙ ap (λ (h : Option Held). if is_in w q then held_in_list own q else h)
+        (sym (held-there mid w.array b t q here mine) ∙ ap (λ (m : Map Held). m q) wider)
+    at_place some q false here =
+        held-elsewhere w.array b u mid others' rep q here ∙ ap (λ (m : Map Held). m q) wider
+        ∙ ap (λ z. if z then held_in_list own q else held_in_list others q) (sym (is_in-elsewhere w q fits here))
+
+    by_copied : (z : Bool) → nat_eq c.copied 0 ≡ z
+        → held_in_list others' ≡ (if z then held_in_list others else taking (is_in w) (held_in_list own) (held_in_list others))
+    by_copied true none =
+        held-same w.array b t u mid others' mine rep
+        (λ k. says k ∙ ap (λ z. if z then held_at t k else (if in_range from to k then held_at r k else held_at t k)) none)
+        ∙ wider
+    by_copied false some = λ i q. at_place some q (in_block w.array b q) refl i

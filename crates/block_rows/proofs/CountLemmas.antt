@@ -15,7 +15,7 @@ use Rattle.block_rows.specs.Pieces.{piece_length, piece, behind_piece}
 
 -- ---- counting along a row
 
-range-append : (a m n : ℕ) → range_with_len a (m + n) ≡ range_with_len a m ++ range_with_len (a + m) n
+pub range-append : (a m n : ℕ) → range_with_len a (m + n) ≡ range_with_len a m ++ range_with_len (a + m) n
 range-append a zero n =
     let e : 0 + n ≡ n = omega arith in let f : a ≡ a + 0 = omega arith in
     ap (range_with_len a) e ∙ ap (λ k. range_with_len k n) f
@@ -75,16 +75,18 @@ split_from-piece lengths w v n most free = by_block (has_block (lengths w.array)
 pub record IsRest (w v : Window) : Type 0 where
   pub array : v.array ≡ w.array
   pub end : v.at + v.length ≡ w.at + w.length
+  pub low : w.at ≤ v.at
   -- it starts where the window does, or at the start of a block
   pub at : 0 < v.length → (v.at ≡ w.at) ⊎ (v.at % 256 ≡ 0)
 
 pub rest-whole : (w : Window) → IsRest w w
-rest-whole w = record { array = refl; end = refl; at = λ some. inl refl }
+rest-whole w = record { array = refl; end = refl; low = omega arith; at = λ some. inl refl }
 
 pub rest-behind : {w v : Window} → IsRest w v → IsRest w (behind_piece v)
 rest-behind {w} {v} r = record {
   array = r.array;
   end = omega (arith, r.end);
+  low = omega (arith, r.low);
   at = λ some. inr (omega (arith, some));
 }
 

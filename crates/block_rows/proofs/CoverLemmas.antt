@@ -1,10 +1,11 @@
 -- Windows of covers are disjoint, and their costs.
-use Rattle.std.proofs.Common.{◌≡◌, ℕ, zero, suc, ◌+◌, ◌<◌, ◌≤◌, List, [], ◌∷◌, ◌++◌, length, get_or, map, take}
+use Rattle.std.proofs.Common.{◌≡◌, ℕ, zero, suc, ◌+◌, ◌-◌, ◌<◌, ◌≤◌, min, List, [], ◌∷◌, ◌++◌, length, get_or, map, take}
 use Rattle.std.proofs.Common.{Bool, true, false, inl, inr, refl, sym, ap, ◌∙◌, arith}
 use Rattle.std.proofs.lemmas.Bool.{and_parts, false≢true, or_cases}
 use Rattle.std.proofs.lemmas.List.{take_more}
 use Rattle.std.proofs.lemmas.List.Sums.{sum_by-cons, sum_by-append}
 use Rattle.std.specs.List.{list_all, sum_by}
+use Rattle.std.specs.Prelude.{◌^◌}
 use Rattle.sections.specs.Covers.{ends_before, has, is_cover, is_in}
 use Rattle.sections.specs.Place.{Place, Window}
 use Rattle.sections.specs.Translation.{window as window_of}
@@ -12,8 +13,8 @@ use Rattle.sections.specs.declared.window.Window.{Window as rWindow}
 use Rattle.sections.proofs.Covering.{ends_cases, in_window}
 use Rattle.sections.proofs.Cutting.{covered}
 use Rattle.sections.proofs.Unique.{same_cover}
-use Rattle.blocks.specs.Held.{Map}
-use Rattle.block_rows.specs.Copied.{CopiesSplit, LiesWithin, split_in, split_places}
+use Rattle.blocks.specs.Held.{Held, Map}
+use Rattle.block_rows.specs.Copied.{CopiesSplit, CountsCarve, IsCoverOf, LiesWithin, as_count, carve_copies, split_in, split_places}
 
 -- ---- windows of a cover
 
@@ -56,16 +57,27 @@ map-push : (ws : List rWindow) (w : rWindow) → map window_of (ws ++ w ∷ []) 
 map-push [] w = refl
 map-push (x ∷ ws) w = ap (λ xs. window_of x ∷ xs) (map-push ws w)
 
+-- a sum over the windows so far, and the next one
+pub sum-more : (f : Window → ℕ) (ws : List rWindow) (i : ℕ) (w : rWindow) → i < length ws → w ≡ get_or ws i w
+    → sum_by f (map window_of (take (i + 1) ws)) ≡ sum_by f (map window_of (take i ws)) + f (window_of w)
+sum-more f ws i w lt is =
+    let more : take (i + 1) ws ≡ take i ws ++ w ∷ [] = take_more ws i w lt ∙ ap (λ x. take i ws ++ x ∷ []) (sym is) in
+    let one : sum_by f (window_of w ∷ []) ≡ f (window_of w) = sum_by-cons f (window_of w) [] ∙ omega arith in
+    ap (λ xs. sum_by f (map window_of xs)) more
+    ∙ ap (sum_by f) (map-push (take i ws) w)
+    ∙ sum_by-append f (map window_of (take i ws)) (window_of w ∷ [])
+    ∙ ap (λ n. sum_by f (map window_of (take i ws)) + n) one
+
 pub split-more : (lengths : ℕ → ℕ) (ws : List rWindow) (i : ℕ) (w : rWindow) → i < length ws → w ≡ get_or ws i w
     → split_in lengths (map window_of (take (i + 1) ws)) ≡ split_in lengths (map window_of (take i ws)) + split_places lengths (window_of w)
-split-more lengths ws i w lt is =
-    let more : take (i + 1) ws ≡ take i ws ++ w ∷ [] = take_more ws i w lt ∙ ap (λ x. take i ws ++ x ∷ []) (sym is) in
-    let one : sum_by (split_places lengths) (window_of w ∷ []) ≡ split_places lengths (window_of w) =
-    sum_by-cons (split_places lengths) (window_of w) [] ∙ omega arith in
-    ap (λ xs. split_in lengths (map window_of xs)) more
-    ∙ ap (split_in lengths) (map-push (take i ws) w)
-    ∙ sum_by-append (split_places lengths) (map window_of (take i ws)) (window_of w ∷ [])
-    ∙ ap (λ n. split_in lengths (map window_of (take i ws)) + n) one
+split-more lengths ws i w lt is = sum-more (split_places lengths) ws i w lt is
+
+-- the exact count of the windows so far, and of the next one
+pub counts-window : (f : Window → ℕ) (ws : List rWindow) (i : ℕ) (w : rWindow) (n n' : ℕ) → i < length ws → w ≡ get_or ws i w
+    → min n (2 ^ 64 - 1) ≡ min (sum_by f (map window_of (take i ws))) (2 ^ 64 - 1)
+    → min n' (2 ^ 64 - 1) ≡ min (n + f (window_of w)) (2 ^ 64 - 1)
+    → min n' (2 ^ 64 - 1) ≡ min (sum_by f (map window_of (take (i + 1) ws))) (2 ^ 64 - 1)
+counts-window f ws i w n n' lt is so_far here = omega (arith, sum-more f ws i w lt is, so_far, here)
 
 -- the windows of a cover are the only ones that are one of their places
 pub copies-split : {A : Type 0} (m : Map A) (ws : List rWindow) (n : ℕ) → is_cover (map window_of ws) ≡ true
@@ -82,3 +94,18 @@ pub copies-from : {A : Type 0} (m : Map A) (set other : Place → Bool) (n old n
 copies-from m set other n old new same copies less lengths ws within of =
     let most = copies lengths ws within (record { form = of.form; places = λ q. of.places q ∙ sym (same q) }) in
     omega (arith, most, less)
+
+-- the exact count holds for each cover of the same places
+pub counts-cover : (m : Map Held) (ws : List rWindow) (n : ℕ) → is_cover (map window_of ws) ≡ true
+    → as_count n ≡ as_count (carve_copies m (map window_of ws)) → (vs : List Window) → IsCoverOf vs (has (map window_of ws))
+    → as_count n ≡ as_count (carve_copies m vs)
+counts-cover m ws n cover counted vs of =
+    let same : map window_of ws ≡ vs = same_cover (map window_of ws) vs cover of.form (λ q. sym (of.places q)) in
+    counted ∙ ap (λ us. as_count (carve_copies m us)) same
+
+-- what was copied exactly, added to what was before, for the same places
+pub counts-from : (m : Map Held) (set other : Place → Bool) (n old new : ℕ) → ((q : Place) → set q ≡ other q)
+    → ((ws : List Window) → IsCoverOf ws set → as_count n ≡ as_count (carve_copies m ws)) → new ≡ min (old + n) (2 ^ 64 - 1)
+    → CountsCarve m other old new
+counts-from m set other n old new same counted is ws of =
+    omega (arith, is, counted ws (record { form = of.form; places = λ q. of.places q ∙ sym (same q) }))

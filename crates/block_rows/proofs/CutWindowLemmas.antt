@@ -1,20 +1,23 @@
 -- A window that is cut out piece by piece.
-use Rattle.std.proofs.Common.{◌≡◌, ℕ, ◌+◌, ◌<◌, ◌≤◌, List, [], ◌∷◌, ◌++◌}
+use Rattle.std.proofs.Common.{◌≡◌, ℕ, ◌+◌, ◌-◌, ◌/◌, ◌<◌, ◌≤◌, min, List, [], ◌∷◌, ◌++◌}
 use Rattle.std.proofs.Common.{None, Bool, true, false, inl, inr, refl, sym, ap, ◌∙◌, arith, ◌⊎◌}
 use Rattle.std.proofs.lemmas.Bool.{or_cases, or_left, or_right, false≢true}
-use Rattle.std.specs.Prelude.{◌||◌, if◌then◌else◌}
+use Rattle.std.specs.List.{count_by, range_with_len}
+use Rattle.std.specs.Prelude.{◌||◌, ◌^◌, if◌then◌else◌}
 use Rattle.std.proofs.Math.Bool.{or_assoc}
 use Rattle.sections.specs.Covers.{is_in}
 use Rattle.sections.specs.Place.{Place, Window}
 use Rattle.sections.proofs.Covering.{in_window}
 use Rattle.blocks.specs.Held.{Held, Map, only}
 use Rattle.block_rows.specs.Carvings.{IsCut, IsMovable, IsWhole, StandClear, copied_places, cut_places, moved_places, moves, piece_of}
-use Rattle.block_rows.specs.Copied.{LiesWithin, split_places}
+use Rattle.block_rows.specs.Copied.{LiesWithin, as_count, copied_from, split_places, splits}
 use Rattle.block_rows.specs.Pieces.{behind_piece, piece, taking}
 use Rattle.block_rows.specs.Rows.{held_in_list}
 use Rattle.block_rows.specs.declared.carving.Carving.{Carving}
 use Rattle.block_rows.specs.declared.row.Row.{Row}
+use Rattle.block_rows.proofs.CarvingLemmas.{at_most}
 use Rattle.block_rows.proofs.CountLemmas.{IsRest, costs-more, rest-behind, rest-whole, split_from}
+use Rattle.block_rows.proofs.CountedLemmas.{copied_rest, counts-more}
 use Rattle.block_rows.proofs.CutListLemmas.{copies-more, cut-more, cut-push}
 use Rattle.block_rows.proofs.PieceLemmas.{is_in-cut, is_in-empty}
 
@@ -27,6 +30,7 @@ pub record CutSoFar (first : Map Held) (w : Window) (cs0 : List Carving) (n0 : �
   pub places : (q : Place) → (cut_places cs q || is_in rest q) ≡ (cut_places cs0 q || is_in w q)
   pub clear : (q : Place) → cut_places cs q ≡ true → is_in rest q ≡ false
   pub copied : (lengths : ℕ → ℕ) → LiesWithin lengths first → n + split_from lengths w rest ≤ n0 + split_places lengths w
+  pub counted : as_count (n + copied_rest first w rest) ≡ as_count (n0 + copied_from first w)
   pub left : IsRest w rest
 
 pub cut-begun : (first : Map Held) (w : Window) (cs : List Carving) (n : ℕ) (own others : List Row) → held_in_list own ≡ first
@@ -39,6 +43,7 @@ cut-begun first w cs n own others same cut taken clear = record {
   places = λ q. refl;
   clear = clear;
   copied = λ lengths within. omega arith;
+  counted = refl;
   left = rest-whole w;
 }
 
@@ -63,14 +68,14 @@ pub record CutPiece (first : Map Held) (own others own' others' : List Row) (c :
   pub movable : IsMovable own' others' c
   pub keeps : (d : Carving) → StandClear (piece_of d) (piece_of c) → IsMovable own others d → IsMovable own' others' d
   pub taken : held_in_list others' ≡ (if moves c then held_in_list others else taking (is_in (piece_of c)) first (held_in_list others))
-  pub most : c.cut.copied ≤ v.length
   pub moved : IsWhole first v → c.cut.copied ≡ 0
+  pub counted : (IsWhole first v → ⊥) → c.cut.copied ≡ v.length
 
 pub cut-on : (first : Map Held) (w : Window) (cs0 : List Carving) (n0 : ℕ) (own others own' others' : List Row) (cs : List Carving) (n m : ℕ)
     (rest : Window) (c : Carving) → CutSoFar first w cs0 n0 own others cs n rest → 0 < rest.length
-    → CutPiece first own others own' others' c (piece rest) → m ≤ n + c.cut.copied
+    → CutPiece first own others own' others' c (piece rest) → m ≡ min (n + c.cut.copied) (2 ^ 64 - 1)
     → CutSoFar first w cs0 n0 own' others' (cs ++ c ∷ []) m (behind_piece rest)
-cut-on first w cs0 n0 own others own' others' cs n m rest c p some one less = record {
+cut-on first w cs0 n0 own others own' others' cs n m rest c p some one is = record {
   same = one.same ∙ p.same;
   cut = cut-more own others own' others' cs c p.cut one.keeps one.movable (λ q e. here q ∙ (not_first _ _ _ (is_in-cut rest q) (p.clear q e)).0);
   taken = copies-more cs c first (held_in_list others) (held_in_list others') p.taken one.taken;
@@ -83,9 +88,11 @@ cut-on first w cs0 n0 own others own' others' cs n m rest c p some one less = re
       omega (
         arith,
         p.copied lengths within,
-        less,
-        costs-more first lengths w rest c.cut.copied p.left some within one.most one.moved,
+        is,
+        costs-more first lengths w rest c.cut.copied p.left some within
+            (at_most (IsWhole first (piece rest)) c.cut.copied (piece rest).length one.moved one.counted) one.moved,
       );
+  counted = counts-more first w rest n c.cut.copied (n0 + copied_from first w) m p.left some p.counted one.moved one.counted is;
   left = rest-behind p.left;
 }
   where
@@ -110,6 +117,15 @@ pub cut-costs : (first : Map Held) (w : Window) (cs0 : List Carving) (n0 : ℕ) 
     (rest : Window) → CutSoFar first w cs0 n0 own others cs n rest → (lengths : ℕ → ℕ) → LiesWithin lengths first
     → n ≤ n0 + split_places lengths w
 cut-costs first w cs0 n0 own others cs n rest p lengths within = omega (arith, p.copied lengths within)
+
+pub cut-counted : (first : Map Held) (w : Window) (cs0 : List Carving) (n0 : ℕ) (own others : List Row) (cs : List Carving) (n : ℕ)
+    (rest : Window) → CutSoFar first w cs0 n0 own others cs n rest → rest.length ≡ 0
+    → as_count n ≡ as_count (n0 + copied_from first w)
+cut-counted first w cs0 n0 own others cs n rest p none =
+    let e : copied_rest first w rest ≡ 0 =
+    ap (λ k. count_by (λ i. splits first (is_in w) w.array (i / 256)) (range_with_len rest.at k)) none in
+    let z : n + 0 ≡ n = omega arith in
+    sym (ap (λ k. as_count (n + k)) e ∙ ap as_count z) ∙ p.counted
 
 -- ---- what a piece that is left may be cut out for
 

@@ -3,6 +3,7 @@ pub mod CarvingLemmas
 pub mod CopyLemmas
 pub mod CopyingLemmas
 pub mod CountLemmas
+pub mod CountedLemmas
 pub mod CoverLemmas
 pub mod CutListLemmas
 pub mod CutWindowLemmas

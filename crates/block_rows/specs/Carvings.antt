@@ -41,12 +41,11 @@ abbrev pub moves : Carving → Bool
 moves c = nat_eq c.cut.copied 0
 
 -- what was cut out can move without memory to rows that have room for it. If its block moves
--- unchanged, these rows hold nothing of the block.
+-- unchanged, those rows hold nothing of the block.
 pub record IsMovable (own others : List Row) (c : Carving) : Type 0 where
   pub piece : IsPiece (piece_of c)
   pub ready : CanMove own (piece_of c) c.cut
   pub room : IsSome (block_of others (piece_of c).array ((piece_of c).at / 256))
-  pub whole : moves c ≡ true → c.cut.numbers ≡ None
   pub alone : moves c ≡ true → (q : Place)
       → in_block (piece_of c).array ((piece_of c).at / 256) q ≡ true → held_in_list others q ≡ None
 

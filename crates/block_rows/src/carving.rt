@@ -1,14 +1,11 @@
 //! Places that move out.
 
-ghost use Rattle.std.specs.Prelude.{◌≡◌, ◌≤◌, ◌<◌, ◌+◌, ◌%◌, ◌||◌, ℕ, true, false, IfOk, IsSome, None};
-ghost use Rattle.std.specs.Prelude.{MatchOption, OnOk, map, nat_eq, if◌then◌else◌};
+ghost use Rattle.std.specs.Prelude.{◌≡◌, ◌≤◌, ◌<◌, ◌+◌, ◌||◌, ℕ, true, false, IfOk, None};
+ghost use Rattle.std.specs.Prelude.{List, OnOk, map, nat_eq, if◌then◌else◌};
 ghost use Rattle.sections.specs.Covers.{has, is_cover, is_in};
-ghost use Rattle.sections.specs.Place.{Place};
+ghost use Rattle.sections.specs.Place.{Place, Window as PlainWindow};
 ghost use Rattle.sections.specs.Translation.{window as window_of};
-ghost use Rattle.std.specs.Arc.{arc_value};
-ghost use Rattle.block_numbers.specs.Numbers.{number_in};
-ghost use Rattle.blocks.specs.Blocks.{owned_at};
-ghost use Rattle.blocks.specs.Held.{IsThere, first_of, only, owned, without};
+ghost use Rattle.blocks.specs.Held.{IsThere, only, owned, without};
 ghost use Rattle.block_rows.specs.Copied.{CopiesSplit};
 ghost use Rattle.block_rows.specs.Pieces.{taking};
 
@@ -34,12 +31,12 @@ pub struct Carvings {
 }
 
 impl Rows {
-    ghost use Rattle.std.specs.Prelude.{◌&&◌, get_or, length, option_map};
-    ghost use Rattle.blocks.specs.Held.{Owned as OwnedAs};
+    ghost use Rattle.std.specs.Prelude.{◌&&◌, get_or, length};
     ghost use Rattle.block_rows.specs.Carvings.{IsCut, IsMovable, IsPiece, IsWhole, StandClear};
     ghost use Rattle.block_rows.specs.Carvings.{copied_places, cut_places, moved_places, moves, piece_of};
-    ghost use Rattle.block_rows.specs.Copied.{LiesWithin, split_places};
-    ghost use Rattle.block_rows.specs.Rows.{block_of, held_in, in_block};
+    ghost use Rattle.block_rows.specs.Copied.{IsCoverOf, LiesWithin, as_count, carve_copies, copied_from};
+    ghost use Rattle.block_rows.specs.Copied.{split_places};
+    ghost use Rattle.block_rows.specs.Rows.{held_in};
     ghost use Rattle.block_rows.specs.declared.carving.Carving.{Carving as CarvingOf};
 
     /// Cuts out the places of the windows of a cover, which must all be owned, so moving them needs
@@ -57,6 +54,9 @@ impl Rows {
             ≡ only (copied_places c.list.items) (held_in self.old)) }
         ensures copied { IfOk result (λ c. CopiesSplit (held_in self.old)
             (has (map window_of windows.now)) 0 c.copied) }
+        ensures counted { IfOk result (λ c. (ws : List PlainWindow)
+            → IsCoverOf ws (has (map window_of windows.now))
+            → as_count c.copied ≡ as_count (carve_copies (held_in self.old) ws)) }
     {
         let mut carvings = Carvings {
             list: Vec::new(self.alloc),
@@ -90,6 +90,8 @@ impl Rows {
             ≡ (cut_places carvings.old.list.items q || is_in (window_of window) q)) }
         ensures copied { OnOk result ((lengths : ℕ → ℕ) → LiesWithin lengths (held_in self.old)
             → carvings.new.copied ≤ carvings.old.copied + split_places lengths (window_of window)) }
+        ensures counted { OnOk result (as_count carvings.new.copied ≡ as_count
+            (carvings.old.copied + copied_from (held_in self.old) (window_of window))) }
     {
         let mut rest = window;
         'pieces: while rest.len > 0 {
@@ -103,7 +105,7 @@ impl Rows {
     }
 
     /// Cuts out a piece of one block. `others` must hold nothing of the piece, and elsewhere only
-    /// places that these rows hold too.
+    /// places that these rows hold too. If places are copied, they are copied straight to `others`.
     fn cut_piece(&mut self, others: &mut Rows, piece: Window) -> Result<Cut, AllocError>
         requires piece { IsPiece (window_of piece) }
         requires owned { IsThere (is_in (window_of piece)) (owned (held_in self.old)) }
@@ -120,54 +122,21 @@ impl Rows {
         ensures taken { IfOk result (λ c. held_in others.new ≡ (if nat_eq c.copied 0
             then held_in others.old
             else taking (is_in (window_of piece)) (held_in self.old) (held_in others.old))) }
-        ensures most { IfOk result (λ c. c.copied ≤ piece.len) }
         ensures moved { IfOk result
             (λ c. IsWhole (held_in self.old) (window_of piece) → c.copied ≡ 0) }
+        ensures counted { IfOk result (λ c. (IsWhole (held_in self.old) (window_of piece) → ⊥)
+            → c.copied ≡ piece.len) }
     {
         let (array, number) = (piece.array.number, block_number(piece));
         let (from, to) = offsets(piece);
+        others.make_room(array, number)?;
+        let mut theirs = others.swap(array, number, Block::Empty);
         let mut mine = self.swap(array, number, Block::Empty);
-        let cut = mine.cut(self.alloc, from, to);
+        let cut = mine.cut(self.alloc, &mut theirs, from, to);
         self.swap(array, number, mine);
         let cut = cut?;
-        others.make_room(array, number)?;
-        others.take_copies(array, number, &cut)?;
+        others.swap(array, number, theirs);
         Ok(cut)
-    }
-
-    /// Takes in what was copied for a cut.
-    fn take_copies(&mut self, array: usize, number: usize, cut: &Cut) -> Result<(), AllocError>
-        requires { IsSome (block_of self.old.list.items array number) }
-        ensures taken { OnOk result (MatchOption cut.now.numbers
-            (held_in self.new ≡ held_in self.old)
-            (λ n. (q : Place) → held_in self.new q ≡ (if in_block array number q
-            then first_of (option_map OwnedAs (number_in (arc_value n) (q.index % 256)))
-            (held_in self.old q)
-            else held_in self.old q))) }
-        ensures there { OnOk result ((i j : ℕ) → IsSome (block_of self.old.list.items i j)
-            → IsSome (block_of self.new.list.items i j)) }
-    {
-        match cut.block()? {
-            None => Ok(()),
-            Some(block) => self.take_in(array, number, block),
-        }
-    }
-
-    /// Takes in what a block owns.
-    fn take_in(&mut self, array: usize, number: usize, block: Block) -> Result<(), AllocError>
-        requires { IsSome (block_of self.old.list.items array number) }
-        ensures taken { OnOk result ((q : Place) → held_in self.new q
-            ≡ (if in_block array number q
-            then first_of (option_map OwnedAs (owned_at block (q.index % 256))) (held_in self.old q)
-            else held_in self.old q)) }
-        ensures there { OnOk result ((i j : ℕ) → IsSome (block_of self.old.list.items i j)
-            → IsSome (block_of self.new.list.items i j)) }
-    {
-        let mut mine = self.swap(array, number, Block::Empty);
-        mine.make_room(self.alloc, &block)?;
-        mine.paste(self.alloc, block);
-        self.swap(array, number, mine);
-        Ok(())
     }
 
     /// Moves what was cut out to others. They must have room for it.

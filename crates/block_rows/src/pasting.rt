@@ -2,7 +2,7 @@
 
 ghost use Rattle.std.specs.Prelude.{◌≡◌, ◌↔◌, IsTrue, OnOk, is_some};
 ghost use Rattle.blocks.specs.Held.{AreApart, as_owned, over, owned};
-ghost use Rattle.block_rows.specs.Copied.{CopiesSplit};
+ghost use Rattle.block_rows.specs.Copied.{CopiesSplit, IsInArrays, as_count, paste_copies};
 ghost use Rattle.block_rows.specs.Rooms.{HasAllRoom, HasRoom};
 ghost use Rattle.block_rows.specs.Rows.{held_in};
 
@@ -21,7 +21,7 @@ impl Rows {
     ghost use Rattle.blocks.specs.Held.{Owned as OwnedAs, first_of, owned_number};
     ghost use Rattle.block_numbers.specs.Offsets.{StandApart};
     ghost use Rattle.blocks.specs.declared.block.Block.{Block as BlockOf};
-    ghost use Rattle.block_rows.specs.Copied.{split_where};
+    ghost use Rattle.block_rows.specs.Copied.{copied_into_array, split_where};
     ghost use Rattle.block_rows.specs.Rooms.{HasRowRoom};
     ghost use Rattle.block_rows.specs.Rows.{block_in, block_of, held_of, in_block, in_row};
 
@@ -123,6 +123,8 @@ impl Rows {
             ≡ over (as_owned (owned (held_in others))) (held_in self.old) }
         ensures copied { CopiesSplit (held_in self.old) (λ q. is_some (owned (held_in others) q))
             0 result }
+        ensures counted { (n : ℕ) → IsInArrays n (owned (held_in others)) → as_count result
+            ≡ as_count (paste_copies (held_in self.old) (owned (held_in others)) n) }
     {
         let mut copied = 0u64;
         let mut list = others.list;
@@ -146,6 +148,8 @@ impl Rows {
             → ((q : Place) → nat_eq q.array array ≡ true
             → has ws q ≡ is_some (owned_number (in_row row q.index)))
             → result ≤ split_where (λ q. nat_eq q.array array) lengths ws }
+        ensures counted { as_count result ≡ as_count (copied_into_array (held_in self.old)
+            (λ q. owned_number (in_row row q.index)) array) }
         ensures keeps { (i j : ℕ) (b : BlockOf) → HasRoom self.old.list.items i j b
             → nat_eq i array ≡ false → HasRoom self.new.list.items i j b }
     {
@@ -168,7 +172,9 @@ impl Rows {
         ensures moved { ((q : Place) → in_block array number q ≡ true
             → (held_in self.old q ≡ None → ⊥) → owned_at theirs (q.index % 256) ≡ None → ⊥)
             → result ≡ 0 }
-        ensures most { result ≤ how_many (owned_at theirs) 256 }
+        ensures counted { (((q : Place) → in_block array number q ≡ true
+            → (held_in self.old q ≡ None → ⊥) → owned_at theirs (q.index % 256) ≡ None → ⊥) → ⊥)
+            → result ≡ how_many (owned_at theirs) 256 }
         ensures keeps { (i j : ℕ) (b : BlockOf) → HasRoom self.old.list.items i j b
             → nat_eq i array && nat_eq j number ≡ false → HasRoom self.new.list.items i j b }
     {

@@ -13,7 +13,7 @@ use Rattle.blocks.specs.Blocks.{held_as, held_at, kind_of, owned_at}
 use Rattle.blocks.specs.Held.{Held, Owned, Shared, first_of, number_of, owned_number}
 use Rattle.block_numbers.specs.Offsets.{Offsets, Agree, HasAll, IsWithin, in_range}
 use Rattle.block_numbers.specs.Numbers.{IsAsWide, ReachOver}
-use Rattle.blocks.specs.Ready.{IsCutOut, IsReady, room_at}
+use Rattle.blocks.specs.Ready.{IsReady, room_at}
 use Rattle.blocks.specs.declared.block.Block.{Block}
 use Rattle.blocks.specs.declared.block.Block.TheVariants.{Empty, Mixed as InParts, Owned as AllOwned, Shared as AllShared}
 use Rattle.blocks.specs.declared.mixed.Mixed.{Mixed}
@@ -45,11 +45,11 @@ pub owned_number-shared : (o : Option ℤ) → owned_number (option_map Shared o
 owned_number-shared None = refl
 owned_number-shared (Some v) = refl
 
--- what is held, by its kind and its number
-pub held_by_kind : (h : Option Held) → held_as (kind_of h) (Some (unwrap_or (option_map number_of h) (pos 0))) ≡ h
-held_by_kind None = refl
-held_by_kind (Some (Owned v)) = refl
-held_by_kind (Some (Shared v)) = refl
+-- what is held where a number is owned
+pub owned_held : (h : Option Held) (v : ℤ) → owned_number h ≡ Some v → h ≡ Some (Owned v)
+owned_held None v e = absurd (cc)
+owned_held (Some (Owned w)) v e = ap (option_map Owned) e
+owned_held (Some (Shared w)) v e = absurd (cc)
 
 -- what comes in if nothing is owned
 pub first_of-unowned : (h old : Option Held) → h ≡ None → first_of (option_map Owned (owned_number h)) old ≡ old
@@ -143,20 +143,12 @@ none_without_room b other within none =
     by_owned k None e = refl
     by_owned k (Some v) e = absurd (within k (λ n. absurd (let f = sym e ∙ n in cc)) (none k))
 
--- a row that reaches over all room has room there
-pub spread_keeps : (b : Block) (first : ℕ) (xs : List ℤ) (low high : ℕ) → ((k : ℕ) → k < low → room_at b k ≡ None)
-    → ((k : ℕ) → high ≤ k → room_at b k ≡ None) → first ≤ low → high ≤ first + length xs → IsWithin (room_at b) (row_from first xs)
-spread_keeps b first xs low high below behind start end = λ k some. by_low k some (nat_le low k) refl
-  where
-    by_high : (k : ℕ) → (room_at b k ≡ None → ⊥) → low ≤ k → (x : Bool) → nat_lt k high ≡ x → row_from first xs k ≡ None → ⊥
-    by_high k some le true e none =
-        let lt = ltb-true _ _ e in
-        absurd (let f = sym (row_from-in first xs k (pos 0) (omega (arith, start, le)) (omega (arith, end, lt))) ∙ none in cc)
-    by_high k some le false e none = let ge : high ≤ k = search rules in absurd (some (behind k ge))
-
-    by_low : (k : ℕ) → (room_at b k ≡ None → ⊥) → (x : Bool) → nat_le low k ≡ x → row_from first xs k ≡ None → ⊥
-    by_low k some true e = by_high k some (leb-true _ _ e) (nat_lt k high) refl
-    by_low k some false e = absurd (some (below k (leb-false _ _ e)))
+-- numbers at more offsets
+pub row_from-wider : (first : ℕ) (xs : List ℤ) (start : ℕ) (ys : List ℤ) → start ≤ first → first + length xs ≤ start + length ys
+    → IsWithin (row_from first xs) (row_from start ys)
+row_from-wider first xs start ys low high k some none =
+    let w = row_from-there first xs k some in
+    absurd (let f = sym (row_from-in start ys k (pos 0) (omega (arith, low, w.0)) (omega (arith, high, w.1))) ∙ none in cc)
 
 -- a block without kinds has no room
 pub no_room : (b : Block) → (b ≡ Empty) ⊎ (((x : Arc Numbers Global) × (b ≡ AllOwned x)) ⊎ ((x : Arc Numbers Global) × (b ≡ AllShared x)))
@@ -178,12 +170,9 @@ pub IsReady-along : (b c : Block) (f t : ℕ) (cut : Cut) → Agree (held_at c) 
     → IsReady b f t cut → IsReady c f t cut
 IsReady-along b c f t cut same room ready = record {
   owned = HasAll-along (owned_at b) (owned_at c) f t (λ k e. owned_along b c k (same k)) ready.owned;
-  cut = by_cut cut.numbers ready.cut;
+  whole = λ none k e. same k ∙ ready.whole none k e;
+  room = λ some k e. room k (ready.room some k e);
 }
-  where
-    by_cut : (o : Option _) → IsCutOut b f t o → IsCutOut c f t o
-    by_cut None only = λ k e. same k ∙ only k e
-    by_cut (Some n) w = (λ k e. room k (w.0 k e), λ k. w.1 k ∙ ap (λ (h : Option Held). if in_range f t k then h else None) (sym (same k)))
 
 -- ---- nothing is held after the last offset
 

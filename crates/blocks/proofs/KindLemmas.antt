@@ -1,22 +1,23 @@
--- What is held of a row whose elements have their own kinds.
-use Rattle.std.proofs.Common.{◌≡◌, ℕ, ◌+◌, ◌-◌, ◌<◌, ◌≤◌, List, [], ◌∷◌, ◌++◌, length, get_or, set}
-use Rattle.std.proofs.Common.{Option, Some, None, Bool, true, false, refl, sym, ap, ◌∙◌, arith, inl, inr}
+-- What is held of a row whose elements have kinds of their own.
+use Rattle.std.proofs.Common.{◌≡◌, ℕ, ◌+◌, ◌-◌, ◌<◌, ◌≤◌, List, [], ◌∷◌, ◌++◌, length, get_or, replicate, set}
+use Rattle.std.proofs.Common.{Option, Some, None, Bool, true, false, refl, sym, ap, ◌∙◌, arith, ◌⊎◌, inl, inr}
 use Rattle.std.proofs.Common.{w64, of_z, to_z, FitsSigned}
 use Rattle.std.proofs.lemmas.Int.{to_z-of_z}
-use Rattle.std.proofs.lemmas.Bool.{eqb-true, eqb-false}
+use Rattle.std.proofs.lemmas.Bool.{cases_lt, eqb-true, eqb-false}
 use Rattle.std.proofs.lemmas.Grind.{get_or-set_at}
-use Rattle.std.proofs.lemmas.List.{get_or-set_other, length-set}
+use Rattle.std.proofs.lemmas.List.{get_or_append_left, get_or-append_right, get_or-replicate, get_or-set_other}
+use Rattle.std.proofs.lemmas.List.{length-append, length-replicate, length-set}
 use Rattle.std.proofs.Math.ListN.{get_or-append}
 use Rattle.std.proofs.Math.Seq.{get_or-append_seam}
 use Rattle.std.specs.Prelude.{ℤ, pos, nat_eq, if◌then◌else◌}
-use Rattle.block_numbers.proofs.RowLemmas.{row_from-cases, row_from-push, row_from-set, row_from-there}
+use Rattle.block_numbers.proofs.RowLemmas.{row_from-before, row_from-behind, row_from-cases, row_from-in, row_from-push, row_from-set, row_from-there}
 use Rattle.block_numbers.specs.Numbers.{row_from}
 use Rattle.block_numbers.specs.declared.kind.Kind.{Kind}
 use Rattle.block_numbers.specs.declared.kind.Kind.TheVariants.{Absent, Own, Copied}
 use Rattle.blocks.specs.Blocks.{held_as}
 use Rattle.blocks.specs.Held.{Held}
 
--- what is held of a row whose elements have their own kinds
+-- what is held of a row whose elements have kinds of their own
 abbrev pub held_row : (first : ℕ) → List Kind → List ℤ → ℕ → Option Held
 held_row first kinds xs k = held_as (get_or kinds (k - first) Absent) (row_from first xs k)
 
@@ -103,3 +104,64 @@ held_row-push first kinds xs kind v o same at k =
           | inr w ↦ ap (held_as (get_or (kinds ++ kind ∷ []) (k - first) Absent)) w.1
               ∙ held_as-none (get_or (kinds ++ kind ∷ []) (k - first) Absent) ∙ sym (held_row-none first kinds xs k w.1)
         ]
+
+-- room for one more number
+pub held_row-room : (first : ℕ) (kinds : List Kind) (xs : List ℤ) (v : ℤ) → length kinds ≡ length xs → (k : ℕ)
+    → held_row first (kinds ++ Absent ∷ []) (xs ++ v ∷ []) k ≡ held_row first kinds xs k
+held_row-room first kinds xs v same k =
+    held_row-push first kinds xs Absent v (first + length xs) same refl k ∙ by_eq (nat_eq (first + length xs) k) refl
+  where
+    by_eq : (b : Bool) → nat_eq (first + length xs) k ≡ b → (if b then None else held_row first kinds xs k) ≡ held_row first kinds xs k
+    by_eq false e = refl
+    by_eq true e =
+        let is : first + length xs ≡ k = eqb-true _ _ e in
+        sym (held_row-none first kinds xs k (row_from-behind first xs k (omega (arith, is))))
+
+-- all numbers are of one kind
+pub held_row-alike : (first : ℕ) (kind : Kind) (xs : List ℤ) (k : ℕ)
+    → held_row first (replicate (length xs) kind) xs k ≡ held_as kind (row_from first xs k)
+held_row-alike first kind xs k = elim (row_from-cases first xs k (pos 0)) [
+  | inl w ↦ ap (λ d. held_as d (row_from first xs k)) (get_or-replicate (length xs) (k - first) kind Absent (omega (arith, w.0, w.1)))
+  | inr w ↦ held_row-none first (replicate (length xs) kind) xs k w.1
+      ∙ sym (ap (held_as kind) w.1 ∙ held_as-none kind)
+]
+
+-- room before the first number
+pub held_row-front : (start count : ℕ) (zeros : List ℤ) (kinds : List Kind) (xs : List ℤ) → length zeros ≡ count
+    → length kinds ≡ length xs → (k : ℕ)
+    → held_row start (replicate count Absent ++ kinds) (zeros ++ xs) k ≡ held_row (start + count) kinds xs k
+held_row-front start count zeros kinds xs long same k = elim (row_from-cases (start + count) xs k (pos 0)) [
+  | inl w ↦ (let low : count ≤ k - start = omega (arith, w.0) in
+      let lt : k < start + length (zeros ++ xs) = omega (arith, w.1, long, length-append zeros xs) in
+      let at : k - start - count ≡ k - (start + count) = omega arith in
+      ap (λ d. held_as d (row_from start (zeros ++ xs) k)) (kind_at low ∙ ap (λ i. get_or kinds i Absent) at)
+      ∙ ap (held_as (get_or kinds (k - (start + count)) Absent))
+      (row_from-in start (zeros ++ xs) k (pos 0) (omega (arith, w.0)) lt
+      ∙ ap Some (number_at low ∙ ap (λ i. get_or xs i (pos 0)) at) ∙ sym w.2))
+  | inr w ↦ none w.0 ∙ sym (held_row-none (start + count) kinds xs k w.1)
+]
+  where
+    kind_at : count ≤ k - start → get_or (replicate count Absent ++ kinds) (k - start) Absent ≡ get_or kinds (k - start - count) Absent
+    kind_at low =
+        let l = length-replicate count Absent in
+        get_or-append_right (replicate count Absent) kinds count (k - start) Absent l low
+
+    number_at : count ≤ k - start → get_or (zeros ++ xs) (k - start) (pos 0) ≡ get_or xs (k - start - count) (pos 0)
+    number_at low =
+        get_or-append_right zeros xs count (k - start) (pos 0) long low
+
+    absent : (k - start) < count → held_row start (replicate count Absent ++ kinds) (zeros ++ xs) k ≡ None
+    absent lt =
+        let l = length-replicate count Absent in
+        ap (λ d. held_as d (row_from start (zeros ++ xs) k))
+        (get_or_append_left (replicate count Absent) kinds Absent (k - start) (omega (arith, l, lt))
+        ∙ get_or-replicate count (k - start) Absent Absent lt)
+
+    by_start : (k < start) ⊎ (start ≤ k) → k < start + count → held_row start (replicate count Absent ++ kinds) (zeros ++ xs) k ≡ None
+    by_start (inr le) lt = absent (omega (arith, le, lt))
+    by_start (inl below) lt = held_row-none start (replicate count Absent ++ kinds) (zeros ++ xs) k (row_from-before start (zeros ++ xs) k below)
+
+    none : (k < start + count) ⊎ (start + count + length xs ≤ k) → held_row start (replicate count Absent ++ kinds) (zeros ++ xs) k ≡ None
+    none (inr ge) = held_row-none start (replicate count Absent ++ kinds) (zeros ++ xs) k
+        (row_from-behind start (zeros ++ xs) k (omega (arith, ge, long, length-append zeros xs)))
+    none (inl lt) = by_start (cases_lt k start) lt

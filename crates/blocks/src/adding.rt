@@ -1,15 +1,14 @@
-//! Copies taken into blocks.
+//! Numbers of a range of another block, copied into blocks.
 
 use crate::block::Block;
-use crate::cut::Cut;
 use crate::mixed::Mixed;
 use block_numbers::kind::Kind;
 use std::alloc::{AllocError, Global};
 use std::sync::Arc;
 
 impl Block {
-    ghost use Rattle.std.specs.Prelude.{◌≡◌, ◌<◌, ◌≤◌, OnOk, option_map, if◌then◌else◌};
-    ghost use Rattle.blocks.specs.Blocks.{held_at, number_at};
+    ghost use Rattle.std.specs.Prelude.{◌≡◌, ◌<◌, ◌≤◌, ◌-◌, IfOk, OnOk, option_map, if◌then◌else◌};
+    ghost use Rattle.blocks.specs.Blocks.{held_at, number_at, owned_at};
     ghost use Rattle.blocks.specs.Held.{Shared};
     ghost use Rattle.block_numbers.specs.Offsets.{Agree, HasAll, in_range};
 
@@ -38,12 +37,40 @@ impl Block {
         }
         Ok(())
     }
+
+    /// Copies the numbers of a range of another block, which must own the whole range, and returns
+    /// how many were copied. They are owned here, and replace what is held there.
+    pub(crate) fn take_range(
+        &mut self,
+        alloc: Global,
+        other: &Block,
+        from: usize,
+        to: usize,
+    ) -> Result<u64, AllocError>
+        requires range { from < to }
+        requires places { to ≤ 256 }
+        requires owned { HasAll from to (owned_at other.now) }
+        ensures held { OnOk result (Agree (held_at self.new) (λ k. if in_range from to k
+            then held_at other.now k else held_at self.old k)) }
+        ensures copied { IfOk result (λ n. n ≡ to - from) }
+    {
+        if let Block::Empty = self {
+            let (numbers, copied) = other.part(alloc, from, to)?;
+            *self = Block::Owned(Arc::new(alloc, numbers)?);
+            return Ok(copied);
+        }
+        self.open(alloc, from, to)?;
+        match self {
+            Block::Mixed(mixed) => Ok(mixed.take_range(other, from, to)),
+            Block::Empty | Block::Owned(_) | Block::Shared(_) => unreachable!(),
+        }
+    }
 }
 
 impl Mixed {
-    ghost use Rattle.std.specs.Prelude.{◌≡◌, ◌<◌, None, option_map, if◌then◌else◌};
+    ghost use Rattle.std.specs.Prelude.{◌≡◌, ◌<◌, ◌≤◌, ◌-◌, None, option_map, if◌then◌else◌};
     ghost use Rattle.block_numbers.specs.Numbers.{IsAsWide, number_in};
-    ghost use Rattle.blocks.specs.Blocks.{held_at, held_in, number_at};
+    ghost use Rattle.blocks.specs.Blocks.{held_at, held_in, number_at, owned_at};
     ghost use Rattle.blocks.specs.Held.{Shared};
     ghost use Rattle.block_numbers.specs.Offsets.{Agree, HasAll, in_range, put_at};
 
@@ -72,19 +99,25 @@ impl Mixed {
             }
         }
     }
-}
 
-impl Cut {
-    ghost use Rattle.std.specs.Prelude.{◌≡◌, IfOk, MatchOption, None};
-    ghost use Rattle.blocks.specs.Copies.{IsCopy};
-
-    /// Returns the copied numbers as a block, or None if the block moves unchanged.
-    pub fn block(&self) -> Result<Option<Block>, AllocError>
-        ensures { IfOk result (λ o. MatchOption o (self.now.numbers ≡ None) (IsCopy self.now)) }
+    /// Copies the owned numbers of a range of a block, and returns how many were copied. There must
+    /// be room for them.
+    fn take_range(&mut self, other: &Block, from: usize, to: usize) -> u64
+        requires range { from < to }
+        requires places { to ≤ 256 }
+        requires room { HasAll from to (number_in self.old.numbers) }
+        requires owned { HasAll from to (owned_at other.now) }
+        ensures held { Agree (held_in self.new) (λ k. if in_range from to k
+            then held_at other.now k else held_in self.old k) }
+        ensures copied { result ≡ to - from }
     {
-        match &self.numbers {
-            None => Ok(None),
-            Some(numbers) => Ok(Some(Block::Owned(Arc::try_clone(numbers)?))),
+        let mut copied = 0;
+        for offset in from..to {
+            if let Some(number) = other.owned(offset) {
+                self.put(offset, number);
+                copied += 1;
+            }
         }
+        copied
     }
 }

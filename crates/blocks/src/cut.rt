@@ -1,13 +1,8 @@
 //! What is cut out of a block.
 
-use block_numbers::numbers::Numbers;
-use std::sync::Arc;
-
-/// What a block will lose: all that it holds, or copies of some of its numbers.
+/// What a block will lose: all that it holds, or numbers that were copied.
 #[derive(Drop)]
 pub struct Cut {
-    /// The copies, or None if the block moves unchanged.
-    pub(crate) numbers: Option<Arc<Numbers>>,
-    /// The number of numbers that were copied.
+    /// The number of numbers that were copied, or 0 if the block moves unchanged.
     pub copied: u64,
 }

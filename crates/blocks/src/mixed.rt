@@ -5,6 +5,7 @@ ghost use Rattle.std.specs.Prelude.{◌≡◌, length};
 use block_numbers::kind::Kind;
 use block_numbers::numbers::Numbers;
 use std::alloc::{AllocError, Global};
+use std::mem;
 
 /// Numbers that each have their own kind. No other holder shares them, so they can be written
 /// without memory.
@@ -17,15 +18,32 @@ pub struct Mixed {
 
 impl Mixed {
     ghost use Rattle.std.specs.Prelude.{◌-◌, ◌+◌, ◌↔◌, IfOk, IsTrue, None, is_some, false, option_map};
+    ghost use Rattle.std.specs.Prelude.{◌<◌, ◌≤◌, OnOk};
     ghost use Rattle.block_numbers.specs.Numbers.{IsAsWide, number_in};
     ghost use Rattle.blocks.specs.Blocks.{held_in, kind_of};
     ghost use Rattle.blocks.specs.Held.{Owned, number_of, owned_number};
-    ghost use Rattle.block_numbers.specs.Offsets.{Agree, outside, put_at, without_at};
+    ghost use Rattle.block_numbers.specs.Offsets.{Agree, HasAll, IsWithin, outside, put_at};
+    ghost use Rattle.block_numbers.specs.Offsets.{without_at};
 
     /// Returns a `Mixed` that holds nothing.
     pub(crate) fn nothing(alloc: Global) -> Mixed {
         Mixed {
             numbers: Numbers::none(alloc),
+            kinds: Vec::new(alloc),
+        }
+    }
+
+    /// Returns a `Mixed` that holds nothing, and whose room can grow from an offset on.
+    pub(crate) fn from_offset(alloc: Global, first: usize) -> Mixed
+        requires { first ≤ 256 }
+        ensures { Agree (held_in result) (λ k. None) }
+    {
+        let numbers = Numbers {
+            first,
+            list: Vec::new(alloc),
+        };
+        Mixed {
+            numbers,
             kinds: Vec::new(alloc),
         }
     }
@@ -137,5 +155,76 @@ impl Mixed {
             }
         }
         true
+    }
+
+    /// Makes room for the offsets of a range, next to the existing room. The numbers move with
+    /// their list, and none is copied one by one. What is held doesn't change.
+    pub(crate) fn widen(&mut self, alloc: Global, from: usize, to: usize) -> Result<(), AllocError>
+        requires range { from ≤ to }
+        requires places { to ≤ 256 }
+        ensures same { Agree (held_in self.new) (held_in self.old) }
+        ensures room { OnOk result (HasAll from to (number_in self.new.numbers)) }
+        ensures keeps { IsWithin (number_in self.old.numbers) (number_in self.new.numbers) }
+    {
+        'end: while self.numbers.end() < to {
+            self.add_room()?;
+        }
+        if self.numbers.first <= from {
+            return Ok(());
+        }
+        self.widen_front(alloc, from)?;
+        Ok(())
+    }
+
+    /// Makes room for one more offset, at the end.
+    fn add_room(&mut self) -> Result<(), AllocError>
+        requires { self.old.numbers.first + length self.old.numbers.list.items < 256 }
+        ensures same { Agree (held_in self.new) (held_in self.old) }
+        ensures first { self.new.numbers.first ≡ self.old.numbers.first }
+        ensures room { OnOk result (length self.new.numbers.list.items
+            ≡ length self.old.numbers.list.items + 1) }
+        ensures keeps { IsWithin (number_in self.old.numbers) (number_in self.new.numbers) }
+    {
+        self.kinds.push(Kind::Absent)?;
+        if self.numbers.list.push(0).is_err() {
+            self.kinds.pop();
+            return Err(AllocError);
+        }
+        Ok(())
+    }
+
+    /// Makes room for the offsets before the first one, from an offset on.
+    fn widen_front(&mut self, alloc: Global, from: usize) -> Result<(), AllocError>
+        requires { from < self.old.numbers.first }
+        ensures same { Agree (held_in self.new) (held_in self.old) }
+        ensures first { OnOk result (self.new.numbers.first ≡ from) }
+        ensures end { OnOk result (self.new.numbers.first + length self.new.numbers.list.items
+            ≡ self.old.numbers.first + length self.old.numbers.list.items) }
+        ensures keeps { IsWithin (number_in self.old.numbers) (number_in self.new.numbers) }
+    {
+        let count = self.numbers.first - from;
+        let mut list = vec![in alloc; 0; count]?;
+        let mut kinds = vec![in alloc; Kind::Absent; count]?;
+        kinds.extend_from_slice(&self.kinds)?;
+        let old = mem::replace(self, Mixed::nothing(alloc));
+        let Numbers {
+            first,
+            list: mut rest,
+        } = old.numbers;
+        match list.append(&mut rest) {
+            Ok(()) => {
+                let numbers = Numbers { first: from, list };
+                *self = Mixed { numbers, kinds };
+                Ok(())
+            }
+            Err(failed) => {
+                let numbers = Numbers { first, list: rest };
+                *self = Mixed {
+                    numbers,
+                    kinds: old.kinds,
+                };
+                Err(failed)
+            }
+        }
     }
 }

@@ -10,18 +10,25 @@ use std::mem;
 use std::sync::Arc;
 
 impl Block {
-    ghost use Rattle.std.specs.Prelude.{◌≡◌, ◌<◌, ◌≤◌, ◌-◌, ℕ, IfOk, IfSome, None, OnErr, OnOk, false, true};
-    ghost use Rattle.block_numbers.specs.Numbers.{ReachOver, number_in};
+    ghost use Rattle.std.specs.Prelude.{◌≡◌, ◌<◌, ◌≤◌, ◌-◌, ℕ, IfOk, OnErr, OnOk, false, true};
+    ghost use Rattle.std.specs.Prelude.{nat_eq, if◌then◌else◌};
+    ghost use Rattle.block_numbers.specs.Numbers.{number_in};
     ghost use Rattle.blocks.specs.Blocks.{held_at, held_in, owned_at};
     ghost use Rattle.block_numbers.specs.Offsets.{Agree, HasAll, HasOnly, IsWithin, in_range};
     ghost use Rattle.block_numbers.specs.Offsets.{inside, outside};
     ghost use Rattle.blocks.specs.Ready.{IsReady, room_at};
     ghost use Rattle.blocks.specs.declared.cut.Cut.{Cut as CutOf};
 
-    /// Cuts out a range, which must be owned: copies its numbers and makes room, so carving it out
-    /// needs no memory. If nothing else is held, there is nothing to do. What is held doesn't
-    /// change.
-    pub fn cut(&mut self, alloc: Global, from: usize, to: usize) -> Result<Cut, AllocError>
+    /// Cuts out a range, which must be owned: copies its numbers straight into another block, and
+    /// makes room, so carving it out needs no memory. If nothing else is held, there is nothing to
+    /// do. What is held here doesn't change.
+    pub fn cut(
+        &mut self,
+        alloc: Global,
+        into: &mut Block,
+        from: usize,
+        to: usize,
+    ) -> Result<Cut, AllocError>
         requires range { from < to }
         requires places { to ≤ 256 }
         requires owned { HasAll from to (owned_at self.old) }
@@ -30,37 +37,34 @@ impl Block {
         ensures moved { IfOk result (λ c. HasOnly from to (held_at self.old) → c.copied ≡ 0) }
         ensures counted { IfOk result (λ c. (HasOnly from to (held_at self.old) → ⊥)
             → c.copied ≡ to - from) }
-        ensures whole { IfOk result (λ c. c.copied ≡ 0 → c.numbers ≡ None) }
+        ensures taken { IfOk result (λ c. Agree (held_at into.new) (λ k.
+            if nat_eq c.copied 0 then held_at into.old k
+            else (if in_range from to k then held_at self.old k else held_at into.old k))) }
         ensures keeps { (f t : ℕ) (c : CutOf) → IsReady self.old f t c → IsReady self.new f t c }
     {
         if self.holds_only(from, to) {
-            return Ok(Cut {
-                numbers: None,
-                copied: 0,
-            });
+            return Ok(Cut { copied: 0 });
         }
-        let (numbers, copied) = self.part(alloc, from, to)?;
-        let numbers = Some(Arc::new(alloc, numbers)?);
         self.open(alloc, from, to)?;
-        Ok(Cut { numbers, copied })
+        let copied = into.take_range(alloc, self, from, to)?;
+        Ok(Cut { copied })
     }
 
-    /// Moves out the offsets of a range that was cut.
+    /// Moves out the offsets of a range that was cut. Returns them if the block moves unchanged,
+    /// and else nothing: the numbers were copied.
     pub fn carve(&mut self, cut: Cut, from: usize, to: usize) -> Block
         requires { IsReady self.old from to cut }
-        ensures taken { Agree (held_at result) (inside from to (held_at self.old)) }
+        ensures taken { cut.copied ≡ 0 → Agree (held_at result) (inside from to (held_at self.old)) }
         ensures left { Agree (held_at self.new) (outside from to (held_at self.old)) }
         ensures keeps { (f t : ℕ) (c : CutOf) → f < t
             → ((k : ℕ) → in_range f t k ≡ true → in_range from to k ≡ false)
             → IsReady self.old f t c → IsReady self.new f t c }
     {
-        match cut.numbers {
-            None => mem::replace(self, Block::Empty),
-            Some(numbers) => {
-                self.clear(from, to);
-                Block::Owned(numbers)
-            }
+        if cut.copied == 0 {
+            return mem::replace(self, Block::Empty);
         }
+        self.clear(from, to);
+        Block::Empty
     }
 
     /// Stops holding the offsets of a range for which there is room.
@@ -75,7 +79,8 @@ impl Block {
     }
 
     /// Makes room for the numbers of a range. What is held doesn't change, and existing room
-    /// remains.
+    /// remains. The numbers move to the new room, and none is copied one by one. If others share
+    /// them, they are copied first, as before a write.
     pub(crate) fn open(&mut self, alloc: Global, from: usize, to: usize) -> Result<(), AllocError>
         requires range { from ≤ to }
         requires places { to ≤ 256 }
@@ -83,82 +88,53 @@ impl Block {
         ensures open { OnOk result (HasAll from to (room_at self.new)) }
         ensures keeps { IsWithin (room_at self.old) (room_at self.new) }
     {
-        if let Block::Mixed(mixed) = self
-            && mixed.numbers.reach_over(from, to)
-        {
-            return Ok(());
+        if let Block::Mixed(mixed) = self {
+            return mixed.widen(alloc, from, to);
         }
         // Allocate first, so nothing has changed if memory runs out.
         let mut room = Box::new(alloc, Mixed::nothing(alloc))?;
-        *room = self.opened(alloc, from, to)?;
+        *room = self.take_out(alloc, from)?;
+        let widened = room.widen(alloc, from, to);
         *self = Block::Mixed(room);
-        Ok(())
+        widened
     }
 
-    /// Returns what is held, with its own numbers, which reach over a range. The block itself no
-    /// longer holds it.
-    fn opened(&mut self, alloc: Global, from: usize, to: usize) -> Result<Mixed, AllocError>
-        requires range { from ≤ to }
-        requires places { to ≤ 256 }
+    /// Takes all that is held out of a block, with its own numbers. If nothing is held, room can
+    /// be made from an offset on.
+    fn take_out(&mut self, alloc: Global, from: usize) -> Result<Mixed, AllocError>
+        requires { from ≤ 256 }
         ensures held { IfOk result (λ m. Agree (held_in m) (held_at self.old)) }
-        ensures room { IfOk result (λ m. ReachOver m.numbers from to) }
         ensures keeps { IfOk result (λ m. IsWithin (room_at self.old) (number_in m.numbers)) }
-        ensures same { OnErr result (self.new ≡ self.old) }
+        ensures same { OnErr result (Agree (held_at self.new) (held_at self.old)) }
+        ensures room { OnErr result (IsWithin (room_at self.old) (room_at self.new)) }
     {
-        match self.take_out(alloc, from, to)? {
-            Some(mixed) => Ok(mixed),
-            None => self.spread(alloc, from, to),
+        match self {
+            Block::Empty => Ok(Mixed::from_offset(alloc, from)),
+            Block::Owned(shared) => take_numbers(alloc, shared, Kind::Own),
+            Block::Shared(shared) => take_numbers(alloc, shared, Kind::Copied),
+            Block::Mixed(mixed) => Ok(mem::replace(&mut **mixed, Mixed::nothing(alloc))),
         }
     }
+}
 
-    /// Takes the numbers out of their memory if they are owned, reach over a range, and no other
-    /// holder has them.
-    fn take_out(
-        &mut self,
-        alloc: Global,
-        from: usize,
-        to: usize,
-    ) -> Result<Option<Mixed>, AllocError>
-        ensures taken { IfOk result (λ o. IfSome o (λ m. Agree (held_in m) (held_at self.old))) }
-        ensures room { IfOk result (λ o. IfSome o (λ m. ReachOver m.numbers from to)) }
-        ensures owned { IfOk result (λ o. IfSome o (λ m. Agree (room_at self.old) (λ k. None))) }
-        ensures left { IfOk result (λ o. o ≡ None → self.new ≡ self.old) }
-        ensures same { OnErr result (self.new ≡ self.old) }
-    {
-        let Block::Owned(shared) = self else {
-            return Ok(None);
-        };
-        if !shared.reach_over(from, to) {
-            return Ok(None);
-        }
-        let kinds = vec![in alloc; Kind::Own; shared.list.len()]?;
-        match Arc::get_mut(shared) {
-            None => Ok(None),
-            Some(numbers) => {
-                let numbers = mem::replace(numbers, Numbers::none(alloc));
-                Ok(Some(Mixed { numbers, kinds }))
-            }
-        }
-    }
+ghost use Rattle.std.specs.Prelude.{◌≡◌, IfOk, OnErr};
+ghost use Rattle.std.specs.Arc.{arc_value};
+ghost use Rattle.block_numbers.specs.Numbers.{number_in};
+ghost use Rattle.block_numbers.specs.Offsets.{Agree};
+ghost use Rattle.blocks.specs.Blocks.{held_as, held_in};
 
-    /// Returns what is held, with its own numbers. They reach from the lowest offset that is held
-    /// or in the range to the highest.
-    fn spread(&self, alloc: Global, from: usize, to: usize) -> Result<Mixed, AllocError>
-        requires range { from ≤ to }
-        requires places { to ≤ 256 }
-        ensures held { IfOk result (λ m. Agree (held_in m) (held_at self.now)) }
-        ensures room { IfOk result (λ m. ReachOver m.numbers from to) }
-        ensures keeps { IfOk result (λ m. IsWithin (room_at self.now) (number_in m.numbers)) }
-    {
-        let low = from.min(self.start());
-        let high = to.max(self.end());
-        let mut list = Vec::with_capacity(alloc, high - low)?;
-        let mut kinds = Vec::with_capacity(alloc, high - low)?;
-        for offset in low..high {
-            list.push(self.number(offset).unwrap_or(0))?;
-            kinds.push(self.kind(offset))?;
-        }
-        let numbers = Numbers { first: low, list };
-        Ok(Mixed { numbers, kinds })
+/// Takes numbers of one kind out of memory that can be shared. If others share them, they are
+/// copied first, as before a write.
+fn take_numbers(alloc: Global, shared: &mut Arc<Numbers>, kind: Kind) -> Result<Mixed, AllocError>
+    ensures held { IfOk result (λ m.
+        Agree (held_in m) (λ k. held_as kind (number_in (arc_value shared.old) k))) }
+    ensures same { OnErr result (arc_value shared.new ≡ arc_value shared.old) }
+{
+    let kinds = vec![in alloc; kind; shared.list.len()]?;
+    if let Some(numbers) = Arc::get_mut(shared) {
+        let numbers = mem::replace(numbers, Numbers::none(alloc));
+        return Ok(Mixed { numbers, kinds });
     }
+    let numbers = shared.copied(alloc)?;
+    Ok(Mixed { numbers, kinds })
 }

@@ -6,7 +6,7 @@ use Rattle.command_line.specs.Requests.{Settings}
 use Rattle.intake.specs.Held.{Held, TellsNoInput}
 use Rattle.intake.specs.declared.failure.Failure.{Failure}
 use Rattle.intake.specs.declared.failure.Failure.TheVariants.{NoMemory}
-use Rattle.intake.specs.declared.failure.Failure.TheVariants.{Run as RunFailed, StrangeEvents, CannotWrite, CannotWriteOutput}
+use Rattle.intake.specs.declared.failure.Failure.TheVariants.{Run as RunFailed, CannotWrite, CannotWriteOutput}
 use Rattle.answers.specs.Answers.{Explains, IsExplored, TellsNotAccepted, TellsNotBegun}
 use Rattle.answers.proofs.Answering.{IsOther}
 use Rattle.command_line.specs.declared.request.Command.TheVariants.{Run}
@@ -20,7 +20,6 @@ use Rattle.driver.specs.Traced.{TellsNoRun, WritesTrace}
 pub no_run_explained : (s : Settings) (held : Held) (text : List ℕ) → IsExplored s held text → (f : Failure) → TellsNoRun s f
     → Explains Run s held text f
 no_run_explained s held text run (RunFailed e) told = record { as_tasks = refl; run = run; why = told }
-no_run_explained s held text run StrangeEvents told = record { as_tasks = refl; run = run; why = told }
 no_run_explained s held text run (CannotWrite name) told = record { as_tasks = refl; run = run; why = told }
 no_run_explained s held text run NoMemory told = tt
 no_run_explained s held text run _ told = absurd told

@@ -13,8 +13,7 @@ use Rattle.interleave.specs.declared.job.WeightedJob.{WeightedJob}
 use Rattle.trace_text.specs.Headers.{TraceHeader, header_of as header_in}
 use Rattle.trace_text.specs.Lines.{trace_text}
 use Rattle.trace_text.specs.declared.header.Header.{Header}
-use Rattle.trace.specs.Logs.{Recorded}
-use Rattle.logged_run.specs.Ending.{LeadsToOutcome}
+use Rattle.trace.specs.Logs.{LeadsToOutcome, Recorded}
 use Rattle.command_line.specs.Requests.{settings}
 use Rattle.command_line.specs.declared.request.Settings.{Settings as rSettings}
 use Rattle.driver.specs.Traced.{IsTraceOf, header_of}

@@ -6,13 +6,15 @@ use Rattle.statement_steps.proofs.Watching.{behind_end, not_begun}
 use Rattle.syntax.specs.declared.error.SyntaxError.TheVariants.{OutOfMemory as MemoryInSyntax}
 use Rattle.types.specs.declared.error.TypeError.TheVariants.{OutOfMemory as MemoryInTypes}
 use Rattle.types.specs.declared.input_error.InputError.TheVariants.{OutOfMemory as MemoryInInput}
-use Rattle.gather.specs.declared.run_error.RunError.TheVariants.{OutOfMemory as MemoryInRun, TooManyTasks, Gather, Late}
+use Rattle.gather.specs.declared.run_error.RunError.TheVariants.{OutOfMemory as MemoryInRun, RefusedPush, RefusedThread}
+use Rattle.gather.specs.declared.run_error.RunError.TheVariants.{IssuedTooOften, TooManyTasks, Gather}
+use Rattle.gather.specs.declared.run_error.RunError.TheVariants.{NotDue, NoOwner, NoScope, NoReport, Unlogged}
 use Rattle.trace_text.specs.declared.error.TraceError.TheVariants.{NoMemory as MemoryInTrace}
 use Rattle.command_line.specs.Requests.{Asked}
 use Rattle.intake.specs.FailureStatus.{failure_status}
 use Rattle.intake.specs.declared.failure.Failure.{Failure}
 use Rattle.intake.specs.declared.failure.Failure.TheVariants.{Syntax, Types, NoMemoryInCheck}
-use Rattle.intake.specs.declared.failure.Failure.TheVariants.{Input, Run, Trace, StrangeEvents, NoMemory}
+use Rattle.intake.specs.declared.failure.Failure.TheVariants.{Input, Run, Trace, NoMemory}
 use Rattle.reading.specs.Orders.{Order}
 use Rattle.driver.specs.Acts.{IsHandedOn, Reports}
 use Rattle.driver.specs.Watching.{WatchesDoing, WatchesOrder, WatchesTo}
@@ -26,12 +28,18 @@ of_failure (Types MemoryInTypes) other small = omega (arith, small)
 of_failure NoMemoryInCheck other small = omega (arith, small)
 of_failure (Input MemoryInInput) other small = omega (arith, small)
 of_failure (Run MemoryInRun) other small = omega (arith, small)
+of_failure (Run RefusedPush) other small = omega (arith, small)
+of_failure (Run RefusedThread) other small = omega (arith, small)
+of_failure (Run IssuedTooOften) other small = omega (arith, small)
 of_failure (Run (TooManyTasks ticket)) other small = omega (arith, small)
 of_failure (Trace MemoryInTrace) other small = omega (arith, small)
 of_failure NoMemory other small = omega (arith, small)
 of_failure (Run (Gather e)) other small = omega (arith, small)
-of_failure (Run Late) other small = omega (arith, small)
-of_failure StrangeEvents other small = omega (arith, small)
+of_failure (Run NotDue) other small = omega (arith, small)
+of_failure (Run NoOwner) other small = omega (arith, small)
+of_failure (Run NoScope) other small = omega (arith, small)
+of_failure (Run NoReport) other small = omega (arith, small)
+of_failure (Run Unlogged) other small = omega (arith, small)
 of_failure _ other small = other refl
 
 module _ {W : Type 0} (Told : List ℕ → W → W → Type 0) (old new : W) where

@@ -7,7 +7,7 @@ use Rattle.types.specs.Translation.{input as lists_in, outcome as outcome_in}
 use Rattle.types.specs.Typed.{code_of}
 use Rattle.events.specs.Events.{Event}
 use Rattle.race_checker.specs.Clash.{IsAccepted}
-use Rattle.gather.specs.RunErrors.{IsCause}
+use Rattle.gather.specs.RunErrors.{IsRunCause}
 use Rattle.interleave.specs.World.{World}
 use Rattle.interleave.specs.Worlds.{LeadsTo, outcome_of}
 use Rattle.trace_text.specs.Headers.{TraceHeader}
@@ -15,7 +15,7 @@ use Rattle.trace_text.specs.Lines.{trace_text}
 use Rattle.command_line.specs.Requests.{Settings}
 use Rattle.intake.specs.Held.{Held}
 use Rattle.intake.specs.declared.failure.Failure.{Failure}
-use Rattle.intake.specs.declared.failure.Failure.TheVariants.{Run as RunFailed, StrangeEvents}
+use Rattle.intake.specs.declared.failure.Failure.TheVariants.{Run as RunFailed}
 use Rattle.intake.specs.declared.failure.Failure.TheVariants.{CannotWrite, NoMemory}
 use Rattle.answers.specs.Answers.{HasInput, IsExplored, IsTraced}
 use Rattle.answers.specs.declared.question.Begun.{Begun}
@@ -74,8 +74,7 @@ TracesBegun s given held later r =
 
 -- why a run has no outcome; only out of memory needs no reason
 abbrev pub TellsNoOutcome : Settings → Failure → Type 0
-TellsNoOutcome s (RunFailed e) = IsCause s.spread.tasks e
-TellsNoOutcome s StrangeEvents = IsTraced s
+TellsNoOutcome s (RunFailed e) = IsRunCause s.spread.tasks (IsTraced s) e
 TellsNoOutcome s NoMemory = Unit {0}
 TellsNoOutcome s _ = ⊥
 

@@ -12,18 +12,18 @@ ghost use Rattle.driver.specs.Traced.{IsRunOf, IsTraceOf, TellsNoOutcome, TellsN
 
 use answers::question::{Begun, Question};
 use command_line::request::{Command, Settings, Spread};
+use gather::run_error::RunError;
 use intake::failure::Failure;
 use intake::files::{FileSource, write_file};
-use logged_run::error::LoggedRunError;
-use logged_run::run::{header_of, run_logged};
 use std::alloc::Global;
 use std::sync::Wait;
 use std::thread::Threads;
+use trace::log::Log;
 use trace_text::write::write_lines;
 use types::outcome::Outcome;
 use workers::gate::NoGate;
 use workers::run::run;
-use workers::settings::Settings as RunSettings;
+use workers::settings::{Settings as RunSettings, header_of};
 
 /// A program that was run in parallel, and its outcome.
 #[derive(Drop)]
@@ -89,15 +89,9 @@ fn untraced<R: Threads + Wait + Sync>(
         (IsOutcomeOf given.now.accepted.typed given.now.input settings.entry.budget) }
     ensures why { IfErr result (TellsNoOutcome (settings_of settings.entry)) }
 {
-    match run(
-        rt,
-        alloc,
-        &given.accepted,
-        &given.input,
-        run_settings(settings),
-        &NoGate,
-    ) {
-        Ok(outcome) => Ok(outcome),
+    let on = run_settings(settings);
+    match run(rt, alloc, &given.accepted, &given.input, on, &NoGate, None) {
+        Ok((finished, _)) => Ok(finished.outcome),
         Err(error) => Err(Failure::Run(error)),
     }
 }
@@ -118,12 +112,18 @@ fn traced<R: Threads + Wait + Sync>(
     ensures why { IfErr result (TellsNoOutcome (settings_of settings.entry)) }
 {
     let on = run_settings(settings);
-    let (outcome, log) = match run_logged(rt, alloc, &given.accepted, &given.input, on, &NoGate) {
-        Ok(logged) => logged,
-        Err(LoggedRunError::Run(error)) => return Err(Failure::Run(error)),
-        Err(LoggedRunError::Unlogged) => return Err(Failure::StrangeEvents),
+    let header = header_of(on);
+    let accepted = &given.accepted;
+    let input = &given.input;
+    let Ok(log) = Log::new(alloc, &header, accepted, input) else {
+        return Err(Failure::Run(RunError::OutOfMemory));
     };
-    match write_lines(alloc, &header_of(on), log.events()) {
+    let (outcome, log) = match run(rt, alloc, accepted, input, on, &NoGate, Some(log)) {
+        Ok(ran) => ran,
+        Err(error) => return Err(Failure::Run(error)),
+    };
+    let Some(log) = log else { unreachable!() };
+    match write_lines(alloc, &header, log.events()) {
         Ok(lines) => Ok((outcome, lines)),
         Err(_) => Err(Failure::NoMemory),
     }

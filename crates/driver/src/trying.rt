@@ -41,8 +41,9 @@ impl Runs for OnThreads {
         input: &Input,
         settings: Settings<'_>,
     ) -> Result<Outcome, Failure> {
-        match run(rt, alloc, accepted, input, run_settings(settings), &NoGate) {
-            Ok(outcome) => Ok(outcome),
+        let on = run_settings(settings);
+        match run(rt, alloc, accepted, input, on, &NoGate, None) {
+            Ok((finished, _)) => Ok(finished.outcome),
             Err(error) => Err(Failure::Run(error)),
         }
     }

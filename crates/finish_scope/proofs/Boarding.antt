@@ -60,11 +60,14 @@ module _ (κ : NamedLft) (J : RattleType) (gh : Ghosts J.Denot) where
       Arc-send (Mutex.the_row (Inner.the_row κ J gh)) (OfMutex.the_send (Inner.the_row κ J gh) (inner_send κ J gh))
       (OfMutex.the_sync (Inner.the_row κ J gh) (inner_send κ J gh))
 
-  pub shelf_send : IsSend (Shelf.the_row κ J gh)
+  abbrev pub scope_row : RattleType
+  scope_row = Mutex.the_row (Inner.the_row κ J gh)
+
+  pub shelf_send : IsSend (Shelf.the_row scope_row)
   shelf_send =
-      let scope = Arc.the_row (Mutex.the_row (Inner.the_row κ J gh)) Heap.the_row ghosts in
+      let scope = Arc.the_row scope_row Heap.the_row ghosts in
       let scopes = Option.the_row scope in
-      declared_send (Shelf.the_type κ J gh) (
+      declared_send (Shelf.the_type scope_row) (
         as_row_send (Vec.the_field scopes Heap.the_row ghosts) (Vec-send scopes (OfOption.the_send scope scope_send)),
         (as_row_send (Vec.the_field usize Heap.the_row ghosts) (Vec-send usize (plain_send _ _ _ _ _)), tt),
       )

@@ -152,7 +152,7 @@ stmt_sync = search (sendable, crosses, Numbers.crosses, Truths.crosses, Kinds.cr
 pub truth_sync : IsSync CodeTruth.the_row
 truth_sync = search (sendable, crosses, Numbers.crosses, Truths.crosses) depth 60 fits 20000
 
-start_send : (κ : NamedLft) → IsSend (Start.the_row κ)
+pub start_send : (κ : NamedLft) → IsSend (Start.the_row κ)
 start_send κ =
     declared_send (Start.the_type κ) (
       search (sendable, crosses, stmt_sync) depth 60 fits 50000,
@@ -195,7 +195,7 @@ body_send κ = declared_send (Body.the_type κ) (search (sendable, crosses, carr
 pub task_send : (κ : NamedLft) → IsSend (Task.the_row κ)
 task_send κ = declared_send (Task.the_type κ) (search (sendable, crosses, carried, body_send) depth 60 fits 50000)
 
-paused_send : (κ : NamedLft) → IsSend (RunPaused.the_row κ)
+pub paused_send : (κ : NamedLft) → IsSend (RunPaused.the_row κ)
 paused_send κ =
     declared_send (RunPaused.the_type κ) (
       search (sendable, crosses, carried) depth 60 fits 50000,

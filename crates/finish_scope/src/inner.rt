@@ -94,6 +94,7 @@ impl<'p, J: Running> Inner<'p, J> {
     pub fn replenish(&mut self, weight: Weight) -> Result<Weight, Late<Weight>>
         ensures book { OnOk result (Mints self.old self.new weight) }
         ensures weight { IfOk result (λ w. w ≡ weight + self.old.book.w0) }
+        ensures enough { IfOk result (λ w. 2 ≤ w) }
         ensures case { IfErr result (λ l. Cannot self.old weight l.reason) }
         ensures back { IfErr result (λ l. l.back ≡ weight) }
         ensures same { OnErr result (self.new ≡ self.old) }

@@ -2,17 +2,21 @@
 
 use std::marker::Brand;
 
-/// The job of a run. Only the type of a value from a lock or a queue is known, so the types that go
-/// there name the job. A run picks it once.
+/// The job of a run, and the weight that its scopes issue at a time. Only the type of a value from a
+/// lock or a queue is known, so the types that go there name both. A run picks them once.
 pub trait Running {
-    ghost use Rattle.std.specs.Prelude.{Option};
+    ghost use Rattle.std.specs.Prelude.{ℕ, Option};
     ghost use Rattle.gather.specs.declared.job.Job.{Job};
 
     ghost job: { Option Job };
+
+    ghost w0: { ℕ };
 }
 
 impl Running for Brand {
     ghost use Rattle.std.specs.Prelude.{None};
 
     ghost job = { None };
+
+    ghost w0 = { 0 };
 }

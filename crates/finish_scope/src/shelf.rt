@@ -1,21 +1,24 @@
 //! Shelves of scopes.
 
-use crate::inner::Scope;
-use crate::running::Running;
+ghost use Rattle.std.specs.Prelude.{◌≡◌, IfSome, Some, option_map};
+ghost use Rattle.std.specs.Arc.{arc_value};
+ghost use Rattle.finish_scope.specs.Shelves.{in_slot};
+
 use std::alloc::{AllocError, Global};
 use std::sync::Arc;
 
-/// The scopes that one worker opened, each in a slot.
+/// The scopes that one worker opened, each in a slot. Nothing is known of a lock but its type, so a
+/// shelf is generic: its contracts name what is in a slot.
 #[derive(Drop)]
-pub struct Shelf<'p, J: Running> {
-    scopes: Vec<Option<Arc<Scope<'p, J>>>>,
+pub struct Shelf<T> {
+    scopes: Vec<Option<Arc<T>>>,
     /// The empty slots.
     free: Vec<usize>,
 }
 
-impl<'p, J: Running> Shelf<'p, J> {
+impl<T: Drop> Shelf<T> {
     /// Returns a shelf with no scopes.
-    pub fn new(alloc: Global) -> Shelf<'p, J> {
+    pub fn new(alloc: Global) -> Shelf<T> {
         Shelf {
             scopes: Vec::new(alloc),
             free: Vec::new(alloc),
@@ -23,7 +26,7 @@ impl<'p, J: Running> Shelf<'p, J> {
     }
 
     /// Puts a scope into an empty slot, and returns the slot's number.
-    pub fn add(&mut self, scope: Arc<Scope<'p, J>>) -> Result<usize, AllocError> {
+    pub fn add(&mut self, scope: Arc<T>) -> Result<usize, AllocError> {
         if let Some(slot) = self.free.pop() {
             if let Some(entry) = self.scopes.get_mut(slot) {
                 *entry = Some(scope);
@@ -36,9 +39,15 @@ impl<'p, J: Running> Shelf<'p, J> {
     }
 
     /// Returns the scope in this slot, if there is one and its reference count can be incremented.
-    pub fn find(&self, slot: usize) -> Option<Arc<Scope<'p, J>>> {
+    pub fn find(&self, slot: usize) -> Option<Arc<T>>
+        ensures { IfSome result (λ scope. option_map arc_value (in_slot self.now.scopes.items slot)
+            ≡ Some (arc_value scope)) }
+    {
         match self.scopes.get(slot)? {
-            Some(scope) => Arc::try_clone(scope).ok(),
+            Some(scope) => match Arc::try_clone(scope) {
+                Ok(scope) => Some(scope),
+                Err(_) => None,
+            },
             None => None,
         }
     }

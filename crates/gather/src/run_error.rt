@@ -8,21 +8,40 @@ use crate::error::GatherError;
 use std::alloc::AllocError;
 use tickets::Ticket;
 
-/// The first reason why a run has no outcome, with an example of such a run if one is known.
+/// The first reason why a run has no outcome, with an example of such a run if one is known. The
+/// comments give the code that the program prints.
 #[derive(PartialEq, Eq, Debug, Drop)]
 pub enum RunError {
-    /// E1: out of memory, which can happen for `main { }`; or a thread couldn't be started; or a
-    /// counter is used up: a scope has issued weight, or a worker has drawn tickets, the maximum
-    /// number of times.
+    /// E1: out of memory. Example: `main { }`, if an allocation fails.
     OutOfMemory,
+    /// E1: a worker's deque rejected a task, because it couldn't grow. Example: a loop of asyncs,
+    /// if that allocation fails.
+    RefusedPush,
+    /// E1: a worker's thread couldn't be started. Example: `main { }` on two workers, if the system
+    /// has no more threads.
+    RefusedThread,
+    /// E1: a scope has issued weight 2^31 times. No run is known in which this happens: that takes
+    /// more tasks than a run may have.
+    IssuedTooOften,
     /// E2: this ticket was drawn, whose number is at least the maximum number of tasks of the run.
     /// Example: ticket 1 of `main { async { } }`, if the maximum is 1.
     TooManyTasks(Ticket),
     /// E3: the results of tasks don't fit together. No run is known in which this happens.
     Gather(GatherError),
-    /// E4: a scope didn't accept what was given back to it, or a complete scope had no owner. No
-    /// run is known in which this happens.
-    Late,
+    /// E4: a scope was given more weight than was out, or a second owner. No run is known in which
+    /// this happens.
+    NotDue,
+    /// E4: all weight of a scope came back, but no owner was parked there. No run is known in which
+    /// this happens.
+    NoOwner,
+    /// E4: no scope was found at the position of an outer scope. No run is known in which this
+    /// happens.
+    NoScope,
+    /// E4: no worker reported an outcome or an error. No run is known in which this happens.
+    NoReport,
+    /// E5: an event of the workers isn't legal, or the events don't lead to the end of the run. It
+    /// happens only in a run with a log, and no such run is known.
+    Unlogged,
 }
 
 impl RunError {
@@ -31,10 +50,14 @@ impl RunError {
         ensures { result.now ≡ error_code self.now }
     {
         match self {
-            RunError::OutOfMemory => "E1",
+            RunError::OutOfMemory
+            | RunError::RefusedPush
+            | RunError::RefusedThread
+            | RunError::IssuedTooOften => "E1",
             RunError::TooManyTasks(_) => "E2",
             RunError::Gather(_) => "E3",
-            RunError::Late => "E4",
+            RunError::NotDue | RunError::NoOwner | RunError::NoScope | RunError::NoReport => "E4",
+            RunError::Unlogged => "E5",
         }
     }
 }

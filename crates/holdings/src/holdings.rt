@@ -27,7 +27,7 @@ impl Holdings {
     ghost use Rattle.sections.specs.Translation.{place as place_of, window as window_of};
     ghost use Rattle.blocks.specs.Held.{AreApart, IsJustAt, IsThere, Owned, as_owned, as_shared};
     ghost use Rattle.blocks.specs.Held.{in_place_of, numbers, only, over, owned, put, put_all, without};
-    ghost use Rattle.block_rows.specs.Copied.{CopiesSplit};
+    ghost use Rattle.block_rows.specs.Copied.{CopiesSplit, CountsCarve, CountsPaste};
     ghost use Rattle.holdings.specs.Holdings.{held, listed};
     ghost use Rattle.holdings.specs.Errors.{RefusesPlaces, RefusesOwned};
     ghost use Rattle.types.specs.Contents.{FitsArrays, read as read_of, row as row_of};
@@ -173,6 +173,8 @@ impl Holdings {
         ensures unchanged { OnErr result (held self.new ≡ held self.old) }
         ensures copied { OnOk result (CopiesSplit (held self.old)
             (has (map window_of windows.now)) self.old.copied self.new.copied) }
+        ensures counted { OnOk result (CountsCarve (held self.old)
+            (has (map window_of windows.now)) self.old.copied self.new.copied) }
         ensures begins { IfOk result (λ c. c.copied ≡ 0) }
         ensures kept { OnErr result (self.new.copied ≡ self.old.copied) }
     {
@@ -208,7 +210,8 @@ impl Holdings {
     /// Returns holdings with the same numbers at the same places, owned and copied alike. A whole
     /// block is copied only when it is written.
     pub fn clone(&self, alloc: Global) -> Result<Holdings, AllocError>
-        ensures { IfOk result (λ h. held h ≡ held self.now) }
+        ensures held { IfOk result (λ h. held h ≡ held self.now) }
+        ensures copied { IfOk result (λ h. h.copied ≡ self.now.copied) }
     {
         let rows = self.rows.again(alloc)?;
         Ok(Holdings {
@@ -228,6 +231,8 @@ impl Holdings {
             × (held e.1 ≡ held other)) }
         ensures copied { OnOk result (CopiesSplit (held self.old)
             (λ q. is_some (owned (held other) q)) self.old.copied self.new.copied) }
+        ensures counted { OnOk result (CountsPaste (held self.old)
+            (owned (held other)) self.old.copied self.new.copied) }
         ensures kept { OnErr result (self.new.copied ≡ self.old.copied) }
     {
         if !self.rows.are_apart(&other.rows) {

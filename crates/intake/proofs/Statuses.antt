@@ -6,12 +6,12 @@ use Rattle.types.specs.declared.error.TypeError.TheVariants.{NotInScope, OutOfMe
 use Rattle.types.specs.declared.input_error.InputError.TheVariants.{NotJson, OutOfMemory as MemoryInInput}
 use Rattle.types.specs.declared.path.Path.{Path}
 use Rattle.gather.specs.declared.error.GatherError.TheVariants.{Lost, Double, Stranger}
-use Rattle.gather.specs.declared.run_error.RunError.TheVariants.{OutOfMemory as MemoryInRun, Gather}
+use Rattle.gather.specs.declared.run_error.RunError.TheVariants.{OutOfMemory as MemoryInRun, Gather, Unlogged}
 use Rattle.trace_text.specs.declared.error.TraceError.TheVariants.{NotALine, NoMemory as MemoryInTrace}
 use Rattle.intake.specs.FailureStatus.{failure_status}
 use Rattle.intake.specs.declared.failure.Failure.TheVariants.{CannotRead, NotUtf8, Syntax, Types, Race, NoMemoryInCheck}
 use Rattle.intake.specs.declared.failure.Failure.TheVariants.{Input, Run, ChoicesNotUnderstood, NoLeaf, CannotWriteOutput, NoMemory}
-use Rattle.intake.specs.declared.failure.Failure.TheVariants.{NotLaidOut, CannotWrite, Trace, Illegal, StrangeEvents}
+use Rattle.intake.specs.declared.failure.Failure.TheVariants.{NotLaidOut, CannotWrite, Trace, Illegal}
 
 -- ---- running out of memory, anywhere
 
@@ -47,7 +47,7 @@ second_result path = refl
 strange_result : (path : Path) → failure_status (Run (Gather (Stranger path))) ≡ 5
 strange_result path = refl
 
-strange_events : failure_status StrangeEvents ≡ 5
+strange_events : failure_status (Run Unlogged) ≡ 5
 strange_events = refl
 
 -- ---- rejections

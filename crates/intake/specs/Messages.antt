@@ -11,7 +11,7 @@ use Rattle.intake.specs.declared.failure.Failure.{Failure}
 use Rattle.intake.specs.declared.failure.Failure.TheVariants.{CannotRead, NotUtf8, Syntax, Types}
 use Rattle.intake.specs.declared.failure.Failure.TheVariants.{Race, NoMemoryInCheck, Input, Run}
 use Rattle.intake.specs.declared.failure.Failure.TheVariants.{CannotWrite, CannotWriteOutput, NoMemory}
-use Rattle.intake.specs.declared.failure.Failure.TheVariants.{Trace, Illegal, StrangeEvents}
+use Rattle.intake.specs.declared.failure.Failure.TheVariants.{Trace, Illegal}
 use Rattle.intake.specs.declared.failure.Failure.TheVariants.{ChoicesNotUnderstood, NoLeaf, NotLaidOut}
 
 -- the line of a failure, without its newline
@@ -27,7 +27,6 @@ failure_text (Input e) = input_text e
 failure_text (Run e) = run_code e
 failure_text (Trace e) = trace_error_text e
 failure_text (Illegal n) = codes "illegal at event " ++ decimal n
-failure_text StrangeEvents = codes "E5"
 failure_text ChoicesNotUnderstood = codes "choices not understood"
 failure_text (NoLeaf n) = codes "no leaf at choice " ++ decimal n
 failure_text NotLaidOut = codes "not formatted"

@@ -58,7 +58,7 @@ pub enum Failure {
     /// `N4 a`: `main { array a: int[1]; }` on `{"a": [1, 2]}`
     #[error("{}", EscapedInput(.0))]
     Input(InputError),
-    /// `E1` to `E4`: `E2` is `main { async { skip; } async { skip; } }` with `--tasks 2`
+    /// `E1` to `E5`: `E2` is `main { async { skip; } async { skip; } }` with `--tasks 2`
     #[error("{}", .0.code())]
     Run(RunError),
     /// `J1 line 1`: an empty file as a trace; `J2`: out of memory while reading its lines
@@ -68,9 +68,6 @@ pub enum Failure {
     /// that of the first illegal event, from 0
     #[error("illegal at event {0}")]
     Illegal(usize),
-    /// `E5`: the recorded events of a run are invalid. No run is known to cause this.
-    #[error("E5")]
-    StrangeEvents,
     /// `choices not understood`: `explore --choices 0,,1`
     #[error("choices not understood")]
     ChoicesNotUnderstood,
@@ -106,12 +103,18 @@ impl Failure {
             Failure::NoMemoryInCheck => 4,
             Failure::Input(InputError::OutOfMemory) => 4,
             Failure::Run(RunError::OutOfMemory) => 4,
+            Failure::Run(RunError::RefusedPush) => 4,
+            Failure::Run(RunError::RefusedThread) => 4,
+            Failure::Run(RunError::IssuedTooOften) => 4,
             Failure::Run(RunError::TooManyTasks(_)) => 4,
             Failure::Trace(TraceError::NoMemory) => 4,
             Failure::NoMemory => 4,
             Failure::Run(RunError::Gather(_)) => 5,
-            Failure::Run(RunError::Late) => 5,
-            Failure::StrangeEvents => 5,
+            Failure::Run(RunError::NotDue) => 5,
+            Failure::Run(RunError::NoOwner) => 5,
+            Failure::Run(RunError::NoScope) => 5,
+            Failure::Run(RunError::NoReport) => 5,
+            Failure::Run(RunError::Unlogged) => 5,
             _ => 1,
         }
     }

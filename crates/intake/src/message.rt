@@ -42,7 +42,6 @@ fn emit_failure<W: Write>(err: &mut W, failure: &Failure) -> Result<(), EmitErro
         Failure::Run(error) => emit_text(err, error.code()),
         Failure::Trace(error) => emit_trace_error(err, *error),
         Failure::Illegal(event) => emit_numbered(err, "illegal at event ", *event),
-        Failure::StrangeEvents => emit_text(err, "E5"),
         Failure::ChoicesNotUnderstood => emit_text(err, "choices not understood"),
         Failure::NoLeaf(choice) => emit_numbered(err, "no leaf at choice ", *choice),
         Failure::NotLaidOut => emit_text(err, "not formatted"),

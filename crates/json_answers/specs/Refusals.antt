@@ -14,7 +14,7 @@ use Rattle.intake.specs.FailureStatus.{failure_status}
 use Rattle.intake.specs.Messages.{failure_text}
 use Rattle.intake.specs.declared.failure.Failure.{Failure}
 use Rattle.intake.specs.declared.failure.Failure.TheVariants.{Syntax, Types, Race, NoMemoryInCheck, Input}
-use Rattle.intake.specs.declared.failure.Failure.TheVariants.{Run, Trace, StrangeEvents}
+use Rattle.intake.specs.declared.failure.Failure.TheVariants.{Run, Trace}
 use Rattle.json_answers.specs.Pieces.{natural, object_of, or_null}
 use Rattle.json_answers.specs.Places.{column_of, line_of, place_at}
 
@@ -28,7 +28,6 @@ failure_code (Input e) = Some (input_code e)
 failure_code (Run e) = Some (run_code e)
 failure_code (Trace (NotALine n)) = Some (codes "J1")
 failure_code (Trace MemoryInTrace) = Some (codes "J2")
-failure_code StrangeEvents = Some (codes "E5")
 failure_code _ = None
 
 -- the label in its line, except those of a race

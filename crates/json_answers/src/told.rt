@@ -27,7 +27,6 @@ pub(crate) fn code_of(failure: &Failure) -> Option<&'static str>
         Failure::Run(error) => Some(error.code()),
         Failure::Trace(TraceError::NotALine(_)) => Some("J1"),
         Failure::Trace(TraceError::NoMemory) => Some("J2"),
-        Failure::StrangeEvents => Some("E5"),
         _ => None,
     }
 }

@@ -1,5 +1,5 @@
 -- Each step of the ticket word preserves its invariant.
-use Rattle.std.proofs.Common.{◌≡◌, ◌≢◌, ℕ, ◌+◌, ◌-◌, ◌%◌, ◌^◌, ◌<◌, List, [], ◌∷◌, ◌++◌, length, slice_index, set}
+use Rattle.std.proofs.Common.{◌≡◌, ◌≢◌, ℕ, ◌+◌, ◌-◌, ◌%◌, ◌^◌, ◌<◌, ◌≤◌, List, [], ◌∷◌, ◌++◌, length, slice_index, set}
 use Rattle.std.proofs.Common.{sym, refl, ap, ◌∙◌, ⊎_elim, arith, rules, length-append}
 use Rattle.std.proofs.lemmas.List.Sums.{sum_by-append, sum_by_push}
 use mathlib.Core.Option.{some}
@@ -15,7 +15,7 @@ use Rattle.tickets.proofs.ShareLemmas.{within_draws-set, within_draws-push, shar
 -- a draw: the word is one more, and the share lists its old value
 pub draw_keeps : (seats slots id : ℕ) (me : Me (Unit {0}) Share) → me.0.seats ≡ 1 → length me.0.drawn < 4294967296
     → Allows (DrawsOnce seats) slots id me 0 (λ n. (n + 1) % 2 ^ 64)
-    (λ n w. w ≡ (share me.0.seats (me.0.drawn ++ n ∷ []), me.1))
+    (λ n w. (w ≡ (share me.0.seats (me.0.drawn ++ n ∷ []), me.1)) × (length me.0.drawn ≤ n))
 draw_keeps seats slots id me one few s was homes at small =
     let n : ℕ = slice_index s.words 0 in
     let v : Share = me.0 in
@@ -43,7 +43,9 @@ draw_keeps seats slots id me one few s was homes at small =
           omega (arith, was.once x, more, sums, below);
       within = within_draws-set s.views id w (omega (arith, one, few, longer)) was.within;
     } in
-    (w, keeps, tt, holds, refl)
+    let least : length v.drawn ≤ n
+    = omega (arith, was.count, sum_by-set_share (λ u. length u.drawn) s.views id v (share 0 []) at) in
+    (w, keeps, tt, holds, (refl, least))
 
 -- a seat is taken off a share that has drawn nothing
 pub split_keeps : (seats id : ℕ) (v : Share) → 0 < v.seats → v.drawn ≡ []

@@ -1,5 +1,7 @@
 -- Definitions that contracts use for seats and for the word.
-use Rattle.std.specs.Prelude.{◌≡◌, ℕ, List, flat_map}
+use Rattle.std.specs.Prelude.{◌≡◌, ℕ, List, flat_map, length, ◌≤◌}
+use Rattle.tickets.specs.Shares.{times, one_below}
+use Rattle.tickets.specs.declared.drawing.Ticket.{Ticket}
 use Rattle.tickets.specs.declared.word.Seat.{Seat}
 use Rattle.tickets.specs.declared.word.Tickets.{Tickets}
 
@@ -18,3 +20,21 @@ IsSeatOf t s = s.place.table_id ≡ t.table.shared.table_id
 -- the number of seats of the word
 abbrev pub seats_of : Tickets → ℕ
 seats_of t = t.table.shared.key
+
+-- together these seats drew the numbers below n, each once
+abbrev pub AreOnly : (n : ℕ) → List Seat → Type 0
+AreOnly n seats = (x : ℕ) → times x (drawn_by seats) ≡ one_below x n
+
+-- so many seats drew the numbers below n, each once
+pub record AreDrawn (count n : ℕ) : Type 0 where
+  pub seats : List Seat
+  pub all : length seats ≡ count
+  pub once : AreOnly n seats
+
+-- the ticket is one of those that so many seats drew: they drew the numbers below some n, each once
+pub record WasDrawn (count : ℕ) (ticket : Ticket) : Type 0 where
+  pub seats : List Seat
+  pub all : length seats ≡ count
+  pub n : ℕ
+  pub once : AreOnly n seats
+  pub among : 1 ≤ times ticket.number (drawn_by seats)

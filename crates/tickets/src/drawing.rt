@@ -1,8 +1,7 @@
 //! Drawing numbers.
 
-ghost use Rattle.std.specs.Prelude.{◌≡◌, ℕ, ◌<◌, ◌≤◌, ◌++◌, [], ◌∷◌, length, All, IfOk, vec_len};
-ghost use Rattle.tickets.specs.Shares.{times, one_below};
-ghost use Rattle.tickets.specs.Seats.{drawn_of, drawn_by, IsSeatOf, seats_of};
+ghost use Rattle.std.specs.Prelude.{◌≡◌, ◌<◌, ◌≤◌, ◌++◌, [], ◌∷◌, length, All, IfOk, vec_len};
+ghost use Rattle.tickets.specs.Seats.{AreOnly, drawn_of, IsSeatOf, seats_of};
 
 use crate::rule::{Draw, Parting, Share};
 use crate::word::{Seat, Tickets};
@@ -17,6 +16,21 @@ pub struct Ticket {
 
 impl Ticket {
     /// Returns the number that was drawn.
+    pub fn number(&self) -> u64
+        ensures { result ≡ self.now.number }
+    {
+        self.number
+    }
+}
+
+/// The number of draws on all seats of a word. Only `Tickets::close` creates one.
+#[derive(Clone, Copy, Debug, Drop, PartialEq, Eq)]
+pub struct Drawn {
+    number: u64,
+}
+
+impl Drawn {
+    /// Returns that number.
     pub fn number(&self) -> u64
         ensures { result ≡ self.now.number }
     {
@@ -48,17 +62,17 @@ impl Tickets {
         requires left { length (drawn_of seat.old) < 4294967296 }
         ensures of { IsSeatOf self.now seat.new }
         ensures drawn { drawn_of seat.new ≡ drawn_of seat.old ++ result.number ∷ [] }
+        ensures least { length (drawn_of seat.old) ≤ result.number }
     {
         let number = self.table.shared.fetch_add::<Draw>(&mut seat.place, 0, 1);
         Ticket { number }
     }
 
-    /// Returns n, the number of draws on all seats together: they drew the numbers below n, each
-    /// once.
-    pub fn close(self, mut seats: Vec<Seat>) -> u64
+    /// Returns the number of draws on all seats together.
+    pub fn close(self, mut seats: Vec<Seat>) -> Drawn
         requires all { vec_len seats ≡ seats_of self }
         requires each { All (IsSeatOf self) seats.items }
-        ensures { (x : ℕ) → times x (drawn_by seats.items) ≡ one_below x result }
+        ensures { AreOnly result.number seats.items }
     {
         let Tickets { table } = self;
         let Some(last) = seats.pop() else {
@@ -70,9 +84,9 @@ impl Tickets {
             table.shared.join_seat::<Parting>(&mut whole, place);
         }
         let closed = table.close_with(whole);
-        let drawn = closed.word(0);
+        let number = closed.word(0);
         closed.free();
-        drawn
+        Drawn { number }
     }
 }
 

@@ -6,5 +6,5 @@ mod drawing;
 mod rule;
 mod word;
 
-pub use drawing::Ticket;
+pub use drawing::{Drawn, Ticket};
 pub use word::{Seat, Tickets};

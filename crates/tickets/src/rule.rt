@@ -22,14 +22,15 @@ impl TableRule<(), Share, u64> for DrawnOnce {
     ghost first = { λ seats. share seats [] };
 }
 
-/// A draw: it appends the word's old value to the share.
+/// A draw: it appends the word's old value to the share, which has drawn at most that many numbers.
 pub struct Draw;
 
 impl Play<(), Share> for Draw {
-    ghost use Rattle.std.specs.Prelude.{◌≡◌, ◌++◌, [], ◌∷◌};
+    ghost use Rattle.std.specs.Prelude.{◌≡◌, ◌≤◌, ◌++◌, [], ◌∷◌, length};
     ghost use Rattle.tickets.specs.Shares.{share};
 
-    ghost then = { λ s v n w. w ≡ (share v.0.seats (v.0.drawn ++ n ∷ []), v.1) };
+    ghost then = { λ s v n w. (w ≡ (share v.0.seats (v.0.drawn ++ n ∷ []), v.1))
+        × (length v.0.drawn ≤ n) };
 }
 
 /// A split of one seat off a share, or a join of two shares.

@@ -1,14 +1,18 @@
 -- Logs: the events of a run so far, and the world that they lead to.
-use Rattle.std.specs.Prelude.{ℕ, ◌≡◌, List}
+use Rattle.std.specs.Prelude.{ℕ, ◌≡◌, List, Some}
 use Rattle.std.specs.Borrow.{Bor}
 use Rattle.std.specs.Global.{Global}
+use Rattle.types.specs.Outcome.{Outcome}
 use Rattle.types.specs.declared.budget.Budget.{Budget}
 use Rattle.types.specs.declared.input.Input.{Input}
 use Rattle.race_checker.specs.declared.accepted.Accepted.{Accepted}
+use Rattle.gather.specs.Jobs.{budget_of, program_of}
 use Rattle.interleave.specs.Jobs.{IsWeightedJob}
-use Rattle.interleave.specs.Replay.{IllegalAt}
+use Rattle.interleave.specs.Replay.{IllegalAt, Legal}
 use Rattle.interleave.specs.Replaying.{IsReplayed, comes, event}
 use Rattle.interleave.specs.Shown.{Refuses}
+use Rattle.interleave.specs.World.{World as TheWorld}
+use Rattle.interleave.specs.Worlds.{outcome_of}
 use Rattle.interleave.specs.declared.error.EventError.{EventError}
 use Rattle.interleave.specs.declared.error.EventError.TheVariants.{Illegal, NoMemory}
 use Rattle.events.specs.declared.event.Event.{Event}
@@ -42,3 +46,11 @@ pub record Leaves (e : Event) (old new : Recorded) (error : EventError) : Type 0
 abbrev pub IsRefusedBy : WeightedJob → List Event → EventError → Type 0
 IsRefusedBy j es Illegal = (n : ℕ) × (comes j es ≡ IllegalAt n)
 IsRefusedBy j es NoMemory = Unit {0}
+
+-- the events are legal from the start of the log's job, and lead to a world with this outcome: therefore
+-- its root's scope has passed
+pub record LeadsToOutcome (l : Recorded) (told : Outcome) : Type 0 where
+  pub world : TheWorld
+  pub legal : comes l.world.job l.events ≡ Legal world
+  pub is_told : outcome_of (program_of l.world.job.job) l.world.job.w0
+      (budget_of l.world.job.job) world ≡ Some told

@@ -1,14 +1,16 @@
 //! The events of a run so far, with the world that they lead to.
 
+ghost use Rattle.std.specs.Bool.{OnTrue};
 ghost use Rattle.std.specs.Prelude.{◌≡◌, ◌∷◌, ◌++◌, [], IfErr, IfOk, OnOk};
 ghost use Rattle.types.specs.Contents.{FitsArrays};
 ghost use Rattle.types.specs.Translation.{input as lists_in};
 ghost use Rattle.types.specs.Typed.{code_of};
+ghost use Rattle.gather.specs.Jobs.{outcome_of};
 ghost use Rattle.interleave.specs.Replaying.{event as event_of};
 ghost use Rattle.interleave.specs.Shown.{Becomes, IsLegal};
 ghost use Rattle.interleave.specs.declared.error.EventError.TheVariants.{Illegal, NoMemory};
 ghost use Rattle.interleave.specs.Walks.{IsIllegal};
-ghost use Rattle.trace.specs.Logs.{IsClean, IsRefusedBy, Leaves, job_of};
+ghost use Rattle.trace.specs.Logs.{IsClean, IsRefusedBy, LeadsToOutcome, Leaves, job_of};
 
 use events::event::Event;
 use interleave::error::{EventError, ReplayError};
@@ -139,6 +141,13 @@ impl<'p> Log<'p> {
         ensures { result.now ≡ self.now.events }
     {
         self.events.as_slice()
+    }
+
+    /// Returns whether the run has finished according to the events.
+    pub fn has_ended(&self) -> bool
+        ensures ended { OnTrue result (LeadsToOutcome self.now (outcome_of self.now.world.job.job)) }
+    {
+        self.world().outcome().is_some()
     }
 
     /// Returns the world that they lead to.

@@ -1,6 +1,7 @@
 -- Why a parallel run has no outcome.
 use Rattle.std.proofs.Common.{◌≡◌, subst, refl}
 use Rattle.gather.specs.RunErrors.{IsCause}
+use Rattle.gather.proofs.RunCauses.{run_cause}
 use Rattle.command_line.specs.Requests.{Settings}
 use Rattle.command_line.specs.declared.request.Command.TheVariants.{Run}
 use Rattle.intake.specs.declared.failure.Failure.{Failure}
@@ -20,7 +21,7 @@ same_tasks s t same _ told = absurd told
 -- for a program without a race, on its input
 pub no_run_explained : (s : Settings) (held : Held) (text : List ℕ) → IsExplored s held text → (f : Failure) → TellsNoRun s f
     → Explains Run s held text f
-no_run_explained s held text run (RunFailed e) told = record { as_tasks = refl; run = run; why = told }
+no_run_explained s held text run (RunFailed e) told = record { as_tasks = refl; run = run; why = run_cause s.spread.tasks _ e told }
 no_run_explained s held text run NoMemory told = tt
 no_run_explained s held text run _ told = absurd told
 

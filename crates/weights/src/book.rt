@@ -121,6 +121,7 @@ impl Book {
         requires out { weight ≤ issued_of self.old - returned_of self.old }
         ensures book { self.new ≡ minted self.old }
         ensures weight { result ≡ weight + self.old.w0 }
+        ensures enough { 2 ≤ result }
     {
         let Weight { units } = weight;
         self.mints += 1;

@@ -40,7 +40,6 @@ use Rattle.crossbeam_deque.proofs.handles.Worker.TheSendSync as OfWorker
 use Rattle.crossbeam_deque.proofs.handles.Stealer.TheSendSync as OfStealer
 use Rattle.finish_scope.proofs.resting.Place.TheSendSync as OfPlace
 use Rattle.workers.proofs.hall.Bed.TheSendSync as OfBed
-use Rattle.workers.proofs.journal.Journal.TheSendSync as OfJournal
 use Rattle.workers.proofs.kit.Desk.TheSendSync as OfDesk
 use Rattle.workers.proofs.settings.Settings.TheSendSync as OfSettings
 use Rattle.tickets.proofs.word.Tickets.TheSendSync as OfTickets
@@ -86,8 +85,8 @@ module _ (κ : NamedLft) (J : RattleType) (gh : Ghosts J.Denot) where
       (OfStealer.the_sync (Ready.the_row κ J gh) Heap.the_row unit Free.the_row ghosts (FreeImpl.ghosts (Ready.the_row static_lft J gh))
       ready_send OfHeap.the_send OfHeap.the_sync frees)
 
-  shelves_sync : IsSync (Vec.the_row (Mutex.the_row (Shelf.the_row κ J gh)) Heap.the_row ghosts)
-  shelves_sync = Vec-sync (Mutex.the_row (Shelf.the_row κ J gh)) (OfMutex.the_sync (Shelf.the_row κ J gh) (shelf_send κ J gh))
+  shelves_sync : IsSync (Vec.the_row (Mutex.the_row (Shelf.the_row (Mutex.the_row (Inner.the_row κ J gh)))) Heap.the_row ghosts)
+  shelves_sync = Vec-sync (Mutex.the_row (Shelf.the_row (Mutex.the_row (Inner.the_row κ J gh)))) (OfMutex.the_sync (Shelf.the_row (Mutex.the_row (Inner.the_row κ J gh))) (shelf_send κ J gh))
 
   pub hall_sync : IsSync (Hall.the_row κ J gh)
   hall_sync =
@@ -95,7 +94,7 @@ module _ (κ : NamedLft) (J : RattleType) (gh : Ghosts J.Denot) where
         as_row_sync (Vec.the_field (Stealer.the_row (Ready.the_row κ J gh) Heap.the_row unit Free.the_row ghosts (FreeImpl.ghosts (Ready.the_row static_lft J gh))) Heap.the_row ghosts)
             stealers_sync,
         (
-          as_row_sync (Vec.the_field (Mutex.the_row (Shelf.the_row κ J gh)) Heap.the_row ghosts) shelves_sync,
+          as_row_sync (Vec.the_field (Mutex.the_row (Shelf.the_row (Mutex.the_row (Inner.the_row κ J gh)))) Heap.the_row ghosts) shelves_sync,
           (
             as_row_sync (Vec.the_field Bed.the_row Heap.the_row ghosts) (Vec-sync Bed.the_row OfBed.the_sync),
             (
@@ -110,14 +109,14 @@ module _ (κ : NamedLft) (J : RattleType) (gh : Ghosts J.Denot) where
   own_code_sync =
       view_sync (InOwnCode.the_row κ J gh) _ _ _ _
       (declared_sync (InOwnCode.the_type κ J gh) (
-        search (sendable, crosses, program_code_sync) depth 60 fits 50000,
+        program_code_sync κ,
         (as_row_sync (PhantomData.the_field J) (OfPhantom.the_field_sync J), tt),
       ))
 
-  -- the caller lends the gate
-  pub floor_sync : (G : RattleType) → IsSync G → IsSync (Floor.the_row κ J G gh)
-  floor_sync G gate =
-      declared_sync (Floor.the_type κ J G gh) (
+  -- the caller lends the gate, and picks the recorder
+  pub floor_sync : (G L : RattleType) → IsSync G → IsSync L → IsSync (Floor.the_row κ J G L gh)
+  floor_sync G L gate recorder =
+      declared_sync (Floor.the_type κ J G L gh) (
         job_sync κ,
         (
           own_code_sync,
@@ -127,7 +126,7 @@ module _ (κ : NamedLft) (J : RattleType) (gh : Ghosts J.Denot) where
               search (sendable, crosses) depth 30 fits 5000,
               (
                 OfTickets.the_sync,
-                (hall_sync, (OfJournal.the_sync, tt)),
+                (hall_sync, (recorder, tt)),
               ),
             ),
           ),

@@ -1,2 +1,4 @@
+pub mod Causes
 pub mod Desks
+pub mod Logs
 pub mod Own

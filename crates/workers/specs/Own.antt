@@ -23,6 +23,8 @@ use Rattle.task_machine.specs.declared.turn.Wanting.{Wanting}
 use Rattle.task_machine.specs.Tasks.{IsBody}
 use Rattle.workers.specs.declared.post.Next.{Next}
 use Rattle.workers.specs.declared.post.Next.TheVariants.{Goes, Idle, Told}
+use Rattle.workers.specs.declared.post.Step.{Step}
+use Rattle.workers.specs.declared.post.Step.TheVariants.{Follows, Spawned}
 
 -- what a worker continues with is of this job, and what it reports is the one-thread outcome
 abbrev pub IsNext : Job → Next → Type 0
@@ -81,3 +83,8 @@ module _ (o : Option Job) where
   IsOwnNext (Goes t) = IsOwnTask t
   IsOwnNext Idle = Unit {0}
   IsOwnNext (Told x) = (j : Job) → o ≡ Some j → outcome x ≡ outcome_of j
+
+  -- what a turn led to
+  abbrev pub IsOwnStep : Step → Type 0
+  IsOwnStep (Follows n) = IsOwnNext n
+  IsOwnStep (Spawned t c) = IsOwnTask t × IsOwnChild c

@@ -9,7 +9,7 @@ use std::marker::{Model, PhantomData};
 /// The flat code of the run's program, with which tasks run up to the next turn that others see.
 #[derive(Drop)]
 pub struct OwnCode<'p, J: Running> {
-    code: &'p ProgramCode<'p>,
+    code: ProgramCode<'p>,
     of: PhantomData<J>,
 }
 
@@ -21,12 +21,12 @@ impl<'p, J: Running> Model for OwnCode<'p, J> {
 
     ghost view = { λ c. 0 };
 
-    ghost invariant = { λ c. HasCode J.job c.code.now };
+    ghost invariant = { λ c. HasCode J.job c.code };
 }
 
 impl<'p, J: Running> OwnCode<'p, J> {
-    pub fn new(code: &'p ProgramCode<'p>) -> OwnCode<'p, J>
-        requires { HasCode J.job code.now }
+    pub fn new(code: ProgramCode<'p>) -> OwnCode<'p, J>
+        requires { HasCode J.job code }
     {
         OwnCode {
             code,
@@ -35,9 +35,9 @@ impl<'p, J: Running> OwnCode<'p, J> {
     }
 
     /// Returns the code itself.
-    pub fn lend(&self) -> &'p ProgramCode<'p>
+    pub fn lend(&self) -> &ProgramCode<'p>
         ensures { HasCode J.job result.now }
     {
-        self.code
+        &self.code
     }
 }

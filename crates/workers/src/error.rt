@@ -1,34 +1,46 @@
 //! Reasons why a run has no outcome.
 
-ghost use Rattle.std.specs.Prelude.{ℕ, ◌≡◌};
-ghost use Rattle.gather.specs.RunErrors.{IsCause};
+ghost use Rattle.std.specs.Prelude.{◌≡◌};
 ghost use Rattle.workers.specs.declared.error.Trouble.TheVariants.{Gather, OutOfMemory};
 
 use gather::error::GatherError;
 pub use gather::run_error::RunError;
 use std::alloc::{AllocError, AllocFailed};
 
-/// The reason why a worker ends a run, except a missing ticket.
+/// The reason why a worker ends a run, except a missing ticket. `RunError` has the same variants,
+/// with examples.
 #[derive(Drop)]
 pub enum Trouble {
-    /// Out of memory, which can happen even for `main { }`; or a scope that has issued weight as
-    /// often as its book can count.
+    /// Out of memory.
     OutOfMemory,
-    /// The results of tasks couldn't be settled: memory ran out, or they are inconsistent. No run
-    /// is known that leads to the latter.
+    /// The worker's deque rejected a task.
+    RefusedPush,
+    /// A scope has issued weight as often as its book can count.
+    IssuedTooOften,
+    /// The results of tasks couldn't be settled: memory ran out, or they are inconsistent.
     Gather(GatherError),
-    /// A scope rejected what was given back to it. No run is known that leads to this.
-    Late,
+    /// A scope rejected what was given back to it.
+    NotDue,
+    /// A scope is complete, and has no owner.
+    NoOwner,
+    /// No scope was found at a position.
+    NoScope,
 }
 
 impl From<Trouble> for RunError {
-    ghost from_gives = { λ _ e. (tasks : ℕ) → IsCause tasks e };
+    ghost use Rattle.workers.specs.Causes.{Becomes};
+
+    ghost from_gives = { Becomes };
 
     fn from(trouble: Trouble) -> RunError {
         match trouble {
             Trouble::OutOfMemory => RunError::OutOfMemory,
+            Trouble::RefusedPush => RunError::RefusedPush,
+            Trouble::IssuedTooOften => RunError::IssuedTooOften,
             Trouble::Gather(error) => RunError::from(error),
-            Trouble::Late => RunError::Late,
+            Trouble::NotDue => RunError::NotDue,
+            Trouble::NoOwner => RunError::NoOwner,
+            Trouble::NoScope => RunError::NoScope,
         }
     }
 }

@@ -1,5 +1,8 @@
 //! Deques and shelves of the workers, resting, and the mark that ends a run.
 
+ghost use Rattle.std.specs.Prelude.{IfErr};
+ghost use Rattle.workers.specs.Causes.{Happens};
+
 use crate::error::Trouble;
 use crate::ready::Ready;
 use crossbeam_deque::{Steal, Stealer, Worker};
@@ -16,7 +19,7 @@ use std::sync::{Arc, Mutex, Wait};
 #[derive(Drop)]
 pub struct Hall<'p, J: Running> {
     thieves: Vec<Stealer<Ready<'p, J>>>,
-    shelves: Vec<Mutex<Shelf<'p, J>>>,
+    shelves: Vec<Mutex<Shelf<Scope<'p, J>>>>,
     beds: Vec<Bed>,
     /// The number of resting workers.
     resting: AtomicUsize,
@@ -158,35 +161,41 @@ impl<'p, J: Running> Hall<'p, J> {
         rt: &R,
         number: usize,
         scope: Arc<Scope<'p, J>>,
-    ) -> Result<Place, Trouble> {
+    ) -> Result<Place, Trouble>
+        ensures { IfErr result (Happens J.job) }
+    {
         match self.shelves.get(number) {
             Some(shelf) => Ok(Place {
                 shelf: number,
                 slot: shelf.lock(rt).add(scope)?,
             }),
-            None => Err(Trouble::Late),
+            None => Err(Trouble::NoScope),
         }
     }
 
     /// Returns the scope at this position.
-    pub fn scope_at<R: Wait>(&self, rt: &R, place: Place) -> Result<Arc<Scope<'p, J>>, Trouble> {
+    pub fn scope_at<R: Wait>(&self, rt: &R, place: Place) -> Result<Arc<Scope<'p, J>>, Trouble>
+        ensures { IfErr result (Happens J.job) }
+    {
         match self.shelves.get(place.shelf) {
             Some(shelf) => match shelf.lock(rt).find(place.slot) {
                 Some(scope) => Ok(scope),
-                None => Err(Trouble::Late),
+                None => Err(Trouble::NoScope),
             },
-            None => Err(Trouble::Late),
+            None => Err(Trouble::NoScope),
         }
     }
 
     /// Removes a scope that has passed.
-    pub fn clear<R: Wait>(&self, rt: &R, place: Place) -> Result<(), Trouble> {
+    pub fn clear<R: Wait>(&self, rt: &R, place: Place) -> Result<(), Trouble>
+        ensures { IfErr result (Happens J.job) }
+    {
         match self.shelves.get(place.shelf) {
             Some(shelf) => {
                 shelf.lock(rt).free(place.slot)?;
                 Ok(())
             }
-            None => Err(Trouble::Late),
+            None => Err(Trouble::NoScope),
         }
     }
 }

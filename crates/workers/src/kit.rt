@@ -24,13 +24,16 @@ pub struct Desk {
     pub number: usize,
     /// The worker's parker.
     pub parker: Parker,
-    /// The seat on which it draws tickets, and the maximum number of draws so far.
+    /// The seat on which it draws tickets.
     pub seat: Seat,
-    pub drawn: u64,
 }
 
-/// A worker's report: at most one report of a run has an outcome or an error.
+/// A worker's report.
 #[derive(Drop)]
 pub struct Report {
     pub told: Result<Option<Outcome>, RunError>,
+    /// Whether that ended the run. It is true of at most one report.
+    pub is_first: bool,
+    /// The seat on which it drew tickets.
+    pub seat: Seat,
 }

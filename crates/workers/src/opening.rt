@@ -1,7 +1,9 @@
 //! The state before a run.
 
-ghost use Rattle.std.specs.Prelude.{◌≡◌, All, IfOk, OnOk, Some};
+ghost use Rattle.std.specs.Prelude.{◌≡◌, ◌+◌, All, IfErr, IfOk, OnOk, Some, vec_len};
 ghost use Rattle.gather.specs.Jobs.{IsJob};
+ghost use Rattle.tickets.specs.Seats.{seats_of};
+ghost use Rattle.workers.specs.Causes.{Happens};
 ghost use Rattle.workers.specs.Desks.{HasSeat, IsFresh};
 
 use crate::code::OwnCode;
@@ -9,10 +11,10 @@ use crate::error::Trouble;
 use crate::floor::Floor;
 use crate::gate::Gate;
 use crate::hall::Hall;
-use crate::journal::Journal;
 use crate::kit::{Desk, Kit};
 use crate::post::Post;
 use crate::ready::First;
+use crate::recorder::Recorder;
 use crate::settings::Settings;
 use crossbeam_utils::sync::Parker;
 use finish_scope::inner::Inner;
@@ -24,20 +26,24 @@ use task_machine::task::Task;
 use tickets::{Seat, Tickets};
 
 /// Returns the floor before the run, the kit of the first worker, and those of the others.
-pub fn open<'p, J: Running, G: Gate, R: Wait>(
+pub fn open<'p, J: Running, G: Gate, L: Recorder<'p, J>, R: Wait>(
     rt: &R,
     job: Job<'p>,
     code: OwnCode<'p, J>,
     settings: Settings,
     gate: &'p G,
-    is_noted: bool,
-) -> Result<(Floor<'p, J, G>, Kit<'p, J>, Vec<Kit<'p, J>>), Trouble>
+    recorder: L,
+) -> Result<(Floor<'p, J, G, L>, Kit<'p, J>, Vec<Kit<'p, J>>), Trouble>
     requires of { J.job ≡ Some job }
     requires job { IsJob job }
     ensures job { IfOk result (λ r. r.0.job ≡ job.entry) }
     ensures settings { IfOk result (λ r. r.0.settings ≡ settings) }
-    ensures own { IfOk result (λ r. HasSeat r.0.tickets r.1.desk) }
-    ensures kits { IfOk result (λ r. All (λ k. HasSeat r.0.tickets k.desk) r.2.items) }
+    ensures own { IfOk result (λ r. HasSeat r.0.tickets settings.tasks r.1.desk.seat) }
+    ensures kits { IfOk result
+        (λ r. All (λ k. HasSeat r.0.tickets settings.tasks k.desk.seat) r.2.items) }
+    ensures seats { IfOk result (λ r. seats_of r.0.tickets ≡ settings.workers) }
+    ensures count { IfOk result (λ r. vec_len r.2 + 1 ≡ settings.workers) }
+    ensures cause { IfErr result (Happens J.job) }
 {
     let alloc = job.alloc;
     let (tickets, mut seats) = Tickets::new(alloc, settings.workers)?;
@@ -46,8 +52,8 @@ pub fn open<'p, J: Running, G: Gate, R: Wait>(
     };
     let mut hall = Hall::new(alloc);
     let (number, own, parker) = hall.welcome(alloc)?;
-    let desk = desk_at(number, parker, &tickets, seat);
-    let kits = make_kits(alloc, &tickets, &mut hall, seats)?;
+    let desk = desk_at(number, parker, &tickets, settings, seat);
+    let kits = make_kits(alloc, &tickets, settings, &mut hall, seats)?;
     let first = Some(root::<J, R>(rt, job, settings, &hall)?);
     let floor = Floor {
         job,
@@ -56,7 +62,7 @@ pub fn open<'p, J: Running, G: Gate, R: Wait>(
         gate,
         tickets,
         hall,
-        journal: Journal::new(alloc, is_noted),
+        recorder,
     };
     Ok((floor, Kit { desk, own, first }, kits))
 }
@@ -65,51 +71,37 @@ pub fn open<'p, J: Running, G: Gate, R: Wait>(
 fn make_kits<'p, J: Running>(
     alloc: Global,
     tickets: &Tickets,
+    settings: Settings,
     hall: &mut Hall<'p, J>,
     seats: Vec<Seat>,
 ) -> Result<Vec<Kit<'p, J>>, AllocError>
     requires { All (IsFresh tickets.now) seats.items }
-    ensures { IfOk result (λ v. All (λ k. HasSeat tickets.now k.desk) v.items) }
+    ensures each { IfOk result
+        (λ v. All (λ k. HasSeat tickets.now settings.tasks k.desk.seat) v.items) }
+    ensures count { IfOk result (λ v. vec_len v ≡ vec_len seats) }
 {
     let mut kits = Vec::new(alloc);
     for seat in seats {
-        add_kit(alloc, tickets, hall, seat, &mut kits)?;
+        let (number, own, parker) = hall.welcome(alloc)?;
+        let desk = desk_at(number, parker, tickets, settings, seat);
+        kits.push(Kit {
+            desk,
+            own,
+            first: None,
+        })?;
     }
     Ok(kits)
 }
 
-/// Adds one kit.
-fn add_kit<'p, J: Running>(
-    alloc: Global,
-    tickets: &Tickets,
-    hall: &mut Hall<'p, J>,
-    seat: Seat,
-    kits: &mut Vec<Kit<'p, J>>,
-) -> Result<(), AllocError>
-    requires seat { IsFresh tickets.now seat }
-    requires each { All (λ k. HasSeat tickets.now k.desk) kits.old.items }
-    ensures each { OnOk result (All (λ k. HasSeat tickets.now k.desk) kits.new.items) }
-{
-    let (number, own, parker) = hall.welcome(alloc)?;
-    let desk = desk_at(number, parker, tickets, seat);
-    kits.push(Kit {
-        desk,
-        own,
-        first: None,
-    })?;
-    Ok(())
-}
-
 /// Returns a worker's desk before the run.
-fn desk_at(number: usize, parker: Parker, tickets: &Tickets, seat: Seat) -> Desk
+fn desk_at(number: usize, parker: Parker, tickets: &Tickets, settings: Settings, seat: Seat) -> Desk
     requires { IsFresh tickets.now seat }
-    ensures { HasSeat tickets.now result }
+    ensures { HasSeat tickets.now settings.tasks result.seat }
 {
     Desk {
         number,
         parker,
         seat,
-        drawn: 0,
     }
 }
 
@@ -122,6 +114,7 @@ fn root<'p, J: Running, R: Wait>(
 ) -> Result<First<'p, J>, Trouble>
     requires of { J.job ≡ Some job }
     requires job { IsJob job }
+    ensures cause { IfErr result (Happens J.job) }
 {
     let (inner, weight) = Inner::open(job.alloc, settings.w0);
     let task = match Task::root(job, weight) {

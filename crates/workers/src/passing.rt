@@ -1,9 +1,10 @@
 //! What follows a scope that passes.
 
-ghost use Rattle.std.specs.Prelude.{◌≡◌, ◌⊎◌, IfOk, reverse};
+ghost use Rattle.std.specs.Prelude.{◌≡◌, ◌⊎◌, IfErr, IfOk, Some, reverse};
 ghost use Rattle.own_run.specs.Lists.{Each};
 ghost use Rattle.task_machine.specs.Ends.{IsParked};
 ghost use Rattle.task_machine.specs.Tasks.{IsResultOf};
+ghost use Rattle.workers.specs.Causes.{Happens};
 ghost use Rattle.workers.specs.Own.{IsNext};
 
 use crate::error::Trouble;
@@ -16,7 +17,8 @@ use task_machine::finish::{Owner, Parked};
 pub fn pass<'p>(owner: Box<Parked<'p>>, results: Vec<TaskResult>) -> Result<Next<'p>, Trouble>
     requires ends { IsParked owner.value }
     requires results { Each (IsResultOf owner.value.job) results.items }
-    ensures { IfOk result (IsNext owner.entry.value.job) }
+    ensures next { IfOk result (IsNext owner.entry.value.job) }
+    ensures cause { IfErr result (Happens (Some owner.entry.value.job)) }
 {
     let alloc = owner.job.alloc;
     let results = with_least_first(results);

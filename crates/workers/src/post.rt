@@ -4,7 +4,7 @@ use finish_scope::inner::Scope;
 use finish_scope::resting::Place;
 use finish_scope::running::Running;
 use std::sync::Arc;
-use task_machine::task::Task;
+use task_machine::task::{Child, Task};
 use types::outcome::Outcome;
 
 /// The scopes of the task that a worker runs: its innermost scope, and the positions of all of
@@ -16,6 +16,14 @@ pub struct Post<'p, J: Running> {
     pub place: Place,
     /// The positions of the others, the innermost last.
     pub outer: Vec<Place>,
+}
+
+/// What a turn of a task led to.
+#[derive(Drop)]
+pub enum Step<'p> {
+    Follows(Next<'p>),
+    /// The task continues, and has spawned this child.
+    Spawned(Task<'p>, Child<'p>),
 }
 
 /// What a worker does after a turn.

@@ -1,128 +1,183 @@
 //! What a worker does while it holds a scope's lock.
 
-ghost use Rattle.std.specs.Prelude.{IfOk, IfSome};
+ghost use Rattle.std.specs.Prelude.{◌≡◌, IfErr, IfOk, IfSome};
 ghost use Rattle.finish_scope.specs.Own.{IsOwnPassing, IsOwnResting, IsResultOfRun};
+ghost use Rattle.finish_scope.specs.Scopes.{IsEven};
+ghost use Rattle.workers.specs.Causes.{Happens, HappensAtScope, trouble_of};
 ghost use Rattle.workers.specs.Own.{IsOwnChild, IsOwnTask, IsOwnWanting};
 
 use crate::error::Trouble;
-use crate::journal::Clerk;
+use crate::hall::Hall;
+use crate::page::Page;
+use crate::recorder::Recorder;
 use finish_scope::inner::{Inner, Scope};
 use finish_scope::late::{Late, Reason};
 use finish_scope::resting::{Passing, Resting};
 use finish_scope::running::Running;
 use own_run::result::TaskResult;
 use std::sync::Wait;
+use task_machine::stake::ScopeMark;
 use task_machine::task::{Child, Task};
 use task_machine::turn::Wanting;
 use weights::book::Back;
 use weights::weight::Weight;
 
+/// The recorder of a run, for what a worker does at a scope. The log's lock is taken while the
+/// scope's lock is held, never the other way round.
+#[derive(Drop)]
+pub struct Clerk<'c, 'p, J: Running, L: Recorder<'p, J>> {
+    pub recorder: &'c L,
+    pub hall: &'c Hall<'p, J>,
+    /// The scope, identified relative to the task that gives back.
+    pub scope: ScopeMark,
+}
+
+impl<'c, 'p, J: Running, L: Recorder<'p, J>> Clerk<'c, 'p, J, L> {
+    /// Takes the log's lock, if events are recorded.
+    fn hold<R: Wait>(&self, rt: &R) -> Page<'c, 'p, J> {
+        self.recorder.hold(rt, self.hall)
+    }
+}
+
 /// Issues more weight to a task that has too little for its child.
-pub fn replenish<'p, J: Running, R: Wait>(
+pub fn replenish<'p, J: Running, L: Recorder<'p, J>, R: Wait>(
     rt: &R,
     scope: &Scope<'p, J>,
     wanting: Wanting<'p>,
+    clerk: &Clerk<'_, 'p, J, L>,
 ) -> Result<(Task<'p>, Child<'p>), Trouble>
     requires { IsOwnWanting J.job wanting }
     ensures task { IfOk result (λ p. IsOwnTask J.job p.0) }
     ensures child { IfOk result (λ p. IsOwnChild J.job p.1) }
+    ensures scope { IfErr result HappensAtScope }
+    ensures cause { IfErr result (Happens J.job) }
 {
     let (weight, paused) = wanting.take_weight();
-    let issued = scope.lock(rt).replenish(weight);
+    let mut guard = scope.lock(rt);
+    let mut page = clerk.hold(rt);
+    let issued = guard.replenish(weight);
+    drop(guard);
     match issued {
         Ok(weight) => {
-            if weight.units() < 2 {
-                weight.forfeit();
-                return Err(Trouble::Late);
-            }
-            Ok(paused.with_weight(weight))
+            let (task, child) = paused.with_weight(weight);
+            note_more::<J>(&mut page, &task);
+            Ok((task, child))
         }
         Err(late) => Err(not_issued(late)),
     }
 }
 
+/// Records that a task was given more weight, and spawned another.
+fn note_more<'p, J: Running>(page: &mut Page<'_, 'p, J>, task: &Task<'p>)
+    requires { IsOwnTask J.job task.now }
+{
+    page.replenished(task.path());
+}
+
 /// Gives back the weight and the result of a task that has finished. If it was the last, the
 /// scope's owner is returned.
-pub fn give_back<'p, J: Running, R: Wait>(
+pub fn give_back<'p, J: Running, L: Recorder<'p, J>, R: Wait>(
     rt: &R,
     scope: &Scope<'p, J>,
     weight: Weight,
     made: TaskResult,
-    clerk: Clerk<'_>,
+    clerk: &Clerk<'_, 'p, J, L>,
 ) -> Result<Option<Passing<'p>>, Trouble>
     requires own { IsResultOfRun J.job made }
-    ensures { IfOk result (λ p. IfSome p (IsOwnPassing J.job)) }
+    ensures own { IfOk result (λ p. IfSome p (IsOwnPassing J.job)) }
+    ensures scope { IfErr result HappensAtScope }
+    ensures cause { IfErr result (Happens J.job) }
 {
     let mut guard = scope.lock(rt);
-    clerk.ended(rt, &made.path);
     let inner = &mut *guard;
+    let mut page = clerk.hold(rt);
+    let path = page.copy(&made.path);
     match inner.give_back(weight, made) {
-        Ok(back) => passes::<J, R>(rt, inner, back, clerk),
+        Ok(back) => {
+            page.ended(path);
+            drop(page);
+            passes::<J, L, R>(rt, inner, back, clerk)
+        }
         Err(late) => {
             let Late { reason: _, back } = late;
             let (weight, _) = back;
             weight.forfeit();
-            Err(Trouble::Late)
+            Err(Trouble::NotDue)
         }
     }
 }
 
 /// Parks a task as the owner of the scope. If all tasks of the scope have finished, the owner is
 /// returned.
-pub fn park<'p, J: Running, R: Wait>(
+pub fn park<'p, J: Running, L: Recorder<'p, J>, R: Wait>(
     rt: &R,
     scope: &Scope<'p, J>,
     weight: Weight,
     owner: Resting<'p>,
-    clerk: Clerk<'_>,
+    clerk: &Clerk<'_, 'p, J, L>,
 ) -> Result<Option<Passing<'p>>, Trouble>
     requires own { IsOwnResting J.job owner }
-    ensures { IfOk result (λ p. IfSome p (IsOwnPassing J.job)) }
+    ensures own { IfOk result (λ p. IfSome p (IsOwnPassing J.job)) }
+    ensures scope { IfErr result HappensAtScope }
+    ensures cause { IfErr result (Happens J.job) }
 {
     let mut guard = scope.lock(rt);
-    clerk.parked(rt, owner.parked.path());
     let inner = &mut *guard;
+    let mut page = clerk.hold(rt);
+    let path = page.copy(owner.parked.path());
     match inner.park(weight, owner) {
-        Ok(back) => passes::<J, R>(rt, inner, back, clerk),
+        Ok(back) => {
+            page.parked(path);
+            drop(page);
+            passes::<J, L, R>(rt, inner, back, clerk)
+        }
         Err(late) => {
             let Late { reason: _, back } = late;
             let (weight, _) = back;
             weight.forfeit();
-            Err(Trouble::Late)
+            Err(Trouble::NotDue)
         }
     }
 }
 
 /// Takes the owner out of a scope if the weight that came back was the last.
-fn passes<'p, J: Running, R: Wait>(
+fn passes<'p, J: Running, L: Recorder<'p, J>, R: Wait>(
     rt: &R,
     inner: &mut Inner<'p, J>,
     back: Back,
-    clerk: Clerk<'_>,
+    clerk: &Clerk<'_, 'p, J, L>,
 ) -> Result<Option<Passing<'p>>, Trouble>
-    ensures { IfOk result (λ p. IfSome p (IsOwnPassing J.job)) }
+    requires { (back ≡ Back.Complete) → IsEven inner.old }
+    ensures own { IfOk result (λ p. IfSome p (IsOwnPassing J.job)) }
+    ensures scope { IfErr result HappensAtScope }
+    ensures cause { IfErr result (Happens J.job) }
 {
     if inner.marked() {
         return Err(Trouble::OutOfMemory);
     }
     match back {
         Back::Open => Ok(None),
-        Back::Complete => match inner.resume() {
-            Some(passing) => {
-                clerk.passed(rt, passing.owner.parked.path());
-                Ok(Some(passing))
+        Back::Complete => {
+            let mut page = clerk.hold(rt);
+            match inner.resume() {
+                Some(passing) => {
+                    page.passed(clerk.scope.number, passing.owner.parked.path());
+                    Ok(Some(passing))
+                }
+                None => Err(Trouble::NoOwner),
             }
-            None => Err(Trouble::Late),
-        },
+        }
     }
 }
 
 /// Returns the reason why a scope issued nothing.
-fn not_issued(late: Late<Weight>) -> Trouble {
+fn not_issued(late: Late<Weight>) -> Trouble
+    ensures { result ≡ trouble_of late.reason }
+{
     let Late { reason, back } = late;
     back.forfeit();
     match reason {
-        Reason::NotDue => Trouble::Late,
-        Reason::IssuedTooOften => Trouble::OutOfMemory,
+        Reason::NotDue => Trouble::NotDue,
+        Reason::IssuedTooOften => Trouble::IssuedTooOften,
     }
 }

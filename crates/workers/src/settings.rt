@@ -2,6 +2,7 @@
 
 ghost use Rattle.std.specs.Prelude.{◌≡◌, ◌<◌, ◌≤◌, ◌⊎◌, ◌↔◌, IsNone, IfSome};
 
+use trace_text::header::Header;
 use types::budget::Budget;
 
 /// The limits of a run, and its number of workers.
@@ -65,5 +66,17 @@ impl Settings {
             w0: 1_048_576,
             workers: 4,
         }
+    }
+}
+
+/// Returns the header of a trace for a run with these settings.
+pub fn header_of(settings: Settings) -> Header
+    ensures budget { result.budget ≡ settings.budget }
+    ensures w0 { result.w0 ≡ settings.w0 }
+    ensures workers { result.workers ≡ settings.workers }
+{
+    match Header::new(settings.budget, settings.w0, settings.workers as u32) {
+        Some(header) => header,
+        None => unreachable!(),
     }
 }

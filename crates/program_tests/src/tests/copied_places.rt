@@ -77,3 +77,31 @@ fn places_of_split_blocks_are_copied(rt: HostRuntime) {
         compare(&rt, alloc, "copied", said, want);
     }
 }
+
+/// Carves out both halves of a block, one after the other, and pastes them back in that order.
+/// Returns the number of places that were copied after each of the four calls.
+fn copied_by_halves(rt: &impl Abort, alloc: Global) -> String {
+    let mut own = all(rt, alloc);
+    let low = windows(rt, alloc, &[(0, 0, 128)]);
+    let high = windows(rt, alloc, &[(0, 128, 128)]);
+    let first = own.carve(alloc, &low).expect(rt, "owned places");
+    let low_carved = own.copied();
+    let second = own.carve(alloc, &high).expect(rt, "owned places");
+    let high_carved = own.copied();
+    let is_back = own.paste(alloc, first).is_ok();
+    assert!(rt; is_back, "places that aren't owned here");
+    let low_pasted = own.copied();
+    let is_back = own.paste(alloc, second).is_ok();
+    assert!(rt; is_back, "places that aren't owned here");
+    let high_pasted = own.copied();
+    format!(in alloc; "{low_carved} {high_carved} {low_pasted} {high_pasted}").expect(rt, "memory")
+}
+
+/// The second half is all that is left, so it moves. On the way back the first half moves, and the
+/// second one is copied.
+#[test]
+fn each_half_of_a_block_is_copied_once(rt: HostRuntime) {
+    let alloc = rt.alloc();
+    let said = copied_by_halves(&rt, alloc);
+    compare(&rt, alloc, "copied", said, "128 128 128 256");
+}

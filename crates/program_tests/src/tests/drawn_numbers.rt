@@ -38,7 +38,9 @@ fn closed(rt: &impl Abort, alloc: Global, tickets: Tickets, seats: Seats) -> u64
     let (left, right) = seats;
     let (a, b) = left;
     let (c, d) = right;
-    tickets.close(vec![in alloc; a, b, c, d].expect(rt, "memory"))
+    tickets
+        .close(vec![in alloc; a, b, c, d].expect(rt, "memory"))
+        .number()
 }
 
 /// Returns what three seats draw in turn: the second twice, the first, the third, and the second

@@ -77,7 +77,6 @@ const PLAIN: &[(Plain, &str)] = &[
     (Plain::Trace(TraceError::NotALine(14)), "J1 line 14"),
     (Plain::Trace(TraceError::NoMemory), "J2"),
     (Plain::Illegal(7), "illegal at event 7"),
-    (Plain::StrangeEvents, "E5"),
     (Plain::ChoicesNotUnderstood, "choices not understood"),
     (Plain::NoLeaf(5), "no leaf at choice 5"),
     (Plain::NotLaidOut, "not formatted"),
@@ -93,7 +92,6 @@ enum Plain {
     NoMemoryInCheck,
     Trace(TraceError),
     Illegal(usize),
-    StrangeEvents,
     ChoicesNotUnderstood,
     NoLeaf(usize),
     NotLaidOut,
@@ -109,7 +107,6 @@ fn failure_of(failure: Plain) -> Failure {
         Plain::NoMemoryInCheck => Failure::NoMemoryInCheck,
         Plain::Trace(error) => Failure::Trace(error),
         Plain::Illegal(event) => Failure::Illegal(event),
-        Plain::StrangeEvents => Failure::StrangeEvents,
         Plain::ChoicesNotUnderstood => Failure::ChoicesNotUnderstood,
         Plain::NoLeaf(choice) => Failure::NoLeaf(choice),
         Plain::NotLaidOut => Failure::NotLaidOut,
@@ -224,7 +221,8 @@ fn lines_of_runs(rt: HostRuntime) {
     let lost = RunError::Gather(GatherError::Lost(child.expect(&rt, "memory")));
     tells(&rt, alloc, &Failure::Run(RunError::OutOfMemory), "E1");
     tells(&rt, alloc, &Failure::Run(lost), "E3");
-    tells(&rt, alloc, &Failure::Run(RunError::Late), "E4");
+    tells(&rt, alloc, &Failure::Run(RunError::NotDue), "E4");
+    tells(&rt, alloc, &Failure::Run(RunError::Unlogged), "E5");
 }
 
 #[test]

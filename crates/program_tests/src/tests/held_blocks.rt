@@ -120,9 +120,11 @@ fn act(rt: &impl Abort, alloc: Global, step: Step, all: &mut Vec<Block>) -> Stri
             let own = all.get_mut(of).expect(rt, "a block");
             assert!(rt; from < to && to <= 256, "offsets of a block");
             assert!(rt; own.owns_all(from, to), "they are owned");
-            let cut = own.cut(alloc, from, to).expect(rt, "memory");
+            let mut copies = Block::Empty;
+            let cut = own.cut(alloc, &mut copies, from, to).expect(rt, "memory");
             let copied = cut.copied;
-            let part = own.carve(cut, from, to);
+            let moved = own.carve(cut, from, to);
+            let part = if copied == 0 { moved } else { copies };
             all.push(part).expect(rt, "memory");
             return format!(in alloc; "{copied}").expect(rt, "memory");
         }

@@ -8,7 +8,6 @@ use crate::tests::threads::{Holding, TWO_TASKS, Turns};
 use crate::tests::worlds::{HALVES, NESTED, STOPPING};
 use crate::tests::{FAULTS, TWO_ARRAYS, accepted, compare, one_thread_outcome, path};
 use events::event::Event;
-use logged_run::run::{header_of, run_logged};
 use race_checker::accepted::Accepted;
 use std::alloc::Global;
 use std::process::Abort;
@@ -22,7 +21,8 @@ use types::input::Input;
 use types::outcome::Outcome;
 use types::scope_id::ScopeId;
 use workers::gate::{Gate, NoGate};
-use workers::settings::Settings;
+use workers::run::run;
+use workers::settings::{Settings, header_of};
 
 /// A hundred tasks in one finish.
 const MANY: &str =
@@ -43,7 +43,7 @@ const ROWS: [(&str, Turns, Turns); 3] = [
 ];
 
 /// Returns the outcome and the log of a run.
-fn logged<'p>(
+pub fn logged<'p>(
     rt: &(impl Abort + Threads + Wait + Sync),
     alloc: Global,
     of: (&'p Accepted, &'p Input),
@@ -53,7 +53,10 @@ fn logged<'p>(
     requires { FitsArrays (code_of of.0.now.typed).arrays (lists_in of.1.now) }
 {
     let (program, input) = of;
-    run_logged(rt, alloc, program, input, settings, gate).expect(rt, "an outcome")
+    let log = Log::new(alloc, &header_of(settings), program, input).expect(rt, "memory");
+    let told = run(rt, alloc, program, input, settings, gate, Some(log));
+    let (finished, log) = told.expect(rt, "an outcome");
+    (finished.outcome, log.expect(rt, "the log"))
 }
 
 /// Returns settings with this number of workers.

@@ -1,5 +1,6 @@
 //! Numbers of runs: steps and span are the known ones, on any number of workers.
 
+use crate::tests::logged_runs::logged;
 use crate::tests::worlds::{HALVES, NESTED};
 use crate::tests::{FAULTS, accepted, compare};
 use interleave::job::WeightedJob;
@@ -14,7 +15,6 @@ use trace_numbers::text::summary_text;
 use types::budget::Budget;
 use types::input::Input;
 use workers::gate::NoGate;
-use workers::run::run_noted;
 use workers::settings::Settings;
 
 /// Doubles each element, half by half.
@@ -69,11 +69,8 @@ fn told(
     let program = accepted(rt, alloc, text);
     let input = Input::zeros(alloc, program.typed()).expect(rt, "memory");
     let settings = Settings::new(Budget::usual(), 64, 8, u64::from(workers)).expect(rt, "settings");
-    let (_, events) = run_noted(rt, alloc, &program, &input, settings, &NoGate).expect(
-        rt,
-        "an outcome",
-    );
-    let summary = summarize(alloc, &events).expect(rt, "memory");
+    let (_, log) = logged(rt, alloc, (&program, &input), settings, &NoGate);
+    let summary = summarize(alloc, log.events()).expect(rt, "memory");
     summary_text(alloc, &summary, workers).expect(rt, "memory")
 }
 
@@ -120,9 +117,8 @@ fn walks_come_to_one_work_and_one_span(rt: HostRuntime) {
     for text in ENDING {
         let program = accepted(&rt, alloc, text);
         let input = Input::zeros(alloc, program.typed()).expect(&rt, "memory");
-        let noted = run_noted(&rt, alloc, &program, &input, settings, &NoGate);
-        let (_, events) = noted.expect(&rt, "an outcome");
-        let want = summarize(alloc, &events).expect(&rt, "memory");
+        let (_, log) = logged(&rt, alloc, (&program, &input), settings, &NoGate);
+        let want = summarize(alloc, log.events()).expect(&rt, "memory");
         for seed in 0..50u32 {
             let told = walked(&rt, alloc, &program, budget, seed);
             assert!(rt; told.steps == want.steps, "work of {text}, walk {seed}");

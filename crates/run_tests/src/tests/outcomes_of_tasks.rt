@@ -113,8 +113,9 @@ fn tasks_on_threads_leave_what_one_thread_does(rt: HostRuntime) {
         }
         for (workers, w0) in [(1, 1), (2, 4_294_967_296), (8, 2)] {
             let settings = Settings::new(budget, 1_048_576, w0, workers).expect(&rt, "settings");
-            let outcome = run(&rt, alloc, &program, &input, settings, &NoGate);
-            let outcome = outcome.expect(&rt, "an outcome");
+            let told = run(&rt, alloc, &program, &input, settings, &NoGate, None);
+            let (finished, _) = told.expect(&rt, "an outcome");
+            let outcome = finished.outcome;
             compare(
                 &rt,
                 alloc,

@@ -2,6 +2,7 @@
 
 use crate::tests::{accepted, compare};
 use finish_scope::inner::{Inner, Scope};
+use finish_scope::late::{Late, Reason};
 use std::alloc::Global;
 use std::marker::Brand;
 use std::process::Abort;
@@ -59,14 +60,12 @@ impl Holding {
 }
 
 impl Gate for Holding {
+    type Note = Path;
+
     fn enter(&self, task: &Task<'_>) {
         if is_at(task.path(), self.held) && !waited_for(&self.has_left) {
             self.gave_up.store(true, Ordering::SeqCst);
         }
-    }
-
-    fn listens(&self) -> bool {
-        true
     }
 
     fn leave(&self, path: &Path) {
@@ -94,15 +93,13 @@ struct Counting {
 }
 
 impl Gate for Counting {
+    type Note = ();
+
     fn enter(&self, _task: &Task<'_>) {
         self.entered.fetch_add(1, Ordering::SeqCst);
     }
 
-    fn listens(&self) -> bool {
-        true
-    }
-
-    fn leave(&self, _path: &Path) {
+    fn leave(&self, _path: &()) {
         self.left.fetch_add(1, Ordering::SeqCst);
     }
 }
@@ -128,8 +125,8 @@ fn told(
 ) -> String {
     let program = accepted(rt, alloc, text);
     let input = Input::zeros(alloc, program.typed()).expect(rt, "memory");
-    let said = match run(rt, alloc, &program, &input, settings, gate) {
-        Ok(outcome) => format!(in alloc; "{outcome:?}"),
+    let said = match run(rt, alloc, &program, &input, settings, gate, None) {
+        Ok((finished, _)) => format!(in alloc; "{:?}", finished.outcome),
         Err(error) => format!(in alloc; "{}", error.code()),
     };
     said.expect(rt, "memory")
@@ -179,6 +176,29 @@ fn each_task_passes_the_gate_once(rt: HostRuntime) {
 }
 
 #[test]
+fn one_task_too_many_ends_a_run(rt: HostRuntime) {
+    let alloc = rt.alloc();
+    for workers in [1, 2, 8] {
+        let said = told(&rt, alloc, TWO_TASKS, settings(&rt, 2, 8, workers), &NoGate);
+        compare(&rt, alloc, "two of three tasks", said.as_str(), "E2");
+    }
+}
+
+#[test]
+fn tasks_are_counted(rt: HostRuntime) {
+    let alloc = rt.alloc();
+    let program = accepted(&rt, alloc, MANY_TASKS);
+    let input = Input::zeros(alloc, program.typed()).expect(&rt, "memory");
+    for workers in [1, 2, 8] {
+        let settings = settings(&rt, 65_536, 8, workers);
+        let told = run(&rt, alloc, &program, &input, settings, &NoGate, None);
+        let (finished, _) = told.expect(&rt, "an outcome");
+        let tasks = finished.tasks.number();
+        assert!(rt; tasks == 501, "{tasks} tasks");
+    }
+}
+
+#[test]
 fn a_scope_that_is_held_stops_no_other(rt: HostRuntime) {
     let alloc = rt.alloc();
     let has_passed = AtomicBool::new(false);
@@ -202,4 +222,23 @@ fn a_scope_that_is_held_stops_no_other(rt: HostRuntime) {
     assert!(rt; waited, "a run waited for a scope of another one");
     let want = "Ended { arrays: [], lines: [], faults: [] }";
     compare(&rt, alloc, "a run beside a held scope", said.as_str(), want);
+}
+
+#[test]
+fn a_scope_issues_nothing_for_more_than_is_out(rt: HostRuntime) {
+    let alloc = rt.alloc();
+    let (mut inner, weight) = Inner::<Brand>::open(alloc, 8);
+    let (_, more) = Inner::<Brand>::open(alloc, 9);
+    match inner.replenish(more) {
+        Ok(weight) => {
+            weight.forfeit();
+            assert!(rt; false, "a scope of weight 8 took a weight of 9");
+        }
+        Err(late) => {
+            let Late { reason, back } = late;
+            back.forfeit();
+            assert!(rt; reason == Reason::NotDue, "another reason");
+        }
+    }
+    weight.forfeit();
 }

@@ -17,7 +17,7 @@ returns-clause-state c =
     let old = c.args.thread.now in
     let told : Vec ℤ Global → List ℤ = λ v. v.items in
     let contents : contents_of c.in_ok-holdings.holdings ≡ contents_of old.store.holdings
-    = ap (λ (m : Map Held). numbers m) c.in_ok-holdings.ensures in
+    = ap (λ (m : Map Held). numbers m) c.in_ok-holdings.ensures.held in
     let lines : map told c.in_ok-lines.field-0.items ≡ map told old.lines.items
     = c.in_ok-lines.ensures ∙ ap (λ (ls : List (Vec ℤ Global)). map told ls) c.deref.ensures.value in
     let faults : map fault c.in_ok-faults.field-0.items ≡ map fault old.faults.items
@@ -35,4 +35,4 @@ returns-clause-state c =
     }
 
 pub returns-clause-owned : goal.returns-clause-owned
-returns-clause-owned c = ap owns c.in_ok-holdings.ensures
+returns-clause-owned c = ap owns c.in_ok-holdings.ensures.held

@@ -1,5 +1,5 @@
-use Rattle.std.proofs.Common.{All}
-use Rattle.std.specs.Vec.Iter.{into_iter_items}
+use Rattle.std.proofs.Common.{◌≡◌, ◌+◌, All, vec_len}
+use Rattle.std.specs.Vec.Iter.{into_iter_items, into_iter_len}
 use Rattle.workers.specs.Desks.{HasSeat, IsFresh}
 use Rattle.workers.proofs.opening.make_kits.Given as goal
 
@@ -8,4 +8,5 @@ abbrev pub invariant-loop-seat : goal.invariant-loop-seat
 invariant-loop-seat g l =
     (goal.iterator-loop-seat g).can_next l.seat-iterator × (goal.iterator-loop-seat g).is_finite l.seat-iterator
     × All (IsFresh l.tickets) (into_iter_items l.seat-iterator)
-    × All (λ k. HasSeat l.tickets k.desk) l.kits.items
+    × All (λ k. HasSeat l.tickets l.settings.tasks k.desk.seat) l.kits.items
+    × (vec_len l.kits + into_iter_len l.seat-iterator ≡ vec_len l.fn.seats)

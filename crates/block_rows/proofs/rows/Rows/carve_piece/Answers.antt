@@ -42,11 +42,12 @@ swap-requires-2 c =
 -- what became of the block
 carved : (c : Joined-swap)
     → HasCarved c.args.self.now.list.items c.swap.new.self.list.items (piece_of c.args.carving) c.swap-mine.result
-    c.carve-block.new.self c.carve-block.result
+    c.carve-block.new.self c.carve-block.result (c.args.carving.cut.copied ≡ 0)
 carved c =
     has_carved c.args.self.now.list.items c.swap-mine.new.self.list.items c.swap.new.self.list.items (piece_of c.args.carving)
     c.block_number-number.result c.offsets-from.result.0 c.offsets-from.result.1
-    c.swap-mine.result c.carve-block.new.self c.carve-block.result Empty c.block_number-number.ensures c.offsets-from.ensures.from
+    c.swap-mine.result c.carve-block.new.self c.carve-block.result Empty (c.args.carving.cut.copied ≡ 0)
+    c.block_number-number.ensures c.offsets-from.ensures.from
     c.offsets-from.ensures.to c.swap-mine.ensures.old c.swap-mine.ensures.new c.swap.ensures.new c.carve-block.ensures.taken
     c.carve-block.ensures.left c.carve-block.ensures.keeps
 
@@ -68,7 +69,7 @@ returns-then-not-moves c =
       taken = sym (ap (λ b. if b then taking (is_in w) (held_in c.args.self.now) (held_in c.args.others.now) else held_in c.args.others.now)
           (ne_eqb c.args.carving.cut.copied 0 c.if-not-moves.true));
       keeps = λ d clear n. carve_keeps own others new_own others c.args.carving m c.swap-mine.result c.carve-block.new.self
-          c.carve-block.result (its_mine (goal.at.returns-then-not-moves c).Joined-swap) h (λ i j some. some) (λ q e. refl) d clear n;
+          c.carve-block.result (c.args.carving.cut.copied ≡ 0) (its_mine (goal.at.returns-then-not-moves c).Joined-swap) h (λ i j some. some) (λ q e. refl) d clear n;
     }
 
 pub returns : goal.returns
@@ -86,10 +87,10 @@ returns c =
     let h = carved (goal.at.returns c).Joined-swap in
     record {
       left = held-left w c.swap-mine.result c.carve-block.new.self own new_own m.piece.block h.there h.back h.left;
-      taken = held-taken w c.swap-mine.result out own others new_others m.piece.block h.there rep h.taken (m.alone moves)
+      taken = held-taken w c.swap-mine.result out own others new_others m.piece.block h.there rep (h.taken c.if-not-moves.false) (m.alone moves)
           ∙ sym (ap (λ b. if b then taking (is_in w) (held_in c.args.self.now) (held_in c.args.others.now) else held_in c.args.others.now) moves);
       keeps = λ d clear n. carve_keeps own others new_own new_others c.args.carving m c.swap-mine.result c.carve-block.new.self out
-          (its_mine (goal.at.returns c).Joined-swap) h
+          (c.args.carving.cut.copied ≡ 0) (its_mine (goal.at.returns c).Joined-swap) h
           (λ i j some. replaced-some w.array (w.at / 256) out others new_others rep i j some)
           (λ q e. held-elsewhere w.array (w.at / 256) out others new_others rep q e) d clear n;
     }

@@ -1,13 +1,13 @@
-use Rattle.std.proofs.Common.{◌≤◌, List, arith, subst, sym, ap, ◌∙◌, map}
+use Rattle.std.proofs.Common.{◌≡◌, ◌≤◌, ◌+◌, List, arith, subst, sym, ap, ◌∙◌, map}
 use Rattle.std.proofs.lemmas.List.{take_all}
 use Rattle.std.specs.Prelude.{◌||◌}
 use Rattle.sections.specs.Covers.{is_in}
 use Rattle.sections.specs.Translation.{window as window_of}
 use Rattle.blocks.specs.Held.{Held, IsThere, Map, only, owned}
 use Rattle.block_rows.specs.Carvings.{copied_places}
-use Rattle.block_rows.specs.Copied.{LiesWithin, split_in}
+use Rattle.block_rows.specs.Copied.{LiesWithin, as_count, carve_copies, copied_from, split_in}
 use Rattle.block_rows.specs.Rows.{held_in}
-use Rattle.block_rows.proofs.CoverLemmas.{copies-split, cover-clear, split-more}
+use Rattle.block_rows.proofs.CoverLemmas.{copies-split, counts-cover, counts-window, cover-clear, split-more}
 use Rattle.block_rows.proofs.WindowLemmas.{has-take_more, there-item}
 use Rattle.block_rows.proofs.rows.Rows.cut_all.Goals as goal
 
@@ -30,6 +30,7 @@ loop-window-preserved c =
     let i = c.loop-window.window-index in
     let w = c.window-item.result in
     let lt = c.loop-window-test.true in
+    let first = held_in c.args.self.now in
     let is = c.window-item.is in (
       e.same ∙ inv.0,
       e.cut,
@@ -38,6 +39,8 @@ loop-window-preserved c =
       λ lengths within.
           let here = e.copied lengths (subst (LiesWithin lengths) (sym inv.0) within) in
           omega (arith, here, inv.4 lengths within, split-more lengths ws i w lt is),
+      counts-window (copied_from first) ws i w c.loop-window.carvings.copied c.cut_window.new.carvings.copied lt is inv.5
+          (e.counted ∙ ap (λ (m : Map Held). as_count (c.loop-window.carvings.copied + copied_from m (window_of w))) inv.0),
     )
 
 pub returns-clause-copied : goal.returns-clause-copied
@@ -47,3 +50,12 @@ returns-clause-copied c =
     let all = take_all c.loop-window.window-index ws c.loop-window-test.false in
     copies-split (held_in c.args.self.now) ws n c.requires.cover
     (λ lengths within. subst (λ (l : List _). n ≤ split_in lengths (map window_of l)) all (c.loop-window.invariant.4 lengths within))
+
+pub returns-clause-counted : goal.returns-clause-counted
+returns-clause-counted c =
+    let ws = c.args.windows.now in
+    let first = held_in c.args.self.now in
+    let n = c.loop-window.carvings.copied in
+    let all = take_all c.loop-window.window-index ws c.loop-window-test.false in
+    counts-cover first ws n c.requires.cover
+    (subst (λ (l : List _). as_count n ≡ as_count (carve_copies first (map window_of l))) all c.loop-window.invariant.5)

@@ -4,7 +4,7 @@ use Rattle.sections.specs.Place.{Place}
 use Rattle.sections.specs.Translation.{window as window_of}
 use Rattle.blocks.specs.Held.{only}
 use Rattle.block_rows.specs.Carvings.{IsCut, copied_places, cut_places}
-use Rattle.block_rows.specs.Copied.{LiesWithin, split_in}
+use Rattle.block_rows.specs.Copied.{LiesWithin, as_count, carve_copies, split_in}
 use Rattle.block_rows.specs.Rows.{held_in}
 use Rattle.block_rows.proofs.rows.Rows.cut_all.Given as goal
 
@@ -17,3 +17,4 @@ invariant-loop-window l =
     × ((q : Place) → has (map window_of (take l.window-index l.windows)) q ≡ cut_places l.carvings.list.items q)
     × ((lengths : ℕ → ℕ) → LiesWithin lengths (held_in l.initial.self)
     → l.carvings.copied ≤ split_in lengths (map window_of (take l.window-index l.windows)))
+    × (as_count l.carvings.copied ≡ as_count (carve_copies (held_in l.initial.self) (map window_of (take l.window-index l.windows))))

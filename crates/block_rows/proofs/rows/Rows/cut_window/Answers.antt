@@ -1,4 +1,4 @@
-use Rattle.std.proofs.Common.{◌<◌, ◌≤◌, ◌++◌, ◌∷◌, [], List, arith, subst, sym, refl, ap, ◌∙◌}
+use Rattle.std.proofs.Common.{◌≡◌, ◌<◌, ◌++◌, ◌∷◌, [], List, arith, subst, sym, refl, ap, ◌∙◌}
 use Rattle.sections.specs.Covers.{is_in}
 use Rattle.sections.specs.Place.{Window}
 use Rattle.sections.specs.Translation.{window as window_of}
@@ -8,7 +8,7 @@ use Rattle.block_rows.specs.Carvings.{IsPiece, IsWhole, copied_places, moves, pi
 use Rattle.block_rows.specs.Pieces.{piece, taking}
 use Rattle.block_rows.specs.Rows.{held_in}
 use Rattle.block_rows.specs.declared.carving.Carving.{Carving}
-use Rattle.block_rows.proofs.CutWindowLemmas.{CutPiece, CutSoFar, clear_of_copies, cut-begun, cut-costs, cut-on, cut-places_all, within_copies}
+use Rattle.block_rows.proofs.CutWindowLemmas.{CutPiece, CutSoFar, clear_of_copies, cut-begun, cut-costs, cut-counted, cut-on, cut-places_all, within_copies}
 use Rattle.block_rows.proofs.PieceLemmas.{piece_fits, piece_less}
 use Rattle.block_rows.proofs.PresenceLemmas.{there-behind, there-piece}
 use Rattle.block_rows.proofs.rows.Rows.cut_window.Goals as goal
@@ -62,13 +62,14 @@ pieces-preserved c =
       keeps = e.keeps;
       taken = e.taken ∙ ap (λ (m : Map Held). if moves carving then held_in c.pieces.others
           else taking (is_in (piece_of carving)) m (held_in c.pieces.others)) p.same;
-      most = subst (λ (v : Window). carving.cut.copied ≤ v.length) c.cut.ensures.first e.most;
       moved = λ whole. e.moved (subst (λ (m : Map Held). IsWhole m (piece_of carving)) (sym p.same)
           (subst (IsWhole first) (sym c.cut.ensures.first) whole));
+      counted = subst (λ (v : Window). (IsWhole first v → ⊥) → carving.cut.copied ≡ v.length) c.cut.ensures.first
+          (subst (λ (m : Map Held). (IsWhole m (piece_of carving) → ⊥) → carving.cut.copied ≡ (piece_of carving).length) p.same e.counted);
     } in
     let more = cut-on first w start.list.items start.copied c.pieces.self.list.items c.pieces.others.list.items c.cut_piece.new.self.list.items
     c.cut_piece.new.others.list.items c.pieces.carvings.list.items c.pieces.carvings.copied c.saturating_add-carvings.result rest carving p
-    c.pieces-test.true one (omega (arith, c.saturating_add-carvings.ensures)) in (
+    c.pieces-test.true one c.saturating_add-carvings.ensures in (
       subst (λ (l : List Carving). CutSoFar first w start.list.items start.copied c.cut_piece.new.self.list.items c.cut_piece.new.others.list.items
           l c.saturating_add-carvings.result (window_of c.cut.result.1)) (sym c.in_ok-push.ensures.items)
           (subst (CutSoFar first w start.list.items start.copied c.cut_piece.new.self.list.items c.cut_piece.new.others.list.items
@@ -102,3 +103,10 @@ returns-clause-copied c = λ lengths within.
     cut-costs (held_in c.args.self.now) (window_of c.args.window) start.list.items start.copied c.pieces.self.list.items
     c.pieces.others.list.items c.pieces.carvings.list.items c.pieces.carvings.copied (window_of c.pieces.rest) c.pieces.invariant.0
     lengths within
+
+pub returns-clause-counted : goal.returns-clause-counted
+returns-clause-counted c =
+    let start = c.args.carvings.now in
+    cut-counted (held_in c.args.self.now) (window_of c.args.window) start.list.items start.copied c.pieces.self.list.items
+    c.pieces.others.list.items c.pieces.carvings.list.items c.pieces.carvings.copied (window_of c.pieces.rest) c.pieces.invariant.0
+    (omega arith)

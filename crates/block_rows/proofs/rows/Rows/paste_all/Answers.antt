@@ -3,10 +3,11 @@ use Rattle.std.specs.Prelude.{nat_eq, if◌then◌else◌}
 use Rattle.sections.specs.Place.{Place}
 use Rattle.blocks.specs.Held.{Owned, first_of, owned_number}
 use Rattle.blocks.specs.declared.block.Block.{Block}
+use Rattle.block_rows.specs.Copied.{as_count, copied_into_array}
 use Rattle.block_rows.specs.Rooms.{HasRoom, HasRowRoom}
 use Rattle.block_rows.specs.Rows.{held_in, held_in_list, in_row}
 use Rattle.block_rows.specs.declared.row.Row.{Row}
-use Rattle.block_rows.proofs.PasteLemmas.{RowCosts, RowsSoFar, last-room, no-rows, pasted-rows, rows-begun, rows-cost, rows-on}
+use Rattle.block_rows.proofs.PasteLemmas.{RowCosts, RowsSoFar, last-room, no-rows, owned_in_row, pasted-rows, rows-begun, rows-cost, rows-counted, rows-on}
 use Rattle.block_rows.proofs.rows.Rows.paste_all.Goals as goal
 
 pub rows-init : goal.rows-init
@@ -35,8 +36,9 @@ rows-preserved c =
     (subst (λ m. (q : Place) → held_in_list new_own q ≡ (if nat_eq q.array m
     then first_of (option_map Owned (owned_number (in_row r q.index))) (held_in_list own q) else held_in_list own q)) at c.paste_row.ensures.pasted)
     (subst (λ m. RowCosts (held_in_list own) m r (λ q. nat_eq q.array m) k) at c.paste_row.ensures.copied)
+    (subst (λ m. as_count k ≡ as_count (copied_into_array (held_in_list own) (owned_in_row r) m)) at c.paste_row.ensures.counted)
     (subst (λ m. (i j : ℕ) (b : Block) → HasRoom own i j b → nat_eq i m ≡ false → HasRoom new_own i j b) at c.paste_row.ensures.keeps)
-    (omega (arith, c.saturating_add-copied.ensures))
+    c.saturating_add-copied.ensures
 
 pub returns-clause-pasted : goal.returns-clause-pasted
 returns-clause-pasted c =
@@ -46,4 +48,9 @@ returns-clause-pasted c =
 pub returns-clause-copied : goal.returns-clause-copied
 returns-clause-copied c =
     rows-cost (held_in c.args.self.now) c.rows.self.list.items c.args.others.list.items c.rows.copied
+    (no-rows _ _ _ c.rows.list.items _ c.rows.invariant (omega (arith, c.in_default.ensures.cases.0)))
+
+pub returns-clause-counted : goal.returns-clause-counted
+returns-clause-counted c =
+    rows-counted (held_in c.args.self.now) c.rows.self.list.items c.args.others.list.items c.rows.copied
     (no-rows _ _ _ c.rows.list.items _ c.rows.invariant (omega (arith, c.in_default.ensures.cases.0)))

@@ -18,7 +18,8 @@ use Rattle.blocks.proofs.BlockLemmas.{held_at-behind, owned_number-shared}
 use Rattle.block_rows.specs.Rooms.{HasRoom, TakesIn}
 use Rattle.block_rows.specs.Rows.{block_of, held_in_list, in_block}
 use Rattle.block_rows.specs.declared.row.Row.{Row}
-use Rattle.block_rows.proofs.CarvingLemmas.{at_most, held-there, replaced-here, replaced-twice, took_in}
+use Rattle.block_numbers.proofs.WalkLemmas.{how_many-none}
+use Rattle.block_rows.proofs.CarvingLemmas.{held-there, replaced-here, replaced-twice, took_in}
 use Rattle.block_rows.proofs.RoomLemmas.{room-elsewhere}
 use Rattle.block_rows.proofs.rows.Rows.paste_in.Goals as goal
 
@@ -61,11 +62,17 @@ within own a m mine theirs is all k some none = by_small (nat_lt k 256) refl
         all q here (λ n. some (sym (ap (held_at mine) offset) ∙ sym (held-there own a m mine q here is) ∙ n))
         (ap (owned_at theirs) offset ∙ none)
 
+-- and the other way round
+all_within : (own : List Row) (a m : ℕ) (mine theirs : Block) → block_of own a m ≡ Some mine → IsWithin (held_at mine) (owned_at theirs)
+    → (q : Place) → in_block a m q ≡ true → (held_in_list own q ≡ None → ⊥) → owned_at theirs (q.index % 256) ≡ None → ⊥
+all_within own a m mine theirs is all q here held none =
+    all (q.index % 256) (λ n. held (held-there own a m mine q here is ∙ n)) none
+
 pub returns-in-Empty : goal.returns-in-Empty
 returns-in-Empty c = record {
   pasted = nothing_pasted (held_in_list c.args.self.now.list.items) c.args.array c.args.number c.args.theirs (owns_none c.args.theirs c.in-Empty.is);
   moved = λ all. refl;
-  most = omega arith;
+  counted = λ never. sym (how_many-none (owned_at c.args.theirs) 256 (λ k lt. owns_none c.args.theirs c.in-Empty.is k));
   keeps = λ i j b h e. h;
 }
 
@@ -98,6 +105,6 @@ returns-in_default c =
     record {
       pasted = took_in a m mine s old new (owned_at theirs) is back c.paste-copied.ensures.pasted;
       moved = λ all. c.paste-copied.ensures.moved (within old a m mine theirs is all);
-      most = at_most _ _ _ c.paste-copied.ensures.moved c.paste-copied.ensures.counted;
+      counted = λ never. c.paste-copied.ensures.counted (λ all. never (all_within old a m mine theirs is all));
       keeps = λ i j b h e. room-elsewhere a m s old new back i j b e h;
     }

@@ -2,7 +2,7 @@ use Rattle.std.proofs.Common.{◌≡◌, ◌+◌, List, length, subst, sym, arit
 use Rattle.blocks.specs.declared.block.Block.{Block}
 use Rattle.block_rows.specs.Rooms.{HasRoom}
 use Rattle.block_rows.specs.Rows.{held_in}
-use Rattle.block_rows.proofs.PasteLemmas.{PasteSoFar, PastedIn, no-blocks, paste-begun, paste-on, paste-room, pasted-row, row-costs}
+use Rattle.block_rows.proofs.PasteLemmas.{PasteSoFar, PastedIn, no-blocks, paste-begun, paste-on, paste-room, pasted-row, row-costs, row-counted}
 use Rattle.block_rows.proofs.rows.Rows.paste_row.Goals as goal
 
 pub pasting-init : goal.pasting-init
@@ -34,12 +34,12 @@ pasting-preserved c =
     (record {
       pasted = c.paste_in.ensures.pasted;
       moved = c.paste_in.ensures.moved;
-      most = c.paste_in.ensures.most;
+      counted = c.paste_in.ensures.counted;
       keeps = c.paste_in.ensures.keeps;
     }) in
     paste-on first start own new_own c.args.array r xs b c.pasting.copied c.paste_in.result c.saturating_add-copied.result
     (subst (λ (l : List Block). PasteSoFar first start own c.args.array r l c.pasting.copied) c.in-Some.ensures.items c.pasting.invariant)
-    one (omega (arith, c.saturating_add-copied.ensures))
+    one c.saturating_add-copied.ensures
 
 pub returns-clause-pasted : goal.returns-clause-pasted
 returns-clause-pasted c =
@@ -49,6 +49,11 @@ returns-clause-pasted c =
 pub returns-clause-copied : goal.returns-clause-copied
 returns-clause-copied c =
     row-costs (held_in c.args.self.now) c.args.self.now.list.items c.pasting.self.list.items c.args.array c.args.row c.pasting.copied
+    (no-blocks _ _ _ _ _ c.pasting.blocks.items _ c.pasting.invariant (omega (arith, c.in_default.ensures.cases.0)))
+
+pub returns-clause-counted : goal.returns-clause-counted
+returns-clause-counted c =
+    row-counted (held_in c.args.self.now) c.args.self.now.list.items c.pasting.self.list.items c.args.array c.args.row c.pasting.copied
     (no-blocks _ _ _ _ _ c.pasting.blocks.items _ c.pasting.invariant (omega (arith, c.in_default.ensures.cases.0)))
 
 pub returns-clause-keeps : goal.returns-clause-keeps

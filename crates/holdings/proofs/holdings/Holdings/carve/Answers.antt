@@ -5,7 +5,7 @@ use Rattle.sections.specs.Translation.{window as window_of}
 use Rattle.blocks.specs.Held.{Held, Map, without}
 use Rattle.block_rows.specs.Carvings.{copied_places, cut_places, moved_places}
 use Rattle.block_rows.specs.Pieces.{taking}
-use Rattle.block_rows.proofs.CoverLemmas.{copies-from}
+use Rattle.block_rows.proofs.CoverLemmas.{copies-from, counts-from}
 use Rattle.block_rows.proofs.MapLemmas.{taken-only}
 use Rattle.block_rows.specs.Rows.{held_in}
 use Rattle.holdings.specs.Holdings.{held}
@@ -44,3 +44,11 @@ returns-clause-copied c =
     c.args.self.now.copied c.saturating_add-self.result
     (λ q. ap (λ ws. has (map window_of ws) q) c.deref.ensures.value ∙ c.in_ok-places.ensures.places q)
     c.in_ok-carvings.ensures.copied (omega (arith, c.saturating_add-self.ensures))
+
+pub returns-clause-counted : goal.returns-clause-counted
+returns-clause-counted c =
+    let cs = c.in_ok-carvings.carvings in
+    counts-from (held c.args.self.now) (has (map window_of c.deref.result.now)) (has (map window_of c.args.windows.now)) cs.copied
+    c.args.self.now.copied c.saturating_add-self.result
+    (λ q. ap (λ ws. has (map window_of ws) q) c.deref.ensures.value ∙ c.in_ok-places.ensures.places q)
+    c.in_ok-carvings.ensures.counted c.saturating_add-self.ensures

@@ -16,9 +16,9 @@ pub returns : goal.returns
 returns c =
     let old = c.args.self.now in
     let told : Vec ℤ Global → List ℤ = λ v. v.items in
-    let contents : contents_of c.in_ok-clone.field-0 ≡ contents_of old.holdings = ap (λ (m : Map Held). numbers m) c.in_ok-clone.ensures in
+    let contents : contents_of c.in_ok-clone.field-0 ≡ contents_of old.holdings = ap (λ (m : Map Held). numbers m) c.in_ok-clone.ensures.held in
     let own : owned_by c.in_ok-clone.field-0 ≡ owned_by old.holdings
-    = ap owns c.in_ok-clone.ensures in
+    = ap owns c.in_ok-clone.ensures.held in
     let lines : map told c.in_ok-lines.field-0.items ≡ map told old.lines.items
     = c.in_ok-lines.ensures ∙ ap (λ (ls : List (Vec ℤ Global)). map told ls) c.deref.ensures.value in
     let faults : map fault c.in_ok-faults.field-0.items ≡ map fault old.faults.items

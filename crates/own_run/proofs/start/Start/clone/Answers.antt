@@ -13,9 +13,9 @@ owns m q = is_some (owned m q)
 pub returns : goal.returns
 returns c =
     let old = c.args.self.now in
-    let contents : contents_of c.in_ok-clone.field-0 ≡ contents_of old.holdings = ap (λ (m : Map Held). numbers m) c.in_ok-clone.ensures in
+    let contents : contents_of c.in_ok-clone.field-0 ≡ contents_of old.holdings = ap (λ (m : Map Held). numbers m) c.in_ok-clone.ensures.held in
     let own : owned_by c.in_ok-clone.field-0 ≡ owned_by old.holdings
-    = ap owns c.in_ok-clone.ensures in
+    = ap owns c.in_ok-clone.ensures.held in
     λ t. record {
       body = codes old.body.now;
       environment = c.in_ok-copied.ensures t;

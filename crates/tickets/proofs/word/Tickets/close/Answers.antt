@@ -73,6 +73,6 @@ returns c x =
     let left : into_iter_items c.loop-seat.seat-iterator ≡ [] = nil_from_length _ (search rules) in
     let nothing : times x (drawn_by (into_iter_items c.loop-seat.seat-iterator)) ≡ 0 = ap (λ l. times x (drawn_by l)) left in
     let all : whole.me.0.seats ≡ table.key = omega (arith, was.4, none, c.requires.all) in
-    let drawn = closing table.key whole.id whole.me.0 _ _ all c.close_with-closed.ensures.values.2 c.word-drawn.result
-    c.word-drawn.ensures x in
+    let drawn = closing table.key whole.id whole.me.0 _ _ all c.close_with-closed.ensures.values.2 c.word-number.result
+    c.word-number.ensures x in
     omega (arith, was.5 x, nothing, drawn)

@@ -5,4 +5,4 @@ use Rattle.workers.proofs.floor.Floor.serve.Given as goal
 abbrev pub invariant-loop : goal.invariant-loop
 invariant-loop g l =
     (goal.iterator-loop g).can_next l.iterator' × (goal.iterator-loop g).is_finite l.iterator'
-    × HasSeat l.self.tickets l.desk
+    × HasSeat l.self.tickets l.self.settings.tasks l.desk.seat

@@ -1,0 +1,154 @@
+//! The kernels of bench/peers.sh by rayon: the result of a kernel, and the minimum of up to 20 times in nanoseconds.
+use std::time::Instant;
+
+fn tree<'s>(scope: &rayon::Scope<'s>, n: u32) {
+    if n > 1 {
+        scope.spawn(move |scope| tree(scope, n - 1));
+        tree(scope, n - 2);
+    }
+}
+
+fn leaf(n: i64) -> i64 {
+    if n < 2 { n } else { leaf(n - 1) + leaf(n - 2) }
+}
+
+fn fib(n: i64) -> i64 {
+    if n <= 16 {
+        return leaf(n);
+    }
+    let (one, other) = rayon::join(|| fib(n - 1), || fib(n - 2));
+    one + other
+}
+
+fn insertion(s: &mut [i64]) {
+    for i in 1..s.len() {
+        let (x, mut j) = (s[i], i);
+        while j > 0 && s[j - 1] > x {
+            s[j] = s[j - 1];
+            j -= 1;
+        }
+        s[j] = x;
+    }
+}
+
+fn sort(s: &mut [i64], t: &mut [i64]) {
+    if s.len() <= 32 {
+        return insertion(s);
+    }
+    let half = s.len() / 2;
+    let (l, r) = s.split_at_mut(half);
+    let (tl, tr) = t.split_at_mut(half);
+    rayon::join(|| sort(l, tl), || sort(r, tr));
+    let (mut i, mut j) = (0, half);
+    for to in t.iter_mut() {
+        if j == s.len() || i < half && s[i] <= s[j] {
+            *to = s[i];
+            i += 1;
+        } else {
+            *to = s[j];
+            j += 1;
+        }
+    }
+    s.copy_from_slice(t);
+}
+
+fn merge_sort() -> String {
+    let (mut a, mut scratch) = (vec![0; 262144], vec![0; 262144]);
+    let mut x: i64 = 1;
+    for it in a.iter_mut() {
+        x = (x * 1103515245 + 12345) % 2147483648;
+        *it = x;
+    }
+    sort(&mut a, &mut scratch);
+    let wrong = a.windows(2).filter(|it| it[0] > it[1]).count();
+    format!("{} {} {}\n", wrong, a[0], a[a.len() - 1])
+}
+
+fn product(a: &[i64], b: &[i64], c: &mut [i64], n: usize) {
+    let rows = c.len() / n;
+    if rows <= 1 {
+        for (j, to) in c.iter_mut().enumerate() {
+            *to = (0..n).map(|k| a[k] * b[k * n + j]).sum();
+        }
+        return;
+    }
+    let half = rows / 2 * n;
+    let (al, ar) = a.split_at(half);
+    let (cl, cr) = c.split_at_mut(half);
+    rayon::join(|| product(al, b, cl, n), || product(ar, b, cr, n));
+}
+
+fn matrix_product() -> String {
+    let n = 128;
+    let a: Vec<i64> = (0..n * n).map(|i| i as i64 % 7 - 3).collect();
+    let b: Vec<i64> = (0..n * n).map(|i| i as i64 % 5 - 2).collect();
+    let mut c = vec![0; n * n];
+    product(&a, &b, &mut c, n);
+    let sum = c.iter().fold(0, |sum, it| (sum * 31 + it) % 1000000007);
+    format!("{} {} {} {}\n", c[0], c[33], c[16383], sum)
+}
+
+fn fits(board: &[i64], row: usize, column: i64) -> bool {
+    (0..row).all(|i| {
+        let apart = (row - i) as i64;
+        board[i] != column && board[i] + apart != column && board[i] - apart != column
+    })
+}
+
+fn place(board: &mut [i64], row: usize, n: usize) -> i64 {
+    if row == n {
+        return 1;
+    }
+    let mut count = 0;
+    for column in 0..n as i64 {
+        if fits(board, row, column) {
+            board[row] = column;
+            count += place(board, row + 1, n);
+        }
+    }
+    count
+}
+
+fn starts(first: usize, length: usize, n: usize) -> i64 {
+    if length == 1 {
+        let mut board = vec![0; n];
+        board[0] = (first / n) as i64;
+        board[1] = (first % n) as i64;
+        return if fits(&board, 1, board[1]) { place(&mut board, 2, n) } else { 0 };
+    }
+    let half = length / 2;
+    let (one, other) = rayon::join(|| starts(first, half, n), || starts(first + half, length - half, n));
+    one + other
+}
+
+fn kernel(name: &str) -> String {
+    match name {
+        "tree" => {
+            rayon::scope(|scope| tree(scope, 24));
+            String::new()
+        }
+        "fib_tasks" => format!("{}\n", fib(30)),
+        "merge_sort" => merge_sort(),
+        "matrix_product" => matrix_product(),
+        "queens" => format!("{}\n", starts(0, 64, 8)),
+        _ => std::process::exit(2),
+    }
+}
+
+fn main() {
+    let words: Vec<String> = std::env::args().collect();
+    let workers = words[2].parse().unwrap();
+    let pool = rayon::ThreadPoolBuilder::new().num_threads(workers).build().unwrap();
+    let (mut best, mut all, mut turn) = (u128::MAX, 0, 0);
+    let mut result = String::new();
+    while turn < 20 && (turn < 3 || all < 2_000_000_000) {
+        let from = Instant::now();
+        result = pool.install(|| kernel(&words[1]));
+        let took = from.elapsed().as_nanos();
+        best = best.min(took);
+        all += took;
+        turn += 1;
+    }
+    print!("{result}");
+    println!("{best}");
+}

@@ -1,0 +1,160 @@
+-- What happened, for each reason why a run has no outcome.
+use Rattle.std.specs.Prelude.{ℕ, ◌≡◌, ◌≢◌, ◌<◌, ◌≤◌, ◌⊎◌, List, map, Option, Some, None, true}
+use Rattle.std.specs.Borrow.{Bor}
+use Rattle.std.specs.Global.{Global}
+use Rattle.types.specs.declared.budget.Budget.{Budget}
+use Rattle.types.specs.declared.input.Input.{Input}
+use Rattle.race_checker.specs.declared.accepted.Accepted.{Accepted}
+use Rattle.own_run.specs.Lists.{Each}
+use Rattle.own_run.specs.Translation.{task_result}
+use Rattle.own_run.specs.declared.result.TaskResult.{TaskResult as Made}
+use Rattle.gather.specs.Refusal.{IsCaseOf}
+use Rattle.gather.specs.RunErrors.{IsCause, IsRunCause}
+use Rattle.gather.specs.declared.error.GatherError.{GatherError}
+use Rattle.gather.specs.declared.job.Job.{Job}
+use Rattle.gather.specs.declared.run_error.RunError.{RunError}
+use Rattle.gather.specs.declared.run_error.RunError.TheVariants as In
+use Rattle.tickets.specs.Seats.{WasDrawn}
+use Rattle.tickets.specs.Shares.{times}
+use Rattle.task_machine.specs.Ends.{IsParked}
+use Rattle.task_machine.specs.Tasks.{IsResultOf}
+use Rattle.task_machine.specs.declared.finish.Parked.{Parked}
+use Rattle.finish_scope.specs.Scopes.{Standing, Cannot, IsEven, out_of}
+use Rattle.finish_scope.specs.declared.late.Reason.{Reason}
+use Rattle.finish_scope.specs.declared.late.Reason.TheVariants.{NotDue as L1, IssuedTooOften as L2}
+use Rattle.workers.specs.declared.error.Trouble.{Trouble}
+use Rattle.workers.specs.declared.error.Trouble.TheVariants.{OutOfMemory, RefusedPush, IssuedTooOften}
+use Rattle.workers.specs.declared.error.Trouble.TheVariants.{Gather, NotDue, NoOwner, NoScope}
+
+-- an owner of the run was parked, and results of the run's tasks don't settle with its own
+pub record DoesNotSettle (o : Option Job) (e : GatherError) : Type 0 where
+  pub owner : Parked
+  pub job : o ≡ Some owner.job
+  pub ends : IsParked owner
+  pub results : List Made
+  pub tasks : Each (IsResultOf owner.job) results
+  pub own_case : IsCaseOf (task_result owner.made) (map task_result results) e
+
+-- a scope whose weight was out issued no more, because it had issued w0 2^31 times
+pub record IsSpent : Type 0 where
+  pub scope : Standing
+  pub weight : ℕ
+  pub cannot : Cannot scope weight L2
+
+-- a scope was given more than was out, or a second owner
+pub record WasNotDue : Type 0 where
+  pub scope : Standing
+  pub weight : ℕ
+  pub late : (out_of scope < weight) ⊎ (scope.owner ≢ None)
+
+-- all weight of a scope was back, and nobody was parked there
+pub record HadNoOwner : Type 0 where
+  pub scope : Standing
+  pub even : IsEven scope
+  pub nobody : scope.owner ≡ None
+
+-- memory had run out for a result, or for the entry of a weight
+pub record WasMarked : Type 0 where
+  pub scope : Standing
+  pub marked : scope.marked ≡ true
+
+-- what happened, by the trouble that a worker had
+abbrev pub Happens : Option Job → Trouble → Type 0
+Happens o OutOfMemory = Unit {0}
+Happens o RefusedPush = Unit {0}
+Happens o IssuedTooOften = IsSpent
+Happens o (Gather e) = DoesNotSettle o e
+Happens o NotDue = WasNotDue
+Happens o NoOwner = HadNoOwner
+Happens o NoScope = Unit {0}
+
+-- what happened at a scope, by what a call under its lock answered
+abbrev pub HappensAtScope : Trouble → Type 0
+HappensAtScope OutOfMemory = WasMarked
+HappensAtScope RefusedPush = ⊥
+HappensAtScope IssuedTooOften = IsSpent
+HappensAtScope (Gather e) = ⊥
+HappensAtScope NotDue = WasNotDue
+HappensAtScope NoOwner = HadNoOwner
+HappensAtScope NoScope = ⊥
+
+-- what happened, by the error of a run
+abbrev pub Happened : Option Job → RunError → Type 0
+Happened o In.OutOfMemory = Unit {0}
+Happened o In.RefusedPush = Unit {0}
+Happened o In.RefusedThread = Unit {0}
+Happened o In.IssuedTooOften = IsSpent
+Happened o (In.TooManyTasks ticket) = Unit {0}
+Happened o (In.Gather e) = DoesNotSettle o e
+Happened o In.NotDue = WasNotDue
+Happened o In.NoOwner = HadNoOwner
+Happened o In.NoScope = Unit {0}
+Happened o In.NoReport = Unit {0}
+Happened o In.Unlogged = Unit {0}
+
+-- the ticket of E2 is among these draws
+abbrev pub HasDrawn : List ℕ → RunError → Type 0
+HasDrawn drawn In.OutOfMemory = Unit {0}
+HasDrawn drawn In.RefusedPush = Unit {0}
+HasDrawn drawn In.RefusedThread = Unit {0}
+HasDrawn drawn In.IssuedTooOften = Unit {0}
+HasDrawn drawn (In.TooManyTasks ticket) = 1 ≤ times ticket.number drawn
+HasDrawn drawn (In.Gather e) = Unit {0}
+HasDrawn drawn In.NotDue = Unit {0}
+HasDrawn drawn In.NoOwner = Unit {0}
+HasDrawn drawn In.NoScope = Unit {0}
+HasDrawn drawn In.NoReport = Unit {0}
+HasDrawn drawn In.Unlogged = Unit {0}
+
+-- the ticket of E2 is one of those that the seats of the workers drew
+abbrev pub HasTicket : (workers : ℕ) → RunError → Type 0
+HasTicket workers In.OutOfMemory = Unit {0}
+HasTicket workers In.RefusedPush = Unit {0}
+HasTicket workers In.RefusedThread = Unit {0}
+HasTicket workers In.IssuedTooOften = Unit {0}
+HasTicket workers (In.TooManyTasks ticket) = WasDrawn workers ticket
+HasTicket workers (In.Gather e) = Unit {0}
+HasTicket workers In.NotDue = Unit {0}
+HasTicket workers In.NoOwner = Unit {0}
+HasTicket workers In.NoScope = Unit {0}
+HasTicket workers In.NoReport = Unit {0}
+HasTicket workers In.Unlogged = Unit {0}
+
+-- why a run with so many workers, and at most so many tasks, has no outcome
+pub record IsReason (o : Option Job) (workers tasks : ℕ) (e : RunError) : Type 0 where
+  pub cause : IsCause tasks e
+  pub ticket : HasTicket workers e
+  pub happened : Happened o e
+
+-- the same of a run with a log, or without
+pub record IsRunReason (o : Option Job) (workers tasks : ℕ) (HasLog : Type 0) (e : RunError) : Type 0 where
+  pub cause : IsRunCause tasks HasLog e
+  pub ticket : HasTicket workers e
+  pub happened : Happened o e
+
+-- the error of a run whose log was lost, or hasn't ended
+pub record IsOfLog (e : RunError) : Type 0 where
+  pub cause : (tasks : ℕ) → IsRunCause tasks (Unit {0}) e
+  pub ticket : (workers : ℕ) → HasTicket workers e
+  pub happened : (o : Option Job) → Happened o e
+
+-- the error that a trouble becomes: its cause, no ticket, and what happened
+pub record Becomes (t : Trouble) (e : RunError) : Type 0 where
+  pub cause : (tasks : ℕ) → IsCause tasks e
+  pub undrawn : (drawn : List ℕ) → HasDrawn drawn e
+  pub ticket : (workers : ℕ) → HasTicket workers e
+  pub happened : (o : Option Job) → Happens o t → Happened o e
+
+-- the trouble of a worker to which a scope issued nothing
+abbrev pub trouble_of : Reason → Trouble
+trouble_of L1 = NotDue
+trouble_of L2 = IssuedTooOften
+
+-- the job of a run with these arguments
+abbrev pub job_of : Global → Bor Accepted → Bor Input → Budget → Job
+job_of alloc accepted input budget = record {
+  alloc = alloc;
+  accepted = accepted;
+  input = input;
+  budget = budget;
+}

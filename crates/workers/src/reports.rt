@@ -1,0 +1,164 @@
+//! The reports of all workers, put together.
+
+ghost use Rattle.std.specs.Prelude.{◌≡◌, ◌+◌, ◌≤◌, ◌⊎◌, All, IfErr, IfOk, Some, vec_len};
+ghost use Rattle.types.specs.Translation.{outcome as outcome_in};
+ghost use Rattle.gather.specs.Jobs.{outcome_of};
+ghost use Rattle.tickets.specs.Seats.{AreDrawn, seats_of};
+ghost use Rattle.workers.specs.Causes.{IsReason};
+ghost use Rattle.workers.specs.Desks.{TellTogether, Tells};
+
+use crate::error::RunError;
+use crate::kit::Report;
+use crate::settings::Settings;
+use finish_scope::running::Running;
+use gather::job::Job;
+use std::alloc::{AllocError, Global};
+use tickets::{Drawn, Seat, Tickets};
+use types::outcome::Outcome;
+
+/// A run that has an outcome.
+#[derive(Debug, Drop, PartialEq, Eq)]
+pub struct Finished {
+    pub outcome: Outcome,
+    /// The number of tasks that were started, including the root.
+    pub tasks: Drawn,
+}
+
+/// What workers reported, and their seats.
+#[derive(Drop)]
+pub struct Reports {
+    outcome: Option<Outcome>,
+    /// The error that ended the run, or the first of others.
+    error: Option<RunError>,
+    seats: Vec<Seat>,
+}
+
+/// Returns the outcome or the error that the workers reported, and closes their tickets.
+pub fn told<J: Running>(
+    job: Job<'_>,
+    settings: Settings,
+    tickets: Tickets,
+    reports: Vec<Report>,
+) -> Result<Finished, RunError>
+    requires each { All (Tells J.job tickets job settings.tasks) reports.items }
+    requires seats { vec_len reports ≡ seats_of tickets }
+    requires workers { seats_of tickets ≡ settings.workers }
+    ensures outcome { IfOk result (λ r. outcome_in r.outcome ≡ outcome_of job.entry) }
+    ensures drawn { IfOk result (λ r. AreDrawn settings.workers r.tasks.number) }
+    ensures tasks { IfOk result (λ r. r.tasks.number ≤ settings.tasks) }
+    ensures failed { IfErr result (IsReason J.job settings.workers settings.tasks) }
+{
+    let together = put_together::<J>(job, settings, &tickets, reports)?;
+    finish::<J>(job, settings, tickets, together)
+}
+
+/// Puts the reports together.
+fn put_together<J: Running>(
+    job: Job<'_>,
+    settings: Settings,
+    tickets: &Tickets,
+    reports: Vec<Report>,
+) -> Result<Reports, AllocError>
+    requires each { All (Tells J.job tickets.now job settings.tasks) reports.items }
+    ensures told { IfOk result (λ r. TellTogether J.job tickets.now job.entry settings.tasks
+        r.outcome r.error r.seats.items) }
+    ensures seats { IfOk result (λ r. vec_len r.seats ≡ vec_len reports) }
+{
+    let mut together = Reports {
+        outcome: None,
+        error: None,
+        seats: Vec::new(job.alloc),
+    };
+    for report in reports {
+        together = add::<J>(job, settings, tickets, together, report)?;
+    }
+    Ok(together)
+}
+
+/// Adds a report. Only contracts need the job, the settings and the tickets.
+fn add<J: Running>(
+    _job: Job<'_>,
+    _settings: Settings,
+    _tickets: &Tickets,
+    reports: Reports,
+    report: Report,
+) -> Result<Reports, AllocError>
+    requires so_far { TellTogether J.job _tickets.now _job _settings.tasks
+        reports.outcome reports.error reports.seats.items }
+    requires report { Tells J.job _tickets.now _job _settings.tasks report }
+    ensures told { IfOk result (λ r. TellTogether J.job _tickets.now _job.entry _settings.tasks
+        r.outcome r.error r.seats.items) }
+    ensures seats { IfOk result (λ r. vec_len r.seats ≡ vec_len reports.seats + 1) }
+{
+    let Report {
+        told,
+        is_first,
+        seat,
+    } = report;
+    let Reports {
+        outcome,
+        error,
+        mut seats,
+    } = reports;
+    seats.push(seat)?;
+    match told {
+        Ok(None) => Ok(Reports {
+            outcome,
+            error,
+            seats,
+        }),
+        Ok(Some(outcome)) => Ok(Reports {
+            outcome: Some(outcome),
+            error,
+            seats,
+        }),
+        Err(other) => Ok(Reports {
+            outcome,
+            error: Some(first_of(error, is_first, other)),
+            seats,
+        }),
+    }
+}
+
+/// Returns the error of a report if it ended the run, or there is no earlier one.
+fn first_of(error: Option<RunError>, is_first: bool, other: RunError) -> RunError
+    ensures { (result ≡ other) ⊎ (error ≡ Some result) }
+{
+    match error {
+        Some(error) => { if is_first { other } else { error } }
+        None => other,
+    }
+}
+
+/// Closes the tickets, and returns the outcome or the error. An error wins over an outcome, because
+/// only without one are all tickets below the maximum; no run is known that reports both. Only the
+/// contract needs the job and the settings.
+fn finish<J: Running>(
+    _job: Job<'_>,
+    _settings: Settings,
+    tickets: Tickets,
+    reports: Reports,
+) -> Result<Finished, RunError>
+    requires told { TellTogether J.job tickets _job _settings.tasks
+        reports.outcome reports.error reports.seats.items }
+    requires seats { vec_len reports.seats ≡ seats_of tickets }
+    requires workers { seats_of tickets ≡ _settings.workers }
+    ensures outcome { IfOk result (λ r. outcome_in r.outcome ≡ outcome_of _job.entry) }
+    ensures drawn { IfOk result (λ r. AreDrawn _settings.workers r.tasks.number) }
+    ensures tasks { IfOk result (λ r. r.tasks.number ≤ _settings.tasks) }
+    ensures failed { IfErr result (IsReason J.job _settings.workers _settings.tasks) }
+{
+    let Reports {
+        outcome,
+        error,
+        seats,
+    } = reports;
+    let tasks = tickets.close(seats);
+    match error {
+        Some(error) => Err(error),
+        None => match outcome {
+            Some(outcome) => Ok(Finished { outcome, tasks }),
+            None => Err(RunError::NoReport),
+        },
+    }
+}
