@@ -1,5 +1,5 @@
 -- Which events are legal, as the tables and the kinds of next actions show.
-use Rattle.std.proofs.Common.{◌≡◌, ℕ, ◌+◌, ◌-◌, ◌*◌, ◌/◌, ◌≤◌, ◌<◌, List, [], ◌∷◌, ◌++◌, Option, Some, None, refl, sym, ap, ◌∙◌, subst, arith}
+use Rattle.std.proofs.Common.{◌≡◌, ℕ, ◌+◌, ◌-◌, ◌*◌, ◌/◌, ◌≤◌, ◌<◌, length, List, [], ◌∷◌, ◌++◌, Option, Some, None, refl, sym, ap, ◌∙◌, subst, arith}
 use Rattle.std.proofs.lemmas.Bool.{and_parts, le-leb, lt-ltb, leb-true, ltb-true, eqb-true, ne_eqb, not-false}
 use Rattle.std.proofs.lemmas.Option.{none-some, same_Some}
 use Rattle.std.specs.Prelude.{Bool, true, false, ◌&&◌, not, nat_eq, nat_le, map}
@@ -78,8 +78,16 @@ end_of (i ∷ q) ToEnd a of e = of
 end_of [] ToEnd a of e = false_true e
 end_of q k a of e = false_true e
 
+-- the root's path has no turns
+pub root_is : (path : Path) → nat_eq path.turns.len 0 ≡ is_root path.turns.items
+root_is path = ap (λ n. nat_eq n 0) path.turns.ok.0 ∙ by_items path.turns.items
+  where
+    by_items : (q : List ℕ) → nat_eq (length q) 0 ≡ is_root q
+    by_items [] = refl
+    by_items (i ∷ q) = ne_eqb (length (i ∷ q)) 0 (λ e. absurd (omega (arith, e)))
+
 no_truth : {b : Bool} {A : Type 0} → b ≡ false → b ≡ true → A
-no_truth no yes = absurd (true_false (sym yes ∙ no))
+no_truth e is = absurd (true_false (sym is ∙ e))
 
 -- ---- a task in a hand
 module _ (r : rWorld) (ok : IsWeightedJob r.job) (w : World) (h : Shows r w) (path : Path) where
@@ -332,10 +340,10 @@ module _ (r : rWorld) (ok : IsWeightedJob r.job) (w : World) (h : Shows r w) (pa
     a : StandsAt r path
     a = stands_at r ok w h path n.task n.at
 
-    inner : Stake
+    abbrev inner : Stake
     inner = stake a.inner
 
-    outer : List Stake
+    abbrev outer : List Stake
     outer = map stake a.outer
 
     are : x.its.stakes ≡ inner ∷ outer
@@ -356,10 +364,10 @@ module _ (r : rWorld) (ok : IsWeightedJob r.job) (w : World) (h : Shows r w) (pa
     park_legal e =
         let is = finish_of path.turns.items kind its_next.action of_kind e in
         let weightless : Stake = record inner { weight = 0 } in
-        let to = λ (z : Scope). (record {
+        let to : Scope → World = λ z. record {
           live = put_task (record (did x.its (weightless ∷ outer)) { place = Parked }) w.live;
           scopes = put_scope (give_back inner.weight [] z) w.scopes;
-        }) in (
+        } in (
           to book.0,
           goes_in (by_park r.job.w0 does_so hands_so) EndFinish inner outer is are
               ∙ ap (λ o. and_then o (λ (z : Scope). only_if (owns x.its (scope_id a.inner.scope)) (Some (to z)))) book.1
@@ -377,10 +385,10 @@ module _ (r : rWorld) (ok : IsWeightedJob r.job) (w : World) (h : Shows r w) (pa
     end_legal e =
         let is = end_of path.turns.items kind its_next.action of_kind e in
         let handed = hands_so x.its.start x.its.receipts ∷ [] in
-        let to = λ (z : Scope). (record {
+        let to : Scope → World = λ z. record {
           live = without_task x.its.path w.live;
           scopes = put_scope (give_back inner.weight handed z) w.scopes;
-        }) in (
+        } in (
           to book.0,
           goes_in (by_end r.job.w0 does_so hands_so) EndTask inner outer is are
               ∙ ap (λ o. and_then o (λ (z : Scope). only_if (not (owns x.its (scope_id a.inner.scope))) (Some (to z)))) book.1

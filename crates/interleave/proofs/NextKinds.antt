@@ -1,6 +1,7 @@
 -- The next action of a task is of the kind that its frames show.
-use Rattle.std.proofs.Common.{◌≡◌, ℕ, zero, suc, List, [], ◌∷◌, ◌++◌, length, refl, sym, ap, ◌∙◌, subst, arith}
-use Rattle.std.specs.Prelude.{Bool, true, false, if◌then◌else◌, nat_eq}
+use Rattle.std.proofs.Common.{◌≡◌, ℕ, zero, suc, ◌<◌, Option, List, [], ◌∷◌, ◌++◌, length, take, refl, sym, ap, ◌∙◌, subst, arith}
+use Rattle.std.proofs.Math.Seq.{take-suc}
+use Rattle.std.specs.Prelude.{Bool, true, false, if◌then◌else◌, nat_eq, slice_index_or}
 use Rattle.std.proofs.lemmas.Bool.{eqb-true}
 use Rattle.std.proofs.lemmas.Option.{same_Some}
 use Rattle.facts.proofs.Truths.{false_true, true_false}
@@ -51,6 +52,11 @@ acts_inj e = cc e
 
 goes_inj : {g k : Flow} → Goes g ≡ Goes k → g ≡ k
 goes_inj e = cc e
+
+-- the first elements of a list, and the next one
+pub taken_last : {A : Type 0} (xs : List A) (x : A) (n m : ℕ) → n ≡ suc m → m < length xs → x ≡ slice_index_or xs m x
+    → take n xs ≡ take m xs ++ x ∷ []
+taken_last xs x n m next le is = ap (λ k. take k xs) next ∙ take-suc xs m x le ∙ ap (λ y. take m xs ++ y ∷ []) (sym is)
 
 -- these are the actions that it does: one of this kind, or none
 abbrev ActsSo : (path : List ℕ) → First → List Action → Type 0
@@ -120,10 +126,10 @@ module _ (needs : Codes → Needs) (path : List ℕ) where
 
 -- ---- the frames that are left, after those that did nothing
 -- it is at frames, which did nothing so far
-pub record ComesTo (j : Job) (c : Course) (fs : List (Frame Own)) (g : Flow) (steps : ℕ) : Type 0 where
+pub record ComesTo (j : Job) (c : Course) (fs : List (Frame Own)) (now : Flow) (budget : ℕ) : Type 0 where
   pub state : State Own
-  pub flow : state.flow ≡ flow_of g
-  pub steps : g ≡ rOn → state.steps ≡ steps
+  pub flow : state.flow ≡ flow_of now
+  pub steps : now ≡ rOn → state.steps ≡ budget
   pub come : HasCome j c (record { frames = fs; state = state })
 
 module _ (j : Job) (ok : IsJob j) (c : Course) where

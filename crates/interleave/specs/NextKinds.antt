@@ -56,12 +56,12 @@ pub record StepsInHand (j : Job) (k : Task) : Type 0 where
   pub next : IsNextKind j k.doing ToStep
 
 -- a task has reached these frames, the last one on top, with this flow and, if it is on, this number of steps
-pub record IsLeft (j : Job) (c : Course) (frames : List rFrame) (g : Flow) (steps : ℕ) : Type 0 where
+pub record IsLeft (j : Job) (c : Course) (frames : List rFrame) (now : Flow) (budget : ℕ) : Type 0 where
   pub left : List (Frame Own)
   pub state : State Own
   pub stacked : Stacked frames left
-  pub flow : state.flow ≡ flow_of g
-  pub steps : g ≡ On → state.steps ≡ steps
+  pub flow : state.flow ≡ flow_of now
+  pub steps : now ≡ On → state.steps ≡ budget
   pub come : HasCome j c (record { frames = left; state = state })
 
 -- ---- tests

@@ -100,7 +100,7 @@ impl<'p> Doing<'p> {
     /// Returns the kind of the next action.
     pub fn next_kind(&self, job: Job<'p>) -> NextKind
         requires { IsJob job }
-        ensures { IsNextKind job self.now result }
+        ensures { IsNextKind job.entry self.now result }
     {
         match self {
             Doing::Starts(start) => {
