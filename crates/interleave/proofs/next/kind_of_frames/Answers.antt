@@ -25,6 +25,7 @@ frames-preserved c =
 
 pub returns : goal.returns
 returns c = λ j d ok is h.
-    let none = c.frames-test.false in
+    let all = c.frames-test.false in
+    let none : c.frames.left ≡ 0 = omega (arith, all) in
     ends_now j ok d (take c.frames.left c.args.frames.now) c.frames.flow c.args.steps
-    (ap (λ n. take n c.args.frames.now) (omega (arith, none))) (c.frames.invariant.1 j d ok is h)
+    (ap (λ n. take n c.args.frames.now) none) (c.frames.invariant.1 j d ok is h)
