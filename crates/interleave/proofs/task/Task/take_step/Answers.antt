@@ -28,7 +28,7 @@ returns-clause-stepped c =
 
 pub returns-in_err-take_step-clause-memory : goal.returns-in_err-take_step-clause-memory
 returns-in_err-take_step-clause-memory c =
-    if_err_then c.from_residual-in_err-take_step.result c.from_residual-in_err-take_step.ensures.1
+    if_err_then c.from_residual.result c.from_residual.ensures.1
     (λ e same is. record {
       worker = c.in-Some._worker;
       hand = sym c.hand.ensures ∙ c.in-Some.is;

@@ -39,7 +39,7 @@ returns-in_default-clause-memory c =
 
 pub returns-in_err-look_ahead-clause-memory : goal.returns-in_err-look_ahead-clause-memory
 returns-in_err-look_ahead-clause-memory c =
-    err_any c.from_residual-in_err-look_ahead.result (λ x is. OnTrue_at c.if-not-is_legal.false c.is_legal.ensures.legal)
+    err_any c.from_residual.result (λ x is. OnTrue_at c.if-not-is_legal.false c.is_legal.ensures.legal)
 
 pub returns-clause-memory : goal.returns-clause-memory
 returns-clause-memory c =

@@ -40,7 +40,7 @@ returns-clause-resumed c =
 
 pub returns-in_err-leave-clause-memory : goal.returns-in_err-leave-clause-memory
 returns-in_err-leave-clause-memory c =
-    err_any c.from_residual-in_err-leave.result
+    err_any c.from_residual.result
     (λ x is. resume_legal c.args.self.now c.args.path.now c.args.worker c.if-not-may_leave.ensures.may
     (sym c.contains.ensures ∙ c.if-contains.false))
 
