@@ -16,11 +16,11 @@ frames-preserved c =
     let most = c.frames.invariant.0 in (
       omega (arith, most),
       λ j d ok is h.
-      let some = c.frames-test.true in
-      let at = c.in-Some.ensures.lookup in
-      let parts = taken_last c.args.frames.now c.in-Some.top.now c.frames.left (c.frames.left - 1) (omega (arith, some)) at.3.0 at.1 in
-      left_below j ok d _ _ c.in-Some.top.now parts c.frames.flow c.args.steps (c.frames.invariant.1 j d ok is h) c.in-Goes.next
-      (λ f shown. sym c.in-Goes.is ∙ c.first_of.ensures f shown ∙ ap (λ n. top_does n c.args.steps c.frames.flow f) is),
+          let some = c.frames-test.true in
+          let at = c.in-Some.ensures.lookup in
+          let parts = taken_last c.args.frames.now c.in-Some.top.now c.frames.left (c.frames.left - 1) (omega (arith, some)) at.3.0 at.1 in
+          left_below j ok d _ _ c.in-Some.top.now parts c.frames.flow c.args.steps (c.frames.invariant.1 j d ok is h) c.in-Goes.next
+          (λ f shown. sym c.in-Goes.is ∙ c.first_of.ensures f shown ∙ ap (λ n. top_does n c.args.steps c.frames.flow f) is),
     )
 
 pub returns : goal.returns
