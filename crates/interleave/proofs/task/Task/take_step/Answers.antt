@@ -32,5 +32,5 @@ returns-in_err-take_step-clause-memory c =
     (λ e same is. record {
       worker = c.in-Some._worker;
       hand = sym c.hand.ensures ∙ c.in-Some.is;
-      next = subst (λ d. IsNextKind c.args.job d ToStep) (sym c.in-Runs.is) (c.in_err-take_step.ensures.memory (same ∙ is));
+      next = subst (λ d. IsNextKind c.args.job d ToStep) (sym c.in-Runs.is) (c.in_err-take_step.ensures.memory (sym same ∙ is));
     })

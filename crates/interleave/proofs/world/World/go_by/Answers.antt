@@ -1,8 +1,10 @@
-use Rattle.std.proofs.Common.{subst, sym}
+use Rattle.std.proofs.Common.{◌≡◌, subst, sym}
 use Rattle.std.proofs.lemmas.Result.{on_ok_weaker, IfErr-weaker}
-use Rattle.std.specs.Prelude.{OnOk}
+use Rattle.std.specs.Prelude.{IfErr, OnOk}
 use Rattle.interleave.specs.Replaying.{event}
-use Rattle.interleave.specs.Shown.{Becomes}
+
+use Rattle.interleave.specs.declared.error.EventError.TheVariants.{NoMemory}
+use Rattle.interleave.specs.Shown.{Becomes, IsLegal}
 use Rattle.std.proofs.lemmas.Bool.{OnFalse_at, OnTrue_at}
 use Rattle.interleave.proofs.Judging.{err_any}
 use Rattle.interleave.proofs.LookingAhead.{becomes_then, illegal_by, illegal_then, still_world}
@@ -33,9 +35,15 @@ returns-clause-refused c =
     (λ x r is. illegal_then c.args.self.now c.look_ahead.new.self (event c.args.event.now) c.in_ok-look_ahead.ensures.stays
     (illegal_by c.look_ahead.new.self c.change-2.new.self (event c.args.event.now) x r is)) c.change-2.ensures.refused
 
-pub returns-in_default-clause-memory : goal.returns-in_default-clause-memory
-returns-in_default-clause-memory c =
-    err_any c.change.result (λ x is. OnTrue_at c.if-not-is_legal.false c.is_legal.ensures.legal)
+pub returns-in-Step-clause-memory : goal.returns-in-Step-clause-memory
+returns-in-Step-clause-memory c =
+    subst (λ e. IfErr c.step_ahead.result (λ x. x ≡ NoMemory → IsLegal c.args.self.now (event e))) (sym c.in-Step.is)
+    c.step_ahead.ensures.memory
+
+pub returns-in-Resume-clause-memory : goal.returns-in-Resume-clause-memory
+returns-in-Resume-clause-memory c =
+    subst (λ e. IfErr c.go_on_behind.result (λ x. x ≡ NoMemory → IsLegal c.args.self.now (event e))) (sym c.in-Resume.is)
+    c.go_on_behind.ensures.memory
 
 pub returns-in_err-look_ahead-clause-memory : goal.returns-in_err-look_ahead-clause-memory
 returns-in_err-look_ahead-clause-memory c =
