@@ -137,7 +137,7 @@ none_passed true f = refl
 none_passed false f = refl
 
 module _ (r : rWorld) (w : World) (h : Shows r w) (path : Path) (worker : ℕ) where
-  abbrev leave_with : Live → List Stake → Option World
+  abbrev pub leave_with : Live → List Stake → Option World
   leave_with t ss = by_resume r.job.w0 (does_in r.job) (gives_in r.job) worker t w ss
 
   -- the test of the innermost scope

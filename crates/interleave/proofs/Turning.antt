@@ -61,10 +61,10 @@ IsShown j c n (EndsFinish q made) = IsDoing j c (AtFinish q made)
 IsShown j c n (Ended made) = IsDoing j c (rAtEnd made)
 
 module _ (j : Job) (ok : IsJob j) where
-  abbrev p : Program
+  abbrev pub p : Program
   p = program_of j
 
-  abbrev At : List (Frame Own) → State Own → Standing Own
+  abbrev pub At : List (Frame Own) → State Own → Standing Own
   At fs st = record { frames = fs; state = st }
 
   -- in each configuration, a task is its own run
@@ -77,14 +77,14 @@ module _ (j : Job) (ok : IsJob j) where
       (budget_of j).nest ok.fits) h).task
 
   -- the configuration after a turn
-  abbrev next_of : Start → Frame Own → List (Frame Own) → State Own → Standing Own
+  abbrev pub next_of : Start → Frame Own → List (Frame Own) → State Own → Standing Own
   next_of s f fs st = turn p (own_rules (needs_of p) s.nest (in_truth p (needs_of p) (budget_of j).steps)) f fs st
 
   abbrev root_start : Start
   root_start = root p (lists_of j) (budget_of j)
 
   -- its next action is the action of its turn
-  next_is : (c : Course) (f : Frame Own) (fs : List (Frame Own)) (st : State Own) (a : Action)
+  pub next_is : (c : Course) (f : Frame Own) (fs : List (Frame Own)) (st : State Own) (a : Action)
       → HasCome j c (At (f ∷ fs) st) → done_in (needs_of p) c.start.nest f st ≡ a ∷ [] → IsNext j c a
   next_is c f fs st a h e =
       let task = its_task c.start (At (f ∷ fs) st) h.stands in
@@ -92,7 +92,7 @@ module _ (j : Job) (ok : IsJob j) where
       ∙ next_is_done p (needs_of p) (budget_of j).steps root_start c.start c.receipts f fs st a task.fine task.below h.follows e
 
   -- at the end of a finish
-  ends_finish : (c : Course) (before : State Own) (fs : List (Frame Own)) (st : State Own)
+  pub ends_finish : (c : Course) (before : State Own) (fs : List (Frame Own)) (st : State Own)
       → HasCome j c (At (AtEnd before ∷ fs) st) → IsNext j c EndFinish
   ends_finish c before fs st h =
       let task = its_task c.start (At (AtEnd before ∷ fs) st) h.stands in
@@ -100,7 +100,7 @@ module _ (j : Job) (ok : IsJob j) where
       ∙ next_is_end p (needs_of p) (budget_of j).steps root_start c.start c.receipts before fs st task.awake h.follows
 
   -- at its own end
-  ends_last : (c : Course) (st : State Own) → HasCome j c (At [] st) → IsNext j c (last_action c.start.path)
+  pub ends_last : (c : Course) (st : State Own) → HasCome j c (At [] st) → IsNext j c (last_action c.start.path)
   ends_last c st h =
       let task = its_task c.start (At [] st) h.stands in
       ap (λ n. next_action p (needs_of p) (budget_of j).steps c.receipts n c.start) (sym h.after)
@@ -108,7 +108,7 @@ module _ (j : Job) (ok : IsJob j) where
       ∙ ap (λ q. Some (last_action q)) task.path
 
   -- a turn with these actions
-  come_on : (c : Course) (done spawned opened : ℕ) (f : Frame Own) (fs : List (Frame Own)) (st : State Own) (xs : List Action)
+  pub come_on : (c : Course) (done spawned opened : ℕ) (f : Frame Own) (fs : List (Frame Own)) (st : State Own) (xs : List Action)
       → HasCome j c (At (f ∷ fs) st) → done_in (needs_of p) c.start.nest f st ≡ xs
       → done ≡ c.done + length xs → spawned ≡ c.spawned + length (begun_by xs)
       → opened + (next_of c.start f fs st).state.steps ≤ c.opened + st.steps
@@ -146,7 +146,7 @@ module _ (j : Job) (ok : IsJob j) where
       by_pay (inl none) = absurd (nil_cons (sym none ∙ e))
       by_pay (inr pays) = pays
 
-  pays_none : (c : Course) (f : Frame Own) (fs : List (Frame Own)) (st : State Own)
+  pub pays_none : (c : Course) (f : Frame Own) (fs : List (Frame Own)) (st : State Own)
       → (next_of c.start f fs st).state.steps ≤ st.steps
   pays_none c f fs st = (turn_pays p (needs_of p) c.start.nest (in_truth p (needs_of p) (budget_of j).steps) f fs st).0
 
@@ -329,18 +329,9 @@ module _ (j : Job) (ok : IsJob j) where
           ends_no_step (one_next c EndFinish Step (ends_finish c shown.0 fs st at_end) is))
           m.come
 
-  -- a task that has started is at its start
-  pub begins : (c : Course) (s : rStart) (r : Run) → IsFresh j c s → program r.plan.program.now ≡ p → r.thread.nest ≡ s.nest
-      → IsAt r (begun (budget_of j).steps (start s)) → IsRunOf j c r
-  begins c s r fresh is nest at = record {
-    program = is;
-    nest = nest ∙ ap (λ (x : Start). x.nest) fresh.is;
-    frames = (begun (budget_of j).steps (start s)).frames;
-    own = at.own;
-    shows = at.shows;
-    come = subst (λ (out : State Own). HasCome j c (record { frames = (begun (budget_of j).steps (start s)).frames; state = out }))
-        (sym at.is) (subst (λ (x : Start). HasCome j c (begun (budget_of j).steps x)) (sym fresh.is) here);
-  }
+  -- a task at its start
+  pub begins_here : (c : Course) (s : rStart) → IsFresh j c s → HasCome j c (begun (budget_of j).steps (start s))
+  begins_here c s fresh = subst (λ (x : Start). HasCome j c (begun (budget_of j).steps x)) (sym fresh.is) here
     where
       here : HasCome j c (begun (budget_of j).steps c.start)
       here = record {
@@ -351,6 +342,19 @@ module _ (j : Job) (ok : IsJob j) where
         children = sym fresh.spawned;
         few = let none = fresh.opened in omega (arith, none);
       }
+
+  -- a task that has started is at its start
+  pub begins : (c : Course) (s : rStart) (r : Run) → IsFresh j c s → program r.plan.program.now ≡ p → r.thread.nest ≡ s.nest
+      → IsAt r (begun (budget_of j).steps (start s)) → IsRunOf j c r
+  begins c s r fresh is nest at = record {
+    program = is;
+    nest = nest ∙ ap (λ (x : Start). x.nest) fresh.is;
+    frames = (begun (budget_of j).steps (start s)).frames;
+    own = at.own;
+    shows = at.shows;
+    come = subst (λ (out : State Own). HasCome j c (record { frames = (begun (budget_of j).steps (start s)).frames; state = out }))
+        (sym at.is) (begins_here c s fresh);
+  }
 
   -- a copy represents the same task
   pub fresh_copy : (c : Course) (s q : rStart) → start q ≡ start s → IsFresh j c s → IsFresh j c q

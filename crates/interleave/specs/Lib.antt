@@ -6,6 +6,7 @@ pub mod Events
 pub mod History
 pub mod Jobs
 pub mod Leaving
+pub mod NextKinds
 pub mod Replay
 pub mod Replaying
 pub mod Shown

@@ -145,6 +145,10 @@ abbrev pub Becomes : Event → (old new : rWorld) → Type 0
 Becomes e old new = (w : World) → Shows old w
     → (to : World) × (next_world old.job e w ≡ Some to) × Shows new to
 
+-- in each world that is represented, the event is legal
+abbrev pub IsLegal : rWorld → Event → Type 0
+IsLegal r e = (w : World) → Shows r w → (to : World) × (next_world r.job e w ≡ Some to)
+
 -- the same tables, possibly elsewhere in memory
 pub record WorldStays (old new : rWorld) : Type 0 where
   pub job : new.job ≡ old.job

@@ -12,7 +12,9 @@ ghost use Rattle.interleave.specs.Acting.{IsReady, IsSame, IsShare, IsShort, IsT
 ghost use Rattle.interleave.specs.Courses.{IsKnown, IsNotToStep, behind, begun_by};
 ghost use Rattle.interleave.specs.Events.{Opens as IsOpen, Replenish as IsReplenish};
 ghost use Rattle.interleave.specs.Events.{Spawns as IsSpawn, Steps as IsStep};
-ghost use Rattle.interleave.specs.Shown.{Becomes, IsTaskOf, IsWorld, Refuses, TaskStays, WorldStays};
+ghost use Rattle.interleave.specs.NextKinds.{StepsInHand};
+ghost use Rattle.interleave.specs.Shown.{Becomes, IsLegal, IsTaskOf, IsWorld, Refuses, TaskStays};
+ghost use Rattle.interleave.specs.Shown.{WorldStays};
 ghost use Rattle.types.specs.Translation.{is_path};
 ghost use Rattle.interleave.specs.Shown.{scope_id, stake, whereabouts};
 ghost use Rattle.interleave.specs.Walks.{IsIllegal};
@@ -38,7 +40,7 @@ use types::scope_id::ScopeId;
 
 impl<'p> World<'p> {
     /// Takes one step of a task, of a statement other than async and finish.
-    pub fn step(&mut self, path: &Path) -> Result<(), EventError>
+    pub(crate) fn step(&mut self, path: &Path) -> Result<(), EventError>
         requires { IsWorld self.old }
         ensures job { self.new.job ≡ self.old.job }
         ensures stepped { OnOk result (Becomes (IsStep path.now.turns.items) self.old self.new) }
@@ -53,7 +55,7 @@ impl<'p> World<'p> {
 
     /// Gives more weight to a task that is about to spawn another, if it has weight 1 in its
     /// innermost scope.
-    pub fn replenish(&mut self, path: &Path) -> Result<(), EventError>
+    pub(crate) fn replenish(&mut self, path: &Path) -> Result<(), EventError>
         requires { IsWorld self.old }
         ensures job { self.new.job ≡ self.old.job }
         ensures given { OnOk result (Becomes (IsReplenish path.now.turns.items) self.old self.new) }
@@ -69,7 +71,7 @@ impl<'p> World<'p> {
     }
 
     /// Spawns a task, which gets part of its parent's weight.
-    pub fn spawn(&mut self, path: &Path) -> Result<(), EventError>
+    pub(crate) fn spawn(&mut self, path: &Path) -> Result<(), EventError>
         requires { IsWorld self.old }
         ensures job { self.new.job ≡ self.old.job }
         ensures spawned { OnOk result (Becomes (IsSpawn path.now.turns.items) self.old self.new) }
@@ -87,7 +89,7 @@ impl<'p> World<'p> {
     }
 
     /// Starts a finish, whose scope issues its first weight to the task.
-    pub fn open(&mut self, path: &Path) -> Result<(), EventError>
+    pub(crate) fn open(&mut self, path: &Path) -> Result<(), EventError>
         requires { IsWorld self.old }
         ensures job { self.new.job ≡ self.old.job }
         ensures opened { OnOk result (Becomes (IsOpen path.now.turns.items) self.old self.new) }
@@ -147,9 +149,14 @@ impl<'p> World<'p> {
         ensures stepped { OnOk result (Becomes (IsStep path.now.turns.items) self.old self.new) }
         ensures refused { IfErr result (λ e. e ≡ Illegal
             → IsIllegal self.old (IsStep path.now.turns.items)) }
+        ensures memory { IfErr result (λ e. e ≡ NoMemory
+            → IsLegal self.old (IsStep path.now.turns.items)) }
     {
         if self.take_step(path)? {
             return Ok(());
+        }
+        if !self.may_step(path) {
+            return Err(EventError::Illegal);
         }
         self.look_ahead(path)?;
         self.step(path)
@@ -164,6 +171,8 @@ impl<'p> World<'p> {
             (λ did. SteppedIf did path.now.turns.items self.old self.new) }
         ensures refused { IfErr result (λ e. e ≡ Illegal
             → IsIllegal self.old (IsStep path.now.turns.items)) }
+        ensures memory { IfErr result (λ e. e ≡ NoMemory
+            → IsLegal self.old (IsStep path.now.turns.items)) }
     {
         match self.tasks.get_mut(path) {
             Some(task) => task.take_step(self.job.job),
@@ -286,6 +295,7 @@ impl<'p> Task<'p> {
         requires task { (t : Live) × IsTaskOf job self.old t }
         ensures stepped { IfOk result (λ did. TookStepIf did job.entry self.old self.new) }
         ensures refused { IfErr result (λ e. e ≡ Illegal → IsNotToStep job.entry self.old.doing) }
+        ensures memory { IfErr result (λ e. e ≡ NoMemory → StepsInHand job.entry self.old) }
     {
         let Some(_worker) = self.place.hand() else {
             return Ok(false);

@@ -4,9 +4,12 @@ ghost use Rattle.std.specs.Prelude.{◌≡◌, ◌⊎◌, IfErr, IfOk, MatchOpti
 ghost use Rattle.gather.specs.Jobs.{IsJob};
 ghost use Rattle.interleave.specs.Courses.{Course, IsDoing, IsKnown, IsLooked, IsNotToStep, IsRunOf};
 ghost use Rattle.interleave.specs.Courses.{behind, begun_by};
+ghost use Rattle.interleave.specs.NextKinds.{IsNextKind};
+ghost use Rattle.interleave.specs.declared.next.NextKind.TheVariants.{Step as ToStep};
 ghost use Rattle.interleave.specs.declared.error.EventError.TheVariants.{Illegal, NoMemory};
 
 use crate::error::EventError;
+use crate::next::kind_of_run;
 use gather::job::Job;
 use own_run::result::TaskResult;
 use own_run::run::Run;
@@ -141,7 +144,12 @@ pub(crate) fn take_step<'p>(job: Job<'p>, run: &mut Run<'p>) -> Result<(), Event
         (IsLooked job.entry (Doing.Runs run.old) (Doing.Steps run.new)) }
     ensures refused { IfErr result
         (λ e. e ≡ Illegal → IsNotToStep job.entry (Doing.Runs run.old)) }
+    ensures memory { IfErr result
+        (λ e. e ≡ NoMemory → IsNextKind job.entry (Doing.Runs run.old) ToStep) }
 {
+    if !kind_of_run(run).is_step() {
+        return Err(EventError::Illegal);
+    }
     'turns: loop {
         let steps = run.thread.steps;
         match run.step(job.accepted) {

@@ -12,7 +12,8 @@ ghost use Rattle.interleave.specs.Ending.{has_ended, is_waiting};
 ghost use Rattle.interleave.specs.Events.{Ends as IsEnd, Parks as IsPark, Resume as IsResume};
 ghost use Rattle.interleave.specs.Leaving.{HasLeft};
 ghost use Rattle.types.specs.Translation.{is_path};
-ghost use Rattle.interleave.specs.Shown.{Becomes, IsWorld, Refuses, ScopeStays, Shows, next_world};
+ghost use Rattle.interleave.specs.Shown.{Becomes, IsLegal, IsWorld, Refuses, ScopeStays, Shows};
+ghost use Rattle.interleave.specs.Shown.{next_world};
 ghost use Rattle.interleave.specs.Walks.{IsIllegal};
 ghost use Rattle.interleave.specs.World.{World as AnyWorld};
 ghost use Rattle.interleave.specs.declared.doing.Doing.TheVariants.{AtEnd as IsAtEnd};
@@ -34,7 +35,7 @@ use types::path::Path;
 impl<'p> World<'p> {
     /// Parks a task at the end of its innermost finish. The task gives back its weight there, and
     /// waits.
-    pub fn park(&mut self, path: &Path) -> Result<(), EventError>
+    pub(crate) fn park(&mut self, path: &Path) -> Result<(), EventError>
         requires { IsWorld self.old }
         ensures parked { OnOk result (Becomes (IsPark path.now.turns.items) self.old self.new) }
         ensures refused { IfErr result
@@ -52,7 +53,7 @@ impl<'p> World<'p> {
     }
 
     /// Ends a task, which gives back its weight and its result.
-    pub fn end(&mut self, path: &Path) -> Result<(), EventError>
+    pub(crate) fn end(&mut self, path: &Path) -> Result<(), EventError>
         requires { IsWorld self.old }
         ensures ended { OnOk result (Becomes (IsEnd path.now.turns.items) self.old self.new) }
         ensures refused { IfErr result (Refuses (IsEnd path.now.turns.items) self.old self.new) }
@@ -71,7 +72,7 @@ impl<'p> World<'p> {
 
     /// Takes a task that was parked at a passed scope. The task continues with the settled result
     /// of the finish.
-    pub fn resume(&mut self, worker: WorkerId, path: &Path) -> Result<(), EventError>
+    pub(crate) fn resume(&mut self, worker: WorkerId, path: &Path) -> Result<(), EventError>
         requires { IsWorld self.old }
         ensures resumed { OnOk result
             (Becomes (IsResume worker path.now.turns.items) self.old self.new) }
@@ -102,6 +103,8 @@ impl<'p> World<'p> {
             (Becomes (IsResume worker path.now.turns.items) self.old self.new) }
         ensures refused { IfErr result (λ e. e ≡ Illegal
             → IsIllegal self.old (IsResume worker path.now.turns.items)) }
+        ensures memory { IfErr result (λ e. e ≡ NoMemory
+            → IsLegal self.old (IsResume worker path.now.turns.items)) }
         ensures job { OnOk result (self.new.job ≡ self.old.job) }
     {
         if self.hands.contains(&worker) {
@@ -258,7 +261,7 @@ impl<'p> World<'p> {
     }
 
     /// Returns whether a task is parked at a passed scope, and is in another scope around it.
-    fn may_leave(&self, path: &Path) -> bool
+    pub(crate) fn may_leave(&self, path: &Path) -> bool
         ensures may { OnTrue result (MayLeave self.now path.now) }
         ensures not { OnFalse result ((w : AnyWorld) (worker : _) → Shows self.now w
             → next_world self.now.job (IsResume worker path.now.turns.items) w ≡ None) }

@@ -3,9 +3,9 @@
 ghost use Rattle.std.specs.Prelude.{◌≡◌, IfErr, IfOk, OnOk};
 ghost use Rattle.interleave.specs.Jobs.{IsWeightedJob};
 ghost use Rattle.interleave.specs.Replaying.{IsRefused, IsReplayed, event as event_of};
-ghost use Rattle.interleave.specs.Shown.{Becomes, IsWorld, Refuses};
+ghost use Rattle.interleave.specs.Shown.{Becomes, IsLegal, IsWorld, Refuses};
 ghost use Rattle.interleave.specs.Walks.{IsIllegal};
-ghost use Rattle.interleave.specs.declared.error.EventError.TheVariants.{Illegal};
+ghost use Rattle.interleave.specs.declared.error.EventError.TheVariants.{Illegal, NoMemory};
 
 use crate::error::{EventError, ReplayError};
 use crate::job::WeightedJob;
@@ -16,6 +16,22 @@ use types::path::Path;
 impl<'p> World<'p> {
     /// Applies an event. After an error the world is unchanged.
     pub fn event(&mut self, event: &Event) -> Result<(), EventError>
+        requires { IsWorld self.old }
+        ensures legal { OnOk result (Becomes (event_of event.now) self.old self.new) }
+        ensures refused { IfErr result (Refuses (event_of event.now) self.old self.new) }
+        ensures memory { IfErr result
+            (λ e. e ≡ NoMemory → IsLegal self.old (event_of event.now)) }
+        ensures job { self.new.job ≡ self.old.job }
+    {
+        // It is judged before memory is taken.
+        if !self.is_legal(event) {
+            return Err(EventError::Illegal);
+        }
+        self.change(event)
+    }
+
+    /// Applies an event. It may need memory before it finds that the event isn't legal.
+    fn change(&mut self, event: &Event) -> Result<(), EventError>
         requires { IsWorld self.old }
         ensures legal { OnOk result (Becomes (event_of event.now) self.old self.new) }
         ensures refused { IfErr result (Refuses (event_of event.now) self.old self.new) }
@@ -42,6 +58,8 @@ impl<'p> World<'p> {
         ensures legal { OnOk result (Becomes (event_of event.now) self.old self.new) }
         ensures refused { IfErr result
             (λ e. e ≡ Illegal → IsIllegal self.old (event_of event.now)) }
+        ensures memory { IfErr result
+            (λ e. e ≡ NoMemory → IsLegal self.old (event_of event.now)) }
         ensures job { OnOk result (self.new.job ≡ self.old.job) }
     {
         if let Event::Step { path } = event {
@@ -50,11 +68,14 @@ impl<'p> World<'p> {
         if let Event::Resume { worker, path } = event {
             return self.go_on_behind(*worker, path);
         }
+        if !self.is_legal(event) {
+            return Err(EventError::Illegal);
+        }
         let Some(path) = actor(event) else {
-            return self.event(event);
+            return self.change(event);
         };
         self.look_ahead(path)?;
-        self.event(event)
+        self.change(event)
     }
 }
 

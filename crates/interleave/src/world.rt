@@ -79,7 +79,7 @@ impl<'p> World<'p> {
     }
 
     /// Moves a task from a worker's queue to the worker's hand.
-    pub fn take(&mut self, worker: WorkerId, path: &Path) -> Result<(), EventError>
+    pub(crate) fn take(&mut self, worker: WorkerId, path: &Path) -> Result<(), EventError>
         ensures taken { OnOk result
             (Becomes (IsTake worker path.now.turns.items) self.old self.new) }
         ensures refused { IfErr result
@@ -95,7 +95,12 @@ impl<'p> World<'p> {
     }
 
     /// Moves a task from another worker's queue to the queue of this worker.
-    pub fn steal(&mut self, worker: WorkerId, from: WorkerId, path: &Path) -> Result<(), EventError>
+    pub(crate) fn steal(
+        &mut self,
+        worker: WorkerId,
+        from: WorkerId,
+        path: &Path,
+    ) -> Result<(), EventError>
         ensures stolen { OnOk result
             (Becomes (IsSteal worker from path.now.turns.items) self.old self.new) }
         ensures refused { IfErr result
@@ -111,7 +116,7 @@ impl<'p> World<'p> {
 
     /// Passes a scope, because all its weight has come back. If it is the root's scope, the outcome
     /// is known from then on. What this scope keeps settles what the root has made.
-    pub fn pass(&mut self, scope: &ScopeId) -> Result<(), EventError>
+    pub(crate) fn pass(&mut self, scope: &ScopeId) -> Result<(), EventError>
         requires { scope_id scope.now ≡ the_root_scope → IsWorld self.old }
         ensures passed { OnOk result (Becomes (IsPass (scope_id scope.now)) self.old self.new) }
         ensures refused { IfErr result (Refuses (IsPass (scope_id scope.now)) self.old self.new) }
@@ -158,7 +163,7 @@ impl<'p> World<'p> {
     }
 
     /// Returns whether a live task is in this worker's queue.
-    fn is_in_queue(&self, path: &Path, worker: WorkerId) -> bool
+    pub(crate) fn is_in_queue(&self, path: &Path, worker: WorkerId) -> bool
         ensures there { OnTrue result ((k : AnyTask)
             × (get is_path self.now.tasks path.now ≡ Some k)
             × (in_queue (whereabouts k.place) worker ≡ true)) }
@@ -183,7 +188,7 @@ impl<'p> World<'p> {
     }
 
     /// Returns whether all weight of a scope has come back and it hasn't passed yet.
-    fn is_complete(&self, scope: &ScopeId) -> bool
+    pub(crate) fn is_complete(&self, scope: &ScopeId) -> bool
         ensures there { OnTrue result ((s : AnyScope)
             × (get is_scope self.now.scopes scope.now ≡ Some s)
             × ((not s.passed && nat_eq s.issued s.returned) ≡ true)) }

@@ -7,7 +7,7 @@ ghost use Rattle.types.specs.Translation.{input as lists_in};
 ghost use Rattle.types.specs.Typed.{code_of};
 ghost use Rattle.gather.specs.Jobs.{outcome_of};
 ghost use Rattle.interleave.specs.Replaying.{event as event_of};
-ghost use Rattle.interleave.specs.Shown.{Becomes};
+ghost use Rattle.interleave.specs.Shown.{Becomes, IsLegal};
 ghost use Rattle.interleave.specs.declared.error.EventError.TheVariants.{Illegal, NoMemory};
 ghost use Rattle.interleave.specs.Walks.{IsIllegal};
 ghost use Rattle.trace.specs.Logs.{IsClean, IsRefusedBy, LeadsToOutcome, Leaves, job_of};
@@ -24,7 +24,8 @@ use trace_text::header::Header;
 use types::input::Input;
 
 /// The events of a run, in the order in which they were recorded, and the world that they lead to.
-/// Whenever a lock around the log is free, the events are legal and lead to that world.
+/// By the type's invariant, the events of each log are legal and lead to its world. So whoever
+/// takes a log out of a lock has a clean one.
 #[derive(Drop)]
 pub struct Log<'p> {
     world: World<'p>,
@@ -101,8 +102,14 @@ impl<'p> Log<'p> {
         ensures recorded { OnOk result (self.new.events ≡ self.old.events ++ event ∷ []) }
         ensures moved { OnOk result (Becomes (event_of event) self.old.world self.new.world) }
         ensures refused { IfErr result (Leaves event self.old self.new) }
+        ensures memory { IfErr result
+            (λ e. e ≡ NoMemory → IsLegal self.old.world (event_of event)) }
         ensures job { self.new.world.job ≡ self.old.world.job }
     {
+        // It is judged before memory is taken.
+        if !self.world.is_legal(&event) {
+            return Err(EventError::Illegal);
+        }
         self.events.reserve(1)?;
         self.world.event(&event)?;
         // There is room for it.
@@ -117,6 +124,7 @@ impl<'p> Log<'p> {
         ensures moved { IfOk result (λ l. Becomes (event_of event) self.entry.world l.world) }
         ensures refused { IfErr result
             (λ e. e ≡ Illegal → IsIllegal self.entry.world (event_of event)) }
+        ensures memory { IfErr result (λ e. e ≡ NoMemory → IsLegal self.entry.world (event_of event)) }
         ensures job { IfOk result (λ l. l.world.job ≡ self.entry.world.job) }
     {
         let Log { world, events } = self;

@@ -10,6 +10,8 @@ use race_checker::accepted::Accepted;
 use std::alloc::Global;
 use std::process::Abort;
 use std::thread::Threads;
+use trace::log::Log;
+use trace_text::header::Header;
 use types::budget::Budget;
 use types::input::Input;
 use types::outcome::Outcome;
@@ -261,6 +263,38 @@ fn events_are_legal_or_the_first_that_is_not_is_told(rt: HostRuntime) {
     for row in ROWS {
         let (text, _, _, want) = *row;
         let told = told(&rt, alloc, *row);
+        compare(&rt, alloc, text, told.as_str(), want);
+    }
+}
+
+/// Records the events of a row one by one. Returns the error and its number, or `legal`.
+fn recorded(rt: &(impl Abort + Threads + Sync), alloc: Global, row: Row) -> String {
+    let (text, w0, pieces, _) = row;
+    let program = accepted(rt, alloc, text);
+    let input = Input::zeros(alloc, program.typed()).expect(rt, "memory");
+    let header = Header::new(Budget::usual(), w0, 64).expect(rt, "a header");
+    let mut log = Log::new(alloc, &header, &program, &input).expect(rt, "memory");
+    for event in events(rt, alloc, pieces) {
+        let number = log.events().len();
+        if let Err(error) = log.record(event) {
+            assert!(rt; log.events().len() == number, "{text} has another log");
+            return format!(in alloc; "{error:?}At({number})").expect(rt, "memory");
+        }
+    }
+    String::from_str(alloc, "legal").expect(rt, "memory")
+}
+
+#[test]
+fn a_log_rejects_the_same_events(rt: HostRuntime) {
+    let alloc = rt.alloc();
+    for row in ROWS {
+        let (text, _, _, want) = *row;
+        let want = if want.starts_with("IllegalAt") {
+            want
+        } else {
+            "legal"
+        };
+        let told = recorded(&rt, alloc, *row);
         compare(&rt, alloc, text, told.as_str(), want);
     }
 }

@@ -1,9 +1,11 @@
-use Rattle.std.proofs.Common.{arith, subst}
+use Rattle.std.proofs.Common.{◌∙◌, arith, subst, sym}
 use Rattle.effects.specs.Rounds.{needs_of}
 use Rattle.own_run.specs.RunTurns.{IsStep}
 use Rattle.own_run.specs.declared.turn.Step.{Step}
 use Rattle.own_run.proofs.GoingOn.{did}
 use Rattle.gather.specs.Jobs.{program_of}
+use Rattle.interleave.specs.NextKinds.{HasNext}
+use Rattle.interleave.proofs.NextKinds.{next_no_step, step_kind}
 use Rattle.interleave.proofs.Turning.{can_go, ends_not, enters_not, goes_again, goes_fewer, goes_over, shows_so, spawns_not}
 use Rattle.interleave.proofs.doing.take_step.Goals as goal
 
@@ -65,3 +67,13 @@ returns-in-Ok-AtEnd-clause-refused c = λ refused d m next.
     let stays = subst (λ (s : Step). IsStep (needs_of (program_of c.args.job)) c.turns.run s c.step.new.self) c.in-Ok-AtEnd.field-0-is
     c.in-Ok-AtEnd.ensures.step in
     ends_not c.args.job i.job d c.turns.run (i.same d m) stays.1 next
+
+pub returns-then-not-is_step-clause-refused : goal.returns-then-not-is_step-clause-refused
+returns-then-not-is_step-clause-refused c = λ refused d m.
+    next_no_step c.args.job d c.kind_of_run.result (sym c.is_step.ensures ∙ c.if-not-is_step.true)
+    (c.kind_of_run.ensures c.args.job d c.requires.job m)
+
+pub returns-in-Err-clause-memory : goal.returns-in-Err-clause-memory
+returns-in-Err-clause-memory c = λ is d m.
+    subst (HasNext c.args.job d) (step_kind c.kind_of_run.result (sym c.is_step.ensures ∙ c.if-not-is_step.false))
+    (c.kind_of_run.ensures c.args.job d c.requires.job m)

@@ -1,4 +1,7 @@
 use Rattle.std.proofs.Common.{◌∙◌, refl, subst, sym}
+use Rattle.facts.proofs.Results.{if_err_then}
+use Rattle.interleave.specs.NextKinds.{IsNextKind}
+use Rattle.interleave.specs.declared.next.NextKind.TheVariants.{Step as ToStep}
 use Rattle.interleave.specs.Courses.{IsDoing, IsLooked, course_of}
 use Rattle.interleave.specs.declared.doing.Doing.{Doing}
 use Rattle.interleave.specs.declared.doing.Doing.TheVariants.{Steps}
@@ -22,3 +25,12 @@ returns-clause-stepped c =
       looked = subst (λ (d : Doing). IsLooked c.args.job d (Steps c.take_step.new.run)) (sym c.in-Runs.is) c.in_ok-take_step.ensures.stepped;
       now = refl;
     }
+
+pub returns-in_err-take_step-clause-memory : goal.returns-in_err-take_step-clause-memory
+returns-in_err-take_step-clause-memory c =
+    if_err_then c.from_residual.result c.from_residual.ensures.1
+    (λ e same is. record {
+      worker = c.in-Some._worker;
+      hand = sym c.hand.ensures ∙ c.in-Some.is;
+      next = subst (λ d. IsNextKind c.args.job d ToStep) (sym c.in-Runs.is) (c.in_err-take_step.ensures.memory (sym same ∙ is));
+    })

@@ -1,42 +1,12 @@
-use Rattle.std.proofs.Common.{◌≡◌, subst, sym}
-use Rattle.std.specs.Prelude.{OnOk, Result}
-use Rattle.events.specs.declared.event.Event.{Event}
-use Rattle.interleave.specs.Replaying.{event}
-use Rattle.interleave.specs.Shown.{Becomes}
-use Rattle.interleave.specs.declared.world.World.{World}
+use Rattle.std.proofs.Common.{sym}
+use Rattle.std.proofs.lemmas.Bool.{OnFalse_at, OnTrue_at}
+use Rattle.std.proofs.lemmas.Result.{IfErr-weaker}
+use Rattle.interleave.proofs.Staying.{stays_self}
 use Rattle.interleave.proofs.world.World.event.Goals as goal
 
--- equal events have equal results
-module _ {T E : Type 0} (r : Result T E) (old new : World) where
-  as_it : {e other : Event} → e ≡ other → OnOk r (Becomes (event other) old new) → OnOk r (Becomes (event e) old new)
-  as_it is h = subst (λ e. OnOk r (Becomes (event e) old new)) (sym is) h
+pub returns-then-not-is_legal-clause-refused : goal.returns-then-not-is_legal-clause-refused
+returns-then-not-is_legal-clause-refused c = (stays_self c.args.self.now, OnFalse_at c.if-not-is_legal.true c.is_legal.ensures.illegal)
 
-pub returns-in-Take-clause-legal : goal.returns-in-Take-clause-legal
-returns-in-Take-clause-legal c = as_it c.take.result c.args.self.now c.take.new.self c.in-Take.is c.take.ensures.taken
-
-pub returns-in-Steal-clause-legal : goal.returns-in-Steal-clause-legal
-returns-in-Steal-clause-legal c = as_it c.steal.result c.args.self.now c.steal.new.self c.in-Steal.is c.steal.ensures.stolen
-
-pub returns-in-Step-clause-legal : goal.returns-in-Step-clause-legal
-returns-in-Step-clause-legal c = as_it c.step.result c.args.self.now c.step.new.self c.in-Step.is c.step.ensures.stepped
-
-pub returns-in-Replenish-clause-legal : goal.returns-in-Replenish-clause-legal
-returns-in-Replenish-clause-legal c = as_it c.replenish.result c.args.self.now c.replenish.new.self c.in-Replenish.is c.replenish.ensures.given
-
-pub returns-in-Spawn-clause-legal : goal.returns-in-Spawn-clause-legal
-returns-in-Spawn-clause-legal c = as_it c.spawn.result c.args.self.now c.spawn.new.self c.in-Spawn.is c.spawn.ensures.spawned
-
-pub returns-in-Open-clause-legal : goal.returns-in-Open-clause-legal
-returns-in-Open-clause-legal c = as_it c.open.result c.args.self.now c.open.new.self c.in-Open.is c.open.ensures.opened
-
-pub returns-in-Park-clause-legal : goal.returns-in-Park-clause-legal
-returns-in-Park-clause-legal c = as_it c.park.result c.args.self.now c.park.new.self c.in-Park.is c.park.ensures.parked
-
-pub returns-in-End-clause-legal : goal.returns-in-End-clause-legal
-returns-in-End-clause-legal c = as_it c.end.result c.args.self.now c.end.new.self c.in-End.is c.end.ensures.ended
-
-pub returns-in-Pass-clause-legal : goal.returns-in-Pass-clause-legal
-returns-in-Pass-clause-legal c = as_it c.pass.result c.args.self.now c.pass.new.self c.in-Pass.is c.pass.ensures.passed
-
-pub returns-in-Resume-clause-legal : goal.returns-in-Resume-clause-legal
-returns-in-Resume-clause-legal c = as_it c.resume.result c.args.self.now c.resume.new.self c.in-Resume.is c.resume.ensures.resumed
+pub returns-clause-memory : goal.returns-clause-memory
+returns-clause-memory c =
+    IfErr-weaker c.change.result _ _ (λ x r is. OnTrue_at c.if-not-is_legal.false c.is_legal.ensures.legal) c.change.ensures.refused

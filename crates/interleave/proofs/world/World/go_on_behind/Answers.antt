@@ -5,6 +5,7 @@ use Rattle.interleave.specs.Events.{Resume}
 use Rattle.interleave.specs.Shown.{Becomes}
 use Rattle.interleave.specs.declared.world.World.{World as rWorld}
 use Rattle.interleave.proofs.Behind.{may_go, results_of, resumed}
+use Rattle.interleave.proofs.Judging.{err_any, resume_legal}
 use Rattle.interleave.proofs.world.World.go_on_behind.Goals as goal
 
 pub returns-then-not-may_leave-clause-refused : goal.returns-then-not-may_leave-clause-refused
@@ -36,3 +37,15 @@ returns-clause-resumed c =
     (record { to = left.task.to; fits = left.task.fits; each = left.task.each }) last
     (λ v. c.in_ok-insert.ensures.updates.0 v
     ∙ ap (λ (r : rWorld). if nat_eq c.args.worker v then true else contains nat_eq r.hands v) others))
+
+pub returns-in_err-leave-clause-memory : goal.returns-in_err-leave-clause-memory
+returns-in_err-leave-clause-memory c =
+    err_any c.from_residual.result
+    (λ x is. resume_legal c.args.self.now c.args.path.now c.args.worker c.if-not-may_leave.ensures.may
+    (sym c.contains.ensures ∙ c.if-contains.false))
+
+pub returns-in_err-insert-clause-memory : goal.returns-in_err-insert-clause-memory
+returns-in_err-insert-clause-memory c =
+    err_any c.from_residual-in_err-insert.result
+    (λ x is. resume_legal c.args.self.now c.args.path.now c.args.worker c.if-not-may_leave.ensures.may
+    (sym c.contains.ensures ∙ c.if-contains.false))

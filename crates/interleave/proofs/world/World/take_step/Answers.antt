@@ -4,6 +4,7 @@ use Rattle.std.specs.Prelude.{is_some}
 use Rattle.interleave.specs.declared.task.Task.{Task as rTask}
 use Rattle.interleave.specs.declared.world.World.{World as rWorld}
 use Rattle.interleave.proofs.InPlace.{no_step, stepped_if}
+use Rattle.interleave.proofs.Judging.{step_in_place}
 use Rattle.interleave.proofs.Tables.{task_there}
 use Rattle.interleave.proofs.world.World.take_step.Goals as goal
 
@@ -28,3 +29,9 @@ returns-in-Some-clause-refused c =
     IfErr-weaker c.take_step.result _ _
     (λ e not is. no_step r c.args.path.now c.in-Some.task.now (sym c.in-Some.ensures.value) (not is))
     c.take_step.ensures.refused
+
+pub returns-in-Some-clause-memory : goal.returns-in-Some-clause-memory
+returns-in-Some-clause-memory c =
+    IfErr-weaker c.take_step.result _ _
+    (λ e steps is. step_in_place c.args.self.now c.requires.job c.args.path.now c.in-Some.task.now (sym c.in-Some.ensures.value) (steps is))
+    c.take_step.ensures.memory

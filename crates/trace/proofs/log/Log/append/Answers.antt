@@ -2,10 +2,11 @@ use Rattle.std.proofs.Common.{◌≡◌, List, sym, subst}
 use Rattle.facts.proofs.Results.{err_passed}
 use Rattle.events.specs.declared.event.Event.{Event}
 use Rattle.interleave.specs.Replaying.{event as event_of}
-use Rattle.interleave.specs.Shown.{Becomes}
+use Rattle.interleave.specs.Shown.{Becomes, IsLegal}
 use Rattle.interleave.specs.Walks.{IsIllegal}
 use Rattle.interleave.specs.declared.error.EventError.{EventError}
-use Rattle.interleave.specs.declared.error.EventError.TheVariants.{Illegal}
+use Rattle.interleave.specs.declared.error.EventError.TheVariants.{Illegal, NoMemory}
+use Rattle.interleave.proofs.Judging.{err_any}
 use Rattle.trace.specs.Logs.{IsClean, Recorded}
 use Rattle.trace.proofs.LogLemmas.{clean_more, recorded}
 use Rattle.trace.proofs.log.Log.append.Goals as goal
@@ -28,3 +29,9 @@ pub returns-clause-moved : goal.returns-clause-moved
 returns-clause-moved c =
     subst (λ (l : Recorded). Becomes (event_of c.args.event) l.world c.go_by.new.self) c.self.view_is
     c.in_ok-go_by.ensures.legal
+
+pub returns-in_err-go_by-clause-memory : goal.returns-in_err-go_by-clause-memory
+returns-in_err-go_by-clause-memory c =
+    err_passed c.from_residual.result _ (λ (e : EventError). e ≡ NoMemory → IsLegal c.args.self.world (event_of c.args.event))
+    c.from_residual.ensures.1
+    (λ is. subst (λ (l : Recorded). IsLegal l.world (event_of c.args.event)) c.self.view_is (c.in_err-go_by.ensures.memory is))

@@ -1,7 +1,11 @@
-use Rattle.std.proofs.Common.{◌∷◌, ◌++◌, [], List, sym, ap, ◌∙◌, subst}
+use Rattle.std.proofs.Common.{◌∷◌, ◌++◌, [], List, refl, sym, ap, ◌∙◌, subst}
+use Rattle.std.proofs.lemmas.Bool.{OnFalse_at, OnTrue_at}
 use Rattle.events.specs.declared.event.Event.{Event}
 use Rattle.interleave.specs.Replaying.{event as event_of}
-use Rattle.interleave.specs.Shown.{Becomes}
+use Rattle.interleave.specs.Shown.{Becomes, IsLegal}
+use Rattle.interleave.specs.declared.error.EventError.TheVariants.{Illegal}
+use Rattle.interleave.proofs.Judging.{err_any}
+use Rattle.interleave.proofs.Staying.{stays_self}
 use Rattle.trace.specs.Logs.{IsClean, Leaves, Recorded}
 use Rattle.trace.proofs.LogLemmas.{clean_more, clean_still, recorded, stayed_by}
 use Rattle.trace.proofs.log.Log.record.Goals as goal
@@ -35,3 +39,21 @@ invariant_of-self-2 c =
 pub returns-clause-moved : goal.returns-clause-moved
 returns-clause-moved c =
     subst (λ (l : Recorded). Becomes (event_of c.args.event) l.world c.event.new.self) c.self.view_is c.in_ok-event.ensures.legal
+
+pub returns-then-not-is_legal-clause-refused : goal.returns-then-not-is_legal-clause-refused
+returns-then-not-is_legal-clause-refused c =
+    let old = c.self.inside in
+    subst (λ (l : Recorded). Leaves c.args.event l (recorded old.world old.events.items) Illegal) c.self.view_is
+    (record { events = refl; world = (stays_self old.world, OnFalse_at c.if-not-is_legal.true c.is_legal.ensures.illegal) })
+
+pub returns-in_err-reserve-clause-memory : goal.returns-in_err-reserve-clause-memory
+returns-in_err-reserve-clause-memory c =
+    err_any c.from_residual.result
+    (λ x is. subst (λ (l : Recorded). IsLegal l.world (event_of c.args.event)) c.self.view_is
+    (OnTrue_at c.if-not-is_legal.false c.is_legal.ensures.legal))
+
+pub returns-in_err-event-clause-memory : goal.returns-in_err-event-clause-memory
+returns-in_err-event-clause-memory c =
+    err_any c.from_residual-in_err-event.result
+    (λ x is. subst (λ (l : Recorded). IsLegal l.world (event_of c.args.event)) c.self.view_is
+    (OnTrue_at c.if-not-is_legal.false c.is_legal.ensures.legal))
