@@ -1,5 +1,6 @@
 #!/usr/bin/env python3
 """Compares what the commands say of programs that are changed at random. tests/fuzz.sh says how to call it."""
+import collections
 import json
 import os
 import pathlib
@@ -26,7 +27,7 @@ class Case:
     """One changed program, with its input, in the folder where the commands run."""
 
     def __init__(self, fast, number, rng):
-        self.fast, self.number, self.rng, self.said = fast, number, rng, []
+        self.fast, self.number, self.rng, self.said, self.kind = fast, number, rng, [], "rejected"
         self.name, text, given = rng.choice(SEEDS)
         self.text = changed_program(text, rng) if rng.random() < 0.9 else text
         self.given = given if given is None or rng.random() < 0.6 else changed_bytes(given, rng, INPUT_PIECES)
@@ -63,8 +64,10 @@ def try_case(case):
     try_format(case, checked)
     object_of(case, checked, "check", "case.afx", "--format", "json")
     if checked.status == 0:
+        case.kind = "accepted"
         try_accepted(case)
     elif checked.err.startswith(b"C1"):
+        case.kind = "with a race"
         case.same("the race of check and run", checked, case.run("run", "case.afx", *case.options))
         try_racy(case)
     else:
@@ -192,8 +195,8 @@ def words_of_call():
     return seconds, seed, first, last
 
 
-def try_one(fast, seed, number):
-    """One case. Returns whether something differs."""
+def try_one(fast, seed, number, tried):
+    """One case, whose kind and whose runs are counted. Returns whether something differs."""
     case = Case(fast, number, random.Random(f"{seed}:{number}"))
     try:
         try_case(case)
@@ -202,21 +205,25 @@ def try_one(fast, seed, number):
         print(f"seed {seed}, case {number} ({case.name}): {fault}; kept in {folder}; "
               f"sh tests/fuzz.sh 60 {seed} {number} {number}", flush=True)
         return True
+    finally:
+        tried[case.kind] += 1
+        tried["runs"] += len(case.said)
     return False
 
 
 def main():
     seconds, seed, first, last = words_of_call()
     program, end = built_program(), time.monotonic() + seconds
-    number, differ = first, 0
+    number, differ, tried = first, 0, collections.Counter()
     with tempfile.TemporaryDirectory() as room:
         os.chdir(room)
         fast = Fast(program, room)
         while time.monotonic() < end and (last is None or number <= last) and differ < 50:
-            differ += try_one(fast, seed, number)
+            differ += try_one(fast, seed, number, tried)
             number += 1
             clear()
         os.chdir(TOP)
+    print(", ".join(f"{tried[kind]} {kind}" for kind in ("accepted", "with a race", "rejected", "runs")))
     print(f"{number - first} cases, {differ} differ")
     return 1 if differ or number == first else 0
 
