@@ -51,6 +51,8 @@ pub fn block(alloc: Global, tokens: &[Spanned]) -> Result<(Vec<Stmt>, &[Spanned]
     statements(alloc, rest)
 }
 
+// The functions for single kinds of statements stay out of this function. Inside, they would add
+// their results to what each nested block keeps on the stack.
 #[cycle(stmt)]
 fn statement(alloc: Global, tokens: &[Spanned]) -> Result<(Stmt, &[Spanned]), Stuck>
     ensures shorter { IfOk result (λ read. length read.1.now < length tokens.now) }
@@ -78,6 +80,7 @@ fn statement(alloc: Global, tokens: &[Spanned]) -> Result<(Stmt, &[Spanned]), St
     }
 }
 
+#[inline(never)]
 #[cycle(stmt)]
 fn conditional(alloc: Global, tokens: &[Spanned]) -> Result<(Stmt, &[Spanned]), Stuck>
     ensures shorter { IfOk result (λ read. length read.1.now < length tokens.now) }
@@ -112,6 +115,7 @@ fn conditional(alloc: Global, tokens: &[Spanned]) -> Result<(Stmt, &[Spanned]), 
     }
 }
 
+#[inline(never)]
 #[cycle(stmt)]
 fn repeated(alloc: Global, tokens: &[Spanned]) -> Result<(Stmt, &[Spanned]), Stuck>
     ensures shorter { IfOk result (λ read. length read.1.now < length tokens.now) }
@@ -126,6 +130,7 @@ fn repeated(alloc: Global, tokens: &[Spanned]) -> Result<(Stmt, &[Spanned]), Stu
     Ok((Stmt::While { guard, body }, rest))
 }
 
+#[inline(never)]
 #[cycle(stmt)]
 fn split(alloc: Global, tokens: &[Spanned]) -> Result<(Stmt, &[Spanned]), Stuck>
     ensures shorter { IfOk result (λ read. length read.1.now < length tokens.now) }
@@ -156,6 +161,7 @@ fn split(alloc: Global, tokens: &[Spanned]) -> Result<(Stmt, &[Spanned]), Stuck>
 }
 
 /// Reads a statement without a block that starts with a word.
+#[inline(never)]
 fn simple(alloc: Global, tokens: &[Spanned]) -> Result<(Stmt, &[Spanned]), Stuck>
     ensures shorter { IfOk result (λ read. length read.1.now < length tokens.now) }
     ensures read { IfOk result (ReadsAs stmt stmt_then else_level (plain tokens.now)) }
@@ -233,6 +239,7 @@ fn printed(alloc: Global, tokens: &[Spanned]) -> Result<(Stmt, &[Spanned]), Stuc
 }
 
 /// Reads a statement that starts with a name.
+#[inline(never)]
 fn named(alloc: Global, tokens: &[Spanned]) -> Result<(Stmt, &[Spanned]), Stuck>
     ensures shorter { IfOk result (λ read. length read.1.now < length tokens.now) }
     ensures read { IfOk result (ReadsAs stmt stmt_then else_level (plain tokens.now)) }
