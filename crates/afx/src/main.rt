@@ -5,7 +5,7 @@
 use driver::act::{act, refuse_words};
 use driver::folders::MachineFolders;
 use driver::progress::Progress;
-use driver::terminal::Seen;
+use driver::terminal::WatchedTerminal;
 use std::env::VarError;
 use std::io::{BufWriter, IsTerminal, Stderr, Stdout};
 use std::process::ExitCode;
@@ -20,7 +20,7 @@ fn main(rt: HostRuntime) -> ExitCode {
             let mut files = MachineFolders::new(&rt);
             let seen = terminal(&rt);
             let colours = seen.is_some() && !refuses_colours(&rt);
-            let mut progress = Seen::new(Progress::new(alloc, &rt, seen), colours, &rt);
+            let mut progress = WatchedTerminal::new(Progress::new(alloc, &rt, seen), colours, &rt);
             act(
                 &rt,
                 alloc,

@@ -6,22 +6,22 @@ use Rattle.std.specs.Box.{box_value}
 use Rattle.std.specs.declared.alloc.Global.{Global}
 use Rattle.std.specs.declared.boxed.Box.{Box}
 use Rattle.std.specs.declared.sync.Arc.{Arc}
-use Rattle.block_numbers.specs.Counts.{how_many}
+use Rattle.blocks.specs.Counts.{how_many}
 use Rattle.std.specs.Prelude.{ℤ, pos, is_some, nat_le, nat_lt, option_map, unwrap_or, if◌then◌else◌}
-use Rattle.block_numbers.specs.Numbers.{number_in, row_from}
+use Rattle.blocks.specs.Numbers.{number_in, row_from}
 use Rattle.blocks.specs.Blocks.{held_as, held_at, kind_of, owned_at}
 use Rattle.blocks.specs.Held.{Held, Owned, Shared, first_of, number_of, owned_number}
-use Rattle.block_numbers.specs.Offsets.{Offsets, Agree, HasAll, IsWithin, in_range}
-use Rattle.block_numbers.specs.Numbers.{IsAsWide, ReachOver}
+use Rattle.blocks.specs.Offsets.{Offsets, Agree, HasAll, IsWithin, in_range}
+use Rattle.blocks.specs.Numbers.{IsAsWide, ReachOver}
 use Rattle.blocks.specs.Ready.{IsReady, room_at}
 use Rattle.blocks.specs.declared.block.Block.{Block}
 use Rattle.blocks.specs.declared.block.Block.TheVariants.{Empty, Mixed as InParts, Owned as AllOwned, Shared as AllShared}
 use Rattle.blocks.specs.declared.mixed.Mixed.{Mixed}
 use Rattle.blocks.specs.declared.cut.Cut.{Cut}
-use Rattle.block_numbers.specs.declared.numbers.Numbers.{Numbers}
-use Rattle.block_numbers.proofs.RowLemmas.{row_from-behind, row_from-in, row_from-there}
+use Rattle.blocks.specs.declared.numbers.Numbers.{Numbers}
+use Rattle.blocks.proofs.RowLemmas.{row_from-behind, row_from-in, row_from-there}
 use Rattle.blocks.proofs.KindLemmas.{held_row-none}
-use Rattle.block_numbers.proofs.WalkLemmas.{how_many-none, in_range-true, in_range-low, in_range-high}
+use Rattle.blocks.proofs.WalkLemmas.{how_many-none, in_range-true, in_range-low, in_range-high}
 
 -- ---- the result of a test
 

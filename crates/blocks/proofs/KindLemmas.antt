@@ -10,32 +10,32 @@ use Rattle.std.proofs.lemmas.List.{length-append, length-replicate, length-set}
 use Rattle.std.proofs.Math.ListN.{get_or-append}
 use Rattle.std.proofs.Math.Seq.{get_or-append_seam}
 use Rattle.std.specs.Prelude.{ℤ, pos, nat_eq, if◌then◌else◌}
-use Rattle.block_numbers.proofs.RowLemmas.{row_from-before, row_from-behind, row_from-cases, row_from-in, row_from-push, row_from-set, row_from-there}
-use Rattle.block_numbers.specs.Numbers.{row_from}
-use Rattle.block_numbers.specs.declared.kind.Kind.{Kind}
-use Rattle.block_numbers.specs.declared.kind.Kind.TheVariants.{Absent, Own, Copied}
+use Rattle.blocks.proofs.RowLemmas.{row_from-before, row_from-behind, row_from-cases, row_from-in, row_from-push, row_from-set, row_from-there}
+use Rattle.blocks.specs.Numbers.{row_from}
+use Rattle.blocks.specs.declared.kind.HeldAs.{HeldAs}
+use Rattle.blocks.specs.declared.kind.HeldAs.TheVariants.{Absent, Own, Copied}
 use Rattle.blocks.specs.Blocks.{held_as}
 use Rattle.blocks.specs.Held.{Held}
 
 -- what is held of a row whose elements have kinds of their own
-abbrev pub held_row : (first : ℕ) → List Kind → List ℤ → ℕ → Option Held
+abbrev pub held_row : (first : ℕ) → List HeldAs → List ℤ → ℕ → Option Held
 held_row first kinds xs k = held_as (get_or kinds (k - first) Absent) (row_from first xs k)
 
-held_as-none : (kind : Kind) → held_as kind None ≡ None
+held_as-none : (kind : HeldAs) → held_as kind None ≡ None
 held_as-none Absent = refl
 held_as-none Own = refl
 held_as-none Copied = refl
 
 -- nothing is held where there is no element
-pub held_row-none : (first : ℕ) (kinds : List Kind) (xs : List ℤ) (k : ℕ) → row_from first xs k ≡ None → held_row first kinds xs k ≡ None
+pub held_row-none : (first : ℕ) (kinds : List HeldAs) (xs : List ℤ) (k : ℕ) → row_from first xs k ≡ None → held_row first kinds xs k ≡ None
 held_row-none first kinds xs k e =
     ap (held_as (get_or kinds (k - first) Absent)) e ∙ held_as-none (get_or kinds (k - first) Absent)
 
-get_or-other : (kinds : List Kind) (i j : ℕ) (kind : Kind) → (j ≡ i → ⊥) → get_or (set kinds i kind) j Absent ≡ get_or kinds j Absent
+get_or-other : (kinds : List HeldAs) (i j : ℕ) (kind : HeldAs) → (j ≡ i → ⊥) → get_or (set kinds i kind) j Absent ≡ get_or kinds j Absent
 get_or-other kinds i j kind ne = get_or-set_other kinds i j kind Absent ne
 
 -- a kind written
-pub held_row-kind : (first : ℕ) (kinds : List Kind) (xs : List ℤ) (o : ℕ) (kind : Kind) → length kinds ≡ length xs
+pub held_row-kind : (first : ℕ) (kinds : List HeldAs) (xs : List ℤ) (o : ℕ) (kind : HeldAs) → length kinds ≡ length xs
     → first ≤ o → o < first + length xs → (k : ℕ)
     → held_row first (set kinds (o - first) kind) xs k ≡ (if nat_eq o k then held_as kind (row_from first xs k) else held_row first kinds xs k)
 held_row-kind first kinds xs o kind same low high k = by_eq (nat_eq o k) refl
@@ -54,7 +54,7 @@ held_row-kind first kinds xs o kind same low high k = by_eq (nat_eq o k) refl
         ]
 
 -- a number written, and its kind
-held_row-written : (first : ℕ) (kinds : List Kind) (xs : List ℤ) (o : ℕ) (kind : Kind) (v : ℤ)
+held_row-written : (first : ℕ) (kinds : List HeldAs) (xs : List ℤ) (o : ℕ) (kind : HeldAs) (v : ℤ)
     → length kinds ≡ length xs → first ≤ o → o < first + length xs → (k : ℕ)
     → held_row first (set kinds (o - first) kind) (set xs (o - first) v) k
     ≡ (if nat_eq o k then held_as kind (Some v) else held_row first kinds xs k)
@@ -73,7 +73,7 @@ held_row-written first kinds xs o kind v same low high k =
         (row_from-set first xs o v low high k ∙ ap (λ b. if b then Some v else row_from first xs k) e)
 
 -- a machine integer written, and its kind
-pub held_row-put : (first : ℕ) (kinds : List Kind) (xs : List ℤ) (o : ℕ) (kind : Kind) (v : ℤ)
+pub held_row-put : (first : ℕ) (kinds : List HeldAs) (xs : List ℤ) (o : ℕ) (kind : HeldAs) (v : ℤ)
     → length kinds ≡ length xs → (row_from first xs o ≡ None → ⊥) → FitsSigned w64 v → (k : ℕ)
     → held_row first (set kinds (o - first) kind) (set xs (o - first) (to_z w64 (of_z w64 v))) k
     ≡ (if nat_eq o k then held_as kind (Some v) else held_row first kinds xs k)
@@ -83,7 +83,7 @@ held_row-put first kinds xs o kind v same there fits k =
     ∙ held_row-written first kinds xs o kind v same w.0 w.1 k
 
 -- one more number and its kind
-pub held_row-push : (first : ℕ) (kinds : List Kind) (xs : List ℤ) (kind : Kind) (v : ℤ) (o : ℕ) → length kinds ≡ length xs
+pub held_row-push : (first : ℕ) (kinds : List HeldAs) (xs : List ℤ) (kind : HeldAs) (v : ℤ) (o : ℕ) → length kinds ≡ length xs
     → first + length xs ≡ o → (k : ℕ)
     → held_row first (kinds ++ kind ∷ []) (xs ++ v ∷ []) k ≡ (if nat_eq o k then held_as kind (Some v) else held_row first kinds xs k)
 held_row-push first kinds xs kind v o same at k =
@@ -106,7 +106,7 @@ held_row-push first kinds xs kind v o same at k =
         ]
 
 -- room for one more number
-pub held_row-room : (first : ℕ) (kinds : List Kind) (xs : List ℤ) (v : ℤ) → length kinds ≡ length xs → (k : ℕ)
+pub held_row-room : (first : ℕ) (kinds : List HeldAs) (xs : List ℤ) (v : ℤ) → length kinds ≡ length xs → (k : ℕ)
     → held_row first (kinds ++ Absent ∷ []) (xs ++ v ∷ []) k ≡ held_row first kinds xs k
 held_row-room first kinds xs v same k =
     held_row-push first kinds xs Absent v (first + length xs) same refl k ∙ by_eq (nat_eq (first + length xs) k) refl
@@ -118,7 +118,7 @@ held_row-room first kinds xs v same k =
         sym (held_row-none first kinds xs k (row_from-behind first xs k (omega (arith, is))))
 
 -- all numbers are of one kind
-pub held_row-alike : (first : ℕ) (kind : Kind) (xs : List ℤ) (k : ℕ)
+pub held_row-alike : (first : ℕ) (kind : HeldAs) (xs : List ℤ) (k : ℕ)
     → held_row first (replicate (length xs) kind) xs k ≡ held_as kind (row_from first xs k)
 held_row-alike first kind xs k = elim (row_from-cases first xs k (pos 0)) [
   | inl w ↦ ap (λ d. held_as d (row_from first xs k)) (get_or-replicate (length xs) (k - first) kind Absent (omega (arith, w.0, w.1)))
@@ -127,7 +127,7 @@ held_row-alike first kind xs k = elim (row_from-cases first xs k (pos 0)) [
 ]
 
 -- room before the first number
-pub held_row-front : (start count : ℕ) (zeros : List ℤ) (kinds : List Kind) (xs : List ℤ) → length zeros ≡ count
+pub held_row-front : (start count : ℕ) (zeros : List ℤ) (kinds : List HeldAs) (xs : List ℤ) → length zeros ≡ count
     → length kinds ≡ length xs → (k : ℕ)
     → held_row start (replicate count Absent ++ kinds) (zeros ++ xs) k ≡ held_row (start + count) kinds xs k
 held_row-front start count zeros kinds xs long same k = elim (row_from-cases (start + count) xs k (pos 0)) [

@@ -1,3 +1,5 @@
 pub mod AddingLemmas
 pub mod BlockLemmas
 pub mod KindLemmas
+pub mod RowLemmas
+pub mod WalkLemmas

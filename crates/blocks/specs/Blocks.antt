@@ -3,23 +3,23 @@ use Rattle.std.specs.Prelude.{◌-◌, get_or, ℤ, Option, Some, None, option_m
 use Rattle.std.specs.Arc.{arc_value}
 use Rattle.std.specs.Box.{box_value}
 use Rattle.blocks.specs.Held.{Held, Owned, Shared, owned_number, number_of}
-use Rattle.block_numbers.specs.Numbers.{number_in}
-use Rattle.block_numbers.specs.Offsets.{Offsets}
+use Rattle.blocks.specs.Numbers.{number_in}
+use Rattle.blocks.specs.Offsets.{Offsets}
 use Rattle.blocks.specs.declared.block.Block.{Block}
 use Rattle.blocks.specs.declared.block.Block.TheVariants.{Empty, Mixed as InParts}
 use Rattle.blocks.specs.declared.block.Block.TheVariants.{Owned as AllOwned, Shared as AllShared}
-use Rattle.block_numbers.specs.declared.kind.Kind.{Kind}
-use Rattle.block_numbers.specs.declared.kind.Kind.TheVariants.{Absent, Own, Copied}
+use Rattle.blocks.specs.declared.kind.HeldAs.{HeldAs}
+use Rattle.blocks.specs.declared.kind.HeldAs.TheVariants.{Absent, Own, Copied}
 use Rattle.blocks.specs.declared.mixed.Mixed.{Mixed}
 
 -- a number together with the kind in which it is held
-abbrev pub held_as : Kind → Option ℤ → Option Held
+abbrev pub held_as : HeldAs → Option ℤ → Option Held
 held_as Absent v = None
 held_as Own v = option_map Owned v
 held_as Copied v = option_map Shared v
 
 -- how an offset is held
-abbrev pub kind_of : Option Held → Kind
+abbrev pub kind_of : Option Held → HeldAs
 kind_of None = Absent
 kind_of (Some (Owned v)) = Own
 kind_of (Some (Shared v)) = Copied

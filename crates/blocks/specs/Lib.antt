@@ -1,3 +1,6 @@
 pub mod Blocks
+pub mod Counts
 pub mod Held
+pub mod Numbers
+pub mod Offsets
 pub mod Ready

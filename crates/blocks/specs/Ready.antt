@@ -1,9 +1,9 @@
 -- Blocks that can be changed without memory.
 use Rattle.std.specs.Prelude.{ℕ, ◌≡◌, ◌⊎◌, ℤ, Option, Some, None}
 use Rattle.std.specs.Box.{box_value}
-use Rattle.block_numbers.specs.Numbers.{number_in}
+use Rattle.blocks.specs.Numbers.{number_in}
 use Rattle.blocks.specs.Blocks.{held_at, owned_at}
-use Rattle.block_numbers.specs.Offsets.{Offsets, HasAll, HasOnly, IsWithin}
+use Rattle.blocks.specs.Offsets.{Offsets, HasAll, HasOnly, IsWithin}
 use Rattle.blocks.specs.declared.block.Block.{Block}
 use Rattle.blocks.specs.declared.block.Block.TheVariants.{Empty, Mixed as InParts}
 use Rattle.blocks.specs.declared.block.Block.TheVariants.{Owned as AllOwned, Shared as AllShared}

@@ -1,8 +1,8 @@
 //! Numbers of a range of another block, copied into blocks.
 
 use crate::block::Block;
+use crate::kind::HeldAs;
 use crate::mixed::Mixed;
-use block_numbers::kind::Kind;
 use std::alloc::{AllocError, Global};
 use std::sync::Arc;
 
@@ -10,7 +10,7 @@ impl Block {
     ghost use Rattle.std.specs.Prelude.{◌≡◌, ◌<◌, ◌≤◌, ◌-◌, IfOk, OnOk, option_map, if◌then◌else◌};
     ghost use Rattle.blocks.specs.Blocks.{held_at, number_at, owned_at};
     ghost use Rattle.blocks.specs.Held.{Shared};
-    ghost use Rattle.block_numbers.specs.Offsets.{Agree, HasAll, in_range};
+    ghost use Rattle.blocks.specs.Offsets.{Agree, HasAll, in_range};
 
     /// Takes in copies of a range of another block, which must hold the whole range. They replace
     /// what is held there.
@@ -69,10 +69,10 @@ impl Block {
 
 impl Mixed {
     ghost use Rattle.std.specs.Prelude.{◌≡◌, ◌<◌, ◌≤◌, ◌-◌, None, option_map, if◌then◌else◌};
-    ghost use Rattle.block_numbers.specs.Numbers.{IsAsWide, number_in};
+    ghost use Rattle.blocks.specs.Numbers.{IsAsWide, number_in};
     ghost use Rattle.blocks.specs.Blocks.{held_at, held_in, number_at, owned_at};
     ghost use Rattle.blocks.specs.Held.{Shared};
-    ghost use Rattle.block_numbers.specs.Offsets.{Agree, HasAll, in_range, put_at};
+    ghost use Rattle.blocks.specs.Offsets.{Agree, HasAll, in_range, put_at};
 
     /// Makes the number at an offset with room a copy.
     pub(crate) fn put_copy(&mut self, offset: usize, value: i64)
@@ -82,7 +82,7 @@ impl Mixed {
     {
         let at = offset - self.numbers.first;
         self.numbers.list[at] = value;
-        self.kinds[at] = Kind::Copied;
+        self.kinds[at] = HeldAs::Copied;
     }
 
     /// Takes in copies of a range of a block. There must be room for them.

@@ -2,12 +2,12 @@
 
 ghost use Rattle.std.specs.Prelude.{◌≡◌, IfOk, IsTrue, None, OnErr, false, is_some};
 ghost use Rattle.std.specs.Arc.{arc_value};
-ghost use Rattle.block_numbers.specs.Numbers.{number_in};
-ghost use Rattle.block_numbers.specs.Offsets.{Agree, put_at};
+ghost use Rattle.blocks.specs.Numbers.{number_in};
+ghost use Rattle.blocks.specs.Offsets.{Agree, put_at};
 
+use crate::kind::HeldAs;
 use crate::mixed::Mixed;
-use block_numbers::kind::Kind;
-use block_numbers::numbers::{Numbers, PLACES};
+use crate::numbers::{Numbers, PLACES};
 use std::alloc::{AllocError, Global};
 use std::sync::Arc;
 
@@ -28,11 +28,11 @@ pub enum Block {
 impl Block {
     ghost use Rattle.std.specs.Prelude.{◌≡◌, ◌↔◌, ◌<◌, ◌≤◌, ◌-◌, ℕ, true, false, pos, IfOk, IsTrue, None};
     ghost use Rattle.std.specs.Prelude.{OnErr, get_or, is_some, length, option_map, slice_get, unwrap_or};
-    ghost use Rattle.block_numbers.specs.Numbers.{number_in};
+    ghost use Rattle.blocks.specs.Numbers.{number_in};
     ghost use Rattle.blocks.specs.Blocks.{held_at, kind_of, number_at, owned_at};
     ghost use Rattle.blocks.specs.Held.{Owned, Shared};
-    ghost use Rattle.block_numbers.specs.Offsets.{Agree, HasAll, HasOnly, StandApart, in_range};
-    ghost use Rattle.block_numbers.specs.Offsets.{inside, put_at};
+    ghost use Rattle.blocks.specs.Offsets.{Agree, HasAll, HasOnly, StandApart, in_range};
+    ghost use Rattle.blocks.specs.Offsets.{inside, put_at};
     ghost use Rattle.blocks.specs.Ready.{room_at};
 
     /// Returns a block that owns the numbers, from the first offset on.
@@ -165,18 +165,18 @@ impl Block {
     }
 
     /// Returns how an offset is held.
-    pub(crate) fn kind(&self, offset: usize) -> Kind
+    pub(crate) fn kind(&self, offset: usize) -> HeldAs
         ensures { result ≡ kind_of (held_at self.now offset) }
     {
         match self {
-            Block::Empty => Kind::Absent,
+            Block::Empty => HeldAs::Absent,
             Block::Owned(numbers) => match numbers.number(offset) {
-                None => Kind::Absent,
-                Some(_) => Kind::Own,
+                None => HeldAs::Absent,
+                Some(_) => HeldAs::Own,
             },
             Block::Shared(numbers) => match numbers.number(offset) {
-                None => Kind::Absent,
-                Some(_) => Kind::Copied,
+                None => HeldAs::Absent,
+                Some(_) => HeldAs::Copied,
             },
             Block::Mixed(mixed) => mixed.kind(offset),
         }
@@ -187,8 +187,8 @@ impl Block {
         ensures { result ≡ is_some (held_at self.now offset) }
     {
         match self.kind(offset) {
-            Kind::Own | Kind::Copied => true,
-            Kind::Absent => false,
+            HeldAs::Own | HeldAs::Copied => true,
+            HeldAs::Absent => false,
         }
     }
 
@@ -197,8 +197,8 @@ impl Block {
         ensures { result ≡ is_some (owned_at self.now offset) }
     {
         match self.kind(offset) {
-            Kind::Own => true,
-            Kind::Absent | Kind::Copied => false,
+            HeldAs::Own => true,
+            HeldAs::Absent | HeldAs::Copied => false,
         }
     }
 
@@ -207,8 +207,8 @@ impl Block {
         ensures { result ≡ owned_at self.now offset }
     {
         match self.kind(offset) {
-            Kind::Own => self.number(offset),
-            Kind::Absent | Kind::Copied => None,
+            HeldAs::Own => self.number(offset),
+            HeldAs::Absent | HeldAs::Copied => None,
         }
     }
 

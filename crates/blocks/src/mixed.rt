@@ -2,8 +2,8 @@
 
 ghost use Rattle.std.specs.Prelude.{◌≡◌, length};
 
-use block_numbers::kind::Kind;
-use block_numbers::numbers::Numbers;
+use crate::kind::HeldAs;
+use crate::numbers::Numbers;
 use std::alloc::{AllocError, Global};
 use std::mem;
 
@@ -12,18 +12,18 @@ use std::mem;
 #[derive(Drop)]
 pub struct Mixed {
     pub(crate) numbers: Numbers,
-    pub(crate) kinds: Vec<Kind>,
+    pub(crate) kinds: Vec<HeldAs>,
     ghost paired: { length kinds.items ≡ length numbers.list.items },
 }
 
 impl Mixed {
     ghost use Rattle.std.specs.Prelude.{◌-◌, ◌+◌, ◌↔◌, IfOk, IsTrue, None, is_some, false, option_map};
     ghost use Rattle.std.specs.Prelude.{◌<◌, ◌≤◌, OnOk};
-    ghost use Rattle.block_numbers.specs.Numbers.{IsAsWide, number_in};
+    ghost use Rattle.blocks.specs.Numbers.{IsAsWide, number_in};
     ghost use Rattle.blocks.specs.Blocks.{held_in, kind_of};
     ghost use Rattle.blocks.specs.Held.{Owned, number_of, owned_number};
-    ghost use Rattle.block_numbers.specs.Offsets.{Agree, HasAll, IsWithin, outside, put_at};
-    ghost use Rattle.block_numbers.specs.Offsets.{without_at};
+    ghost use Rattle.blocks.specs.Offsets.{Agree, HasAll, IsWithin, outside, put_at};
+    ghost use Rattle.blocks.specs.Offsets.{without_at};
 
     /// Returns a `Mixed` that holds nothing.
     pub(crate) fn nothing(alloc: Global) -> Mixed {
@@ -50,11 +50,11 @@ impl Mixed {
 
     /// Returns how an offset is held.
     #[inline(always)]
-    pub(crate) fn kind(&self, offset: usize) -> Kind
+    pub(crate) fn kind(&self, offset: usize) -> HeldAs
         ensures { result ≡ kind_of (held_in self.now offset) }
     {
         if !self.numbers.reaches(offset) {
-            return Kind::Absent;
+            return HeldAs::Absent;
         }
         self.kinds[offset - self.numbers.first]
     }
@@ -65,8 +65,8 @@ impl Mixed {
         ensures { result ≡ option_map number_of (held_in self.now offset) }
     {
         match self.kind(offset) {
-            Kind::Absent => None,
-            Kind::Own | Kind::Copied => self.numbers.number(offset),
+            HeldAs::Absent => None,
+            HeldAs::Own | HeldAs::Copied => self.numbers.number(offset),
         }
     }
 
@@ -78,7 +78,7 @@ impl Mixed {
     {
         let at = offset - self.numbers.first;
         self.numbers.list[at] = value;
-        self.kinds[at] = Kind::Own;
+        self.kinds[at] = HeldAs::Own;
     }
 
     /// Stops holding an offset that has room.
@@ -88,7 +88,7 @@ impl Mixed {
         ensures numbers { self.new.numbers ≡ self.old.numbers }
     {
         let at = offset - self.numbers.first;
-        self.kinds[at] = Kind::Absent;
+        self.kinds[at] = HeldAs::Absent;
     }
 
     /// Writes the number at an owned offset.
@@ -99,11 +99,11 @@ impl Mixed {
         ensures same { (result ≡ false) → self.new ≡ self.old }
     {
         match self.kind(offset) {
-            Kind::Own => {
+            HeldAs::Own => {
                 self.put(offset, value);
                 true
             }
-            Kind::Absent | Kind::Copied => false,
+            HeldAs::Absent | HeldAs::Copied => false,
         }
     }
 
@@ -137,8 +137,8 @@ impl Mixed {
         let high = self.numbers.end();
         for offset in low..high {
             match self.kind(offset) {
-                Kind::Copied => self.forget(offset),
-                Kind::Absent | Kind::Own => {}
+                HeldAs::Copied => self.forget(offset),
+                HeldAs::Absent | HeldAs::Own => {}
             }
         }
     }
@@ -150,8 +150,8 @@ impl Mixed {
     {
         for kind in &self.kinds {
             match kind {
-                Kind::Own => {}
-                Kind::Absent | Kind::Copied => return false,
+                HeldAs::Own => {}
+                HeldAs::Absent | HeldAs::Copied => return false,
             }
         }
         true
@@ -185,7 +185,7 @@ impl Mixed {
             ≡ length self.old.numbers.list.items + 1) }
         ensures keeps { IsWithin (number_in self.old.numbers) (number_in self.new.numbers) }
     {
-        self.kinds.push(Kind::Absent)?;
+        self.kinds.push(HeldAs::Absent)?;
         if self.numbers.list.push(0).is_err() {
             self.kinds.pop();
             return Err(AllocError);
@@ -204,7 +204,7 @@ impl Mixed {
     {
         let count = self.numbers.first - from;
         let mut list = vec![in alloc; 0; count]?;
-        let mut kinds = vec![in alloc; Kind::Absent; count]?;
+        let mut kinds = vec![in alloc; HeldAs::Absent; count]?;
         kinds.extend_from_slice(&self.kinds)?;
         let old = mem::replace(self, Mixed::nothing(alloc));
         let Numbers {

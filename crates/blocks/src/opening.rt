@@ -2,9 +2,9 @@
 
 use crate::block::Block;
 use crate::cut::Cut;
+use crate::kind::HeldAs;
 use crate::mixed::Mixed;
-use block_numbers::kind::Kind;
-use block_numbers::numbers::Numbers;
+use crate::numbers::Numbers;
 use std::alloc::{AllocError, Global};
 use std::mem;
 use std::sync::Arc;
@@ -12,10 +12,10 @@ use std::sync::Arc;
 impl Block {
     ghost use Rattle.std.specs.Prelude.{◌≡◌, ◌<◌, ◌≤◌, ◌-◌, ℕ, IfOk, OnErr, OnOk, false, true};
     ghost use Rattle.std.specs.Prelude.{nat_eq, if◌then◌else◌};
-    ghost use Rattle.block_numbers.specs.Numbers.{number_in};
+    ghost use Rattle.blocks.specs.Numbers.{number_in};
     ghost use Rattle.blocks.specs.Blocks.{held_at, held_in, owned_at};
-    ghost use Rattle.block_numbers.specs.Offsets.{Agree, HasAll, HasOnly, IsWithin, in_range};
-    ghost use Rattle.block_numbers.specs.Offsets.{inside, outside};
+    ghost use Rattle.blocks.specs.Offsets.{Agree, HasAll, HasOnly, IsWithin, in_range};
+    ghost use Rattle.blocks.specs.Offsets.{inside, outside};
     ghost use Rattle.blocks.specs.Ready.{IsReady, room_at};
     ghost use Rattle.blocks.specs.declared.cut.Cut.{Cut as CutOf};
 
@@ -110,8 +110,8 @@ impl Block {
     {
         match self {
             Block::Empty => Ok(Mixed::from_offset(alloc, from)),
-            Block::Owned(shared) => take_numbers(alloc, shared, Kind::Own),
-            Block::Shared(shared) => take_numbers(alloc, shared, Kind::Copied),
+            Block::Owned(shared) => take_numbers(alloc, shared, HeldAs::Own),
+            Block::Shared(shared) => take_numbers(alloc, shared, HeldAs::Copied),
             Block::Mixed(mixed) => Ok(mem::replace(&mut **mixed, Mixed::nothing(alloc))),
         }
     }
@@ -119,13 +119,13 @@ impl Block {
 
 ghost use Rattle.std.specs.Prelude.{◌≡◌, IfOk, OnErr};
 ghost use Rattle.std.specs.Arc.{arc_value};
-ghost use Rattle.block_numbers.specs.Numbers.{number_in};
-ghost use Rattle.block_numbers.specs.Offsets.{Agree};
+ghost use Rattle.blocks.specs.Numbers.{number_in};
+ghost use Rattle.blocks.specs.Offsets.{Agree};
 ghost use Rattle.blocks.specs.Blocks.{held_as, held_in};
 
 /// Takes numbers of one kind out of memory that can be shared. If others share them, they are
 /// copied first, as before a write.
-fn take_numbers(alloc: Global, shared: &mut Arc<Numbers>, kind: Kind) -> Result<Mixed, AllocError>
+fn take_numbers(alloc: Global, shared: &mut Arc<Numbers>, kind: HeldAs) -> Result<Mixed, AllocError>
     ensures held { IfOk result (λ m.
         Agree (held_in m) (λ k. held_as kind (number_in (arc_value shared.old) k))) }
     ensures same { OnErr result (arc_value shared.new ≡ arc_value shared.old) }

@@ -9,9 +9,9 @@ use std::sync::Arc;
 impl Block {
     ghost use Rattle.std.specs.Prelude.{◌≡◌, ◌↔◌, IsTrue, OnOk, option_map};
     ghost use Rattle.blocks.specs.Blocks.{held_at, owned_at};
-    ghost use Rattle.block_numbers.specs.Counts.{how_many};
+    ghost use Rattle.blocks.specs.Counts.{how_many};
     ghost use Rattle.blocks.specs.Held.{Owned, first_of};
-    ghost use Rattle.block_numbers.specs.Offsets.{Agree, IsWithin};
+    ghost use Rattle.blocks.specs.Offsets.{Agree, IsWithin};
     ghost use Rattle.blocks.specs.Ready.{CanTake, room_at};
 
     /// Makes room for what another block owns, so pasting it needs no memory. What is held doesn't
@@ -117,11 +117,11 @@ impl Block {
 
 impl Mixed {
     ghost use Rattle.std.specs.Prelude.{◌≡◌, option_map};
-    ghost use Rattle.block_numbers.specs.Numbers.{number_in};
+    ghost use Rattle.blocks.specs.Numbers.{number_in};
     ghost use Rattle.blocks.specs.Blocks.{held_in, owned_at};
-    ghost use Rattle.block_numbers.specs.Counts.{how_many};
+    ghost use Rattle.blocks.specs.Counts.{how_many};
     ghost use Rattle.blocks.specs.Held.{Owned, first_of};
-    ghost use Rattle.block_numbers.specs.Offsets.{Agree, IsWithin};
+    ghost use Rattle.blocks.specs.Offsets.{Agree, IsWithin};
 
     /// Takes in what a block owns, and returns how many numbers were copied. There must be room. No
     /// other loop copies numbers that are pasted.

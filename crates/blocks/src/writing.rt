@@ -7,7 +7,7 @@ use std::sync::Arc;
 impl Block {
     ghost use Rattle.std.specs.Prelude.{◌≡◌, ◌<◌, IsSome, OnErr, OnOk};
     ghost use Rattle.std.specs.Bool.{OnFalse, OnTrue};
-    ghost use Rattle.block_numbers.specs.Offsets.{Agree, put_at};
+    ghost use Rattle.blocks.specs.Offsets.{Agree, put_at};
     ghost use Rattle.blocks.specs.Blocks.{held_at, owned_at};
     ghost use Rattle.blocks.specs.Held.{Owned, in_place_of};
 

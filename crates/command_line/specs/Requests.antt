@@ -18,7 +18,7 @@ use Rattle.command_line.specs.declared.request.Telling.{Telling}
 use Rattle.command_line.specs.declared.request.Choosing.{Choosing as rChoosing}
 use Rattle.command_line.specs.declared.request.Choosing.TheVariants.{Listed as rListed, InFile as rInFile}
 use Rattle.command_line.specs.declared.request.Choosing.TheVariants.{Random as rRandom}
-use Rattle.command_line.specs.declared.request.Settings.{Settings as rSettings}
+use Rattle.command_line.specs.declared.request.RunOptions.{RunOptions as rSettings}
 use Rattle.command_line.specs.declared.request.Request.{Request}
 use Rattle.command_line.specs.declared.request.Spread.{Spread as rSpread}
 

@@ -153,7 +153,7 @@ const MOST_WORKERS: u64 = 64;
 
 /// The settings of a run.
 #[derive(Clone, Copy, PartialEq, Eq, Debug)]
-pub struct Settings<'w> {
+pub struct RunOptions<'w> {
     /// `--input FILE`: the JSON text of the initial contents of the arrays. Without it they are
     /// zeros.
     pub input: Option<&'w str>,
@@ -175,14 +175,14 @@ pub struct Settings<'w> {
     pub progress: bool,
 }
 
-impl<'w> Settings<'w> {
+impl<'w> RunOptions<'w> {
     ghost use Rattle.command_line.specs.Requests.{settings, usual};
 
     /// Returns the default: zeros, the default budget, 4 workers, and no arrays.
-    pub fn usual() -> Settings<'w>
+    pub fn usual() -> RunOptions<'w>
         ensures { settings result ≡ usual }
     {
-        Settings {
+        RunOptions {
             input: None,
             budget: Budget::usual(),
             spread: Spread::usual(),
@@ -201,6 +201,6 @@ pub struct Request<'w> {
     pub action: Action,
     /// The file of the program; `-` is the standard input.
     pub file: &'w str,
-    pub settings: Settings<'w>,
+    pub settings: RunOptions<'w>,
     pub telling: Telling,
 }

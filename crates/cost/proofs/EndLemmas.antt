@@ -14,15 +14,15 @@ use Rattle.statement_steps.specs.Bounds.{IsInBounds}
 use Rattle.statement_steps.specs.Lists.{lists_of}
 use Rattle.statement_steps.specs.Standing.{state_of}
 use Rattle.statement_steps.proofs.Ends.{outcome_at}
-use Rattle.cost.specs.declared.frame.Frame.{Frame}
-use Rattle.cost.specs.declared.frame.Frame.TheVariants.{Rest}
+use Rattle.cost.specs.declared.frame.CostFrame.{CostFrame}
+use Rattle.cost.specs.declared.frame.CostFrame.TheVariants.{Rest}
 use Rattle.cost.specs.declared.account.Account.{Account as rAccount}
 use Rattle.cost.specs.Accounts.{Account, nothing_noted}
 use Rattle.cost.specs.Costs.{nothing_done}
 use Rattle.cost.specs.Laws.{totals, untallied}
 use Rattle.cost.specs.Resume.{Standing, doing, placed, resume, standing}
 use Rattle.cost.specs.Translation.{account}
-use Rattle.cost.specs.declared.machine.Machine.{Machine}
+use Rattle.cost.specs.declared.machine.CostMachine.{CostMachine}
 use Rattle.cost.specs.Machines.{HasEnded, IsAtStart, IsSound, comes_to, end_of, nothing, stack, stands}
 use Rattle.cost.proofs.Frames.{resume-pushed}
 use Rattle.cost.proofs.Untabled.{totals-accounted}
@@ -30,7 +30,7 @@ use Rattle.cost.proofs.Untallied.{untallied-tallied}
 use Rattle.cost.proofs.Waiting.{block_done}
 
 -- the body of `main` on top of the start is the whole run
-pub main_on_top : (p : Program) (steps nest rows : ℕ) (input : List (List ℤ)) (gs : List Frame) (b : Bor (List Stmt))
+pub main_on_top : (p : Program) (steps nest rows : ℕ) (input : List (List ℤ)) (gs : List CostFrame) (b : Bor (List Stmt))
     (t : Thread Store) (y : Account) → gs ≡ [] ++ Rest b ∷ [] → codes b.now ≡ p.main.body
     → state_of t ≡ start tt p steps (held_by input) → y ≡ nothing_noted rows → t.nest ≡ nest
     → resume p steps gs (placed y t) ≡ end_of p steps nest rows input
@@ -61,15 +61,15 @@ told plan t y rows input bounds comes =
     (start nothing_done p plan.budget.steps (held_by input)))
 
 -- if nothing is left to do, the machine has the position that it reaches
-pub ended : (old new : Machine) → HasEnded old new → stands new ≡ comes_to old nothing
+pub ended : (old new : CostMachine) → HasEnded old new → stands new ≡ comes_to old nothing
 ended old new e =
     let p = program old.plan.program.now in let fresh = old.plan.budget.steps in
     ap (standing new.account) e.thread
     ∙ ap (λ (y : rAccount). standing y old.thread) e.account
     ∙ sym (block_done p fresh [] old.block (stands old) e.block)
-    ∙ ap (λ (fs : List Frame). resume p fresh (fs ++ Rest old.block ∷ []) (stands old)) (sym e.frames)
+    ∙ ap (λ (fs : List CostFrame). resume p fresh (fs ++ Rest old.block ∷ []) (stands old)) (sym e.frames)
 
-module _ (job : Plan) (rows : ℕ) (input : List (List ℤ)) (first m end : Machine) where
+module _ (job : Plan) (rows : ℕ) (input : List (List ℤ)) (first m end : CostMachine) where
   abbrev p : Program
   p = program job.program.now
 
@@ -88,7 +88,7 @@ module _ (job : Plan) (rows : ℕ) (input : List (List ℤ)) (first m end : Mach
       ∙ r.comes
       ∙ ap (λ (q : Plan). resume (program q.program.now) q.budget.steps (stack first) (stands first)) r.begins.plan
       ∙ main_on_top p job.budget.steps job.budget.nest rows input (stack first) first.block first.thread (account first.account)
-      (ap (λ (fs : List Frame). fs ++ Rest first.block ∷ []) r.begins.frames) r.begins.block r.begins.state r.begins.account r.begins.nest
+      (ap (λ (fs : List CostFrame). fs ++ Rest first.block ∷ []) r.begins.frames) r.begins.block r.begins.state r.begins.account r.begins.nest
 
   -- with all places there
   pub bounds_at_end : HasRun → IsInBounds p end.thread

@@ -1,3 +1,7 @@
+mod CopyExamples
+pub mod Covering
+pub mod Found
+pub mod Splitting
 mod Examples
 pub mod Beside
 pub mod Thrift

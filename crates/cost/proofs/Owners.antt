@@ -6,13 +6,13 @@ use Rattle.types.specs.Meaning.{after_async}
 use Rattle.types.specs.Run.{Fault, State}
 use Rattle.types.specs.Translation.{environment as environment_of}
 use Rattle.types.specs.Value.{Environment}
-use Rattle.cost.specs.declared.frame.Owner.{Owner}
+use Rattle.cost.specs.declared.frame.OwnerCosts.{OwnerCosts}
 use Rattle.cost.specs.Books.{after_booked, beginning_booked}
 use Rattle.cost.specs.Accounts.{Account, ends_behind, accounting}
 use Rattle.cost.specs.Resume.{Standing, end_async, faults_in, lines_in}
 
 -- it continues as the task was when it started a child
-pub record Waiting (p : Program) (o : Owner) (l : ℕ) (st : State Account) (n : ℕ) : Type 0 where
+pub record Waiting (p : Program) (o : OwnerCosts) (l : ℕ) (st : State Account) (n : ℕ) : Type 0 where
   pub path : o.path.turns.items ≡ st.path
   pub environment : environment_of o.environment ≡ st.environment
   pub steps : o.steps ≡ st.steps
@@ -42,13 +42,13 @@ going path env steps spawned lines faults here by_label nest out = record {
 }
 
 -- after the body, it is where that task is after its async
-abbrev pub after_owner : Owner → State Account → Standing
+abbrev pub after_owner : OwnerCosts → State Account → Standing
 after_owner o out = record { state = end_async o out; nest = o.nest }
 
 abbrev pub after_begun : (p : Program) → (l : ℕ) → (st : State Account) → (nest : ℕ) → State Account → Standing
 after_begun p l st n out = record { state = after_booked accounting (beginning_booked accounting p l st) out; nest = n }
 
-pub goes_on : (p : Program) (o : Owner) (l : ℕ) (st out : State Account) (n : ℕ) → Waiting p o l st n
+pub goes_on : (p : Program) (o : OwnerCosts) (l : ℕ) (st out : State Account) (n : ℕ) → Waiting p o l st n
     → after_owner o out ≡ after_begun p l st n out
 goes_on p o l st out n w =
     let lines = lines_in o.told in let faults = faults_in o.told in let env = environment_of o.environment in

@@ -12,7 +12,7 @@ use Rattle.types.specs.Meaning.{child}
 use Rattle.types.specs.Outcome.{Budget, start}
 use Rattle.types.specs.Run.{State, Block, run}
 use Rattle.types.proofs.Keeps.{run_keeps}
-use Rattle.spawn_copies.specs.Copied.{copied_at}
+use Rattle.cost.specs.Copied.{copied_at}
 use Rattle.cost.specs.Books.{begin_booked, beginning_booked}
 use Rattle.cost.specs.Accounts.{Account, account_of, accounted_rules, begins_at, ends_behind, accounting}
 use Rattle.cost.specs.Accounts.{enters_at, leaves_behind, longer, noted, nothing_noted, row_of, span_by_label, steps_at}

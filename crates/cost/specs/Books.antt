@@ -4,7 +4,7 @@ use Rattle.std.specs.Prelude.{ℕ, zero, suc, ◌+◌, length}
 use Rattle.types.specs.Code.{Codes, Program}
 use Rattle.types.specs.Meaning.{hushed, joined, child, after_body, after_finish}
 use Rattle.types.specs.Run.{State, Rules, Work, Block, stopped, run}
-use Rattle.spawn_copies.specs.Copied.{copied_at}
+use Rattle.cost.specs.Copied.{copied_at}
 
 -- what a book records
 pub record Book (X : Type 0) : Type 0 where

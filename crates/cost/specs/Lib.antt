@@ -1,3 +1,6 @@
+pub mod Asyncs
+pub mod Cover
+pub mod Copied
 pub mod Books
 pub mod Costs
 pub mod Accounts
@@ -6,3 +9,5 @@ pub mod Laws
 pub mod Resume
 pub mod Frames
 pub mod Machines
+pub mod Shares
+pub mod Text

@@ -7,11 +7,11 @@ use Rattle.types.specs.Translation.{codes, truth, environment, fault}
 use Rattle.statement_steps.specs.declared.store.Store.{Store}
 use Rattle.statement_steps.specs.declared.thread.Thread.{Thread}
 use Rattle.statement_steps.specs.Standing.{state_of}
-use Rattle.cost.specs.declared.frame.Frame.{Frame}
-use Rattle.cost.specs.declared.frame.Frame.TheVariants.{Rest, Again, EndFinish, EndAsync, EndCall}
-use Rattle.cost.specs.declared.frame.Outer.{Outer}
-use Rattle.cost.specs.declared.frame.Owner.{Owner}
-use Rattle.cost.specs.declared.frame.Told.{Told}
+use Rattle.cost.specs.declared.frame.CostFrame.{CostFrame}
+use Rattle.cost.specs.declared.frame.CostFrame.TheVariants.{Rest, Again, EndFinish, EndAsync, EndCall}
+use Rattle.cost.specs.declared.frame.OuterCosts.{OuterCosts}
+use Rattle.cost.specs.declared.frame.OwnerCosts.{OwnerCosts}
+use Rattle.cost.specs.declared.frame.OutputSoFar.{OutputSoFar}
 use Rattle.cost.specs.declared.account.Account.{Account as rAccount}
 use Rattle.cost.specs.Accounts.{Account, accounted, accounted_rules, ends_behind, leaves_behind}
 use Rattle.cost.specs.Translation.{account}
@@ -29,14 +29,14 @@ abbrev pub standing : rAccount → Thread Store → Standing
 standing a t = placed (account a) t
 
 -- the output, as plain values
-abbrev pub lines_in : Told → List (List ℤ)
+abbrev pub lines_in : OutputSoFar → List (List ℤ)
 lines_in o = map (λ v. v.items) o.lines.items
 
-abbrev pub faults_in : Told → List Fault
+abbrev pub faults_in : OutputSoFar → List Fault
 faults_in o = map fault o.faults.items
 
 -- a finish at its end, with the output before it
-abbrev pub end_finish : Outer → State Account → State Account
+abbrev pub end_finish : OuterCosts → State Account → State Account
 end_finish o out = record out {
   flow = after_finish out.flow out.faults;
   lines = lines_in o.told ++ out.lines;
@@ -45,7 +45,7 @@ end_finish o out = record out {
 }
 
 -- after the body of an async, its owner continues as it was
-abbrev pub end_async : Owner → State Account → State Account
+abbrev pub end_async : OwnerCosts → State Account → State Account
 end_async o out = record {
   flow = after_async out.flow;
   environment = environment o.environment;
@@ -71,7 +71,7 @@ module _ (p : Program) (fresh : ℕ) where
       }
 
   -- what a frame does once those above it are done
-  abbrev pub frame : Frame → Standing → Standing
+  abbrev pub frame : CostFrame → Standing → Standing
   frame (Rest b) s = doing (Block (codes b.now)) s
   frame (Again l t b) s = doing (Turn l (truth t.now) (codes b.now)) s
   frame (EndFinish o) s = record s { state = end_finish o s.state }
@@ -80,6 +80,6 @@ module _ (p : Program) (fresh : ℕ) where
   frame (EndCall env) s = record s { state = record s.state { environment = environment env } }
 
   -- what all frames do, the last first
-  abbrev pub resume : List Frame → Standing → Standing
+  abbrev pub resume : List CostFrame → Standing → Standing
   resume [] s = s
   resume (f ∷ fs) s = frame f (resume fs s)

@@ -12,7 +12,7 @@ ghost use Rattle.cost.specs.Accounts.{account_of, span_by_label};
 ghost use Rattle.cost.specs.Costs.{cost_of, tally_of};
 ghost use Rattle.cost.specs.Machines.{end_of, stands};
 
-use crate::machine::Machine;
+use crate::machine::CostMachine;
 use crate::tally::Tally;
 use effects::summaries::{Summaries, summarize};
 use statement_steps::thread::Plan;
@@ -142,7 +142,7 @@ fn ran<'p>(
     summaries: &Summaries,
     input: &Input,
     rows: usize,
-) -> Result<Machine<'p>, AllocError>
+) -> Result<CostMachine<'p>, AllocError>
     requires fits { FitsArrays (program_of plan.program.now).arrays (lists_in input.now) }
     requires summaries { AreSummaries (program_of plan.program.now) summaries.now }
     ensures stands { IfOk result (λ m. stands m ≡ end_of (program_of plan.entry.program.now)
@@ -150,7 +150,7 @@ fn ran<'p>(
     ensures bounds { IfOk result
         (λ m. IsInBounds (program_of plan.entry.program.now) m.thread) }
 {
-    let mut machine = Machine::at_start(plan, input, rows)?;
+    let mut machine = CostMachine::at_start(plan, input, rows)?;
     'turns: while machine.turn(summaries)? {}
     Ok(machine)
 }

@@ -7,7 +7,7 @@ use types::value::Environment;
 
 /// What waits until the frames above it are done.
 #[derive(Drop)]
-pub enum Frame<'p> {
+pub enum CostFrame<'p> {
     /// The rest of a block.
     Rest(&'p [Stmt]),
     /// The next iteration of a loop.
@@ -18,12 +18,12 @@ pub enum Frame<'p> {
     },
     /// The end of a finish.
     EndFinish {
-        outer: Outer,
+        outer: OuterCosts,
     },
     /// The end of an async's body. Its owner continues as it was. The owner is in a box, since the
     /// other variants are smaller.
     EndAsync {
-        owner: Box<Owner>,
+        owner: Box<OwnerCosts>,
     },
     /// The return of a call, to the caller's environment.
     EndCall {
@@ -33,8 +33,8 @@ pub enum Frame<'p> {
 
 /// The state before a finish.
 #[derive(Drop)]
-pub struct Outer {
-    pub told: Told,
+pub struct OuterCosts {
+    pub told: OutputSoFar,
     /// The length of the longest chain to the end of a task in the surrounding finish.
     pub ended: usize,
     /// That chain, by label.
@@ -43,13 +43,13 @@ pub struct Outer {
 
 /// The owner of an async while the async's body runs.
 #[derive(Drop)]
-pub struct Owner {
+pub struct OwnerCosts {
     pub path: Path,
     pub environment: Environment,
     pub steps: u32,
     pub nest: u32,
     pub spawned: u32,
-    pub told: Told,
+    pub told: OutputSoFar,
     /// The length of the longest chain to the owner's position, after the async's step.
     pub here: usize,
     /// That chain, by label.
@@ -58,7 +58,7 @@ pub struct Owner {
 
 /// The output so far.
 #[derive(Drop)]
-pub struct Told {
+pub struct OutputSoFar {
     pub lines: Vec<Vec<i64>>,
     pub faults: Vec<Fault>,
 }

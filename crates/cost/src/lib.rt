@@ -3,8 +3,12 @@
 #![tactic(auto)]
 
 pub mod account;
+pub mod copied;
 pub mod cost;
 pub mod frame;
 pub mod laws;
 pub mod machine;
+pub mod shares;
+mod splits;
 pub mod tally;
+pub mod text;

@@ -2,8 +2,8 @@
 use Rattle.std.proofs.Common.{◌++◌, codes}
 use Rattle.std.specs.Prelude.{Bool, false}
 use Rattle.std.specs.String.{string_bytes}
-use Rattle.intake.specs.FailureStatus.{failure_status}
-use Rattle.intake.specs.Messages.{failure_text}
+use Rattle.failures.specs.FailureStatus.{failure_status}
+use Rattle.failures.specs.Messages.{failure_text}
 use Rattle.driver.specs.declared.answered.Answered.{Answered}
 use Rattle.driver.specs.declared.refusal.Refusal.{Refusal}
 use Rattle.std.proofs.Common.{◌≡◌, ℕ, ◌≤◌, List, [], Option, Result, Ok, Err, IfOk, IfErr, sym, subst}
@@ -15,17 +15,17 @@ use Rattle.command_line.specs.declared.request.Action.{Action}
 use Rattle.command_line.specs.declared.request.Action.TheVariants.{Answer as AnswerBy, Rewrite}
 use Rattle.driver.specs.Traced.{IsTraceOfText}
 use Rattle.driver.proofs.Leaving.{told_behind}
-use Rattle.answers.specs.Answers.{Answer, Done, Wrote}
-use Rattle.rewriting.specs.Rewriting.{LeavesLaidOut, LeavesRewritten}
+use Rattle.commands.specs.Answers.{Answer, Done, Wrote}
+use Rattle.commands.specs.Rewriting.{LeavesLaidOut, LeavesRewritten}
 use Rattle.viewing.specs.Views.{IsDrawn, picture_name}
 use Rattle.viewing.proofs.Written.{wrote_anyway}
-use Rattle.texts.specs.Appending.{AppendsBeginning}
-use Rattle.intake.specs.Held.{Held}
+use Rattle.printing.specs.Appending.{AppendsBeginning}
+use Rattle.files.specs.Held.{Held}
 use Rattle.command_line.specs.Requests.{Settings}
 use Rattle.command_line.specs.declared.request.Command.{Command}
 use Rattle.command_line.specs.declared.request.Command.TheVariants.{Run, View, Summary, Draw, Chrome}
-use Rattle.intake.specs.declared.failure.Failure.{Failure}
-use Rattle.intake.specs.declared.failure.Failure.TheVariants.{CannotWriteOutput}
+use Rattle.failures.specs.declared.failure.Failure.{Failure}
+use Rattle.failures.specs.declared.failure.Failure.TheVariants.{CannotWriteOutput}
 
 -- the answer is flushed: it is complete, or a writer that fails has a prefix of it
 answered_on : (Is : Answer) (Why : Failure → Type 0) → Why CannotWriteOutput → (old mid new : Option (List ℕ)) (status : ℕ)

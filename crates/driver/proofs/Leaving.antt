@@ -3,12 +3,12 @@ use Rattle.std.proofs.Common.{◌≡◌, inl, inr, ℕ, List, Option, Some, None
 use Rattle.std.specs.Prelude.{IfErr, IsErrAnd}
 use Rattle.types.specs.Code.{Array}
 use Rattle.command_line.specs.Requests.{Settings}
-use Rattle.intake.specs.Held.{Held, TellsNoInput}
-use Rattle.intake.specs.declared.failure.Failure.{Failure}
-use Rattle.intake.specs.declared.failure.Failure.TheVariants.{NoMemory}
-use Rattle.intake.specs.declared.failure.Failure.TheVariants.{Run as RunFailed, CannotWrite, CannotWriteOutput}
-use Rattle.answers.specs.Answers.{Explains, IsExplored, TellsNotAccepted, TellsNotBegun}
-use Rattle.answers.proofs.Answering.{IsOther}
+use Rattle.files.specs.Held.{Held, TellsNoInput}
+use Rattle.failures.specs.declared.failure.Failure.{Failure}
+use Rattle.failures.specs.declared.failure.Failure.TheVariants.{NoMemory}
+use Rattle.failures.specs.declared.failure.Failure.TheVariants.{Run as RunFailed, CannotWrite, CannotWriteOutput}
+use Rattle.commands.specs.Answers.{Explains, IsExplored, TellsNotAccepted, TellsNotBegun}
+use Rattle.commands.proofs.Answering.{IsOther}
 use Rattle.command_line.specs.declared.request.Command.TheVariants.{Run}
 use Rattle.viewing.specs.Files.{Wrote, WritesTo}
 use Rattle.viewing.proofs.Written.{others_kept, wrote_anyway}

@@ -6,17 +6,17 @@ use Rattle.types.specs.Code.{Array}
 use Rattle.types.specs.Outcome.{Outcome}
 use Rattle.command_line.specs.Requests.{Settings}
 use Rattle.command_line.specs.declared.request.Command.TheVariants.{Run}
-use Rattle.intake.specs.Held.{Held}
-use Rattle.intake.specs.declared.failure.Failure.{Failure}
-use Rattle.intake.specs.declared.failure.Failure.TheVariants.{NoMemory}
-use Rattle.answers.specs.Answers.{Explains, IsExplored}
-use Rattle.answers.proofs.Answering.{other_failure}
-use Rattle.objects.specs.Objects.{FailsEarly, ObjectOf, TellsOutcome}
-use Rattle.objects.specs.Failing.{IsToldAsObject, TellsFailure}
-use Rattle.objects.specs.declared.told.Told.{Told}
-use Rattle.objects.proofs.Written.{object_refused}
-use Rattle.reading.specs.Orders.{command_of}
-use Rattle.reading.specs.declared.order.Subject.{Subject}
+use Rattle.files.specs.Held.{Held}
+use Rattle.failures.specs.declared.failure.Failure.{Failure}
+use Rattle.failures.specs.declared.failure.Failure.TheVariants.{NoMemory}
+use Rattle.commands.specs.Answers.{Explains, IsExplored}
+use Rattle.commands.proofs.Answering.{other_failure}
+use Rattle.json_answers.specs.Objects.{FailsEarly, ObjectOf, TellsOutcome}
+use Rattle.json_answers.specs.Failing.{IsToldAsObject, TellsFailure}
+use Rattle.json_answers.specs.declared.object_line.ObjectLine.{ObjectLine}
+use Rattle.json_answers.proofs.Written.{object_refused}
+use Rattle.command_words.specs.Orders.{command_of}
+use Rattle.command_words.specs.declared.order.Subject.{Subject}
 use Rattle.viewing.specs.Files.{Wrote, WritesTo}
 use Rattle.driver.specs.Acts.{Leaves}
 use Rattle.driver.specs.Objects.{TellsObject, status_in}
@@ -34,14 +34,14 @@ module _ (x : Subject) (file : List ℕ) (s : Settings) (text : List ℕ) (held 
   }
 
 -- the object of the same subject
-pub object_so : (x y : Subject) → x ≡ y → (s : Settings) (held : Held) (text : List ℕ) (r : Result Told Failure)
+pub object_so : (x y : Subject) → x ≡ y → (s : Settings) (held : Held) (text : List ℕ) (r : Result ObjectLine Failure)
     → IfOk r (λ t. ObjectOf (command_of y) s held text (string_bytes t.line) t.status)
     → IfOk r (λ t. ObjectOf (command_of x) s held text (string_bytes t.line) t.status)
 object_so x y same s held text r object =
     subst (λ (z : Subject). IfOk r (λ t. ObjectOf (command_of z) s held text (string_bytes t.line) t.status)) (sym same) object
 
 -- a failure that is passed on is one of the status
-pub status_err : (r : Result Told Failure) (Q : Failure → Type 0) → IsErrAnd r Q → IsErrAnd (status_in r) Q
+pub status_err : (r : Result ObjectLine Failure) (Q : Failure → Type 0) → IsErrAnd r Q → IsErrAnd (status_in r) Q
 status_err (Ok t) Q is = is
 status_err (Err f) Q is = is
 
@@ -64,14 +64,14 @@ module _ (T : Type 0) (P Q : (bytes : List ℕ) → Type 0) (held later : Held) 
   wrote_so : (name : List ℕ) → Wrote name P held later → Wrote name Q held later
   wrote_so name w = record { bytes = w.bytes; right = so w.bytes w.right; given = w.given; others = w.others }
 
-  written_behind : (name : List ℕ) (r : Result Told Failure) → Wrote name P held later → IfErr r (λ f. f ≡ NoMemory)
+  written_behind : (name : List ℕ) (r : Result ObjectLine Failure) → Wrote name P held later → IfErr r (λ f. f ≡ NoMemory)
       → WritesTo name Q held later (status_in r)
   written_behind name (Ok t) w only = wrote_so name w
   written_behind name (Err f) w only =
       subst (λ (g : Failure). WritesTo {T = ℕ} name Q held later (Err g)) (sym only) w.others
 
   -- it is the same whether or not there was memory for the object
-  pub traced_behind : (file : Option (List ℕ)) (x : T) (r : Result Told Failure) → WritesTrace file P held later (Ok x)
+  pub traced_behind : (file : Option (List ℕ)) (x : T) (r : Result ObjectLine Failure) → WritesTrace file P held later (Ok x)
       → IfErr r (λ f. f ≡ NoMemory) → WritesTrace file Q held later (status_in r)
   traced_behind None x r w only = w
   traced_behind (Some name) x r w only = written_behind name r w only

@@ -1,26 +1,26 @@
 -- From a program that is read to what was ordered.
 use Rattle.std.proofs.Common.{◌≡◌, ℕ, ◌≤◌, length, List, Option, Result, Err, sym, subst, false}
 use Rattle.command_line.specs.Requests.{Asked}
-use Rattle.intake.specs.Held.{Held, HasText, TellsNoProgram}
-use Rattle.intake.specs.declared.failure.Failure.{Failure}
-use Rattle.reading.specs.Orders.{Order}
-use Rattle.trials.specs.Folders.{Folders}
+use Rattle.files.specs.Held.{Held, HasText, TellsNoProgram}
+use Rattle.failures.specs.declared.failure.Failure.{Failure}
+use Rattle.command_words.specs.Orders.{Order}
+use Rattle.test_and_bench.specs.Folders.{Folders}
 use Rattle.driver.specs.Acts.{Reports}
 use Rattle.driver.specs.Orders.{ActsOn, ActsWith, DoesWith, ReadsAnd, TellsUnread, TestsAs, on_text, without_text}
 use Rattle.driver.specs.Trying.{TestsFolder}
-use Rattle.driver.specs.declared.doing.Doing.{Doing}
+use Rattle.driver.specs.declared.doing.TextOrder.{TextOrder}
 
 -- equal orders do the same
-pub does_so : (d e : Doing) → d ≡ e → (a : Asked) (text : List ℕ) (held later : Held) (old new : Option (List ℕ))
+pub does_so : (d e : TextOrder) → d ≡ e → (a : Asked) (text : List ℕ) (held later : Held) (old new : Option (List ℕ))
     (r : Result ℕ Failure) → DoesWith e a text held later old new r → DoesWith d a text held later old new r
 does_so d e same a text held later old new r does =
-    subst (λ (x : Doing). DoesWith x a text held later old new r) (sym same) does
+    subst (λ (x : TextOrder). DoesWith x a text held later old new r) (sym same) does
 
-pub unread_so : (d e : Doing) → d ≡ e → (file : List ℕ) (old new : Option (List ℕ)) (f : Failure)
+pub unread_so : (d e : TextOrder) → d ≡ e → (file : List ℕ) (old new : Option (List ℕ)) (f : Failure)
     → TellsUnread e file old new f → TellsUnread d file old new f
-unread_so d e same file old new f told = subst (λ (x : Doing). TellsUnread x file old new f) (sym same) told
+unread_so d e same file old new f told = subst (λ (x : TextOrder). TellsUnread x file old new f) (sym same) told
 
-module _ (d : Doing) (a : Asked) (held : Held) (old new : Option (List ℕ)) where
+module _ (d : TextOrder) (a : Asked) (held : Held) (old new : Option (List ℕ)) where
   -- files were read before, and are read after it, and the result is the same
   pub read_on_text : (mid later last : Held) → mid ≡ held → last ≡ later → (r s : Result ℕ Failure) → r ≡ s
       → (text : List ℕ) → HasText held a.file text → length text ≤ 1048576 → DoesWith d a text mid later old new s
@@ -37,7 +37,7 @@ module _ (d : Doing) (a : Asked) (held : Held) (old new : Option (List ℕ)) whe
 -- ---- what was ordered
 
 module _ (held later : Held) (old new err_old err_new : Option (List ℕ)) (status : ℕ) where
-  pub acted : (d : Doing) (a : Asked) (r : Result ℕ Failure) → ReadsAnd d a held later old new r
+  pub acted : (d : TextOrder) (a : Asked) (r : Result ℕ Failure) → ReadsAnd d a held later old new r
       → Reports a.telling.explain err_old err_new r status → ActsWith d a held later old new err_old err_new status
   acted d a r does reports = record { result = r; does = does; reports = reports }
 

@@ -6,17 +6,17 @@ use Rattle.types.specs.Outcome.{Budget, Outcome, outcome}
 use Rattle.types.specs.Translation.{budget}
 use Rattle.types.specs.declared.budget.Budget.{Budget as rBudget}
 use Rattle.events.specs.Events.{Event, event as event_of}
-use Rattle.gather.specs.Jobs.{budget_of, lists_of, program_of}
-use Rattle.interleave.specs.Replay.{Legal}
-use Rattle.interleave.specs.World.{World}
-use Rattle.interleave.specs.Worlds.{outcome_of, replayed}
-use Rattle.interleave.specs.declared.job.WeightedJob.{WeightedJob}
+use Rattle.task_run.specs.Jobs.{budget_of, lists_of, program_of}
+use Rattle.event_worlds.specs.Replay.{Legal}
+use Rattle.event_worlds.specs.World.{World}
+use Rattle.event_worlds.specs.Worlds.{outcome_of, replayed}
+use Rattle.event_worlds.specs.declared.job.WeightedJob.{WeightedJob}
 use Rattle.trace_text.specs.Headers.{TraceHeader, header_of as header_in}
 use Rattle.trace_text.specs.Lines.{trace_text}
 use Rattle.trace_text.specs.declared.header.Header.{Header}
 use Rattle.trace.specs.Logs.{LeadsToOutcome, Recorded}
 use Rattle.command_line.specs.Requests.{settings}
-use Rattle.command_line.specs.declared.request.Settings.{Settings as rSettings}
+use Rattle.command_line.specs.declared.request.RunOptions.{RunOptions as rSettings}
 use Rattle.driver.specs.Traced.{IsTraceOf, header_of}
 
 -- what is known of a value if there is one, where there is one

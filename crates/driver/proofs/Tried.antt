@@ -1,13 +1,13 @@
 -- From a program that is timed, or a folder that is tested, to what was done.
 use Rattle.std.proofs.Common.{◌≡◌, ℕ, List, Option, Result, Err, subst, sym}
-use Rattle.answers.specs.Answers.{Done, Explains}
+use Rattle.commands.specs.Answers.{Done, Explains}
 use Rattle.command_line.specs.Requests.{Settings}
 use Rattle.command_line.specs.declared.request.Command.TheVariants.{Run}
-use Rattle.intake.specs.Held.{Held}
-use Rattle.intake.specs.declared.failure.Failure.{Failure}
-use Rattle.trials.specs.Folders.{Folders}
-use Rattle.trials.specs.Times.{AnswersTimes}
-use Rattle.trials.specs.Trials.{AnswersTest, ExplainsTest}
+use Rattle.files.specs.Held.{Held}
+use Rattle.failures.specs.declared.failure.Failure.{Failure}
+use Rattle.test_and_bench.specs.Folders.{Folders}
+use Rattle.test_and_bench.specs.Times.{AnswersTimes}
+use Rattle.test_and_bench.specs.Trials.{AnswersTest, ExplainsTest}
 use Rattle.driver.specs.Acts.{IsHandedOn}
 use Rattle.driver.specs.Trying.{TestsFolder, TimesRuns}
 use Rattle.driver.proofs.Acting.{done_on}

@@ -11,15 +11,15 @@ use Rattle.gather.specs.declared.run_error.RunError.TheVariants.{IssuedTooOften,
 use Rattle.gather.specs.declared.run_error.RunError.TheVariants.{NotDue, NoOwner, NoScope, NoReport, Unlogged}
 use Rattle.trace_text.specs.declared.error.TraceError.TheVariants.{NoMemory as MemoryInTrace}
 use Rattle.command_line.specs.Requests.{Asked}
-use Rattle.intake.specs.FailureStatus.{failure_status}
-use Rattle.intake.specs.declared.failure.Failure.{Failure}
-use Rattle.intake.specs.declared.failure.Failure.TheVariants.{Syntax, Types, NoMemoryInCheck}
-use Rattle.intake.specs.declared.failure.Failure.TheVariants.{Input, Run, Trace, NoMemory}
-use Rattle.reading.specs.Orders.{Order}
+use Rattle.failures.specs.FailureStatus.{failure_status}
+use Rattle.failures.specs.declared.failure.Failure.{Failure}
+use Rattle.failures.specs.declared.failure.Failure.TheVariants.{Syntax, Types, NoMemoryInCheck}
+use Rattle.failures.specs.declared.failure.Failure.TheVariants.{Input, Run, Trace, NoMemory}
+use Rattle.command_words.specs.Orders.{Order}
 use Rattle.driver.specs.Acts.{IsHandedOn, Reports}
 use Rattle.driver.specs.Watching.{WatchesDoing, WatchesOrder, WatchesTo}
-use Rattle.driver.specs.declared.doing.Doing.{Doing}
-use Rattle.driver.specs.declared.doing.Doing.TheVariants.{Answering, Describing, Timing}
+use Rattle.driver.specs.declared.doing.TextOrder.{TextOrder}
+use Rattle.driver.specs.declared.doing.TextOrder.TheVariants.{Answering, Describing, Timing}
 
 -- no failure has the status of an outcome
 of_failure : (f : Failure) → failure_status f ≢ 1 → failure_status f ≤ 3 → ⊥
@@ -61,16 +61,16 @@ module _ {W : Type 0} (Told : List ℕ → W → W → Type 0) (old new : W) whe
   )
 
   -- notifications are the same for equal orders
-  pub watched_so : {A E : Type 0} (d e : Doing) → d ≡ e → (a : Asked) (r : Result A E) → WatchesDoing Told e a r old new
+  pub watched_so : {A E : Type 0} (d e : TextOrder) → d ≡ e → (a : Asked) (r : Result A E) → WatchesDoing Told e a r old new
       → WatchesDoing Told d a r old new
-  watched_so d e same a r told = subst (λ (x : Doing). WatchesDoing Told x a r old new) (sym same) told
+  watched_so d e same a r told = subst (λ (x : TextOrder). WatchesDoing Told x a r old new) (sym same) told
 
   pub watched_as : (o p : Order) → o ≡ p → (status : ℕ) → WatchesOrder Told o status old new
       → WatchesOrder Told p status old new
   watched_as o p same status told = subst (λ (q : Order). WatchesOrder Told q status old new) same told
 
 -- a file that has no text of a program causes no notification
-pub unread_watched : {W E : Type 0} (A : Type 0) (Told : List ℕ → W → W → Type 0) (w : W) → Told [] w w → (d : Doing) (a : Asked)
+pub unread_watched : {W E : Type 0} (A : Type 0) (Told : List ℕ → W → W → Type 0) (w : W) → Told [] w w → (d : TextOrder) (a : Asked)
     (e : E) → WatchesDoing Told {A = A} d a (Err e) w w
 unread_watched A Told w nothing Answering a e = not_begun Told A _ e w nothing
 unread_watched A Told w nothing (Describing x) a e = not_begun Told A _ e w nothing

@@ -3,14 +3,14 @@ use Rattle.std.specs.Prelude.{ℕ, ◌≡◌, ◌≤◌, List, [], ◌++◌, Opt
 use Rattle.std.specs.Prelude.{Bool, false}
 use Rattle.std.specs.String.{string_bytes}
 use Rattle.std.specs.Io.KnownBytes.{Keeps}
-use Rattle.answers.specs.Answers.{Answer, Answers, Done, Explains}
-use Rattle.rewriting.specs.Rewriting.{AnswersRewrite, ExplainsRewrite, LeavesRewritten}
+use Rattle.commands.specs.Answers.{Answer, Answers, Done, Explains}
+use Rattle.commands.specs.Rewriting.{AnswersRewrite, ExplainsRewrite, LeavesRewritten}
 use Rattle.viewing.specs.Files.{WritesTo}
 use Rattle.viewing.specs.Views.{AnswersTrace, ExplainsTrace, IsDrawn, picture_name}
-use Rattle.texts.specs.Appending.{AppendsBeginning}
-use Rattle.intake.specs.FailureStatus.{failure_status}
-use Rattle.intake.specs.Held.{Held}
-use Rattle.intake.specs.Messages.{failure_text}
+use Rattle.printing.specs.Appending.{AppendsBeginning}
+use Rattle.failures.specs.FailureStatus.{failure_status}
+use Rattle.files.specs.Held.{Held}
+use Rattle.failures.specs.Messages.{failure_text}
 use Rattle.command_line.specs.Requests.{Settings}
 use Rattle.command_line.specs.declared.request.Action.{Action}
 use Rattle.command_line.specs.declared.request.Action.TheVariants.{Answer as AnswerBy, Rewrite}
@@ -19,8 +19,8 @@ use Rattle.command_line.specs.declared.request.Command.TheVariants.{Run, Serial,
 use Rattle.command_line.specs.declared.request.Command.TheVariants.{Explore, Labels, Places, Format}
 use Rattle.command_line.specs.declared.request.Command.TheVariants.{CheckFormat, View, Summary, Draw, Chrome}
 use Rattle.command_line.specs.declared.request.Command.TheVariants.{Cost, CostByLabel, CostByProcedure}
-use Rattle.intake.specs.declared.failure.Failure.{Failure}
-use Rattle.intake.specs.declared.failure.Failure.TheVariants.{CannotWriteOutput}
+use Rattle.failures.specs.declared.failure.Failure.{Failure}
+use Rattle.failures.specs.declared.failure.Failure.TheVariants.{CannotWriteOutput}
 use Rattle.driver.specs.Traced.{TracesRun}
 use Rattle.driver.specs.declared.answered.Answered.{Answered}
 use Rattle.driver.specs.declared.refusal.Refusal.{Refusal}

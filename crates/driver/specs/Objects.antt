@@ -1,14 +1,14 @@
 -- Answers as one object.
 use Rattle.std.specs.Prelude.{ℕ, List, Option, Result, Ok, Err, MatchResult}
 use Rattle.command_line.specs.Requests.{Settings}
-use Rattle.intake.specs.Held.{Held}
-use Rattle.intake.specs.declared.failure.Failure.{Failure}
-use Rattle.answers.specs.Answers.{Explains, Wrote}
-use Rattle.objects.specs.Objects.{ObjectOf}
-use Rattle.objects.specs.Failing.{FailedAsObject, TellsFailure}
-use Rattle.objects.specs.declared.told.Told.{Told}
-use Rattle.reading.specs.Orders.{command_of}
-use Rattle.reading.specs.declared.order.Subject.{Subject}
+use Rattle.files.specs.Held.{Held}
+use Rattle.failures.specs.declared.failure.Failure.{Failure}
+use Rattle.commands.specs.Answers.{Explains, Wrote}
+use Rattle.json_answers.specs.Objects.{ObjectOf}
+use Rattle.json_answers.specs.Failing.{FailedAsObject, TellsFailure}
+use Rattle.json_answers.specs.declared.object_line.ObjectLine.{ObjectLine}
+use Rattle.command_words.specs.Orders.{command_of}
+use Rattle.command_words.specs.declared.order.Subject.{Subject}
 use Rattle.driver.specs.Acts.{Leaves}
 
 -- the object of the answer was written; or there is a reason why there is none, and its object was written
@@ -20,6 +20,6 @@ pub record TellsObject (x : Subject) (file : List ℕ) (s : Settings) (text : Li
   pub leaves : Leaves (command_of x) s text held later r
 
 -- the status of an object
-abbrev pub status_in : Result Told Failure → Result ℕ Failure
+abbrev pub status_in : Result ObjectLine Failure → Result ℕ Failure
 status_in (Ok told) = Ok told.status
 status_in (Err f) = Err f

@@ -2,22 +2,22 @@
 use Rattle.std.specs.Prelude.{ℕ, ◌≤◌, Bool, false, List, [], length, Option, Result, IsErrAnd, ◌≡◌}
 use Rattle.std.specs.Io.KnownBytes.{Keeps}
 use Rattle.command_line.specs.Requests.{Asked, asked_of}
-use Rattle.intake.specs.Held.{Held, HasText, TellsNoProgram}
-use Rattle.intake.specs.declared.failure.Failure.{Failure}
-use Rattle.objects.specs.Failing.{IsToldAsObject, TellsFailure}
-use Rattle.reading.specs.Orders.{Order, AsText, AsObject, Times, Tests}
-use Rattle.reading.specs.declared.order.Subject.{Subject}
+use Rattle.files.specs.Held.{Held, HasText, TellsNoProgram}
+use Rattle.failures.specs.declared.failure.Failure.{Failure}
+use Rattle.json_answers.specs.Failing.{IsToldAsObject, TellsFailure}
+use Rattle.command_words.specs.Orders.{Order, AsText, AsObject, Times, Tests}
+use Rattle.command_words.specs.declared.order.Subject.{Subject}
 use Rattle.driver.specs.Acts.{Performs, Reports}
 use Rattle.driver.specs.Objects.{TellsObject}
 use Rattle.driver.specs.Trying.{TestsFolder, TimesRuns}
-use Rattle.driver.specs.declared.doing.Doing.{Doing}
-use Rattle.driver.specs.declared.doing.Doing.TheVariants.{Answering, Describing, Timing}
+use Rattle.driver.specs.declared.doing.TextOrder.{TextOrder}
+use Rattle.driver.specs.declared.doing.TextOrder.TheVariants.{Answering, Describing, Timing}
 use Rattle.driver.specs.declared.loaded.Loaded.{Loaded}
-use Rattle.trials.specs.Folders.{Folders}
+use Rattle.test_and_bench.specs.Folders.{Folders}
 
 -- this was done with the text of a program: the command was answered, or it was answered as one object, or
 -- its runs were timed
-abbrev pub DoesWith : Doing → Asked → (text : List ℕ) → (held later : Held) → (old new : Option (List ℕ))
+abbrev pub DoesWith : TextOrder → Asked → (text : List ℕ) → (held later : Held) → (old new : Option (List ℕ))
     → Result ℕ Failure → Type 0
 DoesWith Answering a text held later old new r = Performs a.action a.file a.settings text held later old new r
 DoesWith (Describing x) a text held later old new r =
@@ -25,25 +25,25 @@ DoesWith (Describing x) a text held later old new r =
 DoesWith Timing a text held later old new r = TimesRuns a.settings text held later old new r
 
 -- the order for a request and the text of its file
-abbrev pub DoesWithLoaded : Doing → Loaded → (held later : Held) → (old new : Option (List ℕ))
+abbrev pub DoesWithLoaded : TextOrder → Loaded → (held later : Held) → (old new : Option (List ℕ))
     → Result ℕ Failure
     → Type 0
 DoesWithLoaded d l held later old new r = DoesWith d (asked_of l.request) l.text.now held later old new r
 
 -- why a file has no text of a program was written as one object if that was ordered; else nothing was
-abbrev pub TellsUnread : Doing → (file : List ℕ) → (old new : Option (List ℕ)) → Failure → Type 0
+abbrev pub TellsUnread : TextOrder → (file : List ℕ) → (old new : Option (List ℕ)) → Failure → Type 0
 TellsUnread (Describing x) file old new f = IsToldAsObject (TellsFailure file [] f) old new
 TellsUnread Answering file old new f = Keeps old new
 TellsUnread Timing file old new f = Keeps old new
 
 -- the failure states why a file has no text of a program, and is reported in this way
-pub record HasNone (d : Doing) (held : Held) (file : List ℕ) (old new : Option (List ℕ))
+pub record HasNone (d : TextOrder) (held : Held) (file : List ℕ) (old new : Option (List ℕ))
     (f : Failure) : Type 0 where
   pub why : TellsNoProgram held file f
   pub told : TellsUnread d file old new f
 
 -- the file has a text of at most 1,048,576 bytes, and this was done with it; or it has none
-pub data ReadsAnd (d : Doing) (a : Asked) (held later : Held) (old new : Option (List ℕ))
+pub data ReadsAnd (d : TextOrder) (a : Asked) (held later : Held) (old new : Option (List ℕ))
     (r : Result ℕ Failure) : Type 0 where
   on_text : (text : List ℕ) → HasText held a.file text → length text ≤ 1048576
       → DoesWith d a text held later old new r → ReadsAnd d a held later old new r
@@ -57,7 +57,7 @@ pub record ActsBy (Does : Result ℕ Failure → Type 0) (explain : Bool)
   pub reports : Reports explain err_old err_new result status
 
 -- this was done with the file of a program, and reported
-abbrev pub ActsWith : Doing → (a : Asked) → (held later : Held) → (old new : Option (List ℕ))
+abbrev pub ActsWith : TextOrder → (a : Asked) → (held later : Held) → (old new : Option (List ℕ))
     → (err_old err_new : Option (List ℕ)) → (status : ℕ) → Type 0
 ActsWith d a held later old new err_old err_new status =
     ActsBy (ReadsAnd d a held later old new) a.telling.explain err_old err_new status

@@ -8,17 +8,17 @@ use Rattle.types.specs.Typed.{code_of}
 use Rattle.events.specs.Events.{Event}
 use Rattle.race_checker.specs.Clash.{IsAccepted}
 use Rattle.gather.specs.RunErrors.{IsRunCause}
-use Rattle.interleave.specs.World.{World}
-use Rattle.interleave.specs.Worlds.{LeadsTo, outcome_of}
+use Rattle.event_worlds.specs.World.{World}
+use Rattle.event_worlds.specs.Worlds.{LeadsTo, outcome_of}
 use Rattle.trace_text.specs.Headers.{TraceHeader}
 use Rattle.trace_text.specs.Lines.{trace_text}
 use Rattle.command_line.specs.Requests.{Settings}
-use Rattle.intake.specs.Held.{Held}
-use Rattle.intake.specs.declared.failure.Failure.{Failure}
-use Rattle.intake.specs.declared.failure.Failure.TheVariants.{Run as RunFailed}
-use Rattle.intake.specs.declared.failure.Failure.TheVariants.{CannotWrite, NoMemory}
-use Rattle.answers.specs.Answers.{HasInput, IsExplored, IsTraced}
-use Rattle.answers.specs.declared.question.Begun.{Begun}
+use Rattle.files.specs.Held.{Held}
+use Rattle.failures.specs.declared.failure.Failure.{Failure}
+use Rattle.failures.specs.declared.failure.Failure.TheVariants.{Run as RunFailed}
+use Rattle.failures.specs.declared.failure.Failure.TheVariants.{CannotWrite, NoMemory}
+use Rattle.commands.specs.Answers.{HasInput, IsExplored, IsTraced}
+use Rattle.commands.specs.declared.question.Begun.{Begun}
 use Rattle.viewing.specs.Files.{WritesTo}
 use Rattle.driver.specs.declared.tracing.Ran.{Ran}
 

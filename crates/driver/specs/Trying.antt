@@ -1,13 +1,13 @@
 -- Programs run in several ways: timed, and tested.
 use Rattle.std.specs.Prelude.{ℕ, ◌≡◌, List, Option, Result}
-use Rattle.answers.specs.Answers.{Done, Explains}
+use Rattle.commands.specs.Answers.{Done, Explains}
 use Rattle.command_line.specs.Requests.{Settings}
 use Rattle.command_line.specs.declared.request.Command.TheVariants.{Run}
-use Rattle.intake.specs.Held.{Held}
-use Rattle.intake.specs.declared.failure.Failure.{Failure}
-use Rattle.trials.specs.Folders.{Folders}
-use Rattle.trials.specs.Times.{AnswersTimes}
-use Rattle.trials.specs.Trials.{AnswersTest, ExplainsTest}
+use Rattle.files.specs.Held.{Held}
+use Rattle.failures.specs.declared.failure.Failure.{Failure}
+use Rattle.test_and_bench.specs.Folders.{Folders}
+use Rattle.test_and_bench.specs.Times.{AnswersTimes}
+use Rattle.test_and_bench.specs.Trials.{AnswersTest, ExplainsTest}
 
 -- the runs of a text's program were timed, or there is a reason why it isn't run; files are unchanged
 pub record TimesRuns (s : Settings) (text : List ℕ) (held later : Held)

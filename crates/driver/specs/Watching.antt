@@ -9,9 +9,9 @@ use Rattle.command_line.specs.declared.request.Command.TheVariants.{Run, Serial,
 use Rattle.command_line.specs.declared.request.Command.TheVariants.{Explore, Labels, Places, Format}
 use Rattle.command_line.specs.declared.request.Command.TheVariants.{CheckFormat, View, Summary, Draw, Chrome}
 use Rattle.command_line.specs.declared.request.Command.TheVariants.{Cost, CostByLabel, CostByProcedure}
-use Rattle.reading.specs.Orders.{Order, AsText, AsObject, Times, Tests, command_of}
-use Rattle.driver.specs.declared.doing.Doing.{Doing}
-use Rattle.driver.specs.declared.doing.Doing.TheVariants.{Answering, Describing, Timing}
+use Rattle.command_words.specs.Orders.{Order, AsText, AsObject, Times, Tests, command_of}
+use Rattle.driver.specs.declared.doing.TextOrder.{TextOrder}
+use Rattle.driver.specs.declared.doing.TextOrder.TheVariants.{Answering, Describing, Timing}
 
 -- the progress of a run on one thread is reported on request, and for no other command
 abbrev pub is_watched : Command → Settings → Bool
@@ -39,7 +39,7 @@ is_watched_by Rewrite s = false
 
 module _ {W : Type 0} (Told : List ℕ → W → W → Type 0) where
   -- the notifications while this is done with a text; timing runs reads the clock
-  abbrev pub WatchesDoing : {A E : Type 0} → Doing → Asked → Result A E → (old new : W) → Type 0
+  abbrev pub WatchesDoing : {A E : Type 0} → TextOrder → Asked → Result A E → (old new : W) → Type 0
   WatchesDoing Answering a r old new = Watches Told (is_watched_by a.action a.settings) r old new
   WatchesDoing (Describing x) a r old new = Watches Told (is_watched (command_of x) a.settings) r old new
   WatchesDoing Timing a r old new = Unit {0}

@@ -3,34 +3,34 @@
 ghost use Rattle.std.specs.Prelude.{ℕ, ◌≡◌, ◌≤◌, ◌⊎◌, List, codes, true, false, map, Err};
 ghost use Rattle.std.specs.String.{string_bytes};
 ghost use Rattle.driver.specs.Acts.{IsSaid, Reports, TellsMistake, in_short};
-ghost use Rattle.intake.specs.Failures.{TellsNotUtf8};
-ghost use Rattle.intake.specs.declared.failure.Failure.{Failure as FailureOf};
+ghost use Rattle.failures.specs.Failures.{TellsNotUtf8};
+ghost use Rattle.failures.specs.declared.failure.Failure.{Failure as FailureOf};
 ghost use Rattle.command_line.specs.Requests.{Asked, Asks};
-ghost use Rattle.reading.specs.Files.{names_once};
-ghost use Rattle.reading.specs.Orders.{AsksForObject, AsksToTest, AsksToTime};
-ghost use Rattle.reading.specs.Orders.{Order as OrderIn, Orders, names_once as order_names_once, order as order_said};
-ghost use Rattle.reading.specs.declared.order.Subject.{Subject};
+ghost use Rattle.command_words.specs.Files.{names_once};
+ghost use Rattle.command_words.specs.Orders.{AsksForObject, AsksToTest, AsksToTime};
+ghost use Rattle.command_words.specs.Orders.{Order as OrderIn, Orders, names_once as order_names_once, order as order_said};
+ghost use Rattle.command_words.specs.declared.order.Subject.{Subject};
 ghost use Rattle.driver.specs.Orders.{Acts, ActsOn, TellsAs, TestsAs, TimesAs};
 ghost use Rattle.driver.specs.Watching.{WatchesOrder};
 ghost use Rattle.options.specs.Replies.{IsMistake};
-ghost use Rattle.texts.specs.Appending.{AppendsBeginning};
+ghost use Rattle.printing.specs.Appending.{AppendsBeginning};
 
 use crate::answered::Answered;
-use crate::doing::{Doing, Ordered, read_and_do};
+use crate::doing::{Ordered, TextOrder, read_and_do};
 use crate::refusal::Refusal;
 use crate::terminal::Terminal;
 use crate::trying::test;
-use intake::failure::Failure;
+use command_words::order::Order;
+use command_words::words::order_of;
+use failures::failure::Failure;
 use options::reply::Reply;
-use reading::order::Order;
-use reading::words::order_of;
+use printing::emit::append;
 use std::alloc::{AllocError, Global};
 use std::io;
 use std::io::{ErrorKind, Write};
 use std::sync::Wait;
 use std::thread::Threads;
-use texts::emit::append;
-use trials::folders::FolderSource;
+use test_and_bench::folders::FolderSource;
 
 /// Carries out the arguments after the program's name, and returns the exit status. It is a mistake
 /// if they give the same name to two files: no file is both read and written. `--progress` reports
@@ -89,17 +89,17 @@ fn carry_out<R: Threads + Wait + Sync, F: FolderSource, O: Write, E: Write, T: T
 {
     match order {
         Order::AsText(request) => {
-            let doing = Doing::Answering;
+            let doing = TextOrder::Answering;
             let done = read_and_do(rt, alloc, Ordered { doing, request }, files, out, terminal);
             report(done, request.telling.explain, err)
         }
         Order::AsObject(subject, request) => {
-            let doing = Doing::Describing(subject);
+            let doing = TextOrder::Describing(subject);
             let done = read_and_do(rt, alloc, Ordered { doing, request }, files, out, terminal);
             report(done, request.telling.explain, err)
         }
         Order::Times(request) => {
-            let doing = Doing::Timing;
+            let doing = TextOrder::Timing;
             let done = read_and_do(rt, alloc, Ordered { doing, request }, files, out, terminal);
             report(done, request.telling.explain, err)
         }

@@ -2,17 +2,17 @@
 
 ghost use Rattle.std.specs.Prelude.{◌≡◌, ◌≤◌, [], false};
 ghost use Rattle.std.specs.String.{string_bytes};
-ghost use Rattle.texts.specs.Appending.{AppendsBeginning};
+ghost use Rattle.printing.specs.Appending.{AppendsBeginning};
 
 use crate::said::said;
-use crate::source::Source;
-use answers::explaining::run_explanation;
-use answers::question::Question;
+use crate::source::ProgramSource;
 use command_line::request::{Action, Request};
-use intake::files::FileSource;
+use commands::explaining::run_explanation;
+use commands::question::Question;
+use files::file_source::FileSource;
+use printing::emit::append;
 use std::alloc::{AllocError, Global};
 use std::io::Write;
-use texts::emit::append;
 
 /// The status of an answer that was written, and the explanation after it on the standard error.
 #[derive(Drop)]
@@ -28,7 +28,7 @@ impl Answered {
         alloc: Global,
         files: &mut F,
         request: Request<'_>,
-        source: &Source,
+        source: &ProgramSource,
         status: u8,
     ) -> Answered
         ensures status { result.status ≡ status }

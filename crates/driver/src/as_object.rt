@@ -4,27 +4,27 @@ ghost use Rattle.std.specs.Prelude.{IfErr, IfOk};
 ghost use Rattle.std.specs.String.{string_bytes};
 ghost use Rattle.statement_steps.specs.Watched.{Watches};
 ghost use Rattle.command_line.specs.Requests.{asked_of, settings as settings_of};
-ghost use Rattle.reading.specs.Orders.{command_of};
-ghost use Rattle.objects.specs.Objects.{FailsEarly, ObjectOf};
+ghost use Rattle.command_words.specs.Orders.{command_of};
+ghost use Rattle.json_answers.specs.Objects.{FailsEarly, ObjectOf};
 ghost use Rattle.driver.specs.Acts.{Leaves};
 ghost use Rattle.driver.specs.Objects.{status_in};
 ghost use Rattle.driver.specs.Orders.{DoesWithLoaded};
 ghost use Rattle.driver.specs.Traced.{TracesRun};
 ghost use Rattle.driver.specs.Watching.{WatchesDoing, is_watched};
-ghost use Rattle.driver.specs.declared.doing.Doing.TheVariants.{Describing};
+ghost use Rattle.driver.specs.declared.doing.TextOrder.TheVariants.{Describing};
 
 use crate::loaded::Loaded;
 use crate::tracing::run_of;
-use answers::question::Question;
 use command_line::request::Command;
-use intake::failure::Failure;
-use intake::files::FileSource;
-use objects::outcomes::outcome_told;
-use objects::running::{cost_told, serial_told};
-use objects::telling::{check_told, pairs_told};
-use objects::told::Told;
-use objects::writing::{answer_object, tell_refusal};
-use reading::order::Subject;
+use command_words::order::Subject;
+use commands::question::Question;
+use failures::failure::Failure;
+use files::file_source::FileSource;
+use json_answers::object_line::ObjectLine;
+use json_answers::run_outcomes::outcome_told;
+use json_answers::running::{cost_told, serial_told};
+use json_answers::telling::{check_told, pairs_told};
+use json_answers::writing::{answer_object, tell_refusal};
 use statement_steps::watch::Watch;
 use std::alloc::Global;
 use std::io::Write;
@@ -71,7 +71,7 @@ fn object_of<R: Threads + Wait + Sync, F: FileSource, W: Watch>(
     question: Question<'_>,
     files: &mut F,
     watch: &mut W,
-) -> Result<Told, Failure>
+) -> Result<ObjectLine, Failure>
     ensures object { IfOk result (λ t. ObjectOf (command_of subject) (settings_of question.entry.settings)
         (F.held files.old) question.entry.text.now (string_bytes t.line) t.status) }
     ensures why { IfErr result (FailsEarly (command_of subject) (settings_of question.entry.settings)
@@ -96,7 +96,7 @@ fn run_told<R: Threads + Wait + Sync, F: FileSource>(
     alloc: Global,
     question: Question<'_>,
     files: &mut F,
-) -> Result<Told, Failure>
+) -> Result<ObjectLine, Failure>
     ensures object { IfOk result (λ t. ObjectOf Command.Run (settings_of question.entry.settings)
         (F.held files.old) question.entry.text.now (string_bytes t.line) t.status) }
     ensures why { IfErr result (FailsEarly Command.Run (settings_of question.entry.settings)

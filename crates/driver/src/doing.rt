@@ -8,20 +8,20 @@ ghost use Rattle.driver.specs.Watching.{WatchesDoing};
 
 use crate::answered::Answered;
 use crate::as_object::told;
-use crate::commands;
 use crate::handing::handed_on;
 use crate::loaded::Loaded;
 use crate::opening::source_of;
+use crate::performing;
 use crate::refusal::Refusal;
-use crate::source::Source;
+use crate::source::ProgramSource;
 use crate::terminal::Terminal;
 use crate::trying::time;
-use answers::question::Question;
 use command_line::request::Request;
-use intake::failure::Failure;
-use intake::files::FileSource;
-use objects::writing::tell_refusal;
-use reading::order::Subject;
+use command_words::order::Subject;
+use commands::question::Question;
+use failures::failure::Failure;
+use files::file_source::FileSource;
+use json_answers::writing::tell_refusal;
 use std::alloc::Global;
 use std::io::Write;
 use std::sync::Wait;
@@ -29,7 +29,7 @@ use std::thread::Threads;
 
 /// An order for the text of a program.
 #[derive(Clone, Copy)]
-pub enum Doing {
+pub enum TextOrder {
     /// The command is answered as text.
     Answering,
     /// It is answered as one object.
@@ -41,7 +41,7 @@ pub enum Doing {
 /// An order for the text of a program, and its request.
 #[derive(Clone, Copy)]
 pub struct Ordered<'o> {
-    pub doing: Doing,
+    pub doing: TextOrder,
     pub request: Request<'o>,
 }
 
@@ -83,7 +83,7 @@ pub fn read_and_do<R: Threads + Wait + Sync, F: FileSource, O: Write, T: Termina
 fn tell_unread<R: Threads + Sync, O: Write>(
     rt: &R,
     alloc: Global,
-    doing: Doing,
+    doing: TextOrder,
     file: &str,
     failure: &Failure,
     out: &mut O,
@@ -91,16 +91,16 @@ fn tell_unread<R: Threads + Sync, O: Write>(
     ensures { TellsUnread doing file.now (O.contents out.old) (O.contents out.new) failure.now }
 {
     match doing {
-        Doing::Answering => {}
-        Doing::Describing(_) => tell_refusal(rt, alloc, file, "", failure, out),
-        Doing::Timing => {}
+        TextOrder::Answering => {}
+        TextOrder::Describing(_) => tell_refusal(rt, alloc, file, "", failure, out),
+        TextOrder::Timing => {}
     }
 }
 
 /// Carries out an order on a text.
 fn do_with<R: Threads + Wait + Sync, F: FileSource, O: Write, T: Terminal>(
     rt: &R,
-    doing: Doing,
+    doing: TextOrder,
     loaded: Loaded<'_>,
     files: &mut F,
     out: &mut O,
@@ -112,12 +112,12 @@ fn do_with<R: Threads + Wait + Sync, F: FileSource, O: Write, T: Terminal>(
         result terminal.old terminal.new }
 {
     match doing {
-        Doing::Answering => {
-            let done = commands::perform(rt, loaded, files, out, terminal);
+        TextOrder::Answering => {
+            let done = performing::perform(rt, loaded, files, out, terminal);
             handed_on(out, done)
         }
-        Doing::Describing(subject) => told(rt, subject, loaded, files, out, terminal),
-        Doing::Timing => {
+        TextOrder::Describing(subject) => told(rt, subject, loaded, files, out, terminal),
+        TextOrder::Timing => {
             let question = Question {
                 text: loaded.text,
                 settings: loaded.request.settings,
@@ -134,7 +134,7 @@ fn explained<R: Threads + Sync, F: FileSource>(
     alloc: Global,
     files: &mut F,
     request: Request<'_>,
-    source: &Source,
+    source: &ProgramSource,
     done: Result<u8, Failure>,
 ) -> Result<Answered, Refusal>
     ensures same { in_short result ≡ done }

@@ -2,7 +2,7 @@
 
 ghost use Rattle.driver.specs.Acts.{IsHandedOn};
 
-use intake::failure::Failure;
+use failures::failure::Failure;
 use std::io::Write;
 
 /// Flushes the writer of an answer, if there is an answer.

@@ -5,11 +5,11 @@
 pub mod act;
 mod answered;
 mod as_object;
-mod commands;
 mod doing;
 mod handing;
 mod loaded;
 mod opening;
+mod performing;
 mod refusal;
 mod said;
 mod source;
@@ -17,6 +17,6 @@ pub mod terminal;
 mod tracing;
 mod trying;
 
-pub use intake::files;
-pub use texts::progress;
-pub use trials::{clock, folders};
+pub use files::file_source;
+pub use printing::progress;
+pub use test_and_bench::{clock, folders};

@@ -2,17 +2,17 @@
 
 ghost use Rattle.std.specs.Prelude.{◌≡◌, ◌≤◌, [], length, false, IfErr, IfOk};
 ghost use Rattle.std.specs.String.{string_bytes};
-ghost use Rattle.intake.specs.Held.{HasText, TellsNoProgram};
+ghost use Rattle.files.specs.Held.{HasText, TellsNoProgram};
 ghost use Rattle.command_line.specs.declared.request.Color.TheVariants.{Always, Never};
 ghost use Rattle.excerpts.specs.declared.paint.Paint.TheVariants.{Coloured, Plain};
 
 use crate::refusal::Refusal;
-use crate::source::Source;
+use crate::source::ProgramSource;
 use crate::terminal::Terminal;
 use command_line::request::{Color, Request, Telling};
 use excerpts::paint::Paint;
-use intake::failure::Failure;
-use intake::files::{FileSource, read_program};
+use failures::failure::Failure;
+use files::file_source::{FileSource, read_program};
 use std::alloc::Global;
 
 /// Returns the text of the file that a request names; or the reason why it has none, explained if
@@ -22,7 +22,7 @@ pub(crate) fn source_of<F: FileSource, T: Terminal>(
     files: &mut F,
     request: Request<'_>,
     terminal: &T,
-) -> Result<Source, Refusal>
+) -> Result<ProgramSource, Refusal>
     ensures text { IfOk result
         (λ source. HasText (F.held files.old) request.entry.file.now (string_bytes source.text)) }
     ensures short { IfOk result (λ source. length (string_bytes source.text) ≤ 1048576) }
@@ -34,7 +34,7 @@ pub(crate) fn source_of<F: FileSource, T: Terminal>(
 {
     let paint = paint_of(request.telling, terminal);
     match text_in(alloc, files, request.file) {
-        Ok(text) => Ok(Source { text, paint }),
+        Ok(text) => Ok(ProgramSource { text, paint }),
         Err(failure) => Err(Refusal::unread(alloc, files, request, paint, failure)),
     }
 }

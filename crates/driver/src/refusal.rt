@@ -2,24 +2,24 @@
 
 ghost use Rattle.std.specs.Prelude.{◌≡◌, ◌++◌, [], codes, false};
 ghost use Rattle.std.specs.String.{string_bytes};
-ghost use Rattle.intake.specs.FailureStatus.{failure_status};
-ghost use Rattle.intake.specs.Messages.{failure_text};
-ghost use Rattle.texts.specs.Appending.{AppendsBeginning};
+ghost use Rattle.failures.specs.FailureStatus.{failure_status};
+ghost use Rattle.failures.specs.Messages.{failure_text};
+ghost use Rattle.printing.specs.Appending.{AppendsBeginning};
 
 use crate::said::said;
-use crate::source::Source;
-use answers::explaining::explanation;
-use answers::question::Question;
-use answers::unread::unread_explanation;
+use crate::source::ProgramSource;
 use command_line::request::Request;
+use commands::explaining::explanation;
+use commands::question::Question;
+use commands::unread::unread_explanation;
 use excerpts::paint::Paint;
-use intake::failure::Failure;
-use intake::files::FileSource;
-use intake::message::emit_message;
+use failures::failure::Failure;
+use failures::message::emit_message;
+use files::file_source::FileSource;
+use printing::emit::append;
 use std::alloc::Global;
 use std::io::Write;
 use std::thread::Threads;
-use texts::emit::append;
 
 /// The reason why a command failed, and the explanation after its line.
 #[derive(Drop)]
@@ -46,7 +46,7 @@ impl Refusal {
         alloc: Global,
         files: &mut F,
         request: Request<'_>,
-        source: &Source,
+        source: &ProgramSource,
         failure: Failure,
     ) -> Refusal
         ensures failure { result.failure ≡ failure }

@@ -4,7 +4,7 @@ use excerpts::paint::Paint;
 
 /// The text of a program, and whether its explanations are colored.
 #[derive(Drop)]
-pub struct Source {
+pub struct ProgramSource {
     pub text: String,
     pub paint: Paint,
 }

@@ -4,7 +4,7 @@ ghost use Rattle.std.specs.Prelude.{◌≡◌};
 
 use statement_steps::watch::{Unwatched, Watch};
 use std::time::Clock;
-use trials::clock::Stopwatch;
+use test_and_bench::clock::Stopwatch;
 
 /// A watch for the progress of runs, with a clock. It also knows whether explanations may be
 /// colored.
@@ -22,18 +22,18 @@ impl Terminal for Unwatched {
 
 /// A terminal with a user, with or without colors, and with a clock.
 #[derive(Drop)]
-pub struct Seen<W: Watch, C: Clock> {
+pub struct WatchedTerminal<W: Watch, C: Clock> {
     watch: W,
     has_colours: bool,
     clock: C,
 }
 
-impl<W: Watch + Drop, C: Clock + Drop> Seen<W, C> {
+impl<W: Watch + Drop, C: Clock + Drop> WatchedTerminal<W, C> {
     /// Returns a terminal, which has colors if `has_colours`.
-    pub fn new(watch: W, has_colours: bool, clock: C) -> Seen<W, C>
+    pub fn new(watch: W, has_colours: bool, clock: C) -> WatchedTerminal<W, C>
         ensures colours { result.has_colours ≡ has_colours }
     {
-        Seen {
+        WatchedTerminal {
             watch,
             has_colours,
             clock,
@@ -41,7 +41,7 @@ impl<W: Watch + Drop, C: Clock + Drop> Seen<W, C> {
     }
 }
 
-impl<W: Watch, C: Clock> Stopwatch for Seen<W, C> {
+impl<W: Watch, C: Clock> Stopwatch for WatchedTerminal<W, C> {
     fn micros(&mut self) -> u64 {
         match self.clock.monotonic() {
             Ok(time) => {
@@ -53,7 +53,7 @@ impl<W: Watch, C: Clock> Stopwatch for Seen<W, C> {
     }
 }
 
-impl<W: Watch, C: Clock> Watch for Seen<W, C> {
+impl<W: Watch, C: Clock> Watch for WatchedTerminal<W, C> {
     ghost Told = { λ counts old new. W.Told counts old.watch new.watch };
 
     fn look(&mut self, steps: u64) {
@@ -65,7 +65,7 @@ impl<W: Watch, C: Clock> Watch for Seen<W, C> {
     ghost told_more = { λ counts count a b c. W.told_more counts count a.watch b.watch c.watch };
 }
 
-impl<W: Watch, C: Clock> Terminal for Seen<W, C> {
+impl<W: Watch, C: Clock> Terminal for WatchedTerminal<W, C> {
     fn has_colours(&self) -> bool
         ensures { result ≡ self.now.has_colours }
     {

@@ -5,16 +5,16 @@ ghost use Rattle.std.specs.String.{string_bytes};
 ghost use Rattle.types.specs.Translation.{input as lists_in};
 ghost use Rattle.types.specs.Typed.{code_of};
 ghost use Rattle.command_line.specs.Requests.{settings as settings_of};
-ghost use Rattle.answers.specs.Answers.{IsTraced};
-ghost use Rattle.answers.specs.Outcomes.{Fits, IsOutcomeOf};
-ghost use Rattle.objects.specs.Objects.{FailsEarly};
+ghost use Rattle.commands.specs.Answers.{IsTraced};
+ghost use Rattle.commands.specs.Outcomes.{Fits, IsOutcomeOf};
+ghost use Rattle.json_answers.specs.Objects.{FailsEarly};
 ghost use Rattle.driver.specs.Traced.{IsRunOf, IsTraceOf, TellsNoOutcome, TellsNoRun, TracesBegun, TracesRun};
 
-use answers::question::{Begun, Question};
-use command_line::request::{Command, Settings, Spread};
+use command_line::request::{Command, RunOptions, Spread};
+use commands::question::{Begun, Question};
+use failures::failure::Failure;
+use files::file_source::{FileSource, write_file};
 use gather::run_error::RunError;
-use intake::failure::Failure;
-use intake::files::{FileSource, write_file};
 use std::alloc::Global;
 use std::sync::Wait;
 use std::thread::Threads;
@@ -56,7 +56,7 @@ pub fn run_of<R: Threads + Wait + Sync, F: FileSource>(
 fn outcome_of<R: Threads + Wait + Sync, F: FileSource>(
     rt: &R,
     alloc: Global,
-    settings: Settings<'_>,
+    settings: RunOptions<'_>,
     given: &Begun,
     files: &mut F,
 ) -> Result<Outcome, Failure>
@@ -81,7 +81,7 @@ fn outcome_of<R: Threads + Wait + Sync, F: FileSource>(
 fn untraced<R: Threads + Wait + Sync>(
     rt: &R,
     alloc: Global,
-    settings: Settings<'_>,
+    settings: RunOptions<'_>,
     given: &Begun,
 ) -> Result<Outcome, Failure>
     requires { Fits given.now.accepted.typed given.now.input }
@@ -100,7 +100,7 @@ fn untraced<R: Threads + Wait + Sync>(
 fn traced<R: Threads + Wait + Sync>(
     rt: &R,
     alloc: Global,
-    settings: Settings<'_>,
+    settings: RunOptions<'_>,
     given: &Begun,
 ) -> Result<(Outcome, String), Failure>
     requires fits { Fits given.now.accepted.typed given.now.input }
@@ -130,7 +130,7 @@ fn traced<R: Threads + Wait + Sync>(
 }
 
 /// Returns the limits of a run and its number of workers, as requested.
-pub(crate) fn run_settings(settings: Settings<'_>) -> RunSettings
+pub(crate) fn run_settings(settings: RunOptions<'_>) -> RunSettings
     ensures budget { result.budget ≡ settings.entry.budget }
     ensures tasks { result.tasks ≡ settings.entry.spread.tasks }
     ensures w0 { result.w0 ≡ settings.entry.spread.w0 }

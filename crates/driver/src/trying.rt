@@ -9,20 +9,20 @@ use crate::answered::Answered;
 use crate::handing::handed_on;
 use crate::refusal::Refusal;
 use crate::tracing::run_settings;
-use answers::question::Question;
-use command_line::request::Settings;
-use intake::failure::Failure;
-use intake::files::FileSource;
+use command_line::request::RunOptions;
+use commands::question::Question;
+use failures::failure::Failure;
+use files::file_source::FileSource;
 use race_checker::accepted::Accepted;
 use std::alloc::Global;
 use std::io::Write;
 use std::sync::Wait;
 use std::thread::Threads;
-use trials::clock::Stopwatch;
-use trials::folders::FolderSource;
-use trials::runs::Runs;
-use trials::testing::test_folder;
-use trials::timing::{Timing, bench};
+use test_and_bench::clock::Stopwatch;
+use test_and_bench::folders::FolderSource;
+use test_and_bench::runs::Runs;
+use test_and_bench::testing::test_folder;
+use test_and_bench::timing::{Timing, bench};
 use types::input::Input;
 use types::outcome::Outcome;
 use workers::gate::NoGate;
@@ -39,7 +39,7 @@ impl Runs for OnThreads {
         alloc: Global,
         accepted: &Accepted,
         input: &Input,
-        settings: Settings<'_>,
+        settings: RunOptions<'_>,
     ) -> Result<Outcome, Failure> {
         let on = run_settings(settings);
         match run(rt, alloc, accepted, input, on, &NoGate, None) {

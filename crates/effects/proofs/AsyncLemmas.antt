@@ -8,7 +8,7 @@ use Rattle.std.specs.BTreeMap.{BTreeMap, Updates}
 use Rattle.std.specs.Cmp.{Equal-is}
 use Rattle.std.specs.Ordering.{nat_cmp, is_eq}
 use Rattle.std.specs.Prelude.{Bool, true, false, Option, None, Some, IsSome, option_map, slice_index_or}
-use Rattle.facts.proofs.Truths.{false_true}
+use Rattle.shared_lemmas.proofs.Truths.{false_true}
 use Rattle.sections.specs.Member.{Member, first, next}
 use Rattle.types.specs.Code.{Code, Async, Codes, End, Procedure, Program}
 use Rattle.types.specs.Run.{procedure_of, no_procedure}

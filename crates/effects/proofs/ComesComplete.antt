@@ -3,7 +3,7 @@ use Rattle.std.proofs.Common.{◌≡◌, ◌≢◌, ℕ, zero, suc, ◌+◌, ◌
 use Rattle.std.proofs.Common.{subst, ◌∙◌, arith, Some, Option}
 use Rattle.std.proofs.lemmas.Bool.{lt-ltb, eqb-true, eqb-false}
 use Rattle.std.specs.Prelude.{Bool, true, false, nat_eq, if◌then◌else◌, slice_get, slice_index_or}
-use Rattle.facts.proofs.Truths.{false_true}
+use Rattle.shared_lemmas.proofs.Truths.{false_true}
 use Rattle.sections.specs.Member.{Member, first, next}
 use Rattle.sections.specs.Overlap.{root_of}
 use Rattle.sections.proofs.Lines.{root_of-root}
@@ -21,15 +21,15 @@ use Rattle.effects.specs.Sound.{SplitsWell, CallsWell, FollowsOf, Follows, IsSou
 use Rattle.effects.specs.Starts.{starts_of, starts_of_label, starts_of_access}
 use Rattle.effects.specs.Summarized.{body_of}
 use Rattle.effects.specs.Visits.{Visit, visits_in, visits_inside, in_async, in_finish}
-use Rattle.effects.specs.declared.flows.Flow.{Flow}
-use Rattle.effects.specs.declared.summary.Row.{Row}
-use Rattle.effects.specs.declared.summary.Row.TheVariants.{All as AllRow, Pending as PendingRow, Labels, PendingLabels}
+use Rattle.effects.specs.declared.flows.CallFlow.{CallFlow}
+use Rattle.effects.specs.declared.summary.SummaryRow.{SummaryRow}
+use Rattle.effects.specs.declared.summary.SummaryRow.TheVariants.{All as AllRow, Pending as PendingRow, Labels, PendingLabels}
 use Rattle.effects.specs.declared.visits.Standing.{Standing}
 use Rattle.effects.specs.declared.visits.Standing.TheVariants.{Open, Begun, Awaited}
 use Rattle.effects.proofs.AccessesInScope.{origin_from_get, allowed, pending_all}
 use Rattle.effects.proofs.ComesSound.{past_root}
 use Rattle.effects.proofs.Members.{in_flat_map, in_left, in_right, numbers_from-below}
-use Rattle.facts.proofs.Lists.{get-append_last}
+use Rattle.shared_lemmas.proofs.Lists.{get-append_last}
 
 -- a statement of a procedure and its position
 abbrev seen : Standing → ℕ → Code → Visit
@@ -179,14 +179,14 @@ module _ (p : Program) (sound : IsSound p) where
 
 module _ (p : Program) where
   -- what a statement of a procedure puts in a row arrives there
-  started : (f : ℕ) (g : Procedure) → Stands p f g → (r : Row) (l : ℕ) (v : Visit) → Member v (visits_of g)
+  started : (f : ℕ) (g : Procedure) → Stands p f g → (r : SummaryRow) (l : ℕ) (v : Visit) → Member v (visits_of g)
       → Member (record { row = r; label = l }) (starts_of (root_of g.sections) v) → Comes p f r l
   started f g st r l v m h =
       Comes.start (subst (λ (o : Option Procedure). StartsIn o r l) (sym st.at)
       (in_flat_map (starts_of (root_of g.sections)) m h))
 
   -- what the procedure with this number brings is among what all bring
-  flows_at : (n j i k : ℕ) (gs : List Procedure) (g : Procedure) (y : Flow) → slice_get gs i ≡ Some g → k ≡ j + i
+  flows_at : (n j i k : ℕ) (gs : List Procedure) (g : Procedure) (y : CallFlow) → slice_get gs i ≡ Some g → k ≡ j + i
       → Member y (flows_in n (record { number = k }) g) → Member y (flows_in_all n j gs)
   flows_at n j i k [] g y at e m = cc
   flows_at n j zero k (x ∷ xs) g y at e m =
@@ -199,14 +199,14 @@ module _ (p : Program) where
       in_right (flows_in n (record { number = j }) x) (flows_at n (j + 1) i k xs g y at (omega (arith, e)) m)
 
   -- what a call of a procedure brings into a row arrives there
-  brought : (f : ℕ) (g : Procedure) → Stands p f g → (k : ℕ) → k < length p.procedures → (from into : Row) (l : ℕ)
+  brought : (f : ℕ) (g : Procedure) → Stands p f g → (k : ℕ) → k < length p.procedures → (from into : SummaryRow) (l : ℕ)
       → (w : Standing) (label : ℕ) (es : List Number) (ss : List ℕ) → Member (seen w label (Call k es ss)) (visits_of g)
-      → (let y : Flow = flow (record { number = f }) (record { number = k }) from into in
+      → (let y : CallFlow = flow (record { number = f }) (record { number = k }) from into in
       Member y (flows_of_labels (record { number = f }) w (record { number = k })
       ++ flows_of_sections (record { number = f }) (root_of g.sections) w (record { number = k }) 0 ss))
       → Comes p k from l → Comes p f into l
   brought f g st k there from into l w label es ss m h comes =
-      let y : Flow = flow (record { number = f }) (record { number = k }) from into in
+      let y : CallFlow = flow (record { number = f }) (record { number = k }) from into in
       let n = length p.procedures in
       Comes.flow y
       (flows_at n 0 f f (numbered p) g y st.at (omega arith)
@@ -216,7 +216,7 @@ module _ (p : Program) where
       st.below comes
 
 -- the row of an access
-abbrev row : (pending : Bool) → (section : ℕ) → (write : Bool) → Row
+abbrev row : (pending : Bool) → (section : ℕ) → (write : Bool) → SummaryRow
 row false s w = AllRow (record { number = s }) w
 row true s w = PendingRow (record { number = s }) w
 
@@ -241,7 +241,7 @@ use_flows f k a b write true w h =
     (sym (h refl)) (next first)
 
 -- what is brought for a section argument is among what is brought for all of them
-section_flows : (f k : ProcedureId) (root : ℕ → ℕ) (w : Standing) (write : Bool) (y : Flow) (j i a : ℕ) (ss : List ℕ) → i < length ss
+section_flows : (f k : ProcedureId) (root : ℕ → ℕ) (w : Standing) (write : Bool) (y : CallFlow) (j i a : ℕ) (ss : List ℕ) → i < length ss
     → a ≡ j + i
     → Member y (flows_of_use f w k (record { number = a }) (record { number = root (slice_index_or ss i 0) }) write)
     → Member y (flows_of_sections f root w k j ss)
@@ -261,7 +261,7 @@ section_flows f k root w write y j (suc i) a (s ∷ ss) h e m =
     (section_flows f k root w write y (j + 1) i a ss (omega (arith, h)) (omega (arith, e)) m))
 
 -- the row of a statement's label
-abbrev label_row : (pending : Bool) → Row
+abbrev label_row : (pending : Bool) → SummaryRow
 label_row false = Labels
 label_row true = PendingLabels
 
@@ -349,14 +349,14 @@ module _ (p : Program) (sound : IsSound p) where
     past = λ g well scope s l r splits x. refl;
   }
 
-  complete_at : (f : ℕ) (g : Procedure) → Stands p f g → (r : Row) (l : ℕ) → Derived p g.body r l → Comes p f r l
+  complete_at : (f : ℕ) (g : Procedure) → Stands p f g → (r : SummaryRow) (l : ℕ) → Derived p g.body r l → Comes p f r l
   complete_at f g st (AllRow s w) l h = all_down p sound accesses AccessTo bring_accesses f g st _ h
   complete_at f g st (PendingRow s w) l h = pending_down p sound accesses AccessTo bring_accesses f g st _ h
   complete_at f g st Labels l h = all_down p sound by_label LabelTo bring_labels f g st l h
   complete_at f g st PendingLabels l h = pending_down p sound by_label LabelTo bring_labels f g st l h
 
   -- everything that a body may do, and what it leaves pending, arrives in its rows
-  pub comes_complete : (f : ℕ) (r : Row) (l : ℕ) → f < length p.procedures + 1 → Derived p (body_of p f) r l → Comes p f r l
+  pub comes_complete : (f : ℕ) (r : SummaryRow) (l : ℕ) → f < length p.procedures + 1 → Derived p (body_of p f) r l → Comes p f r l
   comes_complete f r l h = go (nat_eq f (length p.procedures)) refl
     where
       go : (b : Bool) → nat_eq f (length p.procedures) ≡ b

@@ -22,15 +22,15 @@ use Rattle.effects.specs.Sound.{SplitsWell, IsSoundIn, IsSound, parameters_of}
 use Rattle.effects.specs.Starts.{starts_of, starts_of_label, starts_of_access}
 use Rattle.effects.specs.Summarized.{body_of}
 use Rattle.effects.specs.Visits.{Visit}
-use Rattle.effects.specs.declared.flows.Flow.{Flow}
-use Rattle.effects.specs.declared.starts.Start.{Start}
-use Rattle.effects.specs.declared.summary.Row.{Row}
+use Rattle.effects.specs.declared.flows.CallFlow.{CallFlow}
+use Rattle.effects.specs.declared.starts.FirstLabel.{FirstLabel}
+use Rattle.effects.specs.declared.summary.SummaryRow.{SummaryRow}
 use Rattle.effects.specs.declared.visits.Standing.{Standing}
 use Rattle.effects.specs.declared.visits.Standing.TheVariants.{Open, Begun, Awaited}
 use Rattle.effects.proofs.AccessesInScope.{past_split-left, past_split-right, past_split-other, origin_from_get, allowed, pending_all}
 use Rattle.effects.proofs.Members.{in_parts, numbers_from-below}
 use Rattle.effects.proofs.VisitLemmas.{up, left_up, Leaves}
-use Rattle.facts.proofs.Truths.{if_false, if_true}
+use Rattle.shared_lemmas.proofs.Truths.{if_false, if_true}
 
 -- what is in such a list comes from an element
 from_flat_map : {A B : Type 0} (f : A → List B) {y : B} (xs : List A) → Member y (flat_map f xs) → (x : A) × Member x xs × Member y (f x)
@@ -166,7 +166,7 @@ module _ (p : Program) (sound : IsSound p) (g : Procedure) (here : IsSoundIn p g
   labels_left = body_leaves p labels g (root_of g.sections) (labels_at_root p g) here
 
   -- what a statement does without its call
-  label_starts : (w : Standing) (l : ℕ) (c : Code) → Member (visit_at w l c) (visits_of g) → {y : Start}
+  label_starts : (w : Standing) (l : ℕ) (c : Code) → Member (visit_at w l c) (visits_of g) → {y : FirstLabel}
       → Member y (starts_of_label w l) → Derived p g.body y.row y.label
   label_starts Open l c m first = labels_may (visit_at Open l c) m l (AllOf.own_access first)
   label_starts Open l c m (next h) = elim h [ ]
@@ -177,7 +177,7 @@ module _ (p : Program) (sound : IsSound p) (g : Procedure) (here : IsSoundIn p g
   label_starts Awaited l c m (next h) = elim h [ ]
 
   access_starts : (w : Standing) (l : ℕ) (c : Code) → Member (visit_at w l c) (visits_of g) → (x : Access) → Member x (own_accesses l c)
-      → {y : Start} → Member y (starts_of_access (root_of g.sections) w x) → Derived p g.body y.row y.label
+      → {y : FirstLabel} → Member y (starts_of_access (root_of g.sections) w x) → Derived p g.body y.row y.label
   access_starts Open l c m x o first = accesses_may (visit_at Open l c) m x (AllOf.own_access o)
   access_starts Open l c m x o (next h) = elim h [ ]
   access_starts Begun l c m x o first = accesses_may (visit_at Begun l c) m x (AllOf.own_access o)
@@ -186,7 +186,7 @@ module _ (p : Program) (sound : IsSound p) (g : Procedure) (here : IsSoundIn p g
   access_starts Awaited l c m x o first = accesses_may (visit_at Awaited l c) m x (AllOf.own_access o)
   access_starts Awaited l c m x o (next h) = elim h [ ]
 
-  starts_derived : {y : Start} → Member y (starts_in g) → Derived p g.body y.row y.label
+  starts_derived : {y : FirstLabel} → Member y (starts_in g) → Derived p g.body y.row y.label
   starts_derived {y} m =
       let v = from_flat_map (starts_of (root_of g.sections)) (visits_of g) m in
       elim (in_parts (starts_of_label v.0.standing v.0.label) v.2) [
@@ -197,7 +197,7 @@ module _ (p : Program) (sound : IsSound p) (g : Procedure) (here : IsSoundIn p g
       ]
 
   -- what a call brings from the rows of its procedure
-  abbrev Brings : ProcedureId → (f : ℕ) → Flow → Type 0
+  abbrev Brings : ProcedureId → (f : ℕ) → CallFlow → Type 0
   Brings caller f x =
       (x.caller ≡ caller) × (x.callee.number ≡ f) × ((l : ℕ) → Derived p (procedure_of p f).body x.from l → Derived p g.body x.to l)
 
@@ -208,7 +208,7 @@ module _ (p : Program) (sound : IsSound p) (g : Procedure) (here : IsSoundIn p g
     abbrev callee : ProcedureId
     callee = record { number = f }
 
-    label_brings : (w : Standing) → Member (call_at w) (visits_of g) → {x : Flow} → Member x (flows_of_labels caller w callee) → Brings caller f x
+    label_brings : (w : Standing) → Member (call_at w) (visits_of g) → {x : CallFlow} → Member x (flows_of_labels caller w callee) → Brings caller f x
     label_brings Open m first = (refl, refl, λ l h. labels_may (call_at Open) m l (AllOf.inner Inner.call h refl))
     label_brings Open m (next first) = (refl, refl, λ l h. labels_left (call_at Open) m l (PendingOf.inner Inner.call h refl))
     label_brings Open m (next (next h)) = elim h [ ]
@@ -221,7 +221,7 @@ module _ (p : Program) (sound : IsSound p) (g : Procedure) (here : IsSoundIn p g
     abbrev passed : (i l : ℕ) → Bool → Access
     passed i l b = renamed (passed_for ss) (record { label = l; section = i; write = b })
 
-    use_brings : (w : Standing) → Member (call_at w) (visits_of g) → (i : ℕ) (b : Bool) → {x : Flow}
+    use_brings : (w : Standing) → Member (call_at w) (visits_of g) → (i : ℕ) (b : Bool) → {x : CallFlow}
         → Member x (flows_of_use caller w callee (record { number = i }) (record { number = root_of g.sections (passed_for ss i) }) b)
         → Brings caller f x
     use_brings Open m i b first = (refl, refl, λ l h. accesses_may (call_at Open) m (passed i l b) (AllOf.inner Inner.call h refl))
@@ -236,14 +236,14 @@ module _ (p : Program) (sound : IsSound p) (g : Procedure) (here : IsSoundIn p g
     use_brings Awaited m i b (next h) = elim h [ ]
 
     -- the use of one of the sections that are passed
-    abbrev UseOf : Standing → (k i s : ℕ) → Bool → Flow → Type 0
+    abbrev UseOf : Standing → (k i s : ℕ) → Bool → CallFlow → Type 0
     UseOf w k i s b x = Member x (flows_of_use caller w callee (record { number = k + i }) (record { number = root_of g.sections s }) b)
 
-    from_sections : (w : Standing) (k : ℕ) (ts : List ℕ) {x : Flow} → Member x (flows_of_sections caller (root_of g.sections) w callee k ts)
+    from_sections : (w : Standing) (k : ℕ) (ts : List ℕ) {x : CallFlow} → Member x (flows_of_sections caller (root_of g.sections) w callee k ts)
         → (i : ℕ) × (b : Bool) × UseOf w k i (passed_for ts i) b x
     from_sections w k [] m = elim m [ ]
     from_sections w k (t ∷ ts) {x} m =
-        let uses : (n : ℕ) (b : Bool) → List Flow =
+        let uses : (n : ℕ) (b : Bool) → List CallFlow =
         λ n b. flows_of_use caller w callee (record { number = n }) (record { number = root_of g.sections t }) b in
         let e : k ≡ k + 0 = omega arith in
         elim (in_parts (uses k true) m) [
@@ -261,7 +261,7 @@ module _ (p : Program) (sound : IsSound p) (g : Procedure) (here : IsSoundIn p g
           ]
         ]
 
-    section_brings : (w : Standing) → Member (call_at w) (visits_of g) → {x : Flow}
+    section_brings : (w : Standing) → Member (call_at w) (visits_of g) → {x : CallFlow}
         → Member x (flows_of_sections caller (root_of g.sections) w callee 0 ss) → Brings caller f x
     section_brings w m {x} h =
         let r = from_sections w 0 ss h in
@@ -270,7 +270,7 @@ module _ (p : Program) (sound : IsSound p) (g : Procedure) (here : IsSoundIn p g
         (subst (λ (n : ℕ). Member x (flows_of_use caller w callee (record { number = n })
         (record { number = root_of g.sections (passed_for ss r.0) }) r.1)) same r.2)
 
-    call_brings : (w : Standing) → Member (call_at w) (visits_of g) → {x : Flow}
+    call_brings : (w : Standing) → Member (call_at w) (visits_of g) → {x : CallFlow}
         → Member x (flows_of_labels caller w callee ++ flows_of_sections caller (root_of g.sections) w callee 0 ss) → Brings caller f x
     call_brings w m h = elim (in_parts (flows_of_labels caller w callee) h) [
       | inl a ↦ label_brings w m a
@@ -278,11 +278,11 @@ module _ (p : Program) (sound : IsSound p) (g : Procedure) (here : IsSoundIn p g
     ]
 
   -- this fact by number
-  abbrev Carries : ProcedureId → Flow → Type 0
+  abbrev Carries : ProcedureId → CallFlow → Type 0
   Carries caller x =
       (x.caller ≡ caller) × ((l : ℕ) → Derived p (body_of p x.callee.number) x.from l → Derived p g.body x.to l)
 
-  code_carries : (caller : ProcedureId) (w : Standing) (k : ℕ) (c : Code) → Member (visit_at w k c) (visits_of g) → {x : Flow}
+  code_carries : (caller : ProcedureId) (w : Standing) (k : ℕ) (c : Code) → Member (visit_at w k c) (visits_of g) → {x : CallFlow}
       → Member x (flows_of_code caller (length p.procedures) (root_of g.sections) w c) → Carries caller x
   code_carries caller w k (Do s) m h = elim h [ ]
   code_carries caller w k (If t b c) m h = elim h [ ]
@@ -299,13 +299,13 @@ module _ (p : Program) (sound : IsSound p) (g : Procedure) (here : IsSoundIn p g
   code_carries caller w k (Async b) m h = elim h [ ]
   code_carries caller w k (Finish b) m h = elim h [ ]
 
-  flows_carry : (caller : ProcedureId) {x : Flow} → Member x (flows_in (length p.procedures) caller g) → Carries caller x
+  flows_carry : (caller : ProcedureId) {x : CallFlow} → Member x (flows_in (length p.procedures) caller g) → Carries caller x
   flows_carry caller m =
       let v = from_flat_map (flows_of caller (length p.procedures) (root_of g.sections)) (visits_of g) m in
       code_carries caller v.0.standing v.0.label v.0.code v.1 v.2
 
 -- a flow is that of the procedure with this number
-from_flows : (n k : ℕ) (gs : List Procedure) {x : Flow} → Member x (flows_in_all n k gs)
+from_flows : (n k : ℕ) (gs : List Procedure) {x : CallFlow} → Member x (flows_in_all n k gs)
     → (j : ℕ) × (g : Procedure) × (slice_get gs j ≡ Some g) × Member x (flows_in n (record { number = k + j }) g)
 from_flows n k [] m = elim m [ ]
 from_flows n k (g ∷ gs) {x} m = elim (in_parts (flows_in n (record { number = k }) g) m) [
@@ -319,13 +319,13 @@ from_flows n k (g ∷ gs) {x} m = elim (in_parts (flows_in n (record { number = 
 ]
 
 -- the procedure that starts something exists
-from_start : (o : Option Procedure) (r : Row) (l : ℕ) → StartsIn o r l
-    → (g : Procedure) × (o ≡ Some g) × (let y : Start = record { row = r; label = l } in Member y (starts_in g))
+from_start : (o : Option Procedure) (r : SummaryRow) (l : ℕ) → StartsIn o r l
+    → (g : Procedure) × (o ≡ Some g) × (let y : FirstLabel = record { row = r; label = l } in Member y (starts_in g))
 from_start None r l h = elim h [ ]
 from_start (Some g) r l h = (g, refl, h)
 
 -- what arrives in a row of a procedure is derived
-pub comes_sound : (p : Program) → IsSound p → {f : ℕ} {r : Row} {l : ℕ} → Comes p f r l → Derived p (body_of p f) r l
+pub comes_sound : (p : Program) → IsSound p → {f : ℕ} {r : SummaryRow} {l : ℕ} → Comes p f r l → Derived p (body_of p f) r l
 comes_sound p sound (Comes.start {f = f} {r = r} {l = l} h) =
     let s = from_start (slice_get (numbered p) f) r l h in
     let b = numbered_body p sound f s.0 s.1 in

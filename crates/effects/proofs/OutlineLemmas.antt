@@ -12,9 +12,9 @@ use Rattle.effects.specs.Closing.{HasIn}
 use Rattle.effects.specs.Outlines.{starts_in, flows_in, flows_in_all, StartsAt}
 use Rattle.effects.specs.SummaryRows.{HasRow}
 use Rattle.effects.specs.Visits.{visits_in, visit}
-use Rattle.effects.specs.declared.flows.Flow.{Flow}
-use Rattle.effects.specs.declared.starts.Start.{Start}
-use Rattle.effects.specs.declared.summary.Row.{Row}
+use Rattle.effects.specs.declared.flows.CallFlow.{CallFlow}
+use Rattle.effects.specs.declared.starts.FirstLabel.{FirstLabel}
+use Rattle.effects.specs.declared.summary.SummaryRow.{SummaryRow}
 use Rattle.effects.specs.declared.summary.Summary.{Summary}
 use Rattle.effects.specs.declared.visits.Standing.TheVariants.{Open}
 use Rattle.effects.specs.declared.visits.Visit.{Visit as rVisit}
@@ -43,16 +43,16 @@ retaken (z ∷ zs) (suc k) x y e (inl first) = first
 retaken (z ∷ zs) (suc k) x y e (inl (next m)) = next (retaken zs k x y e (inl m))
 retaken (z ∷ zs) (suc k) x y e (inr m) = next (retaken zs k x y e (inr m))
 
-same_start : (x : Start) (r : Row) (l : ℕ) → r ≡ x.row → l ≡ x.label → let y : Start = record { row = r; label = l } in y ≡ x
+same_start : (x : FirstLabel) (r : SummaryRow) (l : ℕ) → r ≡ x.row → l ≡ x.label → let y : FirstLabel = record { row = r; label = l } in y ≡ x
 same_start x r l e h = λ t. record { row = e t; label = h t }
 
 -- one more label is in its row
-pub collected_more : (starts : List Start) (k : ℕ) (x : Start) (old new : Summary) → slice_get starts k ≡ Some x
-    → ((r : Row) (l : ℕ) → HasRow old r l ↔ Member (record { row = r; label = l }) (take k starts))
-    → ((r : Row) (l : ℕ) → HasRow new r l ↔ (HasRow old r l ⊎ ((r ≡ x.row) × (l ≡ x.label)))) → (r : Row) (l : ℕ)
+pub collected_more : (starts : List FirstLabel) (k : ℕ) (x : FirstLabel) (old new : Summary) → slice_get starts k ≡ Some x
+    → ((r : SummaryRow) (l : ℕ) → HasRow old r l ↔ Member (record { row = r; label = l }) (take k starts))
+    → ((r : SummaryRow) (l : ℕ) → HasRow new r l ↔ (HasRow old r l ⊎ ((r ≡ x.row) × (l ≡ x.label)))) → (r : SummaryRow) (l : ℕ)
     → HasRow new r l ↔ Member (record { row = r; label = l }) (take (k + 1) starts)
 collected_more starts k x old new at so_far both r l =
-    let y : Start = record { row = r; label = l } in
+    let y : FirstLabel = record { row = r; label = l } in
     let more = λ (m : Member y (take (suc k) starts)). subst (λ (n : ℕ). Member y (take n starts)) (sym (add-one k)) m in (
       λ h. more (retaken starts k x y at (elim ((both r l).0 h) [
         | inl a ↦ inl ((so_far r l).0 a)
@@ -60,20 +60,20 @@ collected_more starts k x old new at so_far both r l =
       ])),
       λ m. (both r l).1 (elim (taken starts k x y at (subst (λ (n : ℕ). Member y (take n starts)) (add-one k) m)) [
         | inl a ↦ inl ((so_far r l).1 a)
-        | inr e ↦ inr (ap (λ (z : Start). z.row) e, ap (λ (z : Start). z.label) e)
+        | inr e ↦ inr (ap (λ (z : FirstLabel). z.row) e, ap (λ (z : FirstLabel). z.label) e)
       ]),
     )
 
-pub collected_all : (starts : List Start) (k : ℕ) (x : Summary) → length starts ≤ k
-    → ((r : Row) (l : ℕ) → HasRow x r l ↔ Member (record { row = r; label = l }) (take k starts)) → (r : Row) (l : ℕ)
+pub collected_all : (starts : List FirstLabel) (k : ℕ) (x : Summary) → length starts ≤ k
+    → ((r : SummaryRow) (l : ℕ) → HasRow x r l ↔ Member (record { row = r; label = l }) (take k starts)) → (r : SummaryRow) (l : ℕ)
     → HasRow x r l ↔ Member (record { row = r; label = l }) starts
 collected_all starts k x h so_far r l =
-    subst (λ (xs : List Start). HasRow x r l ↔ Member (record { row = r; label = l }) xs) (take_all k starts h) (so_far r l)
+    subst (λ (xs : List FirstLabel). HasRow x r l ↔ Member (record { row = r; label = l }) xs) (take_all k starts h) (so_far r l)
 
 -- one more summary for one more procedure
 pub rows_pushed : (table : List Summary) (gs : List Procedure) (x : Summary) (g : Procedure) → length table ≡ length gs
-    → ((f : ℕ) (r : Row) (l : ℕ) → HasIn table f r l ↔ StartsAt gs f r l)
-    → ((r : Row) (l : ℕ) → HasRow x r l ↔ Member (record { row = r; label = l }) (starts_in g)) → (f : ℕ) (r : Row) (l : ℕ)
+    → ((f : ℕ) (r : SummaryRow) (l : ℕ) → HasIn table f r l ↔ StartsAt gs f r l)
+    → ((r : SummaryRow) (l : ℕ) → HasRow x r l ↔ Member (record { row = r; label = l }) (starts_in g)) → (f : ℕ) (r : SummaryRow) (l : ℕ)
     → HasIn (table ++ x ∷ []) f r l ↔ StartsAt (gs ++ g ∷ []) f r l
 rows_pushed [] [] x g n so_far here zero r l = here r l
 rows_pushed [] [] x g n so_far here (suc f) r l = (λ h. h, λ h. h)
@@ -92,8 +92,8 @@ plain_taken (y ∷ ys) (suc k) x e = ap (λ (gs : List Procedure). procedure y �
 -- one more procedure is outlined
 pub outlined_more : (xs : List rProcedure) (k : ℕ) (x : rProcedure) (table new : List Summary) (s : Summary) → slice_get xs k ≡ Some x
     → length table ≡ length (map procedure (take k xs)) → new ≡ table ++ s ∷ []
-    → ((f : ℕ) (r : Row) (l : ℕ) → HasIn table f r l ↔ StartsAt (map procedure (take k xs)) f r l)
-    → ((r : Row) (l : ℕ) → HasRow s r l ↔ Member (record { row = r; label = l }) (starts_in (procedure x))) → (f : ℕ) (r : Row) (l : ℕ)
+    → ((f : ℕ) (r : SummaryRow) (l : ℕ) → HasIn table f r l ↔ StartsAt (map procedure (take k xs)) f r l)
+    → ((r : SummaryRow) (l : ℕ) → HasRow s r l ↔ Member (record { row = r; label = l }) (starts_in (procedure x))) → (f : ℕ) (r : SummaryRow) (l : ℕ)
     → HasIn new f r l ↔ StartsAt (map procedure (take (k + 1) xs)) f r l
 outlined_more xs k x table new s at n e so_far here f r l =
     subst (λ (t : List Summary). HasIn t f r l ↔ StartsAt (map procedure (take (k + 1) xs)) f r l) (sym e)
@@ -122,7 +122,7 @@ pub flows_behind : (n k : ℕ) (gs : List Procedure) (g : Procedure)
 flows_behind n k [] g = let e : k ≡ k + 0 = omega arith in ap (λ (m : ℕ). flows_in n (record { number = m }) g ++ []) e
 flows_behind n k (h ∷ hs) g =
     let e : k + 1 + length hs ≡ k + length (h ∷ hs) = omega arith in
-    ap (λ (xs : List Flow). flows_in n (record { number = k }) h ++ xs)
+    ap (λ (xs : List CallFlow). flows_in n (record { number = k }) h ++ xs)
     (flows_behind n (k + 1) hs g
     ∙ ap (λ (m : ℕ). flows_in_all n (k + 1) hs ++ (flows_in n (record { number = m }) g ++ [])) e)
     ∙ sym (append_assoc (flows_in n (record { number = k }) h) (flows_in_all n (k + 1) hs) _)
@@ -154,49 +154,49 @@ taken_length (x ∷ xs) (suc k) h = let e : length (map procedure (take k xs)) �
 
 pub outlined_next : (xs : List rProcedure) (k : ℕ) (x : rProcedure) (table new : List Summary) (s : Summary) → slice_get xs k ≡ Some x
     → k < length xs → length table ≡ k → new ≡ table ++ s ∷ []
-    → ((f : ℕ) (r : Row) (l : ℕ) → HasIn table f r l ↔ StartsAt (map procedure (take k xs)) f r l)
-    → ((r : Row) (l : ℕ) → HasRow s r l ↔ Member (record { row = r; label = l }) (starts_in (procedure x))) → (f : ℕ) (r : Row) (l : ℕ)
+    → ((f : ℕ) (r : SummaryRow) (l : ℕ) → HasIn table f r l ↔ StartsAt (map procedure (take k xs)) f r l)
+    → ((r : SummaryRow) (l : ℕ) → HasRow s r l ↔ Member (record { row = r; label = l }) (starts_in (procedure x))) → (f : ℕ) (r : SummaryRow) (l : ℕ)
     → HasIn new f r l ↔ StartsAt (map procedure (take (k + 1) xs)) f r l
 outlined_next xs k x table new s at h n = outlined_more xs k x table new s at (n ∙ sym (taken_length xs k (omega (arith, h))))
 
 -- the flows of one more procedure were added
-pub flows_more : (n m k : ℕ) (xs : List rProcedure) (x : rProcedure) (old new all : List Flow) → m ≡ n → slice_get xs k ≡ Some x
+pub flows_more : (n m k : ℕ) (xs : List rProcedure) (x : rProcedure) (old new all : List CallFlow) → m ≡ n → slice_get xs k ≡ Some x
     → new ≡ old ++ flows_in m (record { number = k }) (procedure x)
     → old ++ flows_in_all n k (map procedure (drop k xs)) ≡ all
     → new ++ flows_in_all n (k + 1) (map procedure (drop (k + 1) xs)) ≡ all
 flows_more n m k xs x old new all count at e so_far =
     let rest = flows_in_all n (k + 1) (map procedure (drop (k + 1) xs)) in
     let mine = flows_in n (record { number = k }) (procedure x) in
-    ap (λ (l : List Flow). l ++ rest) (e ∙ ap (λ (c : ℕ). old ++ flows_in c (record { number = k }) (procedure x)) count)
-    ∙ append_assoc old mine rest ∙ ap (λ (l : List Flow). old ++ l) (sym (flows_from n k xs k x at)) ∙ so_far
+    ap (λ (l : List CallFlow). l ++ rest) (e ∙ ap (λ (c : ℕ). old ++ flows_in c (record { number = k }) (procedure x)) count)
+    ∙ append_assoc old mine rest ∙ ap (λ (l : List CallFlow). old ++ l) (sym (flows_from n k xs k x at)) ∙ so_far
 
 -- the last one is `main`
 pub rows_all : (xs : List rProcedure) (k : ℕ) (main : rProcedure) (table new : List Summary) (s : Summary)
     → length table ≡ k → length xs ≡ k → new ≡ table ++ s ∷ []
-    → ((f : ℕ) (r : Row) (l : ℕ) → HasIn table f r l ↔ StartsAt (map procedure (take k xs)) f r l)
-    → ((r : Row) (l : ℕ) → HasRow s r l ↔ Member (record { row = r; label = l }) (starts_in (procedure main))) → (f : ℕ) (r : Row) (l : ℕ)
+    → ((f : ℕ) (r : SummaryRow) (l : ℕ) → HasIn table f r l ↔ StartsAt (map procedure (take k xs)) f r l)
+    → ((r : SummaryRow) (l : ℕ) → HasRow s r l ↔ Member (record { row = r; label = l }) (starts_in (procedure main))) → (f : ℕ) (r : SummaryRow) (l : ℕ)
     → HasIn new f r l ↔ StartsAt (map procedure xs ++ procedure main ∷ []) f r l
 rows_all xs k main table new s n end e so_far here f r l =
     subst (λ (t : List Summary). HasIn t f r l ↔ StartsAt (map procedure xs ++ procedure main ∷ []) f r l) (sym e)
     (rows_pushed table (map procedure xs) s (procedure main) (n ∙ sym end ∙ sym (length-map xs procedure))
-    (subst (λ (gs : List Procedure). (f : ℕ) (r : Row) (l : ℕ) → HasIn table f r l ↔ StartsAt gs f r l)
+    (subst (λ (gs : List Procedure). (f : ℕ) (r : SummaryRow) (l : ℕ) → HasIn table f r l ↔ StartsAt gs f r l)
     (ap (map procedure) (take_all k xs (omega (arith, end)))) so_far) here f r l)
 
-pub flows_all : (n m k : ℕ) (xs : List rProcedure) (main : rProcedure) (old new all : List Flow) → m ≡ n → length xs ≡ k → m ≡ k
+pub flows_all : (n m k : ℕ) (xs : List rProcedure) (main : rProcedure) (old new all : List CallFlow) → m ≡ n → length xs ≡ k → m ≡ k
     → new ≡ old ++ flows_in m (record { number = m }) (procedure main)
     → old ++ flows_in_all n k (map procedure (drop k xs)) ≡ all ++ flows_in_all n 0 (map procedure xs)
     → new ≡ all ++ flows_in_all n 0 (map procedure xs ++ procedure main ∷ [])
 flows_all n m k xs main old new all count end last e so_far =
     let gs = map procedure xs in
-    let mine : (c i : ℕ) → List Flow = λ c i. flows_in c (record { number = i }) (procedure main) in
+    let mine : (c i : ℕ) → List CallFlow = λ c i. flows_in c (record { number = i }) (procedure main) in
     let nothing : flows_in_all n k (map procedure (drop k xs)) ≡ [] =
     ap (λ (zs : List rProcedure). flows_in_all n k (map procedure zs)) (drop_all k xs (omega (arith, end))) in
     let olds : old ≡ all ++ flows_in_all n 0 gs =
-    sym (append-nil old) ∙ ap (λ (l : List Flow). old ++ l) (sym nothing) ∙ so_far in
+    sym (append-nil old) ∙ ap (λ (l : List CallFlow). old ++ l) (sym nothing) ∙ so_far in
     let at : m ≡ 0 + length gs = omega (arith, length-map xs procedure, end, last) in
-    e ∙ ap (λ (l : List Flow). l ++ mine m m) olds
+    e ∙ ap (λ (l : List CallFlow). l ++ mine m m) olds
     ∙ append_assoc all (flows_in_all n 0 gs) (mine m m)
-    ∙ ap (λ (l : List Flow). all ++ l)
+    ∙ ap (λ (l : List CallFlow). all ++ l)
     (ap (λ (c : ℕ). flows_in_all n 0 gs ++ mine c m) count ∙ ap (λ (i : ℕ). flows_in_all n 0 gs ++ mine n i) at
-    ∙ ap (λ (l : List Flow). flows_in_all n 0 gs ++ l) (sym (append-nil (mine n (0 + length gs))))
+    ∙ ap (λ (l : List CallFlow). flows_in_all n 0 gs ++ l) (sym (append-nil (mine n (0 + length gs))))
     ∙ sym (flows_behind n 0 gs (procedure main)))

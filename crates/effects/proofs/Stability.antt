@@ -3,7 +3,7 @@ use Rattle.std.proofs.Common.{◌≡◌, ℕ, zero, suc, ◌+◌, ◌-◌, ◌<�
 use Rattle.std.proofs.Common.{arith, true≢false}
 use Rattle.std.proofs.lemmas.Bool.{and_from, eqb-true, eq-eqb, ltb-true, ltb-false, and_parts}
 use Rattle.std.specs.Prelude.{Bool, true, false, ◌&&◌, nat_eq, nat_lt, if◌then◌else◌}
-use Rattle.facts.proofs.Truths.{false_true}
+use Rattle.shared_lemmas.proofs.Truths.{false_true}
 use Rattle.sections.specs.Member.{Member, first, next}
 use Rattle.sections.proofs.Members.{any_member, member_any}
 use Rattle.effects.specs.Accesses.{Access}

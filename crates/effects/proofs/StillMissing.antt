@@ -2,17 +2,17 @@
 use Rattle.std.proofs.Common.{◌≡◌, inl, inr, ℕ, zero, suc, ◌+◌, ◌^◌, ◌<◌, ◌≤◌, List, [], ◌∷◌, refl, sym, ap, ◌∙◌, arith, true≢false}
 use Rattle.std.proofs.lemmas.Bool.{cases_lt}
 use Rattle.std.specs.Prelude.{Bool, true, false, if◌then◌else◌, Option, Some, None, slice_get}
-use Rattle.facts.proofs.Truths.{false_true}
+use Rattle.shared_lemmas.proofs.Truths.{false_true}
 use Rattle.sections.specs.Member.{Member, first, next}
 use Rattle.effects.specs.Closing.{HasSome, HasIn, BringsNew}
 use Rattle.effects.specs.AccessSets.{HasAccess, uses_of}
 use Rattle.effects.specs.LabelSets.{HasLabel, has_label}
 use Rattle.effects.specs.SummaryRows.{HasRow}
 use Rattle.effects.specs.UseSets.{HasIn as HasUseIn, HasUse}
-use Rattle.effects.specs.declared.flows.Flow.{Flow}
+use Rattle.effects.specs.declared.flows.CallFlow.{CallFlow}
 use Rattle.effects.specs.declared.label_set.LabelSet.{LabelSet}
-use Rattle.effects.specs.declared.summary.Row.{Row}
-use Rattle.effects.specs.declared.summary.Row.TheVariants.{All, Pending, Labels, PendingLabels}
+use Rattle.effects.specs.declared.summary.SummaryRow.{SummaryRow}
+use Rattle.effects.specs.declared.summary.SummaryRow.TheVariants.{All, Pending, Labels, PendingLabels}
 use Rattle.effects.specs.declared.summary.Summary.{Summary}
 use Rattle.effects.specs.declared.uses.Uses.{Uses}
 use Rattle.effects.proofs.HasLabels.{has_label-true, from_has_label, label_within}
@@ -26,18 +26,18 @@ set_has (Some s) l = has_label s l
 abbrev use_has : Uses → (s l : ℕ) → Bool
 use_has uses s l = set_has (slice_get uses.sets.items s) l
 
-abbrev row_has : Summary → Row → ℕ → Bool
+abbrev row_has : Summary → SummaryRow → ℕ → Bool
 row_has x (All s w) l = use_has (uses_of x.all w) s.number l
 row_has x (Pending s w) l = use_has (uses_of x.pending w) s.number l
 row_has x Labels l = has_label x.labels l
 row_has x PendingLabels l = has_label x.pending_labels l
 
-abbrev some_has : Option Summary → Row → ℕ → Bool
+abbrev some_has : Option Summary → SummaryRow → ℕ → Bool
 some_has None r l = false
 some_has (Some x) r l = row_has x r l
 
 -- whether a table has a label in a row
-abbrev pub has_in : List Summary → ℕ → Row → ℕ → Bool
+abbrev pub has_in : List Summary → ℕ → SummaryRow → ℕ → Bool
 has_in table f r l = some_has (slice_get table f) r l
 
 -- a test that decides a property of labels below 2 ^ 32
@@ -59,7 +59,7 @@ use_told uses s =
     let t = set_told (slice_get uses.sets.items s) in
     record { yes = λ l h. t.yes l h; from = λ l e. t.from l e; within = λ l h. t.within l h }
 
-row_told : (x : Summary) (r : Row) → Tells (HasRow x r) (row_has x r)
+row_told : (x : Summary) (r : SummaryRow) → Tells (HasRow x r) (row_has x r)
 unfolding HasAccess
 row_told x (All s w) =
     let t = use_told (uses_of x.all w) s.number in record { yes = λ l h. t.yes l h; from = λ l e. t.from l e; within = λ l h. t.within l h }
@@ -70,7 +70,7 @@ row_told x Labels = let t = label_told x.labels in record { yes = λ l h. t.yes 
 row_told x PendingLabels =
     let t = label_told x.pending_labels in record { yes = λ l h. t.yes l h; from = λ l e. t.from l e; within = λ l h. t.within l h }
 
-some_told : (o : Option Summary) (r : Row) → Tells (HasSome o r) (some_has o r)
+some_told : (o : Option Summary) (r : SummaryRow) → Tells (HasSome o r) (some_has o r)
 some_told None r = record { yes = λ l h. absurd h; from = λ l e. false_true e; within = λ l h. absurd h }
 some_told (Some x) r =
     let t = row_told x r in record { yes = λ l h. t.yes l h; from = λ l e. t.from l e; within = λ l h. t.within l h }
@@ -116,16 +116,16 @@ less_fail test later h m e f (suc n) within = elim (cases_lt m n) [
 ]
 
 -- the number of labels that are missing in the rows into which flows bring
-pub missing : List Flow → List Summary → ℕ
+pub missing : List CallFlow → List Summary → ℕ
 missing [] table = 0
 missing (x ∷ flows) table = failing (has_in table x.caller.number x.to) (2 ^ 32) + missing flows table
 
-module _ (before after : List Summary) (more : (f : ℕ) (r : Row) (l : ℕ) → HasIn before f r l → HasIn after f r l) where
-  told_more : (f : ℕ) (r : Row) (l : ℕ) → has_in before f r l ≡ true → has_in after f r l ≡ true
+module _ (before after : List Summary) (more : (f : ℕ) (r : SummaryRow) (l : ℕ) → HasIn before f r l → HasIn after f r l) where
+  told_more : (f : ℕ) (r : SummaryRow) (l : ℕ) → has_in before f r l ≡ true → has_in after f r l ≡ true
   told_more f r l e =
       (some_told (slice_get after f) r).yes l (more f r l ((some_told (slice_get before f) r).from l e))
 
-  fewer_missing : (flows : List Flow) → missing flows after ≤ missing flows before
+  fewer_missing : (flows : List CallFlow) → missing flows after ≤ missing flows before
   unfolding missing
   fewer_missing [] = omega arith
   fewer_missing (x ∷ flows) =
@@ -133,18 +133,18 @@ module _ (before after : List Summary) (more : (f : ℕ) (r : Row) (l : ℕ) →
       let rest = fewer_missing flows in
       omega (arith, here, rest)
 
-  not_told : (f : ℕ) (r : Row) (l : ℕ) → (HasIn before f r l → ⊥) → (b : Bool) → has_in before f r l ≡ b → has_in before f r l ≡ false
+  not_told : (f : ℕ) (r : SummaryRow) (l : ℕ) → (HasIn before f r l → ⊥) → (b : Bool) → has_in before f r l ≡ b → has_in before f r l ≡ false
   not_told f r l none true e = absurd (none ((some_told (slice_get before f) r).from l e))
   not_told f r l none false e = e
 
-  one_brings : (x : Flow) (l : ℕ) → HasIn after x.caller.number x.to l → (HasIn before x.caller.number x.to l → ⊥)
+  one_brings : (x : CallFlow) (l : ℕ) → HasIn after x.caller.number x.to l → (HasIn before x.caller.number x.to l → ⊥)
       → failing (has_in after x.caller.number x.to) (2 ^ 32) < failing (has_in before x.caller.number x.to) (2 ^ 32)
   one_brings x l now none =
       let t = some_told (slice_get after x.caller.number) x.to in
       less_fail (has_in before x.caller.number x.to) (has_in after x.caller.number x.to) (told_more x.caller.number x.to) l
       (not_told x.caller.number x.to l none (has_in before x.caller.number x.to l) refl) (t.yes l now) (2 ^ 32) (t.within l now)
 
-  less_with : (flows : List Flow) (x : Flow) → Member x flows
+  less_with : (flows : List CallFlow) (x : CallFlow) → Member x flows
       → failing (has_in after x.caller.number x.to) (2 ^ 32) < failing (has_in before x.caller.number x.to) (2 ^ 32)
       → missing flows after < missing flows before
   unfolding missing
@@ -156,5 +156,5 @@ module _ (before after : List Summary) (more : (f : ℕ) (r : Row) (l : ℕ) →
       omega (arith, here, rest)
 
   -- a new label that a flow brings reduces the number
-  pub less_missing : (flows : List Flow) → BringsNew flows before after → missing flows after < missing flows before
+  pub less_missing : (flows : List CallFlow) → BringsNew flows before after → missing flows after < missing flows before
   less_missing flows new = less_with flows new.flow new.member (one_brings new.flow new.label new.now new.missing)

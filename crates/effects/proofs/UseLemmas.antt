@@ -4,7 +4,7 @@ use Rattle.std.proofs.Common.{Option, Some, None}
 use Rattle.std.proofs.Math.ListN.{set}
 use Rattle.std.proofs.lemmas.Option.{slice_get_read, slice_get_past}
 use Rattle.std.specs.Prelude.{◌↔◌, Bool, true, false, slice_get}
-use Rattle.facts.proofs.Truths.{false_true}
+use Rattle.shared_lemmas.proofs.Truths.{false_true}
 use Rattle.effects.specs.Accesses.{Access}
 use Rattle.effects.specs.AccessSets.{HasAccess, IsUseOf, uses_of}
 use Rattle.effects.specs.LabelSets.{HasLabel}

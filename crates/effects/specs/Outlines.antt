@@ -7,9 +7,9 @@ use Rattle.types.specs.declared.ids.ProcedureId.{ProcedureId}
 use Rattle.effects.specs.Flows.{flows_of}
 use Rattle.effects.specs.Starts.{starts_of}
 use Rattle.effects.specs.Visits.{Visit, visits_in}
-use Rattle.effects.specs.declared.flows.Flow.{Flow}
-use Rattle.effects.specs.declared.starts.Start.{Start}
-use Rattle.effects.specs.declared.summary.Row.{Row}
+use Rattle.effects.specs.declared.flows.CallFlow.{CallFlow}
+use Rattle.effects.specs.declared.starts.FirstLabel.{FirstLabel}
+use Rattle.effects.specs.declared.summary.SummaryRow.{SummaryRow}
 use Rattle.effects.specs.declared.visits.Standing.TheVariants.{Open}
 
 -- the statements of a procedure
@@ -17,15 +17,15 @@ abbrev pub visits_of : Procedure → List Visit
 visits_of g = visits_in Open g.body
 
 -- what a procedure does without its calls
-abbrev pub starts_in : Procedure → List Start
+abbrev pub starts_in : Procedure → List FirstLabel
 starts_in g = flat_map (starts_of (root_of g.sections)) (visits_of g)
 
 -- what a procedure's calls bring
-abbrev pub flows_in : (procedures : ℕ) → (caller : ProcedureId) → Procedure → List Flow
+abbrev pub flows_in : (procedures : ℕ) → (caller : ProcedureId) → Procedure → List CallFlow
 flows_in n f g = flat_map (flows_of f n (root_of g.sections)) (visits_of g)
 
 -- what the calls of procedures bring that are numbered from k on
-abbrev pub flows_in_all : (procedures k : ℕ) → List Procedure → List Flow
+abbrev pub flows_in_all : (procedures k : ℕ) → List Procedure → List CallFlow
 flows_in_all n k [] = []
 flows_in_all n k (g ∷ gs) = flows_in n (record { number = k }) g ++ flows_in_all n (k + 1) gs
 
@@ -34,10 +34,10 @@ abbrev pub numbered : Program → List Procedure
 numbered p = p.procedures ++ p.main ∷ []
 
 -- the procedure exists, and without its calls it puts the label in the row
-abbrev pub StartsIn : Option Procedure → Row → (label : ℕ) → Type 0
+abbrev pub StartsIn : Option Procedure → SummaryRow → (label : ℕ) → Type 0
 StartsIn None r l = ⊥
 StartsIn (Some g) r l = Member (record { row = r; label = l }) (starts_in g)
 
 -- the procedure with this number exists, and without its calls it puts the label in the row
-abbrev pub StartsAt : List Procedure → ℕ → Row → (label : ℕ) → Type 0
+abbrev pub StartsAt : List Procedure → ℕ → SummaryRow → (label : ℕ) → Type 0
 StartsAt gs f r l = StartsIn (slice_get gs f) r l

@@ -3,12 +3,12 @@
 use Rattle.std.specs.Prelude.{ℕ}
 use Rattle.effects.specs.LabelSets.{HasLabel}
 use Rattle.effects.specs.AccessSets.{HasAccess}
-use Rattle.effects.specs.declared.summary.Row.{Row}
-use Rattle.effects.specs.declared.summary.Row.TheVariants.{All, Pending, Labels, PendingLabels}
+use Rattle.effects.specs.declared.summary.SummaryRow.{SummaryRow}
+use Rattle.effects.specs.declared.summary.SummaryRow.TheVariants.{All, Pending, Labels, PendingLabels}
 use Rattle.effects.specs.declared.summary.Summary.{Summary}
 
 -- a row of a summary has a label
-abbrev pub HasRow : Summary → Row → (label : ℕ) → Type 0
+abbrev pub HasRow : Summary → SummaryRow → (label : ℕ) → Type 0
 HasRow x (All s w) l = HasAccess x.all (record { label = l; section = s.number; write = w })
 HasRow x (Pending s w) l = HasAccess x.pending (record { label = l; section = s.number; write = w })
 HasRow x Labels l = HasLabel x.labels l

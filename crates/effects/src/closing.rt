@@ -3,15 +3,15 @@
 ghost use Rattle.std.specs.Prelude.{◌≡◌, ◌↔◌, ◌⊎◌, ℕ, OnOk, IfOk, false, true, length};
 ghost use Rattle.effects.specs.Closing.{HasIn, Reached, Brings, BringsNew, IsClosed};
 ghost use Rattle.effects.specs.LabelSets.{HasNew};
-ghost use Rattle.effects.specs.declared.summary.Row.{Row as TheRow};
+ghost use Rattle.effects.specs.declared.summary.SummaryRow.{SummaryRow as TheRow};
 
-use crate::flows::Flow;
+use crate::flows::CallFlow;
 use crate::summary::Summary;
 use std::alloc::{AllocError, Global};
 
 /// Propagates labels along the flows until no label is new. Each round except the last adds a
 /// label, and a row has fewer than 2^32 labels.
-pub fn close(alloc: Global, flows: &[Flow], table: &mut Vec<Summary>) -> Result<(), AllocError>
+pub fn close(alloc: Global, flows: &[CallFlow], table: &mut Vec<Summary>) -> Result<(), AllocError>
     ensures exact { OnOk result ((f : ℕ) (r : TheRow) (l : ℕ)
         → HasIn table.new.items f r l ↔ Reached flows.now table.old.items f r l) }
     ensures number { OnOk result (length table.new.items ≡ length table.old.items) }
@@ -24,7 +24,7 @@ pub fn close(alloc: Global, flows: &[Flow], table: &mut Vec<Summary>) -> Result<
 }
 
 /// Propagates labels along each flow once. Returns false if no label was new.
-fn round(alloc: Global, flows: &[Flow], table: &mut Vec<Summary>) -> Result<bool, AllocError>
+fn round(alloc: Global, flows: &[CallFlow], table: &mut Vec<Summary>) -> Result<bool, AllocError>
     ensures number { OnOk result (length table.new.items ≡ length table.old.items) }
     ensures more { OnOk result ((f : ℕ) (r : TheRow) (l : ℕ)
         → HasIn table.old.items f r l → HasIn table.new.items f r l) }
@@ -44,7 +44,7 @@ fn round(alloc: Global, flows: &[Flow], table: &mut Vec<Summary>) -> Result<bool
 }
 
 /// Propagates labels along one flow. Returns false if no label was new.
-fn bring(alloc: Global, flow: Flow, table: &mut Vec<Summary>) -> Result<bool, AllocError>
+fn bring(alloc: Global, flow: CallFlow, table: &mut Vec<Summary>) -> Result<bool, AllocError>
     ensures number { OnOk result (length table.new.items ≡ length table.old.items) }
     ensures both { OnOk result ((f : ℕ) (r : TheRow) (l : ℕ) → HasIn table.new.items f r l
         ↔ (HasIn table.old.items f r l ⊎ Brings flow table.old.items f r l)) }

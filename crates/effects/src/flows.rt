@@ -8,7 +8,7 @@ ghost use Rattle.effects.specs.Flows.{flows_of_use};
 ghost use Rattle.effects.specs.Visits.{visit as visit_of};
 
 use crate::roots::Roots;
-use crate::summary::Row;
+use crate::summary::SummaryRow;
 use crate::visits::{Standing, Visit};
 use sections::id::SectionId;
 use std::alloc::AllocError;
@@ -18,11 +18,11 @@ use types::ids::ProcedureId;
 /// A flow: the labels in a row of one procedure are also in a row of another procedure, which calls
 /// it.
 #[derive(Clone, Copy)]
-pub struct Flow {
+pub struct CallFlow {
     pub callee: ProcedureId,
-    pub from: Row,
+    pub from: SummaryRow,
     pub caller: ProcedureId,
-    pub to: Row,
+    pub to: SummaryRow,
 }
 
 /// Adds what a statement's call brings, if the statement is a call. `main` is numbered after the
@@ -32,7 +32,7 @@ pub fn flow_visit(
     procedures: usize,
     roots: &Roots,
     visit: Visit<'_>,
-    into: &mut Vec<Flow>,
+    into: &mut Vec<CallFlow>,
 ) -> Result<(), AllocError>
     ensures { OnOk result (into.new.items ≡ into.old.items
         ++ flows_of caller procedures (root_in roots.now) (visit_of visit.entry)) }
@@ -75,7 +75,7 @@ impl Call {
         procedures: usize,
         roots: &Roots,
         sections: &[SectionId],
-        into: &mut Vec<Flow>,
+        into: &mut Vec<CallFlow>,
     ) -> Result<(), AllocError>
         ensures { OnOk result (into.new.items ≡ into.old.items
             ++ flows_of_call self.caller procedures (root_in roots.now) self.standing
@@ -90,11 +90,16 @@ impl Call {
     }
 
     /// Adds a flow from a row of the callee to a row of the caller.
-    fn flow(self, from: Row, to: Row, into: &mut Vec<Flow>) -> Result<(), AllocError>
+    fn flow(
+        self,
+        from: SummaryRow,
+        to: SummaryRow,
+        into: &mut Vec<CallFlow>,
+    ) -> Result<(), AllocError>
         ensures { OnOk result (into.new.items ≡ into.old.items
             ++ record { callee = self.callee; from = from; caller = self.caller; to = to } ∷ []) }
     {
-        into.push(Flow {
+        into.push(CallFlow {
             callee: self.callee,
             from,
             caller: self.caller,
@@ -104,14 +109,14 @@ impl Call {
     }
 
     /// Adds the flows of statement labels.
-    fn flow_labels(self, into: &mut Vec<Flow>) -> Result<(), AllocError>
+    fn flow_labels(self, into: &mut Vec<CallFlow>) -> Result<(), AllocError>
         ensures { OnOk result (into.new.items ≡ into.old.items
             ++ flows_of_labels self.caller self.standing self.callee) }
     {
-        self.flow(Row::Labels, Row::Labels, into)?;
+        self.flow(SummaryRow::Labels, SummaryRow::Labels, into)?;
         match self.standing {
-            Standing::Open => self.flow(Row::PendingLabels, Row::PendingLabels, into),
-            Standing::Begun => self.flow(Row::Labels, Row::PendingLabels, into),
+            Standing::Open => self.flow(SummaryRow::PendingLabels, SummaryRow::PendingLabels, into),
+            Standing::Begun => self.flow(SummaryRow::Labels, SummaryRow::PendingLabels, into),
             Standing::Awaited => Ok(()),
         }
     }
@@ -121,7 +126,7 @@ impl Call {
         self,
         roots: &Roots,
         sections: &[SectionId],
-        into: &mut Vec<Flow>,
+        into: &mut Vec<CallFlow>,
     ) -> Result<(), AllocError>
         ensures { OnOk result (into.new.items ≡ into.old.items
             ++ flows_of_sections self.caller (root_in roots.now) self.standing self.callee 0
@@ -142,25 +147,25 @@ impl Call {
         parameter: SectionId,
         section: SectionId,
         write: bool,
-        into: &mut Vec<Flow>,
+        into: &mut Vec<CallFlow>,
     ) -> Result<(), AllocError>
         ensures { OnOk result (into.new.items ≡ into.old.items
             ++ flows_of_use self.caller self.standing self.callee parameter section write) }
     {
-        let all = Row::All {
+        let all = SummaryRow::All {
             section: parameter,
             write,
         };
-        self.flow(all, Row::All { section, write }, into)?;
+        self.flow(all, SummaryRow::All { section, write }, into)?;
         match self.standing {
             Standing::Open => {
-                let pending = Row::Pending {
+                let pending = SummaryRow::Pending {
                     section: parameter,
                     write,
                 };
-                self.flow(pending, Row::Pending { section, write }, into)
+                self.flow(pending, SummaryRow::Pending { section, write }, into)
             }
-            Standing::Begun => self.flow(all, Row::Pending { section, write }, into),
+            Standing::Begun => self.flow(all, SummaryRow::Pending { section, write }, into),
             Standing::Awaited => Ok(()),
         }
     }

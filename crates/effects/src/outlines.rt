@@ -10,11 +10,11 @@ ghost use Rattle.effects.specs.Roots.{root_in};
 ghost use Rattle.effects.specs.Starts.{starts_of};
 ghost use Rattle.effects.specs.SummaryRows.{HasRow};
 ghost use Rattle.effects.specs.Visits.{visit as visit_of};
-ghost use Rattle.effects.specs.declared.summary.Row.{Row as TheRow};
+ghost use Rattle.effects.specs.declared.summary.SummaryRow.{SummaryRow as TheRow};
 
-use crate::flows::{Flow, flow_visit};
+use crate::flows::{CallFlow, flow_visit};
 use crate::roots::Roots;
-use crate::starts::{Start, start_visit};
+use crate::starts::{FirstLabel, start_visit};
 use crate::summary::Summary;
 use crate::visits::{Standing, Visit, visit_block};
 use std::alloc::{AllocError, Global};
@@ -26,7 +26,7 @@ use types::ids::ProcedureId;
 pub fn outlines(
     alloc: Global,
     code: &Program,
-    flows: &mut Vec<Flow>,
+    flows: &mut Vec<CallFlow>,
 ) -> Result<Vec<Summary>, AllocError>
     ensures rows { IfOk result (λ table. (f : ℕ) (r : TheRow) (l : ℕ)
         → HasIn table.items f r l ↔ StartsAt (numbered (program_of code.now)) f r l) }
@@ -54,7 +54,7 @@ fn outline(
     procedures: usize,
     caller: ProcedureId,
     procedure: &Procedure,
-    flows: &mut Vec<Flow>,
+    flows: &mut Vec<CallFlow>,
 ) -> Result<Summary, AllocError>
     ensures rows { IfOk result (λ x. (r : TheRow) (l : ℕ)
         → HasRow x r l ↔ Member (record { row = r; label = l }) (starts_in (plain procedure.now))) }
@@ -75,7 +75,7 @@ fn flow_visits(
     procedures: usize,
     roots: &Roots,
     visits: &[Visit<'_>],
-    into: &mut Vec<Flow>,
+    into: &mut Vec<CallFlow>,
 ) -> Result<(), AllocError>
     ensures { OnOk result (into.new.items ≡ into.old.items
         ++ flat_map (flows_of caller procedures (root_in roots.now)) (map visit_of visits.entry.now)) }
@@ -87,7 +87,7 @@ fn flow_visits(
 }
 
 /// Returns what statements do without their calls.
-fn starts(alloc: Global, roots: &Roots, visits: &[Visit<'_>]) -> Result<Vec<Start>, AllocError>
+fn starts(alloc: Global, roots: &Roots, visits: &[Visit<'_>]) -> Result<Vec<FirstLabel>, AllocError>
     ensures { IfOk result (λ xs. xs.items
         ≡ flat_map (starts_of (root_in roots.now)) (map visit_of visits.entry.now)) }
 {
@@ -99,7 +99,7 @@ fn starts(alloc: Global, roots: &Roots, visits: &[Visit<'_>]) -> Result<Vec<Star
 }
 
 /// Returns a summary whose rows contain these labels.
-fn collected(alloc: Global, starts: &[Start]) -> Result<Summary, AllocError>
+fn collected(alloc: Global, starts: &[FirstLabel]) -> Result<Summary, AllocError>
     ensures { IfOk result (λ x. (r : TheRow) (l : ℕ)
         → HasRow x r l ↔ Member (record { row = r; label = l }) starts.now) }
 {

@@ -9,15 +9,15 @@ ghost use Rattle.effects.specs.Visits.{visit as visit_of};
 use crate::access::Access;
 use crate::own::own_accesses;
 use crate::roots::Roots;
-use crate::summary::Row;
+use crate::summary::SummaryRow;
 use crate::visits::{Standing, Visit};
 use std::alloc::{AllocError, Global};
 use types::code::{Label, Stmt};
 
 /// A label that is in a row from the start.
 #[derive(Clone, Copy)]
-pub struct Start {
-    pub row: Row,
+pub struct FirstLabel {
+    pub row: SummaryRow,
     pub label: Label,
 }
 
@@ -26,7 +26,7 @@ pub fn start_visit(
     alloc: Global,
     roots: &Roots,
     visit: Visit<'_>,
-    into: &mut Vec<Start>,
+    into: &mut Vec<FirstLabel>,
 ) -> Result<(), AllocError>
     ensures { OnOk result (into.new.items
         ≡ into.old.items ++ starts_of (root_in roots.now) (visit_of visit.entry)) }
@@ -41,15 +41,19 @@ pub fn start_visit(
 }
 
 /// Adds the rows of a statement's label.
-fn start_label(standing: Standing, label: Label, into: &mut Vec<Start>) -> Result<(), AllocError>
+fn start_label(
+    standing: Standing,
+    label: Label,
+    into: &mut Vec<FirstLabel>,
+) -> Result<(), AllocError>
     ensures { OnOk result (into.new.items ≡ into.old.items ++ starts_of_label standing label) }
 {
-    let all = Start {
-        row: Row::Labels,
+    let all = FirstLabel {
+        row: SummaryRow::Labels,
         label,
     };
-    let pending = Start {
-        row: Row::PendingLabels,
+    let pending = FirstLabel {
+        row: SummaryRow::PendingLabels,
         label,
     };
     add_rows(standing, all, pending, into)
@@ -60,19 +64,19 @@ fn start_access(
     roots: &Roots,
     standing: Standing,
     access: Access,
-    into: &mut Vec<Start>,
+    into: &mut Vec<FirstLabel>,
 ) -> Result<(), AllocError>
     ensures { OnOk result (into.new.items ≡ into.old.items
         ++ starts_of_access (root_in roots.now) standing (access_of access)) }
 {
     let Access { label, write, .. } = access;
     let section = roots.of(access.section);
-    let all = Start {
-        row: Row::All { section, write },
+    let all = FirstLabel {
+        row: SummaryRow::All { section, write },
         label,
     };
-    let pending = Start {
-        row: Row::Pending { section, write },
+    let pending = FirstLabel {
+        row: SummaryRow::Pending { section, write },
         label,
     };
     add_rows(standing, all, pending, into)
@@ -81,9 +85,9 @@ fn start_access(
 /// Adds a row of everything that is done and, if a spawned task does it, a row of what is pending.
 fn add_rows(
     standing: Standing,
-    all: Start,
-    pending: Start,
-    into: &mut Vec<Start>,
+    all: FirstLabel,
+    pending: FirstLabel,
+    into: &mut Vec<FirstLabel>,
 ) -> Result<(), AllocError>
     ensures { OnOk result (into.new.items ≡ into.old.items ++ starts_at standing all pending) }
 {

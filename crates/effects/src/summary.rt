@@ -3,7 +3,7 @@
 ghost use Rattle.std.specs.Prelude.{◌↔◌, ◌⊎◌, ◌≡◌, OnOk, IfOk, false, true, ℕ};
 ghost use Rattle.effects.specs.LabelSets.{HasLabel, HasNew};
 ghost use Rattle.effects.specs.SummaryRows.{HasRow};
-ghost use Rattle.effects.specs.declared.summary.Row.{Row as TheRow};
+ghost use Rattle.effects.specs.declared.summary.SummaryRow.{SummaryRow as TheRow};
 
 use crate::accesses::Accesses;
 use crate::label_set::LabelSet;
@@ -24,7 +24,7 @@ pub struct Summary {
 
 /// The name of one set of labels in a summary.
 #[derive(Clone, Copy, PartialEq, Eq, Debug)]
-pub enum Row {
+pub enum SummaryRow {
     /// The labels of the accesses that write a section, or of those that read it.
     All { section: SectionId, write: bool },
     /// The labels of the pending accesses that write a section, or of those that read it.
@@ -49,20 +49,27 @@ impl Summary {
     }
 
     /// Adds a label to a row.
-    pub fn insert(&mut self, alloc: Global, row: Row, label: Label) -> Result<(), AllocError>
+    pub fn insert(&mut self, alloc: Global, row: SummaryRow, label: Label) -> Result<(), AllocError>
         ensures { OnOk result ((r : TheRow) (l : ℕ) → HasRow self.new r l
             ↔ (HasRow self.old r l ⊎ ((r ≡ row) × (l ≡ label)))) }
     {
         match row {
-            Row::All { section, write } => self.all.insert(alloc, section, write, label),
-            Row::Pending { section, write } => self.pending.insert(alloc, section, write, label),
-            Row::Labels => self.labels.insert(label),
-            Row::PendingLabels => self.pending_labels.insert(label),
+            SummaryRow::All { section, write } => self.all.insert(alloc, section, write, label),
+            SummaryRow::Pending { section, write } => self
+                .pending
+                .insert(alloc, section, write, label),
+            SummaryRow::Labels => self.labels.insert(label),
+            SummaryRow::PendingLabels => self.pending_labels.insert(label),
         }
     }
 
     /// Adds labels to a row. Returns false if all of them were already there.
-    pub fn unite(&mut self, alloc: Global, row: Row, labels: &LabelSet) -> Result<bool, AllocError>
+    pub fn unite(
+        &mut self,
+        alloc: Global,
+        row: SummaryRow,
+        labels: &LabelSet,
+    ) -> Result<bool, AllocError>
         ensures both { OnOk result ((r : TheRow) (l : ℕ) → HasRow self.new r l
             ↔ (HasRow self.old r l ⊎ ((r ≡ row) × HasLabel labels.now l))) }
         ensures grown { IfOk result (λ grown. grown ≡ false
@@ -71,22 +78,24 @@ impl Summary {
             → HasNew (HasRow self.old row) (HasLabel labels.now)) }
     {
         match row {
-            Row::All { section, write } => self.all.unite(alloc, section, write, labels),
-            Row::Pending { section, write } => self.pending.unite(alloc, section, write, labels),
-            Row::Labels => self.labels.unite(labels),
-            Row::PendingLabels => self.pending_labels.unite(labels),
+            SummaryRow::All { section, write } => self.all.unite(alloc, section, write, labels),
+            SummaryRow::Pending { section, write } => self
+                .pending
+                .unite(alloc, section, write, labels),
+            SummaryRow::Labels => self.labels.unite(labels),
+            SummaryRow::PendingLabels => self.pending_labels.unite(labels),
         }
     }
 
     /// Returns the labels of a row.
-    pub fn copied(&self, alloc: Global, row: Row) -> Result<LabelSet, AllocError>
+    pub fn copied(&self, alloc: Global, row: SummaryRow) -> Result<LabelSet, AllocError>
         ensures { IfOk result (λ labels. (l : ℕ) → HasLabel labels l ↔ HasRow self.now row l) }
     {
         match row {
-            Row::All { section, write } => self.all.copied(alloc, section, write),
-            Row::Pending { section, write } => self.pending.copied(alloc, section, write),
-            Row::Labels => self.labels.copied(alloc),
-            Row::PendingLabels => self.pending_labels.copied(alloc),
+            SummaryRow::All { section, write } => self.all.copied(alloc, section, write),
+            SummaryRow::Pending { section, write } => self.pending.copied(alloc, section, write),
+            SummaryRow::Labels => self.labels.copied(alloc),
+            SummaryRow::PendingLabels => self.pending_labels.copied(alloc),
         }
     }
 }

@@ -6,11 +6,11 @@ ghost use Rattle.types.specs.Translation.{program as program_of};
 ghost use Rattle.effects.specs.Closing.{HasIn};
 ghost use Rattle.effects.specs.Coming.{Comes};
 ghost use Rattle.effects.specs.Outlines.{numbered};
-ghost use Rattle.effects.specs.declared.flows.Flow.{Flow as TheFlow};
-ghost use Rattle.effects.specs.declared.summary.Row.{Row as TheRow};
+ghost use Rattle.effects.specs.declared.flows.CallFlow.{CallFlow as TheFlow};
+ghost use Rattle.effects.specs.declared.summary.SummaryRow.{SummaryRow as TheRow};
 
 use crate::closing::close;
-use crate::flows::Flow;
+use crate::flows::CallFlow;
 use crate::outlines::outlines;
 use crate::summary::Summary;
 use std::alloc::{AllocError, Global};
@@ -32,7 +32,7 @@ pub fn table(alloc: Global, code: &Program) -> Result<Vec<Summary>, AllocError>
 
 /// Adds the flows once more, in reverse order. So one round propagates labels along a chain of
 /// calls, whether procedures are declared before or after their callers.
-fn add_reversed(flows: &mut Vec<Flow>) -> Result<(), AllocError>
+fn add_reversed(flows: &mut Vec<CallFlow>) -> Result<(), AllocError>
     ensures { OnOk result ((x : TheFlow)
         → Member x flows.new.items ↔ Member x flows.old.items) }
 {

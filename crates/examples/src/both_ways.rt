@@ -1,22 +1,22 @@
 //! Rows with `--explain`: only the standard error changes, by text after the expected text.
 
-use crate::machine::Machine;
-use crate::row::Row;
-use row_parts::output::{End, Limit};
-use row_parts::shelf::Shelf;
-use row_parts::words::words_of;
+use crate::machine::TestMachine;
+use crate::row::TestRow;
 use std::alloc::Global;
 use std::io;
+use test_rows::output::{Limit, OutputEnd};
+use test_rows::test_files::TestFiles;
+use test_rows::words::words_of;
 
-impl Row<'_> {
+impl TestRow<'_> {
     /// Returns whether the command with `--explain` has the same results, leaves the same files,
     /// and writes more only to the standard error, after the expected text. With status 0 it must
     /// write nothing more. Commands without this option pass too, and so do mistakes in arguments,
     /// because `clap` reports mistakes for all arguments together.
-    pub fn is_so_explained<R: Machine>(
+    pub fn is_so_explained<R: TestMachine>(
         &self,
         rt: &R,
-        shelf: &mut Shelf<'_, R>,
+        shelf: &mut TestFiles<'_, R>,
     ) -> io::Result<bool> {
         let Some(words) = explaining_words(rt.alloc(), self.command)? else {
             return self.is_so(rt, shelf);
@@ -24,8 +24,8 @@ impl Row<'_> {
         if self.wanted.err.starts_with(b"error: ") {
             return Ok(true);
         }
-        let out = Limit::of(self.wanted.out_left, End::Fails);
-        let err = Limit::of(self.wanted.err_left, End::Fails);
+        let out = Limit::of(self.wanted.out_left, OutputEnd::Fails);
+        let err = Limit::of(self.wanted.err_left, OutputEnd::Fails);
         let mut told = self.told_by(rt, shelf, &words, out, err)?;
         if told.status != 0 && told.err.taken.starts_with(&self.wanted.err) {
             told.err.taken.truncate(self.wanted.err.len());

@@ -5,6 +5,7 @@ use std::sync::Wait;
 use std::thread::Threads;
 
 /// Files, both ends of the standard streams, memory and threads.
-pub trait Machine: Files + Input + Print + AllocGlobal + Threads + Wait + Sync + Clone + Drop {}
+pub trait TestMachine: Files + Input + Print + AllocGlobal + Threads + Wait + Sync + Clone + Drop {}
 
-impl<R: Files + Input + Print + AllocGlobal + Threads + Wait + Sync + Clone + Drop> Machine for R {}
+impl<R: Files + Input + Print + AllocGlobal + Threads + Wait + Sync + Clone + Drop> TestMachine
+    for R {}

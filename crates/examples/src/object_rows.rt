@@ -1,18 +1,18 @@
 //! Rows with `--format json`: whether the object of a command matches the row.
 
-use crate::machine::Machine;
-use crate::row::{Row, Told};
-use row_parts::bytes::text_of;
-use row_parts::objects_told::{is_placed, plain_of};
-use row_parts::output::Limit;
-use row_parts::races_told::is_explained;
-use row_parts::shelf::Shelf;
-use row_parts::words::words_of;
+use crate::machine::TestMachine;
+use crate::row::{CommandResults, TestRow};
 use serde_json::Value;
 use std::alloc::{AllocError, Global};
 use std::io;
+use test_rows::bytes::text_of;
+use test_rows::objects_told::{is_placed, plain_of};
+use test_rows::output::Limit;
+use test_rows::races_told::is_explained;
+use test_rows::test_files::TestFiles;
+use test_rows::words::words_of;
 
-impl Row<'_> {
+impl TestRow<'_> {
     /// Returns whether this is a row of a command that can answer as an object, with outputs that
     /// accept all bytes, and with correct arguments.
     pub fn has_object(&self) -> bool {
@@ -30,10 +30,10 @@ impl Row<'_> {
 
     /// Returns whether the answer of the command with `--format json` matches the row. If it
     /// doesn't, prints the object.
-    pub fn is_so_as_object<R: Machine>(
+    pub fn is_so_as_object<R: TestMachine>(
         &self,
         rt: &R,
-        shelf: &mut Shelf<'_, R>,
+        shelf: &mut TestFiles<'_, R>,
     ) -> io::Result<bool> {
         let alloc = rt.alloc();
         let words = object_words(alloc, self.command)?;
@@ -55,10 +55,10 @@ impl Row<'_> {
     }
 
     /// Returns whether `check --explain` matches the witness of a race, if the object is one.
-    fn is_race_explained<R: Machine>(
+    fn is_race_explained<R: TestMachine>(
         &self,
         rt: &R,
-        shelf: &mut Shelf<'_, R>,
+        shelf: &mut TestFiles<'_, R>,
         object: &Value,
     ) -> io::Result<bool> {
         match object.get("race") {
@@ -71,12 +71,12 @@ impl Row<'_> {
     }
 
     /// Runs a command, with its options, on the program of this command.
-    fn told_of_file<R: Machine>(
+    fn told_of_file<R: TestMachine>(
         &self,
         rt: &R,
-        shelf: &mut Shelf<'_, R>,
+        shelf: &mut TestFiles<'_, R>,
         command: &str,
-    ) -> io::Result<Told> {
+    ) -> io::Result<CommandResults> {
         let alloc = rt.alloc();
         let file = file_in(self.command);
         let words = words_of(alloc, &format!(in alloc; "$ afx {command} {file}")?)?;
@@ -85,7 +85,12 @@ impl Row<'_> {
 
     /// Returns whether an object matches the row: its status, and its output or its message; and
     /// whether the standard error is the same as without an object.
-    fn says(&self, alloc: Global, told: &Told, object: &Value) -> Result<bool, AllocError> {
+    fn says(
+        &self,
+        alloc: Global,
+        told: &CommandResults,
+        object: &Value,
+    ) -> Result<bool, AllocError> {
         let wanted = self.wanted;
         let out = text_of(&wanted.out);
         let status = object.get("status").and_then(Value::as_u64);

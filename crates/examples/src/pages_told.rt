@@ -1,18 +1,18 @@
 //! The pages of `afx explain`: whether they are correct about their programs.
 
-use crate::machine::Machine;
+use crate::machine::TestMachine;
 use driver::act::act;
 use pages::find::tables;
-use pages::page::{Example, Page, Told};
-use row_parts::output::{Limit, Output};
-use row_parts::shelf::Shelf;
-use row_parts::words::words_of;
+use pages::page::{Example, Page, Sample};
 use statement_steps::watch::Unwatched;
 use std::io;
+use test_rows::output::{Limit, Output};
+use test_rows::test_files::TestFiles;
+use test_rows::words::words_of;
 
 /// Runs the programs of the pages, and prints the number of pages that are correct, or which ones
 /// aren't.
-pub fn compare<R: Machine>(rt: &R) -> io::Result<()> {
+pub fn compare<R: TestMachine>(rt: &R) -> io::Result<()> {
     let mut so = 0u64;
     for table in &tables() {
         for page in *table {
@@ -28,7 +28,7 @@ pub fn compare<R: Machine>(rt: &R) -> io::Result<()> {
 
 /// Returns whether the program of a page prints the page's line; for a shape, whether it parses,
 /// and its program is accepted.
-fn is_so<R: Machine>(rt: &R, page: &Page) -> io::Result<bool> {
+fn is_so<R: TestMachine>(rt: &R, page: &Page) -> io::Result<bool> {
     match page.example {
         Example::Nothing => Ok(true),
         Example::Program(told) => tells(rt, told, "", &[]),
@@ -46,9 +46,9 @@ fn is_so<R: Machine>(rt: &R, page: &Page) -> io::Result<bool> {
 }
 
 /// Returns whether a program with an input and a trace prints only its line.
-fn tells<R: Machine>(
+fn tells<R: TestMachine>(
     rt: &R,
-    told: Told,
+    told: Sample,
     input: &'static str,
     trace: &'static [&'static str],
 ) -> io::Result<bool> {
@@ -62,16 +62,20 @@ fn tells<R: Machine>(
 }
 
 /// Runs a command, and returns its status.
-fn status_of<R: Machine>(rt: &R, shelf: &mut Shelf<'_, R>, command: &str) -> io::Result<u8> {
+fn status_of<R: TestMachine>(
+    rt: &R,
+    shelf: &mut TestFiles<'_, R>,
+    command: &str,
+) -> io::Result<u8> {
     let mut out = Output::new(rt.alloc(), Limit::Never);
     let mut err = Output::new(rt.alloc(), Limit::Never);
     done(rt, shelf, command, &mut out, &mut err)
 }
 
 /// Runs a command over these outputs, and returns its status.
-fn done<R: Machine>(
+fn done<R: TestMachine>(
     rt: &R,
-    shelf: &mut Shelf<'_, R>,
+    shelf: &mut TestFiles<'_, R>,
     command: &str,
     out: &mut Output,
     err: &mut Output,
@@ -83,13 +87,13 @@ fn done<R: Machine>(
 }
 
 /// Returns the files of the machine, `program.afx`, `input.json` and `program.trace`.
-fn shelf_with<'t, R: Machine>(
+fn shelf_with<'t, R: TestMachine>(
     rt: &'t R,
     lines: &[&str],
     input: &str,
     trace: &[&str],
-) -> io::Result<Shelf<'t, R>> {
-    let mut shelf = Shelf::new(rt);
+) -> io::Result<TestFiles<'t, R>> {
+    let mut shelf = TestFiles::new(rt);
     shelf.begin_file("program.afx")?;
     for line in lines {
         shelf.read_line(&format!(in rt.alloc(); "| {line}")?)?;

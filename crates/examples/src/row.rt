@@ -1,28 +1,28 @@
 //! A row: a command, and its expected results.
 
-use crate::machine::Machine;
+use crate::machine::TestMachine;
 use driver::act::act;
 use driver::clock::Stopwatch;
 use driver::terminal::Terminal;
-use row_parts::bytes::text_of;
-use row_parts::output::{End, Limit, Output};
-use row_parts::shelf::Shelf;
-use row_parts::wanted::Wanted;
-use row_parts::words::words_of;
 use statement_steps::watch::Watch;
 use std::io;
+use test_rows::bytes::text_of;
+use test_rows::output::{Limit, Output, OutputEnd};
+use test_rows::test_files::TestFiles;
+use test_rows::wanted::ExpectedResults;
+use test_rows::words::words_of;
 
 /// A command of a group, and its expected results.
 #[derive(Clone, Copy)]
-pub struct Row<'a> {
+pub struct TestRow<'a> {
     pub group: &'a str,
     pub command: &'a str,
-    pub wanted: &'a Wanted,
+    pub wanted: &'a ExpectedResults,
 }
 
 /// The results of a command.
 #[derive(Drop)]
-pub struct Told {
+pub struct CommandResults {
     pub out: Output,
     pub err: Output,
     pub status: usize,
@@ -74,28 +74,28 @@ impl Terminal for Counting {
     }
 }
 
-impl Row<'_> {
+impl TestRow<'_> {
     /// Returns whether the command has the expected results. If it hasn't, prints both.
-    pub fn is_so<R: Machine>(&self, rt: &R, shelf: &mut Shelf<'_, R>) -> io::Result<bool> {
+    pub fn is_so<R: TestMachine>(&self, rt: &R, shelf: &mut TestFiles<'_, R>) -> io::Result<bool> {
         if self.wanted.is_swept {
             return self.is_so_swept(rt, shelf);
         }
-        if !self.is_so_until(rt, shelf, End::Fails)? {
+        if !self.is_so_until(rt, shelf, OutputEnd::Fails)? {
             return Ok(false);
         }
         if self.wanted.out_left.is_none() && self.wanted.err_left.is_none() {
             return Ok(true);
         }
-        self.is_so_until(rt, shelf, End::TakesNothing)
+        self.is_so_until(rt, shelf, OutputEnd::TakesNothing)
     }
 
     /// Returns whether the command has the expected results on outputs that end in this way, if
     /// they end.
-    fn is_so_until<R: Machine>(
+    fn is_so_until<R: TestMachine>(
         &self,
         rt: &R,
-        shelf: &mut Shelf<'_, R>,
-        end: End,
+        shelf: &mut TestFiles<'_, R>,
+        end: OutputEnd,
     ) -> io::Result<bool> {
         let out = Limit::of(self.wanted.out_left, end);
         let err = Limit::of(self.wanted.err_left, end);
@@ -104,7 +104,7 @@ impl Row<'_> {
     }
 
     /// Returns whether the command has written the expected files. If it hasn't, prints the file.
-    pub fn has_left<R: Machine>(&self, rt: &R, shelf: &Shelf<'_, R>) -> io::Result<bool> {
+    pub fn has_left<R: TestMachine>(&self, rt: &R, shelf: &TestFiles<'_, R>) -> io::Result<bool> {
         for file in &self.wanted.left {
             let wanted = text_of(&file.bytes);
             let left = shelf.written_to(&file.name).map(text_of);
@@ -120,7 +120,11 @@ impl Row<'_> {
     /// Returns whether the command has the expected results on an output that accepts all bytes,
     /// and writes a prefix of them to each output that fails at an earlier call. The last of these
     /// fails at the flush, after the whole answer.
-    fn is_so_swept<R: Machine>(&self, rt: &R, shelf: &mut Shelf<'_, R>) -> io::Result<bool> {
+    fn is_so_swept<R: TestMachine>(
+        &self,
+        rt: &R,
+        shelf: &mut TestFiles<'_, R>,
+    ) -> io::Result<bool> {
         let mut taken = 0;
         for calls in 0..1_000 {
             let told = self.told(rt, shelf, Limit::Calls(calls), Limit::Never)?;
@@ -138,7 +142,7 @@ impl Row<'_> {
 
     /// Returns whether the last output to fail, which accepted so many bytes, failed after all of
     /// them.
-    fn has_flushed<R: Machine>(&self, rt: &R, taken: usize) -> io::Result<bool> {
+    fn has_flushed<R: TestMachine>(&self, rt: &R, taken: usize) -> io::Result<bool> {
         if taken == self.wanted.out.len() {
             return Ok(true);
         }
@@ -147,26 +151,26 @@ impl Row<'_> {
     }
 
     /// Runs the command with these outputs.
-    fn told<R: Machine>(
+    fn told<R: TestMachine>(
         &self,
         rt: &R,
-        shelf: &mut Shelf<'_, R>,
+        shelf: &mut TestFiles<'_, R>,
         out: Limit,
         err: Limit,
-    ) -> io::Result<Told> {
+    ) -> io::Result<CommandResults> {
         let words = words_of(rt.alloc(), self.command)?;
         self.told_by(rt, shelf, &words, out, err)
     }
 
     /// Runs these arguments with these outputs.
-    pub fn told_by<R: Machine>(
+    pub fn told_by<R: TestMachine>(
         &self,
         rt: &R,
-        shelf: &mut Shelf<'_, R>,
+        shelf: &mut TestFiles<'_, R>,
         words: &[String],
         out: Limit,
         err: Limit,
-    ) -> io::Result<Told> {
+    ) -> io::Result<CommandResults> {
         let alloc = rt.alloc();
         let mut out = Output::new(alloc, out);
         let mut err = Output::new(alloc, err);
@@ -176,7 +180,7 @@ impl Row<'_> {
             micros: 0,
         };
         let status = act(rt, alloc, words, shelf, &mut out, &mut err, &mut watch);
-        Ok(Told {
+        Ok(CommandResults {
             out,
             err,
             status: usize::from(status),
@@ -205,7 +209,12 @@ impl Row<'_> {
     }
 
     /// Returns whether the results are as expected. If they aren't, prints both.
-    pub fn compare<R: Machine>(&self, rt: &R, told: &Told, wanted: Answer<'_>) -> io::Result<bool> {
+    pub fn compare<R: TestMachine>(
+        &self,
+        rt: &R,
+        told: &CommandResults,
+        wanted: Answer<'_>,
+    ) -> io::Result<bool> {
         let told = Answer {
             out: &told.out.taken,
             err: &told.err.taken,
@@ -233,7 +242,7 @@ impl Answer<'_> {
 }
 
 /// Prints an answer, each of its texts on one line.
-fn show<R: Machine>(rt: &R, what: &str, answer: Answer<'_>) -> io::Result<()> {
+fn show<R: TestMachine>(rt: &R, what: &str, answer: Answer<'_>) -> io::Result<()> {
     let out = text_of(answer.out);
     let err = text_of(answer.err);
     println!(rt;

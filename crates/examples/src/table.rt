@@ -1,12 +1,12 @@
 //! A table: a text of groups, each with its files and its rows.
 
-use crate::machine::Machine;
-use crate::row::Row;
-use row_parts::bytes::not_understood;
-use row_parts::shelf::Shelf;
-use row_parts::wanted::Wanted;
+use crate::machine::TestMachine;
+use crate::row::TestRow;
 use std::io::ErrorKind;
 use std::{fs, io};
+use test_rows::bytes::not_understood;
+use test_rows::test_files::TestFiles;
+use test_rows::wanted::ExpectedResults;
 
 /// How to run the commands of a table.
 #[derive(Clone, Copy, PartialEq, Eq)]
@@ -21,7 +21,7 @@ pub enum Way {
 
 /// Runs the rows of a table in the folder `rows`, and prints the number of rows, or which of them
 /// fail.
-pub fn compare<R: Machine>(rt: &R, name: &str, way: Way) -> io::Result<()> {
+pub fn compare<R: TestMachine>(rt: &R, name: &str, way: Way) -> io::Result<()> {
     let path = format!(in rt.alloc(); "rows/{name}")?;
     let text = fs::read_to_string(rt, path.as_str())?;
     let mut table = Table::new(rt, way);
@@ -73,27 +73,27 @@ enum Open {
 struct Table<'t, R> {
     rt: &'t R,
     way: Way,
-    shelf: Shelf<'t, R>,
+    shelf: TestFiles<'t, R>,
     group: &'t str,
     /// Commands that must have the same results.
     commands: Vec<&'t str>,
-    wanted: Wanted,
+    wanted: ExpectedResults,
     open: Open,
     rows: u64,
     /// The number of rows that fail.
     wrong: u64,
 }
 
-impl<'t, R: Machine> Table<'t, R> {
+impl<'t, R: TestMachine> Table<'t, R> {
     /// Returns an empty table.
     fn new(rt: &'t R, way: Way) -> Table<'t, R> {
         Table {
             rt,
             way,
-            shelf: Shelf::new(rt),
+            shelf: TestFiles::new(rt),
             group: "",
             commands: Vec::new(rt.alloc()),
-            wanted: Wanted::new(rt.alloc()),
+            wanted: ExpectedResults::new(rt.alloc()),
             open: Open::Nothing,
             rows: 0,
             wrong: 0,
@@ -157,7 +157,7 @@ impl<'t, R: Machine> Table<'t, R> {
     /// Runs the commands that are there, and removes them.
     fn end(&mut self) -> io::Result<()> {
         for command in &self.commands {
-            let row = Row {
+            let row = TestRow {
                 group: self.group,
                 command: *command,
                 wanted: &self.wanted,
@@ -174,7 +174,7 @@ impl<'t, R: Machine> Table<'t, R> {
             }
         }
         self.commands.clear();
-        self.wanted = Wanted::new(self.rt.alloc());
+        self.wanted = ExpectedResults::new(self.rt.alloc());
         self.open = Open::Nothing;
         Ok(())
     }

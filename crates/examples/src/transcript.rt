@@ -1,15 +1,15 @@
 //! A command line with its output.
 
-use crate::machine::Machine;
+use crate::machine::TestMachine;
 use driver::act::act;
 use driver::folders::MachineFolders;
-use row_parts::words::words_of;
 use statement_steps::watch::Unwatched;
 use std::io;
+use test_rows::words::words_of;
 
 /// Runs a command line over the machine's files, and prints it, its two outputs, and its status
 /// unless that is 0.
-pub fn show<R: Machine>(rt: &R, line: &str) -> io::Result<()> {
+pub fn show<R: TestMachine>(rt: &R, line: &str) -> io::Result<()> {
     let alloc = rt.alloc();
     let command = format!(in alloc; "$ afx {line}")?;
     println!(rt; "{command}")?;

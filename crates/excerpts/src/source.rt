@@ -1,7 +1,7 @@
 //! A program's text, and how its lines are shown.
 
 use std::alloc::{AllocError, Global};
-use syntax::Place;
+use syntax::TextPlace;
 use syntax::lexer::{self, Unread};
 use syntax::token::Spanned;
 
@@ -28,12 +28,12 @@ impl Source {
     }
 
     /// Returns the line and the column of a character, given by its number from 0.
-    pub fn place(&self, at: usize) -> Place {
+    pub fn place(&self, at: usize) -> TextPlace {
         place_of(&self.characters, at)
     }
 
     /// Returns the tokens from a place on.
-    pub fn tokens_from(&self, place: Place) -> &[Spanned] {
+    pub fn tokens_from(&self, place: TextPlace) -> &[Spanned] {
         let at = self.character_at(place);
         let mut left = self.tokens.as_slice();
         'tokens: while let [first, behind @ ..] = left {
@@ -46,7 +46,7 @@ impl Source {
     }
 
     /// Returns the number of the character at a place.
-    fn character_at(&self, place: Place) -> usize {
+    fn character_at(&self, place: TextPlace) -> usize {
         let mut line: u32 = 1;
         let mut column: u32 = 1;
         for (at, character) in self.characters.iter().enumerate() {
@@ -65,7 +65,7 @@ impl Source {
 }
 
 /// Returns the line and the column of a character of a text, given by its number from 0.
-pub fn place_of(characters: &[char], at: usize) -> Place {
+pub fn place_of(characters: &[char], at: usize) -> TextPlace {
     let mut line: u32 = 1;
     let mut column: u32 = 1;
     for character in characters.iter().take(at) {
@@ -76,17 +76,17 @@ pub fn place_of(characters: &[char], at: usize) -> Place {
             column = column.saturating_add(1);
         }
     }
-    Place { line, column }
+    TextPlace { line, column }
 }
 
 /// Adds an empty line, and the line of a place with a caret.
-pub fn push_excerpt(told: &mut String, text: &str, place: Place) -> Result<(), AllocError> {
+pub fn push_excerpt(told: &mut String, text: &str, place: TextPlace) -> Result<(), AllocError> {
     told.push('\n')?;
     push_line(told, text, place)
 }
 
 /// Adds the line of a place with its number, and under it a caret at the place.
-pub fn push_line(told: &mut String, text: &str, place: Place) -> Result<(), AllocError> {
+pub fn push_line(told: &mut String, text: &str, place: TextPlace) -> Result<(), AllocError> {
     let number = place.line;
     let line = line_of(text, place);
     write!(told, "{number:>6} | ")?;
@@ -109,7 +109,7 @@ fn push_margin(told: &mut String, number: u32) -> Result<(), AllocError> {
 }
 
 /// Returns the line of a place, or an empty text past the last line.
-pub fn line_of(text: &str, place: Place) -> &str {
+pub fn line_of(text: &str, place: TextPlace) -> &str {
     let mut number: u32 = 1;
     for line in text.lines() {
         if number == place.line {
@@ -121,13 +121,13 @@ pub fn line_of(text: &str, place: Place) -> &str {
 }
 
 /// Returns the number of characters of a line before those that are shown.
-fn first_shown(place: Place) -> usize {
+fn first_shown(place: TextPlace) -> usize {
     let column = usize::try_from(place.column).unwrap_or(0);
     column.saturating_sub(SHOWN)
 }
 
 /// Adds the shown part of a line, with `..` for what is left out.
-fn push_part(told: &mut String, line: &str, place: Place) -> Result<(), AllocError> {
+fn push_part(told: &mut String, line: &str, place: TextPlace) -> Result<(), AllocError> {
     let from = first_shown(place);
     if from > 0 {
         told.push_str("..")?;
@@ -144,7 +144,7 @@ fn push_part(told: &mut String, line: &str, place: Place) -> Result<(), AllocErr
 }
 
 /// Adds the space before a caret: spaces, and tabs where the line has them.
-fn push_indent(told: &mut String, line: &str, place: Place) -> Result<(), AllocError> {
+fn push_indent(told: &mut String, line: &str, place: TextPlace) -> Result<(), AllocError> {
     let from = first_shown(place);
     if from > 0 {
         told.push_str("  ")?;

@@ -3,24 +3,24 @@
 use crate::named::{Named, Role, begins_with, head, is_name, is_operator, names};
 use crate::sides::is_used;
 use crate::source::{Source, push_line};
-use places::statement_places;
+use statement_places::statement_places;
 use std::alloc::{AllocError, Global};
-use syntax::Place;
+use syntax::TextPlace;
 use syntax::lexer::Unread;
 use syntax::token::{Mark, Spanned, Token, Word};
 
 /// A text with its tokens, and the start of each of its statements.
 #[derive(Drop)]
-pub struct Statements<'t> {
+pub struct PlacedStatements<'t> {
     alloc: Global,
     pub text: &'t str,
     pub source: Source,
-    pub places: Vec<Place>,
+    pub places: Vec<TextPlace>,
 }
 
-impl<'t> Statements<'t> {
+impl<'t> PlacedStatements<'t> {
     /// Finds the statements of a text. Returns None if the text has no tokens.
-    pub fn of(alloc: Global, text: &'t str) -> Result<Option<Statements<'t>>, AllocError> {
+    pub fn of(alloc: Global, text: &'t str) -> Result<Option<PlacedStatements<'t>>, AllocError> {
         if text.len() > 1_048_576 {
             return Ok(None);
         }
@@ -30,7 +30,7 @@ impl<'t> Statements<'t> {
         let Some(places) = read(statement_places(alloc, text))? else {
             return Ok(None);
         };
-        Ok(Some(Statements {
+        Ok(Some(PlacedStatements {
             alloc,
             text,
             source,
@@ -39,7 +39,7 @@ impl<'t> Statements<'t> {
     }
 
     /// Returns where the statement with a label starts.
-    pub fn place(&self, label: u32) -> Option<Place> {
+    pub fn place(&self, label: u32) -> Option<TextPlace> {
         let number = usize::try_from(label).unwrap_or(0).saturating_sub(1);
         self.places.get(number).copied()
     }

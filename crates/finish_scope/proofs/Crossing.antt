@@ -3,18 +3,18 @@ use Rattle.std.proofs.Crossing.{crosses}
 use denote.Param.Send.{IsSync, IsSend, sendable}
 use denote.Param.SendFields.{declared_sync, declared_send, variants_send, as_row_sync}
 use denote.Ref.{NamedLft}
-use Rattle.task_machine.specs.contracts.task.Child as Child
-use Rattle.own_run.specs.contracts.run.Run as Run
-use Rattle.own_run.specs.contracts.start.Start as Start
-use Rattle.task_machine.specs.contracts.task.Task as Task
-use Rattle.own_run.specs.contracts.frame.Frame as Frame
+use Rattle.weighted_task.specs.contracts.task.Child as Child
+use Rattle.task_run.specs.contracts.run.Run as Run
+use Rattle.task_run.specs.contracts.start.Start as Start
+use Rattle.weighted_task.specs.contracts.task.Task as Task
+use Rattle.task_run.specs.contracts.frame.TaskFrame as TaskFrame
 use Rattle.types.specs.contracts.code.Stmt as CodeStmt
 use Rattle.types.specs.contracts.code.Truth as CodeTruth
-use Rattle.task_machine.specs.contracts.task.Body as Body
-use Rattle.gather.specs.contracts.job.Job as Job
-use Rattle.task_machine.specs.contracts.finish.Parked as Parked
-use Rattle.task_machine.specs.contracts.finish.Owner as Owner
-use Rattle.own_run.specs.contracts.turn.Paused as RunPaused
+use Rattle.weighted_task.specs.contracts.task.Body as Body
+use Rattle.task_run.specs.contracts.job.Job as Job
+use Rattle.weighted_task.specs.contracts.finish.Parked as Parked
+use Rattle.weighted_task.specs.contracts.finish.Owner as Owner
+use Rattle.task_run.specs.contracts.turn.Paused as RunPaused
 use Rattle.syntax_tree.specs.contracts.tree.Program as Tree
 use Rattle.syntax_tree.specs.contracts.tree.Array as Array
 use Rattle.syntax_tree.specs.contracts.tree.Main as Main
@@ -50,15 +50,15 @@ use Rattle.sections.proofs.window.Place.TheSendSync as OfPlace
 use Rattle.holdings.proofs.holdings.Holdings.TheSendSync as OfHoldings
 use Rattle.statement_steps.proofs.thread.Thread.TheSendSync as OfThread
 use Rattle.statement_steps.proofs.flow.Flow.TheSendSync as OfFlow
-use Rattle.own_run.proofs.frame.Outer.TheSendSync as OfOuter
-use Rattle.own_run.proofs.memory.TaskMemory.TheSendSync as OfTaskMemory
-use Rattle.own_run.proofs.result.Listed.TheSendSync as OfListed
-use Rattle.own_run.proofs.result.TaskResult.TheSendSync as OfTaskResult
+use Rattle.task_run.proofs.frame.Outer.TheSendSync as OfOuter
+use Rattle.task_run.proofs.memory.TaskMemory.TheSendSync as OfTaskMemory
+use Rattle.task_run.proofs.result.Listed.TheSendSync as OfListed
+use Rattle.task_run.proofs.result.TaskResult.TheSendSync as OfTaskResult
 use Rattle.weights.proofs.weight.Weight.TheSendSync as OfWeight
 use Rattle.weights.proofs.book.Book.TheSendSync as OfBook
-use Rattle.task_machine.proofs.stake.ScopeMark.TheSendSync as OfScopeMark
-use Rattle.task_machine.proofs.stake.Share.TheSendSync as OfShare
-use Rattle.task_machine.proofs.stake.Stake.TheSendSync as OfStake
+use Rattle.weighted_task.proofs.stake.ScopeMark.TheSendSync as OfScopeMark
+use Rattle.weighted_task.proofs.stake.Share.TheSendSync as OfShare
+use Rattle.weighted_task.proofs.stake.Stake.TheSendSync as OfStake
 
 string_sync : IsSync (String.the_row Heap.the_row ghosts)
 string_sync = search (sendable, crosses) depth 40 fits 20000
@@ -172,7 +172,7 @@ child_send κ =
       ),
     )
 
-frame_send : (κ : NamedLft) → IsSend (Frame.the_row κ)
+frame_send : (κ : NamedLft) → IsSend (TaskFrame.the_row κ)
 frame_send κ =
     search (sendable, crosses, stmt_sync, truth_sync) depth 60 fits 50000
 

@@ -1,3 +1,3 @@
-pub mod Boarding
 pub mod Crossing
 pub mod Owners
+pub mod Sending

@@ -1,9 +1,9 @@
 -- An owner that passes, and its results, are of the run.
 use Rattle.std.proofs.Common.{◌≡◌, List, [], ◌∷◌, Option, Some, subst, sym}
-use Rattle.own_run.specs.Lists.{Each}
-use Rattle.own_run.specs.declared.result.TaskResult.{TaskResult as Made}
-use Rattle.gather.specs.declared.job.Job.{Job}
-use Rattle.task_machine.specs.Tasks.{IsResultOf}
+use Rattle.task_run.specs.Lists.{Each}
+use Rattle.task_run.specs.declared.result.TaskResult.{TaskResult as Made}
+use Rattle.task_run.specs.declared.job.Job.{Job}
+use Rattle.weighted_task.specs.Tasks.{IsResultOf}
 use Rattle.finish_scope.specs.Own.{IsOwnOwner, IsOwnPassing, IsOwnResting, IsResultOfRun}
 use Rattle.finish_scope.specs.declared.resting.Passing.{Passing}
 use Rattle.finish_scope.specs.declared.resting.Resting.{Resting}

@@ -1,3 +1,3 @@
 pub mod Own
+pub mod ScopeTables
 pub mod Scopes
-pub mod Shelves

@@ -1,10 +1,10 @@
 -- What belongs to the job of a run.
 use Rattle.std.specs.Prelude.{◌≡◌, List, Option, Some, None}
-use Rattle.own_run.specs.Lists.{Each}
-use Rattle.own_run.specs.declared.result.TaskResult.{TaskResult as Made}
-use Rattle.gather.specs.declared.job.Job.{Job}
-use Rattle.task_machine.specs.Ends.{IsParked}
-use Rattle.task_machine.specs.Tasks.{IsResultOf}
+use Rattle.task_run.specs.Lists.{Each}
+use Rattle.task_run.specs.declared.result.TaskResult.{TaskResult as Made}
+use Rattle.task_run.specs.declared.job.Job.{Job}
+use Rattle.weighted_task.specs.Ends.{IsParked}
+use Rattle.weighted_task.specs.Tasks.{IsResultOf}
 use Rattle.finish_scope.specs.declared.resting.Passing.{Passing}
 use Rattle.finish_scope.specs.declared.resting.Resting.{Resting}
 

@@ -1,7 +1,7 @@
 -- The state of a scope, and the effect of each call.
 use Rattle.std.specs.Prelude.{ℕ, ◌≡◌, ◌-◌, ◌+◌, ◌<◌, ◌≤◌, ◌⊎◌, List, [], ◌∷◌, ◌++◌, Option, Some}
 use Rattle.std.specs.Prelude.{None, Bool, true, false}
-use Rattle.own_run.specs.declared.result.TaskResult.{TaskResult as Made}
+use Rattle.task_run.specs.declared.result.TaskResult.{TaskResult as Made}
 use Rattle.weights.specs.Ledger.{Ledger, Returned, issued_of, returned_of, opened, minted, listed}
 use Rattle.weights.specs.Ledger.{without_entry}
 use Rattle.finish_scope.specs.declared.late.Reason.{Reason}

@@ -10,10 +10,10 @@ ghost use Rattle.finish_scope.specs.Scopes.{IsEven, out_of, given_by, scope_at_o
 use crate::late::{Late, Reason};
 use crate::resting::{Passing, Resting};
 use crate::running::Running;
-use own_run::result::TaskResult;
 use std::alloc::Global;
 use std::marker::{Model, PhantomData};
 use std::sync::Mutex;
+use task_run::result::TaskResult;
 use types::path::Path;
 use weights::book::{Back, Book};
 use weights::weight::Weight;

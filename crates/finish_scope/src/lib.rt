@@ -11,4 +11,4 @@ pub mod late;
 pub mod laws;
 pub mod resting;
 pub mod running;
-pub mod shelf;
+pub mod scope_table;

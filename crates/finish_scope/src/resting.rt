@@ -1,12 +1,12 @@
 //! Owners of scopes.
 
-use own_run::result::TaskResult;
-use task_machine::finish::Parked;
+use task_run::result::TaskResult;
+use weighted_task::finish::Parked;
 
-/// The position of a scope: its shelf, and its slot there.
+/// The position of a scope: its scope table, and its slot there.
 #[derive(Clone, Copy, PartialEq, Eq, Debug)]
-pub struct Place {
-    pub shelf: usize,
+pub struct ScopePosition {
+    pub table: usize,
     pub slot: usize,
 }
 
@@ -15,7 +15,7 @@ pub struct Place {
 pub struct Resting<'p> {
     pub parked: Box<Parked<'p>>,
     /// The innermost last.
-    pub outer: Vec<Place>,
+    pub outer: Vec<ScopePosition>,
 }
 
 /// The owner of a scope that passes, and the results that arrived there.

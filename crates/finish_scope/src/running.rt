@@ -6,7 +6,7 @@ use std::marker::Brand;
 /// lock or a queue is known, so the types that go there name both. A run picks them once.
 pub trait Running {
     ghost use Rattle.std.specs.Prelude.{ℕ, Option};
-    ghost use Rattle.gather.specs.declared.job.Job.{Job};
+    ghost use Rattle.task_run.specs.declared.job.Job.{Job};
 
     ghost job: { Option Job };
 

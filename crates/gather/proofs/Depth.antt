@@ -6,10 +6,10 @@ use Rattle.std.proofs.Math.Bool.{or_assoc, or-false}
 use Rattle.std.specs.Prelude.{ℤ, Bool, true, false, ◌||◌, nat_eq, if◌then◌else◌}
 use Rattle.std.specs.Cmp.Lexicographic.{pointwise}
 use Rattle.sections.specs.Covers.{has}
-use Rattle.own_run.specs.Places.{Places, meets, only, over, first_of}
-use Rattle.own_run.specs.Results.{Listed, TaskResult, Settled, none_yet, fill, complete, and_then}
-use Rattle.own_run.specs.Settling.{behind, take, fill_all, settle_within}
-use Rattle.own_run.proofs.SettledResults.{gives, unless_none}
+use Rattle.task_run.specs.Places.{Places, meets, only, over, first_of}
+use Rattle.task_run.specs.Results.{Listed, TaskResult, Settled, none_yet, fill, complete, and_then}
+use Rattle.task_run.specs.Settling.{behind, take, fill_all, settle_within}
+use Rattle.task_run.proofs.SettledResults.{gives, unless_none}
 use Rattle.gather.specs.Parts.{Comes, opened, closed, finished, settle_one}
 
 -- ---- options

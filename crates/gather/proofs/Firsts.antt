@@ -7,14 +7,14 @@ use Rattle.std.proofs.lemmas.Grind.{reverse_onto}
 use Rattle.std.proofs.lemmas.List.{length-reverse, reverse-append, reverse-reverse, get_or_append_left, get_or_at, set_at, set-append_left}
 use Rattle.std.proofs.lemmas.Option.{none-some, same_Some}
 use Rattle.std.specs.Option.{option_flatten}
-use Rattle.facts.proofs.Truths.{false_true}
-use Rattle.facts.proofs.Lists.{same_head, same_rest}
-use Rattle.own_run.specs.Settling.{behind, take}
-use Rattle.own_run.specs.Translation.{task_result}
-use Rattle.own_run.proofs.SettledResults.{paths_same}
-use Rattle.own_run.proofs.CompleteResults.{path_same}
+use Rattle.shared_lemmas.proofs.Truths.{false_true}
+use Rattle.shared_lemmas.proofs.Lists.{same_head, same_rest}
+use Rattle.task_run.specs.Settling.{behind, take}
+use Rattle.task_run.specs.Translation.{task_result}
+use Rattle.task_run.proofs.SettledResults.{paths_same}
+use Rattle.task_run.proofs.CompleteResults.{path_same}
 use Rattle.gather.specs.Unused.{is_of, left_in, first_of, said_next, next_in, AreChained}
-use Rattle.gather.specs.declared.table.Entry.{Entry}
+use Rattle.gather.specs.declared.table.ResultEntry.{ResultEntry}
 use Rattle.gather.proofs.Taking.{taken_here, passed}
 
 -- ---- lists
@@ -51,7 +51,7 @@ other_way p q e = by (pointwise nat_eq q p) refl
     by true w = absurd (false_true (sym e ∙ ap (λ l. pointwise nat_eq p l) (paths_same q p w) ∙ path_same p))
 
 -- ---- the first result with a path
-first_below : (path : List ℕ) (ps : List (Option Entry)) (i : ℕ) → first_of path ps ≡ Some i → i < length ps
+first_below : (path : List ℕ) (ps : List (Option ResultEntry)) (i : ℕ) → first_of path ps ≡ Some i → i < length ps
 first_below path [] i e = absurd (none-some i e)
 first_below path (None ∷ ps) i e = let h = first_below path ps i e in omega (arith, h)
 first_below path (Some x ∷ ps) i e = by (first_below path ps i) (is_of path x.task) e
@@ -62,7 +62,7 @@ first_below path (Some x ∷ ps) i e = by (first_below path ps i) (is_of path x.
     by behind_it false q = let h = behind_it q in omega (arith, h)
 
 -- there is none
-pub nowhere : (path : List ℕ) (ps : List (Option Entry)) → first_of path ps ≡ None → take path (map task_result (left_in ps)) ≡ None
+pub nowhere : (path : List ℕ) (ps : List (Option ResultEntry)) → first_of path ps ≡ None → take path (map task_result (left_in ps)) ≡ None
 nowhere path [] e = refl
 nowhere path (None ∷ ps) e = nowhere path ps e
 nowhere path (Some x ∷ ps) e = by (nowhere path ps) (is_of path x.task) refl e
@@ -73,9 +73,9 @@ nowhere path (Some x ∷ ps) e = by (nowhere path ps) (is_of path x.task) refl e
     by behind_it false w q = passed path x.task (left_in ps) w ∙ ap (behind (task_result x.task)) (behind_it q)
 
 -- the entry there, and what is left without it
-pub record Found (path : List ℕ) (ps : List (Option Entry)) (i : ℕ) : Type 0 where
-  pub entry : Entry
-  pub others : List (Option Entry)
+pub record Found (path : List ℕ) (ps : List (Option ResultEntry)) (i : ℕ) : Type 0 where
+  pub entry : ResultEntry
+  pub others : List (Option ResultEntry)
   pub there : get_or (reverse ps) i None ≡ Some entry
   pub without : set (reverse ps) i None ≡ reverse others
   pub as_many : length others ≡ length ps
@@ -85,7 +85,7 @@ pub record Found (path : List ℕ) (ps : List (Option Entry)) (i : ℕ) : Type 0
   pub chained : AreChained others
 
 -- it is the first one
-module _ (path : List ℕ) (x : Entry) (ps : List (Option Entry)) (chain : AreChained (Some x ∷ ps)) where
+module _ (path : List ℕ) (x : ResultEntry) (ps : List (Option ResultEntry)) (chain : AreChained (Some x ∷ ps)) where
   next_is : x.next ≡ first_of x.task.path.turns.items ps
   next_is = let same : x.next ∷ said_next ps ≡ first_of x.task.path.turns.items ps ∷ next_in ps = chain in same_head same
 
@@ -161,7 +161,7 @@ module _ (path : List ℕ) (x : Entry) (ps : List (Option Entry)) (chain : AreCh
     }
 
 -- the first slot is empty
-behind_none : (path : List ℕ) (ps : List (Option Entry)) (i : ℕ) → i < length ps → Found path ps i → Found path (None ∷ ps) i
+behind_none : (path : List ℕ) (ps : List (Option ResultEntry)) (i : ℕ) → i < length ps → Found path ps i → Found path (None ∷ ps) i
 behind_none path ps i lt h = record {
   entry = h.entry;
   others = None ∷ h.others;
@@ -174,7 +174,7 @@ behind_none path ps i lt h = record {
   chained = h.chained;
 }
 
-pub found : (path : List ℕ) (ps : List (Option Entry)) (i : ℕ) → AreChained ps → first_of path ps ≡ Some i → Found path ps i
+pub found : (path : List ℕ) (ps : List (Option ResultEntry)) (i : ℕ) → AreChained ps → first_of path ps ≡ Some i → Found path ps i
 found path [] i chain e = absurd (none-some i e)
 found path (None ∷ ps) i chain e = behind_none path ps i (first_below path ps i e) (found path ps i chain e)
 found path (Some x ∷ ps) i chain e = by (found path ps i (chain_behind path x ps chain)) (is_of path x.task) refl e
@@ -185,7 +185,7 @@ found path (Some x ∷ ps) i chain e = by (found path ps i (chain_behind path x 
     by behind_it false w q = behind_first path x ps chain w i (first_below path ps i q) (behind_it q)
 
 -- ---- a result is taken out of slots in memory
-module _ (path : List ℕ) (xs : List (Option Entry)) (i : ℕ) (chain : AreChained (reverse xs))
+module _ (path : List ℕ) (xs : List (Option ResultEntry)) (i : ℕ) (chain : AreChained (reverse xs))
     (at : first_of path (reverse xs) ≡ Some i) where
   abbrev it : Found path (reverse xs) i
   it = found path (reverse xs) i chain at
@@ -193,7 +193,7 @@ module _ (path : List ℕ) (xs : List (Option Entry)) (i : ℕ) (chain : AreChai
   pub stands : get_or xs i None ≡ Some it.entry
   stands = ap (λ l. get_or l i None) (sym (reverse-reverse xs)) ∙ it.there
 
-  module _ (ys : List (Option Entry)) (x : Entry) (is : get_or xs i None ≡ Some x) (set_out : ys ≡ set xs i None) where
+  module _ (ys : List (Option ResultEntry)) (x : ResultEntry) (is : get_or xs i None ≡ Some x) (set_out : ys ≡ set xs i None) where
     entry_is : it.entry ≡ x
     entry_is = same_Some it.entry x (sym stands ∙ is)
 
@@ -205,7 +205,7 @@ module _ (path : List ℕ) (xs : List (Option Entry)) (i : ℕ) (chain : AreChai
     pub taken_out : take path (map task_result (left_in (reverse xs))) ≡ Some (task_result x.task, map task_result (left_in (reverse ys)))
     taken_out =
         it.taken
-        ∙ ap (λ (e : Entry). Some (task_result e.task, map task_result (left_in it.others))) entry_is
+        ∙ ap (λ (e : ResultEntry). Some (task_result e.task, map task_result (left_in it.others))) entry_is
         ∙ ap (λ l. Some (task_result x.task, map task_result (left_in l))) others_are
 
     pub one_fewer : length (left_in (reverse ys)) + 1 ≡ length (left_in (reverse xs))
@@ -216,13 +216,13 @@ module _ (path : List ℕ) (xs : List (Option Entry)) (i : ℕ) (chain : AreChai
     firsts_after other =
         ap (first_of other) (sym others_are)
         ∙ it.firsts other
-        ∙ ap (λ (e : Entry). if pointwise nat_eq path other then e.next else first_of other (reverse xs)) entry_is
+        ∙ ap (λ (e : ResultEntry). if pointwise nat_eq path other then e.next else first_of other (reverse xs)) entry_is
 
     pub chained_after : AreChained (reverse ys)
     chained_after = subst AreChained others_are it.chained
 
 -- ---- a result is put in front
-module _ (xs ys : List (Option Entry)) (x : Entry) (pushed : ys ≡ xs ++ Some x ∷ []) where
+module _ (xs ys : List (Option ResultEntry)) (x : ResultEntry) (pushed : ys ≡ xs ++ Some x ∷ []) where
   pub in_front : reverse ys ≡ Some x ∷ reverse xs
   in_front = ap reverse pushed ∙ reverse-append xs (Some x ∷ [])
 

@@ -7,17 +7,17 @@ use Rattle.std.proofs.Math.Bool.{or_assoc, or-false}
 use Rattle.std.specs.Prelude.{Bool, true, false, ◌||◌, nat_eq, if◌then◌else◌}
 use Rattle.std.specs.Cmp.Lexicographic.{pointwise}
 use Rattle.std.specs.List.{list_any}
-use Rattle.facts.proofs.Truths.{false_true}
+use Rattle.shared_lemmas.proofs.Truths.{false_true}
 use Rattle.sections.specs.Covers.{has}
 use Rattle.sections.specs.Place.{Place}
 use Rattle.types.specs.declared.path.Path.{Path}
-use Rattle.own_run.specs.Places.{Places, meets}
-use Rattle.own_run.specs.Results.{Listed, TaskResult, Settled, returned}
-use Rattle.own_run.specs.Settling.{behind, take}
-use Rattle.own_run.specs.Lists.{Each, Inserted, here, later}
-use Rattle.own_run.proofs.Lists.{each_more, each_last}
-use Rattle.own_run.proofs.SettledResults.{taken}
-use Rattle.own_run.proofs.CompleteResults.{path_same}
+use Rattle.task_run.specs.Places.{Places, meets}
+use Rattle.task_run.specs.Results.{Listed, TaskResult, Settled, returned}
+use Rattle.task_run.specs.Settling.{behind, take}
+use Rattle.task_run.specs.Lists.{Each, Inserted, here, later}
+use Rattle.task_run.proofs.Lists.{each_more, each_last}
+use Rattle.task_run.proofs.SettledResults.{taken}
+use Rattle.task_run.proofs.CompleteResults.{path_same}
 use Rattle.gather.proofs.Wholes.{each_end}
 use Rattle.types.specs.Translation.{is_path}
 use Rattle.gather.specs.Parts.{Part, Waiting, opened as opened_of, filled, unopened, comes_back_twice}

@@ -7,7 +7,7 @@ use Rattle.std.specs.Prelude.{ℤ, Bool, true, false, ◌||◌, is_some, length,
 use Rattle.std.specs.Global.{Global}
 use Rattle.std.specs.Result.{IsErr, IsErrAnd}
 use Rattle.sections.proofs.Covering.{in_window}
-use Rattle.facts.proofs.Truths.{false_true}
+use Rattle.shared_lemmas.proofs.Truths.{false_true}
 use Rattle.sections.specs.Covers.{has, is_in}
 use Rattle.sections.specs.Place.{Place, Window}
 use Rattle.sections.specs.Translation.{window}
@@ -19,14 +19,14 @@ use Rattle.holdings.specs.Held.{Map, Held, Owned, Shared, first_of, over, as_own
 use Rattle.holdings.specs.Held.{IsJustAt, put_all, written_over}
 use Rattle.holdings.specs.Holdings.{held}
 use Rattle.holdings.specs.declared.holdings.Holdings.{Holdings}
-use Rattle.own_run.specs.Places.{Places, has_one, meets, only, over as laid_over}
-use Rattle.own_run.specs.Results.{Listed, Settled}
-use Rattle.own_run.specs.Translation.{listed, settled, task_result, owned_by, contents_of}
-use Rattle.own_run.specs.declared.result.Listed.{Listed as rListed}
-use Rattle.own_run.specs.declared.result.Settled.{Settled as rSettled}
-use Rattle.own_run.specs.declared.result.TaskResult.{TaskResult as rTaskResult}
-use Rattle.own_run.proofs.CompleteResults.{not_met}
-use Rattle.own_run.proofs.HeldPlaces.{has-append}
+use Rattle.task_run.specs.Places.{Places, has_one, meets, only, over as laid_over}
+use Rattle.task_run.specs.Results.{Listed, Settled}
+use Rattle.task_run.specs.Translation.{listed, settled, task_result, owned_by, contents_of}
+use Rattle.task_run.specs.declared.result.Listed.{Listed as rListed}
+use Rattle.task_run.specs.declared.result.Settled.{Settled as rSettled}
+use Rattle.task_run.specs.declared.result.TaskResult.{TaskResult as rTaskResult}
+use Rattle.task_run.proofs.CompleteResults.{not_met}
+use Rattle.task_run.proofs.HeldPlaces.{has-append}
 use Rattle.gather.specs.Parts.{Part, Waiting, opened, filled, given_back, comes_back_twice}
 use Rattle.gather.specs.PartRefusal.{RefusesBack, RefusesHole, RefusesPaste}
 use Rattle.gather.specs.Stages.{IsClear, part, waiting_for}

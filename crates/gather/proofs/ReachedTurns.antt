@@ -2,10 +2,10 @@
 use Rattle.std.proofs.Common.{◌≡◌, ℕ, List, [], ◌∷◌, ◌++◌, map, Some, sym, ap, subst, inl, inr}
 use Rattle.std.specs.List.{list_any}
 use Rattle.types.specs.declared.path.Path.{Path}
-use Rattle.own_run.specs.Results.{TaskResult, Settled}
-use Rattle.own_run.specs.Settling.{take}
-use Rattle.own_run.specs.Translation.{task_result}
-use Rattle.own_run.specs.declared.result.TaskResult.{TaskResult as rTaskResult}
+use Rattle.task_run.specs.Results.{TaskResult, Settled}
+use Rattle.task_run.specs.Settling.{take}
+use Rattle.task_run.specs.Translation.{task_result}
+use Rattle.task_run.specs.declared.result.TaskResult.{TaskResult as rTaskResult}
 use Rattle.types.specs.Translation.{is_path}
 use Rattle.gather.specs.PartRefusal.{TellsLeftOver, RefusesHole}
 use Rattle.gather.specs.Parts.{Part, Waiting, opened, filled, unopened}
@@ -14,7 +14,7 @@ use Rattle.gather.specs.Refusal.{IsCaseOf, ComesBackTwice}
 use Rattle.gather.specs.Stages.{gathered, waiting}
 use Rattle.gather.specs.declared.error.GatherError.{GatherError}
 use Rattle.gather.specs.declared.error.GatherError.TheVariants.{Lost, Double, Stranger, OutOfMemory}
-use Rattle.gather.specs.declared.filling.Waiting.{Waiting as rWaiting}
+use Rattle.gather.specs.declared.filling.WaitingResult.{WaitingResult as rWaiting}
 use Rattle.gather.proofs.Openings.{among_times, not_among, reached-first, reached-opened, reached-filled, back_twice, stranger, one_more}
 
 -- the first stage

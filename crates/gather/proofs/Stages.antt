@@ -3,9 +3,9 @@ use Rattle.std.proofs.Common.{◌≡◌, ℕ, List, [], ◌∷◌, ◌++◌, Som
 use Rattle.std.specs.Prelude.{false}
 use Rattle.sections.specs.Covers.{has}
 use Rattle.sections.specs.Place.{Place}
-use Rattle.own_run.specs.Places.{Places}
-use Rattle.own_run.specs.Results.{TaskResult}
-use Rattle.own_run.specs.Settling.{take, settle}
+use Rattle.task_run.specs.Places.{Places}
+use Rattle.task_run.specs.Results.{TaskResult}
+use Rattle.task_run.specs.Settling.{take, settle}
 use Rattle.gather.specs.GivesBack.{GiveBack, all_owned}
 use Rattle.gather.specs.Parts.{Part, Waiting, Gathering, opened, closed, filled, unopened, comes_back_twice, comes_to, IsWhole}
 use Rattle.gather.specs.PartRefusal.{RefusesHole}

@@ -7,7 +7,7 @@ use Rattle.sections.specs.Covers.{has, is_in}
 use Rattle.sections.specs.Place.{Place}
 use Rattle.sections.specs.Translation.{window}
 use Rattle.sections.specs.declared.window.Window.{Window as rWindow}
-use Rattle.own_run.specs.Places.{Places, has_one, meets}
+use Rattle.task_run.specs.Places.{Places, has_one, meets}
 
 -- ---- a place of windows
 abbrev pub covers : Place → rWindow → Bool

@@ -5,9 +5,9 @@ use Rattle.std.specs.List.{remove, position, position_from}
 use Rattle.std.proofs.lemmas.Option.{none-some}
 use Rattle.std.proofs.lemmas.Iterator.Adapters.{position_from-zero}
 use Rattle.std.proofs.lemmas.List.Quantifiers.{position-Some}
-use Rattle.own_run.specs.Settling.{behind, take}
-use Rattle.own_run.specs.Translation.{task_result}
-use Rattle.own_run.specs.declared.result.TaskResult.{TaskResult as rTaskResult}
+use Rattle.task_run.specs.Settling.{behind, take}
+use Rattle.task_run.specs.Translation.{task_result}
+use Rattle.task_run.specs.declared.result.TaskResult.{TaskResult as rTaskResult}
 use Rattle.gather.specs.Unused.{is_of}
 
 pub taken_here : (path : List ℕ) (x : rTaskResult) (xs : List rTaskResult) → is_of path x ≡ true

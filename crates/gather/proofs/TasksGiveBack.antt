@@ -9,16 +9,16 @@ use Rattle.types.specs.Outcome.{Budget}
 use Rattle.types.specs.Run.{State}
 use Rattle.effects.specs.Sound.{IsSound}
 use Rattle.race_checker.specs.Clash.{IsAccepted}
-use Rattle.own_run.specs.Frames.{Standing}
-use Rattle.own_run.specs.Lists.{Each}
-use Rattle.own_run.specs.OwnRun.{Start, Child, Own, back_from, result_of}
-use Rattle.own_run.specs.Results.{TaskResult}
-use Rattle.own_run.specs.Runs.{IsTaskResult, MayStand}
-use Rattle.own_run.specs.RunTurns.{ComesBack}
-use Rattle.own_run.specs.Translation.{owned_by}
-use Rattle.own_run.specs.declared.result.Settled.{Settled}
-use Rattle.own_run.proofs.BelongingTasks.{IsGivenBack, children_give_back}
-use Rattle.own_run.proofs.Lists.{each_map, each_more}
+use Rattle.task_run.specs.Frames.{Standing}
+use Rattle.task_run.specs.Lists.{Each}
+use Rattle.task_run.specs.OwnRun.{Start, Child, Own, back_from, result_of}
+use Rattle.task_run.specs.Results.{TaskResult}
+use Rattle.task_run.specs.Runs.{IsTaskResult, MayStand}
+use Rattle.task_run.specs.RunTurns.{ComesBack}
+use Rattle.task_run.specs.Translation.{owned_by}
+use Rattle.task_run.specs.declared.result.Settled.{Settled}
+use Rattle.task_run.proofs.BelongingTasks.{IsGivenBack, children_give_back}
+use Rattle.task_run.proofs.Lists.{each_map, each_more}
 use Rattle.gather.specs.GivesBack.{all_owned, GivesBack, AreGivenBack, GiveBack}
 
 -- ---- the places that come back from the children that a task lists

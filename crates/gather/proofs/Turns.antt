@@ -2,10 +2,10 @@
 use Rattle.std.proofs.Common.{◌≡◌, List, [], ◌∷◌, ◌++◌, Option, Some, None, sym, ap, ◌∙◌}
 use Rattle.std.specs.Prelude.{Bool, true, false, ◌||◌, if◌then◌else◌}
 use Rattle.sections.specs.Covers.{has}
-use Rattle.own_run.specs.Places.{Places}
-use Rattle.own_run.specs.Results.{TaskResult, Settled, fill, and_then}
-use Rattle.own_run.specs.Settling.{take, fill_all, none_left, settle}
-use Rattle.own_run.proofs.SettledResults.{and_then-some}
+use Rattle.task_run.specs.Places.{Places}
+use Rattle.task_run.specs.Results.{TaskResult, Settled, fill, and_then}
+use Rattle.task_run.specs.Settling.{take, fill_all, none_left, settle}
+use Rattle.task_run.proofs.SettledResults.{and_then-some}
 use Rattle.gather.specs.Parts.{Part, Waiting, Comes, opened, closed, filled, comes_back_twice, settle_one, finished}
 use Rattle.gather.specs.Parts.{gone_on, come, comes_to, unopened}
 use Rattle.gather.proofs.Depth.{and_then-assoc, and_then-none, settle_one-finished}

@@ -5,13 +5,13 @@ use Rattle.std.specs.Prelude.{◌||◌, nat_eq}
 use Rattle.std.specs.Cmp.Lexicographic.{pointwise}
 use Rattle.sections.specs.Covers.{has}
 use Rattle.sections.specs.Place.{Place}
-use Rattle.own_run.specs.Places.{Places}
-use Rattle.own_run.specs.Results.{Listed, TaskResult, Settled, returned}
-use Rattle.own_run.specs.Settling.{take}
-use Rattle.own_run.specs.Lists.{Each}
-use Rattle.own_run.proofs.Lists.{each_more, each_last}
-use Rattle.own_run.proofs.SettledResults.{taken}
-use Rattle.own_run.proofs.CompleteResults.{path_same}
+use Rattle.task_run.specs.Places.{Places}
+use Rattle.task_run.specs.Results.{Listed, TaskResult, Settled, returned}
+use Rattle.task_run.specs.Settling.{take}
+use Rattle.task_run.specs.Lists.{Each}
+use Rattle.task_run.proofs.Lists.{each_more, each_last}
+use Rattle.task_run.proofs.SettledResults.{taken}
+use Rattle.task_run.proofs.CompleteResults.{path_same}
 use Rattle.gather.specs.GivesBack.{all_owned, GivesBack, AreGivenBack}
 use Rattle.gather.specs.Parts.{Part, Waiting, opened, filled, unopened, owned_in_all, total, Fit, IsWhole}
 

@@ -4,9 +4,9 @@ use Rattle.std.specs.Prelude.{◌≡◌, List, true, ◌||◌, nat_eq}
 use Rattle.std.specs.Cmp.Lexicographic.{pointwise}
 use Rattle.sections.specs.Covers.{has}
 use Rattle.sections.specs.Place.{Place}
-use Rattle.own_run.specs.Places.{Places}
-use Rattle.own_run.specs.Results.{Listed, TaskResult, returned}
-use Rattle.own_run.specs.Lists.{Each}
+use Rattle.task_run.specs.Places.{Places}
+use Rattle.task_run.specs.Results.{Listed, TaskResult, returned}
+use Rattle.task_run.specs.Lists.{Each}
 
 -- all places that a task owns once what it lists has come back
 abbrev pub all_owned : TaskResult → Places

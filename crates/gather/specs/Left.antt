@@ -1,6 +1,6 @@
 -- The results that aren't used yet, in order.
 use Rattle.std.specs.Prelude.{List, reverse}
-use Rattle.own_run.specs.declared.result.TaskResult.{TaskResult}
+use Rattle.task_run.specs.declared.result.TaskResult.{TaskResult}
 use Rattle.gather.specs.declared.table.Table.{Table}
 use Rattle.gather.specs.declared.unused.Unused.{Unused}
 use Rattle.gather.specs.Unused.{left_in}

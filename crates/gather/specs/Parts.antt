@@ -5,10 +5,10 @@ use Rattle.sections.specs.Covers.{has}
 use Rattle.sections.specs.Place.{Place, Window}
 use Rattle.types.specs.Contents.{Contents}
 use Rattle.types.specs.Run.{Fault}
-use Rattle.own_run.specs.Places.{Places, meets, only, over}
-use Rattle.own_run.specs.Results.{Listed, TaskResult, Settled, fill, and_then, returned}
-use Rattle.own_run.specs.Settling.{fill_all, settle_within, none_left}
-use Rattle.own_run.specs.Lists.{Each}
+use Rattle.task_run.specs.Places.{Places, meets, only, over}
+use Rattle.task_run.specs.Results.{Listed, TaskResult, Settled, fill, and_then, returned}
+use Rattle.task_run.specs.Settling.{fill_all, settle_within, none_left}
+use Rattle.task_run.specs.Lists.{Each}
 use Rattle.gather.specs.GivesBack.{AreGivenBack}
 
 -- a result with some of its holes filled

@@ -1,8 +1,8 @@
 -- How a stage of the gathering was reached.
 use Rattle.std.specs.Prelude.{ℕ, ◌+◌, ◌≡◌, List, [], ◌∷◌, ◌++◌, map, ◌||◌}
 use Rattle.sections.specs.Place.{Place}
-use Rattle.own_run.specs.Results.{Listed, TaskResult, returned}
-use Rattle.own_run.specs.Lists.{Each, Inserted}
+use Rattle.task_run.specs.Results.{Listed, TaskResult, returned}
+use Rattle.task_run.specs.Lists.{Each, Inserted}
 use Rattle.gather.specs.Parts.{Part, Waiting, Gathering, unopened}
 use Rattle.gather.specs.Refusal.{IsCaseOf, Opening, listed, listed_by, paths_of, times}
 use Rattle.gather.specs.declared.error.GatherError.{GatherError}

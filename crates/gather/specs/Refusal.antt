@@ -2,10 +2,10 @@
 use Rattle.std.specs.Prelude.{ℕ, ◌+◌, ◌<◌, ◌≡◌, List, [], ◌∷◌, ◌++◌, ◌||◌, true, nat_eq}
 use Rattle.std.specs.Prelude.{Option, Some, None, if◌then◌else◌, ◌⊎◌}
 use Rattle.std.specs.Cmp.Lexicographic.{pointwise}
-use Rattle.own_run.specs.Places.{meets}
-use Rattle.own_run.specs.Results.{Listed, TaskResult, Settled, returned}
-use Rattle.own_run.specs.Settling.{take}
-use Rattle.own_run.specs.Lists.{Inserted}
+use Rattle.task_run.specs.Places.{meets}
+use Rattle.task_run.specs.Results.{Listed, TaskResult, Settled, returned}
+use Rattle.task_run.specs.Settling.{take}
+use Rattle.task_run.specs.Lists.{Inserted}
 use Rattle.gather.specs.declared.error.GatherError.{GatherError}
 use Rattle.gather.specs.declared.error.GatherError.TheVariants.{Lost, Double, Stranger, OutOfMemory}
 

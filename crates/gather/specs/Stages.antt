@@ -5,16 +5,16 @@ use Rattle.sections.specs.Covers.{has}
 use Rattle.sections.specs.Place.{Place}
 use Rattle.sections.specs.Translation.{window}
 use Rattle.types.specs.Translation.{fault}
-use Rattle.own_run.specs.Lists.{Each}
-use Rattle.own_run.specs.Places.{Places}
-use Rattle.own_run.specs.declared.result.Listed.{Listed as rListed}
-use Rattle.own_run.specs.declared.result.Settled.{Settled as rSettled}
-use Rattle.own_run.specs.declared.result.TaskResult.{TaskResult as rTaskResult}
-use Rattle.own_run.specs.Translation.{listed, settled, task_result, owned_by}
+use Rattle.task_run.specs.Lists.{Each}
+use Rattle.task_run.specs.Places.{Places}
+use Rattle.task_run.specs.declared.result.Listed.{Listed as rListed}
+use Rattle.task_run.specs.declared.result.Settled.{Settled as rSettled}
+use Rattle.task_run.specs.declared.result.TaskResult.{TaskResult as rTaskResult}
+use Rattle.task_run.specs.Translation.{listed, settled, task_result, owned_by}
 use Rattle.gather.specs.Left.{left}
 use Rattle.gather.specs.Parts.{Part, Waiting, Gathering, comes_to, total, unopened, IsWhole}
 use Rattle.gather.specs.declared.filling.Filling.{Filling}
-use Rattle.gather.specs.declared.filling.Waiting.{Waiting as rWaiting}
+use Rattle.gather.specs.declared.filling.WaitingResult.{WaitingResult as rWaiting}
 use Rattle.gather.specs.declared.settle.Stage.{Stage}
 
 -- a result that is being filled; strays count as owned too

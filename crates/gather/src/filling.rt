@@ -7,9 +7,9 @@ ghost use Rattle.sections.specs.Translation.{window as window_of};
 ghost use Rattle.types.specs.Translation.{fault as fault_of};
 ghost use Rattle.holdings.specs.Held.{AreApart, as_owned, over, owned};
 ghost use Rattle.holdings.specs.Holdings.{held};
-ghost use Rattle.own_run.specs.Places.{meets};
-ghost use Rattle.own_run.specs.Translation.{contents_of, owned_by, settled as settled_of};
-ghost use Rattle.own_run.specs.Translation.{task_result as result_of};
+ghost use Rattle.task_run.specs.Places.{meets};
+ghost use Rattle.task_run.specs.Translation.{contents_of, owned_by, settled as settled_of};
+ghost use Rattle.task_run.specs.Translation.{task_result as result_of};
 ghost use Rattle.gather.specs.Parts.{closed, comes_back_twice, filled, given_back, opened};
 ghost use Rattle.gather.specs.Stages.{IsClear, part as part_of, waiting_for};
 ghost use Rattle.gather.specs.PartRefusal.{RefusesBack, RefusesHole, RefusesPaste};
@@ -17,10 +17,10 @@ ghost use Rattle.gather.specs.PartRefusal.{RefusesBack, RefusesHole, RefusesPast
 use crate::error::GatherError;
 use holdings::error::HoldError;
 use holdings::holdings::Holdings;
-use own_run::result::{Listed, Settled, TaskResult};
 use sections::window::Window;
 use std::alloc::{AllocError, Global};
 use std::collections::VecDeque;
+use task_run::result::{Listed, Settled, TaskResult};
 use types::fault::Fault;
 use types::path::Path;
 
@@ -42,7 +42,7 @@ pub struct Filling {
 
 /// A result that waits for the result of one of its holes.
 #[derive(Drop)]
-pub struct Waiting {
+pub struct WaitingResult {
     pub filling: Filling,
     pub hole: Listed,
 }

@@ -8,14 +8,14 @@ ghost use Rattle.types.specs.Outcome.{Budget};
 ghost use Rattle.types.specs.Run.{State};
 ghost use Rattle.effects.specs.Sound.{IsSound};
 ghost use Rattle.race_checker.specs.Clash.{IsAccepted};
-ghost use Rattle.own_run.specs.Frames.{Standing};
-ghost use Rattle.own_run.specs.Lists.{Each};
-ghost use Rattle.own_run.specs.OwnRun.{Start, Own, result_of};
-ghost use Rattle.own_run.specs.Results.{TaskResult};
-ghost use Rattle.own_run.specs.Runs.{IsTaskResult, MayStand};
-ghost use Rattle.own_run.specs.RunTurns.{ComesBack};
-ghost use Rattle.own_run.specs.Translation.{owned_by};
-ghost use Rattle.own_run.specs.declared.result.Settled.{Settled};
+ghost use Rattle.task_run.specs.Frames.{Standing};
+ghost use Rattle.task_run.specs.Lists.{Each};
+ghost use Rattle.task_run.specs.OwnRun.{Start, Own, result_of};
+ghost use Rattle.task_run.specs.Results.{TaskResult};
+ghost use Rattle.task_run.specs.Runs.{IsTaskResult, MayStand};
+ghost use Rattle.task_run.specs.RunTurns.{ComesBack};
+ghost use Rattle.task_run.specs.Translation.{owned_by};
+ghost use Rattle.task_run.specs.declared.result.Settled.{Settled};
 ghost use Rattle.gather.specs.GivesBack.{GiveBack, all_owned};
 
 /// In each configuration that a task of a sound and accepted program can reach, the results of

@@ -1,10 +1,9 @@
-//! The results of tasks, put together by path, and the job of a run.
+//! The results of tasks, put together by path, and why a run has no outcome.
 
 #![tactic(auto)]
 
 pub mod error;
 mod filling;
-pub mod job;
 pub mod laws;
 pub mod run_error;
 pub mod settle;

@@ -3,8 +3,8 @@
 ghost use Rattle.std.specs.Prelude.{◌≡◌, ◌<◌, [], IfErr, IfOk, IsTrue, OnOk, Some, false, map};
 ghost use Rattle.std.specs.List.{list_any};
 ghost use Rattle.sections.specs.Place.{Place};
-ghost use Rattle.own_run.specs.Settling.{settle as settle_of};
-ghost use Rattle.own_run.specs.Translation.{owned_by, settled as settled_of, task_result as result_of};
+ghost use Rattle.task_run.specs.Settling.{settle as settle_of};
+ghost use Rattle.task_run.specs.Translation.{owned_by, settled as settled_of, task_result as result_of};
 ghost use Rattle.gather.specs.GivesBack.{GiveBack, all_owned};
 ghost use Rattle.types.specs.Translation.{is_path};
 ghost use Rattle.gather.specs.PartRefusal.{TellsLeftOver};
@@ -15,10 +15,10 @@ ghost use Rattle.gather.specs.Stages.{AreClear, Ends, IsFull, Leads, gathering a
 ghost use Rattle.gather.specs.Stages.{gathering_before as stage_before, turns_of};
 
 use crate::error::GatherError;
-use crate::filling::{Filling, Waiting};
+use crate::filling::{Filling, WaitingResult};
 use crate::unused::Unused;
-use own_run::result::{Listed, Settled, TaskResult};
 use std::alloc::Global;
+use task_run::result::{Listed, Settled, TaskResult};
 use types::path::Path;
 
 /// The progress of the gathering.
@@ -26,7 +26,7 @@ use types::path::Path;
 pub struct Stage {
     pub results: Results,
     /// The results that wait for one of their holes. The last one waits for `filling`.
-    pub waiting: Vec<Waiting>,
+    pub waiting: Vec<WaitingResult>,
     pub filling: Filling,
 }
 
@@ -109,7 +109,7 @@ impl Stage {
             Some(task) => {
                 let (opened, path) = Filling::of(alloc, task);
                 let filling = std::mem::replace(&mut self.filling, opened);
-                self.waiting.push(Waiting { filling, hole })?;
+                self.waiting.push(WaitingResult { filling, hole })?;
                 self.results.used.push(path)?;
                 Ok(())
             }
@@ -133,7 +133,7 @@ impl Stage {
         match self.waiting.pop() {
             None => Ok(false),
             Some(next) => {
-                let Waiting { filling, hole } = next;
+                let WaitingResult { filling, hole } = next;
                 let part = std::mem::replace(&mut self.filling, filling);
                 let child = part.close()?;
                 self.filling.fill(alloc, hole, child)?;

@@ -3,8 +3,8 @@
 ghost use Rattle.std.specs.Prelude.{◌≡◌, ◌+◌, ◌&&◌, IfErr, OnOk, false, map, nat_eq, nat_le, nat_lt};
 ghost use Rattle.std.specs.List.{list_any};
 ghost use Rattle.sections.specs.Translation.{place as place_of, window as window_of};
-ghost use Rattle.own_run.specs.Places.{has_one, meets};
-ghost use Rattle.own_run.specs.Translation.{contents_of};
+ghost use Rattle.task_run.specs.Places.{has_one, meets};
+ghost use Rattle.task_run.specs.Translation.{contents_of};
 ghost use Rattle.gather.specs.Parts.{given_back};
 ghost use Rattle.gather.specs.PartRefusal.{RefusesBack};
 ghost use Rattle.gather.specs.Stages.{part as part_of};

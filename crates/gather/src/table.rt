@@ -7,13 +7,13 @@ ghost use Rattle.types.specs.Translation.{is_path};
 ghost use Rattle.gather.specs.Unused.{AreChained, FindsFirsts, left_in, said_of};
 
 use indexmap::IndexMap;
-use own_run::result::TaskResult;
 use std::alloc::{AllocError, Global};
+use task_run::result::TaskResult;
 use types::path::Path;
 
 /// A result, and the position of the next result with the same path.
 #[derive(Drop)]
-pub struct Entry {
+pub struct ResultEntry {
     pub task: TaskResult,
     pub next: Option<usize>,
 }
@@ -23,7 +23,7 @@ pub struct Entry {
 pub struct Table {
     /// The results in reverse order, so the table is filled from the back. None if the result was
     /// used.
-    places: Vec<Option<Entry>>,
+    places: Vec<Option<ResultEntry>>,
     /// The position of the first remaining result with each path.
     first: IndexMap<Path, Option<usize>>,
     ghost chained: { AreChained (reverse places.items) } by { Prim.hlevel props },
@@ -33,8 +33,8 @@ pub struct Table {
 impl Table {
     ghost use Rattle.std.specs.Prelude.{◌+◌, [], IfNone, IfOk, IfSome, List, MatchOption, length, map};
     ghost use Rattle.gather.specs.Left.{left_of};
-    ghost use Rattle.own_run.specs.Settling.{take as take_of};
-    ghost use Rattle.own_run.specs.Translation.{task_result as result_of};
+    ghost use Rattle.task_run.specs.Settling.{take as take_of};
+    ghost use Rattle.task_run.specs.Translation.{task_result as result_of};
 
     /// Creates a table of these results.
     pub fn of(alloc: Global, results: Vec<TaskResult>) -> Result<Table, AllocError>
@@ -83,7 +83,7 @@ impl Table {
 
 /// Puts a result in front of the others.
 fn put_first(
-    places: &mut Vec<Option<Entry>>,
+    places: &mut Vec<Option<ResultEntry>>,
     first: &mut IndexMap<Path, Option<usize>>,
     task: TaskResult,
 ) -> Result<(), AllocError>
@@ -96,7 +96,7 @@ fn put_first(
 {
     let path = task.path.clone()?;
     let next = first.insert(path, Some(places.len()))?.flatten();
-    places.push(Some(Entry { task, next }))?;
+    places.push(Some(ResultEntry { task, next }))?;
     Ok(())
 }
 
@@ -119,7 +119,7 @@ fn set_first_place(first: &mut IndexMap<Path, Option<usize>>, path: &Path, next:
 }
 
 /// Takes the result out of a position.
-fn take_from(places: &mut Vec<Option<Entry>>, place: usize) -> Entry
+fn take_from(places: &mut Vec<Option<ResultEntry>>, place: usize) -> ResultEntry
     requires { IsSome (slice_index_or places.old.items place None) }
     ensures found { slice_index_or places.old.items place None ≡ Some result }
     ensures taken { places.new.items ≡ slice_set places.old.items place None }

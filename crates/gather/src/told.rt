@@ -3,13 +3,13 @@
 ghost use Rattle.std.specs.Prelude.{◌≡◌, IfOk, map};
 ghost use Rattle.types.specs.Contents.{shown as shown_in};
 ghost use Rattle.types.specs.Translation.{array as array_of, outcome as outcome_of, program as program_of};
-ghost use Rattle.own_run.specs.Given.{told_of};
-ghost use Rattle.own_run.specs.Translation.{contents_of, settled as settled_of};
+ghost use Rattle.task_run.specs.Given.{told_of};
+ghost use Rattle.task_run.specs.Translation.{contents_of, settled as settled_of};
 
 use holdings::holdings::Holdings;
-use own_run::result::Settled;
 use sections::id::ArrayId;
 use std::alloc::{AllocError, Global};
+use task_run::result::Settled;
 use types::code::{Array, Program};
 use types::outcome::Outcome;
 

@@ -6,13 +6,13 @@ ghost use Rattle.std.specs.List.{IsAllAdjacentAnswer, position};
 ghost use Rattle.std.specs.Ordering.{nat_cmp, partial_le};
 ghost use Rattle.std.specs.Cmp.Lexicographic.{slice_partial_cmp};
 ghost use Rattle.gather.specs.Unused.{is_of};
-ghost use Rattle.own_run.specs.Settling.{take as take_of};
-ghost use Rattle.own_run.specs.Translation.{task_result as result_of};
+ghost use Rattle.task_run.specs.Settling.{take as take_of};
+ghost use Rattle.task_run.specs.Translation.{task_result as result_of};
 
 use crate::table::Table;
-use own_run::result::TaskResult;
 use std::alloc::{AllocError, Global};
 use std::collections::VecDeque;
+use task_run::result::TaskResult;
 use types::path::Path;
 
 /// Up to this number, a linear search is faster than a table.

@@ -1,8 +1,8 @@
 -- What holdings hold.
 use Rattle.blocks.specs.Held.{Held, Map}
-use Rattle.block_rows.specs.Rows.{held_in}
+use Rattle.holdings.specs.Rows.{held_in}
 use Rattle.holdings.specs.declared.holdings.Holdings.{Holdings}
-pub use Rattle.block_rows.specs.Lists.{listed}
+pub use Rattle.holdings.specs.Lists.{listed}
 
 -- a partial map from places to a number and its kind
 abbrev pub held : Holdings → Map Held

@@ -1,4 +1,10 @@
-pub use Rattle.block_rows.specs.Copied
 pub use Rattle.blocks.specs.Held
+pub mod Carvings
+pub mod Copied
 pub mod Errors
 pub mod Holdings
+pub mod Lists
+pub mod Pieces
+pub mod Rooms
+pub mod Rows
+pub mod Wanted

@@ -1,8 +1,8 @@
 //! What a task holds of the arrays.
 
 use crate::error::HoldError;
-use block_rows::presence::Wanted;
-use block_rows::rows::Rows;
+use crate::presence::Presence;
+use crate::rows::BlockRows;
 use sections::cover::cover;
 use sections::id::ArrayId;
 use sections::window::{Place, Window};
@@ -14,7 +14,7 @@ use types::typed::Typed;
 /// written and carved out.
 #[derive(Drop)]
 pub struct Holdings {
-    pub(crate) rows: Rows,
+    pub(crate) rows: BlockRows,
     pub(crate) copied: u64,
 }
 
@@ -27,7 +27,7 @@ impl Holdings {
     ghost use Rattle.sections.specs.Translation.{place as place_of, window as window_of};
     ghost use Rattle.blocks.specs.Held.{AreApart, IsJustAt, IsThere, Owned, as_owned, as_shared};
     ghost use Rattle.blocks.specs.Held.{in_place_of, numbers, only, over, owned, put, put_all, without};
-    ghost use Rattle.block_rows.specs.Copied.{CopiesSplit, CountsCarve, CountsPaste};
+    ghost use Rattle.holdings.specs.Copied.{CopiesSplit, CountsCarve, CountsPaste};
     ghost use Rattle.holdings.specs.Holdings.{held, listed};
     ghost use Rattle.holdings.specs.Errors.{RefusesPlaces, RefusesOwned};
     ghost use Rattle.types.specs.Contents.{FitsArrays, read as read_of, row as row_of};
@@ -39,17 +39,18 @@ impl Holdings {
         ensures held { (q : PlainPlace) → held result q ≡ None }
         ensures copied { result.copied ≡ 0 }
     {
-        let rows = Rows::new(alloc);
+        let rows = BlockRows::new(alloc);
         Holdings { rows, copied: 0 }
     }
 
     /// Returns holdings that own all places of the arrays, with the numbers of the input's lists.
+    /// Only the contract needs the program.
     pub fn of_input(alloc: Global, _typed: &Typed, input: &Input) -> Result<Holdings, AllocError>
         requires { FitsArrays (code_of _typed.now).arrays (lists_in input.now) }
         ensures held { IfOk result (λ h. held h ≡ as_owned (listed (lists_in input.now))) }
         ensures copied { IfOk result (λ h. h.copied ≡ 0) }
     {
-        let rows = Rows::of_lists(alloc, &input.arrays)?;
+        let rows = BlockRows::of_lists(alloc, &input.arrays)?;
         Ok(Holdings { rows, copied: 0 })
     }
 
@@ -178,11 +179,11 @@ impl Holdings {
         ensures begins { IfOk result (λ c. c.copied ≡ 0) }
         ensures kept { OnErr result (self.new.copied ≡ self.old.copied) }
     {
-        if !self.rows.has_all(windows, Wanted::Owned) {
+        if !self.rows.has_all(windows, Presence::Owned) {
             return Err(HoldError::NotHeld);
         }
         let places = cover(alloc, windows)?;
-        let mut rows = Rows::new(alloc);
+        let mut rows = BlockRows::new(alloc);
         // Allocate first: if memory runs out, nothing has changed. The rest needs no memory.
         let carvings = self.rows.cut_all(&mut rows, &places)?;
         self.copied = self.copied.saturating_add(carvings.copied);
@@ -199,10 +200,10 @@ impl Holdings {
             (IsThere (has (map window_of windows.now)) (held self.now))) }
         ensures begins { IfOk result (λ c. c.copied ≡ 0) }
     {
-        if !self.rows.has_all(windows, Wanted::Held) {
+        if !self.rows.has_all(windows, Presence::Held) {
             return Err(HoldError::NotHeld);
         }
-        let mut rows = Rows::new(alloc);
+        let mut rows = BlockRows::new(alloc);
         rows.share_all(&self.rows, windows)?;
         Ok(Holdings { rows, copied: 0 })
     }

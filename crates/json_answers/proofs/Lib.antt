@@ -2,3 +2,8 @@ pub mod NoFloats
 pub mod Shallow
 pub mod Seen
 pub mod GivenBack
+pub mod NoFloatsInRaces
+pub mod ShallowRaces
+pub mod SoFar
+pub mod Failures
+pub mod Written

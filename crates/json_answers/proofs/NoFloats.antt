@@ -9,11 +9,11 @@ use Rattle.std.proofs.lemmas.Bool.{or_from, or_parts}
 use Rattle.serde_json.specs.Data.{Data, string, Members, no_members, member, put}
 use Rattle.serde_json.specs.View.{items_of}
 use Rattle.serde_json.specs.Written.{has_float, items_have_float, members_have_float}
-use Rattle.syntax.specs.declared.place.Place.{Place}
+use Rattle.syntax.specs.declared.place.TextPlace.{TextPlace}
 use Rattle.types.specs.Code.{Array}
 use Rattle.types.specs.Outcome.{Outcome, Ended, Stopped}
 use Rattle.types.specs.Run.{Fault}
-use Rattle.intake.specs.declared.failure.Failure.{Failure}
+use Rattle.failures.specs.declared.failure.Failure.{Failure}
 use Rattle.json_answers.specs.Faults.{fault_json, fault_members, raised_number}
 use Rattle.json_answers.specs.Outcomes.{ended_members, numbers_json, put_arrays, outcome_json}
 use Rattle.json_answers.specs.Pieces.{integer, natural, list_by, or_null, members_by, object_of}
@@ -75,7 +75,7 @@ arrays_have_none (x ∷ xs) ms none =
     arrays_have_none xs (put x.0.name (numbers_json x.1) ms)
     (put_has_none x.0.name (numbers_json x.1) ms (numbers_have_none x.1) none)
 
-fault_has_none : (places : List Place) (f : Fault) → HasNoFloat (fault_json places f)
+fault_has_none : (places : List TextPlace) (f : Fault) → HasNoFloat (fault_json places f)
 fault_has_none places f =
     let place = place_at places f.label in
     object_has_none (fault_members places f) (
@@ -92,7 +92,7 @@ fault_has_none places f =
       ),
     )
 
-pub outcome_has_none : (declared : List Array) (places : List Place) (o : Outcome)
+pub outcome_has_none : (declared : List Array) (places : List TextPlace) (o : Outcome)
     → HasNoFloat (outcome_json declared places o)
 outcome_has_none declared places (Ended e) =
     object_has_none (ended_members declared places e) (
@@ -109,7 +109,7 @@ pairs_have_none pairs =
     object_has_none (pairs_members pairs)
     (list_has_none pair_json pairs (λ pair. list_has_none natural (pair.0 ∷ pair.1 ∷ []) natural_has_none), (refl, tt))
 
-pub refusal_has_none : (file : List ℕ) (places : List Place) (f : Failure) → HasNoFloat (refusal_json file places f)
+pub refusal_has_none : (file : List ℕ) (places : List TextPlace) (f : Failure) → HasNoFloat (refusal_json file places f)
 refusal_has_none file places f =
     let place = failure_place places f in
     object_has_none (refusal_members file places f) (

@@ -8,11 +8,11 @@ use Rattle.std.specs.Ordering.{match_ordering}
 use Rattle.serde_json.specs.Data.{Data, string, Members, no_members, member, put, depth, items_depth, members_depth}
 use Rattle.serde_json.specs.Read.{max_depth}
 use Rattle.serde_json.specs.View.{items_of}
-use Rattle.syntax.specs.declared.place.Place.{Place}
+use Rattle.syntax.specs.declared.place.TextPlace.{TextPlace}
 use Rattle.types.specs.Code.{Array, Program}
 use Rattle.types.specs.Outcome.{Outcome, Ended, Stopped}
 use Rattle.types.specs.Run.{Fault}
-use Rattle.intake.specs.declared.failure.Failure.{Failure}
+use Rattle.failures.specs.declared.failure.Failure.{Failure}
 use Rattle.cost.specs.declared.cost.Cost.{Cost}
 use Rattle.json_answers.specs.Costs.{cost_json}
 use Rattle.json_answers.specs.Faults.{fault_json, fault_members, raised_number}
@@ -81,7 +81,7 @@ arrays_within (x ∷ xs) ms within =
     arrays_within xs (put x.0.name (numbers_json x.1) ms)
     (put_within 1 x.0.name (numbers_json x.1) ms (numbers_within x.1) within)
 
-pub fault_within : (places : List Place) (f : Fault) → Within 1 (fault_json places f)
+pub fault_within : (places : List TextPlace) (f : Fault) → Within 1 (fault_json places f)
 fault_within places f =
     let place = place_at places f.label in
     object_within 0 (fault_members places f) (
@@ -98,7 +98,7 @@ fault_within places f =
       ),
     )
 
-pub outcome_within : (declared : List Array) (places : List Place) (o : Outcome)
+pub outcome_within : (declared : List Array) (places : List TextPlace) (o : Outcome)
     → depth (outcome_json declared places o) ≤ max_depth
 outcome_within declared places (Ended e) =
     let arrays = arrays_within (zip declared e.arrays) no_members (omega arith) in
@@ -127,7 +127,7 @@ pairs_within pairs =
 pub string_within : (s : List ℕ) → Within 0 (string s)
 string_within s = omega arith
 
-pub refusal_within : (file : List ℕ) (places : List Place) (f : Failure) → depth (refusal_json file places f) ≤ max_depth
+pub refusal_within : (file : List ℕ) (places : List TextPlace) (f : Failure) → depth (refusal_json file places f) ≤ max_depth
 refusal_within file places f =
     let place = failure_place places f in
     let whole = object_within 0 (refusal_members file places f) (

@@ -1,7 +1,7 @@
 -- The members of a fault.
 use Rattle.std.specs.Prelude.{ℕ, ℤ, List, [], ◌∷◌, codes, take, Option, None, Some}
 use Rattle.serde_json.specs.Data.{Data, string}
-use Rattle.syntax.specs.declared.place.Place.{Place}
+use Rattle.syntax.specs.declared.place.TextPlace.{TextPlace}
 use Rattle.types.specs.Names.{kind_text, path_text}
 use Rattle.types.specs.Run.{Fault}
 use Rattle.types.specs.declared.fault.FaultKind.{FaultKind}
@@ -19,7 +19,7 @@ raised_number (Raised n) = Some n
 raised_number _ = None
 
 -- the task, the statement and its position, the kind, and the number of a `fault` statement
-abbrev pub fault_members : List Place → Fault → List (List ℕ × Data)
+abbrev pub fault_members : List TextPlace → Fault → List (List ℕ × Data)
 fault_members places f =
     let place = place_at places f.label in
     (codes "column", or_null natural (column_of place))
@@ -29,5 +29,5 @@ fault_members places f =
     ∷ (codes "number", or_null integer (raised_number f.kind))
     ∷ (codes "path", string (path_text f.path)) ∷ []
 
-abbrev pub fault_json : List Place → Fault → Data
+abbrev pub fault_json : List TextPlace → Fault → Data
 fault_json places f = object_of (fault_members places f)

@@ -1,8 +1,13 @@
 pub mod Costs
+pub mod Failing
 pub mod Faults
 pub mod Given
+pub mod Objects
 pub mod Outcomes
 pub mod Pieces
 pub mod Places
 pub mod Programs
+pub mod Races
 pub mod Refusals
+pub mod Steps
+pub mod Witnesses

@@ -2,10 +2,10 @@
 use Rattle.std.specs.Prelude.{ℕ, ℤ, List, [], ◌∷◌, codes, true, false}
 use Rattle.std.specs.List.{zip}
 use Rattle.serde_json.specs.Data.{Data, Members, boolean, no_members, object, put}
-use Rattle.syntax.specs.declared.place.Place.{Place}
+use Rattle.syntax.specs.declared.place.TextPlace.{TextPlace}
 use Rattle.types.specs.Code.{Array}
 use Rattle.types.specs.Outcome.{Ended, Ending, Outcome, Stopped}
-use Rattle.texts.specs.OutcomeText.{status_by}
+use Rattle.printing.specs.OutcomeText.{status_by}
 use Rattle.json_answers.specs.Faults.{fault_json}
 use Rattle.json_answers.specs.Pieces.{integer, list_by, natural, object_of}
 
@@ -22,7 +22,7 @@ abbrev pub arrays_json : (declared : List Array) → List (List ℤ) → Data
 arrays_json declared contents = object (put_arrays (zip declared contents) no_members)
 
 -- the arrays, the faults, the printed lines, and the exit status
-abbrev pub ended_members : (declared : List Array) → List Place → Ending → List (List ℕ × Data)
+abbrev pub ended_members : (declared : List Array) → List TextPlace → Ending → List (List ℕ × Data)
 ended_members declared places e =
     (codes "arrays", arrays_json declared e.arrays)
     ∷ (codes "faults", list_by (fault_json places) e.faults)
@@ -30,13 +30,13 @@ ended_members declared places e =
     ∷ (codes "status", natural (status_by e.faults))
     ∷ (codes "stopped", boolean false) ∷ []
 
-abbrev pub ended_json : (declared : List Array) → List Place → Ending → Data
+abbrev pub ended_json : (declared : List Array) → List TextPlace → Ending → Data
 ended_json declared places e = object_of (ended_members declared places e)
 
 -- only that the run was stopped
 abbrev pub stopped_json : Data
 stopped_json = object_of ((codes "status", natural 3) ∷ (codes "stopped", boolean true) ∷ [])
 
-abbrev pub outcome_json : (declared : List Array) → List Place → Outcome → Data
+abbrev pub outcome_json : (declared : List Array) → List TextPlace → Outcome → Data
 outcome_json declared places (Ended e) = ended_json declared places e
 outcome_json declared places Stopped = stopped_json

@@ -2,7 +2,7 @@
 use Rattle.std.specs.Prelude.{ℕ, List, [], ◌∷◌, codes, length, true}
 use Rattle.serde_json.specs.Data.{Data, boolean}
 use Rattle.types.specs.Code.{Program}
-use Rattle.texts.specs.Labels.{labels_in}
+use Rattle.printing.specs.Labels.{labels_in}
 use Rattle.json_answers.specs.Pieces.{list_by, natural, object_of}
 
 -- the numbers of its labels and procedures, without `main`

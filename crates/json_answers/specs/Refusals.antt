@@ -2,7 +2,7 @@
 use Rattle.std.specs.Prelude.{ℕ, List, [], ◌∷◌, codes, Option, None, Some, option_and_then}
 use Rattle.std.specs.String.{string_bytes}
 use Rattle.serde_json.specs.Data.{Data, string}
-use Rattle.syntax.specs.declared.place.Place.{Place}
+use Rattle.syntax.specs.declared.place.TextPlace.{TextPlace}
 use Rattle.syntax.specs.Refusals.{error_code as syntax_code, place_of}
 use Rattle.types.specs.Codes.{error_code as rule_code, label_of}
 use Rattle.types.specs.InputErrors.{error_code as input_code}
@@ -10,11 +10,11 @@ use Rattle.types.specs.declared.input_error.InputError.{InputError}
 use Rattle.types.specs.declared.input_error.InputError.TheVariants.{UnknownArray, WrongLength, WrongElement}
 use Rattle.gather.specs.RunErrors.{error_code as run_code}
 use Rattle.trace_text.specs.declared.error.TraceError.TheVariants.{NotALine, NoMemory as MemoryInTrace}
-use Rattle.intake.specs.FailureStatus.{failure_status}
-use Rattle.intake.specs.Messages.{failure_text}
-use Rattle.intake.specs.declared.failure.Failure.{Failure}
-use Rattle.intake.specs.declared.failure.Failure.TheVariants.{Syntax, Types, Race, NoMemoryInCheck, Input}
-use Rattle.intake.specs.declared.failure.Failure.TheVariants.{Run, Trace}
+use Rattle.failures.specs.FailureStatus.{failure_status}
+use Rattle.failures.specs.Messages.{failure_text}
+use Rattle.failures.specs.declared.failure.Failure.{Failure}
+use Rattle.failures.specs.declared.failure.Failure.TheVariants.{Syntax, Types, Race, NoMemoryInCheck, Input}
+use Rattle.failures.specs.declared.failure.Failure.TheVariants.{Run, Trace}
 use Rattle.json_answers.specs.Pieces.{natural, object_of, or_null}
 use Rattle.json_answers.specs.Places.{column_of, line_of, place_at}
 
@@ -36,7 +36,7 @@ failure_label (Types e) = label_of e
 failure_label _ = None
 
 -- its position: where the text is wrong, or where the statement with its label starts
-abbrev pub failure_place : List Place → Failure → Option Place
+abbrev pub failure_place : List TextPlace → Failure → Option TextPlace
 failure_place places (Syntax e) = place_of e
 failure_place places (Types e) = option_and_then (place_at places) (label_of e)
 failure_place places _ = None
@@ -53,7 +53,7 @@ failure_array (Input e) = input_name e
 failure_array _ = None
 
 -- its code, its line and its status, and all else that is known; `file` is that of the program
-abbrev pub refusal_members : (file : List ℕ) → List Place → Failure → List (List ℕ × Data)
+abbrev pub refusal_members : (file : List ℕ) → List TextPlace → Failure → List (List ℕ × Data)
 refusal_members file places f =
     let place = failure_place places f in
     (codes "array", or_null string (failure_array f))
@@ -65,5 +65,5 @@ refusal_members file places f =
     ∷ (codes "message", string (failure_text f))
     ∷ (codes "status", natural (failure_status f)) ∷ []
 
-abbrev pub refusal_json : (file : List ℕ) → List Place → Failure → Data
+abbrev pub refusal_json : (file : List ℕ) → List TextPlace → Failure → Data
 refusal_json file places f = object_of (refusal_members file places f)

@@ -8,14 +8,14 @@ ghost use Rattle.json_answers.specs.Faults.{fault_code, fault_json, raised_numbe
 use crate::text_places::{column_in, line_in, place_at};
 use serde_json::{Value, json};
 use std::alloc::{AllocError, Global};
-use syntax::Place;
+use syntax::TextPlace;
 use types::fault::{Fault, FaultKind};
 
 /// Returns the value of a fault, and where its statement starts:
 /// `{"column":11,"kind":"F6","label":3,"line":2,"number":7,"path":"0.1"}`.
 pub(crate) fn fault_value(
     alloc: Global,
-    places: &[Place],
+    places: &[TextPlace],
     fault: &Fault,
 ) -> Result<Value, AllocError>
     ensures { IfOk result (λ v. view v ≡ fault_json places.now (fault_of fault.now)) }

@@ -3,11 +3,22 @@
 #![tactic(auto)]
 
 pub mod costs;
+pub mod failed;
 pub mod faults;
+pub mod found;
 pub mod laws;
 pub mod line;
+pub mod names;
+pub mod object_line;
 pub mod outcomes;
 pub mod programs;
+pub mod races;
 pub mod refusals;
+pub mod run_outcomes;
+pub mod running;
+pub mod steps;
+pub mod telling;
 pub mod text_places;
 pub mod told;
+pub mod witnesses;
+pub mod writing;

@@ -4,7 +4,7 @@ ghost use Rattle.std.specs.Prelude.{◌≡◌, IfOk, OnOk, map};
 ghost use Rattle.std.specs.String.{string_bytes};
 ghost use Rattle.serde_json.specs.View.{view};
 ghost use Rattle.types.specs.Translation.{array, fault as fault_of, outcome as outcome_of};
-ghost use Rattle.texts.specs.OutcomeText.{status_by};
+ghost use Rattle.printing.specs.OutcomeText.{status_by};
 ghost use Rattle.json_answers.specs.Pieces.{IsReadBack, line, list_by};
 ghost use Rattle.json_answers.specs.Faults.{fault_json};
 ghost use Rattle.json_answers.specs.Outcomes.{arrays_json, numbers_json, outcome_json};
@@ -13,7 +13,7 @@ use crate::faults::fault_value;
 use crate::line::line_of;
 use serde_json::{Map, Value, json};
 use std::alloc::{AllocError, Global};
-use syntax::Place;
+use syntax::TextPlace;
 use types::code::Array;
 use types::fault::Fault;
 use types::outcome::Outcome;
@@ -25,7 +25,7 @@ use types::outcome::Outcome;
 pub fn outcome_object(
     alloc: Global,
     declared: &[Array],
-    places: &[Place],
+    places: &[TextPlace],
     outcome: &Outcome,
 ) -> Result<String, AllocError>
     ensures text { IfOk result (λ text. string_bytes text
@@ -41,7 +41,7 @@ pub fn outcome_object(
 fn outcome_value(
     alloc: Global,
     declared: &[Array],
-    places: &[Place],
+    places: &[TextPlace],
     outcome: &Outcome,
 ) -> Result<Value, AllocError>
     ensures { IfOk result (λ v. view v
@@ -111,7 +111,7 @@ fn numbers_value(alloc: Global, numbers: &[i64]) -> Result<Value, AllocError>
 }
 
 /// Returns the faults.
-fn faults_value(alloc: Global, places: &[Place], faults: &[Fault]) -> Result<Value, AllocError>
+fn faults_value(alloc: Global, places: &[TextPlace], faults: &[Fault]) -> Result<Value, AllocError>
     ensures { IfOk result (λ v. view v
         ≡ list_by (fault_json places.now) (map fault_of faults.now)) }
 {

@@ -5,15 +5,15 @@ ghost use Rattle.std.specs.String.{string_bytes};
 ghost use Rattle.serde_json.specs.View.{view};
 ghost use Rattle.types.specs.Translation.{program};
 ghost use Rattle.parallel_relation.specs.Pairs.{pairs_left};
-ghost use Rattle.texts.specs.Labels.{labels_in};
+ghost use Rattle.printing.specs.Labels.{labels_in};
 ghost use Rattle.json_answers.specs.Pieces.{IsReadBack, line, list_by};
 ghost use Rattle.json_answers.specs.Programs.{accepted_json, pair_json, pairs_json};
 
 use crate::line::line_of;
 use parallel_relation::pairs::PairList;
+use printing::labels::labels;
 use serde_json::{Value, json};
 use std::alloc::{AllocError, Global};
-use texts::labels::labels;
 use types::code::{Label, Program};
 
 /// Returns the object of an accepted program:

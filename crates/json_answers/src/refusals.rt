@@ -10,10 +10,10 @@ ghost use Rattle.json_answers.specs.Refusals.{refusal_json};
 use crate::line::line_of;
 use crate::text_places::{column_in, line_in};
 use crate::told::{array_of, code_of, label_of, message_of, place_of};
-use intake::failure::Failure;
+use failures::failure::Failure;
 use serde_json::{Value, json};
 use std::alloc::{AllocError, Global};
-use syntax::Place;
+use syntax::TextPlace;
 
 /// Returns the object of a failure, with the file of the program as it was named, and the positions
 /// of the program's statements if they are known. Members that the failure doesn't have are null:
@@ -21,7 +21,7 @@ use syntax::Place;
 pub fn refusal_object(
     alloc: Global,
     file: &str,
-    places: &[Place],
+    places: &[TextPlace],
     failure: &Failure,
 ) -> Result<String, AllocError>
     ensures text { IfOk result (λ text. string_bytes text
@@ -36,7 +36,7 @@ pub fn refusal_object(
 fn refusal_value(
     alloc: Global,
     file: &str,
-    places: &[Place],
+    places: &[TextPlace],
     failure: &Failure,
 ) -> Result<Value, AllocError>
     ensures { IfOk result (λ v. view v ≡ refusal_json file.now places.now failure.now) }

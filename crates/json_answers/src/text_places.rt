@@ -3,18 +3,18 @@
 ghost use Rattle.std.specs.Prelude.{◌≡◌};
 ghost use Rattle.json_answers.specs.Places.{column_of, line_of, place_at as place_of_label};
 
-use syntax::Place;
+use syntax::TextPlace;
 use types::code::Label;
 
 /// Returns the position at which the statement with a label starts, if it is known.
-pub fn place_at(places: &[Place], label: Label) -> Option<Place>
+pub fn place_at(places: &[TextPlace], label: Label) -> Option<TextPlace>
     ensures { result ≡ place_of_label places.now label }
 {
     places.get((label as usize).saturating_sub(1)).copied()
 }
 
 /// Returns the line of a position.
-pub fn line_in(place: Option<Place>) -> Option<u32>
+pub fn line_in(place: Option<TextPlace>) -> Option<u32>
     ensures { result ≡ line_of place }
 {
     match place {
@@ -24,7 +24,7 @@ pub fn line_in(place: Option<Place>) -> Option<u32>
 }
 
 /// Returns the column of a position.
-pub fn column_in(place: Option<Place>) -> Option<u32>
+pub fn column_in(place: Option<TextPlace>) -> Option<u32>
     ensures { result ≡ column_of place }
 {
     match place {

@@ -2,14 +2,14 @@
 
 ghost use Rattle.std.specs.Prelude.{◌≡◌, IfOk, option_map};
 ghost use Rattle.std.specs.String.{string_bytes};
-ghost use Rattle.intake.specs.Messages.{failure_text};
+ghost use Rattle.failures.specs.Messages.{failure_text};
 ghost use Rattle.json_answers.specs.Refusals.{failure_array, failure_code, failure_label, failure_place};
 
 use crate::text_places::place_at;
-use intake::failure::Failure;
-use intake::message::emit_message;
+use failures::failure::Failure;
+use failures::message::emit_message;
 use std::alloc::{AllocError, Global};
-use syntax::Place;
+use syntax::TextPlace;
 use trace_text::error::TraceError;
 use types::code::Label;
 use types::input_error::InputError;
@@ -43,7 +43,7 @@ pub(crate) fn label_of(failure: &Failure) -> Option<Label>
 
 /// Returns its position in the text of the program: where the text is wrong, or where the statement
 /// starts.
-pub(crate) fn place_of(failure: &Failure, places: &[Place]) -> Option<Place>
+pub(crate) fn place_of(failure: &Failure, places: &[TextPlace]) -> Option<TextPlace>
     ensures { result ≡ failure_place places.now failure.now }
 {
     match failure {

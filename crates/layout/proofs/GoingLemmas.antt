@@ -22,7 +22,7 @@ use Rattle.std.specs.Char.{is_ascii_digit}
 use Rattle.syntax.specs.Token.{Token, NameToken, NumberToken, WordToken, MarkToken, plain, token}
 use Rattle.syntax.proofs.LexicalLemmas.{cut_at, passes_at, stops_at}
 use Rattle.syntax.proofs.Pieces.{no_reading, one_piece, one_reading, piece_is_some}
-use Rattle.layout.specs.declared.writer.Writer.{Writer}
+use Rattle.layout.specs.declared.writer.LayoutWriter.{LayoutWriter}
 use Rattle.layout.specs.Laid.{behind, end_text, laid_from, laid_pieces, token_written, written}
 use Rattle.layout.specs.Kept.{IsLaidOut}
 use Rattle.layout.specs.Spot.{Spot, behind_token, first, spot}
@@ -49,7 +49,7 @@ laid_piece q more out out' at at' text there =
     ∙ append_assoc out (written at q) (laid_from (behind at q) more)
 
 -- a piece that has no token was passed
-pub passes : (q : Piece) (text rest : List ℕ) (old new : Writer) → Begins text q rest → token_of q ≡ []
+pub passes : (q : Piece) (text rest : List ℕ) (old new : LayoutWriter) → Begins text q rest → token_of q ≡ []
     → Adds old new (written (spot old.spot) q) (behind (spot old.spot) q) → Passes old text new rest
 passes q text rest old new begins none added ps cut =
     let first = begins_with q text rest begins ps cut in
@@ -62,14 +62,14 @@ passes q text rest old new begins none added ps cut =
     }
 
 -- a writer of a layout stays one if it passes text without tokens
-pub goes_on : (whole : List ℕ) (ts : List Token) (old new : Writer) (text rest : List ℕ) → GoesOn whole ts old text
+pub goes_on : (whole : List ℕ) (ts : List Token) (old new : LayoutWriter) (text rest : List ℕ) → GoesOn whole ts old text
     → Passes old text new rest → GoesOn whole ts new rest
 goes_on whole ts old new text rest going passed =
     subst (λ l. GoesOn l ts new rest) going.laid
     (subst (λ us. GoesOn (with_rest old going.pieces) us new rest) going.tokens (passed going.pieces going.cut))
 
 -- what was passed, and what is passed after that
-pub passes_more : (old mid new : Writer) (text between rest : List ℕ) → Passes old text mid between → Passes mid between new rest
+pub passes_more : (old mid new : LayoutWriter) (text between rest : List ℕ) → Passes old text mid between → Passes mid between new rest
     → Passes old text new rest
 passes_more old mid new text between rest one two ps cut =
     goes_on (with_rest old ps) (flat_map token_of ps) mid new between rest (one ps cut) two
@@ -139,7 +139,7 @@ behind_piece at (WordPiece w) t e = let same : WordToken w ≡ t = cc in ap (beh
 behind_piece at (MarkPiece m) t e = let same : MarkToken m ≡ t = cc in ap (behind_token at) same
 
 -- a token was written
-pub token_passed : (whole text : List ℕ) (t : Token) (ts : List Token) (old new : Writer) (going : GoesOn whole (t ∷ ts) old text)
+pub token_passed : (whole text : List ℕ) (t : Token) (ts : List Token) (old new : LayoutWriter) (going : GoesOn whole (t ∷ ts) old text)
     (first : FirstToken text t ts going.pieces)
     → Adds old new (token_written (spot old.spot) t (letters first.piece)) (behind_token (spot old.spot) t)
     → GoesOn whole ts new first.rest
@@ -210,7 +210,7 @@ comment_first text after line left n begins after_is n_is line_is left_is = reco
 -- ---- all tokens
 
 -- at the start the whole text remains
-pub goes_from_first : (text : List ℕ) (ts : List Token) (w : Writer) → AreTokensOf text ts → w.out.items ≡ [] → spot w.spot ≡ first
+pub goes_from_first : (text : List ℕ) (ts : List Token) (w : LayoutWriter) → AreTokensOf text ts → w.out.items ≡ [] → spot w.spot ≡ first
     → (ps : List Piece) → AreCut text ps [] → GoesOn (laid_pieces ps) ts w text
 goes_from_first text ts w read nothing there ps cut = record {
   pieces = ps;
@@ -237,7 +237,7 @@ no_more text (WordPiece w ∷ ps) no_blank no_comment cut e = cc
 no_more text (MarkPiece m ∷ ps) no_blank no_comment cut e = cc
 
 -- after the last token the line is ended
-pub all_laid : (whole rest out : List ℕ) (ts : List Token) (w : Writer) → ts ≡ [] → GoesOn whole ts w rest
+pub all_laid : (whole rest out : List ℕ) (ts : List Token) (w : LayoutWriter) → ts ≡ [] → GoesOn whole ts w rest
     → starts is_blank rest ≡ false → begins_comment rest ≡ false → out ≡ w.out.items ++ end_text w.spot.last → out ≡ whole
 unfolding laid_from
 all_laid whole rest out ts w none going no_blank no_comment ended =

@@ -9,7 +9,7 @@ ghost use Rattle.layout.specs.Kept.{IsLaidOut, KeepsAll, HaveSameTokens};
 ghost use Rattle.layout.specs.Writing.{GoesOn, IsCounted, Passes};
 
 use crate::pieces;
-use crate::writer::Writer;
+use crate::writer::LayoutWriter;
 use std::alloc::{AllocError, Global};
 use syntax::lexer::{self, Unread};
 use syntax::token::{Spanned, Token};
@@ -71,7 +71,7 @@ fn laid(alloc: Global, text: &[char], tokens: &[Spanned]) -> Result<Vec<char>, A
     requires { AreTokensOf text.now (plain tokens.now) }
     ensures { IfOk result (λ laid. IsLaidOut text.now laid.items) }
 {
-    let mut writer = Writer::new(alloc);
+    let mut writer = LayoutWriter::new(alloc);
     let mut rest = text;
     for spanned in tokens {
         rest = between(&mut writer, rest)?;
@@ -83,7 +83,7 @@ fn laid(alloc: Global, text: &[char], tokens: &[Spanned]) -> Result<Vec<char>, A
 }
 
 /// Writes the comments before the first token, and returns the rest from that token on.
-fn between<'t>(writer: &mut Writer, text: &'t [char]) -> Result<&'t [char], AllocError>
+fn between<'t>(writer: &mut LayoutWriter, text: &'t [char]) -> Result<&'t [char], AllocError>
     requires { IsCounted writer.old }
     ensures counted { IfOk result (λ _. IsCounted writer.new) }
     ensures passed { IfOk result (λ left. Passes writer.old text.now writer.new left.now) }
@@ -105,7 +105,7 @@ fn between<'t>(writer: &mut Writer, text: &'t [char]) -> Result<&'t [char], Allo
 }
 
 /// Writes the comment at the start of a text, and returns the rest after it.
-fn comment<'t>(writer: &mut Writer, text: &'t [char]) -> Result<&'t [char], AllocError>
+fn comment<'t>(writer: &mut LayoutWriter, text: &'t [char]) -> Result<&'t [char], AllocError>
     requires counted { IsCounted writer.old }
     requires begins { begins_comment text.now ≡ true }
     ensures counted { IfOk result (λ _. IsCounted writer.new) }
@@ -119,7 +119,11 @@ fn comment<'t>(writer: &mut Writer, text: &'t [char]) -> Result<&'t [char], Allo
 }
 
 /// Writes the token at the start of a text, and returns the rest after it.
-fn token<'t>(writer: &mut Writer, token: &Token, text: &'t [char]) -> Result<&'t [char], AllocError>
+fn token<'t>(
+    writer: &mut LayoutWriter,
+    token: &Token,
+    text: &'t [char],
+) -> Result<&'t [char], AllocError>
     requires counted { IsCounted writer.old }
     requires no_blank { starts is_blank text.now ≡ false }
     requires no_comment { begins_comment text.now ≡ false }

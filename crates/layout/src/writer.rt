@@ -17,19 +17,19 @@ use syntax::token::Token;
 
 /// The output so far, and the spot at its end.
 #[derive(Drop)]
-pub struct Writer {
+pub struct LayoutWriter {
     pub out: Vec<char>,
     pub spot: Spot,
 }
 
-impl Writer {
+impl LayoutWriter {
     /// Returns a writer that has written nothing.
-    pub fn new(alloc: Global) -> Writer
+    pub fn new(alloc: Global) -> LayoutWriter
         ensures out { result.out.items ≡ [] }
         ensures spot { spot_of result.spot ≡ first_spot }
         ensures counted { IsCounted result }
     {
-        Writer {
+        LayoutWriter {
             out: Vec::new(alloc),
             spot: Spot::first(),
         }

@@ -4,8 +4,8 @@ use Rattle.std.specs.Borrow.{Bor}
 use Rattle.std.specs.List.{flat_map, list_any}
 use Rattle.std.specs.Str.{bytes_eq}
 use Rattle.pages.specs.declared.page.Page.{Page}
-use Rattle.pages.specs.declared.page.Given.{Given}
-use Rattle.pages.specs.declared.page.Told.{Told}
+use Rattle.pages.specs.declared.page.SampleWithInput.{SampleWithInput}
+use Rattle.pages.specs.declared.page.Sample.{Sample}
 use Rattle.pages.specs.declared.page.Traced.{Traced}
 use Rattle.pages.specs.declared.page.Example.{Example}
 use Rattle.pages.specs.declared.page.Example.TheVariants.{Nothing, Program, WithInput, WithTrace, Shape}
@@ -32,7 +32,7 @@ abbrev pub program_text : List (Bor (List ℕ)) → List ℕ
 program_text lines = codes "\n" ++ flat_map indented lines
 
 -- a command as it is typed, and its output
-abbrev pub told_text : Told → List ℕ
+abbrev pub told_text : Sample → List ℕ
 told_text t = codes "\n  $ afx " ++ t.command.now ++ codes "\n  " ++ t.line.now ++ codes "\n"
 
 -- an input, as the file that the command names
@@ -40,7 +40,7 @@ abbrev pub input_text : List ℕ → List ℕ
 input_text input = codes "\n  input.json: " ++ input ++ codes "\n"
 
 -- an input, a command, and its output
-abbrev pub given_text : Given → List ℕ
+abbrev pub given_text : SampleWithInput → List ℕ
 given_text g = input_text g.input.now ++ told_text g.told
 
 -- a trace, as the file that the command names

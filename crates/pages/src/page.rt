@@ -32,9 +32,9 @@ pub enum Example {
     /// No small program shows it, such as running out of memory.
     Nothing,
     /// A program and what is printed for it.
-    Program(Told),
+    Program(Sample),
     /// A program with an input, and what is printed for them.
-    WithInput(Given),
+    WithInput(SampleWithInput),
     /// A program with a trace, and what is printed for them.
     WithTrace(Traced),
     /// A part of a program.
@@ -43,7 +43,7 @@ pub enum Example {
 
 /// A program and what is printed for it.
 #[derive(Clone, Copy)]
-pub struct Told {
+pub struct Sample {
     /// The lines of `program.afx`.
     pub lines: &'static [&'static str],
     /// The arguments of `afx`, such as `check program.afx`.
@@ -54,8 +54,8 @@ pub struct Told {
 
 /// A program with `input.json`, and what is printed for both.
 #[derive(Clone, Copy)]
-pub struct Given {
-    pub told: Told,
+pub struct SampleWithInput {
+    pub told: Sample,
     /// The text of `input.json`.
     pub input: &'static str,
 }
@@ -63,7 +63,7 @@ pub struct Given {
 /// A program with `program.trace`, and what is printed for both.
 #[derive(Clone, Copy)]
 pub struct Traced {
-    pub told: Told,
+    pub told: Sample,
     /// The lines of `program.trace`.
     pub trace: &'static [&'static str],
 }
@@ -113,7 +113,7 @@ macro_rules! page {
         $crate::page::Example::Program($crate::page::page!(@told $lines $command $line))
     };
     (@example $lines:tt $command:literal $line:literal input $input:literal) => {
-        $crate::page::Example::WithInput($crate::page::Given {
+        $crate::page::Example::WithInput($crate::page::SampleWithInput {
             told: $crate::page::page!(@told $lines $command $line),
             input: $input,
         })
@@ -125,7 +125,7 @@ macro_rules! page {
         })
     };
     (@told $lines:tt $command:literal $line:literal) => {
-        $crate::page::Told { lines: &$lines, command: $command, line: $line }
+        $crate::page::Sample { lines: &$lines, command: $command, line: $line }
     };
     (@mend) => { None };
     (@mend $mend:literal) => { Some($mend) };
@@ -260,7 +260,7 @@ fn push_lines(text: &mut String, lines: &[&str]) -> Result<(), AllocError>
 }
 
 /// Adds an input, and a command with its output.
-fn push_told_of(text: &mut String, given: Given) -> Result<(), AllocError>
+fn push_told_of(text: &mut String, given: SampleWithInput) -> Result<(), AllocError>
     ensures { OnOk result (string_bytes text.new ≡ string_bytes text.old ++ given_text given) }
 {
     push_input(text, given.input)?;
@@ -298,7 +298,7 @@ fn push_place(text: &mut String, name: &str) -> Result<(), AllocError>
 }
 
 /// Adds a command and its output.
-fn push_told(text: &mut String, told: Told) -> Result<(), AllocError>
+fn push_told(text: &mut String, told: Sample) -> Result<(), AllocError>
     ensures { OnOk result (string_bytes text.new ≡ string_bytes text.old ++ told_text told) }
 {
     push_all(text, &["\n  $ afx ", told.command, "\n  ", told.line, "\n"])

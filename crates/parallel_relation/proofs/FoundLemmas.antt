@@ -7,10 +7,10 @@ use Rattle.parallel_relation.specs.Around.{Adds, at, CallMeets}
 use Rattle.parallel_relation.specs.Rows.{HasAt}
 use Rattle.parallel_relation.specs.Found.{FoundMeets}
 use Rattle.parallel_relation.specs.declared.rows.Rows.{Rows}
-use Rattle.parallel_relation.specs.declared.found.Found.{Found}
+use Rattle.parallel_relation.specs.declared.found.FoundPairs.{FoundPairs}
 use Rattle.parallel_relation.proofs.Sums.{adds_joined}
 
-module _ (p : Program) (found : Found) (rows : Rows) where
+module _ (p : Program) (found : FoundPairs) (rows : Rows) where
   pub found_label : (m : ℕ → ℕ → Type 0) → Adds (HasAt found.labels) m (HasAt rows)
       → Adds (FoundMeets p found) m (FoundMeets p (record { labels = rows; calls = found.calls; ends = found.ends }))
   found_label m h = record { keeps = keeps; has = λ x y k. FoundMeets.label (h.has x y k); only = only }
@@ -69,7 +69,7 @@ module _ (p : Program) (found : Found) (rows : Rows) where
         ]
 
 -- a call meets those with all that it does, and these with what it leaves pending
-pub found_both : (p : Program) (found : Found) (calls ends : Rows) (f : ℕ) (those these : ℕ → Type 0)
+pub found_both : (p : Program) (found : FoundPairs) (calls ends : Rows) (f : ℕ) (those these : ℕ → Type 0)
     → Adds (HasAt found.calls) (at f those) (HasAt calls) → Adds (HasAt found.ends) (at f these) (HasAt ends)
     → Adds (FoundMeets p found) (CallMeets p f those these) (FoundMeets p (record { labels = found.labels; calls = calls; ends = ends }))
 found_both p found calls ends f those these g h =

@@ -2,7 +2,7 @@
 use Rattle.std.proofs.Common.{◌≡◌, ◌⊎◌, ℕ, zero, suc, ◌<◌, ◌≤◌, refl, sym, ◌∙◌, inl, inr, subst, arith}
 use Rattle.std.proofs.Math.Logic.{∥∥₁_elim}
 use Rattle.std.specs.Prelude.{Bool, true, false}
-use Rattle.facts.proofs.Truths.{true_false}
+use Rattle.shared_lemmas.proofs.Truths.{true_false}
 use denote.Struct.Props.{props}
 use mathlib.Core.HLevel.{Σ_prop_path}
 

@@ -2,7 +2,7 @@
 use Rattle.std.proofs.Common.{◌≡◌, inl, inr, ℕ, zero, suc, ◌+◌, ◌-◌, ◌<◌, ◌≤◌, ◌^◌, List, [], ◌∷◌, ◌++◌, drop, refl, sym, ap, ◌∙◌, subst, arith}
 use Rattle.std.proofs.lemmas.Bool.{cases_Bool, cases_lt}
 use Rattle.std.specs.Prelude.{Bool, true, false, if◌then◌else◌, slice_get, Some, None}
-use Rattle.facts.proofs.Truths.{not_both}
+use Rattle.shared_lemmas.proofs.Truths.{not_both}
 use Rattle.sections.specs.Member.{Member, first, next}
 use Rattle.effects.proofs.HasLabels.{has_label-true, from_has_label, label_within}
 use Rattle.effects.proofs.Members.{in_left, in_right, in_parts}

@@ -19,10 +19,10 @@ use Rattle.effects.specs.declared.summary.Summary.{Summary}
 use Rattle.effects.proofs.StableTables.{listed, left}
 use Rattle.parallel_relation.specs.Around.{Gains}
 use Rattle.parallel_relation.specs.Listing.{InList, IsUse, all_listed, pending_listed, alls_of, pendings_of, IsListedAt, AreListsOf}
-use Rattle.parallel_relation.specs.declared.listing.Listed.{Listed}
+use Rattle.parallel_relation.specs.declared.listing.ListedAccesses.{ListedAccesses}
 use Rattle.effects.proofs.ComesSound.{body_of-other}
 use Rattle.parallel_relation.proofs.SpreadLemmas.{below_next, no_body}
-use Rattle.facts.proofs.Lists.{get-append_last}
+use Rattle.shared_lemmas.proofs.Lists.{get-append_last}
 
 -- one more access at the end of a list
 pushed_only : (xs : List rAccess) (y : rAccess) (x : Access) → InList (xs ++ y ∷ []) x → InList xs x ⊎ (x ≡ access y)
@@ -81,22 +81,22 @@ both_ways : {A B C : Type 0} → A ↔ B → B ↔ C → A ↔ C
 both_ways f g = (λ a. g.0 (f.0 a), λ c. f.1 (g.1 c))
 
 module _ (p : Program) where
-  at_same : (these those : List Listed) (f : ℕ) → slice_get those f ≡ slice_get these f → IsListedAt p these f → IsListedAt p those f
+  at_same : (these those : List ListedAccesses) (f : ℕ) → slice_get those f ≡ slice_get these f → IsListedAt p these f → IsListedAt p those f
   at_same these those f e h = record {
-    all = subst (λ (o : Option Listed). (x : Access) → Member x (all_listed o) ↔ All p accesses (procedure_of p f).body x) (sym e) h.all;
+    all = subst (λ (o : Option ListedAccesses). (x : Access) → Member x (all_listed o) ↔ All p accesses (procedure_of p f).body x) (sym e) h.all;
     pending =
-        subst (λ (o : Option Listed). (x : Access) → Member x (pending_listed o) ↔ Pending p accesses (procedure_of p f).body x) (sym e)
+        subst (λ (o : Option ListedAccesses). (x : Access) → Member x (pending_listed o) ↔ Pending p accesses (procedure_of p f).body x) (sym e)
         h.pending;
   }
 
   -- the accesses of one more procedure
-  pub lists_next : (these those : List Listed) (y : Listed) (n : ℕ) (s : Summary) → those ≡ these ++ y ∷ [] → length these ≡ n
+  pub lists_next : (these those : List ListedAccesses) (y : ListedAccesses) (n : ℕ) (s : Summary) → those ≡ these ++ y ∷ [] → length these ≡ n
       → n < length p.procedures → IsSummary p (body_of p n) s → ((x : Access) → InList y.all.items x ↔ HasAccess s.all x)
       → ((x : Access) → InList y.pending.items x ↔ HasAccess s.pending x)
       → ((f : ℕ) → f < n → IsListedAt p these f) → (f : ℕ) → f < n + 1 → IsListedAt p those f
   lists_next these those y n s is number within summary all pending before f h = elim (below_next f n h) [
     | inl l ↦ at_same these those f
-        (ap (λ (xs : List Listed). slice_get xs f) is ∙ get_pushed these y f (omega (arith, l, number))) (before f l)
+        (ap (λ (xs : List ListedAccesses). slice_get xs f) is ∙ get_pushed these y f (omega (arith, l, number))) (before f l)
     | inr e ↦ subst (IsListedAt p those) (sym e) last
   ]
     where
@@ -104,20 +104,20 @@ module _ (p : Program) where
       exact = subst (λ (b : Codes). IsSummary p b s) (body_of-other p n within) summary
 
       got : slice_get those n ≡ Some y
-      got = ap (λ (xs : List Listed). slice_get xs n) is
+      got = ap (λ (xs : List ListedAccesses). slice_get xs n) is
           ∙ subst (λ k. slice_get (these ++ y ∷ []) k ≡ Some y) number (get-append_last these y)
 
       last : IsListedAt p those n
       last = record {
-        all = subst (λ (o : Option Listed). (x : Access) → Member x (all_listed o) ↔ All p accesses (procedure_of p n).body x) (sym got)
+        all = subst (λ (o : Option ListedAccesses). (x : Access) → Member x (all_listed o) ↔ All p accesses (procedure_of p n).body x) (sym got)
             (λ x. both_ways (all x) (exact.all x));
         pending =
-            subst (λ (o : Option Listed). (x : Access) → Member x (pending_listed o) ↔ Pending p accesses (procedure_of p n).body x)
+            subst (λ (o : Option ListedAccesses). (x : Access) → Member x (pending_listed o) ↔ Pending p accesses (procedure_of p n).body x)
             (sym got) (λ x. both_ways (pending x) (exact.pending x));
       }
 
   -- the lists of all procedures; there is none after them
-  pub lists_all : (lists : List Listed) (n : ℕ) → length lists ≡ n → n ≡ length p.procedures
+  pub lists_all : (lists : List ListedAccesses) (n : ℕ) → length lists ≡ n → n ≡ length p.procedures
       → ((f : ℕ) → f < n → IsListedAt p lists f) → AreListsOf p lists
   lists_all lists n number end below f = elim (cases_lt f n) [
     | inl l ↦ below f l
@@ -126,17 +126,17 @@ module _ (p : Program) where
         let body = no_body p f (omega (arith, past, end)) in
         record {
           all = λ x. (
-            λ h. elim (subst (λ (o : Option Listed). Member x (all_listed o)) none h) [ ],
+            λ h. elim (subst (λ (o : Option ListedAccesses). Member x (all_listed o)) none h) [ ],
             λ h. elim (subst (λ (b : Codes). All p accesses b x) body h) [ ],
           );
           pending = λ x. (
-            λ h. elim (subst (λ (o : Option Listed). Member x (pending_listed o)) none h) [ ],
+            λ h. elim (subst (λ (o : Option ListedAccesses). Member x (pending_listed o)) none h) [ ],
             λ h. elim (subst (λ (b : Codes). Pending p accesses b x) body h) [ ],
           );
         }
   ]
 
-  module _ (lists : List Listed) (are : AreListsOf p lists) where
+  module _ (lists : List ListedAccesses) (are : AreListsOf p lists) where
     -- what is listed is the least solution
     pub lists_derived : IsDerived p accesses (alls_of lists)
     lists_derived f x h = ((are f).all x).0 h

@@ -22,7 +22,7 @@ use Rattle.parallel_relation.specs.Meetings.{added_in}
 use Rattle.parallel_relation.specs.Order.{kind_number, is_less, Meeting, meeting_of, meeting_key, Ascends, IsMeeting, AreMeetings}
 use Rattle.parallel_relation.specs.Together.{Together, AddedAt, AccessesAddedAt}
 use Rattle.parallel_relation.specs.Translation.{meeting, key_in}
-use Rattle.parallel_relation.specs.declared.listing.Listed.{Listed}
+use Rattle.parallel_relation.specs.declared.listing.ListedAccesses.{ListedAccesses}
 use Rattle.parallel_relation.specs.declared.meeting.Meeting.{Meeting as rMeeting}
 use Rattle.parallel_relation.proofs.ListingLemmas.{lists_derived, lists_derived_pending, lists_stable, lists_stable_pending}
 use Rattle.parallel_relation.proofs.SpreadLemmas.{no_body}
@@ -110,7 +110,7 @@ listed : (pairs : (x y : Access) → Type 0) (qs : List (Access × Access)) (m :
     → Member (r.one, r.other) qs → Member m (map meeting_of qs)
 listed pairs qs m r h = subst (λ (n : Meeting). Member n (map meeting_of qs)) (sym r.told) (in_map meeting_of h)
 
-module _ (lists : List Listed) where
+module _ (lists : List ListedAccesses) where
   -- the pairs that statements with a label add, or all
   abbrev pub those : Option ℕ → Codes → List Meeting
   those l b = map meeting_of (added_in accesses (alls_of lists) (pendings_of lists) (is_asked l) b)
@@ -134,7 +134,7 @@ main_body p n e = by (nat_eq n (length p.procedures)) (eq-eqb n (length p.proced
     by true h = refl
     by false h = absurd (true≢false (sym h))
 
-module _ (p : Program) (lists : List Listed) (are : AreListsOf p lists) where
+module _ (p : Program) (lists : List ListedAccesses) (are : AreListsOf p lists) where
   -- all pairs of a body
   pub are_meetings : (b : Codes) (found ms : List Meeting) → found ≡ those lists None b → Ascends ms
       → ((m : Meeting) → Member m ms ↔ Member m found) → AreMeetings (Together p accesses b) ms

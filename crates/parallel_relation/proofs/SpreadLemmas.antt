@@ -10,7 +10,7 @@ use Rattle.effects.specs.Summarized.{body_of}
 use Rattle.parallel_relation.specs.Around.{Adds, each}
 use Rattle.parallel_relation.specs.Found.{FoundMeets}
 use Rattle.parallel_relation.specs.Rows.{HasAt}
-use Rattle.parallel_relation.specs.declared.found.Found.{Found}
+use Rattle.parallel_relation.specs.declared.found.FoundPairs.{FoundPairs}
 use Rattle.effects.proofs.ComesSound.{body_of-other}
 use Rattle.parallel_relation.proofs.Sums.{adds_joined}
 
@@ -83,7 +83,7 @@ left_within p f x h = elim (cases_lt f (length p.procedures)) [
 ]
 
 -- together with what all procedures meet, that is what is found
-pub all_found : (p : Program) (found : Found) (rows : ℕ → ℕ → Type 0)
+pub all_found : (p : Program) (found : FoundPairs) (rows : ℕ → ℕ → Type 0)
     → Adds (HasAt found.labels) (CalledBelow p (HasAt found.calls) (HasAt found.ends) (length p.procedures)) rows
     → (x y : ℕ) → rows x y ↔ FoundMeets p found x y
 all_found p found rows h x y = (λ k. elim (h.only x y k) [ inl o ↦ FoundMeets.label o | inr c ↦ to c ], from)

@@ -5,10 +5,10 @@ use Rattle.types.specs.Run.{procedure_of}
 use Rattle.effects.specs.Effects.{labels, All, Pending}
 use Rattle.parallel_relation.specs.Together.{Together}
 use Rattle.parallel_relation.specs.Rows.{HasAt}
-use Rattle.parallel_relation.specs.declared.found.Found.{Found}
+use Rattle.parallel_relation.specs.declared.found.FoundPairs.{FoundPairs}
 
 -- x meets y: as a label, or because a procedure that does x is called, or leaves x pending
-pub data FoundMeets (p : Program) (found : Found) (x y : ℕ) : Type 0 where
+pub data FoundMeets (p : Program) (found : FoundPairs) (x y : ℕ) : Type 0 where
   label : HasAt found.labels x y → FoundMeets p found x y
   call : (f : ℕ) → All p labels (procedure_of p f).body x → HasAt found.calls f y
       → FoundMeets p found x y

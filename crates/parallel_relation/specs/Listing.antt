@@ -11,7 +11,7 @@ use Rattle.effects.specs.Tables.{Table}
 use Rattle.effects.specs.Translation.{access}
 use Rattle.effects.specs.declared.access.Access.{Access as rAccess}
 use Rattle.effects.specs.declared.label_set.LabelSet.{LabelSet}
-use Rattle.parallel_relation.specs.declared.listing.Listed.{Listed}
+use Rattle.parallel_relation.specs.declared.listing.ListedAccesses.{ListedAccesses}
 
 -- an access is in a list
 abbrev pub InList : List rAccess → Access → Type 0
@@ -22,30 +22,30 @@ abbrev pub IsUse : LabelSet → (section : ℕ) → (write : Bool) → Access �
 IsUse labels s w x = IsUseOf s w x × HasLabel labels x.label
 
 -- everything that is listed for a procedure; nothing if there is no list
-abbrev pub all_listed : Option Listed → List Access
+abbrev pub all_listed : Option ListedAccesses → List Access
 all_listed None = []
 all_listed (Some x) = map access x.all.items
 
 -- what is listed as pending
-abbrev pub pending_listed : Option Listed → List Access
+abbrev pub pending_listed : Option ListedAccesses → List Access
 pending_listed None = []
 pending_listed (Some x) = map access x.pending.items
 
 -- the tables of what is listed for each number
-abbrev pub alls_of : List Listed → Table accesses
+abbrev pub alls_of : List ListedAccesses → Table accesses
 alls_of lists f = all_listed (slice_get lists f)
 
-abbrev pub pendings_of : List Listed → Table accesses
+abbrev pub pendings_of : List ListedAccesses → Table accesses
 pendings_of lists f = pending_listed (slice_get lists f)
 
 -- the list for this number has the accesses of its procedure, and those that it leaves pending
-pub record IsListedAt (p : Program) (lists : List Listed) (f : ℕ) : Type 0 where
+pub record IsListedAt (p : Program) (lists : List ListedAccesses) (f : ℕ) : Type 0 where
   pub all : (x : Access) → Member x (alls_of lists f) ↔ All p accesses (procedure_of p f).body x
   pub pending : (x : Access)
       → Member x (pendings_of lists f) ↔ Pending p accesses (procedure_of p f).body x
 
 -- the lists have this for each procedure
-abbrev pub AreListsOf : Program → List Listed → Type 0
+abbrev pub AreListsOf : Program → List ListedAccesses → Type 0
 AreListsOf p lists = (f : ℕ) → IsListedAt p lists f
 
 -- whether the pairs of a label are requested: if no label is named, all are

@@ -13,7 +13,7 @@ use types::ids::ProcedureId;
 
 /// Which labels may be done while others are pending.
 #[derive(Drop)]
-pub struct Found {
+pub struct FoundPairs {
     /// The labels that each label meets.
     pub labels: Rows,
     /// For each procedure, the labels that everything it does meets.
@@ -22,14 +22,14 @@ pub struct Found {
     pub ends: Rows,
 }
 
-impl Found {
+impl FoundPairs {
     ghost use Rattle.parallel_relation.specs.Found.{FoundMeets};
 
     /// Returns an empty result.
-    pub fn new(alloc: Global) -> Found
+    pub fn new(alloc: Global) -> FoundPairs
         ensures { (p : Program) (x y : ℕ) → FoundMeets p result x y → ⊥ }
     {
-        Found {
+        FoundPairs {
             labels: Rows::new(alloc),
             calls: Rows::new(alloc),
             ends: Rows::new(alloc),

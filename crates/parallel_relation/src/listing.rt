@@ -19,7 +19,7 @@ use types::ids::ProcedureId;
 
 /// The accesses of a procedure.
 #[derive(Drop)]
-pub struct Listed {
+pub struct ListedAccesses {
     pub all: Vec<Access>,
     /// The accesses that it leaves pending.
     pub pending: Vec<Access>,
@@ -30,7 +30,7 @@ pub fn list_procedures(
     alloc: Global,
     code: &Program,
     summaries: &Summaries,
-) -> Result<Vec<Listed>, AllocError>
+) -> Result<Vec<ListedAccesses>, AllocError>
     requires { AreSummaries (program code.now) summaries.now }
     ensures { IfOk result (λ lists. AreListsOf (program code.now) lists.items) }
 {
@@ -39,7 +39,7 @@ pub fn list_procedures(
         let summary = summaries.of(ProcedureId { number });
         let all = items_of(alloc, &summary.all)?;
         let pending = items_of(alloc, &summary.pending)?;
-        lists.push(Listed { all, pending })?;
+        lists.push(ListedAccesses { all, pending })?;
     }
     Ok(lists)
 }

@@ -13,7 +13,7 @@ ghost use Rattle.parallel_relation.specs.Order.{AreMeetings, meeting_of};
 ghost use Rattle.parallel_relation.specs.Together.{Together, AccessesAddedAt};
 ghost use Rattle.parallel_relation.specs.Translation.{meeting as plain};
 
-use crate::listing::{Listed, list_procedures};
+use crate::listing::{ListedAccesses, list_procedures};
 use crate::meeting::{Meeting, put_in_order};
 use crate::statements::{add_block, add_left_by, add_own};
 use effects::access::Access;
@@ -87,7 +87,7 @@ fn body_of(code: &Program, procedure: ProcedureId) -> &[Stmt]
 #[cycle(meetings)]
 fn add_meetings(
     alloc: Global,
-    lists: &[Listed],
+    lists: &[ListedAccesses],
     label: Option<Label>,
     block: &[Stmt],
     into: &mut Vec<Meeting>,
@@ -109,7 +109,7 @@ fn add_meetings(
 #[cycle(meetings)]
 fn add_meetings_inside(
     alloc: Global,
-    lists: &[Listed],
+    lists: &[ListedAccesses],
     label: Option<Label>,
     kind: &StmtKind,
     into: &mut Vec<Meeting>,
@@ -144,7 +144,7 @@ fn is_asked(asked: Option<Label>, label: Label) -> bool
 /// Adds the pairs that a statement in front of the rest of its list adds.
 fn add_pairs(
     alloc: Global,
-    lists: &[Listed],
+    lists: &[ListedAccesses],
     statement: &Stmt,
     rest: &[Stmt],
     into: &mut Vec<Meeting>,
@@ -167,7 +167,7 @@ fn add_pairs(
 /// Adds the pairs of a loop with its next iteration.
 fn add_turned(
     alloc: Global,
-    lists: &[Listed],
+    lists: &[ListedAccesses],
     statement: &Stmt,
     left: &[Access],
     into: &mut Vec<Meeting>,

@@ -10,7 +10,7 @@ ghost use Rattle.parallel_relation.specs.Found.{FoundMeets};
 ghost use Rattle.parallel_relation.specs.Rows.{HasAt};
 ghost use Rattle.parallel_relation.specs.Spread.{Turns};
 
-use crate::found::Found;
+use crate::found::FoundPairs;
 use crate::rows::Rows;
 use effects::label_set::LabelSet;
 use effects::summaries::Summaries;
@@ -23,13 +23,13 @@ pub fn spread(
     alloc: Global,
     code: &Program,
     summaries: &Summaries,
-    found: Found,
+    found: FoundPairs,
 ) -> Result<Rows, AllocError>
     requires { AreSummaries (program code.now) summaries.now }
     ensures { IfOk result (λ rows. (x y : ℕ)
         → HasAt rows x y ↔ FoundMeets (program code.now) found x y) }
 {
-    let Found {
+    let FoundPairs {
         mut labels,
         calls,
         ends,

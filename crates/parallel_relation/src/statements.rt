@@ -10,7 +10,7 @@ ghost use Rattle.effects.specs.Tables.{all_in, all_inside, left_by, left_in};
 ghost use Rattle.effects.specs.Translation.{access as access_of};
 ghost use Rattle.parallel_relation.specs.Listing.{alls_of, pendings_of};
 
-use crate::listing::Listed;
+use crate::listing::ListedAccesses;
 use effects::access::Access;
 use effects::firsts::around;
 use effects::own::own_accesses;
@@ -22,7 +22,7 @@ use types::code::{Label, Stmt, StmtKind};
 #[cycle(done)]
 pub fn add_block(
     alloc: Global,
-    lists: &[Listed],
+    lists: &[ListedAccesses],
     block: &[Stmt],
     into: &mut Vec<Access>,
 ) -> Result<(), AllocError>
@@ -55,7 +55,7 @@ pub fn add_own(
 #[cycle(done)]
 fn add_inside(
     alloc: Global,
-    lists: &[Listed],
+    lists: &[ListedAccesses],
     kind: &StmtKind,
     into: &mut Vec<Access>,
 ) -> Result<(), AllocError>
@@ -91,7 +91,7 @@ fn add_inside(
 #[cycle(left)]
 fn add_left(
     alloc: Global,
-    lists: &[Listed],
+    lists: &[ListedAccesses],
     block: &[Stmt],
     into: &mut Vec<Access>,
 ) -> Result<(), AllocError>
@@ -108,7 +108,7 @@ fn add_left(
 #[cycle(left)]
 pub fn add_left_by(
     alloc: Global,
-    lists: &[Listed],
+    lists: &[ListedAccesses],
     kind: &StmtKind,
     into: &mut Vec<Access>,
 ) -> Result<(), AllocError>

@@ -7,7 +7,7 @@ ghost use Rattle.effects.specs.Summarized.{AreSummaries};
 ghost use Rattle.parallel_relation.specs.Around.{Adds, BlockMeets, InsideMeets};
 ghost use Rattle.parallel_relation.specs.Found.{FoundMeets, Arises};
 
-use crate::found::Found;
+use crate::found::FoundPairs;
 use crate::labels::{add_labels_of, copy_of, union_of};
 use effects::label_set::LabelSet;
 use effects::summaries::Summaries;
@@ -24,7 +24,11 @@ pub struct Guide<'p> {
 }
 
 /// Finds the pairs of all procedures and of `main`.
-pub fn walk_all(alloc: Global, code: &Program, summaries: &Summaries) -> Result<Found, AllocError>
+pub fn walk_all(
+    alloc: Global,
+    code: &Program,
+    summaries: &Summaries,
+) -> Result<FoundPairs, AllocError>
     requires { AreSummaries (program code.now) summaries.now }
     ensures { let p = program code.now in
         IfOk result (λ found. (x y : ℕ) → FoundMeets p found x y ↔ Arises p x y) }
@@ -35,7 +39,7 @@ pub fn walk_all(alloc: Global, code: &Program, summaries: &Summaries) -> Result<
         summaries,
     };
     let none = LabelSet::new(alloc);
-    let mut found = Found::new(alloc);
+    let mut found = FoundPairs::new(alloc);
     for procedure in &code.procedures {
         let body = &procedure.body;
         walk(guide, &none, &none, body, &mut found)?;
@@ -54,7 +58,7 @@ pub fn walk(
     everything: &LabelSet,
     later: &LabelSet,
     block: &[Stmt],
-    found: &mut Found,
+    found: &mut FoundPairs,
 ) -> Result<(), AllocError>
     requires { AreSummaries (program guide.code.now) guide.summaries.now }
     ensures { let p = program guide.entry.code.now in OnOk result (Adds (FoundMeets p found.old)
@@ -78,7 +82,7 @@ fn walk_inside(
     everything: &LabelSet,
     later: &LabelSet,
     statement: &Stmt,
-    found: &mut Found,
+    found: &mut FoundPairs,
 ) -> Result<(), AllocError>
     requires { AreSummaries (program guide.code.now) guide.summaries.now }
     ensures { let p = program guide.entry.code.now in OnOk result (Adds (FoundMeets p found.old)

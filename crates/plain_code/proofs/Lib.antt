@@ -2,3 +2,4 @@ pub mod Reaching
 pub mod PlainMeaning
 pub mod Calming
 pub mod Marking
+pub mod Adding

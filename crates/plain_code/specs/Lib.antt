@@ -1,3 +1,4 @@
 pub mod Plain
 pub mod Means
 pub mod Calm
+pub mod Pieces

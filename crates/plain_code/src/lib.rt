@@ -1,6 +1,7 @@
-//! Plain statements: what they mean under all rules, and which statements of a program are plain.
+//! Plain statements, which reach no async or finish, and the flat code of a program's largest ones.
 
 #![tactic(auto)]
 
 pub mod calm;
 pub mod laws;
+pub mod pieces;

@@ -5,7 +5,7 @@ mod completed_words;
 mod copied_places;
 mod drawn_numbers;
 mod effects_of_programs;
-mod failures;
+mod failed_calls;
 mod held_blocks;
 mod held_places;
 mod inputs;

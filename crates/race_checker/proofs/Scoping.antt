@@ -3,7 +3,7 @@
 use Rattle.std.proofs.Common.{◌≡◌, ℕ, zero, suc, ◌+◌, ◌<◌, List, [], ◌∷◌, length, refl, sym, ap, ◌∙◌, subst, inl, inr}
 use Rattle.std.proofs.Common.{arith}
 use Rattle.std.specs.Prelude.{Bool, true, false, map, slice_index_or, slice_get, Some}
-use Rattle.facts.proofs.Truths.{false_true}
+use Rattle.shared_lemmas.proofs.Truths.{false_true}
 use Rattle.sections.specs.Origins.{Root, origin_of}
 use Rattle.sections.specs.Member.{Member, first, next}
 use Rattle.sections.specs.Placed.{Placed}

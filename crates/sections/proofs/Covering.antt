@@ -6,7 +6,7 @@ use Rattle.std.proofs.lemmas.Bool.{or_left, or_right, cases_lt}
 use Rattle.std.specs.Prelude.{Bool, true, false, ◌&&◌, ◌||◌, nat_eq, nat_lt, nat_le, if◌then◌else◌}
 use Rattle.std.specs.List.{list_all}
 use Rattle.std.proofs.Math.Bool.{or_assoc}
-use Rattle.facts.proofs.Truths.{same_truth}
+use Rattle.shared_lemmas.proofs.Truths.{same_truth}
 use Rattle.sections.specs.Place.{Place, Window, In}
 use Rattle.sections.specs.Covers.{is_in, has, has_places, ends_before, is_cover}
 use Rattle.sections.specs.Joining.{end_of, begins_no_later, begins_first, is_ascending, meets, joined}

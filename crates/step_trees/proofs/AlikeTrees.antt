@@ -11,7 +11,7 @@ use Rattle.types.specs.Trees.{Leaf, Tree, Single, AndThen, Beside, all_done, rea
 use Rattle.types.specs.TreeRuns.{Ends, Open, tree_ending, told, goes_on, explored_from}
 use Rattle.types.specs.TreeSteps.{step}
 use Rattle.types.specs.Value.{Environment}
-use Rattle.leaf_steps.specs.Translation.{leaf_of}
+use Rattle.step_trees.specs.Translation.{leaf_of}
 use Rattle.step_trees.specs.declared.tree.Around.{Around}
 use Rattle.step_trees.specs.declared.tree.Around.TheVariants.{Behind, Left, Right}
 use Rattle.step_trees.specs.Alike.{AreAlike}

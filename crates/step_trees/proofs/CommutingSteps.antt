@@ -1,6 +1,6 @@
 -- Steps of two leaves commute, so all runs that end have one end.
 use Rattle.std.proofs.Common.{◌≡◌, ◌⊎◌, inl, inr, ℕ, suc, ◌+◌, ◌<◌, List, [], ◌∷◌, Some, None, refl, sym, ap, ◌∙◌, subst, arith}
-use Rattle.facts.proofs.Truths.{true_false}
+use Rattle.shared_lemmas.proofs.Truths.{true_false}
 use Rattle.std.specs.Prelude.{ℤ, Bool, true, false, if◌then◌else◌}
 use Rattle.sections.proofs.Windows.{places_same}
 use Rattle.sections.specs.Place.{Place, same_place}

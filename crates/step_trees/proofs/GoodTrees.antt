@@ -23,7 +23,7 @@ use Rattle.race_checker.specs.Calm.{Calm, IsCalm}
 use Rattle.race_checker.specs.Scope.{Top, Inside, Lists, may_writes}
 use Rattle.race_checker.proofs.Calming.{is_calm}
 use Rattle.race_checker.proofs.Scoping.{arrays_written}
-use Rattle.leaf_steps.proofs.Deeds.{primitive_windows}
+use Rattle.step_trees.proofs.Deeds.{primitive_windows}
 use Rattle.step_trees.proofs.Scopes.{fits_scope}
 use Rattle.step_trees.specs.Still.{Footprint, both, foot, Separate, all, waiting, left_of, still}
 use Rattle.step_trees.proofs.Steps.{Step, step_from}

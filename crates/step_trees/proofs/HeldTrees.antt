@@ -9,9 +9,9 @@ use Rattle.types.specs.Run.{Fault}
 use Rattle.types.specs.Translation.{environment, fault}
 use Rattle.types.specs.Trees.{Leaf, Tree, Single, AndThen, Beside, is_done, all_done, ready, lines_of, faults_of, rightmost, done, unless_faulted, closed, task_environment}
 use Rattle.types.specs.Value.{Environment}
-use Rattle.leaf_steps.specs.declared.leaf.Leaf.{Leaf as rLeaf}
-use Rattle.leaf_steps.specs.Translation.{leaf_of}
-use Rattle.leaf_steps.proofs.Rests.{done_is_none}
+use Rattle.step_trees.specs.declared.leaf.Leaf.{Leaf as rLeaf}
+use Rattle.step_trees.specs.Translation.{leaf_of}
+use Rattle.step_trees.proofs.Rests.{done_is_none}
 use Rattle.step_trees.specs.declared.tree.Remains.{Remains}
 use Rattle.step_trees.specs.declared.tree.Tree.{Tree as rTree}
 use Rattle.step_trees.specs.declared.tree.Tree.TheVariants.{Single as rSingle, AndThen' as rAndThen, Beside' as rBeside}

@@ -1,6 +1,7 @@
 pub mod AlikeTrees
 pub mod ChosenRuns
 pub mod CommutingSteps
+pub mod Deeds
 pub mod Drawing
 pub mod Dropping
 pub mod Examples
@@ -20,7 +21,9 @@ pub mod Places
 pub mod PlacesRead
 pub mod PlacesTouched
 pub mod ReachedTrees
+pub mod Rests
 pub mod Scopes
 pub mod Statements
 pub mod Steps
+pub mod Turns
 pub mod Walks

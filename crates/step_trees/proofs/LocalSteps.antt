@@ -19,7 +19,7 @@ use Rattle.effects.specs.Accesses.{Access, reads, own_accesses, own_primitive}
 use Rattle.effects.specs.Effects.{AllOf, All, accesses}
 use Rattle.effects.specs.Footprint.{Touches, Overwrites}
 use Rattle.effects.proofs.Members.{in_map}
-use Rattle.leaf_steps.proofs.Deeds.{Deed, Nothing, Assigns, Writes, Prints, Fails, by_value, stores, deed, did, primitive-did}
+use Rattle.step_trees.proofs.Deeds.{Deed, Nothing, Assigns, Writes, Prints, Fails, by_value, stores, deed, did, primitive-did}
 use Rattle.step_trees.specs.Still.{still, left_of}
 use Rattle.step_trees.proofs.Footprints.{Within, first_within, second_within}
 use Rattle.step_trees.proofs.Steps.{Step}

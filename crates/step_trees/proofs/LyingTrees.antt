@@ -10,7 +10,7 @@ use Rattle.types.specs.Trees.{Caller, Leaf, Tree, Single, AndThen, Beside, singl
 use Rattle.types.specs.TreeSteps.{on_value, as_state, by_flow, with_state, sides_at, tree_after, step, first_leaf, first_tree, leaf_at}
 use Rattle.statement_steps.specs.Bounds.{LiesInArray, LiesInArrays}
 use Rattle.statement_steps.proofs.BoundsLemmas.{halves_lie, with_sides_lies, entry_lies, main_lies}
-use Rattle.leaf_steps.proofs.Deeds.{primitive_windows}
+use Rattle.step_trees.proofs.Deeds.{primitive_windows}
 use Rattle.step_trees.specs.Windows.{CallersLie, LeafLies, TreeLies}
 use Rattle.step_trees.proofs.Steps.{Step, step_from, step_at}
 

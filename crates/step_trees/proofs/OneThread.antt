@@ -18,7 +18,7 @@ use Rattle.types.proofs.Solutions.{solves}
 use Rattle.types.specs.Trees.{Caller, Leaf, Tree, Single, Beside, append, single, is_done, done, failed, owner_environment, outermost, returned, returned_by, return_to, before_rest, all_done, faults_of, lines_of, rightmost, unless_faulted, and_then, called, child, parent, inside, held_back}
 use Rattle.types.specs.TreeSteps.{on_value, as_state, with_state, tree_after, store_after, first_leaf, first_tree}
 use Rattle.types.specs.TreeRuns.{tree_ending}
-use Rattle.leaf_steps.proofs.Deeds.{Deed, Nothing, Assigns, Writes, Prints, Fails, deed, did, primitive-did}
+use Rattle.step_trees.proofs.Deeds.{Deed, Nothing, Assigns, Writes, Prints, Fails, deed, did, primitive-did}
 use Rattle.step_trees.proofs.Steps.{Step}
 use Rattle.step_trees.proofs.FirstLeaves.{LeftRun, ended, goes, stuck, Halves, halves, Finished, finished}
 use Rattle.types.proofs.Solutions.{value_twice}

@@ -8,12 +8,12 @@ use Rattle.types.specs.Code.{Program}
 use Rattle.types.specs.Contents.{Contents}
 use Rattle.types.specs.Trees.{Leaf, Tree, Single, AndThen, Beside, all_done, ready, closed, and_then}
 use Rattle.types.specs.TreeSteps.{in_tree, step, leaf_at}
-use Rattle.leaf_steps.specs.Translation.{leaf_of}
+use Rattle.step_trees.specs.Translation.{leaf_of}
 use Rattle.step_trees.specs.declared.tree.Around.{Around}
 use Rattle.step_trees.specs.declared.tree.Around.TheVariants.{Behind, Left, Right}
 use Rattle.step_trees.specs.Held.{tree_of, within, inside}
 use Rattle.step_trees.specs.declared.tree.Round.{Round}
-use Rattle.step_trees.specs.declared.walk.Place.{Place}
+use Rattle.step_trees.specs.declared.walk.Zipper.{Zipper}
 use Rattle.step_trees.specs.Places.{ready_left, ready_right, lefts, rights, whole, IsPlace, IsRound}
 use Rattle.step_trees.proofs.Walks.{step-left, step-right, leaf-left, leaf-right}
 
@@ -145,7 +145,7 @@ placed_ready r t n here h settled e f = by (all_done t) refl
         omega (arith, all, l, g, e, f)
 
 -- if a leaf may step, a place isn't done
-pub place_going : (c : Place) → IsPlace c → 0 < ready (whole c) → all_done (tree_of c.tree) ≡ false
+pub place_going : (c : Zipper) → IsPlace c → 0 < ready (whole c) → all_done (tree_of c.tree) ≡ false
 place_going c h some = by (all_done (tree_of c.tree)) refl
   where
     by : (b : Bool) → all_done (tree_of c.tree) ≡ b → b ≡ false

@@ -14,8 +14,8 @@ use Rattle.types.specs.Trees.{Leaf, Tree, single, before_rest, called}
 use Rattle.types.specs.TreeSteps.{on_value, as_state, with_state, tree_after, store_after, leaf_step}
 use Rattle.types.specs.TreePlaces.{after, number_reads, links_read, numbers_read, truth_reads, all_read, any_read, primitive_reads, step_reads, primitive_writes, step_writes, first_reads, first_writes, next_reads}
 use Rattle.effects.proofs.Members.{in_left, in_right}
-use Rattle.leaf_steps.proofs.Turns.{same_pair}
-use Rattle.leaf_steps.proofs.Deeds.{Deed, Assigns, Prints, Fails, by_value, stores, deed, did, primitive-did}
+use Rattle.step_trees.proofs.Turns.{same_pair}
+use Rattle.step_trees.proofs.Deeds.{Deed, Assigns, Prints, Fails, by_value, stores, deed, did, primitive-did}
 use Rattle.step_trees.specs.Laws.{SameStep}
 use Rattle.step_trees.proofs.Steps.{tree_or, store_or}
 use Rattle.step_trees.proofs.LocalSteps.{Update, updated, Hits, update_of, did_tree, did_store}

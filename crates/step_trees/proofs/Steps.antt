@@ -7,7 +7,7 @@ use Rattle.types.specs.Code.{Code, Codes, End, Then, Program}
 use Rattle.types.specs.Contents.{Contents}
 use Rattle.types.specs.Trees.{Leaf, Tree, Single, AndThen, Beside, is_done, ready, and_then}
 use Rattle.types.specs.TreeSteps.{tree_after, store_after, leaf_step, in_tree, step, unless_done, leaf_at}
-use Rattle.leaf_steps.proofs.Turns.{same_pair, step_here}
+use Rattle.step_trees.proofs.Turns.{same_pair, step_here}
 use Rattle.step_trees.specs.Laws.{StepsTo}
 
 module _ (p : Program) where

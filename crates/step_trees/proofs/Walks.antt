@@ -7,7 +7,7 @@ use Rattle.types.specs.Code.{Codes, End, Then, Program}
 use Rattle.types.specs.Contents.{Contents}
 use Rattle.types.specs.Trees.{Leaf, Tree, Single, Beside, is_done, ready}
 use Rattle.types.specs.TreeSteps.{leaf_step, in_tree, step, unless_done, leaf_at}
-use Rattle.leaf_steps.specs.declared.leaf.Leaf.{Leaf as rLeaf}
+use Rattle.step_trees.specs.declared.leaf.Leaf.{Leaf as rLeaf}
 use Rattle.step_trees.specs.declared.tree.Tree.{Tree as rTree}
 use Rattle.step_trees.specs.declared.tree.Tree.TheVariants.{AndThen' as rAndThen, Beside' as rBeside}
 use Rattle.step_trees.specs.declared.tree.Around.{Around}

@@ -4,8 +4,8 @@ use Rattle.types.specs.Code.{Program}
 use Rattle.types.specs.Contents.{Contents}
 use Rattle.types.specs.Trees.{Tree, is_done}
 use Rattle.types.specs.TreeSteps.{leaf_step, in_tree, step, leaf_at}
-use Rattle.leaf_steps.specs.declared.leaf.Leaf.{Leaf as rLeaf}
-use Rattle.leaf_steps.specs.Translation.{leaf_of}
+use Rattle.step_trees.specs.declared.leaf.Leaf.{Leaf as rLeaf}
+use Rattle.step_trees.specs.Translation.{leaf_of}
 use Rattle.step_trees.specs.declared.tree.Round.{Round}
 use Rattle.step_trees.specs.Alike.{AreAlike}
 use Rattle.step_trees.specs.Held.{inside}

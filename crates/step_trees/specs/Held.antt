@@ -3,7 +3,7 @@ use Rattle.std.specs.Prelude.{◌+◌, ◌≡◌, ◌&&◌, List, [], ◌∷◌,
 use Rattle.types.specs.Translation.{environment, fault}
 use Rattle.types.specs.Trees.{Tree, Single, AndThen, Beside, all_done, ready}
 use Rattle.types.specs.Trees.{lines_of, faults_of, rightmost, owner_environment, and_then}
-use Rattle.leaf_steps.specs.Translation.{leaf_of}
+use Rattle.step_trees.specs.Translation.{leaf_of}
 use Rattle.step_trees.specs.declared.tree.Remains.{Remains}
 use Rattle.step_trees.specs.declared.tree.Tree.{Tree as rTree}
 use Rattle.step_trees.specs.declared.tree.Tree.TheVariants.{Single as rSingle}

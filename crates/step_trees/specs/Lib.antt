@@ -6,4 +6,6 @@ pub mod Held
 pub mod Laws
 pub mod Places
 pub mod Still
+pub mod Translation
+pub mod Turns
 pub mod Windows

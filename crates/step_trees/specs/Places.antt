@@ -4,7 +4,7 @@ use Rattle.types.specs.Trees.{Tree, all_done, ready}
 use Rattle.step_trees.specs.declared.tree.Tree.{Tree as rTree}
 use Rattle.step_trees.specs.declared.tree.Around.{Around}
 use Rattle.step_trees.specs.declared.tree.Around.TheVariants.{Behind, Left, Right}
-use Rattle.step_trees.specs.declared.walk.Place.{Place}
+use Rattle.step_trees.specs.declared.walk.Zipper.{Zipper}
 use Rattle.step_trees.specs.declared.tree.Round.{Round}
 use Rattle.step_trees.specs.Alike.{AreAlike}
 use Rattle.step_trees.specs.Held.{tree_of, inside, IsCounted, IsCountedRound, AreCounted}
@@ -42,11 +42,11 @@ Pops None old new = (old ≡ []) × (new ≡ [])
 Pops (Some x) old new = (old ≡ new ++ x ∷ []) × IsCountedRound x
 
 -- the tree that a place is in
-abbrev pub whole : Place → Tree
+abbrev pub whole : Zipper → Tree
 whole c = inside c.round.around.items (tree_of c.tree)
 
 -- the stored numbers of a place are correct, and if all its leaves are done, nothing surrounds it
-pub record IsPlace (c : Place) : Type 0 where
+pub record IsPlace (c : Zipper) : Type 0 where
   pub round : IsRound c.round
   pub tree : IsCounted c.tree
   pub settled : all_done (tree_of c.tree) ≡ true → c.round.around.items ≡ []

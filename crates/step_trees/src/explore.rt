@@ -11,18 +11,18 @@ ghost use Rattle.types.specs.TreeSteps.{first_tree};
 ghost use Rattle.types.specs.Trees.{ready as ready_leaves};
 ghost use Rattle.types.specs.Typed.{code_of};
 ghost use Rattle.statement_steps.specs.Lists.{contents_of};
-ghost use Rattle.leaf_steps.specs.Turns.{becomes as becomes_tree};
+ghost use Rattle.step_trees.specs.Turns.{becomes as becomes_tree};
 ghost use Rattle.step_trees.specs.Drawing.{drawn, drawn_choices, next_number as number_behind};
 ghost use Rattle.step_trees.specs.Drawing.{picked as picked_by};
 ghost use Rattle.step_trees.specs.Exploring.{explored_of, Begins, IsHeld, StepsTree};
 ghost use Rattle.step_trees.specs.Held.{tree_of, IsCounted};
 ghost use Rattle.step_trees.specs.Places.{whole, IsPlace};
 
+use crate::leaf::{Leaf, returned};
+use crate::rest::block_alone;
 use crate::tree::{Round, Tree, and_then, beside};
-use crate::walk::{Place, found, placed, settled};
-use leaf_steps::leaf::{Leaf, returned};
-use leaf_steps::rest::block_alone;
-use leaf_steps::turn::{Becomes, step as leaf_turn};
+use crate::turn::{Becomes, step as leaf_turn};
+use crate::walk::{Zipper, found, placed, settled};
 use race_checker::accepted::Accepted;
 use statement_steps::store::Store;
 use statement_steps::thread::{Plan, main_environment};
@@ -48,7 +48,7 @@ pub enum Explored {
 #[derive(Drop)]
 pub struct Course<'p> {
     pub store: Store,
-    pub place: Place<'p>,
+    pub place: Zipper<'p>,
 }
 
 /// Runs an accepted program by choices. Each choice is the number of the leaf that steps next,
@@ -191,7 +191,7 @@ fn begun<'p>(
 }
 
 /// Returns the place where a run starts.
-fn start<'p>(plan: Plan<'p>) -> Result<Place<'p>, AllocError>
+fn start<'p>(plan: Plan<'p>) -> Result<Zipper<'p>, AllocError>
     ensures tree { IfOk result (λ c. whole c ≡ first_tree (program_of plan.entry.program.now)) }
     ensures place { IfOk result IsPlace }
 {
@@ -254,7 +254,7 @@ fn told<'p>(plan: Plan<'p>, course: Course<'p>) -> Result<Explored, AllocError>
         (whole course.entry.place) (contents_of course.entry.store)) }
 {
     let Course { store, place } = course;
-    let Place {
+    let Zipper {
         round: _,
         tree,
         ready,

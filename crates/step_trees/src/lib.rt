@@ -4,5 +4,8 @@
 
 pub mod explore;
 pub mod laws;
+pub mod leaf;
+pub mod rest;
 pub mod tree;
+pub mod turn;
 pub mod walk;

@@ -3,14 +3,14 @@
 ghost use Rattle.std.specs.Prelude.{◌≡◌, ◌<◌, ◌+◌, ◌++◌, ◌∷◌, [], IfOk, OnOk, true};
 ghost use Rattle.types.specs.Trees.{all_done, ready as ready_leaves, and_then as then_tree};
 ghost use Rattle.types.specs.Trees.{closed as closed_leaf, Beside};
-ghost use Rattle.leaf_steps.specs.Translation.{leaf_of};
+ghost use Rattle.step_trees.specs.Translation.{leaf_of};
 ghost use Rattle.step_trees.specs.Alike.{AreAlike};
 ghost use Rattle.step_trees.specs.Found.{IsFound};
 ghost use Rattle.step_trees.specs.Held.{tree_of, inside, within as within_round, IsCounted};
 ghost use Rattle.step_trees.specs.Held.{IsCountedRound, IsLeftOf};
 ghost use Rattle.step_trees.specs.Places.{lefts, ready_left, ready_right, IsRound, Pops};
 
-use leaf_steps::leaf::{Leaf, done, returned};
+use crate::leaf::{Leaf, done, returned};
 use std::alloc::{AllocError, Global};
 use types::fault::Fault;
 use types::value::Environment;

@@ -7,14 +7,14 @@ ghost use Rattle.step_trees.specs.Found.{IsFoundAlike};
 ghost use Rattle.step_trees.specs.Held.{tree_of, inside, IsCounted};
 ghost use Rattle.step_trees.specs.Places.{whole, IsPlace, IsRaised, IsRound};
 
+use crate::leaf::Leaf;
 use crate::tree::{Round, Tree};
-use leaf_steps::leaf::Leaf;
 use std::alloc::{AllocError, Global};
 
 /// A tree within another, at the position of the last step. It isn't done, unless it is the whole
 /// tree.
 #[derive(Drop)]
-pub struct Place<'p> {
+pub struct Zipper<'p> {
     pub round: Round<'p>,
     pub tree: Tree<'p>,
     /// The number of leaves in the whole tree that may step.
@@ -25,14 +25,14 @@ pub struct Place<'p> {
 /// step.
 pub fn found<'p>(
     alloc: Global,
-    place: Place<'p>,
+    place: Zipper<'p>,
     choice: u32,
 ) -> Result<(Round<'p>, Leaf<'p>), AllocError>
     requires place { IsPlace place }
     requires choice { choice < ready_leaves (whole place) }
     ensures { IfOk result (IsFoundAlike (whole place.entry) choice) }
 {
-    let Place {
+    let Zipper {
         round,
         tree,
         ready: _,
@@ -70,7 +70,11 @@ fn raised<'p>(
 
 /// Goes up while all leaves are done, so what waits for their end continues. After a spawn, goes up
 /// to all tasks of the spawning task's finish, to keep them balanced.
-pub fn settled<'p>(alloc: Global, round: Round<'p>, tree: Tree<'p>) -> Result<Place<'p>, AllocError>
+pub fn settled<'p>(
+    alloc: Global,
+    round: Round<'p>,
+    tree: Tree<'p>,
+) -> Result<Zipper<'p>, AllocError>
     requires round { IsRound round }
     requires tree { IsCounted tree }
     ensures whole { IfOk result (λ c. AreAlike (whole c)
@@ -92,7 +96,7 @@ pub fn settled<'p>(alloc: Global, round: Round<'p>, tree: Tree<'p>) -> Result<Pl
 }
 
 /// Returns a place, with the number of leaves that may step.
-pub fn placed<'p>(round: Round<'p>, tree: Tree<'p>) -> Result<Place<'p>, AllocError>
+pub fn placed<'p>(round: Round<'p>, tree: Tree<'p>) -> Result<Zipper<'p>, AllocError>
     requires round { IsRound round }
     requires tree { IsCounted tree }
     requires settled { all_done (tree_of tree) ≡ true → round.around.items ≡ [] }
@@ -104,7 +108,7 @@ pub fn placed<'p>(round: Round<'p>, tree: Tree<'p>) -> Result<Place<'p>, AllocEr
     let left = round.left;
     let right = round.right;
     let ready = in_all(left, here, right)?;
-    Ok(Place { round, tree, ready })
+    Ok(Zipper { round, tree, ready })
 }
 
 /// Returns the total number of leaves that may step: left of a position, there, and right of it.

@@ -6,7 +6,7 @@ use Rattle.std.specs.Fmt.{char_count, decimal, format_spec, styled_decimal, padd
 use Rattle.std.specs.List.{repeat}
 use Rattle.std.specs.Option.{option_map}
 use Rattle.std.specs.String.{string_bytes}
-use Rattle.facts.proofs.Lists.{spaces}
+use Rattle.shared_lemmas.proofs.Lists.{spaces}
 use Rattle.syntax.specs.declared.canonical.Lines.{Lines}
 use Rattle.syntax_tree.specs.declared.tree.ElementType.{ElementType}
 use Rattle.syntax_tree.specs.declared.tree.ElementType.TheVariants.{Int as IntElement, Byte as ByteElement}

@@ -5,7 +5,7 @@ use Rattle.std.specs.List.{prefix_len}
 use Rattle.std.proofs.lemmas.List.{reverse-append, take_more}
 use Rattle.std.proofs.lemmas.List.Sums.{count_by_more_yes, count_by_more_no}
 use Rattle.std.proofs.lemmas.Bool.{eq-eqb, ne_eqb, not_from_true, not_from_false}
-use Rattle.syntax.specs.declared.place.Place.{Place}
+use Rattle.syntax.specs.declared.place.TextPlace.{TextPlace}
 use Rattle.syntax.specs.Lexical.{is_in_line}
 use Rattle.syntax.specs.Place.{line_behind, column_behind, place_at}
 
@@ -34,7 +34,7 @@ module _ (text : List ℕ) (i c : ℕ) (within : i < length text) (there : get_o
   pub column_at_other : (c ≡ 10 → ⊥) → column_behind (take (i + 1) text) ≡ column_behind (take i text) + 1
   column_at_other e = column_step true (not_from_false (c == 10) (ne_eqb _ _ e))
 
-abbrev place : ℕ → ℕ → Place
+abbrev place : ℕ → ℕ → TextPlace
 place line column = record { line = line; column = column }
 
 -- equal prefixes of a text give equal positions after them

@@ -1,6 +1,6 @@
 -- An error that is passed on, and what the first token implies about the tree that the tokens
 -- spell.
-pub use Rattle.facts.proofs.Lists.{same_rest}
+pub use Rattle.shared_lemmas.proofs.Lists.{same_rest}
 use Rattle.std.proofs.Common.{◌≡◌, ◌≢◌, ◌<◌, ◌⊎◌, inl, inr, ℕ, List, [], ◌∷◌, Result, refl, ap, ◌∙◌, arith}
 use Rattle.std.specs.Result.{IsErrAnd, IfErr}
 use Rattle.std.proofs.lemmas.Result.{err_from_is_err_and}

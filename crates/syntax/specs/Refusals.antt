@@ -10,7 +10,7 @@ use Rattle.syntax.specs.declared.lexer.Unread.{Unread}
 use Rattle.syntax.specs.declared.lexer.Unread.TheVariants.{NotACharacter as Unreadable}
 use Rattle.syntax.specs.declared.lexer.Unread.TheVariants.{NumberTooLarge as OverLimit}
 use Rattle.syntax.specs.declared.lexer.Unread.TheVariants.{OutOfMemory as NoMemory}
-use Rattle.syntax.specs.declared.place.Place.{Place}
+use Rattle.syntax.specs.declared.place.TextPlace.{TextPlace}
 use Rattle.syntax.specs.declared.token.Spanned.{Spanned}
 use Rattle.syntax.specs.Brackets.{AreShallow}
 use Rattle.syntax.specs.Lexical.{starts, HasTokens, AreTokensOf, Reads, BeginsNoPiece}
@@ -96,7 +96,7 @@ pub record SpellsNoProgram (text : List ℕ) (at : ℕ) : Type 0 where
   pub begins : BeginsToken text at
 
 -- a fact about a character of a text, whose position this is
-pub record IsPlace (text : List ℕ) (Fact : ℕ → Type 0) (place : Place) : Type 0 where
+pub record IsPlace (text : List ℕ) (Fact : ℕ → Type 0) (place : TextPlace) : Type 0 where
   pub at : ℕ
   pub fact : Fact at
   pub there : place ≡ place_at text at
@@ -129,7 +129,7 @@ error_code TooLong = codes "S5"
 error_code OutOfMemory = codes "S6"
 
 -- the position that an error names
-abbrev pub place_of : SyntaxError → Option Place
+abbrev pub place_of : SyntaxError → Option TextPlace
 place_of (NotACharacter place) = Some place
 place_of (UnexpectedToken place) = Some place
 place_of (NumberTooLarge place) = Some place
@@ -137,7 +137,7 @@ place_of (TooDeep place) = Some place
 place_of _ = None
 
 -- `at` and the position, if there is one
-abbrev pub at_text : Option Place → List ℕ
+abbrev pub at_text : Option TextPlace → List ℕ
 at_text None = []
 at_text (Some place) = codes " at " ++ place_text place
 

@@ -4,7 +4,7 @@ ghost use Rattle.std.specs.Prelude.{◌≡◌, Some};
 ghost use Rattle.syntax.specs.Refusals.{error_code, error_text, place_of};
 ghost use Rattle.syntax.specs.declared.error.SyntaxError.TheVariants.{OutOfMemory};
 
-use crate::place::Place;
+use crate::place::TextPlace;
 use std::alloc::AllocError;
 use std::error::Error;
 use std::fmt;
@@ -13,13 +13,13 @@ use std::fmt;
 #[derive(Clone, Copy, PartialEq, Eq, Debug)]
 pub enum SyntaxError {
     /// `S1 at 1:1` for `!`: a character outside a comment that starts no token.
-    NotACharacter { place: Place },
+    NotACharacter { place: TextPlace },
     /// `S2 at 1:13` for `main { skip }`: a token that isn't allowed here, or the end of the text.
-    UnexpectedToken { place: Place },
+    UnexpectedToken { place: TextPlace },
     /// `S3 at 1:1` for `9223372036854775808`: a number over 9,223,372,036,854,775,807.
-    NumberTooLarge { place: Place },
+    NumberTooLarge { place: TextPlace },
     /// `S4 at 1:101` for 101 times `(`: the bracket that makes more than 100 open.
-    TooDeep { place: Place },
+    TooDeep { place: TextPlace },
     /// `S5` for 1,048,577 spaces: a text longer than 1,048,576 bytes.
     TooLong,
     /// `S6`: memory ran out.
@@ -42,7 +42,7 @@ impl SyntaxError {
     }
 
     /// Returns the position of the error, unless the text is too long or memory ran out.
-    pub fn place(&self) -> Option<Place>
+    pub fn place(&self) -> Option<TextPlace>
         ensures { result ≡ place_of self.now }
     {
         match self {

@@ -19,4 +19,4 @@ pub mod token;
 pub use canonical::{format, listing};
 pub use error::SyntaxError;
 pub use parser::parse;
-pub use place::Place;
+pub use place::TextPlace;

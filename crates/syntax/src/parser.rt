@@ -13,7 +13,7 @@ ghost use Rattle.syntax_tree.specs.Tree.{Program as ProgramTree, program as prog
 use crate::cursor::Stuck;
 use crate::error::SyntaxError;
 use crate::lexer::Unread;
-use crate::place::Place;
+use crate::place::TextPlace;
 use crate::token::{Mark, Spanned, Token};
 use crate::{lexer, programs};
 use std::alloc::{AllocError, Global};
@@ -64,7 +64,7 @@ fn program(alloc: Global, text: &[char]) -> Result<Program, SyntaxError>
     };
     if let Some(at) = too_deep(&tokens) {
         return Err(SyntaxError::TooDeep {
-            place: Place::of(text, at),
+            place: TextPlace::of(text, at),
         });
     }
     match programs::program(alloc, &tokens) {
@@ -82,10 +82,10 @@ fn no_tokens(text: &[char], unread: Unread) -> SyntaxError
 {
     match unread {
         Unread::NotACharacter { left } => SyntaxError::NotACharacter {
-            place: Place::of(text, text.len().saturating_sub(left)),
+            place: TextPlace::of(text, text.len().saturating_sub(left)),
         },
         Unread::NumberTooLarge { left } => SyntaxError::NumberTooLarge {
-            place: Place::of(text, text.len().saturating_sub(left)),
+            place: TextPlace::of(text, text.len().saturating_sub(left)),
         },
         Unread::OutOfMemory => SyntaxError::OutOfMemory,
     }
@@ -104,7 +104,7 @@ fn no_program(text: &[char], tokens: &[Spanned], stuck: Stuck) -> SyntaxError
 {
     match stuck {
         Stuck::Unexpected { left } => SyntaxError::UnexpectedToken {
-            place: Place::of(text, beginning(text, tokens, left)),
+            place: TextPlace::of(text, beginning(text, tokens, left)),
         },
         Stuck::OutOfMemory => SyntaxError::OutOfMemory,
     }

@@ -7,13 +7,13 @@ use std::fmt;
 
 /// A line and a column, both from 1. Only a line feed ends a line; columns count characters.
 #[derive(Clone, Copy, PartialEq, Eq, Debug)]
-pub struct Place {
+pub struct TextPlace {
     pub line: u32,
     pub column: u32,
 }
 
 /// `4:13`
-impl fmt::Display for Place {
+impl fmt::Display for TextPlace {
     ghost use Rattle.std.specs.Prelude.{Some};
     ghost use Rattle.syntax.specs.Place.{place_text};
 
@@ -26,10 +26,10 @@ impl fmt::Display for Place {
     }
 }
 
-impl Place {
+impl TextPlace {
     /// Returns the position of the character with this number, counted from 0. The number of
     /// characters gives the position right after the text.
-    pub fn of(text: &[char], at: usize) -> Place
+    pub fn of(text: &[char], at: usize) -> TextPlace
         requires { length text.now < 2 ^ 31 }
         ensures { result ≡ place_at text.now at }
     {
@@ -46,6 +46,6 @@ impl Place {
                 column += 1;
             }
         }
-        Place { line, column }
+        TextPlace { line, column }
     }
 }

@@ -7,19 +7,19 @@ use lib.ListN.{get_elem?}
 use Rattle.atomic_table.specs.Table.{Me, Allows, Splits, Joins, keeps, Final, Seen}
 use Rattle.atomic_table.proofs.Lists.{at_set}
 use Rattle.std.specs.Prelude.{cond, ◌==◌}
-use Rattle.tickets.specs.declared.rule.Share.{Share}
+use Rattle.tickets.specs.declared.rule.SeatShare.{SeatShare}
 use Rattle.tickets.specs.Shares.{share, times, one_below, DrawsOnce}
 use Rattle.tickets.proofs.ShareLemmas.{sum_by-set_share, one_below-suc, first_word, first_word-set, length-set_word, draws_le}
 use Rattle.tickets.proofs.ShareLemmas.{within_draws-set, within_draws-push, share_of_all}
 
 -- a draw: the word is one more, and the share lists its old value
-pub draw_keeps : (seats slots id : ℕ) (me : Me (Unit {0}) Share) → me.0.seats ≡ 1 → length me.0.drawn < 4294967296
+pub draw_keeps : (seats slots id : ℕ) (me : Me (Unit {0}) SeatShare) → me.0.seats ≡ 1 → length me.0.drawn < 4294967296
     → Allows (DrawsOnce seats) slots id me 0 (λ n. (n + 1) % 2 ^ 64)
     (λ n w. (w ≡ (share me.0.seats (me.0.drawn ++ n ∷ []), me.1)) × (length me.0.drawn ≤ n))
 draw_keeps seats slots id me one few s was homes at small =
     let n : ℕ = slice_index s.words 0 in
-    let v : Share = me.0 in
-    let w : Share = share v.seats (v.drawn ++ n ∷ []) in
+    let v : SeatShare = me.0 in
+    let w : SeatShare = share v.seats (v.drawn ++ n ∷ []) in
     let fits : n + 1 < 2 ^ 64 = omega (arith, was.most, was.all, was.count, draws_le s.views was.within) in
     let same : (n + 1) % 2 ^ 64 ≡ n + 1 = search rules in
     let word : slice_index (set s.words 0 ((n + 1) % 2 ^ 64)) 0 ≡ n + 1
@@ -48,17 +48,17 @@ draw_keeps seats slots id me one few s was homes at small =
     (w, keeps, tt, holds, (refl, least))
 
 -- a seat is taken off a share that has drawn nothing
-pub split_keeps : (seats id : ℕ) (v : Share) → 0 < v.seats → v.drawn ≡ []
+pub split_keeps : (seats id : ℕ) (v : SeatShare) → 0 < v.seats → v.drawn ≡ []
     → Splits (DrawsOnce seats) id v (share (v.seats - 1) v.drawn) (share 1 [])
 split_keeps seats id v left_over none s was at =
-    let left : Share = share (v.seats - 1) v.drawn in
-    let right : Share = share 1 [] in
-    let cut : List Share = set s.views id left in
+    let left : SeatShare = share (v.seats - 1) v.drawn in
+    let right : SeatShare = share 1 [] in
+    let cut : List SeatShare = set s.views id left in
     let empty : length v.drawn ≡ 0 = ap length none in
     let seats_left = sum_by-set_share (λ u. u.seats) s.views id v left at in
-    let seats_right = sum_by_push (λ (u : Share). u.seats) cut right in
+    let seats_right = sum_by_push (λ (u : SeatShare). u.seats) cut right in
     let drawn_left = sum_by-set_share (λ u. length u.drawn) s.views id v left at in
-    let drawn_right = sum_by_push (λ (u : Share). length u.drawn) cut right in
+    let drawn_right = sum_by_push (λ (u : SeatShare). length u.drawn) cut right in
     record {
       word = was.word;
       most = was.most;
@@ -68,18 +68,18 @@ split_keeps seats id v left_over none s was at =
         arith,
         was.once x,
         sum_by-set_share (λ u. times x u.drawn) s.views id v left at,
-        sum_by_push (λ (u : Share). times x u.drawn) cut right,
+        sum_by_push (λ (u : SeatShare). times x u.drawn) cut right,
       );
       within = within_draws-push cut right (omega arith) (within_draws-set s.views id left (omega (arith, empty)) was.within);
     }
 
 -- a share is joined to another, and becomes empty
-pub join_keeps : (seats id : ℕ) (v : Share) (other : ℕ) (w : Share)
+pub join_keeps : (seats id : ℕ) (v : SeatShare) (other : ℕ) (w : SeatShare)
     → Joins (DrawsOnce seats) id v other w (share (v.seats + w.seats) (v.drawn ++ w.drawn)) (share 0 [])
 join_keeps seats id v other w s was at two there =
-    let both : Share = share (v.seats + w.seats) (v.drawn ++ w.drawn) in
-    let spent : Share = share 0 [] in
-    let cut : List Share = set s.views id both in
+    let both : SeatShare = share (v.seats + w.seats) (v.drawn ++ w.drawn) in
+    let spent : SeatShare = share 0 [] in
+    let cut : List SeatShare = set s.views id both in
     let long : length both.drawn ≡ length v.drawn + length w.drawn = length-append v.drawn w.drawn in
     let before : get_elem? s.views other ≡ some w
     = ⊎_elim (λ (t : (other ≡ id) × (both ≡ w)). absurd (two t.0))
@@ -106,7 +106,7 @@ join_keeps seats id v other w s was at two there =
     }
 
 -- at the end a share that represents every seat has drawn the numbers below the word
-pub closing : (seats id : ℕ) (v : Share) (ws : List ℕ) (xs : List (Unit {0})) → v.seats ≡ seats
+pub closing : (seats id : ℕ) (v : SeatShare) (ws : List ℕ) (xs : List (Unit {0})) → v.seats ≡ seats
     → Final (Seen (DrawsOnce seats) id v) ws xs → (n : ℕ) → get_elem? ws 0 ≡ some n → (x : ℕ)
     → times x v.drawn ≡ one_below x n
 closing seats id v ws xs all end n at x =

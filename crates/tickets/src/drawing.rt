@@ -3,7 +3,7 @@
 ghost use Rattle.std.specs.Prelude.{◌≡◌, ◌<◌, ◌≤◌, ◌++◌, [], ◌∷◌, length, All, IfOk, vec_len};
 ghost use Rattle.tickets.specs.Seats.{AreOnly, drawn_of, IsSeatOf, seats_of};
 
-use crate::rule::{Draw, Parting, Share};
+use crate::rule::{Draw, Parting, SeatShare};
 use crate::word::{Seat, Tickets};
 use atomic_table::{Seat as Place, Table};
 use std::alloc::{AllocError, Global};
@@ -90,7 +90,7 @@ impl Tickets {
     }
 }
 
-fn seat_at(place: Place<(), Share>) -> Seat
+fn seat_at(place: Place<(), SeatShare>) -> Seat
     requires slots { place.me.1 ≡ [] }
     requires one { place.me.0.seats ≡ 1 }
     ensures { result.place ≡ place }

@@ -4,7 +4,7 @@ use atomic_table::{Join, Play, Split, TableRule};
 use std::collections::LinkedList;
 
 /// The seats that a share represents, and the numbers drawn on it. Only proofs have values of it.
-pub struct Share {
+pub struct SeatShare {
     /// The number of seats that the share represents: one, except while seats are joined.
     pub seats: u64,
     pub drawn: LinkedList<u64>,
@@ -13,7 +13,7 @@ pub struct Share {
 /// The invariant: each number below the word was drawn once.
 pub struct DrawnOnce;
 
-impl TableRule<(), Share, u64> for DrawnOnce {
+impl TableRule<(), SeatShare, u64> for DrawnOnce {
     ghost use Rattle.std.specs.Prelude.{[]};
     ghost use Rattle.tickets.specs.Shares.{share, DrawsOnce};
 
@@ -25,7 +25,7 @@ impl TableRule<(), Share, u64> for DrawnOnce {
 /// A draw: it appends the word's old value to the share, which has drawn at most that many numbers.
 pub struct Draw;
 
-impl Play<(), Share> for Draw {
+impl Play<(), SeatShare> for Draw {
     ghost use Rattle.std.specs.Prelude.{◌≡◌, ◌≤◌, ◌++◌, [], ◌∷◌, length};
     ghost use Rattle.tickets.specs.Shares.{share};
 
@@ -36,7 +36,7 @@ impl Play<(), Share> for Draw {
 /// A split of one seat off a share, or a join of two shares.
 pub struct Parting;
 
-impl Split<Share> for Parting {
+impl Split<SeatShare> for Parting {
     ghost use Rattle.std.specs.Prelude.{◌-◌, []};
     ghost use Rattle.tickets.specs.Shares.{share};
 
@@ -45,7 +45,7 @@ impl Split<Share> for Parting {
     ghost right = { λ v. share 1 [] };
 }
 
-impl Join<Share> for Parting {
+impl Join<SeatShare> for Parting {
     ghost use Rattle.std.specs.Prelude.{◌+◌, ◌++◌, []};
     ghost use Rattle.tickets.specs.Shares.{share};
 

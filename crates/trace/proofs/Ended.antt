@@ -4,14 +4,14 @@ use Rattle.std.proofs.lemmas.Bool.{OnTrue_from}
 use Rattle.std.specs.Bool.{OnTrue}
 use Rattle.std.specs.Borrow.{Bor}
 use Rattle.std.specs.Prelude.{IfSome, is_some, option_map}
-use Rattle.facts.proofs.Truths.{false_true}
+use Rattle.shared_lemmas.proofs.Truths.{false_true}
 use Rattle.types.specs.Translation.{outcome as outcome_in}
 use Rattle.types.specs.declared.outcome.Outcome.{Outcome}
-use Rattle.gather.specs.Jobs.{budget_of, outcome_of, program_of}
-use Rattle.interleave.specs.Shown.{Shows}
-use Rattle.interleave.specs.World.{World}
-use Rattle.interleave.specs.Worlds.{outcome_of as told_in}
-use Rattle.interleave.specs.declared.world.World.{World as rWorld}
+use Rattle.task_run.specs.Jobs.{budget_of, outcome_of, program_of}
+use Rattle.event_worlds.specs.Shown.{Shows}
+use Rattle.event_worlds.specs.World.{World}
+use Rattle.event_worlds.specs.Worlds.{outcome_of as told_in}
+use Rattle.event_worlds.specs.declared.world.World.{World as rWorld}
 use Rattle.trace.specs.Logs.{IsClean, LeadsToOutcome, Recorded}
 
 -- the outcome of a world is that of its job, once its root's scope has passed

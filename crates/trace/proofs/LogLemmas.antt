@@ -1,19 +1,19 @@
 -- Logs stay clean.
 use Rattle.std.proofs.Common.{◌≡◌, ℕ, List, [], ◌∷◌, ◌++◌, sym, subst}
-use Rattle.interleave.specs.Jobs.{IsWeightedJob}
-use Rattle.interleave.specs.Replay.{IllegalAt as IsIllegalAt}
-use Rattle.interleave.specs.Replaying.{IsRefused, IsReplayed, comes, event}
-use Rattle.interleave.specs.Shown.{Becomes, Refuses, WorldStays}
-use Rattle.interleave.specs.declared.error.EventError.{EventError}
-use Rattle.interleave.specs.declared.error.EventError.TheVariants.{Illegal as IsIllegal}
-use Rattle.interleave.specs.declared.error.EventError.TheVariants.{NoMemory as IsNoMemory}
-use Rattle.interleave.specs.declared.error.ReplayError.{ReplayError}
-use Rattle.interleave.specs.declared.error.ReplayError.TheVariants.{IllegalAt}
-use Rattle.interleave.specs.declared.job.WeightedJob.{WeightedJob}
+use Rattle.event_worlds.specs.Jobs.{IsWeightedJob}
+use Rattle.event_worlds.specs.Replay.{IllegalAt as IsIllegalAt}
+use Rattle.event_worlds.specs.Replaying.{IsRefused, IsReplayed, comes, event}
+use Rattle.event_worlds.specs.Shown.{Becomes, Refuses, WorldStays}
+use Rattle.event_worlds.specs.declared.error.EventError.{EventError}
+use Rattle.event_worlds.specs.declared.error.EventError.TheVariants.{Illegal as IsIllegal}
+use Rattle.event_worlds.specs.declared.error.EventError.TheVariants.{NoMemory as IsNoMemory}
+use Rattle.event_worlds.specs.declared.error.ReplayError.{ReplayError}
+use Rattle.event_worlds.specs.declared.error.ReplayError.TheVariants.{IllegalAt}
+use Rattle.event_worlds.specs.declared.job.WeightedJob.{WeightedJob}
 use Rattle.events.specs.declared.event.Event.{Event}
-use Rattle.interleave.specs.declared.world.World.{World}
-use Rattle.interleave.proofs.Staying.{stays_shown}
-use Rattle.interleave.proofs.Walking.{replayed_on}
+use Rattle.event_worlds.specs.declared.world.World.{World}
+use Rattle.event_worlds.proofs.Staying.{stays_shown}
+use Rattle.event_worlds.proofs.Walking.{replayed_on}
 use Rattle.trace.specs.Logs.{IsClean, Recorded}
 
 -- the log of a world and events

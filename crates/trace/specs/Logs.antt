@@ -6,18 +6,18 @@ use Rattle.types.specs.Outcome.{Outcome}
 use Rattle.types.specs.declared.budget.Budget.{Budget}
 use Rattle.types.specs.declared.input.Input.{Input}
 use Rattle.race_checker.specs.declared.accepted.Accepted.{Accepted}
-use Rattle.gather.specs.Jobs.{budget_of, program_of}
-use Rattle.interleave.specs.Jobs.{IsWeightedJob}
-use Rattle.interleave.specs.Replay.{IllegalAt, Legal}
-use Rattle.interleave.specs.Replaying.{IsReplayed, comes, event}
-use Rattle.interleave.specs.Shown.{Refuses}
-use Rattle.interleave.specs.World.{World as TheWorld}
-use Rattle.interleave.specs.Worlds.{outcome_of}
-use Rattle.interleave.specs.declared.error.EventError.{EventError}
-use Rattle.interleave.specs.declared.error.EventError.TheVariants.{Illegal, NoMemory}
+use Rattle.task_run.specs.Jobs.{budget_of, program_of}
+use Rattle.event_worlds.specs.Jobs.{IsWeightedJob}
+use Rattle.event_worlds.specs.Replay.{IllegalAt, Legal}
+use Rattle.event_worlds.specs.Replaying.{IsReplayed, comes, event}
+use Rattle.event_worlds.specs.Shown.{Refuses}
+use Rattle.event_worlds.specs.World.{World as TheWorld}
+use Rattle.event_worlds.specs.Worlds.{outcome_of}
+use Rattle.event_worlds.specs.declared.error.EventError.{EventError}
+use Rattle.event_worlds.specs.declared.error.EventError.TheVariants.{Illegal, NoMemory}
 use Rattle.events.specs.declared.event.Event.{Event}
-use Rattle.interleave.specs.declared.job.WeightedJob.{WeightedJob}
-use Rattle.interleave.specs.declared.world.World.{World}
+use Rattle.event_worlds.specs.declared.job.WeightedJob.{WeightedJob}
+use Rattle.event_worlds.specs.declared.world.World.{World}
 
 -- the job of a run with these arguments
 abbrev pub job_of : Global → Bor Accepted → Bor Input → Budget → (w0 : ℕ) → WeightedJob

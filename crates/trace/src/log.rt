@@ -5,18 +5,18 @@ ghost use Rattle.std.specs.Prelude.{◌≡◌, ◌∷◌, ◌++◌, [], IfErr, I
 ghost use Rattle.types.specs.Contents.{FitsArrays};
 ghost use Rattle.types.specs.Translation.{input as lists_in};
 ghost use Rattle.types.specs.Typed.{code_of};
-ghost use Rattle.gather.specs.Jobs.{outcome_of};
-ghost use Rattle.interleave.specs.Replaying.{event as event_of};
-ghost use Rattle.interleave.specs.Shown.{Becomes, IsLegal};
-ghost use Rattle.interleave.specs.declared.error.EventError.TheVariants.{Illegal, NoMemory};
-ghost use Rattle.interleave.specs.Walks.{IsIllegal};
+ghost use Rattle.task_run.specs.Jobs.{outcome_of};
+ghost use Rattle.event_worlds.specs.Replaying.{event as event_of};
+ghost use Rattle.event_worlds.specs.Shown.{Becomes, IsLegal};
+ghost use Rattle.event_worlds.specs.declared.error.EventError.TheVariants.{Illegal, NoMemory};
+ghost use Rattle.event_worlds.specs.Walks.{IsIllegal};
 ghost use Rattle.trace.specs.Logs.{IsClean, IsRefusedBy, LeadsToOutcome, Leaves, job_of};
 
+use event_worlds::error::{EventError, ReplayError};
+use event_worlds::job::WeightedJob;
+use event_worlds::replay::replay;
+use event_worlds::world::World;
 use events::event::Event;
-use interleave::error::{EventError, ReplayError};
-use interleave::job::WeightedJob;
-use interleave::replay::replay;
-use interleave::world::World;
 use race_checker::accepted::Accepted;
 use std::alloc::Global;
 use std::marker::Model;
@@ -35,7 +35,7 @@ pub struct Log<'p> {
 impl<'p> Model for Log<'p> {
     ghost use Rattle.std.specs.Coded.{codes};
     ghost use Rattle.trace.specs.Logs.{IsClean, Recorded};
-    ghost use Rattle.interleave.specs.contracts.world.World as shown;
+    ghost use Rattle.event_worlds.specs.contracts.world.World as shown;
     ghost use denote.Signature.{static_lft};
 
     ghost Value = { Recorded };

@@ -9,12 +9,12 @@ use Rattle.std.proofs.lemmas.Option.{same_Some}
 use Rattle.events.specs.declared.event.Event.{Event}
 use Rattle.trace_layout.specs.Hands.{AreSpellsSoFar, IsEndingSoFar, IsOfWorker, IsSpellSoFar}
 use Rattle.trace_layout.specs.Spells.{Hold, taken_at}
-use Rattle.trace_layout.specs.declared.spells.Ending.{Ending}
-use Rattle.trace_layout.specs.declared.spells.Ending.TheVariants.{Parked, Ended, Left, Going}
+use Rattle.trace_layout.specs.declared.spells.SpellEnd.{SpellEnd}
+use Rattle.trace_layout.specs.declared.spells.SpellEnd.TheVariants.{Parked, Ended, Left, Going}
 use Rattle.trace_layout.specs.declared.spells.Spell.{Spell}
 
 -- ---- later
-ending_later : (es : List Event) (n m last : ℕ) (s : Spell) (e : Ending) → n ≤ m → IsEndingSoFar es n last s e → IsEndingSoFar es m last s e
+ending_later : (es : List Event) (n m last : ℕ) (s : Spell) (e : SpellEnd) → n ≤ m → IsEndingSoFar es n last s e → IsEndingSoFar es m last s e
 ending_later es n m last s Parked le h = (h.0, omega (arith, h.1))
 ending_later es n m last s Ended le h = (h.0, omega (arith, h.1))
 ending_later es n m last s Left le h = (h.0, omega (arith, h.1))
@@ -40,14 +40,14 @@ all_later es n m last workers ss le h = record {
 }
 
 -- ---- spells that have ended
-ended_or_going : (es : List Event) (n last : ℕ) (s : Spell) (e : Ending) → IsEndingSoFar es n last s e → (s.last < n) ⊎ (e ≡ Going)
+ended_or_going : (es : List Event) (n last : ℕ) (s : Spell) (e : SpellEnd) → IsEndingSoFar es n last s e → (s.last < n) ⊎ (e ≡ Going)
 ended_or_going es n last s Parked h = inl h.1
 ended_or_going es n last s Ended h = inl h.1
 ended_or_going es n last s Left h = inl h.1
 ended_or_going es n last s Going h = inr refl
 
-pub going_to_last : (es : List Event) (n last : ℕ) (s : Spell) (e : Ending) → e ≡ Going → IsEndingSoFar es n last s e → s.last ≡ last
-going_to_last es n last s e is h = subst (λ (x : Ending). IsEndingSoFar es n last s x) is h
+pub going_to_last : (es : List Event) (n last : ℕ) (s : Spell) (e : SpellEnd) → e ≡ Going → IsEndingSoFar es n last s e → s.last ≡ last
+going_to_last es n last s e is h = subst (λ (x : SpellEnd). IsEndingSoFar es n last s x) is h
 
 pub past_or_going : (es : List Event) (n last : ℕ) (s : Spell) → IsSpellSoFar es n last s → (s.last < n) ⊎ (s.ending ≡ Going)
 past_or_going es n last s h = ended_or_going es n last s s.ending h.ends
@@ -160,7 +160,7 @@ began es n last workers ss s le hand first is past h = record {
 }
 
 -- ---- a hand that is emptied
-pub is_going_or_not : (e : Ending) → (e ≡ Going) ⊎ (e ≡ Going → ⊥)
+pub is_going_or_not : (e : SpellEnd) → (e ≡ Going) ⊎ (e ≡ Going → ⊥)
 is_going_or_not Parked = inr (λ h. cc)
 is_going_or_not Ended = inr (λ h. cc)
 is_going_or_not Left = inr (λ h. cc)

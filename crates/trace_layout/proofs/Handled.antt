@@ -22,8 +22,8 @@ use Rattle.trace_layout.specs.declared.spells.Spell.{Spell}
 use Rattle.trace_layout.proofs.Changes.{IsLeft, Keeps, all_later, began, changed, kept_at, left_spell, past_without}
 use Rattle.trace_layout.proofs.WhichEvent.{is_leaving, leaves_none, leaving_at, never_going, takes_none, taking_at}
 use Rattle.trace_layout.proofs.Turns.{latest_kept, latest_more, turns_began, turns_ended, turns_later, turns_left, turns_own, turns_past}
-use Rattle.trace_layout.specs.declared.spells.Ending.{Ending}
-use Rattle.trace_layout.specs.declared.spells.Ending.TheVariants.{Parked, Ended, Left, Going}
+use Rattle.trace_layout.specs.declared.spells.SpellEnd.{SpellEnd}
+use Rattle.trace_layout.specs.declared.spells.SpellEnd.TheVariants.{Parked, Ended, Left, Going}
 
 -- ---- at the start
 none_at : (n w : ℕ) → get_or (replicate {A = Option ℕ} n None) w None ≡ None
@@ -205,7 +205,7 @@ hands_began es n e h g s key at takes hand first path is going items tasks worke
     }
 
 -- ---- a task that is in no hand would leave it
-pub later_unless : (es : List Event) (n : ℕ) (path : Path) (e : Ending) (h : Hands) → IsLeaving es n path.turns.items e
+pub later_unless : (es : List Event) (n : ℕ) (path : Path) (e : SpellEnd) (h : Hands) → IsLeaving es n path.turns.items e
     → ((k : ℕ) (d : Spell) → get is_path h.tasks path ≡ Some k → k < length h.spells.items → (get_or h.spells.items k d).ending ≡ Going → ⊥)
     → AreHands es n h → AreHands es (n + 1) h
 later_unless es n path e h leaving none was =
@@ -214,13 +214,13 @@ later_unless es n path e h leaving none was =
     (turns_past es n h.last (get is_path h.tasks) h.spells.items path e leaving none was.spells.each was.turns) was
 
 -- ---- a task leaves its worker's hand
-ends_so : (es : List Event) (n last : ℕ) (t : Spell) (e : Ending) → IsLeaving es n t.path.turns.items e → t.last ≡ n → IsEndingSoFar es (n + 1) last t e
+ends_so : (es : List Event) (n last : ℕ) (t : Spell) (e : SpellEnd) → IsLeaving es n t.path.turns.items e → t.last ≡ n → IsEndingSoFar es (n + 1) last t e
 ends_so es n last t Parked h is = (ap (parked_at es) is ∙ h, omega arith)
 ends_so es n last t Ended h is = (ap (ended_at es) is ∙ h, omega arith)
 ends_so es n last t Left h is = absurd h
 ends_so es n last t Going h is = absurd h
 
-pub hands_ended : (es : List Event) (n : ℕ) (path : Path) (e : Ending) (h g : Hands) (k own : ℕ) (s : Spell)
+pub hands_ended : (es : List Event) (n : ℕ) (path : Path) (e : SpellEnd) (h g : Hands) (k own : ℕ) (s : Spell)
     → IsLeaving es n path.turns.items e → get is_path h.tasks path ≡ Some k → k < length h.spells.items → ((d : Spell) → get_or h.spells.items k d ≡ s)
     → s.ending ≡ Going → s.path.turns.items ≡ path.turns.items
     → g.spells.items ≡ set h.spells.items k (record s { own = own; last = n; ending = e }) → g.tasks ≡ h.tasks → g.workers ≡ h.workers → g.last ≡ h.last
@@ -230,7 +230,7 @@ hands_ended es n path e h g k own s leaving found there at going same items task
     let within : n < length es = slice_get_within es n number.event number.at in
     let t : Spell = record s { own = own; last = n; ending = e } in
     let is : IsSpellSoFar es n h.last s = subst (IsSpellSoFar es n h.last) (at s) (was.spells.each k s there) in
-    let to_last : s.last ≡ h.last = subst (λ (x : Ending). IsEndingSoFar es n h.last s x) going is.ends in
+    let to_last : s.last ≡ h.last = subst (λ (x : SpellEnd). IsEndingSoFar es n h.last s x) going is.ends in
     hands_changed es n (n + 1) h g k t (omega arith) there
     (λ d. subst (λ (x : Spell). Keeps x t) (sym (at d)) (record {
       worker = refl;
@@ -302,7 +302,7 @@ hand_left es n y h g k s t taking hand at left items tasks workers last was =
     }
 
 -- ---- at the end
-is_whole : (es : List Event) (s : Spell) (last : ℕ) (e : Ending) → last + 1 ≡ length es → IsEndingSoFar es (length es) last s e → IsEnding es s e
+is_whole : (es : List Event) (s : Spell) (last : ℕ) (e : SpellEnd) → last + 1 ≡ length es → IsEndingSoFar es (length es) last s e → IsEnding es s e
 is_whole es s last Parked is h = h.0
 is_whole es s last Ended is h = h.0
 is_whole es s last Left is h = h.0

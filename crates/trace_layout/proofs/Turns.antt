@@ -12,8 +12,8 @@ use Rattle.types.specs.Translation.{is_path}
 use Rattle.types.specs.declared.path.Path.{Path}
 use Rattle.trace_layout.specs.Hands.{AreInTurn, IsInTurn, IsSpellSoFar}
 use Rattle.trace_layout.specs.Spells.{IsLatest, IsLeaving, IsOver, taken_at}
-use Rattle.trace_layout.specs.declared.spells.Ending.{Ending}
-use Rattle.trace_layout.specs.declared.spells.Ending.TheVariants.{Left, Going}
+use Rattle.trace_layout.specs.declared.spells.SpellEnd.{SpellEnd}
+use Rattle.trace_layout.specs.declared.spells.SpellEnd.TheVariants.{Left, Going}
 use Rattle.trace_layout.specs.declared.spells.Spell.{Spell}
 use Rattle.trace_layout.proofs.Changes.{IsLeft, Keeps, going_to_last, is_going_or_not, past_or_going}
 use Rattle.trace_layout.proofs.WhichEvent.{leaves_one, never_going, taking_leaves_none}
@@ -37,7 +37,7 @@ latest_kept es n s t keeps latest m worker behind before takes =
 
 -- ---- one more event
 turn_more : (es : List Event) (n : ℕ) (found new : Path → Option ℕ) (k : ℕ) (s : Spell)
-    → ((e : Ending) → s.first ≤ n → IsLeaving es n s.path.turns.items e → IsLatest es s n → IsOver s n e)
+    → ((e : SpellEnd) → s.first ≤ n → IsLeaving es n s.path.turns.items e → IsLatest es s n → IsOver s n e)
     → ((path : Path) → path.turns.items ≡ s.path.turns.items → IsLatest es s (n + 1) → found path ≡ Some k → new path ≡ Some k)
     → IsInTurn es n found k s → IsInTurn es (n + 1) new k s
 turn_more es n found new k s this still was = record {
@@ -55,13 +55,13 @@ turn_more es n found new k s this still was = record {
 
 -- one at which no task leaves its worker's hand, nor comes into one
 pub turns_later : (es : List Event) (n : ℕ) (found : Path → Option ℕ) (ss : List Spell)
-    → ((path : List ℕ) (e : Ending) → IsLeaving es n path e → ⊥) → AreInTurn es n found ss → AreInTurn es (n + 1) found ss
+    → ((path : List ℕ) (e : SpellEnd) → IsLeaving es n path e → ⊥) → AreInTurn es n found ss → AreInTurn es (n + 1) found ss
 turns_later es n found ss never was k d there =
     turn_more es n found found k (get_or ss k d) (λ e behind leaves latest. absurd (never (get_or ss k d).path.turns.items e leaves))
     (λ path same latest is. is) (was k d there)
 
 -- one at which a task would leave its worker's hand if it were in one
-pub turns_past : (es : List Event) (n last : ℕ) (found : Path → Option ℕ) (ss : List Spell) (path : Path) (e : Ending) → IsLeaving es n path.turns.items e
+pub turns_past : (es : List Event) (n last : ℕ) (found : Path → Option ℕ) (ss : List Spell) (path : Path) (e : SpellEnd) → IsLeaving es n path.turns.items e
     → ((k : ℕ) (d : Spell) → found path ≡ Some k → k < length ss → (get_or ss k d).ending ≡ Going → ⊥)
     → ((k : ℕ) (d : Spell) → k < length ss → IsSpellSoFar es n last (get_or ss k d))
     → AreInTurn es n found ss → AreInTurn es (n + 1) found ss
@@ -77,7 +77,7 @@ turns_past es n last found ss path e leaving none each was k d there =
 
 -- ---- an open spell has passed none
 passed_none : (es : List Event) (n last : ℕ) (found : Path → Option ℕ) (k : ℕ) (s : Spell) → n ≤ last + 1 → s.ending ≡ Going → IsSpellSoFar es n last s
-    → IsInTurn es n found k s → (m : ℕ) (e : Ending) → m < n → s.first ≤ m → IsLeaving es m s.path.turns.items e → IsLatest es s m → ⊥
+    → IsInTurn es n found k s → (m : ℕ) (e : SpellEnd) → m < n → s.first ≤ m → IsLeaving es m s.path.turns.items e → IsLatest es s m → ⊥
 passed_none es n last found k s le going is was m e before behind leaves latest =
     let to_last : s.last ≡ last = going_to_last es n last s s.ending going is.ends in
     ⊎_elim
@@ -99,7 +99,7 @@ turns_set es n m found ss k t there is others was j d within =
     (cases_eq j k)
 
 -- its task leaves its worker's hand
-turn_ended : (es : List Event) (n last : ℕ) (found : Path → Option ℕ) (k own : ℕ) (e : Ending) (s : Spell) → n ≤ last → s.ending ≡ Going
+turn_ended : (es : List Event) (n last : ℕ) (found : Path → Option ℕ) (k own : ℕ) (e : SpellEnd) (s : Spell) → n ≤ last → s.ending ≡ Going
     → IsLeaving es n s.path.turns.items e → IsLatest es s n → IsSpellSoFar es n last s
     → IsInTurn es n found k s → IsInTurn es (n + 1) found k (record s { own = own; last = n; ending = e })
 turn_ended es n last found k own e s le going leaving latest is was =
@@ -118,7 +118,7 @@ turn_ended es n last found k own e s le going leaving latest is was =
       named = λ path same so. was.named path same (latest_less es n s so);
     }
 
-pub turns_ended : (es : List Event) (n last : ℕ) (found : Path → Option ℕ) (ss : List Spell) (k own : ℕ) (path : Path) (e : Ending) (s : Spell)
+pub turns_ended : (es : List Event) (n last : ℕ) (found : Path → Option ℕ) (ss : List Spell) (k own : ℕ) (path : Path) (e : SpellEnd) (s : Spell)
     → n ≤ last → k < length ss → found path ≡ Some k → s.ending ≡ Going → s.path.turns.items ≡ path.turns.items
     → IsLeaving es n path.turns.items e → IsLatest es s n → IsSpellSoFar es n last s → IsInTurn es n found k s
     → AreInTurn es n found ss → AreInTurn es (n + 1) found (set ss k (record s { own = own; last = n; ending = e }))

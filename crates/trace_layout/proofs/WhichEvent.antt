@@ -2,12 +2,12 @@
 use Rattle.std.proofs.Common.{◌≡◌, ℕ, List, Some, Bool, true, false, ap, sym, ◌∙◌, refl}
 use Rattle.std.specs.Prelude.{slice_get, option_and_then}
 use Rattle.std.proofs.lemmas.Option.{none-some, option_and_then_some, same_Some}
-use Rattle.facts.proofs.Truths.{not_both}
+use Rattle.shared_lemmas.proofs.Truths.{not_both}
 use Rattle.events.specs.declared.event.Event.{Event}
 use Rattle.events.specs.declared.event.Event.TheVariants.{Take, Park, End, Resume}
 use Rattle.trace_layout.specs.Spells.{Hold, IsLeaving, ended, is_taking, parked, taken, taken_at}
-use Rattle.trace_layout.specs.declared.spells.Ending.{Ending}
-use Rattle.trace_layout.specs.declared.spells.Ending.TheVariants.{Parked, Ended, Left, Going}
+use Rattle.trace_layout.specs.declared.spells.SpellEnd.{SpellEnd}
+use Rattle.trace_layout.specs.declared.spells.SpellEnd.TheVariants.{Parked, Ended, Left, Going}
 
 -- the event with a number, and whether it is a take or resume
 pub record IsAtNumber (es : List Event) (n : ℕ) (b : Bool) : Type 0 where
@@ -44,7 +44,7 @@ pub taking_at : (es : List Event) (n : ℕ) (y : Hold) → taken_at es n ≡ Som
 taking_at es n y h = option_and_then_some {P = IsAtNumber es n true} taken (slice_get es n) y h
     (λ e at is. record { event = e; at = at; is = taken_is e y is })
 
-pub leaving_at : (es : List Event) (n : ℕ) (path : List ℕ) (e : Ending) → IsLeaving es n path e → IsAtNumber es n false
+pub leaving_at : (es : List Event) (n : ℕ) (path : List ℕ) (e : SpellEnd) → IsLeaving es n path e → IsAtNumber es n false
 leaving_at es n path Parked h = option_and_then_some {P = IsAtNumber es n false} parked (slice_get es n) path h
     (λ e at is. record { event = e; at = at; is = leaving_takes_none e (parked_leaves e path is) })
 leaving_at es n path Ended h = option_and_then_some {P = IsAtNumber es n false} ended (slice_get es n) path h
@@ -52,7 +52,7 @@ leaving_at es n path Ended h = option_and_then_some {P = IsAtNumber es n false} 
 leaving_at es n path Left h = absurd h
 leaving_at es n path Going h = absurd h
 
-pub never_going : (es : List Event) (n : ℕ) (path : List ℕ) (e : Ending) → IsLeaving es n path e → e ≡ Going → ⊥
+pub never_going : (es : List Event) (n : ℕ) (path : List ℕ) (e : SpellEnd) → IsLeaving es n path e → e ≡ Going → ⊥
 never_going es n path Parked h is = cc
 never_going es n path Ended h is = cc
 never_going es n path Left h is = h
@@ -72,14 +72,14 @@ taken_stays (Resume worker path) y h = refl
 taken_stays _ y h = absurd (none-some y h)
 
 -- at an event that is no park or end no task leaves its worker's hand
-pub leaves_none : (es : List Event) (n : ℕ) (x : Event) (path : List ℕ) (e : Ending) → slice_get es n ≡ Some x → is_leaving x ≡ false
+pub leaves_none : (es : List Event) (n : ℕ) (x : Event) (path : List ℕ) (e : SpellEnd) → slice_get es n ≡ Some x → is_leaving x ≡ false
     → IsLeaving es n path e → ⊥
 leaves_none es n x path Parked at never h = not_both (parked_leaves x path (ap (option_and_then parked) (sym at) ∙ h)) never
 leaves_none es n x path Ended at never h = not_both (ended_leaves x path (ap (option_and_then ended) (sym at) ∙ h)) never
 leaves_none es n x path Left at never h = h
 leaves_none es n x path Going at never h = h
 
-pub taking_leaves_none : (es : List Event) (n : ℕ) (y : Hold) (path : List ℕ) (e : Ending) → taken_at es n ≡ Some y → IsLeaving es n path e → ⊥
+pub taking_leaves_none : (es : List Event) (n : ℕ) (y : Hold) (path : List ℕ) (e : SpellEnd) → taken_at es n ≡ Some y → IsLeaving es n path e → ⊥
 taking_leaves_none es n y path e takes leaves =
     let x = taking_at es n y takes in
     leaves_none es n x.event path e x.at (taken_stays x.event y (ap (option_and_then taken) (sym x.at) ∙ takes)) leaves
@@ -94,7 +94,7 @@ parks_and_ends es n p q a b = option_and_then_some {P = ⊥} parked (slice_get e
     (λ x at is. parks_or_ends x p q is (ap (option_and_then ended) (sym at) ∙ b))
 
 -- at one event only one task leaves its worker's hand, in one way
-pub leaves_one : (es : List Event) (n : ℕ) (p q : List ℕ) (e f : Ending) → IsLeaving es n p e → IsLeaving es n q f → (p ≡ q) × (e ≡ f)
+pub leaves_one : (es : List Event) (n : ℕ) (p q : List ℕ) (e f : SpellEnd) → IsLeaving es n p e → IsLeaving es n q f → (p ≡ q) × (e ≡ f)
 leaves_one es n p q Parked Parked a b = (same_Some p q (sym a ∙ b), refl)
 leaves_one es n p q Parked Ended a b = absurd (parks_and_ends es n p q a b)
 leaves_one es n p q Parked Left a b = absurd b

@@ -8,12 +8,12 @@ use Rattle.types.specs.declared.path.Path.{Path}
 use Rattle.trace_layout.specs.Spells.{AreApart, AreInOrder, IsEnding, IsLatest, IsLeaving, IsOver}
 use Rattle.trace_layout.specs.Spells.{is_taking, taken_at}
 use Rattle.trace_layout.specs.declared.hands.Hands.{Hands}
-use Rattle.trace_layout.specs.declared.spells.Ending.{Ending}
-use Rattle.trace_layout.specs.declared.spells.Ending.TheVariants.{Parked, Ended, Left, Going}
+use Rattle.trace_layout.specs.declared.spells.SpellEnd.{SpellEnd}
+use Rattle.trace_layout.specs.declared.spells.SpellEnd.TheVariants.{Parked, Ended, Left, Going}
 use Rattle.trace_layout.specs.declared.spells.Spell.{Spell}
 
 -- after n events, a spell was ended by one of them, or continues to the last event of the list
-abbrev pub IsEndingSoFar : List Event → (n last : ℕ) → Spell → Ending → Type 0
+abbrev pub IsEndingSoFar : List Event → (n last : ℕ) → Spell → SpellEnd → Type 0
 IsEndingSoFar es n last s Parked = IsEnding es s Parked × (s.last < n)
 IsEndingSoFar es n last s Ended = IsEnding es s Ended × (s.last < n)
 IsEndingSoFar es n last s Left = IsEnding es s Left × (s.last < n)
@@ -49,7 +49,7 @@ pub record IsOfTask (es : List Event) (n : ℕ) (ss : List Spell) (path : List �
 
 -- the spell with a number has passed no park or end of its task, and is found if it is the task's latest
 pub record IsInTurn (es : List Event) (n : ℕ) (found : Path → Option ℕ) (k : ℕ) (s : Spell) : Type 0 where
-  pub inside : (m : ℕ) (e : Ending) → m < n → s.first ≤ m → IsLeaving es m s.path.turns.items e
+  pub inside : (m : ℕ) (e : SpellEnd) → m < n → s.first ≤ m → IsLeaving es m s.path.turns.items e
       → IsLatest es s m → IsOver s m e
   pub latest : IsLeaving es s.last s.path.turns.items s.ending → IsLatest es s s.last
   pub named : (path : Path) → path.turns.items ≡ s.path.turns.items → IsLatest es s n → found path ≡ Some k

@@ -3,8 +3,8 @@ use Rattle.std.specs.Prelude.{ℕ, ◌≡◌, ◌+◌, ◌<◌, ◌≤◌, ◌�
 use Rattle.std.specs.Prelude.{All, AllPairs, count_by, slice_get, option_and_then}
 use Rattle.events.specs.declared.event.Event.{Event}
 use Rattle.events.specs.declared.event.Event.TheVariants.{Take, Park, End, Resume}
-use Rattle.trace_layout.specs.declared.spells.Ending.{Ending}
-use Rattle.trace_layout.specs.declared.spells.Ending.TheVariants.{Parked, Ended, Left, Going}
+use Rattle.trace_layout.specs.declared.spells.SpellEnd.{SpellEnd}
+use Rattle.trace_layout.specs.declared.spells.SpellEnd.TheVariants.{Parked, Ended, Left, Going}
 use Rattle.trace_layout.specs.declared.spells.Spell.{Spell}
 use Rattle.trace_layout.specs.declared.spells.Spells.{Spells}
 
@@ -45,14 +45,14 @@ abbrev pub ended_at : List Event → ℕ → Option (List ℕ)
 ended_at es n = option_and_then ended (slice_get es n)
 
 -- the event at the end of a spell, or right after it
-abbrev pub IsEnding : List Event → Spell → Ending → Type 0
+abbrev pub IsEnding : List Event → Spell → SpellEnd → Type 0
 IsEnding es s Parked = parked_at es s.last ≡ Some s.path.turns.items
 IsEnding es s Ended = ended_at es s.last ≡ Some s.path.turns.items
 IsEnding es s Left = (next : Hold) × (taken_at es (s.last + 1) ≡ Some next) × (next.worker ≡ s.worker)
 IsEnding es s Going = s.last + 1 ≡ length es
 
 -- at the event with this number, a task leaves its worker's hand
-abbrev pub IsLeaving : List Event → (n : ℕ) → (path : List ℕ) → Ending → Type 0
+abbrev pub IsLeaving : List Event → (n : ℕ) → (path : List ℕ) → SpellEnd → Type 0
 IsLeaving es n path Parked = parked_at es n ≡ Some path
 IsLeaving es n path Ended = ended_at es n ≡ Some path
 IsLeaving es n path Left = ⊥
@@ -64,7 +64,7 @@ IsLatest es s n = (m worker : ℕ) → s.first < m → m < n
     → taken_at es m ≡ Some (record { worker = worker; path = s.path.turns.items }) → ⊥
 
 -- it is over before an event, or ends in this way at that event
-abbrev pub IsOver : Spell → (n : ℕ) → Ending → Type 0
+abbrev pub IsOver : Spell → (n : ℕ) → SpellEnd → Type 0
 IsOver s n e = (s.last < n) ⊎ ((s.last ≡ n) × (s.ending ≡ e))
 
 -- a spell of a list of events
@@ -76,7 +76,7 @@ pub record IsSpell (es : List Event) (s : Spell) : Type 0 where
   pub forward : s.first ≤ s.last
   pub within : s.last < length es
   -- it doesn't go past the next park or end of its task, unless a worker takes the task again before that
-  pub inside : (n : ℕ) (e : Ending) → s.first ≤ n → IsLeaving es n s.path.turns.items e → IsLatest es s n
+  pub inside : (n : ℕ) (e : SpellEnd) → s.first ≤ n → IsLeaving es n s.path.turns.items e → IsLatest es s n
       → IsOver s n e
   -- nor does it end by a park or end that comes after such a take
   pub latest : IsLeaving es s.last s.path.turns.items s.ending → IsLatest es s s.last

@@ -9,7 +9,7 @@ ghost use Rattle.trace_layout.specs.Spells.{AreSpells, IsLeaving, taken_at};
 ghost use Rattle.trace_layout.specs.declared.spells.Spell.{Spell as AnySpell};
 ghost use Rattle.types.specs.Translation.{is_path};
 
-use crate::spells::{Beginning, Ending, Spell, Spells};
+use crate::spells::{Beginning, Spell, SpellEnd, Spells};
 use events::event::Event;
 use events::worker_id::WorkerId;
 use std::alloc::{AllocError, Global};
@@ -69,8 +69,8 @@ impl Hands {
             | Event::Replenish { path }
             | Event::Spawn { path }
             | Event::Open { path } => Ok(self.go_on(path)),
-            Event::Park { path } => Ok(self.end(number, path, Ending::Parked)),
-            Event::End { path } => Ok(self.end(number, path, Ending::Ended)),
+            Event::Park { path } => Ok(self.end(number, path, SpellEnd::Parked)),
+            Event::End { path } => Ok(self.end(number, path, SpellEnd::Ended)),
             Event::Steal { .. } | Event::Pass { .. } => Ok(None),
         }
     }
@@ -93,7 +93,7 @@ impl Hands {
             path: path.clone()?,
             worker,
             beginning,
-            ending: Ending::Going,
+            ending: SpellEnd::Going,
             first: number,
             last: self.last,
             own: 1,
@@ -129,7 +129,7 @@ impl Hands {
     }
 
     /// Records the event at which a task leaves its worker's hand.
-    fn end(&mut self, number: usize, path: &Path, ending: Ending) -> Option<usize>
+    fn end(&mut self, number: usize, path: &Path, ending: SpellEnd) -> Option<usize>
         ensures { (es : List AnyEvent) → IsLeaving es number path.now.turns.items ending
             → AreHands es number self.old → AreHands es (number + 1) self.new }
     {
@@ -165,7 +165,7 @@ impl Spell {
     fn is_going(&self) -> bool
         ensures { IsTrue result ↔ (self.now.ending ≡ Ending.Going) }
     {
-        matches!(self.ending, Ending::Going)
+        matches!(self.ending, SpellEnd::Going)
     }
 
     /// Ends it before this event.
@@ -176,7 +176,7 @@ impl Spell {
     {
         if self.is_going() {
             self.last = number.saturating_sub(1);
-            self.ending = Ending::Left;
+            self.ending = SpellEnd::Left;
         }
     }
 }

@@ -14,7 +14,7 @@ pub enum Beginning {
 
 /// The way in which a spell ends.
 #[derive(Clone, Copy, PartialEq, Eq, Debug)]
-pub enum Ending {
+pub enum SpellEnd {
     /// By `park 0`.
     Parked,
     /// By `end 0.1`.
@@ -32,7 +32,7 @@ pub struct Spell {
     pub path: Path,
     pub worker: WorkerId,
     pub beginning: Beginning,
-    pub ending: Ending,
+    pub ending: SpellEnd,
     /// The number of its first event.
     pub first: usize,
     /// The number of its last event, inclusive.

@@ -5,7 +5,7 @@ use Rattle.std.specs.Cmp.Lexicographic.{pointwise}
 use Rattle.std.specs.List.{AllZip}
 use Rattle.std.proofs.lemmas.Bool.{cases_eq, cases_lt}
 use Rattle.std.proofs.lemmas.List.{drop_more, get_or-set_other, get_or-set_same, length-set, set_past}
-use Rattle.facts.proofs.Lists.{same_elements}
+use Rattle.shared_lemmas.proofs.Lists.{same_elements}
 use Rattle.events.specs.declared.event.Event.{Event}
 use Rattle.events.specs.declared.event.Event.TheVariants.{Take, Steal, Step, Replenish, Spawn}
 use Rattle.events.specs.declared.event.Event.TheVariants.{Open, Park, End, Pass, Resume}

@@ -3,7 +3,7 @@ use Rattle.std.proofs.Common.{◌≡◌, ℕ, List, Option, Some, Bool, true, fa
 use Rattle.std.specs.Prelude.{cond, if◌then◌else◌}
 use Rattle.std.specs.List.{AllZip}
 use Rattle.std.specs.Cmp.Lexicographic.{pointwise}
-use Rattle.facts.proofs.Lists.{same_elements}
+use Rattle.shared_lemmas.proofs.Lists.{same_elements}
 use Rattle.trace_numbers.specs.Tables.{known}
 use Rattle.trace_numbers.specs.declared.chains.Chain.{Chain}
 

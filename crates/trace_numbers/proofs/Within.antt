@@ -8,7 +8,7 @@ use Rattle.events.specs.declared.event.Event.TheVariants.{Open, Park, End, Pass,
 use Rattle.trace_numbers.specs.Chains.{Chains, at_number, at_path, begin_child, begin_finish, chained, come_back}
 use Rattle.trace_numbers.specs.Chains.{leave, one_more}
 use Rattle.trace_numbers.specs.Tables.{AreWithin}
-use Rattle.facts.proofs.Truths.{if_either}
+use Rattle.shared_lemmas.proofs.Truths.{if_either}
 
 at_path-all : (P : ℕ → Type 0) (path : List ℕ) (n : ℕ) (f : List ℕ → ℕ) → P n → ((other : List ℕ) → P (f other))
     → (other : List ℕ) → P (at_path path n f other)

@@ -4,9 +4,9 @@ use Rattle.events.specs.declared.event.Event.{Event}
 use Rattle.trace_numbers.specs.Chains.{span_of}
 use Rattle.trace_numbers.specs.Counts.{deepest, is_replenishing, is_steal, most_alive, steps_in, tasks_in}
 use Rattle.trace_numbers.specs.Hands.{steps_by_worker}
-use Rattle.trace_numbers.specs.declared.summary.Summary.{Summary}
+use Rattle.trace_numbers.specs.declared.summary.TraceSummary.{TraceSummary}
 
-pub record IsSummary (es : List Event) (s : Summary) : Type 0 where
+pub record IsSummary (es : List Event) (s : TraceSummary) : Type 0 where
   pub tasks : s.tasks ≡ tasks_in es
   pub steps : s.steps ≡ steps_in es
   pub span : s.span ≡ span_of es

@@ -7,7 +7,7 @@ use Rattle.trace_numbers.specs.Chains.{Chains}
 use Rattle.trace_numbers.specs.Hands.{Hands}
 use Rattle.trace_numbers.specs.declared.chains.Chain.{Chain}
 use Rattle.trace_numbers.specs.declared.chains.Chains.{Chains as rChains}
-use Rattle.trace_numbers.specs.declared.chains.Scope.{Scope}
+use Rattle.trace_numbers.specs.declared.chains.ScopeChain.{ScopeChain}
 use Rattle.trace_numbers.specs.declared.hands.Hands.{Hands as rHands}
 
 -- ---- chains
@@ -20,10 +20,10 @@ abbrev pub chain_at : {S : Type 0} → HashMap Path Chain S → Path → Chain
 chain_at tasks path = known (get is_path tasks path)
 
 -- the scope with this number
-abbrev pub none_back : Scope
+abbrev pub none_back : ScopeChain
 none_back = record { came_back = 0; around = 0 }
 
-abbrev pub scope_at : List Scope → ℕ → Scope
+abbrev pub scope_at : List ScopeChain → ℕ → ScopeChain
 scope_at scopes n = slice_index_or scopes n none_back
 
 pub record Shows (r : rChains) (c : Chains) : Type 0 where

@@ -2,7 +2,7 @@
 use Rattle.std.specs.Prelude.{ℕ, zero, suc, ◌+◌, ◌*◌, ◌/◌, ◌%◌, List, [], ◌∷◌, ◌++◌, codes}
 use Rattle.std.specs.Prelude.{if◌then◌else◌, nat_lt, ◌||◌}
 use Rattle.std.specs.Fmt.{decimal}
-use Rattle.trace_numbers.specs.declared.summary.Summary.{Summary}
+use Rattle.trace_numbers.specs.declared.summary.TraceSummary.{TraceSummary}
 
 -- `3.59`: the steps divided by the span, with two digits, rounded down; `-` if there is no span
 abbrev pub parallelism : (steps span : ℕ) → List ℕ
@@ -15,7 +15,7 @@ abbrev pub line : (name number : List ℕ) → List ℕ
 line name number = name ++ (codes ": " ++ (number ++ codes "\n"))
 
 -- the number of steps, the span and the parallelism
-abbrev pub work_lines : Summary → List ℕ
+abbrev pub work_lines : TraceSummary → List ℕ
 work_lines s =
     line (codes "tasks") (decimal s.tasks)
     ++ (line (codes "steps") (decimal s.steps)
@@ -23,7 +23,7 @@ work_lines s =
     ++ line (codes "parallelism") (parallelism s.steps s.span)))
 
 -- how tasks moved between workers, and how many were live
-abbrev pub task_lines : Summary → List ℕ
+abbrev pub task_lines : TraceSummary → List ℕ
 task_lines s =
     line (codes "steals") (decimal s.steals)
     ++ (line (codes "replenishments") (decimal s.replenishings)
@@ -43,5 +43,5 @@ worker_lines workers number [] = []
 worker_lines workers number (steps ∷ more) =
     worker_line workers number steps ++ worker_lines workers (number + 1) more
 
-abbrev pub summary_text : (workers : ℕ) → Summary → List ℕ
+abbrev pub summary_text : (workers : ℕ) → TraceSummary → List ℕ
 summary_text workers s = work_lines s ++ (task_lines s ++ worker_lines workers 0 s.by_worker.items)

@@ -26,7 +26,7 @@ pub struct Chain {
 
 /// A scope, and what came back to it.
 #[derive(Clone, Copy)]
-pub struct Scope {
+pub struct ScopeChain {
     /// The cost of the longest chain that came back.
     pub came_back: usize,
     /// The number of the scope that its owner was in when it opened this one.
@@ -38,7 +38,7 @@ pub struct Scope {
 #[derive(Drop)]
 pub struct Chains {
     tasks: HashMap<Path, Chain>,
-    pub scopes: Vec<Scope>,
+    pub scopes: Vec<ScopeChain>,
 }
 
 /// Returns the cost of the longest chain of steps: 4 for the only trace of `main { finish { async {
@@ -59,7 +59,7 @@ impl Chains {
         ensures { IfOk result (λ r. Shows r no_chains) }
     {
         let mut scopes = Vec::new(alloc);
-        scopes.push(Scope {
+        scopes.push(ScopeChain {
             came_back: 0,
             around: 0,
         })?;
@@ -131,7 +131,7 @@ impl Chains {
     {
         let mut chain = self.chain(path);
         let number = self.scopes.len();
-        self.scopes.push(Scope {
+        self.scopes.push(ScopeChain {
             came_back: 0,
             around: chain.stands,
         })?;

@@ -12,7 +12,7 @@ use std::alloc::{AllocError, Global};
 
 /// The numbers of a trace.
 #[derive(Debug, Drop)]
-pub struct Summary {
+pub struct TraceSummary {
     /// The number of tasks, including the root.
     pub tasks: usize,
     /// The number of steps of all tasks.
@@ -32,10 +32,10 @@ pub struct Summary {
 }
 
 /// Returns the numbers of a list of events, in any order.
-pub fn summarize(alloc: Global, events: &[Event]) -> Result<Summary, AllocError>
+pub fn summarize(alloc: Global, events: &[Event]) -> Result<TraceSummary, AllocError>
     ensures { IfOk result (IsSummary events.now) }
 {
-    Ok(Summary {
+    Ok(TraceSummary {
         tasks: spawns(events) + 1,
         steps: steps(events),
         span: span(alloc, events)?,

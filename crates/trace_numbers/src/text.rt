@@ -4,12 +4,16 @@ ghost use Rattle.std.specs.Prelude.{◌≡◌, ◌++◌, codes, IfOk, OnOk};
 ghost use Rattle.std.specs.String.{string_bytes};
 ghost use Rattle.trace_numbers.specs.Text.{parallelism, summary_text, task_lines, work_lines, worker_line};
 
-use crate::summary::Summary;
+use crate::summary::TraceSummary;
 use std::alloc::{AllocError, Global};
 
 /// Returns the numbers of a trace, one per line: the totals, and then the steps of each worker of
 /// the run, which had this many, and of any other worker that did some.
-pub fn summary_text(alloc: Global, summary: &Summary, workers: u32) -> Result<String, AllocError>
+pub fn summary_text(
+    alloc: Global,
+    summary: &TraceSummary,
+    workers: u32,
+) -> Result<String, AllocError>
     ensures { IfOk result (λ text. string_bytes text ≡ summary_text workers summary.now) }
 {
     let mut text = String::new(alloc);
@@ -22,7 +26,7 @@ pub fn summary_text(alloc: Global, summary: &Summary, workers: u32) -> Result<St
 }
 
 /// Adds the number of steps, the span and the parallelism.
-fn push_work(text: &mut String, summary: &Summary) -> Result<(), AllocError>
+fn push_work(text: &mut String, summary: &TraceSummary) -> Result<(), AllocError>
     ensures { OnOk result (string_bytes text.new ≡ string_bytes text.old ++ work_lines summary.now) }
 {
     let tasks = summary.tasks;
@@ -51,7 +55,7 @@ pub fn push_parallelism(text: &mut String, steps: usize, span: usize) -> Result<
 }
 
 /// Adds how tasks moved between workers, and how many were live.
-fn push_tasks(text: &mut String, summary: &Summary) -> Result<(), AllocError>
+fn push_tasks(text: &mut String, summary: &TraceSummary) -> Result<(), AllocError>
     ensures { OnOk result (string_bytes text.new ≡ string_bytes text.old ++ task_lines summary.now) }
 {
     let steals = summary.steals;

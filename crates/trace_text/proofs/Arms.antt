@@ -9,11 +9,11 @@ use Rattle.trace_text.specs.Headers.{TraceHeader}
 use Rattle.trace_text.specs.Kinds.{kind_name, kind_of, task_of}
 use Rattle.trace_text.specs.Lines.{event_object, header_object}
 use Rattle.trace_text.specs.Spelled.{Lacks, IsSpelled, IsTheft, IsWorkers}
-use Rattle.trace_text.specs.declared.kind.Kind.{Kind}
-use Rattle.trace_text.specs.declared.kind.Kind.TheVariants.{Take as IsTake, Steal as IsSteal, Step as IsStep}
-use Rattle.trace_text.specs.declared.kind.Kind.TheVariants.{Replenish as IsReplenish, Spawn as IsSpawn}
-use Rattle.trace_text.specs.declared.kind.Kind.TheVariants.{Open as IsOpen, Park as IsPark, End as IsEnd}
-use Rattle.trace_text.specs.declared.kind.Kind.TheVariants.{Pass as IsPass, Resume as IsResume}
+use Rattle.trace_text.specs.declared.kind.EventKind.{EventKind}
+use Rattle.trace_text.specs.declared.kind.EventKind.TheVariants.{Take as IsTake, Steal as IsSteal, Step as IsStep}
+use Rattle.trace_text.specs.declared.kind.EventKind.TheVariants.{Replenish as IsReplenish, Spawn as IsSpawn}
+use Rattle.trace_text.specs.declared.kind.EventKind.TheVariants.{Open as IsOpen, Park as IsPark, End as IsEnd}
+use Rattle.trace_text.specs.declared.kind.EventKind.TheVariants.{Pass as IsPass, Resume as IsResume}
 use Rattle.trace_text.proofs.Marks.{above, Lacks-above}
 use Rattle.trace_text.proofs.Texts.{text_of_header, text_of_pass, text_of_steal, text_of_task, text_of_worker}
 
@@ -36,27 +36,27 @@ pub text_of_front : (h : TraceHeader)
 text_of_front h = bare (text_of_header h [])
 
 -- ---- kinds
-above_kind : (k : Kind) → above 97 (kind_name k) ≡ true
+above_kind : (k : EventKind) → above 97 (kind_name k) ≡ true
 above_kind IsTake = refl
 above_kind _ = refl
 
-pub kind_then_quote : (k : Kind) → Lacks 34 (kind_name k)
+pub kind_then_quote : (k : EventKind) → Lacks 34 (kind_name k)
 kind_then_quote k = Lacks-above 97 34 (kind_name k) (above_kind k) (omega arith)
 
-abbrev all_kinds : List Kind
+abbrev all_kinds : List EventKind
 all_kinds = IsTake ∷ IsSteal ∷ IsStep ∷ IsReplenish ∷ IsSpawn ∷ IsOpen ∷ IsPark ∷ IsEnd ∷ IsPass ∷ IsResume ∷ []
 
 -- the kind whose letters have this sum
-abbrev named : (letters : ℕ) → List Kind → Kind
+abbrev named : (letters : ℕ) → List EventKind → EventKind
 named letters [] = IsTake
 named letters (k ∷ ks) = if nat_eq letters (sum (kind_name k)) then k else named letters ks
 
-named_is : (k : Kind) → named (sum (kind_name k)) all_kinds ≡ k
+named_is : (k : EventKind) → named (sum (kind_name k)) all_kinds ≡ k
 named_is IsTake = refl
 named_is _ = refl
 
 -- a kind is determined by its name
-pub same_kind : (j k : Kind) → kind_name j ≡ kind_name k → j ≡ k
+pub same_kind : (j k : EventKind) → kind_name j ≡ kind_name k → j ≡ k
 same_kind j k e = sym (named_is j) ∙ ap (λ (name : List ℕ). named (sum name) all_kinds) e ∙ named_is k
 
 -- the text of an event's line: the kind, and the fields after it

@@ -8,12 +8,12 @@ use Rattle.trace_text.specs.Headers.{TraceHeader}
 use Rattle.trace_text.specs.Kinds.{kind_name, kind_of, task_of}
 use Rattle.trace_text.specs.Lines.{event_object, header_object, task_object, worker_object, steal_object, pass_object}
 use Rattle.trace_text.specs.Spelled.{Lacks}
-use Rattle.trace_text.specs.declared.kind.Kind.{Kind}
-use Rattle.trace_text.specs.declared.kind.Kind.TheVariants.{Take as IsTake, Resume as IsResume}
+use Rattle.trace_text.specs.declared.kind.EventKind.{EventKind}
+use Rattle.trace_text.specs.declared.kind.EventKind.TheVariants.{Take as IsTake, Resume as IsResume}
 use Rattle.trace_text.proofs.Marks.{visible, visible-append, visible-path, visible-number, Lacks-visible}
 use Rattle.trace_text.proofs.Texts.{text_of_task, text_of_worker, text_of_steal, text_of_pass, text_of_header}
 
-visible_kind : (k : Kind) → visible (kind_name k) ≡ true
+visible_kind : (k : EventKind) → visible (kind_name k) ≡ true
 visible_kind IsTake = refl
 visible_kind _ = refl
 
@@ -22,7 +22,7 @@ lacks_as : (text words : List ℕ) → text ++ [] ≡ words → visible words �
 lacks_as text words same seen =
     Lacks-visible text (ap visible (sym (append-nil text) ∙ same) ∙ seen)
 
-lacks_task : (kind : Kind) (path : List ℕ) → Lacks 10 (compact_text (task_object kind path))
+lacks_task : (kind : EventKind) (path : List ℕ) → Lacks 10 (compact_text (task_object kind path))
 lacks_task kind path =
     lacks_as (compact_text (task_object kind path)) _ (text_of_task kind path [])
     (visible-append (kind_name kind) (codes "\",\"path\":\"" ++ (path_text path ++ codes "\"}")) (visible_kind kind)
@@ -35,7 +35,7 @@ visible_worker worker path =
     visible-append (path_text path) (codes "\",\"worker\":" ++ (decimal worker ++ codes "}"))
     (visible-path path) (visible-append (decimal worker) (codes "}") (visible-number worker) refl)
 
-lacks_worker : (kind : Kind) (worker : ℕ) (path : List ℕ)
+lacks_worker : (kind : EventKind) (worker : ℕ) (path : List ℕ)
     → Lacks 10 (compact_text (worker_object kind worker path))
 lacks_worker kind worker path =
     lacks_as (compact_text (worker_object kind worker path)) _ (text_of_worker kind worker path [])

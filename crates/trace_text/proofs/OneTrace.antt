@@ -16,7 +16,7 @@ use Rattle.trace_text.specs.Kinds.{kind_name, kind_of, task_of}
 use Rattle.trace_text.specs.Lines.{event_line, event_object, header_line, header_object, line}
 use Rattle.trace_text.specs.Reading.{IsTrace}
 use Rattle.trace_text.specs.Spelled.{IsCut, IsPath, IsScope, IsSpelled, IsTheft, IsTurn, IsWorkers, Lacks}
-use Rattle.trace_text.specs.declared.kind.Kind.{Kind}
+use Rattle.trace_text.specs.declared.kind.EventKind.{EventKind}
 use Rattle.trace_text.proofs.Arms.{behind_nest, behind_steps, behind_w0, kind_then_quote, same_kind, text_of_event, text_of_front}
 use Rattle.trace_text.proofs.Arms.{told_resume, told_steal, told_take}
 use Rattle.trace_text.proofs.Cuts.{left_text, one_cut, root_is, root_lacks, turn_is}

@@ -3,11 +3,11 @@ use Rattle.std.proofs.Common.{◌≡◌, ℕ, replicate, ◌-◌, List, [], ◌�
 use Rattle.std.proofs.Common.{arith, ap, sym, ◌∙◌, append_assoc, append-nil}
 use Rattle.std.specs.Fmt.{char_count, decimal, format_spec, styled_decimal, padded_integral}
 use Rattle.std.specs.List.{repeat}
-use Rattle.facts.proofs.Lists.{spaces}
+use Rattle.shared_lemmas.proofs.Lists.{spaces}
 use Rattle.events.specs.Events.{Event}
 use Rattle.trace_text.specs.Kinds.{kind_name, kind_of}
 use Rattle.trace_text.specs.Table.{column, deed, left_in, right_in, table_line}
-use Rattle.trace_text.specs.declared.kind.Kind.{Kind}
+use Rattle.trace_text.specs.declared.kind.EventKind.{EventKind}
 
 -- spaces, the empty texts that a format puts around them, and a numeral with nothing after it
 right_shape : (p : ℕ) (numeral : List ℕ)
@@ -54,13 +54,13 @@ by_theft w f shown from path is from_is =
     ∙ sym (append_assoc (right_in 2 (decimal w)) (codes " ") (column (Some f) ++ behind))
 
 -- the whole line
-pub row_is : (n : ℕ) (e : Event) (k : Kind) (old shown name mid new : List ℕ) → shown ≡ right_in 8 (decimal n)
+pub row_is : (n : ℕ) (e : Event) (k : EventKind) (old shown name mid new : List ℕ) → shown ≡ right_in 8 (decimal n)
     → name ≡ left_in 9 (kind_name k) → k ≡ kind_of e
     → mid ≡ old ++ (shown ++ (codes " " ++ (name ++ codes " "))) → new ≡ mid ++ deed e
     → new ≡ old ++ table_line n e
 row_is n e k old shown name mid new number_is name_is kind mid_is new_is =
     let right = right_in 8 (decimal n) in
-    let named = name_is ∙ ap (λ (j : Kind). left_in 9 (kind_name j)) kind in
+    let named = name_is ∙ ap (λ (j : EventKind). left_in 9 (kind_name j)) kind in
     let kind_text = left_in 9 (kind_name (kind_of e)) in
     new_is ∙ ap (λ (l : List ℕ). l ++ deed e) mid_is
     ∙ append_assoc old (shown ++ (codes " " ++ (name ++ codes " "))) (deed e)

@@ -11,14 +11,14 @@ use Rattle.trace_text.proofs.Marks.{escape-path}
 use Rattle.trace_text.specs.Headers.{TraceHeader}
 use Rattle.trace_text.specs.Kinds.{kind_name}
 use Rattle.trace_text.specs.Lines.{line, text_under, number_under, task_object, worker_object, steal_object, pass_object, header_object}
-use Rattle.trace_text.specs.declared.kind.Kind.{Kind}
-use Rattle.trace_text.specs.declared.kind.Kind.TheVariants.{Take, Steal, Pass}
+use Rattle.trace_text.specs.declared.kind.EventKind.{EventKind}
+use Rattle.trace_text.specs.declared.kind.EventKind.TheVariants.{Take, Steal, Pass}
 
 -- bytes that are unchanged in a line
 abbrev pub IsPlain : List ℕ → Type 0
 IsPlain s = escape s ≡ s
 
-pub IsPlain-kind : (k : Kind) → IsPlain (kind_name k)
+pub IsPlain-kind : (k : EventKind) → IsPlain (kind_name k)
 unfolding escape_byte
 IsPlain-kind Take = refl
 IsPlain-kind _ = refl
@@ -53,7 +53,7 @@ number_then : (later : Bool) (k rest : List ℕ) (n : ℕ) (ms : Members) → Is
 number_then later k rest n ms plain_key = member_then later k (decimal n) (members_text true ms) rest plain_key
 
 -- the kind comes first
-kind_then : (kind : Kind) (rest : List ℕ) (ms : Members)
+kind_then : (kind : EventKind) (rest : List ℕ) (ms : Members)
     → compact_text (object (text_under (codes "e") (kind_name kind) ms)) ++ rest
     ≡ codes "{\"e\":\"" ++ (kind_name kind ++ (34 ∷ (members_text true ms ++ rest)))
 unfolding escape_byte
@@ -83,7 +83,7 @@ abbrev pub task_words : (kind path rest : List ℕ) → List ℕ
 task_words kind path rest =
     codes "{\"e\":\"" ++ (kind ++ (codes "\",\"path\":\"" ++ (path ++ (codes "\"}" ++ rest))))
 
-pub text_of_task : (kind : Kind) (path rest : List ℕ)
+pub text_of_task : (kind : EventKind) (path rest : List ℕ)
     → compact_text (task_object kind path) ++ rest ≡ task_words (kind_name kind) (path_text path) rest
 text_of_task kind path rest =
     kind_then kind rest (text_under (codes "path") (path_text path) no_members)
@@ -93,7 +93,7 @@ abbrev pub worker_words : (kind path worker rest : List ℕ) → List ℕ
 worker_words kind path worker rest =
     codes "{\"e\":\"" ++ (kind ++ (codes "\",\"path\":\"" ++ (path ++ (codes "\",\"worker\":" ++ (worker ++ (codes "}" ++ rest))))))
 
-pub text_of_worker : (kind : Kind) (worker : ℕ) (path rest : List ℕ)
+pub text_of_worker : (kind : EventKind) (worker : ℕ) (path rest : List ℕ)
     → compact_text (worker_object kind worker path) ++ rest
     ≡ worker_words (kind_name kind) (path_text path) (decimal worker) rest
 text_of_worker kind worker path rest =
@@ -157,12 +157,12 @@ text_of_header h rest =
     (number_then true (codes "workers") rest h.workers no_members refl))))
 
 -- ---- whole lines
-pub line_of_task : (kind : Kind) (path : List ℕ)
+pub line_of_task : (kind : EventKind) (path : List ℕ)
     → line (task_object kind path) ≡ task_words (kind_name kind) (path_text path) (codes "\n")
 unfolding line
 line_of_task kind path = text_of_task kind path (codes "\n")
 
-pub line_of_worker : (kind : Kind) (worker : ℕ) (path : List ℕ)
+pub line_of_worker : (kind : EventKind) (worker : ℕ) (path : List ℕ)
     → line (worker_object kind worker path)
     ≡ worker_words (kind_name kind) (path_text path) (decimal worker) (codes "\n")
 unfolding line

@@ -7,8 +7,8 @@ use Rattle.serde_json.specs.Data.{Data, Members, object, member, no_members, str
 use Rattle.serde_json.specs.Written.{compact_text}
 use Rattle.trace_text.specs.Headers.{TraceHeader}
 use Rattle.trace_text.specs.Kinds.{kind_name, kind_of, task_of}
-use Rattle.trace_text.specs.declared.kind.Kind.{Kind}
-use Rattle.trace_text.specs.declared.kind.Kind.TheVariants.{Pass as IsPass, Steal as IsSteal}
+use Rattle.trace_text.specs.declared.kind.EventKind.{EventKind}
+use Rattle.trace_text.specs.declared.kind.EventKind.TheVariants.{Pass as IsPass, Steal as IsSteal}
 
 -- a text or a number under a key, before the keys after it
 abbrev pub text_under : (key text : List ℕ) → Members → Members
@@ -18,13 +18,13 @@ abbrev pub number_under : (key : List ℕ) → ℕ → Members → Members
 number_under key n more = member key (number (unsigned n)) more
 
 -- `{"e":"step","path":"0.1"}`
-abbrev pub task_object : Kind → (path : List ℕ) → Data
+abbrev pub task_object : EventKind → (path : List ℕ) → Data
 task_object kind path =
     object (text_under (codes "e") (kind_name kind)
     (text_under (codes "path") (path_text path) no_members))
 
 -- `{"e":"take","path":"0.1","worker":0}`
-abbrev pub worker_object : Kind → (worker : ℕ) → (path : List ℕ) → Data
+abbrev pub worker_object : EventKind → (worker : ℕ) → (path : List ℕ) → Data
 worker_object kind worker path =
     object (text_under (codes "e") (kind_name kind)
     (text_under (codes "path") (path_text path)

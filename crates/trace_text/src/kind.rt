@@ -4,13 +4,13 @@ ghost use Rattle.std.specs.Prelude.{◌≡◌, MatchOption};
 ghost use Rattle.events.specs.Events.{event as event_of};
 ghost use Rattle.trace_text.specs.Kinds.{kind_name, kind_of};
 ghost use Rattle.trace_text.specs.Table.{left_in};
-ghost use Rattle.trace_text.specs.declared.kind.Kind.{Kind as AnyKind};
+ghost use Rattle.trace_text.specs.declared.kind.EventKind.{EventKind as AnyKind};
 
 use events::event::Event;
 
 /// The kind of an event.
 #[derive(Clone, Copy, PartialEq, Eq, Debug)]
-pub enum Kind {
+pub enum EventKind {
     /// `take`, as of `take 1 0.2`
     Take,
     /// `steal`, as of `steal 1 0 0.2`
@@ -33,22 +33,22 @@ pub enum Kind {
     Resume,
 }
 
-impl Kind {
+impl EventKind {
     /// Returns the kind of an event.
-    pub fn of(event: &Event) -> Kind
+    pub fn of(event: &Event) -> EventKind
         ensures { result ≡ kind_of (event_of event.now) }
     {
         match event {
-            Event::Take { .. } => Kind::Take,
-            Event::Steal { .. } => Kind::Steal,
-            Event::Step { .. } => Kind::Step,
-            Event::Replenish { .. } => Kind::Replenish,
-            Event::Spawn { .. } => Kind::Spawn,
-            Event::Open { .. } => Kind::Open,
-            Event::Park { .. } => Kind::Park,
-            Event::End { .. } => Kind::End,
-            Event::Pass { .. } => Kind::Pass,
-            Event::Resume { .. } => Kind::Resume,
+            Event::Take { .. } => EventKind::Take,
+            Event::Steal { .. } => EventKind::Steal,
+            Event::Step { .. } => EventKind::Step,
+            Event::Replenish { .. } => EventKind::Replenish,
+            Event::Spawn { .. } => EventKind::Spawn,
+            Event::Open { .. } => EventKind::Open,
+            Event::Park { .. } => EventKind::Park,
+            Event::End { .. } => EventKind::End,
+            Event::Pass { .. } => EventKind::Pass,
+            Event::Resume { .. } => EventKind::Resume,
         }
     }
 
@@ -57,16 +57,16 @@ impl Kind {
         ensures { result.now ≡ kind_name self }
     {
         match self {
-            Kind::Take => "take",
-            Kind::Steal => "steal",
-            Kind::Step => "step",
-            Kind::Replenish => "replenish",
-            Kind::Spawn => "spawn",
-            Kind::Open => "open",
-            Kind::Park => "park",
-            Kind::End => "end",
-            Kind::Pass => "pass",
-            Kind::Resume => "resume",
+            EventKind::Take => "take",
+            EventKind::Steal => "steal",
+            EventKind::Step => "step",
+            EventKind::Replenish => "replenish",
+            EventKind::Spawn => "spawn",
+            EventKind::Open => "open",
+            EventKind::Park => "park",
+            EventKind::End => "end",
+            EventKind::Pass => "pass",
+            EventKind::Resume => "resume",
         }
     }
 
@@ -75,35 +75,35 @@ impl Kind {
         ensures { result.now ≡ left_in 9 (kind_name self) }
     {
         match self {
-            Kind::Take => "take     ",
-            Kind::Steal => "steal    ",
-            Kind::Step => "step     ",
-            Kind::Replenish => "replenish",
-            Kind::Spawn => "spawn    ",
-            Kind::Open => "open     ",
-            Kind::Park => "park     ",
-            Kind::End => "end      ",
-            Kind::Pass => "pass     ",
-            Kind::Resume => "resume   ",
+            EventKind::Take => "take     ",
+            EventKind::Steal => "steal    ",
+            EventKind::Step => "step     ",
+            EventKind::Replenish => "replenish",
+            EventKind::Spawn => "spawn    ",
+            EventKind::Open => "open     ",
+            EventKind::Park => "park     ",
+            EventKind::End => "end      ",
+            EventKind::Pass => "pass     ",
+            EventKind::Resume => "resume   ",
         }
     }
 
     /// Returns the kind with this name.
-    pub fn named(name: &str) -> Option<Kind>
+    pub fn named(name: &str) -> Option<EventKind>
         ensures { MatchOption result ((k : AnyKind) → name.now ≡ kind_name k → ⊥)
             (λ k. name.now ≡ kind_name k) }
     {
         match name {
-            "take" => Some(Kind::Take),
-            "steal" => Some(Kind::Steal),
-            "step" => Some(Kind::Step),
-            "replenish" => Some(Kind::Replenish),
-            "spawn" => Some(Kind::Spawn),
-            "open" => Some(Kind::Open),
-            "park" => Some(Kind::Park),
-            "end" => Some(Kind::End),
-            "pass" => Some(Kind::Pass),
-            "resume" => Some(Kind::Resume),
+            "take" => Some(EventKind::Take),
+            "steal" => Some(EventKind::Steal),
+            "step" => Some(EventKind::Step),
+            "replenish" => Some(EventKind::Replenish),
+            "spawn" => Some(EventKind::Spawn),
+            "open" => Some(EventKind::Open),
+            "park" => Some(EventKind::Park),
+            "end" => Some(EventKind::End),
+            "pass" => Some(EventKind::Pass),
+            "resume" => Some(EventKind::Resume),
             _ => None,
         }
     }

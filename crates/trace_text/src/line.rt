@@ -8,7 +8,7 @@ ghost use Rattle.trace_text.specs.Lines.{task_object, worker_object};
 ghost use Rattle.trace_text.specs.Headers.{header_of};
 
 use crate::header::Header;
-use crate::kind::Kind;
+use crate::kind::EventKind;
 use events::event::Event;
 use events::worker_id::WorkerId;
 use std::alloc::AllocError;
@@ -35,7 +35,7 @@ pub fn push_event(text: &mut String, event: &Event) -> Result<(), AllocError>
     ensures { OnOk result (string_bytes text.new
         ≡ string_bytes text.old ++ event_line (event_of event.now)) }
 {
-    let kind = Kind::of(event);
+    let kind = EventKind::of(event);
     match event {
         Event::Take { worker, path } => push_by_worker(text, kind, path, worker.number()),
         Event::Steal { worker, from, path } => push_steal(text, path, *worker, *from),
@@ -51,7 +51,7 @@ pub fn push_event(text: &mut String, event: &Event) -> Result<(), AllocError>
 }
 
 /// `{"e":"step","path":"0.1"}`
-fn push_of_task(text: &mut String, kind: Kind, path: &Path) -> Result<(), AllocError>
+fn push_of_task(text: &mut String, kind: EventKind, path: &Path) -> Result<(), AllocError>
     ensures { OnOk result (string_bytes text.new
         ≡ string_bytes text.old ++ line (task_object kind path.now.turns.items)) }
 {
@@ -60,7 +60,12 @@ fn push_of_task(text: &mut String, kind: Kind, path: &Path) -> Result<(), AllocE
 }
 
 /// `{"e":"take","path":"0.1","worker":0}`
-fn push_by_worker(text: &mut String, kind: Kind, path: &Path, worker: u32) -> Result<(), AllocError>
+fn push_by_worker(
+    text: &mut String,
+    kind: EventKind,
+    path: &Path,
+    worker: u32,
+) -> Result<(), AllocError>
     ensures { OnOk result (string_bytes text.new
         ≡ string_bytes text.old ++ line (worker_object kind worker path.now.turns.items)) }
 {

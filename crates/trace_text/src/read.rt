@@ -17,7 +17,7 @@ ghost use Rattle.trace_text.specs.Spelled.{IsPath, IsScope, IsSpelled, IsTheft, 
 use crate::cut::{between, cut_at};
 use crate::error::TraceError;
 use crate::header::Header;
-use crate::kind::Kind;
+use crate::kind::EventKind;
 use crate::line::{push_event, push_header};
 use crate::path::read_path;
 use events::event::Event;
@@ -136,32 +136,32 @@ fn event_in(alloc: Global, line: &str) -> Result<Option<Event>, AllocError>
     let Some((name, rest)) = between(line, "{\"e\":\"", '"') else {
         return Ok(None);
     };
-    let Some(kind) = Kind::named(name) else {
+    let Some(kind) = EventKind::named(name) else {
         return Ok(None);
     };
     event_behind(alloc, kind, rest)
 }
 
 /// Returns the event of a kind whose fields the text after the kind's name may be.
-fn event_behind(alloc: Global, kind: Kind, rest: &str) -> Result<Option<Event>, AllocError>
+fn event_behind(alloc: Global, kind: EventKind, rest: &str) -> Result<Option<Event>, AllocError>
     ensures spelled { IfOk result (λ o. IfSome o (λ e. IsSpelled (event_of e))) }
     ensures told { IfOk result (λ o. (e : AnyEvent) → IsSpelled e → kind ≡ kind_of e
         → rest.now ≡ fields e → option_map event_of o ≡ Some e) }
 {
     match kind {
-        Kind::Take => {
+        EventKind::Take => {
             let by = by_worker_in(alloc, rest, ",\"path\":\"")?;
             Ok(by.map(|(worker, path)| Event::Take { worker, path }))
         }
-        Kind::Steal => steal_in(alloc, rest),
-        Kind::Step => Ok(path_in(alloc, rest)?.map(|path| Event::Step { path })),
-        Kind::Replenish => Ok(path_in(alloc, rest)?.map(|path| Event::Replenish { path })),
-        Kind::Spawn => Ok(path_in(alloc, rest)?.map(|path| Event::Spawn { path })),
-        Kind::Open => Ok(path_in(alloc, rest)?.map(|path| Event::Open { path })),
-        Kind::Park => Ok(path_in(alloc, rest)?.map(|path| Event::Park { path })),
-        Kind::End => Ok(path_in(alloc, rest)?.map(|path| Event::End { path })),
-        Kind::Pass => pass_in(alloc, rest),
-        Kind::Resume => {
+        EventKind::Steal => steal_in(alloc, rest),
+        EventKind::Step => Ok(path_in(alloc, rest)?.map(|path| Event::Step { path })),
+        EventKind::Replenish => Ok(path_in(alloc, rest)?.map(|path| Event::Replenish { path })),
+        EventKind::Spawn => Ok(path_in(alloc, rest)?.map(|path| Event::Spawn { path })),
+        EventKind::Open => Ok(path_in(alloc, rest)?.map(|path| Event::Open { path })),
+        EventKind::Park => Ok(path_in(alloc, rest)?.map(|path| Event::Park { path })),
+        EventKind::End => Ok(path_in(alloc, rest)?.map(|path| Event::End { path })),
+        EventKind::Pass => pass_in(alloc, rest),
+        EventKind::Resume => {
             let by = by_worker_in(alloc, rest, ",\"path\":\"")?;
             Ok(by.map(|(worker, path)| Event::Resume { worker, path }))
         }

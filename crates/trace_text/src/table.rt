@@ -6,7 +6,7 @@ ghost use Rattle.events.specs.Events.{event as event_of};
 ghost use Rattle.trace_text.specs.Table.{column, deed, table_line, table_text};
 ghost use Rattle.types.specs.Names.{path_text};
 
-use crate::kind::Kind;
+use crate::kind::EventKind;
 use events::event::Event;
 use events::worker_id::WorkerId;
 use std::alloc::{AllocError, Global};
@@ -29,7 +29,7 @@ fn push_row(text: &mut String, number: usize, event: &Event) -> Result<(), Alloc
     ensures { OnOk result (string_bytes text.new
         ≡ string_bytes text.old ++ table_line number (event_of event.now)) }
 {
-    let kind = Kind::of(event).in_column();
+    let kind = EventKind::of(event).in_column();
     write!(text, "{number:>8} {kind} ")?;
     push_deed(text, event)
 }

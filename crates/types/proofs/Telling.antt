@@ -9,7 +9,7 @@ use Rattle.types.specs.declared.error.TypeError.{TypeError}
 use Rattle.types.specs.declared.error.TypeError.TheVariants.{OutOfMemory, WrongKind}
 use Rattle.types.specs.ExpressionErrors.{wrong_kind}
 use Rattle.types.specs.Scope.{Names}
-use Rattle.facts.proofs.Results.{err_passed}
+use Rattle.shared_lemmas.proofs.Results.{err_passed}
 
 pub none_both : (xs ys : List TypeError) → xs ≡ [] → ys ≡ [] → xs ++ ys ≡ []
 none_both xs ys e f = ap (λ l. l ++ ys) e ∙ f

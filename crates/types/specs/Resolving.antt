@@ -10,7 +10,7 @@ use Rattle.types.specs.declared.check.procedures.Procedures.{Procedures as rProc
 use Rattle.types.specs.declared.check.names.Meaning.{Meaning}
 use Rattle.types.specs.declared.check.names.Meaning.TheVariants.{Section as rSection, Scalar as rScalar}
 use Rattle.types.specs.declared.check.names.Names.{Names as rNames}
-use Rattle.types.specs.declared.check.scope.Scope.{Scope as rScope}
+use Rattle.types.specs.declared.check.scope.NameScope.{NameScope as rScope}
 use Rattle.types.specs.CallErrors.{Passed}
 use Rattle.types.specs.Scope.{Meant, ASection, AScalar, Names, meant, Scope, behind}
 use Rattle.types.specs.declared.code.StmtKind.{StmtKind}

@@ -4,22 +4,22 @@ use Rattle.std.specs.Prelude.{IsErrAnd}
 use Rattle.types.specs.Code.{Program}
 use Rattle.race_checker.specs.Clash.{IsAccepted}
 use Rattle.events.specs.declared.event.Event.{Event}
-use Rattle.interleave.specs.Replay.{IllegalAt}
-use Rattle.interleave.specs.Replaying.{comes, IsRefused}
-use Rattle.interleave.specs.declared.error.ReplayError.{ReplayError}
-use Rattle.interleave.specs.declared.error.ReplayError.TheVariants.{IllegalAt as rIllegalAt}
-use Rattle.interleave.specs.declared.job.WeightedJob.{WeightedJob}
+use Rattle.event_worlds.specs.Replay.{IllegalAt}
+use Rattle.event_worlds.specs.Replaying.{comes, IsRefused}
+use Rattle.event_worlds.specs.declared.error.ReplayError.{ReplayError}
+use Rattle.event_worlds.specs.declared.error.ReplayError.TheVariants.{IllegalAt as rIllegalAt}
+use Rattle.event_worlds.specs.declared.job.WeightedJob.{WeightedJob}
 use Rattle.trace_text.specs.declared.header.Header.{Header}
 use Rattle.command_line.specs.Requests.{Settings}
 use Rattle.command_line.specs.declared.request.Command.{Command}
-use Rattle.intake.specs.Failures.{TellsNotUtf8, TellsUnwritten}
-use Rattle.intake.specs.Held.{Held, HasNoText, TellsNoInput}
-use Rattle.intake.specs.declared.failure.Failure.{Failure}
-use Rattle.intake.specs.declared.failure.Failure.TheVariants.{CannotRead, NotUtf8, Syntax, Types}
-use Rattle.intake.specs.declared.failure.Failure.TheVariants.{Race, NoMemoryInCheck, Input, NoMemory}
-use Rattle.intake.specs.declared.failure.Failure.TheVariants.{Trace, Illegal, CannotWrite}
-use Rattle.answers.specs.Answers.{IsCodeOf, IsExplored, TellsNotAccepted, TellsNotBegun}
-use Rattle.answers.proofs.Answering.{IsOther, other_failure, passed_on}
+use Rattle.failures.specs.Failures.{TellsNotUtf8, TellsUnwritten}
+use Rattle.files.specs.Held.{Held, HasNoText, TellsNoInput}
+use Rattle.failures.specs.declared.failure.Failure.{Failure}
+use Rattle.failures.specs.declared.failure.Failure.TheVariants.{CannotRead, NotUtf8, Syntax, Types}
+use Rattle.failures.specs.declared.failure.Failure.TheVariants.{Race, NoMemoryInCheck, Input, NoMemory}
+use Rattle.failures.specs.declared.failure.Failure.TheVariants.{Trace, Illegal, CannotWrite}
+use Rattle.commands.specs.Answers.{IsCodeOf, IsExplored, TellsNotAccepted, TellsNotBegun}
+use Rattle.commands.proofs.Answering.{IsOther, other_failure, passed_on}
 use Rattle.viewing.specs.Views.{AnswersTrace, Draws, ExplainsTrace, HasTrace, HoldsTrace, IsDrawnTo, TellsIllegal}
 use Rattle.viewing.specs.Views.{TellsNoLines, TellsNoTrace, TellsTrace, Views, command_of, picture_name, trace_name}
 use Rattle.viewing.specs.declared.drawing.Form.{Form}

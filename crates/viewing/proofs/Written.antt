@@ -1,9 +1,9 @@
 -- The contents of files after a failure.
 use Rattle.std.proofs.Common.{◌≡◌, ℕ, List, Result, Ok, Err, ap, ◌∙◌, subst, sym}
 use Rattle.std.specs.Prelude.{IfErr}
-use Rattle.intake.specs.Held.{Held, IsGiven, KeepsOthers}
-use Rattle.intake.specs.declared.failure.Failure.{Failure}
-use Rattle.intake.specs.declared.failure.Failure.TheVariants.{CannotWriteOutput}
+use Rattle.files.specs.Held.{Held, IsGiven, KeepsOthers}
+use Rattle.failures.specs.declared.failure.Failure.{Failure}
+use Rattle.failures.specs.declared.failure.Failure.TheVariants.{CannotWriteOutput}
 use Rattle.viewing.specs.Files.{Wrote, WritesTo}
 
 -- files that are unchanged

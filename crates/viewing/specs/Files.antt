@@ -1,8 +1,8 @@
 -- The contents of files after a command that may write one.
 use Rattle.std.specs.Prelude.{ℕ, ◌≡◌, List, Result, Ok, Err}
-use Rattle.intake.specs.Held.{Held, IsGiven, KeepsOthers}
-use Rattle.intake.specs.declared.failure.Failure.{Failure}
-use Rattle.intake.specs.declared.failure.Failure.TheVariants.{CannotWrite, CannotWriteOutput, NoMemory}
+use Rattle.files.specs.Held.{Held, IsGiven, KeepsOthers}
+use Rattle.failures.specs.declared.failure.Failure.{Failure}
+use Rattle.failures.specs.declared.failure.Failure.TheVariants.{CannotWrite, CannotWriteOutput, NoMemory}
 
 -- the file with this name was written, and no other: it has correct bytes
 pub record Wrote (name : List ℕ) (AreRight : (bytes : List ℕ) → Type 0) (held later : Held) : Type 0 where

@@ -5,11 +5,11 @@ use Rattle.types.specs.Code.{Program}
 use Rattle.types.specs.Translation.{budget}
 use Rattle.events.specs.Events.{event as event_of}
 use Rattle.events.specs.declared.event.Event.{Event}
-use Rattle.interleave.specs.World.{World}
-use Rattle.interleave.specs.Worlds.{IsFirstIllegal, LeadsTo}
+use Rattle.event_worlds.specs.World.{World}
+use Rattle.event_worlds.specs.Worlds.{IsFirstIllegal, LeadsTo}
 use Rattle.trace_numbers.specs.Summary.{IsSummary}
 use Rattle.trace_numbers.specs.Text.{summary_text}
-use Rattle.trace_numbers.specs.declared.summary.Summary.{Summary as SummaryOf}
+use Rattle.trace_numbers.specs.declared.summary.TraceSummary.{TraceSummary as SummaryOf}
 use Rattle.trace_text.specs.Headers.{header_of}
 use Rattle.trace_text.specs.Reading.{IsRefusal, IsTrace}
 use Rattle.trace_text.specs.Table.{table_text}
@@ -21,11 +21,11 @@ use Rattle.command_line.specs.declared.request.Command.TheVariants.{Run, Serial,
 use Rattle.command_line.specs.declared.request.Command.TheVariants.{Explore, Labels, Places, Format}
 use Rattle.command_line.specs.declared.request.Command.TheVariants.{CheckFormat, View, Summary, Draw, Chrome}
 use Rattle.command_line.specs.declared.request.Command.TheVariants.{Cost, CostByLabel, CostByProcedure}
-use Rattle.intake.specs.Held.{Held, HasText, TellsNoText}
-use Rattle.intake.specs.declared.failure.Failure.{Failure}
-use Rattle.intake.specs.declared.failure.Failure.TheVariants.{CannotRead, NotUtf8, Input, Trace, Illegal}
-use Rattle.intake.specs.declared.failure.Failure.TheVariants.{CannotWrite, CannotWriteOutput, NoMemory}
-use Rattle.answers.specs.Answers.{Done, IsExplored, LacksInput, TellsNotAccepted}
+use Rattle.files.specs.Held.{Held, HasText, TellsNoText}
+use Rattle.failures.specs.declared.failure.Failure.{Failure}
+use Rattle.failures.specs.declared.failure.Failure.TheVariants.{CannotRead, NotUtf8, Input, Trace, Illegal}
+use Rattle.failures.specs.declared.failure.Failure.TheVariants.{CannotWrite, CannotWriteOutput, NoMemory}
+use Rattle.commands.specs.Answers.{Done, IsExplored, LacksInput, TellsNotAccepted}
 use Rattle.viewing.specs.declared.drawing.Form.{Form}
 use Rattle.viewing.specs.declared.drawing.Form.TheVariants.{Picture, Spans}
 use Rattle.viewing.specs.declared.tables.Look.{Look}

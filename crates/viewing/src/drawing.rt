@@ -6,17 +6,16 @@ ghost use Rattle.viewing.specs.Files.{WritesTo};
 ghost use Rattle.viewing.specs.Views.{IsDrawn, Views, command_of, picture_name as name_of_picture};
 
 use crate::traces::{Trace, trace_name, trace_of};
-use answers::memory::or_no_memory;
-use answers::question::Question;
-use answers::showing::answer;
-use command_line::request::Settings;
-use intake::failure::Failure;
-use intake::files::{FileSource, write_file};
-use pictures::timeline;
+use command_line::request::RunOptions;
+use commands::memory::or_no_memory;
+use commands::question::Question;
+use commands::showing::answer;
+use failures::failure::Failure;
+use files::file_source::{FileSource, write_file};
 use std::alloc::{AllocError, Global};
 use std::io::Write;
 use std::thread::Threads;
-use trace_spans::chrome;
+use trace_pictures::{chrome, timeline};
 
 /// The form in which a trace is drawn.
 #[derive(Clone, Copy)]
@@ -49,7 +48,7 @@ pub fn draw<R: Threads + Sync, F: FileSource, O: Write>(
 }
 
 /// Returns the name of the picture's file.
-fn picture_name<'w>(settings: Settings<'w>) -> &'w str
+fn picture_name<'w>(settings: RunOptions<'w>) -> &'w str
     ensures { result.now ≡ name_of_picture (settings_of settings.entry) }
 {
     match settings.picture {

@@ -6,11 +6,11 @@ ghost use Rattle.command_line.specs.Requests.{settings as settings_of};
 ghost use Rattle.viewing.specs.Views.{IsSummaryText, TellsTrace, Views, command_by};
 
 use crate::traces::{Trace, trace_of};
-use answers::memory::or_no_memory;
-use answers::question::Question;
-use answers::showing::answer;
-use intake::failure::Failure;
-use intake::files::FileSource;
+use commands::memory::or_no_memory;
+use commands::question::Question;
+use commands::showing::answer;
+use failures::failure::Failure;
+use files::file_source::FileSource;
 use std::alloc::{AllocError, Global};
 use std::io::Write;
 use std::thread::Threads;

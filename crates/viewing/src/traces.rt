@@ -4,19 +4,19 @@ ghost use Rattle.std.specs.Prelude.{◌≡◌, IfErr, IfOk, OnOk};
 ghost use Rattle.types.specs.Translation.{input as lists_in};
 ghost use Rattle.types.specs.Typed.{code_of};
 ghost use Rattle.command_line.specs.Requests.{settings as settings_of};
-ghost use Rattle.answers.specs.Outcomes.{Fits};
+ghost use Rattle.commands.specs.Outcomes.{Fits};
 ghost use Rattle.viewing.specs.Views.{AreLegal, HasTrace, HoldsTrace, TellsIllegal, TellsNoLines};
 ghost use Rattle.viewing.specs.Views.{TellsNoTrace, trace_name as name_of_trace};
 
-use answers::question::Question;
-use command_line::request::Settings;
+use command_line::request::RunOptions;
+use commands::question::Question;
+use event_worlds::error::ReplayError;
+use event_worlds::job::WeightedJob;
+use event_worlds::laws::replays_refuse_the_first;
+use event_worlds::replay::replay;
 use events::event::Event;
-use intake::failure::Failure;
-use intake::files::{FileSource, read_file};
-use interleave::error::ReplayError;
-use interleave::job::WeightedJob;
-use interleave::laws::replays_refuse_the_first;
-use interleave::replay::replay;
+use failures::failure::Failure;
+use files::file_source::{FileSource, read_file};
 use race_checker::accepted::Accepted;
 use std::alloc::Global;
 use std::thread::Threads;
@@ -51,7 +51,7 @@ pub fn trace_of<R: Threads + Sync, F: FileSource>(
 }
 
 /// Returns the name of the trace's file.
-pub fn trace_name<'w>(settings: Settings<'w>) -> &'w str
+pub fn trace_name<'w>(settings: RunOptions<'w>) -> &'w str
     ensures { result.now ≡ name_of_trace (settings_of settings.entry) }
 {
     match settings.trace {

@@ -6,7 +6,7 @@ use Rattle.std.proofs.lemmas.Option.{none-some, same_Some}
 use Rattle.std.proofs.Math.Seq.{take-length}
 use Rattle.weights.specs.Ledger.{Returned}
 use Rattle.weights.specs.Lines.{StandAmong, said_by, said_in}
-use Rattle.weights.specs.declared.entries.Line.{Line}
+use Rattle.weights.specs.declared.entries.ReturnedWeight.{ReturnedWeight}
 
 -- a part of a list is unchanged if more is appended to the list
 range_stays : (turns more : List ℕ) (at n : ℕ) → at + n ≤ length turns
@@ -19,7 +19,7 @@ range_stays turns more at n within =
     ∙ take-append-le ((at + n) - at) (drop at turns) more few
 
 -- the entries that lines represent are unchanged
-pub said_stays : (turns more : List ℕ) (lines : List Line) → StandAmong turns lines
+pub said_stays : (turns more : List ℕ) (lines : List ReturnedWeight) → StandAmong turns lines
     → said_in (turns ++ more) lines ≡ said_in turns lines
 said_stays turns more [] among = refl
 said_stays turns more (l ∷ lines) among =
@@ -28,7 +28,7 @@ said_stays turns more (l ∷ lines) among =
     ∙ ap (λ (rs : List Returned). said_by turns l ∷ rs) (said_stays turns more lines among.1)
 
 -- their paths are parts of the longer list of turns
-pub stands_among_more : (turns more : List ℕ) (lines : List Line) (l : Line) → StandAmong turns lines
+pub stands_among_more : (turns more : List ℕ) (lines : List ReturnedWeight) (l : ReturnedWeight) → StandAmong turns lines
     → l.at + l.length ≤ length (turns ++ more) → StandAmong (turns ++ more) (lines ++ l ∷ [])
 stands_among_more turns more [] l among within = (within, tt)
 stands_among_more turns more (x ∷ lines) l among within =
@@ -37,12 +37,12 @@ stands_among_more turns more (x ∷ lines) l among within =
     (omega (arith, long, low), stands_among_more turns more lines l among.1 within)
 
 -- a line for what is appended to all turns
-pub line_added : (turns path : List ℕ) (lines : List Line) (at n weight : ℕ) → StandAmong turns lines
+pub line_added : (turns path : List ℕ) (lines : List ReturnedWeight) (at n weight : ℕ) → StandAmong turns lines
     → at ≡ length turns → n ≡ length path
     → said_in (turns ++ path) (lines ++ record { at = at; length = n; weight = weight } ∷ [])
     ≡ said_in turns lines ++ record { path = path; weight = weight } ∷ []
 line_added turns path lines at n weight among is_at is_long =
-    let l : Line = record { at = at; length = n; weight = weight } in
+    let l : ReturnedWeight = record { at = at; length = n; weight = weight } in
     let many : (at + n) - at ≡ length path = omega (arith, is_long) in
     let its : slice_range (turns ++ path) at (at + n) ≡ path =
     ap (λ (xs : List ℕ). take ((at + n) - at) xs) (drop_at turns path at (sym is_at))
@@ -52,12 +52,12 @@ line_added turns path lines at n weight among is_at is_long =
     ∙ ap (λ (p : List ℕ). said_in turns lines ++ record { path = p; weight = weight } ∷ []) its
 
 -- one line more, and its path after the turns
-pub one_more : (turns path more : List ℕ) (lines many : List Line) (at n weight : ℕ) → StandAmong turns lines
+pub one_more : (turns path more : List ℕ) (lines many : List ReturnedWeight) (at n weight : ℕ) → StandAmong turns lines
     → at ≡ length turns → n ≡ length path → more ≡ turns ++ path
     → many ≡ lines ++ record { at = at; length = n; weight = weight } ∷ []
     → StandAmong more many × (said_in more many ≡ said_in turns lines ++ record { path = path; weight = weight } ∷ [])
 one_more turns path more lines many at n weight among is_at is_long is_more is_many =
-    let l : Line = record { at = at; length = n; weight = weight } in
+    let l : ReturnedWeight = record { at = at; length = n; weight = weight } in
     let long = length-append turns path in
     let within : at + n ≤ length (turns ++ path) = omega (arith, long, is_at, is_long) in (
       subst (λ (ts : List ℕ). StandAmong ts many) (sym is_more)
@@ -68,8 +68,8 @@ one_more turns path more lines many at n weight among is_at is_long is_more is_m
     )
 
 -- the path of the line with a number is part of the turns
-pub stands_at : (turns : List ℕ) (lines : List Line) (number : ℕ) (l : Line) → slice_get lines number ≡ Some l
+pub stands_at : (turns : List ℕ) (lines : List ReturnedWeight) (number : ℕ) (l : ReturnedWeight) → slice_get lines number ≡ Some l
     → StandAmong turns lines → l.at + l.length ≤ length turns
-stands_at turns (x ∷ lines) zero l is among = subst (λ (y : Line). y.at + y.length ≤ length turns) (same_Some _ _ is) among.0
+stands_at turns (x ∷ lines) zero l is among = subst (λ (y : ReturnedWeight). y.at + y.length ≤ length turns) (same_Some _ _ is) among.0
 stands_at turns (x ∷ lines) (suc number) l is among = stands_at turns lines number l is among.1
 stands_at turns [] number l is among = absurd (none-some l is)

@@ -13,7 +13,7 @@ use types::path::Path;
 
 /// A weight that came back, and the position of its task's path in the list of all turns.
 #[derive(Clone, Copy)]
-pub struct Line {
+pub struct ReturnedWeight {
     pub at: usize,
     pub length: usize,
     pub weight: u64,
@@ -24,7 +24,7 @@ pub struct Line {
 pub struct Entries {
     /// The turns of all paths, one path after the other. None is a separate allocation.
     turns: Vec<ChildNumber>,
-    lines: Vec<Line>,
+    lines: Vec<ReturnedWeight>,
 }
 
 impl Model for Entries {
@@ -65,7 +65,8 @@ impl Entries {
         }
         match self.turns.extend_from_slice(&path.turns) {
             Ok(()) => {
-                self.lines.push_reserved(Line { at, length, weight });
+                self.lines
+                    .push_reserved(ReturnedWeight { at, length, weight });
                 true
             }
             Err(_) => false,
@@ -90,14 +91,14 @@ impl Entries {
 }
 
 /// Returns the line with the given number.
-fn line_at(lines: &[Line], number: usize) -> Option<Line>
+fn line_at(lines: &[ReturnedWeight], number: usize) -> Option<ReturnedWeight>
     ensures { result ≡ slice_get lines.now number }
 {
     lines.get(number).copied()
 }
 
 /// Returns the path of a line.
-fn part_of(turns: &[ChildNumber], line: Line) -> &[ChildNumber]
+fn part_of(turns: &[ChildNumber], line: ReturnedWeight) -> &[ChildNumber]
     requires { line.at + line.length ≤ length turns.now }
     ensures { result.now ≡ slice_range turns.now line.at (line.at + line.length) }
 {

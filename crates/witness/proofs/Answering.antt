@@ -6,12 +6,12 @@ use Rattle.types.specs.Code.{Codes, Program}
 use Rattle.effects.specs.Sound.{IsSound}
 use Rattle.race_checker.specs.Races.{Race, IsRace, numbered}
 use Rattle.witness.specs.Crossed.{Crossed, MeetIn, both, crossed, plain, toward}
-use Rattle.ways.specs.Least.{AtMost, IsLesserOf, IsLeast, all_covered}
+use Rattle.witness.specs.Least.{AtMost, IsLesserOf, IsLeast, all_covered}
 use Rattle.witness.specs.Meets.{Meets}
 use Rattle.witness.specs.Witness.{IsShortest, PrefersFirst, PrefersThese, ShowIn, pending_one, later_one}
 use Rattle.witness.specs.declared.crossing.Crossing.{Crossing}
 use Rattle.witness.specs.declared.witness.Witness.{Witness}
-use Rattle.ways.proofs.Leasts.{least_either}
+use Rattle.witness.proofs.Leasts.{least_either}
 use Rattle.witness.proofs.Showing.{shown}
 
 abbrev pub size : Bool × Crossed → ℕ

@@ -5,15 +5,15 @@ use Rattle.types.specs.Code.{Number, Truth, Code, Do, If, While, Split, Call, As
 use Rattle.effects.specs.Accesses.{Access}
 use Rattle.effects.specs.Statements.{Block}
 use Rattle.witness.specs.Crossed.{Crossed, IsAcross, IsInTurn, MeetAt, MeetIn, both}
-use Rattle.ways.specs.Least.{AtMost, IsLesserOf, IsLeast, all_covered}
-use Rattle.ways.specs.Ways.{Way, WayOf}
+use Rattle.witness.specs.Least.{AtMost, IsLesserOf, IsLeast, all_covered}
+use Rattle.witness.specs.Ways.{Way, WayOf}
 use Rattle.witness.specs.Meets.{Meets, MeetsAt}
-use Rattle.witness.specs.declared.crossing.Meeting.{Meeting}
-use Rattle.witness.specs.declared.crossing.Meeting.TheVariants.{Follows}
-use Rattle.ways.specs.declared.step.Step.{Step}
-use Rattle.ways.proofs.Leasts.{least_none, least_same, least_either, at_most_more}
+use Rattle.witness.specs.declared.crossing.RunsTogether.{RunsTogether}
+use Rattle.witness.specs.declared.crossing.RunsTogether.TheVariants.{Follows}
+use Rattle.witness.specs.declared.step.WayStep.{WayStep}
+use Rattle.witness.proofs.Leasts.{least_none, least_same, least_either, at_most_more}
 
-abbrev crossing : Meeting → List Step → List Step → Crossed
+abbrev crossing : RunsTogether → List WayStep → List WayStep → Crossed
 crossing kind one other = record { meeting = kind; pending = one; later = other }
 
 module _ (p : Program) (x y : Access) where
@@ -24,7 +24,7 @@ module _ (p : Program) (x y : Access) where
     pending : WayOf p true l s c.pending x
     later : Way p false rest c.later y
 
-  following : (l : ℕ) (s : Code) (rest : Codes) (behind : Option (List Step)) (found : Option Crossed)
+  following : (l : ℕ) (s : Code) (rest : Codes) (behind : Option (List WayStep)) (found : Option Crossed)
       → IsLeast length all_covered (λ way. Way p false rest way y) behind → IsLeast both all_covered (IsAcross p l s x behind) found
       → IsLeast both all_covered (IsFollowing l s rest) found
   following l s rest behind found h k = record {
@@ -37,10 +37,10 @@ module _ (p : Program) (x y : Access) where
       some (Some c) a = record {
         meeting = a.meeting;
         pending = a.pending;
-        later = subst (λ (o : Option (List Step)). IfSome o (λ way. Way p false rest way y)) a.later h.among;
+        later = subst (λ (o : Option (List WayStep)). IfSome o (λ way. Way p false rest way y)) a.later h.among;
       }
 
-      shorter : (c : Crossed) → IsFollowing l s rest c → (o : Option (List Step)) → behind ≡ o → AtMost length o (length c.later)
+      shorter : (c : Crossed) → IsFollowing l s rest c → (o : Option (List WayStep)) → behind ≡ o → AtMost length o (length c.later)
           → AtMost both found (both c)
       shorter c f None e fewer = elim fewer [ ]
       shorter c f (Some way) e fewer =
@@ -50,7 +50,7 @@ module _ (p : Program) (x y : Access) where
   abbrev Parts : (l : ℕ) (s : Code) (rest : Codes) → Crossed → Type 0
   Parts l s rest c = IsFollowing l s rest c ⊎ (MeetAt p l s x y c ⊎ MeetIn p rest x y c)
 
-  meets_cases : {l : ℕ} {s : Code} {rest : Codes} {kind : Meeting} {one other : List Step} → Meets p (Then l s rest) kind one other x y
+  meets_cases : {l : ℕ} {s : Code} {rest : Codes} {kind : RunsTogether} {one other : List WayStep} → Meets p (Then l s rest) kind one other x y
       → Parts l s rest (crossing kind one other)
   meets_cases (Meets.follows w v) = inl (record { meeting = refl; pending = w; later = v })
   meets_cases (Meets.turns w v) = inr (inl (MeetsAt.turns w v))
@@ -59,9 +59,9 @@ module _ (p : Program) (x y : Access) where
 
   follows_meet : (l : ℕ) (s : Code) (rest : Codes) (c : Crossed) → IsFollowing l s rest c → MeetIn p (Then l s rest) x y c
   follows_meet l s rest c h =
-      subst (λ (k : Meeting). Meets p (Then l s rest) k c.pending c.later x y) (sym h.meeting) (Meets.follows h.pending h.later)
+      subst (λ (k : RunsTogether). Meets p (Then l s rest) k c.pending c.later x y) (sym h.meeting) (Meets.follows h.pending h.later)
 
-  at_meet : {l : ℕ} {s : Code} {kind : Meeting} {one other : List Step} → MeetsAt p l s kind one other x y → (rest : Codes)
+  at_meet : {l : ℕ} {s : Code} {kind : RunsTogether} {one other : List WayStep} → MeetsAt p l s kind one other x y → (rest : Codes)
       → Meets p (Then l s rest) kind one other x y
   at_meet (MeetsAt.turns w v) rest = Meets.turns w v
   at_meet (MeetsAt.inside k m) rest = Meets.inside k m
@@ -72,7 +72,7 @@ module _ (p : Program) (x y : Access) where
       none : (c : Crossed) → MeetIn p End x y c → ⊥
       none c m = elim m [ ]
 
-  pub crossing_front : (l : ℕ) (s : Code) (rest : Codes) (behind : Option (List Step)) (follow here best two found : Option Crossed)
+  pub crossing_front : (l : ℕ) (s : Code) (rest : Codes) (behind : Option (List WayStep)) (follow here best two found : Option Crossed)
       → IsLesserOf both here best two → IsLesserOf both follow two found
       → IsLeast length all_covered (λ way. Way p false rest way y) behind → IsLeast both all_covered (IsAcross p l s x behind) follow
       → IsLeast both all_covered (MeetAt p l s x y) here → IsLeast both all_covered (MeetIn p rest x y) best
@@ -96,12 +96,12 @@ module _ (p : Program) (x y : Access) where
         least_either both all_covered (MeetIn p b x y) (MeetIn p d x y) (MeetAt p l (If t b d) x y) one other found lesser
         (λ c m. MeetsAt.inside Block.if_body m) (λ c m. MeetsAt.inside Block.if_other m) (λ c m. cases m) h k
       where
-        block : {e : Codes} → Block (If t b d) e → {kind : Meeting} {one other : List Step} → Meets p e kind one other x y
+        block : {e : Codes} → Block (If t b d) e → {kind : RunsTogether} {one other : List WayStep} → Meets p e kind one other x y
             → Meets p b kind one other x y ⊎ Meets p d kind one other x y
         block Block.if_body m = inl m
         block Block.if_other m = inr m
 
-        cases : {kind : Meeting} {one other : List Step} → MeetsAt p l (If t b d) kind one other x y
+        cases : {kind : RunsTogether} {one other : List WayStep} → MeetsAt p l (If t b d) kind one other x y
             → Meets p b kind one other x y ⊎ Meets p d kind one other x y
         cases (MeetsAt.inside k m) = block k m
 
@@ -110,14 +110,14 @@ module _ (p : Program) (x y : Access) where
         → IsLeast both all_covered (MeetAt p l (While t b) x y) found
     at_while t b one other found lesser h k =
         least_either both all_covered (IsInTurn p l (While t b) x y) (MeetIn p b x y) (MeetAt p l (While t b) x y) one other found lesser
-        (λ c q. subst (λ (k : Meeting). MeetsAt p l (While t b) k c.pending c.later x y) (sym q.meeting) (MeetsAt.turns q.pending q.later))
+        (λ c q. subst (λ (k : RunsTogether). MeetsAt p l (While t b) k c.pending c.later x y) (sym q.meeting) (MeetsAt.turns q.pending q.later))
         (λ c m. MeetsAt.inside Block.while m) (λ c m. cases m) h k
       where
-        block : {e : Codes} → Block (While t b) e → {kind : Meeting} {one other : List Step} → Meets p e kind one other x y
+        block : {e : Codes} → Block (While t b) e → {kind : RunsTogether} {one other : List WayStep} → Meets p e kind one other x y
             → Meets p b kind one other x y
         block Block.while m = m
 
-        cases : {kind : Meeting} {one other : List Step} → MeetsAt p l (While t b) kind one other x y
+        cases : {kind : RunsTogether} {one other : List WayStep} → MeetsAt p l (While t b) kind one other x y
             → IsInTurn p l (While t b) x y (crossing kind one other) ⊎ Meets p b kind one other x y
         cases (MeetsAt.turns w v) = inl (record { meeting = refl; pending = w; later = v })
         cases (MeetsAt.inside k m) = inr (block k m)
@@ -138,7 +138,7 @@ module _ (p : Program) (x y : Access) where
         least_same both all_covered (MeetIn p b x y) (MeetAt p l s x y) found (λ c m. MeetsAt.inside k m)
         (λ c m. cases only m) h
       where
-        block : {u : Code} {e : Codes} → HasOnly u b → Block u e → {kind : Meeting} {one other : List Step}
+        block : {u : Code} {e : Codes} → HasOnly u b → Block u e → {kind : RunsTogether} {one other : List WayStep}
             → Meets p e kind one other x y → Meets p b kind one other x y
         block only Block.if_body m = absurd only
         block only Block.if_other m = absurd only
@@ -147,7 +147,7 @@ module _ (p : Program) (x y : Access) where
         block only Block.async {kind} {one} {other} m = subst (λ d. Meets p d kind one other x y) only m
         block only Block.finish {kind} {one} {other} m = subst (λ d. Meets p d kind one other x y) only m
 
-        cases : {u : Code} {kind : Meeting} {one other : List Step} → HasOnly u b
+        cases : {u : Code} {kind : RunsTogether} {one other : List WayStep} → HasOnly u b
             → MeetsAt p l u kind one other x y → Meets p b kind one other x y
         cases only (MeetsAt.turns w v) = absurd only
         cases only (MeetsAt.inside k m) = block only k m

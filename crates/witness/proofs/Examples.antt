@@ -5,10 +5,10 @@ use Rattle.sections.specs.Member.{first}
 use Rattle.effects.specs.Accesses.{Access}
 use Rattle.effects.specs.Statements.{Block}
 use Rattle.parallel_relation.proofs.Programs.{unfinished, split_in_loop, call_then_store}
-use Rattle.ways.specs.Ways.{Goes, Way, WayOf, step}
+use Rattle.witness.specs.Ways.{Goes, Way, WayOf, step}
 use Rattle.witness.specs.Meets.{Meets}
-use Rattle.witness.specs.declared.crossing.Meeting.TheVariants.{Follows, Turns}
-use Rattle.ways.specs.declared.step.Rule.TheVariants.{Own, Turn, Side, Enter, Begin}
+use Rattle.witness.specs.declared.crossing.RunsTogether.TheVariants.{Follows, Turns}
+use Rattle.witness.specs.declared.step.Rule.TheVariants.{Own, Turn, Side, Enter, Begin}
 
 abbrev reads : ℕ → ℕ → Access
 reads l s = record { label = l; section = s; write = false }

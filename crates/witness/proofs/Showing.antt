@@ -11,16 +11,16 @@ use Rattle.race_checker.specs.Races.{Race, IsRace}
 use Rattle.race_checker.proofs.Judging.{numbered_stands}
 use Rattle.witness.specs.Meets.{Meets}
 use Rattle.witness.specs.Witness.{IsShown}
-use Rattle.witness.specs.declared.crossing.Meeting.{Meeting}
-use Rattle.ways.specs.declared.step.Step.{Step}
-use Rattle.ways.proofs.HasWays.{done, done_of, left_of, leads_of, leads_in}
+use Rattle.witness.specs.declared.crossing.RunsTogether.{RunsTogether}
+use Rattle.witness.specs.declared.step.WayStep.{WayStep}
+use Rattle.witness.proofs.HasWays.{done, done_of, left_of, leads_of, leads_in}
 
 module _ (p : Program) (sound : IsSound p) where
   -- two ways meet in a list
   record HaveMet (b : Codes) (x y : Access) : Type 0 where
-    kind : Meeting
-    one : List Step
-    other : List Step
+    kind : RunsTogether
+    one : List WayStep
+    other : List WayStep
     meets : Meets p b kind one other x y
 
   -- a block of a statement follows the rules at its position
@@ -64,7 +64,7 @@ module _ (p : Program) (sound : IsSound p) where
       ]
 
 -- if two ways meet, the accesses that they lead to may run together
-pub together : (p : Program) {b : Codes} {kind : Meeting} {one other : List Step} {x y : Access} → Meets p b kind one other x y
+pub together : (p : Program) {b : Codes} {kind : RunsTogether} {one other : List WayStep} {x y : Access} → Meets p b kind one other x y
     → Together p accesses b x y
 together p (Meets.follows w v) = Together.follows (leads_of p w) (leads_in p v)
 together p (Meets.turns w v) = Together.turns (leads_of p w) (leads_of p v)

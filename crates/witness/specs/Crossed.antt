@@ -3,16 +3,16 @@ use Rattle.std.specs.Prelude.{ℕ, ◌≡◌, ◌+◌, Bool, true, false, List, 
 use Rattle.types.specs.Code.{Code, Codes, Program}
 use Rattle.effects.specs.Accesses.{Access}
 use Rattle.effects.specs.Translation.{access}
-use Rattle.ways.specs.Least.{IsLeast, all_covered}
+use Rattle.witness.specs.Least.{IsLeast, all_covered}
 use Rattle.types.specs.Translation.{program}
-use Rattle.ways.specs.Settled.{IsAim}
-use Rattle.ways.specs.Ways.{WayOf}
+use Rattle.witness.specs.Settled.{IsAim}
+use Rattle.witness.specs.Ways.{WayOf}
 use Rattle.witness.specs.Meets.{Meets, MeetsAt}
 use Rattle.witness.specs.declared.crossing.Crossing.{Crossing}
 use Rattle.witness.specs.declared.crossing.Pairing.{Pairing}
-use Rattle.witness.specs.declared.crossing.Meeting.{Meeting}
-use Rattle.witness.specs.declared.crossing.Meeting.TheVariants.{Follows, Turns}
-use Rattle.ways.specs.declared.step.Step.{Step}
+use Rattle.witness.specs.declared.crossing.RunsTogether.{RunsTogether}
+use Rattle.witness.specs.declared.crossing.RunsTogether.TheVariants.{Follows, Turns}
+use Rattle.witness.specs.declared.step.WayStep.{WayStep}
 
 -- the ways to both accesses are shortest ways in the program
 pub record ArePaired (two : Pairing) : Type 0 where
@@ -21,9 +21,9 @@ pub record ArePaired (two : Pairing) : Type 0 where
 
 -- two ways, and how they meet
 pub record Crossed : Type 0 where
-  pub meeting : Meeting
-  pub pending : List Step
-  pub later : List Step
+  pub meeting : RunsTogether
+  pub pending : List WayStep
+  pub later : List WayStep
 
 -- the number of steps of both ways
 abbrev pub both : Crossed → ℕ
@@ -37,7 +37,7 @@ crossed = option_map plain
 
 -- the first way leaves x pending, from this statement; the second is the way that was found after
 -- the statement
-pub record IsAcross (p : Program) (l : ℕ) (s : Code) (x : Access) (behind : Option (List Step))
+pub record IsAcross (p : Program) (l : ℕ) (s : Code) (x : Access) (behind : Option (List WayStep))
     (c : Crossed) : Type 0 where
   pub meeting : c.meeting ≡ Follows
   pub pending : WayOf p true l s c.pending x

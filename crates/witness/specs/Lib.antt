@@ -1,5 +1,9 @@
 pub mod Crossed
+pub mod Known
+pub mod Least
 pub mod Meets
+pub mod Searched
+pub mod Settled
 pub mod Sharing
+pub mod Ways
 pub mod Witness
-pub use Rattle.ways.specs.Ways

@@ -3,34 +3,34 @@ use Rattle.std.specs.Prelude.{ℕ, List, true, false}
 use Rattle.types.specs.Code.{Truth, Code, While, Codes, Then, Program}
 use Rattle.effects.specs.Accesses.{Access}
 use Rattle.effects.specs.Statements.{Block}
-use Rattle.ways.specs.Ways.{Way, WayOf}
-use Rattle.ways.specs.declared.step.Step.{Step}
-use Rattle.witness.specs.declared.crossing.Meeting.{Meeting}
-use Rattle.witness.specs.declared.crossing.Meeting.TheVariants.{Follows, Turns}
+use Rattle.witness.specs.Ways.{Way, WayOf}
+use Rattle.witness.specs.declared.step.WayStep.{WayStep}
+use Rattle.witness.specs.declared.crossing.RunsTogether.{RunsTogether}
+use Rattle.witness.specs.declared.crossing.RunsTogether.TheVariants.{Follows, Turns}
 
 module _ (p : Program) where
   -- two ways, to x and to y, start at a statement that leaves x pending and at one after it in its
   -- list, or at a loop, in two of its iterations
-  pub data Meets : Codes → Meeting → (pending later : List Step) → (x y : Access) → Type 0 where
-    follows : {l : ℕ} {s : Code} {rest : Codes} {first second : List Step} {x y : Access}
+  pub data Meets : Codes → RunsTogether → (pending later : List WayStep) → (x y : Access) → Type 0 where
+    follows : {l : ℕ} {s : Code} {rest : Codes} {first second : List WayStep} {x y : Access}
         → WayOf p true l s first x → Way p false rest second y
         → Meets (Then l s rest) Follows first second x y
-    turns : {l : ℕ} {t : Truth} {b rest : Codes} {first second : List Step} {x y : Access}
+    turns : {l : ℕ} {t : Truth} {b rest : Codes} {first second : List WayStep} {x y : Access}
         → WayOf p true l (While t b) first x → WayOf p false l (While t b) second y
         → Meets (Then l (While t b) rest) Turns first second x y
-    inside : {l : ℕ} {s : Code} {b rest : Codes} {kind : Meeting} {first second : List Step}
+    inside : {l : ℕ} {s : Code} {b rest : Codes} {kind : RunsTogether} {first second : List WayStep}
         {x y : Access} → Block s b → Meets b kind first second x y
         → Meets (Then l s rest) kind first second x y
-    later : {l : ℕ} {s : Code} {rest : Codes} {kind : Meeting} {first second : List Step}
+    later : {l : ℕ} {s : Code} {rest : Codes} {kind : RunsTogether} {first second : List WayStep}
         {x y : Access} → Meets rest kind first second x y
         → Meets (Then l s rest) kind first second x y
 
   -- two ways meet at a statement, at a loop, or inside one
-  pub data MeetsAt : (label : ℕ) → Code → Meeting → (pending later : List Step) → (x y : Access)
+  pub data MeetsAt : (label : ℕ) → Code → RunsTogether → (pending later : List WayStep) → (x y : Access)
       → Type 0 where
-    turns : {l : ℕ} {t : Truth} {b : Codes} {first second : List Step} {x y : Access}
+    turns : {l : ℕ} {t : Truth} {b : Codes} {first second : List WayStep} {x y : Access}
         → WayOf p true l (While t b) first x → WayOf p false l (While t b) second y
         → MeetsAt l (While t b) Turns first second x y
-    inside : {l : ℕ} {s : Code} {b : Codes} {kind : Meeting} {first second : List Step}
+    inside : {l : ℕ} {s : Code} {b : Codes} {kind : RunsTogether} {first second : List WayStep}
         {x y : Access} → Block s b → Meets b kind first second x y
         → MeetsAt l s kind first second x y

@@ -7,8 +7,8 @@ use Rattle.race_checker.specs.Races.{Race, numbered}
 use Rattle.witness.specs.Crossed.{Crossed, MeetIn, both}
 use Rattle.witness.specs.Sharing.{Shares}
 use Rattle.witness.specs.Meets.{Meets}
-use Rattle.witness.specs.declared.crossing.Meeting.{Meeting}
-use Rattle.ways.specs.declared.step.Step.{Step}
+use Rattle.witness.specs.declared.crossing.RunsTogether.{RunsTogether}
+use Rattle.witness.specs.declared.step.WayStep.{WayStep}
 use Rattle.witness.specs.declared.witness.Witness.{Witness}
 
 -- the access of a race that is left pending, and the access that is done after it
@@ -19,7 +19,7 @@ abbrev pub later_one : (first_pends : Bool) → Race → Access
 later_one first_pends r = if first_pends then r.second else r.first
 
 -- two ways show a race: by the rules of the table, they lead to its two accesses
-abbrev pub Shows : Program → Race → (first_pends : Bool) → Meeting → (pending later : List Step)
+abbrev pub Shows : Program → Race → (first_pends : Bool) → RunsTogether → (pending later : List WayStep)
     → Type 0
 Shows p r first_pends kind pending later =
     Meets p (numbered p r.procedure).body kind pending later
@@ -37,20 +37,20 @@ pub record IsWitness (p : Program) (r : Race) (w : Witness) : Type 0 where
 -- two ways show the race, with either of its accesses left pending
 pub record IsShown (p : Program) (r : Race) : Type 0 where
   pub first_pends : Bool
-  pub meeting : Meeting
-  pub pending : List Step
-  pub later : List Step
+  pub meeting : RunsTogether
+  pub pending : List WayStep
+  pub later : List WayStep
   pub shows : Shows p r first_pends meeting pending later
 
 -- no two ways that show the race have fewer steps
 pub record IsShortest (p : Program) (r : Race) (w : Witness) : Type 0 where
-  pub fewest : (first_pends : Bool) (kind : Meeting) (pending later : List Step)
+  pub fewest : (first_pends : Bool) (kind : RunsTogether) (pending later : List WayStep)
       → Shows p r first_pends kind pending later
       → length w.pending.items + length w.later.items ≤ length pending + length later
 
 -- the first access is the one left pending, unless all ways that leave it pending have more steps
 pub record PrefersFirst (p : Program) (r : Race) (w : Witness) : Type 0 where
-  pub more : w.first_pends ≡ false → (kind : Meeting) (pending later : List Step)
+  pub more : w.first_pends ≡ false → (kind : RunsTogether) (pending later : List WayStep)
       → Shows p r true kind pending later
       → length w.pending.items + length w.later.items < length pending + length later
 

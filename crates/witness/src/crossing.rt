@@ -5,17 +5,17 @@ ghost use Rattle.types.specs.Translation.{code as plain_code, codes as codes_of,
 ghost use Rattle.effects.specs.Translation.{access as access_of};
 ghost use Rattle.witness.specs.Crossed.{ArePaired, IsAcross, IsInTurn, IsShortestOf, MeetAt};
 ghost use Rattle.witness.specs.Crossed.{MeetIn, both, crossed};
-ghost use Rattle.ways.specs.Known.{steps};
-ghost use Rattle.ways.specs.Least.{IsLeast, IsLesserOf, all_covered};
+ghost use Rattle.witness.specs.Known.{steps};
+ghost use Rattle.witness.specs.Least.{IsLeast, IsLesserOf, all_covered};
 
+use crate::aim::Aim;
+use crate::step::{WayStep, shorter};
 use std::alloc::{AllocError, Global};
 use types::code::{Program, Stmt, StmtKind};
-use ways::aim::Aim;
-use ways::step::{Step, shorter};
 
 /// How two accesses can run together.
 #[derive(Clone, Copy, PartialEq, Eq, Debug)]
-pub enum Meeting {
+pub enum RunsTogether {
     /// A statement leaves one pending, and a later statement of its list does the other.
     Follows,
     /// A loop leaves one pending, and does the other in a later iteration.
@@ -47,9 +47,9 @@ impl<'a> Pairing<'a> {
 /// Two ways that start where they meet.
 #[derive(Drop)]
 pub(crate) struct Crossing {
-    pub meeting: Meeting,
-    pub pending: Vec<Step>,
-    pub later: Vec<Step>,
+    pub meeting: RunsTogether,
+    pub pending: Vec<WayStep>,
+    pub later: Vec<WayStep>,
 }
 
 impl Crossing {
@@ -107,7 +107,7 @@ pub(crate) fn crossing_in(
 fn across(
     pairing: &Pairing<'_>,
     statement: &Stmt,
-    behind: &Option<Vec<Step>>,
+    behind: &Option<Vec<WayStep>>,
 ) -> Result<Option<Crossing>, AllocError>
     requires { ArePaired pairing.now }
     ensures { IfOk result (λ found. IsLeast both all_covered (IsAcross (program_of pairing.now.code.now)
@@ -126,7 +126,7 @@ fn across(
     let mut later = Vec::new(pairing.alloc);
     later.extend_from_slice(behind)?;
     Ok(Some(Crossing {
-        meeting: Meeting::Follows,
+        meeting: RunsTogether::Follows,
         pending,
         later,
     }))
@@ -178,7 +178,7 @@ fn in_turn(pairing: &Pairing<'_>, statement: &Stmt) -> Result<Option<Crossing>, 
         return Ok(None);
     };
     Ok(Some(Crossing {
-        meeting: Meeting::Turns,
+        meeting: RunsTogether::Turns,
         pending,
         later,
     }))

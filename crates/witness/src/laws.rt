@@ -10,21 +10,21 @@ ghost use Rattle.sections.specs.declared.id.SectionId.{SectionId as TheSectionId
 ghost use Rattle.types.specs.Code.{Codes, Program};
 ghost use Rattle.race_checker.specs.Races.{IsRace, Race};
 ghost use Rattle.parallel_relation.specs.Together.{Together};
-ghost use Rattle.ways.specs.Ways.{Way};
+ghost use Rattle.witness.specs.Ways.{Way};
 ghost use Rattle.witness.specs.Meets.{Meets};
-ghost use Rattle.witness.specs.declared.crossing.Meeting.{Meeting};
+ghost use Rattle.witness.specs.declared.crossing.RunsTogether.{RunsTogether};
 ghost use Rattle.witness.specs.Sharing.{IsNearest, LiesIn, Shares};
 ghost use Rattle.witness.specs.declared.sharing.Sharing.{Sharing as TheSharing};
 ghost use Rattle.witness.specs.declared.sharing.Sharing.TheVariants.{OfSplits};
 ghost use Rattle.witness.specs.Witness.{IsShortest, IsShown, Shows};
-ghost use Rattle.ways.specs.declared.step.Step.{Step};
+ghost use Rattle.witness.specs.declared.step.WayStep.{WayStep};
 ghost use Rattle.witness.specs.declared.witness.Witness.{Witness as TheWitness};
 
 /// States that a way leads to what the statements may do, or leave pending, and to nothing else.
 pub fn ways_lead_to_what_is_done()
-    ensures done { (p : Program) (b : Codes) (way : List Step) (x : Access)
+    ensures done { (p : Program) (b : Codes) (way : List WayStep) (x : Access)
         → Way p false b way x → All p accesses b x }
-    ensures pending { (p : Program) (b : Codes) (way : List Step) (x : Access)
+    ensures pending { (p : Program) (b : Codes) (way : List WayStep) (x : Access)
         → Way p true b way x → Pending p accesses b x }
 {}
 
@@ -32,7 +32,7 @@ pub fn ways_lead_to_what_is_done()
 /// that they lead to may run together.
 pub fn races_are_shown()
     ensures shown { (p : Program) → IsSound p → (r : Race) → IsRace p r → IsShown p r }
-    ensures together { (p : Program) (b : Codes) (kind : Meeting) (one other : List Step)
+    ensures together { (p : Program) (b : Codes) (kind : RunsTogether) (one other : List WayStep)
         (x y : Access) → Meets p b kind one other x y → Together p accesses b x y }
 {}
 
@@ -40,10 +40,10 @@ pub fn races_are_shown()
 /// way that shows the race together with the second has fewer steps than the first, and none
 /// together with the first has fewer than the second.
 pub fn each_way_is_shortest()
-    ensures pending { (p : Program) (r : Race) (w : TheWitness) (way : List Step) → IsShortest p r w
+    ensures pending { (p : Program) (r : Race) (w : TheWitness) (way : List WayStep) → IsShortest p r w
         → Shows p r w.first_pends w.meeting way w.later.items
         → length w.pending.items ≤ length way }
-    ensures later { (p : Program) (r : Race) (w : TheWitness) (way : List Step) → IsShortest p r w
+    ensures later { (p : Program) (r : Race) (w : TheWitness) (way : List WayStep) → IsShortest p r w
         → Shows p r w.first_pends w.meeting w.pending.items way
         → length w.later.items ≤ length way }
 {}

@@ -2,10 +2,13 @@
 
 #![tactic(auto)]
 
+pub mod aim;
 pub mod crossing;
+mod known;
 pub mod laws;
+mod own;
+mod search;
+mod settling;
 pub mod sharing;
-
-pub use ways::step;
-
+pub mod step;
 pub mod witness;

@@ -8,31 +8,31 @@ ghost use Rattle.types.specs.Typed.{code_of};
 ghost use Rattle.race_checker.specs.Races.{IsRace, numbered};
 ghost use Rattle.race_checker.specs.Translation.{race as race_of};
 ghost use Rattle.witness.specs.Crossed.{MeetIn, both, directed, toward};
-ghost use Rattle.ways.specs.Least.{IsLeast, IsLesserOf, all_covered};
+ghost use Rattle.witness.specs.Least.{IsLeast, IsLesserOf, all_covered};
 ghost use Rattle.witness.specs.Witness.{IsShortest, IsWitness, PrefersFirst, PrefersThese, ShowIn};
 
-use crate::crossing::{Crossing, Meeting, Pairing, crossing_in};
+use crate::aim::Aim;
+use crate::crossing::{Crossing, Pairing, RunsTogether, crossing_in};
 use crate::sharing::{Sharing, sharing_of};
+use crate::step::WayStep;
 use race_checker::race::Race;
 use std::alloc::{AllocError, Global};
 use types::code::{Procedure, Program, Stmt};
 use types::ids::ProcedureId;
 use types::laws::typed_programs_are_sound;
 use types::typed::Typed;
-use ways::aim::Aim;
-use ways::step::Step;
 
 /// Why two accesses may run together and share places. Both ways start at statements of one list of
 /// the race's procedure. Each step is at a statement of the list that the previous step led to.
 #[derive(Drop)]
 pub struct Witness {
     /// Whether the two ways start at a statement and at one after it, or at a loop.
-    pub meeting: Meeting,
+    pub meeting: RunsTogether,
     /// The way to the access that is left pending. Its last step is at the statement that makes the
     /// access.
-    pub pending: Vec<Step>,
+    pub pending: Vec<WayStep>,
     /// The way to the other access.
-    pub later: Vec<Step>,
+    pub later: Vec<WayStep>,
     /// Whether the race's first access is the one that is left pending.
     pub first_pends: bool,
     /// Why the sections of the two share places.

@@ -9,8 +9,8 @@ use Rattle.std.proofs.lemmas.Option.{none-some}
 use Rattle.std.proofs.lemmas.List.Sums.{sum_by-append, sum_by_push}
 use Rattle.types.specs.Translation.{outcome}
 use Rattle.types.specs.declared.outcome.Outcome.{Outcome}
-use Rattle.gather.specs.Jobs.{outcome_of}
-use Rattle.gather.specs.declared.job.Job.{Job}
+use Rattle.task_run.specs.Jobs.{outcome_of}
+use Rattle.task_run.specs.declared.job.Job.{Job}
 use Rattle.gather.specs.declared.run_error.RunError.{RunError}
 use Rattle.gather.specs.declared.run_error.RunError.TheVariants.{OutOfMemory, RefusedPush, RefusedThread}
 use Rattle.gather.specs.declared.run_error.RunError.TheVariants.{IssuedTooOften, TooManyTasks, Gather}
@@ -20,8 +20,8 @@ use Rattle.tickets.specs.Shares.{times, one_below}
 use Rattle.tickets.specs.declared.word.Seat.{Seat}
 use Rattle.tickets.specs.declared.word.Tickets.{Tickets}
 use Rattle.workers.specs.Causes.{HasDrawn, HasTicket, IsReason}
-use Rattle.workers.specs.Desks.{AreBelow, EndsRun, Fails, HasSeat, IsFresh, TellTogether, Tells}
-use Rattle.workers.specs.declared.kit.Report.{Report}
+use Rattle.workers.specs.WorkerStates.{AreBelow, EndsRun, Fails, HasSeat, IsFresh, TellTogether, Tells}
+use Rattle.workers.specs.declared.worker.Report.{Report}
 
 -- ---- one seat
 

@@ -7,8 +7,8 @@ use Rattle.serial_run.specs.contracts.code.Flat as Flat
 use Rattle.serial_run.specs.contracts.code.Line as Line
 use Rattle.serial_run.specs.contracts.code.Instruction as Instruction
 use Rattle.serial_run.specs.contracts.safe.Limits as Limits
-use Rattle.program_code.specs.contracts.pieces.ProgramCode as ProgramCode
-use Rattle.serial_run.proofs.code.Told.TheSendSync as OfTold
+use Rattle.plain_code.specs.contracts.pieces.ProgramCode as ProgramCode
+use Rattle.serial_run.proofs.code.PrintedNumber.TheSendSync as OfTold
 use Rattle.serial_run.proofs.code.Fused.TheSendSync as OfFused
 use Rattle.finish_scope.proofs.Crossing.{code_sync, stmt_sync, truth_sync}
 

@@ -3,11 +3,11 @@ use Rattle.std.proofs.Common.{◌≡◌, ℕ, Option, Some, None, Result, Ok, Er
 use Rattle.std.specs.Prelude.{IfOk, IfSome}
 use Rattle.std.proofs.lemmas.Option.{same_Some}
 use Rattle.types.specs.Outcome.{Outcome}
-use Rattle.gather.specs.Jobs.{outcome_of}
-use Rattle.gather.specs.declared.job.Job.{Job}
+use Rattle.task_run.specs.Jobs.{outcome_of}
+use Rattle.task_run.specs.declared.job.Job.{Job}
 use Rattle.gather.specs.declared.run_error.RunError.{RunError}
 use Rattle.gather.proofs.RunCauses.{run_cause}
-use Rattle.interleave.specs.declared.job.WeightedJob.{WeightedJob}
+use Rattle.event_worlds.specs.declared.job.WeightedJob.{WeightedJob}
 use Rattle.trace.specs.Logs.{LeadsToOutcome, Recorded}
 use Rattle.gather.specs.RunErrors.{IsRunCause}
 use Rattle.gather.specs.declared.run_error.RunError.TheVariants.{OutOfMemory, RefusedPush, RefusedThread}

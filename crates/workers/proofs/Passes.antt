@@ -3,31 +3,31 @@ use Rattle.std.proofs.Common.{◌≡◌, List, [], ◌∷◌, Option, Some, map,
 use Rattle.std.proofs.lemmas.Grind.{reverse_onto}
 use Rattle.std.proofs.lemmas.Option.{same_Some}
 use Rattle.sections.specs.Place.{Place}
-use Rattle.own_run.specs.Frames.{AtEnd}
-use Rattle.own_run.specs.Lists.{Each}
-use Rattle.own_run.specs.Results.{TaskResult as Results}
-use Rattle.own_run.specs.Runs.{root, IsTaskResult}
-use Rattle.own_run.specs.Settling.{settle}
-use Rattle.own_run.specs.Translation.{owned_by, settled, task_result}
-use Rattle.own_run.specs.declared.result.Settled.{Settled}
-use Rattle.own_run.specs.declared.result.TaskResult.{TaskResult as Made}
-use Rattle.own_run.proofs.Lists.{each_last, each_map}
+use Rattle.task_run.specs.Frames.{AtEnd}
+use Rattle.task_run.specs.Lists.{Each}
+use Rattle.task_run.specs.Results.{TaskResult as Results}
+use Rattle.task_run.specs.Runs.{root, IsTaskResult}
+use Rattle.task_run.specs.Settling.{settle}
+use Rattle.task_run.specs.Translation.{owned_by, settled, task_result}
+use Rattle.task_run.specs.declared.result.Settled.{Settled}
+use Rattle.task_run.specs.declared.result.TaskResult.{TaskResult as Made}
+use Rattle.task_run.proofs.Lists.{each_last, each_map}
 use Rattle.gather.specs.GivesBack.{GiveBack, all_owned}
-use Rattle.gather.specs.Jobs.{program_of, lists_of, budget_of, outcome_of, IsJob}
+use Rattle.task_run.specs.Jobs.{program_of, lists_of, budget_of, outcome_of, IsJob}
 use Rattle.gather.specs.Refusal.{IsCaseOf}
 use Rattle.gather.specs.declared.error.GatherError.{GatherError}
-use Rattle.gather.specs.declared.job.Job.{Job}
+use Rattle.task_run.specs.declared.job.Job.{Job}
 use Rattle.gather.proofs.TasksGiveBack.{give_back}
-use Rattle.task_machine.specs.Ends.{Comes, EndsSo, IsAtEnd, IsParked}
-use Rattle.task_machine.specs.Tasks.{IsResultOf}
-use Rattle.task_machine.specs.declared.finish.Owner.{Owner}
-use Rattle.task_machine.specs.declared.finish.Owner.TheVariants.{Main, Finish}
-use Rattle.task_machine.specs.declared.finish.Parked.{Parked}
-use Rattle.task_machine.specs.declared.finish.Waiting.{Waiting}
-use Rattle.task_machine.specs.declared.stake.Stake.{Stake}
+use Rattle.weighted_task.specs.Ends.{Comes, EndsSo, IsAtEnd, IsParked}
+use Rattle.weighted_task.specs.Tasks.{IsResultOf}
+use Rattle.weighted_task.specs.declared.finish.Owner.{Owner}
+use Rattle.weighted_task.specs.declared.finish.Owner.TheVariants.{Main, Finish}
+use Rattle.weighted_task.specs.declared.finish.Parked.{Parked}
+use Rattle.weighted_task.specs.declared.finish.Waiting.{Waiting}
+use Rattle.weighted_task.specs.declared.stake.Stake.{Stake}
 use Rattle.workers.specs.Own.{IsNext, IsOwnNext}
-use Rattle.workers.specs.declared.post.Next.{Next}
-use Rattle.workers.specs.declared.post.Next.TheVariants.{Goes, Idle, Told}
+use Rattle.workers.specs.declared.open_scopes.Next.{Next}
+use Rattle.workers.specs.declared.open_scopes.Next.TheVariants.{Goes, Idle, Told}
 
 -- what is true of each element of a list is true of each element of its reverse
 pub each_reversed : {A : Type 0} (P : A → Type 0) (xs : List A) → Each P xs → Each P (reverse xs)

@@ -12,30 +12,30 @@ use Rattle.std.specs.contracts.sync.Mutex as Mutex
 use Rattle.std.proofs.marker.PhantomData.TheSendSync as OfPhantom
 use Rattle.std.proofs.result.Result.TheSendSync as OfResult
 use Rattle.std.proofs.sync.Mutex.TheSendSync as OfMutex
-use Rattle.own_run.proofs.result.TaskResult.TheSendSync as OfTaskResult
+use Rattle.task_run.proofs.result.TaskResult.TheSendSync as OfTaskResult
 use Rattle.finish_scope.specs.declared.running.Running.{Ghosts}
 use Rattle.finish_scope.proofs.Crossing.{carried, job_send, paused_send, run_send, start_send}
 use Rattle.events.proofs.event.Event.TheSendSync as OfEvent
 use Rattle.events.proofs.worker_id.WorkerId.TheSendSync as OfWorkerId
 use Rattle.types.proofs.scope_id.ScopeId.TheSendSync as OfScopeId
-use Rattle.interleave.specs.contracts.doing.Doing as Doing
-use Rattle.interleave.specs.contracts.error.EventError as EventError
-use Rattle.interleave.specs.contracts.job.WeightedJob as WeightedJob
-use Rattle.interleave.specs.contracts.task.Task as Task
-use Rattle.interleave.specs.contracts.world.World as World
-use Rattle.interleave.proofs.error.EventError.TheSendSync as OfError
-use Rattle.interleave.proofs.scope.Scope.TheSendSync as OfScope
-use Rattle.interleave.proofs.task.Stake.TheSendSync as OfStake
-use Rattle.interleave.proofs.task.Whereabouts.TheSendSync as OfWhereabouts
+use Rattle.event_worlds.specs.contracts.doing.TaskProgress as TaskProgress
+use Rattle.event_worlds.specs.contracts.error.EventError as EventError
+use Rattle.event_worlds.specs.contracts.job.WeightedJob as WeightedJob
+use Rattle.event_worlds.specs.contracts.task.WorldTask as WorldTask
+use Rattle.event_worlds.specs.contracts.world.World as World
+use Rattle.event_worlds.proofs.error.EventError.TheSendSync as OfError
+use Rattle.event_worlds.proofs.scope.WorldScope.TheSendSync as OfScope
+use Rattle.event_worlds.proofs.task.WorldStake.TheSendSync as OfStake
+use Rattle.event_worlds.proofs.task.Whereabouts.TheSendSync as OfWhereabouts
 use Rattle.trace.specs.contracts.log.Log as Log
 use Rattle.trace.specs.contracts.log.Log.TheInside as InLog
-use Rattle.workers.specs.contracts.page.OwnLog as OwnLog
-use Rattle.workers.specs.contracts.page.OwnLog.TheInside as InOwnLog
+use Rattle.workers.specs.contracts.log_guard.OwnLog as OwnLog
+use Rattle.workers.specs.contracts.log_guard.OwnLog.TheInside as InOwnLog
 use Rattle.workers.specs.contracts.locked_log.LockedLog as LockedLog
 
-doing_send : (κ : NamedLft) → IsSend (Doing.the_row κ)
+doing_send : (κ : NamedLft) → IsSend (TaskProgress.the_row κ)
 doing_send κ =
-    variants_send (Doing.enum κ) (
+    variants_send (TaskProgress.enum κ) (
       (start_send κ, tt),
       (
         (run_send κ, tt),
@@ -52,9 +52,9 @@ doing_send κ =
 weighted_job_send : (κ : NamedLft) → IsSend (WeightedJob.the_row κ)
 weighted_job_send κ = declared_send (WeightedJob.the_type κ) (job_send κ, (search sendable, tt))
 
-task_send : (κ : NamedLft) → IsSend (Task.the_row κ)
+task_send : (κ : NamedLft) → IsSend (WorldTask.the_row κ)
 task_send κ =
-    declared_send (Task.the_type κ) (
+    declared_send (WorldTask.the_type κ) (
       doing_send κ,
       (
         search sendable,

@@ -1,6 +1,6 @@
 -- What a scope's rejection becomes.
 use Rattle.std.proofs.Common.{◌≡◌, ℕ, ◌<◌, ◌⊎◌, inl, inr, Option, None}
-use Rattle.gather.specs.declared.job.Job.{Job}
+use Rattle.task_run.specs.declared.job.Job.{Job}
 use Rattle.finish_scope.specs.Scopes.{Standing, Cannot, IsEven, out_of}
 use Rattle.finish_scope.specs.declared.late.Reason.{Reason}
 use Rattle.finish_scope.specs.declared.late.Reason.TheVariants.{NotDue, IssuedTooOften}

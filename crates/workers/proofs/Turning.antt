@@ -1,14 +1,14 @@
 -- All results of a turn are of the job of the run.
 use Rattle.std.proofs.Common.{◌≡◌, ℕ, Option, Some, sym, ap, ◌∙◌, subst}
-use Rattle.own_run.specs.declared.start.Start.{Start}
-use Rattle.gather.specs.declared.job.Job.{Job}
-use Rattle.task_machine.specs.Turns.{Divides, Parts}
-use Rattle.task_machine.specs.declared.task.Child.{Child}
-use Rattle.task_machine.specs.declared.turn.Wanting.{Wanting}
-use Rattle.task_machine.proofs.Turning.{parts_tasks}
-use Rattle.task_machine.specs.declared.task.Body.{Body}
-use Rattle.task_machine.specs.declared.task.Task.{Task}
-use Rattle.task_machine.specs.declared.turn.Turn.TheVariants.{Spawns}
+use Rattle.task_run.specs.declared.start.Start.{Start}
+use Rattle.task_run.specs.declared.job.Job.{Job}
+use Rattle.weighted_task.specs.Turns.{Divides, Parts}
+use Rattle.weighted_task.specs.declared.task.Child.{Child}
+use Rattle.weighted_task.specs.declared.turn.Wanting.{Wanting}
+use Rattle.weighted_task.proofs.Turning.{parts_tasks}
+use Rattle.weighted_task.specs.declared.task.Body.{Body}
+use Rattle.weighted_task.specs.declared.task.Task.{Task}
+use Rattle.weighted_task.specs.declared.turn.WeightedTurn.TheVariants.{Spawns}
 use Rattle.workers.specs.Own.{IsOwnChild, IsOwnTask, IsOwnWanting}
 
 -- a task that needed weight has more of it, and its child has half

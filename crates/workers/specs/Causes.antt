@@ -5,20 +5,20 @@ use Rattle.std.specs.Global.{Global}
 use Rattle.types.specs.declared.budget.Budget.{Budget}
 use Rattle.types.specs.declared.input.Input.{Input}
 use Rattle.race_checker.specs.declared.accepted.Accepted.{Accepted}
-use Rattle.own_run.specs.Lists.{Each}
-use Rattle.own_run.specs.Translation.{task_result}
-use Rattle.own_run.specs.declared.result.TaskResult.{TaskResult as Made}
+use Rattle.task_run.specs.Lists.{Each}
+use Rattle.task_run.specs.Translation.{task_result}
+use Rattle.task_run.specs.declared.result.TaskResult.{TaskResult as Made}
 use Rattle.gather.specs.Refusal.{IsCaseOf}
 use Rattle.gather.specs.RunErrors.{IsCause, IsRunCause}
 use Rattle.gather.specs.declared.error.GatherError.{GatherError}
-use Rattle.gather.specs.declared.job.Job.{Job}
+use Rattle.task_run.specs.declared.job.Job.{Job}
 use Rattle.gather.specs.declared.run_error.RunError.{RunError}
 use Rattle.gather.specs.declared.run_error.RunError.TheVariants as In
 use Rattle.tickets.specs.Seats.{WasDrawn}
 use Rattle.tickets.specs.Shares.{times}
-use Rattle.task_machine.specs.Ends.{IsParked}
-use Rattle.task_machine.specs.Tasks.{IsResultOf}
-use Rattle.task_machine.specs.declared.finish.Parked.{Parked}
+use Rattle.weighted_task.specs.Ends.{IsParked}
+use Rattle.weighted_task.specs.Tasks.{IsResultOf}
+use Rattle.weighted_task.specs.declared.finish.Parked.{Parked}
 use Rattle.finish_scope.specs.Scopes.{Standing, Cannot, IsEven, out_of}
 use Rattle.finish_scope.specs.declared.late.Reason.{Reason}
 use Rattle.finish_scope.specs.declared.late.Reason.TheVariants.{NotDue as L1, IssuedTooOften as L2}

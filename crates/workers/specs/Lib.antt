@@ -1,4 +1,4 @@
 pub mod Causes
-pub mod Desks
 pub mod Logs
 pub mod Own
+pub mod WorkerStates

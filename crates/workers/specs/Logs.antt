@@ -1,12 +1,12 @@
 -- The log of a run.
 use Rattle.std.specs.Prelude.{ℕ, ◌≡◌, Option, Some}
-use Rattle.gather.specs.Jobs.{outcome_of}
-use Rattle.gather.specs.declared.job.Job.{Job}
+use Rattle.task_run.specs.Jobs.{outcome_of}
+use Rattle.task_run.specs.declared.job.Job.{Job}
 use Rattle.gather.specs.declared.run_error.RunError.{RunError}
 use Rattle.gather.specs.declared.run_error.RunError.TheVariants.{OutOfMemory, Unlogged}
-use Rattle.interleave.specs.declared.error.EventError.{EventError}
-use Rattle.interleave.specs.declared.error.EventError.TheVariants.{Illegal, NoMemory}
-use Rattle.interleave.specs.declared.job.WeightedJob.{WeightedJob}
+use Rattle.event_worlds.specs.declared.error.EventError.{EventError}
+use Rattle.event_worlds.specs.declared.error.EventError.TheVariants.{Illegal, NoMemory}
+use Rattle.event_worlds.specs.declared.job.WeightedJob.{WeightedJob}
 use Rattle.trace.specs.Logs.{IsClean, LeadsToOutcome, Recorded}
 
 -- the error of a run whose log rejects an event

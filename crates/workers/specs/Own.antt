@@ -1,30 +1,30 @@
 -- What belongs to the job of a run.
 use Rattle.std.specs.Prelude.{◌≡◌, List, Option, Some}
 use Rattle.types.specs.Translation.{outcome}
-use Rattle.own_run.specs.Lists.{Each}
-use Rattle.program_code.specs.Pieces.{IsCodeOfProgram}
-use Rattle.program_code.specs.declared.pieces.ProgramCode.{ProgramCode}
-use Rattle.own_run.specs.declared.result.TaskResult.{TaskResult as Made}
-use Rattle.gather.specs.Jobs.{outcome_of, program_of}
-use Rattle.gather.specs.declared.job.Job.{Job}
-use Rattle.task_machine.specs.Ends.{IsParked}
-use Rattle.task_machine.specs.Tasks.{IsTask, IsChild, IsResultOf}
-use Rattle.task_machine.specs.Turns.{IsWanting}
-use Rattle.task_machine.specs.declared.finish.Ending.{Ending}
-use Rattle.task_machine.specs.declared.finish.Parked.{Parked}
-use Rattle.task_machine.specs.declared.task.Body.{Body}
-use Rattle.task_machine.specs.declared.task.Child.{Child}
-use Rattle.task_machine.specs.declared.task.Task.{Task}
-use Rattle.task_machine.specs.declared.turn.TaskResult.{TaskResult}
-use Rattle.task_machine.specs.declared.turn.Turn.{Turn}
-use Rattle.task_machine.specs.declared.turn.Turn.TheVariants.{Going, Spawns, WantsWeight, EntersFinish}
-use Rattle.task_machine.specs.declared.turn.Turn.TheVariants.{EndsFinish, Ended, Over}
-use Rattle.task_machine.specs.declared.turn.Wanting.{Wanting}
-use Rattle.task_machine.specs.Tasks.{IsBody}
-use Rattle.workers.specs.declared.post.Next.{Next}
-use Rattle.workers.specs.declared.post.Next.TheVariants.{Goes, Idle, Told}
-use Rattle.workers.specs.declared.post.Step.{Step}
-use Rattle.workers.specs.declared.post.Step.TheVariants.{Follows, Spawned}
+use Rattle.task_run.specs.Lists.{Each}
+use Rattle.plain_code.specs.Pieces.{IsCodeOfProgram}
+use Rattle.plain_code.specs.declared.pieces.ProgramCode.{ProgramCode}
+use Rattle.task_run.specs.declared.result.TaskResult.{TaskResult as Made}
+use Rattle.task_run.specs.Jobs.{outcome_of, program_of}
+use Rattle.task_run.specs.declared.job.Job.{Job}
+use Rattle.weighted_task.specs.Ends.{IsParked}
+use Rattle.weighted_task.specs.Tasks.{IsTask, IsChild, IsResultOf}
+use Rattle.weighted_task.specs.Turns.{IsWanting}
+use Rattle.weighted_task.specs.declared.finish.Ending.{Ending}
+use Rattle.weighted_task.specs.declared.finish.Parked.{Parked}
+use Rattle.weighted_task.specs.declared.task.Body.{Body}
+use Rattle.weighted_task.specs.declared.task.Child.{Child}
+use Rattle.weighted_task.specs.declared.task.Task.{Task}
+use Rattle.weighted_task.specs.declared.turn.WeightedResult.{WeightedResult}
+use Rattle.weighted_task.specs.declared.turn.WeightedTurn.{WeightedTurn}
+use Rattle.weighted_task.specs.declared.turn.WeightedTurn.TheVariants.{Going, Spawns, WantsWeight, EntersFinish}
+use Rattle.weighted_task.specs.declared.turn.WeightedTurn.TheVariants.{EndsFinish, Ended, Over}
+use Rattle.weighted_task.specs.declared.turn.Wanting.{Wanting}
+use Rattle.weighted_task.specs.Tasks.{IsBody}
+use Rattle.workers.specs.declared.open_scopes.Next.{Next}
+use Rattle.workers.specs.declared.open_scopes.Next.TheVariants.{Goes, Idle, Told}
+use Rattle.workers.specs.declared.open_scopes.AfterTurn.{AfterTurn}
+use Rattle.workers.specs.declared.open_scopes.AfterTurn.TheVariants.{Follows, Spawned}
 
 -- what a worker continues with is of this job, and what it reports is the one-thread outcome
 abbrev pub IsNext : Job → Next → Type 0
@@ -58,12 +58,12 @@ module _ (o : Option Job) where
     pub job : o ≡ Some e.parked.value.job
     pub ends : IsParked e.parked.value
 
-  pub record IsOwnEnded (r : TaskResult) : Type 0 where
+  pub record IsOwnEnded (r : WeightedResult) : Type 0 where
     pub job : o ≡ Some r.job
     pub result : IsResultOf r.job r.made
 
   -- the result of a turn
-  abbrev pub IsOwnTurn : Turn → Type 0
+  abbrev pub IsOwnTurn : WeightedTurn → Type 0
   IsOwnTurn (Going t) = IsOwnTask t
   IsOwnTurn (Spawns t c) = IsOwnTask t × IsOwnChild c
   IsOwnTurn (WantsWeight w) = IsOwnWanting w
@@ -85,6 +85,6 @@ module _ (o : Option Job) where
   IsOwnNext (Told x) = (j : Job) → o ≡ Some j → outcome x ≡ outcome_of j
 
   -- what a turn led to
-  abbrev pub IsOwnStep : Step → Type 0
+  abbrev pub IsOwnStep : AfterTurn → Type 0
   IsOwnStep (Follows n) = IsOwnNext n
   IsOwnStep (Spawned t c) = IsOwnTask t × IsOwnChild c

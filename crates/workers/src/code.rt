@@ -3,7 +3,7 @@
 ghost use Rattle.workers.specs.Own.{HasCode};
 
 use finish_scope::running::Running;
-use program_code::pieces::ProgramCode;
+use plain_code::pieces::ProgramCode;
 use std::marker::{Model, PhantomData};
 
 /// The flat code of the run's program, with which tasks run up to the next turn that others see.

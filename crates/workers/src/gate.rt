@@ -1,10 +1,10 @@
 //! Observers of tasks.
 
 ghost use Rattle.std.specs.Prelude.{◌↔◌, IsSome, IsTrue};
-ghost use Rattle.task_machine.specs.Tasks.{IsTask};
+ghost use Rattle.weighted_task.specs.Tasks.{IsTask};
 
-use task_machine::task::Task;
 use types::path::Path;
+use weighted_task::task::Task;
 
 /// An observer of each task except the root: as the task starts, and once it has finished. It also
 /// observes when a worker holds the lock of a scope. It may wait.

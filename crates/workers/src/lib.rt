@@ -4,17 +4,17 @@
 
 mod code;
 pub mod error;
-mod floor;
 pub mod gate;
-mod hall;
-mod kit;
 mod locked_log;
+mod log_guard;
+mod main_loop;
+mod open_scopes;
 mod opening;
-mod page;
 mod passing;
-mod post;
+mod pool;
 mod ready;
 pub mod reports;
 pub mod run;
 mod scopes;
 pub mod settings;
+mod worker;

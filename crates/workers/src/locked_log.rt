@@ -4,11 +4,11 @@ ghost use Rattle.std.specs.Prelude.{◌≡◌, ◌↔◌, IfErr, IfOk, IfSome, I
 ghost use Rattle.workers.specs.Causes.{IsOfLog};
 ghost use Rattle.workers.specs.Logs.{IsLogOfRun, IsOwnLog, of_log};
 
-use crate::hall::Hall;
-use crate::page::{OwnLog, Page};
+use crate::log_guard::{LogGuard, OwnLog};
+use crate::pool::Pool;
+use event_worlds::error::EventError;
 use finish_scope::running::Running;
 use gather::run_error::RunError;
-use interleave::error::EventError;
 use std::sync::{Mutex, Wait};
 use trace::log::Log;
 
@@ -28,13 +28,13 @@ impl<'p, J: Running> LockedLog<'p, J> {
         }
     }
 
-    /// Takes the lock. The page is closed if the run is over.
-    pub fn hold<'h, R: Wait>(&'h self, rt: &R, hall: &'h Hall<'p, J>) -> Page<'h, 'p, J> {
+    /// Takes the lock. The guard is closed if the run is over.
+    pub fn hold<'h, R: Wait>(&'h self, rt: &R, pool: &'h Pool<'p, J>) -> LogGuard<'h, 'p, J> {
         let guard = self.log.lock(rt);
-        if hall.is_over() {
-            return Page::closed(hall);
+        if pool.is_over() {
+            return LogGuard::closed(pool);
         }
-        Page::open(guard, hall)
+        LogGuard::open(guard, pool)
     }
 
     /// Returns the log once the run is over. Its events must lead to the end of the run.
@@ -60,15 +60,15 @@ pub fn locked<'p, J: Running>(log: Option<Log<'p>>) -> Option<LockedLog<'p, J>>
     }
 }
 
-/// Takes the log's lock. The page is closed if the run has no log, or is over.
+/// Takes the log's lock. The guard is closed if the run has no log, or is over.
 pub fn hold<'h, 'p, J: Running, R: Wait>(
     log: &'h Option<LockedLog<'p, J>>,
     rt: &R,
-    hall: &'h Hall<'p, J>,
-) -> Page<'h, 'p, J> {
+    pool: &'h Pool<'p, J>,
+) -> LogGuard<'h, 'p, J> {
     match log {
-        Some(log) => log.hold(rt, hall),
-        None => Page::closed(hall),
+        Some(log) => log.hold(rt, pool),
+        None => LogGuard::closed(pool),
     }
 }
 

@@ -1,31 +1,31 @@
 //! The state before a run.
 
 ghost use Rattle.std.specs.Prelude.{◌≡◌, ◌+◌, ◌↔◌, All, IfErr, IfOk, IsSome, OnOk, Some, vec_len};
-ghost use Rattle.gather.specs.Jobs.{IsJob};
+ghost use Rattle.task_run.specs.Jobs.{IsJob};
 ghost use Rattle.tickets.specs.Seats.{seats_of};
 ghost use Rattle.workers.specs.Causes.{Happens};
-ghost use Rattle.workers.specs.Desks.{HasSeat, IsFresh};
+ghost use Rattle.workers.specs.WorkerStates.{HasSeat, IsFresh};
 
 use crate::code::OwnCode;
 use crate::error::Trouble;
-use crate::floor::Floor;
 use crate::gate::Gate;
-use crate::hall::Hall;
-use crate::kit::{Desk, Kit};
 use crate::locked_log::LockedLog;
-use crate::post::Post;
+use crate::main_loop::Shared;
+use crate::open_scopes::OpenScopes;
+use crate::pool::Pool;
 use crate::ready::First;
 use crate::settings::Settings;
+use crate::worker::{WorkerParts, WorkerState};
 use crossbeam_utils::sync::Parker;
 use finish_scope::inner::Inner;
 use finish_scope::running::Running;
-use gather::job::Job;
 use std::alloc::{AllocError, Global};
 use std::sync::{Arc, Mutex, Wait};
-use task_machine::task::Task;
+use task_run::job::Job;
 use tickets::{Seat, Tickets};
+use weighted_task::task::Task;
 
-/// Returns the floor before the run, the kit of the first worker, and those of the others.
+/// Returns the shared state before the run, the parts of the first worker, and those of the others.
 pub fn open<'p, J: Running, G: Gate, R: Wait>(
     rt: &R,
     job: Job<'p>,
@@ -33,15 +33,22 @@ pub fn open<'p, J: Running, G: Gate, R: Wait>(
     settings: Settings,
     gate: &'p G,
     log: Option<LockedLog<'p, J>>,
-) -> Result<(Floor<'p, J, G>, Kit<'p, J>, Vec<Kit<'p, J>>), Trouble>
+) -> Result<
+    (
+        Shared<'p, J, G>,
+        WorkerParts<'p, J>,
+        Vec<WorkerParts<'p, J>>,
+    ),
+    Trouble,
+>
     requires of { J.job ≡ Some job }
     requires job { IsJob job }
     ensures job { IfOk result (λ r. r.0.job ≡ job.entry) }
     ensures settings { IfOk result (λ r. r.0.settings ≡ settings) }
     ensures log { IfOk result (λ r. IsSome r.0.log ↔ IsSome log.entry) }
-    ensures own { IfOk result (λ r. HasSeat r.0.tickets settings.tasks r.1.desk.seat) }
-    ensures kits { IfOk result
-        (λ r. All (λ k. HasSeat r.0.tickets settings.tasks k.desk.seat) r.2.items) }
+    ensures own { IfOk result (λ r. HasSeat r.0.tickets settings.tasks r.1.state.seat) }
+    ensures all_parts { IfOk result
+        (λ r. All (λ k. HasSeat r.0.tickets settings.tasks k.state.seat) r.2.items) }
     ensures seats { IfOk result (λ r. seats_of r.0.tickets ≡ settings.workers) }
     ensures count { IfOk result (λ r. vec_len r.2 + 1 ≡ settings.workers) }
     ensures cause { IfErr result (Happens J.job) }
@@ -51,55 +58,61 @@ pub fn open<'p, J: Running, G: Gate, R: Wait>(
     let Some(seat) = seats.pop() else {
         unreachable!()
     };
-    let mut hall = Hall::new(alloc);
-    let (number, own, parker) = hall.welcome(alloc)?;
-    let desk = desk_at(number, parker, &tickets, settings, seat);
-    let kits = make_kits(alloc, &tickets, settings, &mut hall, seats)?;
-    let first = Some(root::<J, R>(rt, job, settings, &hall)?);
-    let floor = Floor {
+    let mut pool = Pool::new(alloc);
+    let (number, own, parker) = pool.add_worker(alloc)?;
+    let state = state_at(number, parker, &tickets, settings, seat);
+    let all_parts = make_all_parts(alloc, &tickets, settings, &mut pool, seats)?;
+    let first = Some(root::<J, R>(rt, job, settings, &pool)?);
+    let shared = Shared {
         job,
         code,
         settings,
         gate,
         tickets,
-        hall,
+        pool,
         log,
     };
-    Ok((floor, Kit { desk, own, first }, kits))
+    Ok((shared, WorkerParts { state, own, first }, all_parts))
 }
 
-/// Returns a kit for each seat.
-fn make_kits<'p, J: Running>(
+/// Returns the parts of a worker for each seat.
+fn make_all_parts<'p, J: Running>(
     alloc: Global,
     tickets: &Tickets,
     settings: Settings,
-    hall: &mut Hall<'p, J>,
+    pool: &mut Pool<'p, J>,
     seats: Vec<Seat>,
-) -> Result<Vec<Kit<'p, J>>, AllocError>
+) -> Result<Vec<WorkerParts<'p, J>>, AllocError>
     requires { All (IsFresh tickets.now) seats.items }
     ensures each { IfOk result
-        (λ v. All (λ k. HasSeat tickets.now settings.tasks k.desk.seat) v.items) }
+        (λ v. All (λ k. HasSeat tickets.now settings.tasks k.state.seat) v.items) }
     ensures count { IfOk result (λ v. vec_len v ≡ vec_len seats) }
 {
-    let mut kits = Vec::new(alloc);
+    let mut all_parts = Vec::new(alloc);
     for seat in seats {
-        let (number, own, parker) = hall.welcome(alloc)?;
-        let desk = desk_at(number, parker, tickets, settings, seat);
-        kits.push(Kit {
-            desk,
+        let (number, own, parker) = pool.add_worker(alloc)?;
+        let state = state_at(number, parker, tickets, settings, seat);
+        all_parts.push(WorkerParts {
+            state,
             own,
             first: None,
         })?;
     }
-    Ok(kits)
+    Ok(all_parts)
 }
 
-/// Returns a worker's desk before the run.
-fn desk_at(number: usize, parker: Parker, tickets: &Tickets, settings: Settings, seat: Seat) -> Desk
+/// Returns a worker's state before the run.
+fn state_at(
+    number: usize,
+    parker: Parker,
+    tickets: &Tickets,
+    settings: Settings,
+    seat: Seat,
+) -> WorkerState
     requires { IsFresh tickets.now seat }
     ensures { HasSeat tickets.now settings.tasks result.seat }
 {
-    Desk {
+    WorkerState {
         number,
         parker,
         seat,
@@ -111,7 +124,7 @@ fn root<'p, J: Running, R: Wait>(
     rt: &R,
     job: Job<'p>,
     settings: Settings,
-    hall: &Hall<'p, J>,
+    pool: &Pool<'p, J>,
 ) -> Result<First<'p, J>, Trouble>
     requires of { J.job ≡ Some job }
     requires job { IsJob job }
@@ -126,11 +139,11 @@ fn root<'p, J: Running, R: Wait>(
         }
     };
     let scope = Arc::new(job.alloc, Mutex::new(inner))?;
-    let place = hall.put(rt, 0, Arc::try_clone(&scope)?)?;
+    let place = pool.put(rt, 0, Arc::try_clone(&scope)?)?;
     let outer = Vec::new(job.alloc);
     Ok(First::new(
         task,
-        Post {
+        OpenScopes {
             scope,
             place,
             outer,

@@ -1,17 +1,17 @@
 //! What follows a scope that passes.
 
 ghost use Rattle.std.specs.Prelude.{◌≡◌, ◌⊎◌, IfErr, IfOk, Some, reverse};
-ghost use Rattle.own_run.specs.Lists.{Each};
-ghost use Rattle.task_machine.specs.Ends.{IsParked};
-ghost use Rattle.task_machine.specs.Tasks.{IsResultOf};
+ghost use Rattle.task_run.specs.Lists.{Each};
+ghost use Rattle.weighted_task.specs.Ends.{IsParked};
+ghost use Rattle.weighted_task.specs.Tasks.{IsResultOf};
 ghost use Rattle.workers.specs.Causes.{Happens};
 ghost use Rattle.workers.specs.Own.{IsNext};
 
 use crate::error::Trouble;
-use crate::post::Next;
+use crate::open_scopes::Next;
 use gather::settle::settle;
-use own_run::result::TaskResult;
-use task_machine::finish::{Owner, Parked};
+use task_run::result::TaskResult;
+use weighted_task::finish::{Owner, Parked};
 
 /// Continues the owner with the settled results of its scope. For the root, returns the outcome.
 pub fn pass<'p>(owner: Box<Parked<'p>>, results: Vec<TaskResult>) -> Result<Next<'p>, Trouble>

@@ -3,21 +3,21 @@
 ghost use Rattle.std.specs.Prelude.{IfOk};
 ghost use Rattle.workers.specs.Own.{IsOwnChild, IsOwnTask};
 
-use crate::post::Post;
+use crate::open_scopes::OpenScopes;
 use finish_scope::inner::Scope;
-use finish_scope::resting::Place;
+use finish_scope::resting::ScopePosition;
 use finish_scope::running::Running;
 use std::alloc::AllocError;
 use std::marker::Model;
 use std::sync::Arc;
-use task_machine::task::{Child, Task};
+use weighted_task::task::{Child, Task};
 
 /// A spawned task of the run, and its scope.
 #[derive(Drop)]
 pub struct Ready<'p, J: Running> {
     child: Child<'p>,
     scope: Arc<Scope<'p, J>>,
-    place: Place,
+    place: ScopePosition,
     /// The worker that spawned it.
     from: usize,
 }
@@ -38,7 +38,7 @@ impl<'p, J: Running> Ready<'p, J> {
     pub fn new(
         child: Child<'p>,
         scope: Arc<Scope<'p, J>>,
-        place: Place,
+        place: ScopePosition,
         from: usize,
     ) -> Ready<'p, J>
         requires { IsOwnChild J.job child }
@@ -57,7 +57,7 @@ impl<'p, J: Running> Ready<'p, J> {
     }
 
     /// Returns the task before its first turn, and its scopes.
-    pub fn begin(self) -> Result<(Task<'p>, Post<'p, J>), AllocError>
+    pub fn begin(self) -> Result<(Task<'p>, OpenScopes<'p, J>), AllocError>
         ensures { IfOk result (λ r. IsOwnTask J.job r.0) }
     {
         let Ready {
@@ -70,7 +70,7 @@ impl<'p, J: Running> Ready<'p, J> {
         let task = child.begin()?;
         Ok((
             task,
-            Post {
+            OpenScopes {
                 scope,
                 place,
                 outer,
@@ -83,7 +83,7 @@ impl<'p, J: Running> Ready<'p, J> {
 #[derive(Drop)]
 pub struct First<'p, J: Running> {
     task: Task<'p>,
-    post: Post<'p, J>,
+    open_scopes: OpenScopes<'p, J>,
 }
 
 impl<'p, J: Running> Model for First<'p, J> {
@@ -98,16 +98,16 @@ impl<'p, J: Running> Model for First<'p, J> {
 }
 
 impl<'p, J: Running> First<'p, J> {
-    pub fn new(task: Task<'p>, post: Post<'p, J>) -> First<'p, J>
+    pub fn new(task: Task<'p>, open_scopes: OpenScopes<'p, J>) -> First<'p, J>
         requires { IsOwnTask J.job task }
     {
-        First { task, post }
+        First { task, open_scopes }
     }
 
-    pub fn begin(self) -> (Task<'p>, Post<'p, J>)
+    pub fn begin(self) -> (Task<'p>, OpenScopes<'p, J>)
         ensures { IsOwnTask J.job result.0 }
     {
-        let First { task, post } = self;
-        (task, post)
+        let First { task, open_scopes } = self;
+        (task, open_scopes)
     }
 }

@@ -2,17 +2,17 @@
 
 ghost use Rattle.std.specs.Prelude.{◌≡◌, ◌+◌, ◌≤◌, ◌⊎◌, All, IfErr, IfOk, Some, vec_len};
 ghost use Rattle.types.specs.Translation.{outcome as outcome_in};
-ghost use Rattle.gather.specs.Jobs.{outcome_of};
+ghost use Rattle.task_run.specs.Jobs.{outcome_of};
 ghost use Rattle.tickets.specs.Seats.{AreDrawn, seats_of};
 ghost use Rattle.workers.specs.Causes.{IsReason};
-ghost use Rattle.workers.specs.Desks.{TellTogether, Tells};
+ghost use Rattle.workers.specs.WorkerStates.{TellTogether, Tells};
 
 use crate::error::RunError;
-use crate::kit::Report;
 use crate::settings::Settings;
+use crate::worker::Report;
 use finish_scope::running::Running;
-use gather::job::Job;
 use std::alloc::{AllocError, Global};
+use task_run::job::Job;
 use tickets::{Drawn, Seat, Tickets};
 use types::outcome::Outcome;
 

@@ -5,7 +5,7 @@ ghost use Rattle.types.specs.Contents.{FitsArrays};
 ghost use Rattle.types.specs.Outcome.{outcome as one_thread_outcome};
 ghost use Rattle.types.specs.Translation.{budget as budget_of, input as lists_in, outcome as outcome_in};
 ghost use Rattle.types.specs.Typed.{code_of};
-ghost use Rattle.gather.specs.Jobs.{IsJob, outcome_of};
+ghost use Rattle.task_run.specs.Jobs.{IsJob, outcome_of};
 ghost use Rattle.gather.specs.RunErrors.{IsRunCause};
 ghost use Rattle.tickets.specs.Seats.{AreDrawn};
 ghost use Rattle.trace.specs.Logs.{IsClean, LeadsToOutcome, job_of as weighted_job_of};
@@ -15,24 +15,24 @@ ghost use Rattle.workers.specs.Own.{HasCode};
 
 use crate::code::OwnCode;
 use crate::error::RunError;
-use crate::floor::Floor;
 use crate::gate::Gate;
 use crate::locked_log::{LockedLog, close, locked};
+use crate::main_loop::Shared;
 use crate::opening::open;
 use crate::reports::{Finished, told};
 use crate::settings::Settings;
-use crews::{Refusal, work_together};
 use finish_scope::running::Running;
-use gather::job::Job;
-use program_code::pieces::ProgramCode;
+use plain_code::pieces::ProgramCode;
 use race_checker::accepted::Accepted;
 use std::alloc::Global;
 use std::marker::Brand;
 use std::sync::Wait;
 use std::thread::Threads;
+use task_run::job::Job;
 use trace::log::Log;
 use types::input::Input;
 use types::laws::typed_programs_are_sound;
+use worker_threads::{CrewError, work_together};
 
 /// Runs a program on an input, on as many workers as the settings specify, with one task per
 /// `async`. An Ok has the one-thread outcome, whichever worker runs a task, and the number of tasks.
@@ -136,13 +136,13 @@ fn run_by<'p, J: Running + Send + Sync, G: Gate + Sync, R: Threads + Wait + Sync
     ensures log { IfOk result (λ r. IsSome r.1 ↔ IsSome log.entry) }
     ensures early { IfErr result (IsReason J.job settings.workers settings.tasks) }
 {
-    let (floor, own, kits) = open::<J, G, R>(rt, job, code, settings, gate, log)?;
-    match work_together(rt, job.alloc, &floor, own, kits) {
+    let (shared, own, all_parts) = open::<J, G, R>(rt, job, code, settings, gate, log)?;
+    match work_together(rt, job.alloc, &shared, own, all_parts) {
         Ok(reports) => {
-            let Floor { tickets, log, .. } = floor;
+            let Shared { tickets, log, .. } = shared;
             Ok((told::<J>(job, settings, tickets, reports), log))
         }
-        Err(Refusal::OutOfMemory) => Err(RunError::OutOfMemory),
-        Err(Refusal::NoThread) => Err(RunError::RefusedThread),
+        Err(CrewError::OutOfMemory) => Err(RunError::OutOfMemory),
+        Err(CrewError::NoThread) => Err(RunError::RefusedThread),
     }
 }

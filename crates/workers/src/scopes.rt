@@ -8,36 +8,36 @@ ghost use Rattle.workers.specs.Own.{IsOwnChild, IsOwnTask, IsOwnWanting};
 
 use crate::error::Trouble;
 use crate::gate::Gate;
-use crate::hall::Hall;
 use crate::locked_log::{LockedLog, hold};
-use crate::page::Page;
+use crate::log_guard::LogGuard;
+use crate::pool::Pool;
 use finish_scope::inner::{Inner, Scope};
 use finish_scope::late::{Late, Reason};
 use finish_scope::resting::{Passing, Resting};
 use finish_scope::running::Running;
-use own_run::result::TaskResult;
 use std::sync::Wait;
-use task_machine::stake::ScopeMark;
-use task_machine::task::{Child, Task};
-use task_machine::turn::Wanting;
+use task_run::result::TaskResult;
+use weighted_task::stake::ScopeMark;
+use weighted_task::task::{Child, Task};
+use weighted_task::turn::Wanting;
 use weights::book::Back;
 use weights::weight::Weight;
 
 /// The log and the gate of a run, for what a worker does at a scope. The log's lock is taken while the
 /// scope's lock is held, never the other way round.
 #[derive(Drop)]
-pub struct Clerk<'c, 'p, J: Running, G: Gate> {
+pub struct ScopeRecorder<'c, 'p, J: Running, G: Gate> {
     pub log: &'c Option<LockedLog<'p, J>>,
     pub gate: &'c G,
-    pub hall: &'c Hall<'p, J>,
+    pub pool: &'c Pool<'p, J>,
     /// The scope, identified relative to the task that gives back.
     pub scope: ScopeMark,
 }
 
-impl<'c, 'p, J: Running, G: Gate> Clerk<'c, 'p, J, G> {
+impl<'c, 'p, J: Running, G: Gate> ScopeRecorder<'c, 'p, J, G> {
     /// Takes the log's lock, if events are recorded.
-    fn hold<R: Wait>(&self, rt: &R) -> Page<'c, 'p, J> {
-        hold::<J, R>(self.log, rt, self.hall)
+    fn hold<R: Wait>(&self, rt: &R) -> LogGuard<'c, 'p, J> {
+        hold::<J, R>(self.log, rt, self.pool)
     }
 }
 
@@ -46,7 +46,7 @@ pub fn replenish<'p, J: Running, G: Gate, R: Wait>(
     rt: &R,
     scope: &Scope<'p, J>,
     wanting: Wanting<'p>,
-    clerk: &Clerk<'_, 'p, J, G>,
+    recorder: &ScopeRecorder<'_, 'p, J, G>,
 ) -> Result<(Task<'p>, Child<'p>), Trouble>
     requires { IsOwnWanting J.job wanting }
     ensures task { IfOk result (λ p. IsOwnTask J.job p.0) }
@@ -56,13 +56,13 @@ pub fn replenish<'p, J: Running, G: Gate, R: Wait>(
 {
     let (weight, paused) = wanting.take_weight();
     let mut guard = scope.lock(rt);
-    let mut page = clerk.hold(rt);
+    let mut log_guard = recorder.hold(rt);
     let issued = guard.replenish(weight);
     drop(guard);
     match issued {
         Ok(weight) => {
             let (task, child) = paused.with_weight(weight);
-            note_more::<J>(&mut page, &task);
+            note_more::<J>(&mut log_guard, &task);
             Ok((task, child))
         }
         Err(late) => Err(not_issued(late)),
@@ -70,10 +70,10 @@ pub fn replenish<'p, J: Running, G: Gate, R: Wait>(
 }
 
 /// Records that a task was given more weight, and spawned another.
-fn note_more<'p, J: Running>(page: &mut Page<'_, 'p, J>, task: &Task<'p>)
+fn note_more<'p, J: Running>(log_guard: &mut LogGuard<'_, 'p, J>, task: &Task<'p>)
     requires { IsOwnTask J.job task.now }
 {
-    page.replenished(task.path());
+    log_guard.replenished(task.path());
 }
 
 /// Gives back the weight and the result of a task that has finished. If it was the last, the
@@ -83,7 +83,7 @@ pub fn give_back<'p, J: Running, G: Gate, R: Wait>(
     scope: &Scope<'p, J>,
     weight: Weight,
     made: TaskResult,
-    clerk: &Clerk<'_, 'p, J, G>,
+    recorder: &ScopeRecorder<'_, 'p, J, G>,
 ) -> Result<Option<Passing<'p>>, Trouble>
     requires own { IsResultOfRun J.job made }
     ensures own { IfOk result (λ p. IfSome p (IsOwnPassing J.job)) }
@@ -91,15 +91,15 @@ pub fn give_back<'p, J: Running, G: Gate, R: Wait>(
     ensures cause { IfErr result (Happens J.job) }
 {
     let mut guard = scope.lock(rt);
-    clerk.gate.hold();
+    recorder.gate.hold();
     let inner = &mut *guard;
-    let mut page = clerk.hold(rt);
-    let path = page.copy(&made.path);
+    let mut log_guard = recorder.hold(rt);
+    let path = log_guard.copy(&made.path);
     match inner.give_back(weight, made) {
         Ok(back) => {
-            page.ended(path);
-            drop(page);
-            passes::<J, G, R>(rt, inner, back, clerk)
+            log_guard.ended(path);
+            drop(log_guard);
+            passes::<J, G, R>(rt, inner, back, recorder)
         }
         Err(late) => {
             let Late { reason: _, back } = late;
@@ -117,7 +117,7 @@ pub fn park<'p, J: Running, G: Gate, R: Wait>(
     scope: &Scope<'p, J>,
     weight: Weight,
     owner: Resting<'p>,
-    clerk: &Clerk<'_, 'p, J, G>,
+    recorder: &ScopeRecorder<'_, 'p, J, G>,
 ) -> Result<Option<Passing<'p>>, Trouble>
     requires own { IsOwnResting J.job owner }
     ensures own { IfOk result (λ p. IfSome p (IsOwnPassing J.job)) }
@@ -125,15 +125,15 @@ pub fn park<'p, J: Running, G: Gate, R: Wait>(
     ensures cause { IfErr result (Happens J.job) }
 {
     let mut guard = scope.lock(rt);
-    clerk.gate.hold();
+    recorder.gate.hold();
     let inner = &mut *guard;
-    let mut page = clerk.hold(rt);
-    let path = page.copy(owner.parked.path());
+    let mut log_guard = recorder.hold(rt);
+    let path = log_guard.copy(owner.parked.path());
     match inner.park(weight, owner) {
         Ok(back) => {
-            page.parked(path);
-            drop(page);
-            passes::<J, G, R>(rt, inner, back, clerk)
+            log_guard.parked(path);
+            drop(log_guard);
+            passes::<J, G, R>(rt, inner, back, recorder)
         }
         Err(late) => {
             let Late { reason: _, back } = late;
@@ -149,7 +149,7 @@ fn passes<'p, J: Running, G: Gate, R: Wait>(
     rt: &R,
     inner: &mut Inner<'p, J>,
     back: Back,
-    clerk: &Clerk<'_, 'p, J, G>,
+    recorder: &ScopeRecorder<'_, 'p, J, G>,
 ) -> Result<Option<Passing<'p>>, Trouble>
     requires { (back ≡ Back.Complete) → IsEven inner.old }
     ensures own { IfOk result (λ p. IfSome p (IsOwnPassing J.job)) }
@@ -162,10 +162,10 @@ fn passes<'p, J: Running, G: Gate, R: Wait>(
     match back {
         Back::Open => Ok(None),
         Back::Complete => {
-            let mut page = clerk.hold(rt);
+            let mut log_guard = recorder.hold(rt);
             match inner.resume() {
                 Some(passing) => {
-                    page.passed(clerk.scope.number, passing.owner.parked.path());
+                    log_guard.passed(recorder.scope.number, passing.owner.parked.path());
                     Ok(Some(passing))
                 }
                 None => Err(Trouble::NoOwner),

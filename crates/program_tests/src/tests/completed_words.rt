@@ -1,8 +1,8 @@
 //! Completions and the manual name exactly the options that help names.
 
 use crate::tests::compare;
+use command_words::words::order_of;
 use options::reply::Reply;
-use reading::words::order_of;
 use std::alloc::Global;
 use std::process::Abort;
 use std::rt::HostRuntime;

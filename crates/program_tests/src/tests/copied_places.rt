@@ -1,7 +1,7 @@
 //! The number of places that are copied when they are carved out of an array of 1,024, or come
 //! back.
 
-use crate::tests::section_trees::Numbers;
+use crate::tests::section_trees::WindowNumbers;
 use crate::tests::{compare, typed};
 use holdings::holdings::Holdings;
 use sections::id::ArrayId;
@@ -12,7 +12,7 @@ use types::input::Input;
 
 /// Windows that are carved out together, the number of places that are copied for that, and the
 /// number when they come back.
-type Row = (&'static [Numbers], &'static str);
+type Row = (&'static [WindowNumbers], &'static str);
 
 const ROWS: &[Row] = &[
     (&[(0, 0, 300)], "44 44"),
@@ -36,7 +36,7 @@ fn all(rt: &impl Abort, alloc: Global) -> Holdings {
 }
 
 /// Returns the windows with these numbers.
-fn windows(rt: &impl Abort, alloc: Global, rows: &[Numbers]) -> Vec<Window> {
+fn windows(rt: &impl Abort, alloc: Global, rows: &[WindowNumbers]) -> Vec<Window> {
     let mut windows = Vec::new(alloc);
     for (number, at, len) in rows {
         assert!(rt; *at <= 1024 && *len <= 1024);
@@ -53,7 +53,7 @@ fn windows(rt: &impl Abort, alloc: Global, rows: &[Numbers]) -> Vec<Window> {
 
 /// Returns the number of places that are copied when these windows are carved out, and when they
 /// come back.
-fn copied(rt: &impl Abort, alloc: Global, rows: &[Numbers]) -> String {
+fn copied(rt: &impl Abort, alloc: Global, rows: &[WindowNumbers]) -> String {
     let mut own = all(rt, alloc);
     let windows = windows(rt, alloc, rows);
     let part = own.carve(alloc, &windows).expect(rt, "owned places");

@@ -1,6 +1,6 @@
 //! Places that are carved out, shared, written and pasted.
 
-use crate::tests::section_trees::{Numbers, windows};
+use crate::tests::section_trees::{WindowNumbers, windows};
 use crate::tests::{compare, typed};
 use holdings::error::HoldError;
 use holdings::holdings::Holdings;
@@ -13,9 +13,9 @@ use types::input::Input;
 #[derive(Clone, Copy)]
 enum Step {
     /// The places of windows are carved out of them.
-    Carve(usize, &'static [Numbers]),
+    Carve(usize, &'static [WindowNumbers]),
     /// Copies are made of the places of windows.
-    Share(usize, &'static [Numbers]),
+    Share(usize, &'static [WindowNumbers]),
     /// A number is written at a place.
     Write(usize, usize, i64),
     /// The last ones are pasted into them. If that is rejected, the last ones stay.
@@ -29,7 +29,7 @@ use Step::{Begin, Carve, Paste, Share, Write};
 /// A step, why it is rejected, and what is held then.
 type Row = (Step, &'static str, &'static str);
 
-const INNER: &[Numbers] = &[(0, 1, 2)];
+const INNER: &[WindowNumbers] = &[(0, 1, 2)];
 
 /// Steps in order. For each holdings the numbers at five places of the array and at the first of
 /// another array are shown.

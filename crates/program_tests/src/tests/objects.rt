@@ -2,20 +2,20 @@
 
 use crate::tests::{lists_of, typed};
 use effects::summaries::summarize;
-use intake::failure::Failure;
+use failures::failure::Failure;
+use json_answers::found::FoundRace;
 use json_answers::outcomes::outcome_object;
 use json_answers::programs::{accepted_object, pairs_object};
+use json_answers::races::race_object;
 use json_answers::refusals::refusal_object;
 use parallel_relation::pairs::may_run_together;
-use places::statement_places;
 use race_checker::check::{Refused, check};
-use race_objects::found::Found;
-use race_objects::races::race_object;
 use serde_json::Value;
+use statement_places::statement_places;
 use std::alloc::Global;
 use std::process::Abort;
 use std::rt::HostRuntime;
-use syntax::Place;
+use syntax::TextPlace;
 use types::check::type_check;
 use types::child_number::ChildNumber;
 use types::fault::{Fault, FaultKind};
@@ -48,7 +48,7 @@ main {
 ";
 
 /// Returns the positions at which its statements start.
-fn places_of(rt: &impl Abort, alloc: Global, text: &str) -> Vec<Place> {
+fn places_of(rt: &impl Abort, alloc: Global, text: &str) -> Vec<TextPlace> {
     if text.len() > 1_048_576 {
         return Vec::new(alloc);
     }
@@ -80,7 +80,7 @@ fn compare_outcome(
     rt: &impl Abort,
     alloc: Global,
     typed: &Typed,
-    places: &[Place],
+    places: &[TextPlace],
     outcome: &Outcome,
     want: &str,
 ) {
@@ -143,7 +143,7 @@ fn races_are_told(rt: HostRuntime) {
         Err(Refused::Race { race, typed }) => {
             let witness = witness_of(alloc, &typed, race).expect(&rt, "memory");
             let witness = witness.expect(&rt, "a witness");
-            let found = Found {
+            let found = FoundRace {
                 places: &places,
                 code: typed.code(),
                 race,
@@ -178,7 +178,7 @@ fn compare_told(
     rt: &impl Abort,
     alloc: Global,
     file: &str,
-    places: &[Place],
+    places: &[TextPlace],
     failure: &Failure,
     want: &str,
 ) {

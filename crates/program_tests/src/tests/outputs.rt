@@ -1,12 +1,12 @@
 //! Outcomes as text, and writers that end.
 
 use crate::tests::lists_of;
+use printing::emit::emit;
 use std::alloc::Global;
 use std::io;
 use std::io::ErrorKind;
 use std::process::Abort;
 use syntax_tree::tree::ElementType;
-use texts::emit::emit;
 use types::child_number::ChildNumber;
 use types::code::Array;
 use types::fault::{Fault, FaultKind};

@@ -81,10 +81,10 @@ fn sections_that_overlap(rt: HostRuntime) {
 }
 
 /// A window: its array, its first place and its length.
-pub type Numbers = (usize, usize, usize);
+pub type WindowNumbers = (usize, usize, usize);
 
 /// Returns the window with these numbers.
-fn window(rt: &impl Abort, (array, at, len): Numbers) -> Window {
+fn window(rt: &impl Abort, (array, at, len): WindowNumbers) -> Window {
     assert!(rt; at <= 100 && len <= 100);
     Window {
         array: ArrayId { number: array },
@@ -94,7 +94,7 @@ fn window(rt: &impl Abort, (array, at, len): Numbers) -> Window {
 }
 
 /// Returns the windows with these numbers.
-pub fn windows(rt: &impl Abort, alloc: Global, rows: &[Numbers]) -> Vec<Window> {
+pub fn windows(rt: &impl Abort, alloc: Global, rows: &[WindowNumbers]) -> Vec<Window> {
     let mut windows = Vec::new(alloc);
     for row in rows {
         windows.push(window(rt, *row)).expect(rt, "memory");
@@ -103,14 +103,19 @@ pub fn windows(rt: &impl Abort, alloc: Global, rows: &[Numbers]) -> Vec<Window> 
 }
 
 /// Returns whether windows have these numbers.
-fn have_numbers(windows: &[Window], rows: &[Numbers]) -> bool {
+fn have_numbers(windows: &[Window], rows: &[WindowNumbers]) -> bool {
     windows.len() == rows.len()
         && windows.iter().zip(rows).all(|(window, row)| (window.array.number, window.at, window.len)
             == *row)
 }
 
 /// Windows and others, the cover of the windows, and what is left of it without the others.
-const COVERS: &[(&[Numbers], &[Numbers], &[Numbers], &[Numbers])] = &[
+const COVERS: &[(
+    &[WindowNumbers],
+    &[WindowNumbers],
+    &[WindowNumbers],
+    &[WindowNumbers],
+)] = &[
     (&[], &[], &[], &[]),
     (&[], &[(0, 0, 4)], &[], &[]),
     (&[(0, 3, 0)], &[], &[], &[]),

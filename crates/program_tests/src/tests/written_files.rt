@@ -1,7 +1,7 @@
 //! Files of the machine that are written, and read again.
 
 use crate::tests::compare;
-use intake::files::{FileSource, MachineFiles, read_file, write_file};
+use files::file_source::{FileSource, MachineFiles, read_file, write_file};
 use std::alloc::Global;
 use std::fs;
 use std::os::unix::fs::symlink;

@@ -4,7 +4,7 @@
 use crate::tests::numbers::{DOUBLING, OUTLIVED, walked};
 use crate::tests::{accepted, compare};
 use cost::cost::{Costed, measure};
-use cost_text::text::cost_text;
+use cost::text::cost_text;
 use race_checker::accepted::Accepted;
 use std::alloc::Global;
 use std::process::Abort;

@@ -1,11 +1,11 @@
 //! Pictures of traces.
 
 use events::event::Event;
-use pictures::timeline::draw;
 use serde_json::Value;
 use std::alloc::Global;
 use std::process::Abort;
-use trace_spans::chrome::spans;
+use trace_pictures::chrome::spans;
+use trace_pictures::timeline::draw;
 use trace_text::header::Header;
 use trace_text::read::read_lines;
 

@@ -3,8 +3,8 @@
 use crate::tests::compare;
 use crate::tests::threads::{Turns, is_at, settings, told, waited_for};
 use std::sync::atomic::{AtomicBool, Ordering};
-use task_machine::task::Task;
 use types::path::Path;
+use weighted_task::task::Task;
 use workers::gate::Gate;
 
 /// The root opens the scopes of 0.1, 0.2 and 0.3, one after the other. The first two are on the

@@ -3,14 +3,14 @@
 use crate::tests::logged_runs::logged;
 use crate::tests::worlds::{HALVES, NESTED};
 use crate::tests::{FAULTS, accepted, compare};
-use interleave::job::WeightedJob;
-use interleave::walk::random_walk;
+use event_worlds::job::WeightedJob;
+use event_worlds::walk::random_walk;
 use race_checker::accepted::Accepted;
 use std::alloc::Global;
 use std::process::Abort;
 use std::sync::Wait;
 use std::thread::Threads;
-use trace_numbers::summary::{Summary, summarize};
+use trace_numbers::summary::{TraceSummary, summarize};
 use trace_numbers::text::summary_text;
 use types::budget::Budget;
 use types::input::Input;
@@ -100,7 +100,7 @@ pub fn walked(
     program: &Accepted,
     budget: Budget,
     seed: u32,
-) -> Summary {
+) -> TraceSummary {
     let input = Input::zeros(alloc, program.typed()).expect(rt, "memory");
     let job = WeightedJob::new(alloc, program, &input, budget, u64::from(seed % 9 + 1));
     let job = job.expect(rt, "a weight");

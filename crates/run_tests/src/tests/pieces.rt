@@ -1,7 +1,7 @@
 //! The statements that tasks run by flat code.
 
 use crate::tests::{accepted, compare};
-use program_code::pieces::ProgramCode;
+use plain_code::pieces::ProgramCode;
 use std::alloc::Global;
 use std::process::Abort;
 

@@ -1,10 +1,10 @@
 //! Lines that report the progress of a run.
 
+use printing::progress::Progress;
 use statement_steps::watch::Watch;
 use std::cell::Cell;
 use std::io;
 use std::time::{Clock, Duration};
-use texts::progress::Progress;
 
 /// A clock that advances by 200 ms each time that it is read.
 #[derive(Drop)]

@@ -4,12 +4,12 @@
 use crate::tests::{accepted, compare, path};
 use gather::settle::settle;
 use holdings::holdings::Holdings;
-use own_run::result::{Listed, TaskResult};
 use sections::id::ArrayId;
 use sections::window::Window;
 use std::alloc::Global;
 use std::process::Abort;
 use std::thread::Threads;
+use task_run::result::{Listed, TaskResult};
 use types::code::Label;
 use types::fault::{Fault, FaultKind};
 use types::input::Input;

@@ -1,11 +1,11 @@
 //! Worlds that lists of events lead to, and random walks.
 
 use crate::tests::{FAULTS, TWO_ARRAYS, accepted, compare, one_thread_outcome, path};
+use event_worlds::job::WeightedJob;
+use event_worlds::replay::replay;
+use event_worlds::walk::random_walk;
 use events::event::Event;
 use events::worker_id::WorkerId;
-use interleave::job::WeightedJob;
-use interleave::replay::replay;
-use interleave::walk::random_walk;
 use race_checker::accepted::Accepted;
 use std::alloc::Global;
 use std::process::Abort;

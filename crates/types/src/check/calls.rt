@@ -19,7 +19,7 @@ ghost use Rattle.types.specs.Translation.{number, code, parameter as parameter_i
 use crate::check::expressions::Expressions;
 use crate::check::names::Meaning;
 use crate::check::procedures::Procedures;
-use crate::check::scope::Scope;
+use crate::check::scope::NameScope;
 use crate::code::{Number, SectionParameter, StmtKind};
 use crate::error::TypeError;
 use sections::id::SectionId;
@@ -32,7 +32,7 @@ use syntax_tree::tree::{Atom, Expr};
 pub fn call(
     alloc: Global,
     procedures: &Procedures<'_>,
-    scope: &Scope,
+    scope: &NameScope,
     name: &String,
     arguments: &[Expr],
 ) -> Result<StmtKind, TypeError>
@@ -81,7 +81,7 @@ struct Given {
 /// Resolves the arguments of a call. There must be as many as parameters.
 fn gathered(
     alloc: Global,
-    scope: &Scope,
+    scope: &NameScope,
     parameters: &[tree::Parameter],
     arguments: &[Expr],
 ) -> Result<Given, TypeError>
@@ -125,7 +125,7 @@ impl Given {
     fn take(
         &mut self,
         alloc: Global,
-        scope: &Scope,
+        scope: &NameScope,
         parameter: &tree::Parameter,
         argument: &Expr,
     ) -> Result<(), TypeError>
@@ -175,7 +175,7 @@ impl Given {
     /// Adds one more section argument.
     fn pass(
         &mut self,
-        scope: &Scope,
+        scope: &NameScope,
         kind: SectionParameter,
         argument: &Expr,
     ) -> Result<(), TypeError>
@@ -204,7 +204,7 @@ impl Given {
 
 /// Returns the section that is passed for a parameter of this kind.
 fn argument_section(
-    scope: &Scope,
+    scope: &NameScope,
     kind: SectionParameter,
     argument: &Expr,
 ) -> Result<SectionId, TypeError>
@@ -225,7 +225,11 @@ fn argument_section(
 }
 
 #[tactic(auto, using(crate::proofs::Telling::told_alone), unfolding(syntax_tree::specs::Tree::atom))]
-fn atom_section(scope: &Scope, kind: SectionParameter, atom: &Atom) -> Result<SectionId, TypeError>
+fn atom_section(
+    scope: &NameScope,
+    kind: SectionParameter,
+    atom: &Atom,
+) -> Result<SectionId, TypeError>
     ensures right { OnOk result (errors.passing_atom scope.now.label (scope_of scope.now)
         (parameter_in kind) (Some (atom_of atom.now)) ≡ []) }
     ensures named { IfOk result (λ s. errors.and_named (names_of scope.now.names)
@@ -248,7 +252,7 @@ fn atom_section(scope: &Scope, kind: SectionParameter, atom: &Atom) -> Result<Se
 }
 
 fn named_section(
-    scope: &Scope,
+    scope: &NameScope,
     kind: SectionParameter,
     name: &String,
 ) -> Result<SectionId, TypeError>

@@ -18,7 +18,7 @@ ghost use Rattle.types.specs.Told.{Told};
 ghost use Rattle.types.specs.Translation.{array, procedure};
 
 use crate::check::limits::{MOST_ARRAYS, MOST_PARAMETERS, limit};
-use crate::check::scope::Scope;
+use crate::check::scope::NameScope;
 use crate::check::statements::Statements;
 use crate::code::{Array, Label, Procedure, SectionParameter};
 use crate::error::TypeError;
@@ -81,7 +81,7 @@ fn at_procedure(
     alloc: Global,
     label: Label,
     parameters: &[tree::Parameter],
-) -> Result<Scope, TypeError>
+) -> Result<NameScope, TypeError>
     requires { length parameters.now ≤ 16 }
     ensures place { IfOk result
         (λ s. scope_of s ≡ in_procedure label (map parameter_of parameters.now)) }
@@ -90,7 +90,7 @@ fn at_procedure(
     ensures error { IfErr result
         (Told (parameter_errors (empty_scope label) (map parameter_of parameters.now))) }
 {
-    let mut scope = Scope::new(alloc, label);
+    let mut scope = NameScope::new(alloc, label);
     for parameter in parameters {
         declare(&mut scope, parameter)?;
     }
@@ -98,7 +98,7 @@ fn at_procedure(
 }
 
 /// Declares a parameter.
-fn declare(scope: &mut Scope, parameter: &tree::Parameter) -> Result<(), TypeError>
+fn declare(scope: &mut NameScope, parameter: &tree::Parameter) -> Result<(), TypeError>
     requires { scope.old.slots ≤ 16 + scope.old.label }
     ensures place { OnOk result
         (scope_of scope.new ≡ with_parameter (parameter_of parameter.now) (scope_of scope.old)) }
@@ -132,7 +132,7 @@ fn declare(scope: &mut Scope, parameter: &tree::Parameter) -> Result<(), TypeErr
 fn resolved(
     statements: &Statements<'_>,
     label: &mut Label,
-    scope: Scope,
+    scope: NameScope,
     name: String,
     body: &[tree::Stmt],
 ) -> Result<Procedure, TypeError>
@@ -219,14 +219,14 @@ fn resolve_arrays(alloc: Global, arrays: &[tree::Array]) -> Result<Vec<Array>, T
 }
 
 /// Returns the scope in which the body of `main` starts.
-fn at_main(alloc: Global, label: Label, arrays: &[tree::Array]) -> Result<Scope, TypeError>
+fn at_main(alloc: Global, label: Label, arrays: &[tree::Array]) -> Result<NameScope, TypeError>
     ensures place { IfOk result (λ s. scope_of s ≡ in_main label (map array_of arrays.now)) }
     ensures right { OnOk result
         (array_errors (empty_scope label) (map array_of arrays.now) ≡ []) }
     ensures error { IfErr result
         (Told (array_errors (empty_scope label) (map array_of arrays.now))) }
 {
-    let mut scope = Scope::new(alloc, label);
+    let mut scope = NameScope::new(alloc, label);
     for array in arrays {
         let kind = SectionParameter {
             may_write: true,

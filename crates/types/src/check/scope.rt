@@ -22,7 +22,7 @@ use syntax_tree::tree::ElementType;
 
 /// The scope at a position in a text, and the sections of its procedure so far.
 #[derive(Drop)]
-pub struct Scope {
+pub struct NameScope {
     pub names: Names,
     /// The label of the next statement.
     pub label: Label,
@@ -38,17 +38,17 @@ pub struct Scope {
 
 /// What is restored at the end of a block.
 #[derive(Clone, Copy)]
-pub struct Mark {
+pub struct BlockMark {
     pub names: usize,
     pub outside: usize,
 }
 
-impl Scope {
+impl NameScope {
     /// Returns the scope at the start of a procedure whose first statement has the label.
-    pub fn new(alloc: Global, label: Label) -> Scope
+    pub fn new(alloc: Global, label: Label) -> NameScope
         ensures { scope_of result ≡ empty_scope label }
     {
-        Scope {
+        NameScope {
             names: Names::new(alloc),
             label,
             slots: 0,
@@ -157,18 +157,18 @@ impl Scope {
     }
 
     /// Returns what has to be restored after a block that is about to start.
-    pub fn mark(&self) -> Mark
+    pub fn mark(&self) -> BlockMark
         ensures names { result.names ≡ length (scope_of self.now).names }
         ensures outside { result.outside ≡ (scope_of self.now).outside }
     {
-        Mark {
+        BlockMark {
             names: self.names.len(),
             outside: self.outside,
         }
     }
 
     /// Leaves a block.
-    pub fn leave(&mut self, mark: Mark)
+    pub fn leave(&mut self, mark: BlockMark)
         ensures { scope_of self.new ≡ left_by mark.names mark.outside (scope_of self.old) }
     {
         self.names.forget(mark.names);

@@ -23,7 +23,7 @@ use crate::check::expressions::Expressions;
 use crate::check::limits::MOST_LABELS;
 use crate::check::names::Meaning;
 use crate::check::procedures::Procedures;
-use crate::check::scope::{Mark, Scope};
+use crate::check::scope::{BlockMark, NameScope};
 use crate::code::{Number, Primitive, Sides, Stmt, StmtKind, Truth};
 use crate::error::TypeError;
 use crate::ids::Slot;
@@ -42,7 +42,7 @@ pub struct Statements<'p> {
 impl Statements<'_> {
     /// Resolves the statements of a block. The names that they declare stay in scope.
     #[cycle(statement)]
-    pub fn block(&self, scope: &mut Scope, block: &[tree::Stmt]) -> Result<Vec<Stmt>, TypeError>
+    pub fn block(&self, scope: &mut NameScope, block: &[tree::Stmt]) -> Result<Vec<Stmt>, TypeError>
         requires { IsWellScoped (scope_of scope.old) }
         ensures place { OnOk result
             (scope_of scope.new ≡ after (block_of block.now) (scope_of scope.old)) }
@@ -65,8 +65,8 @@ impl Statements<'_> {
     #[cycle(statement)]
     fn inside(
         &self,
-        scope: &mut Scope,
-        mark: Mark,
+        scope: &mut NameScope,
+        mark: BlockMark,
         block: &[tree::Stmt],
     ) -> Result<Vec<Stmt>, TypeError>
         requires { IsWellScoped (scope_of scope.old) }
@@ -86,7 +86,7 @@ impl Statements<'_> {
 
     /// Resolves a statement, which gets the next label.
     #[cycle(statement)]
-    fn statement(&self, scope: &mut Scope, stmt: &tree::Stmt) -> Result<Stmt, TypeError>
+    fn statement(&self, scope: &mut NameScope, stmt: &tree::Stmt) -> Result<Stmt, TypeError>
         requires { IsWellScoped (scope_of scope.old) }
         ensures place { OnOk result
             (scope_of scope.new ≡ behind (stmt_of stmt.now) (scope_of scope.old)) }
@@ -110,7 +110,7 @@ impl Statements<'_> {
 
     /// Resolves what a statement does.
     #[cycle(statement)]
-    fn kind(&self, scope: &mut Scope, stmt: &tree::Stmt) -> Result<StmtKind, TypeError>
+    fn kind(&self, scope: &mut NameScope, stmt: &tree::Stmt) -> Result<StmtKind, TypeError>
         requires scoped { IsWellScoped (scope_of scope.old) }
         requires label { scope.old.label ≤ 65535 }
         ensures ok { IfOk result (λ k. Resolves (procedures_of self.now.procedures)
@@ -157,7 +157,7 @@ impl Statements<'_> {
     #[cycle(statement)]
     fn if_alone(
         &self,
-        scope: &mut Scope,
+        scope: &mut NameScope,
         guard: &Expr,
         body: &[tree::Stmt],
     ) -> Result<StmtKind, TypeError>
@@ -181,7 +181,7 @@ impl Statements<'_> {
     #[cycle(statement)]
     fn if_else(
         &self,
-        scope: &mut Scope,
+        scope: &mut NameScope,
         guard: &Expr,
         body: &[tree::Stmt],
         other: &[tree::Stmt],
@@ -208,7 +208,7 @@ impl Statements<'_> {
     #[cycle(statement)]
     fn while_loop(
         &self,
-        scope: &mut Scope,
+        scope: &mut NameScope,
         guard: &Expr,
         body: &[tree::Stmt],
     ) -> Result<StmtKind, TypeError>
@@ -231,7 +231,7 @@ impl Statements<'_> {
     #[cycle(statement)]
     fn split(
         &self,
-        scope: &mut Scope,
+        scope: &mut NameScope,
         section: &String,
         at: &Expr,
         left: &String,
@@ -268,7 +268,7 @@ impl Statements<'_> {
 
     /// Resolves `async { .. }`.
     #[cycle(statement)]
-    fn async_body(&self, scope: &mut Scope, body: &[tree::Stmt]) -> Result<StmtKind, TypeError>
+    fn async_body(&self, scope: &mut NameScope, body: &[tree::Stmt]) -> Result<StmtKind, TypeError>
         requires scoped { IsWellScoped (scope_of scope.old) }
         requires label { scope.old.label ≤ 65535 }
         ensures ok { IfOk result (λ k. Resolves (procedures_of self.now.procedures)
@@ -285,7 +285,7 @@ impl Statements<'_> {
 
     /// Resolves `finish { .. }`.
     #[cycle(statement)]
-    fn finish(&self, scope: &mut Scope, body: &[tree::Stmt]) -> Result<StmtKind, TypeError>
+    fn finish(&self, scope: &mut NameScope, body: &[tree::Stmt]) -> Result<StmtKind, TypeError>
         requires scoped { IsWellScoped (scope_of scope.old) }
         requires label { scope.old.label ≤ 65535 }
         ensures ok { IfOk result (λ k. Resolves (procedures_of self.now.procedures)
@@ -300,7 +300,7 @@ impl Statements<'_> {
     }
 
     /// Resolves `var x = 1;`. The name is in scope only after the statement.
-    fn var(&self, scope: &mut Scope, name: &String, value: &Expr) -> Result<StmtKind, TypeError>
+    fn var(&self, scope: &mut NameScope, name: &String, value: &Expr) -> Result<StmtKind, TypeError>
         requires scoped { IsWellScoped (scope_of scope.old) }
         requires label { scope.old.label ≤ 65535 }
         ensures ok { IfOk result (λ k. Resolves (procedures_of self.now.procedures)
@@ -323,7 +323,12 @@ impl Statements<'_> {
     }
 
     /// Resolves `x = 1;`.
-    fn assign(&self, scope: &mut Scope, name: &String, value: &Expr) -> Result<StmtKind, TypeError>
+    fn assign(
+        &self,
+        scope: &mut NameScope,
+        name: &String,
+        value: &Expr,
+    ) -> Result<StmtKind, TypeError>
         requires { scope.old.label ≤ 65535 }
         ensures ok { IfOk result (λ k. Resolves (procedures_of self.now.procedures)
             (scope_of scope.old) (Assign (string_bytes name.now) (expr_of value.now)) k
@@ -340,7 +345,7 @@ impl Statements<'_> {
     /// Resolves `a[0] = 7;`.
     fn store(
         &self,
-        scope: &mut Scope,
+        scope: &mut NameScope,
         section: &String,
         index: &Expr,
         value: &Expr,
@@ -366,7 +371,12 @@ impl Statements<'_> {
     }
 
     /// Resolves `print a[0], 2;`.
-    fn print(&self, scope: &mut Scope, first: &Expr, rest: &[Expr]) -> Result<StmtKind, TypeError>
+    fn print(
+        &self,
+        scope: &mut NameScope,
+        first: &Expr,
+        rest: &[Expr],
+    ) -> Result<StmtKind, TypeError>
         requires { scope.old.label ≤ 65535 }
         ensures ok { IfOk result (λ k. Resolves (procedures_of self.now.procedures)
             (scope_of scope.old) (Print (expr_of first.now) (map expr_of rest.now)) k
@@ -380,7 +390,7 @@ impl Statements<'_> {
     }
 
     /// Resolves `fault 3;`.
-    fn fault(&self, scope: &mut Scope, value: &Expr) -> Result<StmtKind, TypeError>
+    fn fault(&self, scope: &mut NameScope, value: &Expr) -> Result<StmtKind, TypeError>
         requires { scope.old.label ≤ 65535 }
         ensures ok { IfOk result (λ k. Resolves (procedures_of self.now.procedures)
             (scope_of scope.old) (Fault (expr_of value.now)) k (scope_of scope.new)) }
@@ -395,7 +405,7 @@ impl Statements<'_> {
     /// Resolves `f(a, 1);`.
     fn call(
         &self,
-        scope: &mut Scope,
+        scope: &mut NameScope,
         procedure: &String,
         arguments: &[Expr],
     ) -> Result<StmtKind, TypeError>
@@ -414,7 +424,7 @@ impl Statements<'_> {
     }
 
     /// Resolves a number expression in the statement that starts here.
-    fn number(&self, scope: &Scope, e: &Expr) -> Result<Number, TypeError>
+    fn number(&self, scope: &NameScope, e: &Expr) -> Result<Number, TypeError>
         ensures right { OnOk result
             (number_errors scope.now.label (names_of scope.now.names) (expr_of e.now) ≡ []) }
         ensures code { IfOk result (λ r. number_at (names_of scope.now.names) (expr_of e.now) ≡ number r) }
@@ -430,7 +440,12 @@ impl Statements<'_> {
     }
 
     /// Resolves several number expressions in the statement that starts here.
-    fn numbers(&self, scope: &Scope, first: &Expr, rest: &[Expr]) -> Result<Vec<Number>, TypeError>
+    fn numbers(
+        &self,
+        scope: &NameScope,
+        first: &Expr,
+        rest: &[Expr],
+    ) -> Result<Vec<Number>, TypeError>
         ensures right { OnOk result
             (numbers_errors scope.now.label (names_of scope.now.names)
             (expr_of first.now ∷ map expr_of rest.now) ≡ []) }
@@ -450,7 +465,7 @@ impl Statements<'_> {
     }
 
     /// Resolves a boolean expression in the statement that starts here.
-    fn truth(&self, scope: &Scope, e: &Expr) -> Result<Truth, TypeError>
+    fn truth(&self, scope: &NameScope, e: &Expr) -> Result<Truth, TypeError>
         ensures right { OnOk result
             (truth_errors scope.now.label (names_of scope.now.names) (expr_of e.now) ≡ []) }
         ensures code { IfOk result (λ r. truth_at (names_of scope.now.names) (expr_of e.now) ≡ truth r) }
@@ -466,7 +481,7 @@ impl Statements<'_> {
     }
 
     /// Resolves the name of a section in the statement that starts here.
-    fn section(&self, scope: &Scope, name: &String) -> Result<SectionId, TypeError>
+    fn section(&self, scope: &NameScope, name: &String) -> Result<SectionId, TypeError>
         ensures right { OnOk result
             (naming_section scope.now.label (meant (string_bytes name.now)
             (names_of scope.now.names)) ≡ []) }
@@ -488,7 +503,7 @@ impl Statements<'_> {
 
 /// Returns the slot of a scalar that is assigned. It must be declared inside the innermost async
 /// body.
-fn assigned(scope: &Scope, name: &String) -> Result<Slot, TypeError>
+fn assigned(scope: &NameScope, name: &String) -> Result<Slot, TypeError>
     ensures right { OnOk result (naming_assigned scope.now.label (scope_of scope.now)
         (meant (string_bytes name.now) (names_of scope.now.names)) ≡ []) }
     ensures meaning { IfOk result (λ k.
@@ -508,7 +523,7 @@ fn assigned(scope: &Scope, name: &String) -> Result<Slot, TypeError>
 }
 
 /// Returns a section that is written, which must be allowed.
-fn written(scope: &Scope, name: &String) -> Result<SectionId, TypeError>
+fn written(scope: &NameScope, name: &String) -> Result<SectionId, TypeError>
     ensures right { OnOk result (naming_written scope.now.label (scope_of scope.now)
         (meant (string_bytes name.now) (names_of scope.now.names)) ≡ []) }
     ensures meaning { IfOk result (λ s.

@@ -1,6 +1,6 @@
 use Rattle.std.proofs.Common.{inl, inr, refl}
 use Rattle.options.proofs.Replied.{conflict_is_mistake}
-use Rattle.reading.specs.Orders.{AsText, AsObject, Times, Tests, order}
+use Rattle.command_words.specs.Orders.{AsText, AsObject, Times, Tests, order}
 use Rattle.driver.proofs.Ordered.{ordered}
 use Rattle.driver.proofs.Watched.{watched_as}
 use Rattle.driver.proofs.act.act.Goals as goal

@@ -1,9 +1,9 @@
 use Rattle.std.proofs.Common.{ap, refl, sym}
 use Rattle.command_line.specs.Requests.{asked_of}
-use Rattle.reading.specs.Orders.{AsText, AsObject, Times, Tests, command_of, order}
+use Rattle.command_words.specs.Orders.{AsText, AsObject, Times, Tests, command_of, order}
 use Rattle.driver.specs.Acts.{in_short}
 use Rattle.driver.specs.Watching.{is_watched, is_watched_by}
-use Rattle.driver.specs.declared.doing.Doing.TheVariants.{Answering, Describing, Timing}
+use Rattle.driver.specs.declared.doing.TextOrder.TheVariants.{Answering, Describing, Timing}
 use Rattle.driver.proofs.Ordered.{acted, ordered, tested_as}
 use Rattle.driver.proofs.Watched.{reported_watched, watched_as}
 use Rattle.driver.proofs.act.carry_out.Goals as goal

@@ -1,4 +1,4 @@
-use Rattle.texts.proofs.Appending.{beginning_written}
+use Rattle.printing.proofs.Appending.{beginning_written}
 use Rattle.driver.proofs.act.refuse.Goals as goal
 
 pub returns-clause-told : goal.returns-clause-told

@@ -5,9 +5,9 @@ use Rattle.types.specs.Translation.{array, budget, outcome as outcome_of}
 use Rattle.types.specs.Typed.{code_of}
 use Rattle.command_line.specs.Requests.{settings}
 use Rattle.command_line.specs.declared.request.Command.TheVariants.{Run}
-use Rattle.answers.proofs.Answering.{declared_by, err_passed, is_explored}
-use Rattle.objects.specs.Objects.{FailsEarly}
-use Rattle.objects.proofs.Failures.{memory_passed}
+use Rattle.commands.proofs.Answering.{declared_by, err_passed, is_explored}
+use Rattle.json_answers.specs.Objects.{FailsEarly}
+use Rattle.json_answers.proofs.Failures.{memory_passed}
 use Rattle.driver.specs.Traced.{IsTraceOfText}
 use Rattle.driver.specs.declared.tracing.Ran.{Ran}
 use Rattle.driver.proofs.Leaving.{passes_failed}

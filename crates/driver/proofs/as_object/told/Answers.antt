@@ -1,9 +1,9 @@
 use Rattle.std.proofs.Common.{ℕ}
 use Rattle.command_line.specs.Requests.{settings}
-use Rattle.intake.specs.declared.failure.Failure.{Failure}
-use Rattle.objects.specs.declared.told.Told.{Told}
+use Rattle.failures.specs.declared.failure.Failure.{Failure}
+use Rattle.json_answers.specs.declared.object_line.ObjectLine.{ObjectLine}
 use Rattle.statement_steps.proofs.Watching.{behind_end, still_failed}
-use Rattle.reading.specs.Orders.{command_of}
+use Rattle.command_words.specs.Orders.{command_of}
 use Rattle.driver.specs.Watching.{is_watched}
 use Rattle.driver.proofs.Objects.{refusal_told}
 use Rattle.driver.proofs.as_object.told.Goals as goal
@@ -21,5 +21,5 @@ returns-in-Ok-clause-watched g c =
 
 pub returns-in-Err-clause-watched : goal.returns-in-Err-clause-watched
 returns-in-Err-clause-watched g c =
-    still_failed g.W.Watch.Told Told ℕ (is_watched (command_of c.args.subject) (settings c.args.loaded.request.settings))
+    still_failed g.W.Watch.Told ObjectLine ℕ (is_watched (command_of c.args.subject) (settings c.args.loaded.request.settings))
     c.in-Err.failure c.in-Err.failure _ _ c.in-Err.ensures.watched

@@ -1,5 +1,5 @@
 use Rattle.command_line.specs.Requests.{asked_of, settings as settings_of}
-use Rattle.driver.specs.declared.doing.Doing.TheVariants.{Answering, Describing, Timing}
+use Rattle.driver.specs.declared.doing.TextOrder.TheVariants.{Answering, Describing, Timing}
 use Rattle.driver.proofs.Acting.{handed_over}
 use Rattle.driver.proofs.Ordered.{does_so}
 use Rattle.driver.proofs.Tried.{times_on}

@@ -1,6 +1,6 @@
 use Rattle.std.proofs.Common.{List, ℕ, ◌≤◌, length, Result, subst, sym}
-use Rattle.intake.specs.Held.{HasText}
-use Rattle.intake.specs.declared.failure.Failure.{Failure}
+use Rattle.files.specs.Held.{HasText}
+use Rattle.failures.specs.declared.failure.Failure.{Failure}
 use Rattle.command_line.specs.Requests.{asked_of}
 use Rattle.driver.specs.Acts.{in_short}
 use Rattle.driver.specs.Watching.{WatchesDoing}

@@ -1,5 +1,5 @@
 use Rattle.std.proofs.KnownBytes.{Keeps-refl}
-use Rattle.driver.specs.declared.doing.Doing.TheVariants.{Answering, Timing}
+use Rattle.driver.specs.declared.doing.TextOrder.TheVariants.{Answering, Timing}
 use Rattle.driver.proofs.Ordered.{unread_so}
 use Rattle.driver.proofs.doing.tell_unread.Goals as goal
 

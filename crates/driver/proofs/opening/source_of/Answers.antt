@@ -1,5 +1,5 @@
 use Rattle.std.proofs.Common.{subst, sym}
-use Rattle.intake.specs.Held.{TellsNoProgram}
+use Rattle.files.specs.Held.{TellsNoProgram}
 use Rattle.driver.proofs.opening.source_of.Goals as goal
 
 pub returns-in-Err-clause-why : goal.returns-in-Err-clause-why

@@ -2,8 +2,8 @@ use Rattle.std.proofs.Common.{Global, List, ℕ, ◌≤◌, length, Ok, Vec, ap,
 use Rattle.std.proofs.lemmas.Bool.{false≢true}
 use Rattle.std.proofs.lemmas.Str.{IsUtf8-string_bytes}
 use Rattle.std.specs.Prelude.{IsOk}
-use Rattle.intake.proofs.Programs.{no_program_text}
-use Rattle.intake.specs.Held.{IsGiven}
+use Rattle.files.proofs.Programs.{no_program_text}
+use Rattle.files.specs.Held.{IsGiven}
 use Rattle.driver.proofs.opening.text_in.Goals as goal
 
 pub returns-in-Ok-clause-text : goal.returns-in-Ok-clause-text

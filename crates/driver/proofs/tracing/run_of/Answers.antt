@@ -5,9 +5,9 @@ use Rattle.types.specs.Typed.{code_of}
 use Rattle.types.specs.declared.outcome.Outcome.{Outcome}
 use Rattle.command_line.specs.Requests.{settings}
 use Rattle.command_line.specs.declared.request.Command.TheVariants.{Run}
-use Rattle.answers.proofs.Answering.{begun_so, err_passed}
-use Rattle.objects.specs.Objects.{FailsEarly}
-use Rattle.objects.proofs.Failures.{not_begun_early}
+use Rattle.commands.proofs.Answering.{begun_so, err_passed}
+use Rattle.json_answers.specs.Objects.{FailsEarly}
+use Rattle.json_answers.proofs.Failures.{not_begun_early}
 use Rattle.driver.specs.Traced.{IsTraceOf, IsTraceOfText}
 use Rattle.driver.specs.declared.tracing.Ran.{Ran}
 use Rattle.driver.proofs.Leaving.{early_not_begun, passes_early, passes_failed, told_behind, traced_since}

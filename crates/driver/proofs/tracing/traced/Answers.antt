@@ -11,7 +11,7 @@ use Rattle.trace_text.specs.Lines.{trace_text}
 use Rattle.gather.specs.RunErrors.{IsRunCause}
 use Rattle.gather.proofs.RunCauses.{cause_so}
 use Rattle.command_line.specs.Requests.{settings}
-use Rattle.answers.specs.Answers.{IsTraced}
+use Rattle.commands.specs.Answers.{IsTraced}
 use Rattle.driver.proofs.TracedRuns.{is_trace, of_some}
 use Rattle.driver.proofs.tracing.traced.Goals as goal
 

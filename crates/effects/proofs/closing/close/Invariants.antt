@@ -1,6 +1,6 @@
 use Rattle.std.proofs.Common.{◌≡◌, ℕ, length}
 use Rattle.effects.specs.Closing.{HasIn, Reached}
-use Rattle.effects.specs.declared.summary.Row.{Row}
+use Rattle.effects.specs.declared.summary.SummaryRow.{SummaryRow}
 use Rattle.effects.proofs.StillMissing.{missing}
 use Rattle.effects.proofs.closing.close.Given as goal
 
@@ -8,8 +8,8 @@ use Rattle.effects.proofs.closing.close.Given as goal
 abbrev pub invariant-loop : goal.invariant-loop
 invariant-loop l = record {
   number : length l.table.items ≡ length l.initial.table.items;
-  more : (f : ℕ) (r : Row) (k : ℕ) → HasIn l.initial.table.items f r k → HasIn l.table.items f r k;
-  reached : (f : ℕ) (r : Row) (k : ℕ) → HasIn l.table.items f r k → Reached l.flows l.initial.table.items f r k;
+  more : (f : ℕ) (r : SummaryRow) (k : ℕ) → HasIn l.initial.table.items f r k → HasIn l.table.items f r k;
+  reached : (f : ℕ) (r : SummaryRow) (k : ℕ) → HasIn l.table.items f r k → Reached l.flows l.initial.table.items f r k;
 }
 
 -- each further round adds a label

@@ -10,8 +10,8 @@ use Rattle.effects.specs.Roots.{root_in}
 use Rattle.effects.specs.Starts.{starts_of}
 use Rattle.effects.specs.SummaryRows.{HasRow}
 use Rattle.effects.specs.Visits.{Visit, visits_in}
-use Rattle.effects.specs.declared.starts.Start.{Start}
-use Rattle.effects.specs.declared.summary.Row.{Row}
+use Rattle.effects.specs.declared.starts.FirstLabel.{FirstLabel}
+use Rattle.effects.specs.declared.summary.SummaryRow.{SummaryRow}
 use Rattle.effects.specs.declared.visits.Standing.TheVariants.{Open}
 use Rattle.effects.proofs.OutlineLemmas.{ok_anyway, visited}
 use Rattle.effects.proofs.outlines.outline.Goals as goal
@@ -28,7 +28,7 @@ returns-clause-rows c =
     c.deref-4.ensures.value ∙ c.in_ok-starts.ensures
     ∙ ap (λ (vs : List Visit). flat_map (starts_of (root_in roots)) vs) visits
     ∙ ap (λ (f : ℕ → ℕ). flat_map (starts_of f) (visits_in Open (codes g.body.items))) root in
-    subst (λ (xs : List Start). IfOk c.collected.result (λ x. (r : Row) (l : ℕ)
+    subst (λ (xs : List FirstLabel). IfOk c.collected.result (λ x. (r : SummaryRow) (l : ℕ)
     → HasRow x r l ↔ Member (record { row = r; label = l }) xs)) starts c.collected.ensures
 
 pub returns-clause-flows : goal.returns-clause-flows

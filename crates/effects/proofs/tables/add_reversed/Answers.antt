@@ -1,6 +1,6 @@
 use Rattle.std.proofs.Common.{List, ◌≡◌, ◌<◌, ◌-◌, [], ◌∷◌, ◌++◌, length, sym, subst, arith}
 use Rattle.sections.specs.Member.{Member}
-use Rattle.effects.specs.declared.flows.Flow.{Flow}
+use Rattle.effects.specs.declared.flows.CallFlow.{CallFlow}
 use Rattle.effects.proofs.ComingLemmas.{pushed_again}
 use Rattle.effects.proofs.tables.add_reversed.Goals as goal
 
@@ -14,8 +14,8 @@ loop-place-preserved c =
       same = λ x.
           let pushed = pushed_again xs (c.loop-place.place - 1) v below c.index-flow.ensures x in
           let inv = c.loop-place.invariant.same x in (
-            λ h. inv.0 (pushed.0 (subst (λ (ys : List Flow). Member x ys) items h)),
-            λ h. subst (λ (ys : List Flow). Member x ys) (sym items) (pushed.1 (inv.1 h)),
+            λ h. inv.0 (pushed.0 (subst (λ (ys : List CallFlow). Member x ys) items h)),
+            λ h. subst (λ (ys : List CallFlow). Member x ys) (sym items) (pushed.1 (inv.1 h)),
           );
       longer = omega (arith, c.in_ok-push.ensures.len, c.loop-place.invariant.longer);
     }

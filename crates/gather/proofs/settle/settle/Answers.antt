@@ -1,10 +1,10 @@
 use Rattle.std.proofs.Common.{◌≡◌, ◌∙◌, List, [], ap, map, subst, sym}
-use Rattle.own_run.specs.Lists.{Each}
-use Rattle.own_run.specs.Translation.{task_result}
+use Rattle.task_run.specs.Lists.{Each}
+use Rattle.task_run.specs.Translation.{task_result}
 use Rattle.gather.specs.Left.{left}
 use Rattle.gather.specs.Refusal.{IsCaseOf}
 use Rattle.gather.specs.Stages.{IsClear, part, waiting}
-use Rattle.gather.specs.declared.filling.Waiting.{Waiting as rWaiting}
+use Rattle.gather.specs.declared.filling.WaitingResult.{WaitingResult as rWaiting}
 use Rattle.gather.proofs.Pasting.{passed_on}
 use Rattle.gather.proofs.ReachedTurns.{starts_reached}
 use Rattle.gather.proofs.Stages.{starts}

@@ -1,7 +1,7 @@
 use Rattle.std.proofs.Common.{◌≡◌, map}
 use Rattle.sections.specs.Place.{Place}
-use Rattle.own_run.specs.Settling.{settle}
-use Rattle.own_run.specs.Translation.{task_result}
+use Rattle.task_run.specs.Settling.{settle}
+use Rattle.task_run.specs.Translation.{task_result}
 use Rattle.gather.specs.GivesBack.{GiveBack, all_owned}
 use Rattle.gather.specs.Parts.{comes_to, IsWhole}
 use Rattle.gather.specs.Reached.{IsReached, used_by}

@@ -2,7 +2,7 @@ use Rattle.std.proofs.Common.{◌≡◌, ◌∙◌, List, Option, Some, sym, ap,
 use Rattle.std.specs.Prelude.{ℕ, nat_eq, if◌then◌else◌}
 use Rattle.std.specs.Option.{option_flatten}
 use Rattle.std.specs.Cmp.Lexicographic.{pointwise}
-use Rattle.facts.proofs.Lists.{same_elements}
+use Rattle.shared_lemmas.proofs.Lists.{same_elements}
 use Rattle.indexmap.specs.IndexMap.{get}
 use Rattle.types.specs.Translation.{is_path}
 use Rattle.gather.specs.Unused.{first_of, left_in, said_of}

@@ -1,7 +1,7 @@
 use Rattle.std.proofs.Common.{◌≡◌, ◌++◌, drop, map}
 use Rattle.types.specs.Contents.{rows}
 use Rattle.types.specs.Translation.{array}
-use Rattle.own_run.specs.Translation.{contents_of}
+use Rattle.task_run.specs.Translation.{contents_of}
 use Rattle.gather.proofs.told.shown.Given as goal
 
 -- the lists so far, and those of the arrays that are left

@@ -8,7 +8,7 @@ use Rattle.serde_json.specs.Data.{no_members, object}
 use Rattle.serde_json.specs.View.{members_view}
 use Rattle.serde_json.proofs.Views.{view-Object}
 use Rattle.types.specs.Translation.{array}
-use Rattle.texts.proofs.OutcomeText.{zip_at, zip_inside}
+use Rattle.printing.proofs.OutcomeText.{zip_at, zip_inside}
 use Rattle.json_answers.specs.Outcomes.{put_arrays}
 use Rattle.json_answers.proofs.Seen.{put_more, put_all, zip-map}
 use Rattle.json_answers.proofs.outcomes.arrays_value.Goals as goal

@@ -6,7 +6,7 @@ use Rattle.types.specs.Typed.{code_of}
 use Rattle.effects.specs.Summarized.{body_of}
 use Rattle.parallel_relation.specs.Listing.{AreListsOf}
 use Rattle.parallel_relation.specs.Translation.{meeting}
-use Rattle.parallel_relation.specs.declared.listing.Listed.{Listed}
+use Rattle.parallel_relation.specs.declared.listing.ListedAccesses.{ListedAccesses}
 use Rattle.parallel_relation.specs.declared.meeting.Meeting.{Meeting as rMeeting}
 use Rattle.parallel_relation.proofs.ExactSummaries.{exact_of}
 use Rattle.parallel_relation.proofs.MeetingLemmas.{those, are_meetings}
@@ -27,7 +27,7 @@ returns c =
     let found : map meeting c.add_meetings.new.into.items ≡ those lists None (body_of p n) =
     c.in_ok-add_meetings.ensures
     ∙ ap (λ (xs : List rMeeting). map meeting xs ++ those c.deref.result.now None (codes c.body_of.result.now)) c.new-found.ensures.items
-    ∙ ap (λ (ls : List Listed). those ls None (codes c.body_of.result.now)) c.deref.ensures.value
+    ∙ ap (λ (ls : List ListedAccesses). those ls None (codes c.body_of.result.now)) c.deref.ensures.value
     ∙ ap (those lists None) body in
     are_meetings p lists are (body_of p n) (map meeting c.add_meetings.new.into.items) (map meeting c.put_in_order.new.meetings.items) found
     c.put_in_order.ensures.ascending c.put_in_order.ensures.same

@@ -7,7 +7,7 @@ use Rattle.types.specs.Typed.{code_of}
 use Rattle.effects.specs.Summarized.{body_of}
 use Rattle.parallel_relation.specs.Listing.{AreListsOf}
 use Rattle.parallel_relation.specs.Translation.{meeting}
-use Rattle.parallel_relation.specs.declared.listing.Listed.{Listed}
+use Rattle.parallel_relation.specs.declared.listing.ListedAccesses.{ListedAccesses}
 use Rattle.parallel_relation.proofs.ExactSummaries.{exact_of}
 use Rattle.parallel_relation.proofs.MeetingLemmas.{those, those_next, main_body, are_meetings_at}
 use Rattle.parallel_relation.proofs.meetings.meetings_at.Goals as goal
@@ -32,7 +32,7 @@ returns c =
     ap codes c.deref-3.ensures.value ∙ ap (λ (r : Program). r.main.body) same ∙ sym (main_body p n end) in
     let found : map meeting c.add_meetings-2.new.into.items ≡ map meeting c.loop-number.found.items ++ those lists (Some l) (codes c.deref-3.result.now) =
     c.in_ok-add_meetings-2.ensures
-    ∙ ap (λ (ls : List Listed). map meeting c.loop-number.found.items ++ those ls (Some l) (codes c.deref-3.result.now)) c.deref-2.ensures.value in
+    ∙ ap (λ (ls : List ListedAccesses). map meeting c.loop-number.found.items ++ those ls (Some l) (codes c.deref-3.result.now)) c.deref-2.ensures.value in
     are_meetings_at p lists are l (n + 1) (map meeting c.add_meetings-2.new.into.items) (map meeting c.put_in_order.new.meetings.items)
     (omega (arith, end))
     (those_next lists p l n (codes c.deref-3.result.now) (map meeting c.loop-number.found.items) (map meeting c.add_meetings-2.new.into.items)

@@ -4,8 +4,8 @@ use Rattle.types.specs.Trees.{Tree}
 use Rattle.types.specs.TreeSteps.{step, in_tree}
 use Rattle.statement_steps.specs.Lists.{lists_of, contents_of}
 use Rattle.statement_steps.proofs.Ends.{fits_too}
-use Rattle.leaf_steps.specs.Translation.{leaf_of}
-use Rattle.leaf_steps.proofs.Turns.{some_of}
+use Rattle.step_trees.specs.Translation.{leaf_of}
+use Rattle.step_trees.proofs.Turns.{some_of}
 use Rattle.step_trees.specs.Alike.{AreAlike}
 use Rattle.step_trees.specs.Held.{tree_of, inside}
 use Rattle.step_trees.specs.Places.{whole}

@@ -1,6 +1,6 @@
 use Rattle.std.proofs.Common.{◌≡◌, ◌∙◌, rules, length}
 use Rattle.std.specs.Prelude.{false, nat_eq}
-use Rattle.leaf_steps.specs.Translation.{leaf_of}
+use Rattle.step_trees.specs.Translation.{leaf_of}
 use Rattle.step_trees.specs.Held.{tree_of}
 use Rattle.step_trees.proofs.HeldTrees.{closed-faulted}
 use Rattle.step_trees.proofs.tree.closed.Goals as goal

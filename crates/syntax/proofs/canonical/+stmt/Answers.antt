@@ -3,7 +3,7 @@ use Rattle.std.proofs.Common.{Result, OnOk, String, Global}
 use Rattle.std.proofs.lemmas.List.{at_drop_more, at_drop_all}
 use Rattle.std.specs.Option.{option_map}
 use Rattle.std.specs.String.{string_bytes}
-use Rattle.facts.proofs.Results.{ok_then}
+use Rattle.shared_lemmas.proofs.Results.{ok_then}
 use Rattle.syntax_tree.specs.declared.tree.Stmt.TheVariants.{If as rIf}
 use Rattle.syntax.specs.declared.token.Word.TheVariants.{Else as WordElse}
 use Rattle.syntax.specs.declared.token.Mark.TheVariants.{LeftBrace}

@@ -1,7 +1,7 @@
 use Rattle.std.proofs.Common.{◌++◌, refl, ap, sym, ◌∙◌}
 use Rattle.std.proofs.lemmas.Bool.{both_ways}
 use Rattle.std.specs.String.{string_bytes}
-use Rattle.facts.proofs.Results.{ok_then}
+use Rattle.shared_lemmas.proofs.Results.{ok_then}
 use Rattle.syntax.specs.declared.token.Left.TheVariants.{Opening}
 use Rattle.syntax.specs.Spelling.{stmt_then}
 use Rattle.syntax_tree.specs.Tree.{Print, Call, expr, exprs, stmt}

@@ -1,6 +1,6 @@
 use Rattle.std.proofs.Common.{ℕ, List, ◌++◌, ap, sym, ◌∙◌}
 use Rattle.std.specs.String.{string_bytes}
-use Rattle.facts.proofs.Results.{ok_then}
+use Rattle.shared_lemmas.proofs.Results.{ok_then}
 use Rattle.trace_text.specs.Headers.{header_of}
 use Rattle.trace_text.proofs.Texts.{line_of_header}
 use Rattle.trace_text.proofs.line.push_header.Goals as goal

@@ -1,6 +1,6 @@
 use Rattle.std.proofs.Common.{ℕ, List, ◌++◌, ap, sym, ◌∙◌, codes}
 use Rattle.std.specs.String.{string_bytes}
-use Rattle.facts.proofs.Results.{ok_then}
+use Rattle.shared_lemmas.proofs.Results.{ok_then}
 use Rattle.types.specs.Names.{path_text}
 use Rattle.trace_text.proofs.Texts.{line_of_task, task_words}
 use Rattle.trace_text.proofs.line.push_of_task.Goals as goal

@@ -1,6 +1,6 @@
 use Rattle.std.proofs.Common.{ℕ, List, ◌++◌, ap, sym, ◌∙◌}
 use Rattle.std.specs.String.{string_bytes}
-use Rattle.facts.proofs.Results.{ok_then}
+use Rattle.shared_lemmas.proofs.Results.{ok_then}
 use Rattle.trace_text.proofs.Texts.{line_of_pass}
 use Rattle.trace_text.proofs.line.push_pass.Goals as goal
 

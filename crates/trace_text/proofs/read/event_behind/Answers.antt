@@ -1,7 +1,7 @@
 use Rattle.std.proofs.Common.{arith, rules, sym, ◌∙◌}
 use Rattle.std.proofs.lemmas.Grind.{common_steps}
 use Rattle.std.specs.Prelude.{option_map}
-use Rattle.facts.proofs.Results.{if_ok_then}
+use Rattle.shared_lemmas.proofs.Results.{if_ok_then}
 use Rattle.events.specs.Events.{event}
 use Rattle.trace_text.proofs.Arms.{told_resume, told_steal, told_take}
 use Rattle.trace_text.proofs.read.event_behind.Goals as goal

@@ -1,5 +1,5 @@
 use Rattle.std.proofs.Common.{sym, ◌∙◌}
-use Rattle.facts.proofs.Results.{if_ok_then}
+use Rattle.shared_lemmas.proofs.Results.{if_ok_then}
 use Rattle.trace_text.specs.Fields.{fields}
 use Rattle.trace_text.specs.Kinds.{kind_name, kind_of}
 use Rattle.trace_text.proofs.Arms.{kind_then_quote, same_kind, text_of_event}

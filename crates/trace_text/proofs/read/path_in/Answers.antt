@@ -1,5 +1,5 @@
 use Rattle.std.proofs.Common.{codes}
-use Rattle.facts.proofs.Results.{if_ok_then}
+use Rattle.shared_lemmas.proofs.Results.{if_ok_then}
 use Rattle.types.specs.Names.{path_text}
 use Rattle.trace_text.proofs.Marks.{path_then_quote}
 use Rattle.trace_text.proofs.read.path_in.Goals as goal

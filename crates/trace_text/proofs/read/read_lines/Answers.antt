@@ -4,7 +4,7 @@ use Rattle.trace_text.specs.Lines.{header_object}
 use Rattle.trace_text.specs.Reading.{IsRefusal}
 use Rattle.trace_text.proofs.Found.{cut_line, no_header_first, no_line, refused_behind}
 use Rattle.trace_text.proofs.read.read_lines.Goals as goal
-use Rattle.facts.proofs.Results.{if_err_then}
+use Rattle.shared_lemmas.proofs.Results.{if_err_then}
 
 pub returns-in_default-clause-refused : goal.returns-in_default-clause-refused
 returns-in_default-clause-refused c =

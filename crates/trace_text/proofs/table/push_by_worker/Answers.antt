@@ -1,7 +1,7 @@
 use Rattle.std.proofs.Common.{ℕ, List, ◌++◌, ap, ◌∙◌}
 use Rattle.std.specs.Fmt.{decimal, styled_decimal}
 use Rattle.std.specs.String.{string_bytes}
-use Rattle.facts.proofs.Results.{ok_then}
+use Rattle.shared_lemmas.proofs.Results.{ok_then}
 use Rattle.types.specs.Names.{path_text}
 use Rattle.trace_text.specs.Table.{right_in}
 use Rattle.trace_text.proofs.TableText.{by_worker, right_in_two}

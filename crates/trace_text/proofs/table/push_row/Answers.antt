@@ -1,7 +1,7 @@
 use Rattle.std.proofs.Common.{ap, ◌∙◌}
 use Rattle.std.specs.Fmt.{styled_decimal}
 use Rattle.std.specs.String.{string_bytes}
-use Rattle.facts.proofs.Results.{ok_then}
+use Rattle.shared_lemmas.proofs.Results.{ok_then}
 use Rattle.events.specs.Events.{event}
 use Rattle.trace_text.proofs.TableText.{right_in_eight, row_is}
 use Rattle.trace_text.proofs.table.push_row.Goals as goal

@@ -1,6 +1,6 @@
 use Rattle.std.proofs.Common.{refl}
 use Rattle.command_line.specs.Requests.{settings}
-use Rattle.answers.proofs.Answering.{answered}
+use Rattle.commands.proofs.Answering.{answered}
 use Rattle.viewing.specs.Views.{AnswersTrace, ExplainsTrace, IsDrawn, command_of, picture_name}
 use Rattle.viewing.proofs.Viewing.{draws_form, form_tells, views_no_trace, views_unwritten}
 use Rattle.viewing.proofs.Written.{wrote, wrote_anyway}

@@ -1,7 +1,7 @@
 use Rattle.std.proofs.Common.{List, ℕ, refl, subst, sym}
 use Rattle.std.proofs.lemmas.Result.{IfOk-at_ok}
 use Rattle.command_line.specs.Requests.{settings}
-use Rattle.answers.proofs.Answering.{answered}
+use Rattle.commands.proofs.Answering.{answered}
 use Rattle.viewing.specs.Views.{AnswersTrace, ExplainsTrace, TellsTrace, command_by}
 use Rattle.viewing.proofs.Viewing.{views_no_trace}
 use Rattle.viewing.proofs.tables.view.Goals as goal

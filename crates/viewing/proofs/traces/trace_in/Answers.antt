@@ -1,5 +1,5 @@
 use Rattle.std.proofs.Common.{List, ℕ, Ok, subst, sym}
-use Rattle.intake.specs.Held.{IsGiven}
+use Rattle.files.specs.Held.{IsGiven}
 use Rattle.viewing.proofs.Viewing.{no_text_no_lines}
 use Rattle.viewing.proofs.traces.trace_in.Goals as goal
 

@@ -1,5 +1,5 @@
 use Rattle.command_line.specs.Requests.{settings}
-use Rattle.answers.proofs.Answering.{begun_so, err_passed}
+use Rattle.commands.proofs.Answering.{begun_so, err_passed}
 use Rattle.viewing.specs.Views.{TellsNoTrace}
 use Rattle.viewing.proofs.Viewing.{holds_so, not_begun, not_legal}
 use Rattle.viewing.proofs.traces.trace_of.Goals as goal

@@ -9,11 +9,11 @@ use Rattle.effects.specs.Translation.{access}
 use Rattle.effects.proofs.Statements.{size_in, size-drop, smaller, codes_before, is_If, is_While}
 use Rattle.effects.proofs.OneList.{of_block, size_of_list}
 use Rattle.witness.specs.Crossed.{IsInTurn, MeetAt, MeetIn, both, crossed}
-use Rattle.ways.specs.Known.{steps}
-use Rattle.ways.specs.Least.{IsLeast, all_covered}
-use Rattle.ways.specs.Ways.{Way}
+use Rattle.witness.specs.Known.{steps}
+use Rattle.witness.specs.Least.{IsLeast, all_covered}
+use Rattle.witness.specs.Ways.{Way}
 use Rattle.witness.proofs.Crossings.{crossing_end, crossing_front, at_if, at_while, at_split, at_async, at_finish, at_statement}
-use Rattle.ways.proofs.Found.{least_end, least_front}
+use Rattle.witness.proofs.Found.{least_end, least_front}
 use Rattle.witness.proofs.crossing.+crossing.Goals as goal
 
 pub crossing_in-crossing_of-requires : goal.crossing_in-crossing_of-requires

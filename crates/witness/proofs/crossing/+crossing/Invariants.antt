@@ -4,9 +4,9 @@ use Rattle.types.specs.Translation.{code, codes, program}
 use Rattle.effects.specs.Translation.{access}
 use Rattle.effects.proofs.Statements.{size, size_in}
 use Rattle.witness.specs.Crossed.{MeetIn, both, crossed}
-use Rattle.ways.specs.Known.{steps}
-use Rattle.ways.specs.Least.{IsLeast, all_covered}
-use Rattle.ways.specs.Ways.{Way}
+use Rattle.witness.specs.Known.{steps}
+use Rattle.witness.specs.Least.{IsLeast, all_covered}
+use Rattle.witness.specs.Ways.{Way}
 use Rattle.witness.proofs.crossing.+crossing.Given as goal
 
 abbrev pub decreases-crossing_in : goal.decreases-crossing_in

@@ -1,4 +1,4 @@
-use Rattle.ways.proofs.HasWays.{leads_in}
+use Rattle.witness.proofs.HasWays.{leads_in}
 use Rattle.witness.proofs.laws.ways_lead_to_what_is_done.Goals as goal
 
 pub returns-clause-done : goal.returns-clause-done

@@ -5,7 +5,7 @@ use Rattle.effects.specs.declared.access.Access.{Access as rAccess}
 use Rattle.race_checker.specs.Translation.{race}
 use Rattle.witness.specs.Crossed.{IsShortestOf, MeetIn, both, crossed}
 use Rattle.witness.specs.declared.crossing.Pairing.{Pairing}
-use Rattle.ways.specs.Least.{IsLeast, all_covered}
+use Rattle.witness.specs.Least.{IsLeast, all_covered}
 use Rattle.witness.proofs.Answering.{least_directed, prefers_forth}
 use Rattle.witness.proofs.witness.shortest.Goals as goal
 

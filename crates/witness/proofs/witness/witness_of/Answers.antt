@@ -5,7 +5,7 @@ use Rattle.types.specs.Typed.{code_of}
 use Rattle.race_checker.specs.Races.{numbered}
 use Rattle.race_checker.specs.Translation.{race}
 use Rattle.witness.specs.Crossed.{MeetIn, directed, plain}
-use Rattle.ways.specs.Least.{IsLeast, all_covered}
+use Rattle.witness.specs.Least.{IsLeast, all_covered}
 use Rattle.witness.specs.Witness.{PrefersThese, ShowIn}
 use Rattle.witness.proofs.Answering.{race_found, found_fewest, prefers_first, size}
 use Rattle.witness.proofs.witness.witness_of.Goals as goal

@@ -1,12 +1,12 @@
 use Rattle.std.proofs.Common.{◌∙◌, ap, map, refl, subst, sym, Some}
-use Rattle.facts.proofs.Results.{err_passed}
+use Rattle.shared_lemmas.proofs.Results.{err_passed}
 use Rattle.sections.specs.Place.{Place}
-use Rattle.own_run.specs.Settling.{settle}
-use Rattle.own_run.specs.Translation.{task_result}
-use Rattle.own_run.specs.declared.result.TaskResult.{TaskResult}
+use Rattle.task_run.specs.Settling.{settle}
+use Rattle.task_run.specs.Translation.{task_result}
+use Rattle.task_run.specs.declared.result.TaskResult.{TaskResult}
 use Rattle.gather.specs.GivesBack.{GiveBack, all_owned}
-use Rattle.gather.specs.Jobs.{outcome_of}
-use Rattle.task_machine.specs.Tasks.{IsResultOf}
+use Rattle.task_run.specs.Jobs.{outcome_of}
+use Rattle.weighted_task.specs.Tasks.{IsResultOf}
 use Rattle.workers.specs.Causes.{Happens}
 use Rattle.workers.specs.declared.error.Trouble.TheVariants.{Gather}
 use Rattle.workers.proofs.Passes.{case_of, comes, each_either}

@@ -1,6 +1,6 @@
 use Rattle.std.proofs.Common.{◌≡◌, length, rules, subst}
 use Rattle.std.specs.Prelude.{IfSome}
-use Rattle.workers.specs.Desks.{EndsRun}
+use Rattle.workers.specs.WorkerStates.{EndsRun}
 use Rattle.workers.proofs.Draws.{reason}
 use Rattle.workers.proofs.reports.finish.Goals as goal
 

@@ -1,7 +1,7 @@
 use Rattle.std.proofs.Common.{rules, arith, ◌≡◌, ◌+◌, vec_len}
 use Rattle.std.proofs.lemmas.List.Elements.{All-rest}
 use Rattle.std.specs.Vec.Iter.{into_iter_len}
-use Rattle.workers.specs.Desks.{Tells}
+use Rattle.workers.specs.WorkerStates.{Tells}
 use Rattle.workers.proofs.reports.put_together.Goals as goal
 
 pub loop-report-preserved : goal.loop-report-preserved

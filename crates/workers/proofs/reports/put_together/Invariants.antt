@@ -1,6 +1,6 @@
 use Rattle.std.proofs.Common.{◌≡◌, ◌+◌, All, vec_len}
 use Rattle.std.specs.Vec.Iter.{into_iter_items, into_iter_len}
-use Rattle.workers.specs.Desks.{TellTogether, Tells}
+use Rattle.workers.specs.WorkerStates.{TellTogether, Tells}
 use Rattle.workers.proofs.reports.put_together.Given as goal
 
 -- the reports so far are told together, and those that are left are of the run

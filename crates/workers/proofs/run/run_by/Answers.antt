@@ -3,25 +3,25 @@ use denote.Param.{param}
 use denote.Param.Send.{IsSend, IsSync, param_send, param_sync}
 use denote.Ref.{NamedLft}
 use mir.Syntax.{named}
-use Rattle.workers.specs.contracts.floor.Floor as Floor
-use Rattle.workers.specs.contracts.kit.Kit as Kit
-use Rattle.workers.proofs.Boarding.{floor_sync, kit_send}
+use Rattle.workers.specs.contracts.main_loop.Shared as Shared
+use Rattle.workers.specs.contracts.worker.WorkerParts as WorkerParts
+use Rattle.workers.proofs.Sending.{floor_sync, kit_send}
 use Rattle.workers.proofs.run.run_by.Lts.{arg-3-0, arg-3-2}
 use Rattle.workers.proofs.run.run_by.Goals as goal
 
--- the kits can be sent
+-- the parts of the workers can be sent
 pub work_together-requires-send-C-Kit : goal.work_together-requires-send-C-Kit
 work_together-requires-send-C-Kit g c κs within =
     let κ : NamedLft = record { mir = named 6; lft = κs.1.1.1.1.1.1.0 } in
-    let s : IsSend (Kit.the_row κ (param 0 g.row.J) g.J.Running) = kit_send κ (param 0 g.row.J) g.J.Running in
+    let s : IsSend (WorkerParts.the_row κ (param 0 g.row.J) g.J.Running) = kit_send κ (param 0 g.row.J) g.J.Running in
     param_send 2 (arg-3-2 g.row.J g.row.G g.row.R g.J.laws g.G.laws g.R.laws g.J.Running g.J.Running-dict g.G.Gate g.G.Gate-dict g.R.Threads g.R.Threads-dict g.R.Wait g.R.Wait-dict κs)
     (record { owned = s.owned; leaving = λ k. s.leaving no })
 
--- all threads can share the floor
+-- all threads can share the shared state
 pub work_together-requires-sync-C : goal.work_together-requires-sync-C
 work_together-requires-sync-C g c κs within =
     let κ : NamedLft = record { mir = named 6; lft = κs.1.1.1.1.1.1.0 } in
-    let s : IsSync (Floor.the_row κ (param 0 g.row.J) (param 1 g.row.G) g.J.Running g.G.Gate) =
+    let s : IsSync (Shared.the_row κ (param 0 g.row.J) (param 1 g.row.G) g.J.Running g.G.Gate) =
     floor_sync κ (param 0 g.row.J) g.J.Running (param 1 g.row.G) g.G.Gate c.type_bounds.sync-G in
     param_sync 0 (arg-3-0 g.row.J g.row.G g.row.R g.J.laws g.G.laws g.R.laws g.J.Running g.J.Running-dict g.G.Gate g.G.Gate-dict g.R.Threads g.R.Threads-dict g.R.Wait g.R.Wait-dict κs)
     (record { shared = s.shared })

@@ -1,6 +1,6 @@
 use Rattle.std.proofs.Common.{◌≡◌, ℕ, ◌<◌, None, false}
 use Rattle.blocks.specs.Blocks.{held_at}
-use Rattle.block_numbers.specs.Offsets.{in_range}
+use Rattle.blocks.specs.Offsets.{in_range}
 use Rattle.blocks.proofs.block.Block.holds_only.Given as goal
 
 -- so far nothing is held outside the range

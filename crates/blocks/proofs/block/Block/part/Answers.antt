@@ -1,7 +1,7 @@
 use Rattle.std.proofs.Common.{ap, arith}
 use Rattle.blocks.specs.Blocks.{held_at}
 use Rattle.blocks.proofs.BlockLemmas.{reach-held, reach-mixed}
-use Rattle.block_numbers.proofs.WalkLemmas.{in_range-true}
+use Rattle.blocks.proofs.WalkLemmas.{in_range-true}
 use Rattle.blocks.proofs.block.Block.part.Goals as goal
 
 pub unreachable-requires : goal.unreachable-requires

@@ -1,6 +1,6 @@
 use Rattle.std.proofs.Common.{◌+◌, ap, arith, sym, ◌∙◌}
-use Rattle.block_numbers.proofs.WalkLemmas.{in_range-true}
-use Rattle.block_numbers.specs.Numbers.{number_in}
+use Rattle.blocks.proofs.WalkLemmas.{in_range-true}
+use Rattle.blocks.specs.Numbers.{number_in}
 use Rattle.blocks.specs.Ready.{room_at}
 use Rattle.blocks.specs.declared.block.Block.{Block}
 use Rattle.blocks.specs.declared.mixed.Mixed.{Mixed}

@@ -1,5 +1,5 @@
 use Rattle.std.proofs.Common.{arith}
-use Rattle.block_numbers.proofs.WalkLemmas.{in_range-true}
+use Rattle.blocks.proofs.WalkLemmas.{in_range-true}
 use Rattle.blocks.proofs.BlockLemmas.{no_room}
 use Rattle.blocks.proofs.block.Block.take_range.Goals as goal
 

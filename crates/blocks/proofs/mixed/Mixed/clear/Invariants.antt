@@ -1,7 +1,7 @@
 use Rattle.std.proofs.Common.{◌≡◌}
 use Rattle.blocks.specs.Blocks.{held_in}
-use Rattle.block_numbers.specs.Offsets.{Agree, outside}
-use Rattle.block_numbers.proofs.WalkLemmas.{so_far}
+use Rattle.blocks.specs.Offsets.{Agree, outside}
+use Rattle.blocks.proofs.WalkLemmas.{so_far}
 use Rattle.blocks.proofs.mixed.Mixed.clear.Given as goal
 
 -- the offsets so far are cleared

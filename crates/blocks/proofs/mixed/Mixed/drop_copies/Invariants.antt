@@ -2,8 +2,8 @@ use Rattle.std.proofs.Common.{◌≡◌}
 use Rattle.std.specs.Prelude.{option_map}
 use Rattle.blocks.specs.Blocks.{held_in}
 use Rattle.blocks.specs.Held.{Owned, owned_number}
-use Rattle.block_numbers.specs.Offsets.{Agree}
-use Rattle.block_numbers.proofs.WalkLemmas.{so_far}
+use Rattle.blocks.specs.Offsets.{Agree}
+use Rattle.blocks.proofs.WalkLemmas.{so_far}
 use Rattle.blocks.proofs.mixed.Mixed.drop_copies.Given as goal
 
 -- the copies so far are dropped

@@ -1,5 +1,5 @@
-use Rattle.block_numbers.specs.declared.kind.Kind.TheVariants.{Absent}
-use Rattle.block_numbers.proofs.RowLemmas.{row_from-there}
+use Rattle.blocks.specs.declared.kind.HeldAs.TheVariants.{Absent}
+use Rattle.blocks.proofs.RowLemmas.{row_from-there}
 use Rattle.blocks.proofs.KindLemmas.{held_row-kind}
 use Rattle.blocks.proofs.mixed.Mixed.forget.Goals as goal
 

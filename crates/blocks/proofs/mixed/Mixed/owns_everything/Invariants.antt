@@ -1,5 +1,5 @@
 use Rattle.std.proofs.Common.{◌≡◌, ℕ, ◌<◌, get_or}
-use Rattle.block_numbers.specs.declared.kind.Kind.TheVariants.{Absent, Own}
+use Rattle.blocks.specs.declared.kind.HeldAs.TheVariants.{Absent, Own}
 use Rattle.blocks.proofs.mixed.Mixed.owns_everything.Given as goal
 
 -- the numbers so far are owned

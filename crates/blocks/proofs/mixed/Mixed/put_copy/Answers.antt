@@ -1,4 +1,4 @@
-use Rattle.block_numbers.specs.declared.kind.Kind.TheVariants.{Copied}
+use Rattle.blocks.specs.declared.kind.HeldAs.TheVariants.{Copied}
 use Rattle.blocks.proofs.KindLemmas.{held_row-put}
 use Rattle.blocks.proofs.mixed.Mixed.put_copy.Goals as goal
 

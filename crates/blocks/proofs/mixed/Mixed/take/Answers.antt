@@ -3,10 +3,10 @@ use Rattle.std.proofs.lemmas.Int.{to_z-of_z}
 use Rattle.std.specs.Prelude.{option_map, ℤ}
 use Rattle.blocks.specs.Blocks.{held_in, held_at, owned_at}
 use Rattle.blocks.specs.Held.{Held, Owned, first_of, owned_number}
-use Rattle.block_numbers.specs.Offsets.{Offsets}
+use Rattle.blocks.specs.Offsets.{Offsets}
 use Rattle.blocks.proofs.BlockLemmas.{IsAsWide-again, IsAsWide-there, first_of-none, first_of-owned, first_of-unowned}
-use Rattle.block_numbers.proofs.WalkLemmas.{how_many-le, how_many-none, how_many-rest, how_many-skip, how_many-some}
-use Rattle.block_numbers.proofs.WalkLemmas.{so_far-begun, so_far-kept, so_far-more}
+use Rattle.blocks.proofs.WalkLemmas.{how_many-le, how_many-none, how_many-rest, how_many-skip, how_many-some}
+use Rattle.blocks.proofs.WalkLemmas.{so_far-begun, so_far-kept, so_far-more}
 use Rattle.blocks.proofs.mixed.Mixed.take.Goals as goal
 use Rattle.blocks.proofs.mixed.Mixed.take.Goals.{in-Some, in_default}
 

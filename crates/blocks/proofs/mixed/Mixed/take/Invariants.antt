@@ -1,11 +1,11 @@
 use Rattle.std.proofs.Common.{◌≡◌, ◌≤◌}
 use Rattle.std.specs.Prelude.{option_map}
 use Rattle.blocks.specs.Blocks.{held_in, owned_at}
-use Rattle.block_numbers.specs.Counts.{how_many}
+use Rattle.blocks.specs.Counts.{how_many}
 use Rattle.blocks.specs.Held.{Owned, first_of}
-use Rattle.block_numbers.specs.Offsets.{Agree}
-use Rattle.block_numbers.specs.Numbers.{IsAsWide}
-use Rattle.block_numbers.proofs.WalkLemmas.{so_far}
+use Rattle.blocks.specs.Offsets.{Agree}
+use Rattle.blocks.specs.Numbers.{IsAsWide}
+use Rattle.blocks.proofs.WalkLemmas.{so_far}
 use Rattle.blocks.proofs.mixed.Mixed.take.Given as goal
 
 -- what is owned so far has come in and was counted

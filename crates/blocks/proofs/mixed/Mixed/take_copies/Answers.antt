@@ -3,10 +3,10 @@ use Rattle.std.proofs.lemmas.Int.{to_z-of_z}
 use Rattle.std.specs.Prelude.{option_map, ℤ, if◌then◌else◌}
 use Rattle.blocks.specs.Blocks.{held_in, held_at, number_at}
 use Rattle.blocks.specs.Held.{Held, Shared}
-use Rattle.block_numbers.specs.Offsets.{Offsets, in_range}
+use Rattle.blocks.specs.Offsets.{Offsets, in_range}
 use Rattle.blocks.proofs.AddingLemmas.{number-none}
 use Rattle.blocks.proofs.BlockLemmas.{IsAsWide-again, IsAsWide-there}
-use Rattle.block_numbers.proofs.WalkLemmas.{in_range-true, in_range-below, in_range-behind, so_far-begun, so_far-done, so_far-more}
+use Rattle.blocks.proofs.WalkLemmas.{in_range-true, in_range-below, in_range-behind, so_far-begun, so_far-done, so_far-more}
 use Rattle.blocks.proofs.mixed.Mixed.take_copies.Goals as goal
 use Rattle.blocks.proofs.mixed.Mixed.take_copies.Goals.{in-Some, in_default}
 

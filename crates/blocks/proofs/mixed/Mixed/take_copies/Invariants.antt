@@ -1,9 +1,9 @@
 use Rattle.std.specs.Prelude.{option_map, if◌then◌else◌}
 use Rattle.blocks.specs.Blocks.{held_in, number_at}
 use Rattle.blocks.specs.Held.{Shared}
-use Rattle.block_numbers.specs.Offsets.{Agree, in_range}
-use Rattle.block_numbers.specs.Numbers.{IsAsWide}
-use Rattle.block_numbers.proofs.WalkLemmas.{so_far}
+use Rattle.blocks.specs.Offsets.{Agree, in_range}
+use Rattle.blocks.specs.Numbers.{IsAsWide}
+use Rattle.blocks.proofs.WalkLemmas.{so_far}
 use Rattle.blocks.proofs.mixed.Mixed.take_copies.Given as goal
 
 -- the copies so far have come in

@@ -3,9 +3,9 @@ use Rattle.std.proofs.lemmas.Int.{to_z-of_z}
 use Rattle.std.specs.Prelude.{ℤ, if◌then◌else◌}
 use Rattle.blocks.specs.Blocks.{held_in, held_at, owned_at}
 use Rattle.blocks.specs.Held.{Held, Owned}
-use Rattle.block_numbers.specs.Offsets.{Offsets, in_range}
+use Rattle.blocks.specs.Offsets.{Offsets, in_range}
 use Rattle.blocks.proofs.BlockLemmas.{IsAsWide-again, IsAsWide-there, owned_held}
-use Rattle.block_numbers.proofs.WalkLemmas.{in_range-true, in_range-below, in_range-behind, so_far-begun, so_far-done, so_far-more}
+use Rattle.blocks.proofs.WalkLemmas.{in_range-true, in_range-below, in_range-behind, so_far-begun, so_far-done, so_far-more}
 use Rattle.blocks.proofs.mixed.Mixed.take_range.Goals as goal
 use Rattle.blocks.proofs.mixed.Mixed.take_range.Goals.{in-Some, in_default}
 

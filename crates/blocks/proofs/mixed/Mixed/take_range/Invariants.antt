@@ -1,9 +1,9 @@
 use Rattle.std.proofs.Common.{◌≡◌, ◌-◌}
 use Rattle.std.specs.Prelude.{if◌then◌else◌}
 use Rattle.blocks.specs.Blocks.{held_at, held_in}
-use Rattle.block_numbers.specs.Offsets.{Agree, in_range}
-use Rattle.block_numbers.specs.Numbers.{IsAsWide}
-use Rattle.block_numbers.proofs.WalkLemmas.{so_far}
+use Rattle.blocks.specs.Offsets.{Agree, in_range}
+use Rattle.blocks.specs.Numbers.{IsAsWide}
+use Rattle.blocks.proofs.WalkLemmas.{so_far}
 use Rattle.blocks.proofs.mixed.Mixed.take_range.Given as goal
 
 -- the numbers so far have come in, and were counted

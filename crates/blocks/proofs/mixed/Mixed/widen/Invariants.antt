@@ -1,7 +1,7 @@
 use Rattle.std.proofs.Common.{◌-◌, ◌+◌, ◌≡◌, length}
 use Rattle.blocks.specs.Blocks.{held_in}
-use Rattle.block_numbers.specs.Numbers.{number_in}
-use Rattle.block_numbers.specs.Offsets.{Agree, IsWithin}
+use Rattle.blocks.specs.Numbers.{number_in}
+use Rattle.blocks.specs.Offsets.{Agree, IsWithin}
 use Rattle.blocks.proofs.mixed.Mixed.widen.Given as goal
 
 -- there is more room, and the same is held

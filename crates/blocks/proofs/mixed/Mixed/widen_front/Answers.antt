@@ -1,7 +1,7 @@
 use Rattle.std.proofs.Common.{◌≡◌, ◌≤◌, ◌+◌, ◌-◌, ◌++◌, ℕ, length, replicate, ap, ◌∙◌, arith, rules}
 use Rattle.std.proofs.lemmas.List.{length-append, length-replicate}
-use Rattle.block_numbers.specs.declared.kind.Kind.{Kind}
-use Rattle.block_numbers.specs.declared.kind.Kind.TheVariants.{Absent}
+use Rattle.blocks.specs.declared.kind.HeldAs.{HeldAs}
+use Rattle.blocks.specs.declared.kind.HeldAs.TheVariants.{Absent}
 use Rattle.blocks.specs.declared.mixed.Mixed.{Mixed}
 use Rattle.blocks.proofs.BlockLemmas.{row_from-wider}
 use Rattle.blocks.proofs.KindLemmas.{held_row, held_row-front}

@@ -1,4 +1,4 @@
-use Rattle.texts.proofs.Appending.{beginning_written, begins_longer, then_begins}
+use Rattle.printing.proofs.Appending.{beginning_written, begins_longer, then_begins}
 use Rattle.driver.proofs.refusal.Refusal.tell.Goals as goal
 
 pub returns-in-Ok-clause-told : goal.returns-in-Ok-clause-told

@@ -1,6 +1,6 @@
 use Rattle.std.proofs.Common.{◌≡◌, ℕ, List, ◌/◌, ◌%◌, get_or, sym, ◌∙◌, ap, subst, arith}
 use Rattle.std.specs.Int.{bit_at}
-use Rattle.facts.proofs.Truths.{false_true}
+use Rattle.shared_lemmas.proofs.Truths.{false_true}
 use Rattle.effects.specs.LabelSets.{HasLabel}
 use Rattle.effects.proofs.LabelSetLemmas.{bit_test, no_bit}
 use Rattle.effects.proofs.label_set.LabelSet.has.Goals as goal

@@ -1,4 +1,4 @@
-use Rattle.facts.proofs.Truths.{false_true}
+use Rattle.shared_lemmas.proofs.Truths.{false_true}
 use Rattle.effects.specs.UseSets.{HasUse}
 use Rattle.effects.proofs.UseLemmas.{found, missing, has_found, has_none}
 use Rattle.effects.proofs.uses.Uses.has.Goals as goal

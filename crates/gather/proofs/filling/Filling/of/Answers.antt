@@ -1,6 +1,6 @@
 use Rattle.std.proofs.Common.{◌≡◌, ap, map, rules}
 use Rattle.types.specs.Translation.{fault}
-use Rattle.own_run.specs.Translation.{listed}
+use Rattle.task_run.specs.Translation.{listed}
 use Rattle.gather.proofs.Pasting.{opened-is}
 use Rattle.gather.proofs.filling.Filling.of.Goals as goal
 

@@ -3,7 +3,7 @@ use Rattle.std.specs.List.{list_any}
 use Rattle.std.specs.Prelude.{Bool, ◌||◌}
 use Rattle.sections.specs.Covers.{has}
 use Rattle.sections.specs.Translation.{place, window}
-use Rattle.own_run.specs.Translation.{owned_by}
+use Rattle.task_run.specs.Translation.{owned_by}
 use Rattle.gather.proofs.StrayPlaces.{covers, has_place}
 use Rattle.gather.proofs.filling.Filling.owns.Goals as goal
 

@@ -1,6 +1,6 @@
 use Rattle.std.proofs.Common.{◌≡◌, false, map, take}
 use Rattle.sections.specs.Translation.{window}
-use Rattle.own_run.specs.Places.{meets}
+use Rattle.task_run.specs.Places.{meets}
 use Rattle.gather.specs.Stages.{part}
 use Rattle.gather.proofs.filling.Filling.owns_one.Given as goal
 

@@ -1,5 +1,5 @@
 use Rattle.std.proofs.Common.{◌≡◌, ◌+◌}
-use Rattle.own_run.specs.Places.{has_one}
+use Rattle.task_run.specs.Places.{has_one}
 use Rattle.gather.specs.Stages.{part}
 use Rattle.gather.proofs.filling.Filling.owns_one_of.Given as goal
 

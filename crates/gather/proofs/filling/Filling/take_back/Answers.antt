@@ -1,9 +1,9 @@
 use Rattle.std.proofs.Common.{◌≡◌, ◌∙◌, ap, map, rules, sym}
 use Rattle.std.proofs.lemmas.Result.{IfErr-weaker, on_ok_weaker}
 use Rattle.std.specs.Prelude.{length, nat_eq}
-use Rattle.facts.proofs.Truths.{false_true}
+use Rattle.shared_lemmas.proofs.Truths.{false_true}
 use Rattle.sections.specs.Translation.{window}
-use Rattle.own_run.specs.Places.{Places, meets}
+use Rattle.task_run.specs.Places.{Places, meets}
 use Rattle.gather.specs.Stages.{IsClear}
 use Rattle.gather.proofs.Pasting.{apart_is_once, back-just, from-none, given-pasted, just-back, none-from, once_is_apart, owned-clear, refuses_back}
 use Rattle.gather.proofs.filling.Filling.take_back.Goals.{else-is_empty-via-then-is_empty+else-owns_just, else-is_empty-via-else-is_empty}

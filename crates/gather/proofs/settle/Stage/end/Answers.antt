@@ -1,7 +1,7 @@
 use Rattle.std.proofs.Common.{List, ap, map, subst}
 use Rattle.std.specs.List.{list_any}
 use Rattle.types.specs.declared.path.Path.{Path}
-use Rattle.own_run.specs.Translation.{listed}
+use Rattle.task_run.specs.Translation.{listed}
 use Rattle.gather.specs.Left.{left}
 use Rattle.types.specs.Translation.{is_path}
 use Rattle.gather.specs.PartRefusal.{TellsLeftOver}

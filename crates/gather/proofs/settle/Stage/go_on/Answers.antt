@@ -2,8 +2,8 @@ use Rattle.std.proofs.Common.{◌≡◌, ◌∙◌, ap, false, map, subst, sym}
 use Rattle.statement_steps.proofs.Steps.{map-pushed}
 use Rattle.sections.specs.Covers.{has}
 use Rattle.sections.specs.Place.{Place}
-use Rattle.own_run.specs.Lists.{Each}
-use Rattle.own_run.specs.Translation.{listed, settled, task_result, owned_by}
+use Rattle.task_run.specs.Lists.{Each}
+use Rattle.task_run.specs.Translation.{listed, settled, task_result, owned_by}
 use Rattle.gather.specs.Left.{left}
 use Rattle.gather.specs.PartRefusal.{RefusesHole}
 use Rattle.gather.specs.Parts.{closed, comes_back_twice, comes_to, filled}
@@ -11,7 +11,7 @@ use Rattle.gather.specs.Reached.{IsOwnCase, used_by}
 use Rattle.gather.specs.Refusal.{Refuses}
 use Rattle.gather.specs.Stages.{IsClear, gathering, part, waiting, waiting_for}
 use Rattle.gather.specs.declared.filling.Filling.{Filling}
-use Rattle.gather.specs.declared.filling.Waiting.{Waiting as rWaiting}
+use Rattle.gather.specs.declared.filling.WaitingResult.{WaitingResult as rWaiting}
 use Rattle.gather.proofs.Pasting.{owned-clear, passed_on}
 use Rattle.gather.proofs.ReachedTurns.{filled_reached, hole_case}
 use Rattle.gather.proofs.Stages.{back-fits, leads-filled, twice-none}

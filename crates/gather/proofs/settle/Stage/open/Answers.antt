@@ -1,14 +1,14 @@
 use Rattle.std.proofs.Common.{◌∙◌, ◌++◌, ◌∷◌, [], ap, refl, map, subst, sym}
-use Rattle.own_run.specs.Lists.{Each}
-use Rattle.own_run.proofs.Lists.{each_last}
+use Rattle.task_run.specs.Lists.{Each}
+use Rattle.task_run.proofs.Lists.{each_last}
 use Rattle.statement_steps.proofs.Steps.{map-pushed}
 use Rattle.types.specs.declared.path.Path.{Path}
-use Rattle.own_run.specs.Translation.{task_result}
+use Rattle.task_run.specs.Translation.{task_result}
 use Rattle.gather.specs.Left.{left}
 use Rattle.gather.specs.Reached.{used_by}
 use Rattle.gather.specs.Stages.{IsClear, part, waiting, waiting_for}
 use Rattle.gather.specs.declared.filling.Filling.{Filling}
-use Rattle.gather.specs.declared.filling.Waiting.{Waiting as rWaiting}
+use Rattle.gather.specs.declared.filling.WaitingResult.{WaitingResult as rWaiting}
 use Rattle.gather.proofs.Openings.{lost}
 use Rattle.gather.proofs.ReachedTurns.{opened_reached}
 use Rattle.gather.proofs.Stages.{leads-opened}

@@ -1,7 +1,7 @@
 use Rattle.std.proofs.Common.{List, map, subst, sym}
 use Rattle.std.specs.Prelude.{IfErr, OnOk}
-use Rattle.own_run.specs.Translation.{listed}
-use Rattle.own_run.specs.declared.result.Listed.{Listed as rListed}
+use Rattle.task_run.specs.Translation.{listed}
+use Rattle.task_run.specs.declared.result.Listed.{Listed as rListed}
 use Rattle.gather.specs.Left.{left}
 use Rattle.gather.specs.Parts.{Gathering, IsWhole}
 use Rattle.gather.specs.Reached.{GoesOn, IsOwnCase, used_by}

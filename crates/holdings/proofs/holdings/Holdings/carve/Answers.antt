@@ -3,11 +3,11 @@ use Rattle.sections.specs.Covers.{has}
 use Rattle.sections.specs.Place.{Place}
 use Rattle.sections.specs.Translation.{window as window_of}
 use Rattle.blocks.specs.Held.{Held, Map, without}
-use Rattle.block_rows.specs.Carvings.{copied_places, cut_places, moved_places}
-use Rattle.block_rows.specs.Pieces.{taking}
-use Rattle.block_rows.proofs.CoverLemmas.{copies-from, counts-from}
-use Rattle.block_rows.proofs.MapLemmas.{taken-only}
-use Rattle.block_rows.specs.Rows.{held_in}
+use Rattle.holdings.specs.Carvings.{copied_places, cut_places, moved_places}
+use Rattle.holdings.specs.Pieces.{taking}
+use Rattle.holdings.proofs.CoverLemmas.{copies-from, counts-from}
+use Rattle.holdings.proofs.MapLemmas.{taken-only}
+use Rattle.holdings.specs.Rows.{held_in}
 use Rattle.holdings.specs.Holdings.{held}
 use Rattle.holdings.proofs.holdings.Holdings.carve.Goals as goal
 

@@ -1,6 +1,6 @@
 use Rattle.std.proofs.Common.{◌≡◌, ◌∙◌, ap, arith, is_some, subst}
 use Rattle.blocks.specs.Held.{Held, Map, as_owned, over, owned}
-use Rattle.block_rows.specs.Copied.{CopiesSplit, as_count, paste_copies}
+use Rattle.holdings.specs.Copied.{CopiesSplit, as_count, paste_copies}
 use Rattle.holdings.specs.Holdings.{held}
 use Rattle.holdings.proofs.holdings.Holdings.paste.Goals as goal
 

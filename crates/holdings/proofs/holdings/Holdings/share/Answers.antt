@@ -3,9 +3,9 @@ use Rattle.sections.specs.Covers.{has}
 use Rattle.sections.specs.Translation.{window as window_of}
 use Rattle.blocks.specs.Held.{as_shared, numbers}
 use Rattle.holdings.specs.Holdings.{held}
-use Rattle.block_rows.specs.Pieces.{taking}
-use Rattle.block_rows.specs.Rows.{held_in}
-use Rattle.block_rows.proofs.MapLemmas.{shared-only, there-numbers}
+use Rattle.holdings.specs.Pieces.{taking}
+use Rattle.holdings.specs.Rows.{held_in}
+use Rattle.holdings.proofs.MapLemmas.{shared-only, there-numbers}
 use Rattle.holdings.proofs.holdings.Holdings.share.Goals as goal
 
 pub share_all-requires : goal.share_all-requires

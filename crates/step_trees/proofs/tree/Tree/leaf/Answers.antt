@@ -1,7 +1,7 @@
 use Rattle.std.proofs.Common.{◌≡◌, ◌<◌, ◌≤◌, ◌-◌, refl, sym, ap, ◌∙◌, subst, rules, arith}
 use Rattle.types.specs.Trees.{ready}
 use Rattle.types.specs.TreeSteps.{in_tree}
-use Rattle.leaf_steps.specs.Translation.{leaf_of}
+use Rattle.step_trees.specs.Translation.{leaf_of}
 use Rattle.step_trees.specs.Held.{tree_of, inside}
 use Rattle.step_trees.proofs.Places.{inside_leaf, inside_step}
 use Rattle.step_trees.proofs.Walks.{Way, way-as, way-first, way-left, way-right, single-open, single-leaf, single-step}

@@ -2,7 +2,7 @@ use Rattle.std.proofs.Common.{◌≡◌, ◌+◌, ◌<◌, ◌++◌, map, suc, s
 use Rattle.std.proofs.lemmas.List.{append_assoc, map-append}
 use Rattle.types.specs.Translation.{fault}
 use Rattle.types.specs.Trees.{Leaf, Single, Beside, all_done, lines_of, faults_of, rightmost}
-use Rattle.leaf_steps.specs.Translation.{leaf_of}
+use Rattle.step_trees.specs.Translation.{leaf_of}
 use Rattle.step_trees.specs.Held.{tree_of}
 use Rattle.step_trees.proofs.HeldTrees.{weight, weights, weights-push, with_rights, with_rights-push, lines-beside, faults-beside, rightmost-beside, no_then, done-rights}
 use Rattle.step_trees.proofs.tree.Tree.take_apart.Goals as goal

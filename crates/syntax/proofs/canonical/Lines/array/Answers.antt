@@ -1,7 +1,7 @@
 use Rattle.std.proofs.Common.{◌≡◌, ◌++◌, codes, ap, ◌∙◌}
 use Rattle.std.specs.Fmt.{decimal}
 use Rattle.std.specs.String.{string_bytes}
-use Rattle.facts.proofs.Results.{ok_then}
+use Rattle.shared_lemmas.proofs.Results.{ok_then}
 use Rattle.syntax.specs.declared.token.Left.TheVariants.{Margin, Ended}
 use Rattle.syntax.specs.Spelling.{arrays_then, block_then}
 use Rattle.syntax.proofs.ExpressionText.{then_adds}

@@ -1,7 +1,7 @@
 use Rattle.std.proofs.Common.{◌≡◌, ◌+◌, ◌++◌, [], ◌∷◌, ap, sym, ◌∙◌, append-nil}
 use Rattle.std.specs.Fmt.{styled_decimal}
 use Rattle.std.specs.String.{string_bytes}
-use Rattle.facts.proofs.Results.{ok_then}
+use Rattle.shared_lemmas.proofs.Results.{ok_then}
 use Rattle.syntax.specs.Canonical.{statement_margin, indent}
 use Rattle.syntax.proofs.ExpressionText.{then_adds}
 use Rattle.syntax.proofs.LineText.{label_padded}

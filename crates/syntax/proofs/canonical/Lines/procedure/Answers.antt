@@ -1,6 +1,6 @@
 use Rattle.std.proofs.Common.{◌++◌, ◌∷◌, [], codes, map, ap, sym, ◌∙◌}
 use Rattle.std.specs.String.{string_bytes}
-use Rattle.facts.proofs.Results.{ok_then}
+use Rattle.shared_lemmas.proofs.Results.{ok_then}
 use Rattle.syntax.specs.Canonical.{in_line}
 use Rattle.syntax.specs.declared.token.Left.TheVariants.{Margin, Ended, Other}
 use Rattle.syntax.specs.declared.token.Mark.TheVariants.{LeftBrace}

@@ -2,7 +2,7 @@ use Rattle.std.proofs.Common.{◌+◌, ◌-◌, ◌≤◌, ◌∷◌, [], codes,
 use Rattle.std.proofs.lemmas.List.{at_drop_all}
 use Rattle.std.specs.Option.{option_map}
 use Rattle.std.specs.String.{string_bytes}
-use Rattle.facts.proofs.Results.{ok_then}
+use Rattle.shared_lemmas.proofs.Results.{ok_then}
 use Rattle.syntax.specs.Canonical.{laid}
 use Rattle.syntax.specs.declared.token.Left.TheVariants.{Margin, Ended, Other}
 use Rattle.syntax.specs.Spelling.{spelling, procedures_then, main_tokens, arrays_then, block_then}

@@ -1,12 +1,12 @@
 use Rattle.std.proofs.Common.{◌≡◌, List, sym, subst}
-use Rattle.facts.proofs.Results.{err_passed}
+use Rattle.shared_lemmas.proofs.Results.{err_passed}
 use Rattle.events.specs.declared.event.Event.{Event}
-use Rattle.interleave.specs.Replaying.{event as event_of}
-use Rattle.interleave.specs.Shown.{Becomes, IsLegal}
-use Rattle.interleave.specs.Walks.{IsIllegal}
-use Rattle.interleave.specs.declared.error.EventError.{EventError}
-use Rattle.interleave.specs.declared.error.EventError.TheVariants.{Illegal, NoMemory}
-use Rattle.interleave.proofs.Judging.{err_any}
+use Rattle.event_worlds.specs.Replaying.{event as event_of}
+use Rattle.event_worlds.specs.Shown.{Becomes, IsLegal}
+use Rattle.event_worlds.specs.Walks.{IsIllegal}
+use Rattle.event_worlds.specs.declared.error.EventError.{EventError}
+use Rattle.event_worlds.specs.declared.error.EventError.TheVariants.{Illegal, NoMemory}
+use Rattle.event_worlds.proofs.Judging.{err_any}
 use Rattle.trace.specs.Logs.{IsClean, Recorded}
 use Rattle.trace.proofs.LogLemmas.{clean_more, recorded}
 use Rattle.trace.proofs.log.Log.append.Goals as goal

@@ -1,15 +1,15 @@
 use Rattle.std.proofs.Common.{◌∷◌, ◌++◌, [], List, refl, sym, ap, ◌∙◌, subst}
 use Rattle.std.proofs.lemmas.Bool.{OnFalse_at, OnTrue_at}
 use Rattle.events.specs.declared.event.Event.{Event}
-use Rattle.interleave.specs.Replaying.{event as event_of}
-use Rattle.interleave.specs.Shown.{Becomes, IsLegal}
-use Rattle.interleave.specs.declared.error.EventError.TheVariants.{Illegal}
-use Rattle.interleave.proofs.Judging.{err_any}
-use Rattle.interleave.proofs.Staying.{stays_self}
+use Rattle.event_worlds.specs.Replaying.{event as event_of}
+use Rattle.event_worlds.specs.Shown.{Becomes, IsLegal}
+use Rattle.event_worlds.specs.declared.error.EventError.TheVariants.{Illegal}
+use Rattle.event_worlds.proofs.Judging.{err_any}
+use Rattle.event_worlds.proofs.Staying.{stays_self}
 use Rattle.trace.specs.Logs.{IsClean, Leaves, Recorded}
 use Rattle.trace.proofs.LogLemmas.{clean_more, clean_still, recorded, stayed_by}
 use Rattle.trace.proofs.log.Log.record.Goals as goal
-use Rattle.facts.proofs.Results.{if_err_then}
+use Rattle.shared_lemmas.proofs.Results.{if_err_then}
 
 pub invariant_of-self-in_err-event : goal.invariant_of-self-in_err-event
 invariant_of-self-in_err-event c =

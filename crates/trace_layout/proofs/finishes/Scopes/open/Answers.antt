@@ -1,8 +1,8 @@
 use Rattle.std.proofs.Common.{◌≡◌, ℕ, ◌+◌, Option, ap, ◌∙◌, refl, arith}
 use Rattle.std.specs.Prelude.{unwrap_or}
 use Rattle.std.specs.HashMap.{get}
-use Rattle.facts.proofs.Lists.{same_elements}
-use Rattle.facts.proofs.Results.{ok_then}
+use Rattle.shared_lemmas.proofs.Lists.{same_elements}
+use Rattle.shared_lemmas.proofs.Results.{ok_then}
 use Rattle.types.specs.Translation.{is_path}
 use Rattle.trace_layout.proofs.Opened.{scopes_opened}
 use Rattle.trace_layout.proofs.finishes.Scopes.open.Goals as goal

@@ -2,11 +2,11 @@ use Rattle.std.proofs.Common.{◌≡◌, ◌<◌, ◌≤◌, ◌+◌, length, se
 use Rattle.std.specs.Prelude.{Some, cond}
 use Rattle.std.specs.HashMap.{get}
 use Rattle.std.proofs.lemmas.Option.{slice_get_within}
-use Rattle.facts.proofs.Lists.{same_elements}
+use Rattle.shared_lemmas.proofs.Lists.{same_elements}
 use Rattle.types.specs.Translation.{is_path}
 use Rattle.trace_layout.specs.Hands.{IsSpellSoFar}
 use Rattle.trace_layout.specs.Spells.{Hold}
-use Rattle.trace_layout.specs.declared.spells.Ending.TheVariants.{Going}
+use Rattle.trace_layout.specs.declared.spells.SpellEnd.TheVariants.{Going}
 use Rattle.trace_layout.specs.declared.spells.Spell.{Spell}
 use Rattle.trace_layout.proofs.Handled.{hands_began}
 use Rattle.trace_layout.proofs.WhichEvent.{taking_at}

@@ -1,7 +1,7 @@
 use Rattle.std.proofs.Common.{◌≡◌, ◌∙◌, ◌++◌, ◌∷◌, [], ap, length, arith, List}
 use Rattle.weights.specs.Ledger.{Returned}
 use Rattle.weights.specs.Lines.{StandAmong, said_in}
-use Rattle.weights.specs.declared.entries.Line.{Line}
+use Rattle.weights.specs.declared.entries.ReturnedWeight.{ReturnedWeight}
 use Rattle.weights.proofs.Lines.{one_more}
 use Rattle.weights.proofs.entries.Entries.add.Goals as goal
 
@@ -18,7 +18,7 @@ more c =
     c.push_reserved.new.self.items c.len-at.result c.len-length.result c.args.weight c.self.invariant is_at is_long
     (c.in-Ok.ensures.items ∙ ap (λ (p : List _). turns.items ++ p) c.deref.ensures.value)
     (c.push_reserved.ensures.items
-    ∙ ap (λ (ls : List Line). ls ++ record { at = c.len-at.result; length = c.len-length.result; weight = c.args.weight } ∷ [])
+    ∙ ap (λ (ls : List ReturnedWeight). ls ++ record { at = c.len-at.result; length = c.len-length.result; weight = c.args.weight } ∷ [])
     c.reserve.ensures.items)
 
 pub invariant_of-self-in-Ok : goal.invariant_of-self-in-Ok

@@ -1,8 +1,0 @@
-use Rattle.std.proofs.Common.{◌≡◌, length}
-use Rattle.block_rows.proofs.CopyingLemmas.{IsCopied}
-use Rattle.block_rows.proofs.row.Row.copy_to.Given as goal
-
--- the numbers of the blocks so far are at their places
-abbrev pub invariant-loop-at : goal.invariant-loop-at
-invariant-loop-at l =
-    (length l.row ≡ length l.initial.row) × IsCopied l.self l.at l.initial.row l.row

@@ -1,6 +1,0 @@
-use Rattle.block_rows.proofs.MakingLemmas.{IsCutFrom}
-use Rattle.block_rows.proofs.row.Row.of_numbers.Given as goal
-
--- the blocks so far have their numbers
-abbrev pub invariant-loop-at : goal.invariant-loop-at
-invariant-loop-at l = IsCutFrom l.numbers l.blocks.items l.at

@@ -1,8 +1,0 @@
-use Rattle.std.proofs.Common.{◌≡◌, length, take}
-use Rattle.block_rows.proofs.CopyLemmas.{HoldAlike}
-use Rattle.block_rows.proofs.rows.Rows.again.Given as goal
-
--- the rows so far hold the same
-abbrev pub invariant-loop-row : goal.invariant-loop-row
-invariant-loop-row l =
-    HoldAlike l.list.items (take l.row-index l.self.list.items) × (length l.list.items ≡ l.row-index)

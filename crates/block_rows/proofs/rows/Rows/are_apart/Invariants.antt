@@ -1,7 +1,0 @@
-use Rattle.std.proofs.Common.{◌<◌, ℕ}
-use Rattle.block_rows.proofs.RoomLemmas.{RowsApart}
-use Rattle.block_rows.proofs.rows.Rows.are_apart.Given as goal
-
--- the rows so far are disjoint
-abbrev pub invariant-loop-array : goal.invariant-loop-array
-invariant-loop-array l = (i : ℕ) → i < l.array → RowsApart l.self.list.items l.others.list.items i

@@ -1,0 +1,112 @@
+-- Rows of elements that start at an offset.
+use Rattle.std.proofs.Common.{◌≡◌, ℕ, ◌+◌, ◌-◌, ◌<◌, ◌≤◌, List, [], ◌∷◌, ◌++◌, length, get_or, set}
+use Rattle.std.proofs.Common.{Option, Some, None, Bool, true, false, refl, sym, ap, ◌∙◌, arith, rules, ◌⊎◌, inl, inr}
+use Rattle.std.proofs.lemmas.Bool.{eqb-true, eqb-false, leb-true, leb-false, ltb-true, le-leb, lt-leb}
+use Rattle.std.proofs.lemmas.Grind.{common_steps, get_or-set_at}
+use Rattle.std.proofs.lemmas.List.{get_or-set_other, length-set}
+use Rattle.std.proofs.Math.ListN.{get_or-append}
+use Rattle.std.proofs.Math.Seq.{get_or-append_seam}
+use Rattle.std.proofs.lemmas.Option.{slice_get_past, slice_get-get_or}
+use Rattle.std.specs.Prelude.{nat_eq, nat_le, nat_lt, slice_get, if◌then◌else◌}
+use Rattle.blocks.specs.Numbers.{row_from}
+
+-- an offset of a row
+pub row_from-in : {A : Type 0} (first : ℕ) (xs : List A) (k : ℕ) (d : A) → first ≤ k → k < first + length xs
+    → row_from first xs k ≡ Some (get_or xs (k - first) d)
+row_from-in first xs k d low high =
+    let lt : k - first < length xs = omega arith in
+    ap (λ b. if b then slice_get xs (k - first) else None) (le-leb first k low) ∙ slice_get-get_or xs (k - first) d lt
+
+-- an offset before the row
+pub row_from-before : {A : Type 0} (first : ℕ) (xs : List A) (k : ℕ) → k < first → row_from first xs k ≡ None
+row_from-before first xs k lt = ap (λ b. if b then slice_get xs (k - first) else None) (lt-leb first k lt)
+
+-- an offset after the row
+pub row_from-behind : {A : Type 0} (first : ℕ) (xs : List A) (k : ℕ) → first + length xs ≤ k → row_from first xs k ≡ None
+row_from-behind first xs k le =
+    either (nat_le first k) _ (slice_get_past xs (k - first) (omega arith))
+  where
+    either : {A : Type 0} (b : Bool) (x : Option A) → x ≡ None → (if b then x else None) ≡ None
+    either true x e = e
+    either false x e = refl
+
+-- the offsets at which a row has something
+pub row_from-there : {A : Type 0} (first : ℕ) (xs : List A) (k : ℕ) → (row_from first xs k ≡ None → ⊥)
+    → (first ≤ k) × (k < first + length xs)
+row_from-there first xs k some = (by_first (nat_le first k) refl, by_end (nat_lt k (first + length xs)) refl)
+  where
+    by_end : (b : Bool) → nat_lt k (first + length xs) ≡ b → k < first + length xs
+    by_end true e = ltb-true _ _ e
+    by_end false e = absurd (some (row_from-behind first xs k (search rules)))
+
+    by_first : (b : Bool) → nat_le first k ≡ b → first ≤ k
+    by_first true e = leb-true _ _ e
+    by_first false e = absurd (some (row_from-before first xs k (leb-false _ _ e)))
+
+-- an offset is in the row, or has no element
+pub row_from-cases : {A : Type 0} (first : ℕ) (xs : List A) (k : ℕ) (d : A)
+    → ((first ≤ k) × (k < first + length xs) × (row_from first xs k ≡ Some (get_or xs (k - first) d)))
+    ⊎ (((k < first) ⊎ (first + length xs ≤ k)) × (row_from first xs k ≡ None))
+row_from-cases first xs k d = by_first (nat_le first k) refl
+  where
+    by_end : first ≤ k → (b : Bool) → nat_lt k (first + length xs) ≡ b
+        → ((first ≤ k) × (k < first + length xs) × (row_from first xs k ≡ Some (get_or xs (k - first) d)))
+        ⊎ (((k < first) ⊎ (first + length xs ≤ k)) × (row_from first xs k ≡ None))
+    by_end low true e = let lt = ltb-true _ _ e in inl (low, lt, row_from-in first xs k d low lt)
+    by_end low false e = let le : first + length xs ≤ k = search rules in inr (inr le, row_from-behind first xs k le)
+
+    by_first : (b : Bool) → nat_le first k ≡ b
+        → ((first ≤ k) × (k < first + length xs) × (row_from first xs k ≡ Some (get_or xs (k - first) d)))
+        ⊎ (((k < first) ⊎ (first + length xs ≤ k)) × (row_from first xs k ≡ None))
+    by_first true e = by_end (leb-true _ _ e) (nat_lt k (first + length xs)) refl
+    by_first false e = let lt = leb-false _ _ e in inr (inl lt, row_from-before first xs k lt)
+
+-- one element written
+pub row_from-set : {A : Type 0} (first : ℕ) (xs : List A) (o : ℕ) (v : A) → first ≤ o → o < first + length xs → (k : ℕ)
+    → row_from first (set xs (o - first) v) k ≡ (if nat_eq o k then Some v else row_from first xs k)
+row_from-set first xs o v low high k = by_eq (nat_eq o k) refl
+  where
+    by_eq : (b : Bool) → nat_eq o k ≡ b → row_from first (set xs (o - first) v) k ≡ (if b then Some v else row_from first xs k)
+    by_eq true e =
+        let is : o ≡ k = eqb-true _ _ e in
+        let lt : k < first + length (set xs (o - first) v) = simp length-set (omega arith) in
+        row_from-in first (set xs (o - first) v) k v (omega arith) lt
+        ∙ ap Some (get_or-set_at xs (o - first) (k - first) v v (omega arith) (omega arith))
+    by_eq false e =
+        let ne : o ≡ k → ⊥ = eqb-false _ _ e in
+        elim (row_from-cases first xs k v) [
+          | inl w ↦ (let lt : k < first + length (set xs (o - first) v) = simp length-set (omega arith) in
+              let other : (k - first ≡ o - first → ⊥) = omega arith in
+              row_from-in first (set xs (o - first) v) k v w.0 lt
+              ∙ ap Some (get_or-set_other xs (o - first) (k - first) v v other) ∙ sym w.2)
+          | inr w ↦ elim w.0 [
+            | inl lt ↦ row_from-before first (set xs (o - first) v) k lt ∙ sym w.1
+            | inr le ↦ (let past : first + length (set xs (o - first) v) ≤ k = simp length-set (omega arith) in
+                row_from-behind first (set xs (o - first) v) k past ∙ sym w.1)
+          ]
+        ]
+
+-- one element added
+pub row_from-push : {A : Type 0} (first : ℕ) (xs : List A) (x : A) (o : ℕ) → first + length xs ≡ o → (k : ℕ)
+    → row_from first (xs ++ x ∷ []) k ≡ (if nat_eq o k then Some x else row_from first xs k)
+row_from-push first xs x o at k = by_eq (nat_eq o k) refl
+  where
+    long : length (xs ++ x ∷ []) ≡ length xs + 1
+    long = grind (arith, common_steps)
+
+    by_eq : (b : Bool) → nat_eq o k ≡ b → row_from first (xs ++ x ∷ []) k ≡ (if b then Some x else row_from first xs k)
+    by_eq true e =
+        let is : o ≡ k = eqb-true _ _ e in
+        let i : k - first ≡ length xs = omega arith in
+        row_from-in first (xs ++ x ∷ []) k x (omega arith) (omega (arith, long))
+        ∙ ap (λ j. Some (get_or (xs ++ x ∷ []) j x)) i ∙ ap Some (get_or-append_seam xs x [] x)
+    by_eq false e =
+        let ne : o ≡ k → ⊥ = eqb-false _ _ e in
+        elim (row_from-cases first xs k x) [
+          | inl w ↦ row_from-in first (xs ++ x ∷ []) k x w.0 (omega (arith, long, w.1))
+              ∙ ap Some (get_or-append xs (x ∷ []) x (k - first) (omega (arith, w.0, w.1))) ∙ sym w.2
+          | inr w ↦ elim w.0 [
+            | inl lt ↦ row_from-before first (xs ++ x ∷ []) k lt ∙ sym w.1
+            | inr le ↦ row_from-behind first (xs ++ x ∷ []) k (omega (arith, long, le, ne, at)) ∙ sym w.1
+          ]
+        ]

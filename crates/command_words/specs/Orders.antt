@@ -1,0 +1,82 @@
+-- Orders of command lines: to answer for one program, as text or as one object; to time its runs; or to
+-- test the programs of a folder.
+use Rattle.std.specs.Prelude.{ℕ, ◌≡◌, Bool, true, List, [], ◌∷◌, Option, None, Some, IsTrue, codes}
+use Rattle.command_line.specs.Requests.{Asked, Asks, asked_of, is_file_name}
+use Rattle.command_line.specs.declared.request.Action.{Action}
+use Rattle.command_line.specs.declared.request.Action.TheVariants.{Answer, Rewrite}
+use Rattle.command_line.specs.declared.request.Command.{Command}
+use Rattle.command_line.specs.declared.request.Command.TheVariants.{Run, Serial, Check, Pairs, Cost}
+use Rattle.command_words.specs.Files.{names_once as asks_once}
+use Rattle.command_words.specs.declared.order.Order.{Order as rOrder}
+use Rattle.command_words.specs.declared.order.Order.TheVariants.{AsText as rAsText, AsObject as rAsObject}
+use Rattle.command_words.specs.declared.order.Order.TheVariants.{Times as rTimes, Tests as rTests}
+use Rattle.command_words.specs.declared.order.Subject.{Subject}
+use Rattle.command_words.specs.declared.order.Subject.TheVariants.{Run as RunTold, Serial as SerialTold}
+use Rattle.command_words.specs.declared.order.Subject.TheVariants.{Check as CheckTold, Cost as CostTold}
+use Rattle.command_words.specs.declared.order.Subject.TheVariants.{Pairs as PairsTold}
+
+pub data Order : Type 0 where
+  AsText : (a : Asked) → Order
+  AsObject : (x : Subject) → (a : Asked) → Order
+  Times : (a : Asked) → Order
+  Tests : (folder : List ℕ) → Order
+
+abbrev pub order : rOrder → Order
+order (rAsText request) = AsText (asked_of request)
+order (rAsObject x request) = AsObject x (asked_of request)
+order (rTimes request) = Times (asked_of request)
+order (rTests folder) = Tests folder.now
+
+-- a command whose answer can be written as one object
+abbrev pub answer_told : Command → Option Subject
+answer_told Run = Some RunTold
+answer_told Serial = Some SerialTold
+answer_told Check = Some CheckTold
+answer_told Cost = Some CostTold
+answer_told Pairs = Some PairsTold
+answer_told _ = None
+
+abbrev pub subject_of : Action → Option Subject
+subject_of (Answer c) = answer_told c
+subject_of Rewrite = None
+
+abbrev pub command_of : Subject → Command
+command_of RunTold = Run
+command_of SerialTold = Serial
+command_of CheckTold = Check
+command_of CostTold = Cost
+command_of PairsTold = Pairs
+
+-- the arguments request this, with `--format json` after the command
+pub record AsksForObject (words : List (List ℕ)) (x : Subject) (a : Asked) : Type 0 where
+  pub command : List ℕ
+  pub behind : List (List ℕ)
+  pub asks : Asks (command ∷ behind) a
+  pub told : subject_of a.action ≡ Some x
+  pub words_are : words ≡ command ∷ codes "--format" ∷ codes "json" ∷ behind
+
+-- `bench` is followed by what can follow `cost` without shares
+pub record AsksToTime (words : List (List ℕ)) (a : Asked) : Type 0 where
+  pub behind : List (List ℕ)
+  pub asks : Asks (codes "cost" ∷ behind) a
+  pub measured : a.action ≡ Answer Cost
+  pub words_are : words ≡ codes "bench" ∷ behind
+
+-- `test` is followed by the name of a folder
+pub record AsksToTest (words : List (List ℕ)) (folder : List ℕ) : Type 0 where
+  pub named : IsTrue (is_file_name folder)
+  pub words_are : words ≡ codes "test" ∷ folder ∷ []
+
+-- the arguments order this
+abbrev pub Orders : (words : List (List ℕ)) → Order → Type 0
+Orders words (AsText a) = Asks words a
+Orders words (AsObject x a) = AsksForObject words x a
+Orders words (Times a) = AsksToTime words a
+Orders words (Tests folder) = AsksToTest words folder
+
+-- it gives no two files the same name
+abbrev pub names_once : Order → Bool
+names_once (AsText a) = asks_once a
+names_once (AsObject x a) = asks_once a
+names_once (Times a) = asks_once a
+names_once (Tests folder) = true

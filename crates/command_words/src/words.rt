@@ -1,0 +1,162 @@
+//! The arguments of a command line.
+
+ghost use Rattle.std.specs.Prelude.{ℕ, ◌≡◌, ◌∷◌, [], codes, IfOk, IsErrAnd, IsOkAnd, IsSomeAnd, IsTrue, List, map, Some, true, false};
+ghost use Rattle.std.specs.String.{string_bytes};
+ghost use Rattle.command_words.specs.Orders.{AsText, AsObject, Times, Tests, Order as OrderIn, Orders};
+ghost use Rattle.command_words.specs.Orders.{AsksForObject, names_once, order as order_said, subject_of};
+ghost use Rattle.command_words.specs.declared.order.Subject.{Subject as SubjectOf};
+ghost use Rattle.command_words.specs.Reading.{line_of};
+ghost use Rattle.command_line.specs.Requests.{AreRight, Asked, Asks, Options, asked_of};
+ghost use Rattle.command_line.specs.Requests.{acting, is_file_name as names_file, texts_by};
+ghost use Rattle.command_line.specs.declared.request.Action.TheVariants.{Answer};
+ghost use Rattle.command_line.specs.declared.request.Command.TheVariants.{Cost};
+ghost use Rattle.options.specs.Replies.{IsConflict};
+
+use crate::by_clap::order_by_clap;
+use crate::order::{Order, Subject};
+use crate::plain::{PlainLine, is_file_name, line_in, line_of_none};
+use crate::settings::settings_in;
+use crate::taking::take;
+use command_line::request::{Request, Telling};
+use options::reply::{self, Reply};
+use std::alloc::Global;
+
+/// Parses the arguments after the program's name. It parses a command, its reporting options, a
+/// file and other options in this order itself. `clap` parses all other arguments: other orders,
+/// help, pages and mistakes. It is a mistake to give two files the same name: `run a.afx --trace
+/// a.afx`.
+pub fn order_of<'w>(alloc: Global, words: &'w [String]) -> Result<Order<'w>, Reply>
+    ensures read { (o : OrderIn) → Orders (map string_bytes words.now) o → names_once o ≡ true
+        → IsOkAnd result (λ r. order_said r ≡ o) }
+    ensures once { IfOk result (λ r. names_once (order_said r) ≡ true) }
+    ensures twice { (o : OrderIn) → Orders (map string_bytes words.now) o → names_once o ≡ false
+        → IsErrAnd result IsConflict }
+{
+    let order = match order_in(words) {
+        Some(order) => order,
+        None => order_by_clap(alloc, words)?,
+    };
+    if order.names_once() {
+        Ok(order)
+    } else {
+        Err(reply::named_twice(alloc)?)
+    }
+}
+
+/// Returns the order of plain arguments.
+fn order_in<'w>(words: &'w [String]) -> Option<Order<'w>>
+    ensures { (o : OrderIn) → Orders (map string_bytes words.now) o
+        → IsSomeAnd result (λ r. order_said r ≡ o) }
+{
+    match words {
+        [] => Some(Order::AsText(asked_by_none()?)),
+        [command, behind @ ..] => order_behind(command.as_str(), behind),
+    }
+}
+
+/// Returns the order of a command and the arguments after it.
+fn order_behind<'w>(command: &str, behind: &'w [String]) -> Option<Order<'w>>
+    ensures { (o : OrderIn) → Orders (command.now ∷ map string_bytes behind.now) o
+        → IsSomeAnd result (λ r. order_said r ≡ o) }
+{
+    if command == "test" {
+        tests_in(behind)
+    } else if command == "bench" {
+        times_in(behind)
+    } else {
+        told_in(command, behind)
+    }
+}
+
+/// Returns the order of arguments for one program, answered as text or as one object.
+fn told_in<'w>(command: &str, behind: &'w [String]) -> Option<Order<'w>>
+    ensures text { (a : Asked) → Asks (command.now ∷ map string_bytes behind.now) a
+        → IsSomeAnd result (λ r. order_said r ≡ AsText a) }
+    ensures object { (x : SubjectOf) (a : Asked)
+        → AsksForObject (command.now ∷ map string_bytes behind.now) x a
+        → IsSomeAnd result (λ r. order_said r ≡ AsObject x a) }
+{
+    let (form, rest) = take("--format", behind);
+    match form {
+        None => Some(Order::AsText(asked_in(command, behind)?)),
+        Some(form) => {
+            if form == "json" {
+                object_in(command, rest)
+            } else {
+                None
+            }
+        }
+    }
+}
+
+/// Returns the order of arguments for one program, answered as one object.
+fn object_in<'w>(command: &str, behind: &'w [String]) -> Option<Order<'w>>
+    ensures { (x : SubjectOf) (a : Asked) → Asks (command.now ∷ map string_bytes behind.now) a
+        → subject_of a.action ≡ Some x → IsSomeAnd result (λ r. order_said r ≡ AsObject x a) }
+{
+    let request = asked_in(command, behind)?;
+    let subject = Subject::of(request.action)?;
+    Some(Order::AsObject(subject, request))
+}
+
+/// Returns the order of the arguments after `bench`: what can follow `cost`, except the option for
+/// shares.
+fn times_in<'w>(behind: &'w [String]) -> Option<Order<'w>>
+    ensures { (a : Asked) → Asks (codes "cost" ∷ map string_bytes behind.now) a
+        → a.action ≡ Answer Cost → IsSomeAnd result (λ r. order_said r ≡ Times a) }
+{
+    let request = asked_in("cost", behind)?;
+    match Subject::of(request.action)? {
+        Subject::Cost => Some(Order::Times(request)),
+        _ => None,
+    }
+}
+
+/// Returns the order of the arguments after `test`.
+fn tests_in<'w>(behind: &'w [String]) -> Option<Order<'w>>
+    ensures { (folder : List ℕ) → IsTrue (names_file folder)
+        → map string_bytes behind.now ≡ folder ∷ []
+        → IsSomeAnd result (λ r. order_said r ≡ Tests folder) }
+{
+    match behind {
+        [folder] => {
+            if is_file_name(folder.as_str()) {
+                Some(Order::Tests(folder.as_str()))
+            } else {
+                None
+            }
+        }
+        _ => None,
+    }
+}
+
+/// Returns the request of no arguments.
+fn asked_by_none<'w>() -> Option<Request<'w>>
+    ensures { (a : Asked) → Asks [] a → IsSomeAnd result (λ r. asked_of r ≡ a) }
+{
+    let (line, manner) = line_of_none();
+    request_in(line, manner.telling())
+}
+
+/// Returns the request of a command and the plain arguments after it.
+fn asked_in<'w>(command: &str, behind: &'w [String]) -> Option<Request<'w>>
+    ensures { (a : Asked) → Asks (command.now ∷ map string_bytes behind.now) a
+        → IsSomeAnd result (λ r. asked_of r ≡ a) }
+{
+    let (line, manner) = line_in(command, behind)?;
+    request_in(line, manner.telling())
+}
+
+/// Returns the request of a line with these reporting options.
+fn request_in<'w>(line: PlainLine<'w>, telling: Telling) -> Option<Request<'w>>
+    ensures { (o : Options) → AreRight o → (line_of line.entry).texts ≡ texts_by o → IsSomeAnd result
+        (λ r. asked_of r ≡ record (acting line.entry.action line.entry.file.now o) { telling = telling }) }
+{
+    let settings = settings_in(line.texts)?;
+    Some(Request {
+        action: line.action,
+        file: line.file,
+        settings,
+        telling,
+    })
+}

@@ -1,0 +1,4 @@
+pub mod Answers
+pub mod Chosen
+pub mod Outcomes
+pub mod Rewriting

@@ -1,0 +1,204 @@
+//! `--explain`: the text after the line of a failure, and after an outcome.
+
+ghost use Rattle.std.specs.Prelude.{◌≡◌, ◌≤◌, [], IfOk};
+ghost use Rattle.std.specs.String.{string_bytes};
+
+use crate::programs::typed_of;
+use crate::question::Question;
+use crate::unchosen::{choices_explained, no_leaf_explained, open_explained};
+use crate::unlaid::layout_explained;
+use crate::unread::{reread_explained, unreadable_explained, unwritten_explained};
+use command_line::request::{Command, RunOptions};
+use explanations::input_errors::explained_input;
+use explanations::races::explained_race;
+use explanations::syntax_errors::explained_syntax;
+use explanations::told::explained;
+use failures::failure::Failure;
+use files::file_source::FileSource;
+use gather::run_error::RunError;
+use race_checker::check::{Refused, check};
+use rule_explanations::rule_errors::explained_rule;
+use run_explanations::run::seen_again;
+use run_explanations::runs::explained_run;
+use run_explanations::tasks::explained_tasks;
+use run_explanations::traces::{Wrong, explained_trace};
+use std::alloc::{AllocError, Global};
+use std::thread::Threads;
+use trace_text::error::TraceError;
+use types::budget::{Budget, MOST_NEST, MOST_STEPS};
+use types::input_error::InputError;
+use witness::witness::witness_of;
+
+/// Returns what went wrong, why, and what would be right: in the text of a program, in the file of
+/// its input or of a trace, in its choices, or in its formatting. Returns an empty text if there is
+/// no more to say than the failure's line.
+pub fn explanation<R: Threads + Sync, F: FileSource>(
+    rt: &R,
+    alloc: Global,
+    files: &mut F,
+    question: Question<'_>,
+    failure: &Failure,
+) -> Result<String, AllocError>
+    ensures { F.held files.new ≡ F.held files.old }
+{
+    let Question { text, settings } = question;
+    match failure {
+        Failure::Syntax(error) => explained_syntax(alloc, text, error),
+        Failure::Types(error) => explained_rule(alloc, text, *error),
+        Failure::Race { first, second, .. } => race_explained(rt, alloc, text, first, second),
+        Failure::Input(error) => match settings.input {
+            Some(name) => input_explained(alloc, files, text, name, error),
+            None => Ok(String::new(alloc)),
+        },
+        Failure::Run(RunError::TooManyTasks(_)) => explained_tasks(alloc, settings.spread.tasks),
+        Failure::Trace(TraceError::NotALine(line)) => {
+            trace_explained(alloc, files, settings.trace, Wrong::Line(*line))
+        }
+        Failure::Illegal(event) => {
+            trace_explained(alloc, files, settings.trace, Wrong::Event(*event))
+        }
+        Failure::NotLaidOut => layout_explained(alloc, text),
+        Failure::ChoicesNotUnderstood => choices_explained(alloc, files, settings.choices),
+        Failure::NoLeaf(choice) => no_leaf_explained(alloc, *choice),
+        _ => file_explained(alloc, files, failure),
+    }
+}
+
+/// Explains what is wrong with a file that a command names in addition to that of the program.
+/// Returns an empty text for any other failure.
+fn file_explained<F: FileSource>(
+    alloc: Global,
+    files: &mut F,
+    failure: &Failure,
+) -> Result<String, AllocError>
+    ensures { F.held files.new ≡ F.held files.old }
+{
+    match failure {
+        Failure::CannotRead { .. } => unreadable_explained(alloc),
+        Failure::NotUtf8 { name } => reread_explained(alloc, files, name.as_str()),
+        Failure::CannotWrite { name } => unwritten_explained(alloc, name.as_str()),
+        _ => Ok(String::new(alloc)),
+    }
+}
+
+/// Explains why the least race of a program is one. It looks for the race again.
+fn race_explained<R: Threads + Sync>(
+    rt: &R,
+    alloc: Global,
+    text: &str,
+    first: &str,
+    second: &str,
+) -> Result<String, AllocError> {
+    let Ok(typed) = typed_of(alloc, text) else {
+        return explained_race(alloc, text, first, second);
+    };
+    match check(rt, alloc, typed) {
+        Err(Refused::Race { race, typed }) => match witness_of(alloc, &typed, race)? {
+            Some(witness) => explained(alloc, text, &typed, race, &witness),
+            None => explained_race(alloc, text, first, second),
+        },
+        _ => explained_race(alloc, text, first, second),
+    }
+}
+
+/// Explains what is wrong with the file of an input. It reads the file again.
+fn input_explained<F: FileSource>(
+    alloc: Global,
+    files: &mut F,
+    text: &str,
+    name: &str,
+    error: &InputError,
+) -> Result<String, AllocError>
+    ensures { F.held files.new ≡ F.held files.old }
+{
+    let Ok(typed) = typed_of(alloc, text) else {
+        return Ok(String::new(alloc));
+    };
+    let Ok(bytes) = files.read(name) else {
+        return Ok(String::new(alloc));
+    };
+    let Ok(input) = std::str::from_utf8(&bytes) else {
+        return Ok(String::new(alloc));
+    };
+    explained_input(alloc, &typed.code().arrays, input, error)
+}
+
+/// Explains what is wrong with the file of a trace. It reads the file again.
+fn trace_explained<F: FileSource>(
+    alloc: Global,
+    files: &mut F,
+    name: Option<&str>,
+    wrong: Wrong,
+) -> Result<String, AllocError>
+    ensures { F.held files.new ≡ F.held files.old }
+{
+    let Some(name) = name else {
+        return Ok(String::new(alloc));
+    };
+    let Ok(bytes) = files.read(name) else {
+        return Ok(String::new(alloc));
+    };
+    match std::str::from_utf8(&bytes) {
+        Ok(trace) => explained_trace(alloc, trace, wrong),
+        Err(_) => Ok(String::new(alloc)),
+    }
+}
+
+/// Explains the faults of a run, or which task was over its budget, after an outcome with this
+/// status. It runs the program again on one thread, and reads files again. Returns an empty text
+/// after any other answer, and if files can't be read again.
+pub fn run_explanation<F: FileSource>(
+    alloc: Global,
+    files: &mut F,
+    command: Command,
+    question: Question<'_>,
+    status: u8,
+) -> Result<String, AllocError>
+    ensures calm { status ≤ 1 → IfOk result (λ more. string_bytes more ≡ []) }
+    ensures keeps { F.held files.new ≡ F.held files.old }
+{
+    if status < 2 {
+        return Ok(String::new(alloc));
+    }
+    match budget_of(command, question.settings, status) {
+        None => without_run(alloc, command, status),
+        Some(budget) => run_again(alloc, files, question, budget),
+    }
+}
+
+/// Explains an answer that needs no further run: a run by choices that is open.
+fn without_run(alloc: Global, command: Command, status: u8) -> Result<String, AllocError> {
+    match command {
+        Command::Explore if status == 3 => open_explained(alloc),
+        _ => Ok(String::new(alloc)),
+    }
+}
+
+/// Returns the budget of a run of a command that finished with this status, or None if no run has
+/// finished. A run by choices has no budget, and with status 3 it is open.
+fn budget_of(command: Command, settings: RunOptions<'_>, status: u8) -> Option<Budget> {
+    match command {
+        Command::Run => Some(settings.budget),
+        Command::Serial | Command::Cost | Command::CostByLabel | Command::CostByProcedure => {
+            Some(settings.budget)
+        }
+        Command::Explore if status == 2 => Budget::new(u64::from(MOST_STEPS), u64::from(MOST_NEST)),
+        _ => None,
+    }
+}
+
+/// Runs the program again under a budget, and explains what happens.
+fn run_again<F: FileSource>(
+    alloc: Global,
+    files: &mut F,
+    question: Question<'_>,
+    budget: Budget,
+) -> Result<String, AllocError>
+    ensures { F.held files.new ≡ F.held files.old }
+{
+    let Ok(given) = question.given(alloc, files) else {
+        return Ok(String::new(alloc));
+    };
+    let seen = seen_again(alloc, &given.typed, &given.input, budget)?;
+    explained_run(alloc, question.text, given.typed.code(), budget, &seen)
+}

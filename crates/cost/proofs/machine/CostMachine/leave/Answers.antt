@@ -1,0 +1,185 @@
+use Rattle.std.proofs.Common.{◌≡◌, arith, ap, ◌∙◌, refl, sym, subst, ◌++◌, ◌+◌, ◌*◌, ◌≤◌}
+use Rattle.types.specs.declared.value.Environment.{Environment}
+use Rattle.std.specs.Prelude.{List, map}
+use Rattle.types.specs.declared.fault.Fault.{Fault}
+use Rattle.types.specs.Meaning.{after_finish}
+use Rattle.types.specs.Translation.{program, environment, fault}
+use Rattle.cost.specs.declared.frame.CostFrame.{CostFrame}
+use Rattle.cost.specs.declared.frame.OwnerCosts.{OwnerCosts}
+use Rattle.cost.specs.declared.frame.CostFrame.TheVariants.{Rest}
+use Rattle.cost.specs.Frames.{cost, rate}
+use Rattle.cost.specs.Machines.{Does, IsSoundFrame, stack, turn_of}
+use Rattle.types.specs.Contents.{FitsArrays}
+use Rattle.statement_steps.specs.Bounds.{LiesInArrays}
+use Rattle.statement_steps.specs.Lists.{lists_of}
+use Rattle.types.specs.Run.{Flow, State, keeping}
+use Rattle.cost.specs.Resume.{Standing, end_finish, faults_in, frame, lines_in, resume, standing}
+use Rattle.cost.specs.Accounts.{Account, ends_behind, leaves_behind}
+use Rattle.statement_steps.specs.Standing.{flow, state_of}
+use Rattle.statement_steps.specs.declared.store.Store.{Store}
+use Rattle.statement_steps.specs.declared.thread.Thread.{Thread}
+use Rattle.cost.specs.Translation.{account}
+use Rattle.cost.proofs.Frames.{resume-push, standing_by_state}
+use Rattle.cost.proofs.MachineLemmas.{machine_of, sound_counted, sound_with, told_before}
+use Rattle.cost.proofs.Owners.{after_owner}
+use Rattle.cost.proofs.Turns.{costs-push}
+use Rattle.cost.proofs.Waiting.{block_done}
+use Rattle.cost.proofs.machine.CostMachine.leave.Goals as goal
+
+pub returns-in-Rest-clause-does : goal.returns-in-Rest-clause-does
+returns-in-Rest-clause-does c =
+    let m = c.args.self.now in let p = program m.plan.program.now in let fresh = m.plan.budget.steps in
+    let b = c.in-Rest.block in
+    subst (λ (f : CostFrame). Does (turn_of f) m (machine_of m.plan m.account m.thread b m.frames)) (sym c.in-Rest.is)
+    (record {
+      plan = refl;
+      sound = record {
+        thread = c.requires.sound.thread;
+        spawned = c.requires.sound.spawned;
+        frames = c.requires.sound.frames;
+      };
+      comes =
+          resume-push p fresh m.frames.items (Rest b) (standing m.account m.thread)
+          ∙ sym (block_done p fresh m.frames.items m.block (frame p fresh (Rest b) (standing m.account m.thread)) c.requires.done);
+    })
+
+pub returns-in-Rest-clause-ends : goal.returns-in-Rest-clause-ends
+returns-in-Rest-clause-ends c =
+    let m = c.args.self.now in let fresh = m.plan.budget.steps in
+    omega (
+      arith,
+      costs-push fresh m.frames.items (Rest c.in-Rest.block),
+      costs-push fresh m.frames.items (Rest m.block),
+      ap (cost fresh) c.in-Rest.is,
+    )
+
+pub returns-in_ok-push-in-EndCall-clause-does : goal.returns-in_ok-push-in-EndCall-clause-does
+returns-in_ok-push-in-EndCall-clause-does c =
+    let m = c.args.self.now in let p = program m.plan.program.now in let fresh = m.plan.budget.steps in
+    let caller = c.in-EndCall.environment in let inside = c.replace-callee.new.dest in
+    let is : inside ≡ caller = c.replace-callee.ensures.after in
+    let fine : LiesInArrays p (environment caller) = subst (IsSoundFrame p fresh) c.in-EndCall.is c.requires.frame in
+    let new = record m { thread = record m.thread { environment = inside; spare = c.push.new.self } } in
+    subst (λ (f : CostFrame). Does (turn_of f) m new) (sym c.in-EndCall.is)
+    (record {
+      plan = refl;
+      sound = record {
+        thread = record {
+          store = c.requires.sound.thread.store;
+          windows = subst (λ (e : Environment). LiesInArrays p (environment e)) (sym is) fine;
+        };
+        spawned = c.requires.sound.spawned;
+        frames = c.requires.sound.frames;
+      };
+      comes =
+          ap (λ (e : Environment). resume p fresh (stack m) (standing m.account (record m.thread { environment = e }))) is;
+    })
+
+pub returns-in_ok-tell_before-in-EndFinish-clause-does : goal.returns-in_ok-tell_before-in-EndFinish-clause-does
+returns-in_ok-tell_before-in-EndFinish-clause-does c =
+    let m = c.args.self.now in let p = program m.plan.program.now in let fresh = m.plan.budget.steps in
+    let o = c.in-EndFinish.outer in
+    let told = c.in_ok-tell_before-in-EndFinish.ensures in
+    let old = record m.thread { flow = c.behind_finish-self.result } in
+    let thread = c.tell_before.new.thread in let kept = c.leave_finish.new.self in
+    let new = record m { thread = thread; account = kept } in
+    let st = state_of m.thread in
+    let at : Flow → Account → State Account = λ f y. record (keeping y st) {
+      flow = f;
+      lines = lines_in o.told ++ st.lines;
+      faults = faults_in o.told ++ st.faults;
+    } in
+    let steps = ap (λ (t : Thread Store). t.steps) told.rest in
+    let spawned = ap (λ (t : Thread Store). t.spawned) told.rest in
+    subst (λ (f : CostFrame). Does (turn_of f) m new) (sym c.in-EndFinish.is)
+    (record {
+      plan = refl;
+      sound =
+          sound_counted (machine_of m.plan m.account thread m.block m.frames) kept
+          (sound_with m.plan m.account m.thread thread m.block m.block m.frames (ap (λ (t : Thread Store). t.store) told.rest)
+          (ap (λ (t : Thread Store). t.environment) told.rest) (omega (arith, steps, spawned)) c.requires.sound);
+      comes =
+          ap (resume p fresh (stack m))
+          (standing_by_state (standing m.account m.thread) (standing kept thread)
+          (end_finish o (standing m.account m.thread).state)
+          (ap (keeping (account kept)) (told_before o.told old thread told)
+          ∙ ap (at (flow c.behind_finish-self.result)) c.leave_finish.ensures
+          ∙ ap (λ f. at f (leaves_behind o.ended o.ended_by_label.items (account m.account))) (c.behind_finish-self.ensures
+          ∙ ap (λ (xs : List Fault). after_finish (flow m.thread.flow) (map fault xs)) c.deref.ensures.value))
+          (ap (λ (t : Thread Store). t.nest) told.rest));
+    })
+
+pub returns-in_ok-tell_before-in-EndAsync-clause-does : goal.returns-in_ok-tell_before-in-EndAsync-clause-does
+returns-in_ok-tell_before-in-EndAsync-clause-does c =
+    let m = c.args.self.now in let p = program m.plan.program.now in let fresh = m.plan.budget.steps in
+    let box = c.in-EndAsync.owner in let q = c.into_inner-owner.result in
+    let unboxed = c.into_inner-owner.ensures in
+    let told = c.in_ok-tell_before-in-EndAsync.ensures in
+    let old = record m.thread { flow = c.behind_async-self.result } in
+    let thread = c.tell_before-in-EndAsync.new.thread in let kept = c.end_task.new.self in
+    let goes : Thread Store = record thread {
+      path = q.path;
+      environment = q.environment;
+      steps = q.steps;
+      nest = q.nest;
+      spawned = q.spawned;
+    } in
+    let new = record m { thread = goes; account = kept } in
+    let s = standing m.account m.thread in
+    let at : State (Unit {0}) → Flow → Account → Standing = λ st f y. record {
+      state = record {
+        flow = f;
+        environment = environment q.environment;
+        store = st.store;
+        lines = st.lines;
+        faults = st.faults;
+        steps = q.steps;
+        path = q.path.turns.items;
+        spawned = q.spawned;
+        extra = y;
+      };
+      nest = q.nest;
+    } in
+    let st = record (state_of old) {
+      lines = lines_in q.told ++ (state_of old).lines;
+      faults = faults_in q.told ++ (state_of old).faults;
+    } in
+    let fine = subst (λ (o : OwnerCosts). LiesInArrays p (environment o.environment) × (o.spawned + o.steps ≤ fresh)) (sym unboxed)
+    (subst (IsSoundFrame p fresh) c.in-EndAsync.is c.requires.frame) in
+    subst (λ (f : CostFrame). Does (turn_of f) m new) (sym c.in-EndAsync.is)
+    (record {
+      plan = refl;
+      sound = record {
+        thread = record {
+          store =
+              subst (λ (s : Store). FitsArrays p.arrays (lists_of s)) (sym (ap (λ (t : Thread Store). t.store) told.rest))
+              c.requires.sound.thread.store;
+          windows = fine.0;
+        };
+        spawned = fine.1;
+        frames = c.requires.sound.frames;
+      };
+      comes =
+          ap (λ (s : State (Unit {0})). resume p fresh (stack m) (at s s.flow (account kept))) (told_before q.told old thread told)
+          ∙ ap (λ (y : Account). resume p fresh (stack m) (at st (flow c.behind_async-self.result) y)) c.end_task.ensures
+          ∙ ap (λ (f : Flow). resume p fresh (stack m) (at st f (ends_behind q.here q.here_by_label.items (account m.account)))) c.behind_async-self.ensures
+          ∙ ap (λ (o : OwnerCosts). resume p fresh (stack m) (after_owner o s.state)) unboxed;
+    })
+
+pub returns-in_ok-tell_before-in-EndFinish-clause-ends : goal.returns-in_ok-tell_before-in-EndFinish-clause-ends
+returns-in_ok-tell_before-in-EndFinish-clause-ends c =
+    let m = c.args.self.now in let fresh = m.plan.budget.steps in
+    omega (
+      arith,
+      ap (λ (t : Thread Store). t.steps * rate fresh t.nest) c.in_ok-tell_before-in-EndFinish.ensures.rest,
+      ap (cost fresh) c.in-EndFinish.is,
+    )
+
+pub returns-in_ok-tell_before-in-EndAsync-clause-ends : goal.returns-in_ok-tell_before-in-EndAsync-clause-ends
+returns-in_ok-tell_before-in-EndAsync-clause-ends c =
+    let m = c.args.self.now in let fresh = m.plan.budget.steps in
+    omega (
+      arith,
+      ap (λ (o : OwnerCosts). o.steps * rate fresh o.nest) c.into_inner-owner.ensures,
+      ap (cost fresh) c.in-EndAsync.is,
+    )

@@ -1,6 +1,0 @@
-use Rattle.std.proofs.Common.{◌∙◌, append_assoc}
-use Rattle.facts.proofs.Results.{ok_then}
-use Rattle.cost_text.proofs.text.push_tasks.Goals as goal
-
-pub returns : goal.returns
-returns c = ok_then c.write.result c.write.ensures.bytes (λ more. more ∙ simp append_assoc)

@@ -1,7 +1,0 @@
-use Rattle.std.proofs.Common.{◌∙◌, append_assoc}
-use Rattle.facts.proofs.Results.{ok_then}
-use Rattle.cost_text.proofs.text.push_work.Goals as goal
-
-pub returns : goal.returns
-returns c =
-    ok_then c.push_parallelism.result c.push_parallelism.ensures (λ more. more ∙ rw c.in_ok-write.ensures.bytes (simp append_assoc))

@@ -1,9 +1,0 @@
-//! Worker threads that borrow shared data, each with a promised report.
-
-#![tactic(auto)]
-
-mod crew;
-mod starting;
-
-pub use crew::{Crew, Refusal, Told};
-pub use starting::work_together;

@@ -1,0 +1,18 @@
+//! Explanations of rejected texts and inputs, and of races.
+
+#![tactic(auto)]
+
+mod brackets;
+mod characters;
+mod elements;
+mod expected;
+mod habits;
+pub mod input_errors;
+mod lines;
+mod mends;
+mod names;
+pub mod races;
+mod starts;
+pub mod syntax_errors;
+pub mod told;
+mod way;

@@ -1,0 +1,306 @@
+//! Why two sections overlap, and how to fix the race.
+
+use crate::elements::Elements;
+use crate::names::{other_side, procedure_of, section_name};
+use crate::starts::{are_alike, is_direct, splits_first};
+use excerpts::statements::PlacedStatements;
+use race_checker::race::Race;
+use std::alloc::AllocError;
+use types::code::{Procedure, Program};
+use witness::crossing::RunsTogether;
+use witness::sharing::Sharing;
+use witness::step::{Rule, WayStep};
+use witness::witness::Witness;
+
+/// Adds that no finish waits for the task.
+pub fn push_unfinished(told: &mut String, witness: &Witness) -> Result<(), AllocError> {
+    let begun = begun_label(&witness.pending);
+    match witness.meeting {
+        RunsTogether::Turns => write!(told, "  No finish inside the loop encloses {begun}.\n"),
+        RunsTogether::Follows => {
+            let second = first_label(&witness.later);
+            write!(
+                told,
+                "  No finish around {begun} ends before {second}, so the task may still be running.\n"
+            )
+        }
+    }
+}
+
+/// Adds why the sections of a race overlap.
+pub fn push_sharing(
+    told: &mut String,
+    code: &Program,
+    race: Race,
+    sharing: Sharing,
+    elements: Elements,
+) -> Result<(), AllocError> {
+    let procedure = procedure_of(code, race.procedure);
+    let first = section_name(procedure, race.first.section);
+    let second = section_name(procedure, race.second.section);
+    match sharing {
+        Sharing::Same => push_same(told, first, elements),
+        Sharing::FirstIsPart => write!(told, "  {first} is a part of {second}. {WHOLE}"),
+        Sharing::SecondIsPart => write!(told, "  {second} is a part of {first}. {WHOLE}"),
+        Sharing::OfSplits { section } => {
+            let common = section_name(procedure, section);
+            write!(
+                told,
+                "  {first} and {second} come from different splits of {common}, so they may overlap. {SIDES}"
+            )
+        }
+    }
+}
+
+const WHOLE: &str = "The check compares whole sections and ignores indices.\n";
+
+const SIDES: &str = "Only the two sides of one split are known not to overlap.\n";
+
+/// Adds that both access one section, or even one element of it.
+fn push_same(told: &mut String, name: &str, elements: Elements) -> Result<(), AllocError> {
+    write!(told, "  Both access the section {name}. ")?;
+    match elements {
+        Elements::Only => told.push_str("It has one element.\n"),
+        Elements::Same(index) => write!(told, "Both use its element {index}.\n"),
+        _ => told.push_str(WHOLE),
+    }
+}
+
+/// How to fix a race in such a way that the accesses still run in parallel.
+#[derive(Clone, Copy)]
+enum Advice<'c> {
+    /// There is no such way: one access needs what the other one did.
+    Order,
+    /// The iterations of a loop are probably rounds.
+    Rounds,
+    /// Only one of two `if`s is meant to run.
+    Else,
+    /// Each task of a loop gets a part that is split off.
+    Tiles,
+    /// Each task of a loop, or each half of a recursion, gets a part of this section.
+    Halves(&'c str),
+    /// The two elements of this section, of which the larger index is this, go to two parts.
+    Between(&'c str, u64),
+    /// The task or the call that uses `whole` gets `other`, the side of a split next to `side`.
+    OtherSide {
+        whole: &'c str,
+        other: &'c str,
+        side: &'c str,
+    },
+    /// This section is split only once.
+    OneSplit(&'c str),
+    /// Each task gets an element of its own for its result.
+    Results,
+}
+
+/// Returns how to fix a race in parallel.
+fn advice_of<'c>(
+    code: &'c Program,
+    statements: &PlacedStatements<'_>,
+    race: Race,
+    witness: &Witness,
+    elements: Elements,
+) -> Advice<'c> {
+    let procedure = procedure_of(code, race.procedure);
+    if let Sharing::OfSplits { section } = witness.sharing {
+        return Advice::OneSplit(section_name(procedure, section));
+    }
+    let name = section_name(procedure, race.first.section);
+    let is_alike = are_alike(witness);
+    if let Elements::Different(_, index) = elements {
+        if is_alike || is_direct(witness) {
+            return Advice::Between(name, index);
+        }
+    }
+    if matches!(witness.meeting, RunsTogether::Turns) {
+        return advice_for_loop(witness, name, elements, is_alike);
+    }
+    if is_alike || writes_directly(race, witness) {
+        if let Some(advice) = other_side_of(procedure, statements, race, witness) {
+            return advice;
+        }
+    }
+    let is_root = other_side(procedure, race.first.section).is_none();
+    match (is_alike, is_root && elements.is_one()) {
+        (true, true) => Advice::Results,
+        (true, false) => Advice::Halves(name),
+        (false, _) if are_both_ifs(statements, witness) => Advice::Else,
+        (false, _) => Advice::Order,
+    }
+}
+
+/// Returns how to fix a race between iterations of a loop that access a section.
+fn advice_for_loop<'c>(
+    witness: &Witness,
+    name: &'c str,
+    elements: Elements,
+    is_alike: bool,
+) -> Advice<'c> {
+    match (is_alike, elements.is_one()) {
+        (true, true) => Advice::Results,
+        (true, false) if splits_first(&witness.pending) => Advice::Tiles,
+        (true, false) => Advice::Halves(name),
+        (false, true) => Advice::Order,
+        (false, false) => Advice::Rounds,
+    }
+}
+
+/// Returns the advice to use the other side of a split: if one section of the race is a side and a
+/// part of the other section, or if both are one side, and the other side is not used.
+fn other_side_of<'c>(
+    procedure: &'c Procedure,
+    statements: &PlacedStatements<'_>,
+    race: Race,
+    witness: &Witness,
+) -> Option<Advice<'c>> {
+    let (side, whole) = match witness.sharing {
+        Sharing::SecondIsPart => (race.second.section, race.first.section),
+        _ => (race.first.section, race.second.section),
+    };
+    let other = section_name(procedure, other_side(procedure, side)?);
+    let is_same = matches!(witness.sharing, Sharing::Same);
+    if is_same && statements.uses_side(first_label(&witness.later), other) {
+        return None;
+    }
+    Some(Advice::OtherSide {
+        whole: section_name(procedure, whole),
+        other,
+        side: section_name(procedure, side),
+    })
+}
+
+/// Returns whether the later access of a race is a write, made without a task or a call.
+fn writes_directly(race: Race, witness: &Witness) -> bool {
+    let later = if witness.first_pends {
+        race.second
+    } else {
+        race.first
+    };
+    later.write && is_direct(witness)
+}
+
+/// Returns whether both ways of a race start at an `if`.
+fn are_both_ifs(statements: &PlacedStatements<'_>, witness: &Witness) -> bool {
+    statements.is_if(first_label(&witness.pending)) && statements.is_if(first_label(&witness.later))
+}
+
+/// Adds how to fix the race.
+pub fn push_mend(
+    told: &mut String,
+    code: &Program,
+    statements: &PlacedStatements<'_>,
+    race: Race,
+    witness: &Witness,
+    elements: Elements,
+) -> Result<(), AllocError> {
+    let advice = advice_of(code, statements, race, witness, elements);
+    match advice {
+        Advice::Order | Advice::Rounds => {
+            told.push_str("help: put ")?;
+            push_finish(told, statements, witness)?;
+            push_advice(told, advice)
+        }
+        _ => {
+            push_advice(told, advice)?;
+            told.push_str("help: or put ")?;
+            push_finish(told, statements, witness)
+        }
+    }
+}
+
+/// Adds how the accesses can still run in parallel.
+fn push_advice(told: &mut String, advice: Advice<'_>) -> Result<(), AllocError> {
+    match advice {
+        Advice::Order => Ok(()),
+        Advice::Rounds => told.push_str(ROUNDS),
+        Advice::Else => told.push_str(ELSE),
+        Advice::Tiles => told.push_str(TILES),
+        Advice::Results => told.push_str(RESULTS),
+        Advice::Halves(name) => write!(
+            told,
+            "help: give each task its own part: `split {name} at len({name}) / 2 as l, r {{ .. }}`; see `afx explain parallel_loop`.\n"
+        ),
+        Advice::Between(name, index) => write!(
+            told,
+            "help: give each its own part: `split {name} at {index} as l, r {{ .. }}`; `r[0]` is then `{name}[{index}]`.\n"
+        ),
+        Advice::OtherSide { whole, other, side } => { push_other_side(told, whole, other, side) }
+        Advice::OneSplit(name) => write!(
+            told,
+            "help: split {name} only once, and then one of its sides; see `afx explain middle_part`.\n"
+        ),
+    }
+}
+
+const ELSE: &str =
+    "help: write one `if` with an `else`, if only one of the two is meant to run: conditions are not compared.\n";
+
+const ROUNDS: &str =
+    "help: or use split to give each task its own part; see `afx explain parallel_loop`.\n";
+
+const TILES: &str =
+    "help: let a procedure split off a part, start its task and continue with the rest; see `afx explain tiles`.\n";
+
+const RESULTS: &str =
+    "help: give each task an element of its own, and read them all after the finish; see `afx explain answers`.\n";
+
+/// Adds which side of a split to use in place of a section.
+fn push_other_side(
+    told: &mut String,
+    whole: &str,
+    other: &str,
+    side: &str,
+) -> Result<(), AllocError> {
+    if whole == side {
+        return write!(
+            told,
+            "help: use {other} in one of the two: {side} and {other} are the sides of one split.\n"
+        );
+    }
+    write!(
+        told,
+        "help: use {other} instead of {whole}: {side} and {other} are the sides of one split.\n"
+    )
+}
+
+/// Adds which statement to put inside a finish, which gives up the parallelism.
+fn push_finish(
+    told: &mut String,
+    statements: &PlacedStatements<'_>,
+    witness: &Witness,
+) -> Result<(), AllocError> {
+    if matches!(witness.meeting, RunsTogether::Turns) {
+        return told.push_str(LOOP);
+    }
+    let first = first_label(&witness.pending);
+    let second = first_label(&witness.later);
+    let line = match statements.place(first) {
+        Some(place) => place.line,
+        None => 0,
+    };
+    write!(
+        told,
+        "{first} (line {line}) inside a finish, so that {second} waits for its tasks.\n"
+    )
+}
+
+const LOOP: &str =
+    "the loop's body inside a finish, so that the iterations run one after another.\n";
+
+/// Returns the label of the first async on a way, or of its first step.
+fn begun_label(way: &[WayStep]) -> u32 {
+    for step in way {
+        if matches!(step.rule, Rule::Begin) {
+            return step.label;
+        }
+    }
+    first_label(way)
+}
+
+/// Returns the label of a way's first step.
+fn first_label(way: &[WayStep]) -> u32 {
+    match way.first() {
+        Some(step) => step.label,
+        None => 0,
+    }
+}

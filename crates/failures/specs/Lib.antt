@@ -1,0 +1,3 @@
+pub mod FailureStatus
+pub mod Failures
+pub mod Messages

@@ -1,0 +1,8 @@
+//! Why a command failed: the failure, its exit status, and its line.
+
+#![tactic(auto)]
+
+pub mod escaped;
+pub mod failure;
+pub mod message;
+mod replacing;

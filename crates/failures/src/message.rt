@@ -1,0 +1,62 @@
+//! The messages of failures, written piece by piece without allocating.
+
+ghost use Rattle.std.specs.Prelude.{◌++◌, codes};
+ghost use Rattle.printing.specs.Appending.{Writes};
+ghost use Rattle.trace_text.specs.Reading.{trace_error_text};
+ghost use Rattle.failures.specs.Messages.{failure_text};
+
+use crate::failure::Failure;
+use printing::emit::{EmitError, append};
+use printing::reasons::{
+    emit_file, emit_input_error, emit_numbered, emit_race, emit_syntax_error, emit_text,
+    emit_type_error,
+};
+use std::io::Write;
+use trace_text::error::TraceError;
+
+/// Writes the line of a failure, with its newline.
+pub fn emit_message<W: Write>(err: &mut W, failure: &Failure) -> Result<(), EmitError>
+    ensures { Writes (W.contents err.old) (W.contents err.new) result
+        (failure_text failure.now ++ codes "\n") }
+{
+    emit_failure(err, failure)?;
+    append(err, b"\n")
+}
+
+/// Writes the line without its newline.
+fn emit_failure<W: Write>(err: &mut W, failure: &Failure) -> Result<(), EmitError>
+    ensures { Writes (W.contents err.old) (W.contents err.new) result (failure_text failure.now) }
+{
+    match failure {
+        Failure::CannotRead { name } => emit_file(err, "cannot read ", name.as_str()),
+        Failure::NotUtf8 { name } => emit_file(err, "not UTF-8 ", name.as_str()),
+        Failure::Syntax(error) => emit_syntax_error(err, error),
+        Failure::Types(error) => emit_type_error(err, *error),
+        Failure::Race {
+            procedure,
+            first,
+            second,
+        } => emit_race(err, procedure.as_str(), first.as_str(), second.as_str()),
+        Failure::NoMemoryInCheck => emit_text(err, "C2"),
+        Failure::Input(error) => emit_input_error(err, error),
+        Failure::Run(error) => emit_text(err, error.code()),
+        Failure::Trace(error) => emit_trace_error(err, *error),
+        Failure::Illegal(event) => emit_numbered(err, "illegal at event ", *event),
+        Failure::ChoicesNotUnderstood => emit_text(err, "choices not understood"),
+        Failure::NoLeaf(choice) => emit_numbered(err, "no leaf at choice ", *choice),
+        Failure::NotLaidOut => emit_text(err, "not formatted"),
+        Failure::CannotWrite { name } => emit_file(err, "cannot write ", name.as_str()),
+        Failure::CannotWriteOutput => emit_text(err, "cannot write output"),
+        Failure::NoMemory => emit_text(err, "no memory"),
+    }
+}
+
+/// `J1 line 3`
+fn emit_trace_error<W: Write>(err: &mut W, error: TraceError) -> Result<(), EmitError>
+    ensures { Writes (W.contents err.old) (W.contents err.new) result (trace_error_text error) }
+{
+    match error {
+        TraceError::NotALine(line) => emit_numbered(err, "J1 line ", line),
+        TraceError::NoMemory => emit_text(err, "J2"),
+    }
+}

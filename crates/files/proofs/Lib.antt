@@ -1,0 +1,4 @@
+pub mod Inputs
+pub mod Programs
+pub mod ReadChoices
+pub mod Zeros

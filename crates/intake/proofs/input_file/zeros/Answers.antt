@@ -1,5 +1,0 @@
-use Rattle.intake.proofs.Zeros.{are_zeros_fit}
-use Rattle.intake.proofs.input_file.zeros.Goals as goal
-
-pub returns-in-Ok-clause-fits : goal.returns-in-Ok-clause-fits
-returns-in-Ok-clause-fits c = are_zeros_fit _ _ c.in-Ok.ensures.zeros

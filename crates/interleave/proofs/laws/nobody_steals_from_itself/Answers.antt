@@ -1,8 +1,0 @@
-use Rattle.effects.specs.Rounds.{needs_of}
-use Rattle.interleave.specs.Replay.{does, hands_on}
-use Rattle.interleave.proofs.Changes.{steals_from_others}
-use Rattle.interleave.proofs.laws.nobody_steals_from_itself.Goals as goal
-
-pub returns : goal.returns
-returns c p w0 b worker path w =
-    steals_from_others w0 (does p (needs_of p) b.steps w0) (hands_on p (needs_of p) b.steps w0) worker path w

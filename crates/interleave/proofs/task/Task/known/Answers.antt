@@ -1,7 +1,0 @@
-use Rattle.interleave.proofs.LookingAhead.{some_doing}
-use Rattle.interleave.proofs.task.Task.known.Goals as goal
-
-pub known-requires-clause-task : goal.known-requires-clause-task
-known-requires-clause-task c =
-    let t = c.requires.task in
-    some_doing c.args.job c.args.self t.0 t.1

@@ -1,0 +1,22 @@
+use Rattle.std.proofs.Common.{ap, ◌∙◌}
+use Rattle.std.proofs.lemmas.Result.{IfOk-weaker}
+use Rattle.serde_json.specs.View.{view}
+use Rattle.types.specs.Translation.{program}
+use Rattle.race_checker.specs.Translation.{race}
+use Rattle.json_answers.specs.Pieces.{object_of}
+use Rattle.json_answers.specs.Places.{place_at}
+use Rattle.json_answers.specs.Races.{race_message, told_members}
+use Rattle.json_answers.proofs.races.race_value.Goals as goal
+
+pub returns : goal.returns
+returns c =
+    let file = c.args.file.now in
+    let found = c.args.found in
+    let label = found.race.first.label in
+    let told = view c.in_ok-accesses.accesses in
+    let said = race_message (program found.code.now) (race found.race) in
+    IfOk-weaker c.told_value.result _ _ (λ v same. same
+    ∙ ap (λ m. object_of (told_members file c.place_at-place.result label m told)) c.in_ok-message.ensures
+    ∙ ap (λ p. object_of (told_members file p label said told)) c.place_at-place.ensures
+    ∙ ap (λ a. object_of (told_members file (place_at found.places.now label) label said a)) c.in_ok-accesses.ensures)
+    c.told_value.ensures

@@ -1,0 +1,67 @@
+-- The object of a race.
+use Rattle.std.specs.Prelude.{ℕ, List, [], ◌∷◌, codes, Option}
+use Rattle.serde_json.specs.Data.{Data, string}
+use Rattle.syntax.specs.declared.place.TextPlace.{TextPlace}
+use Rattle.types.specs.Code.{Procedure, Program}
+use Rattle.effects.specs.Accesses.{Access}
+use Rattle.race_checker.specs.Races.{Race}
+use Rattle.witness.specs.declared.witness.Witness.{Witness}
+use Rattle.printing.specs.Reasons.{race_text}
+use Rattle.failures.specs.Failures.{kind_of, section_name, section_text, told_procedure}
+use Rattle.json_answers.specs.Pieces.{natural, object_of, or_null}
+use Rattle.json_answers.specs.Places.{column_of, line_of, place_at}
+use Rattle.json_answers.specs.Witnesses.{witness_json}
+
+-- the statement and its position, what it does, and the section, by its name in the procedure
+abbrev pub access_members : List TextPlace → Procedure → Access → List (List ℕ × Data)
+access_members places g a =
+    let place = place_at places a.label in
+    (codes "column", or_null natural (column_of place))
+    ∷ (codes "kind", string (kind_of a.write))
+    ∷ (codes "label", natural a.label)
+    ∷ (codes "line", or_null natural (line_of place))
+    ∷ (codes "section", string (section_name g a.section)) ∷ []
+
+abbrev pub access_json : List TextPlace → Procedure → Access → Data
+access_json places g a = object_of (access_members places g a)
+
+-- the line of a race
+abbrev pub race_message : Program → Race → List ℕ
+race_message p r =
+    let g = told_procedure p r.procedure in
+    race_text g.name (section_text g r.first) (section_text g r.second)
+
+-- the procedure that has it, both accesses, and why it is a race
+abbrev pub accesses_members : List TextPlace → Program → Race → Witness → List (List ℕ × Data)
+accesses_members places p r w =
+    let g = told_procedure p r.procedure in
+    (codes "first", access_json places g r.first)
+    ∷ (codes "procedure", string g.name)
+    ∷ (codes "second", access_json places g r.second)
+    ∷ (codes "witness", witness_json places p r w) ∷ []
+
+abbrev pub accesses_json : List TextPlace → Program → Race → Witness → Data
+accesses_json places p r w = object_of (accesses_members places p r w)
+
+-- the members of a failure by a race: instead of an array the accesses, with the label and the position of
+-- the first
+abbrev pub told_members : (file : List ℕ) → Option TextPlace → (label : ℕ) → (message : List ℕ)
+    → (accesses : Data)
+    → List (List ℕ × Data)
+told_members file place label message accesses =
+    (codes "code", string (codes "C1"))
+    ∷ (codes "column", or_null natural (column_of place))
+    ∷ (codes "file", string file)
+    ∷ (codes "label", natural label)
+    ∷ (codes "line", or_null natural (line_of place))
+    ∷ (codes "message", string message)
+    ∷ (codes "race", accesses)
+    ∷ (codes "status", natural 1) ∷ []
+
+abbrev pub race_members : (file : List ℕ) → List TextPlace → Program → Race → Witness → List (List ℕ × Data)
+race_members file places p r w =
+    told_members file (place_at places r.first.label) r.first.label (race_message p r)
+    (accesses_json places p r w)
+
+abbrev pub race_json : (file : List ℕ) → List TextPlace → Program → Race → Witness → Data
+race_json file places p r w = object_of (race_members file places p r w)

@@ -1,0 +1,102 @@
+//! Objects of failures.
+
+ghost use Rattle.std.specs.Prelude.{IfOk};
+ghost use Rattle.std.specs.String.{string_bytes};
+ghost use Rattle.types.specs.Typed.{code_of};
+ghost use Rattle.race_checker.specs.Races.{IsRace};
+ghost use Rattle.race_checker.specs.Translation.{race as race_of};
+ghost use Rattle.json_answers.specs.Failing.{ShowsRace, TellsFailure, TellsPlaced, TellsRace};
+
+use crate::found::FoundRace;
+use crate::races::race_object;
+use crate::refusals::refusal_object;
+use crate::run_outcomes::places_in;
+use commands::programs::typed_of;
+use failures::failure::Failure;
+use race_checker::check::{Refused, check};
+use race_checker::race::Race;
+use std::alloc::{AllocError, Global};
+use std::thread::Threads;
+use syntax::TextPlace;
+use types::laws::typed_programs_are_sound;
+use types::typed::Typed;
+use witness::witness::witness_of;
+
+/// Returns the line of a failure of a command on the file with this text. The text is empty if the
+/// file has none. A race is looked for again, because its failure contains its accesses as text.
+pub fn refusal_line<R: Threads + Sync>(
+    rt: &R,
+    alloc: Global,
+    file: &str,
+    text: &str,
+    failure: &Failure,
+) -> Result<String, AllocError>
+    ensures { IfOk result
+        (λ line. TellsFailure file.now text.now failure.now (string_bytes line)) }
+{
+    match failure {
+        Failure::Race { .. } => race_line(rt, alloc, file, text),
+        Failure::Types(_) => placed_line(alloc, file, text, failure),
+        _ => refusal_object(alloc, file, &[], failure),
+    }
+}
+
+/// Returns the line of the least race of a text's program, with a witness.
+fn race_line<R: Threads + Sync>(
+    rt: &R,
+    alloc: Global,
+    file: &str,
+    text: &str,
+) -> Result<String, AllocError>
+    ensures { IfOk result (λ line. TellsRace file.now text.now (string_bytes line)) }
+{
+    let places = places_in(alloc, text)?;
+    let Ok(typed) = typed_of(alloc, text) else {
+        return Err(AllocError);
+    };
+    typed_programs_are_sound(&typed);
+    match check(rt, alloc, typed) {
+        Err(Refused::Race { race, typed }) => shown_line(alloc, file, &places, &typed, race),
+        _ => Err(AllocError),
+    }
+}
+
+/// Returns the line of a race, with a witness.
+fn shown_line(
+    alloc: Global,
+    file: &str,
+    places: &[TextPlace],
+    typed: &Typed,
+    race: Race,
+) -> Result<String, AllocError>
+    requires race { IsRace (code_of typed.now) (race_of race) }
+    ensures { IfOk result (λ line. ShowsRace file.now places.now (code_of typed.now) (race_of race)
+        (string_bytes line)) }
+{
+    match witness_of(alloc, typed, race)? {
+        Some(witness) => {
+            let found = FoundRace {
+                places,
+                code: typed.code(),
+                race,
+                witness: &witness,
+            };
+            race_object(alloc, file, found)
+        }
+        None => unreachable!(),
+    }
+}
+
+/// Returns the line of a failure at a statement of a text's program.
+fn placed_line(
+    alloc: Global,
+    file: &str,
+    text: &str,
+    failure: &Failure,
+) -> Result<String, AllocError>
+    ensures { IfOk result
+        (λ line. TellsPlaced file.now text.now failure.now (string_bytes line)) }
+{
+    let places = places_in(alloc, text)?;
+    refusal_object(alloc, file, &places, failure)
+}

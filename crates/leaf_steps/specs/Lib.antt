@@ -1,2 +1,0 @@
-pub mod Translation
-pub mod Turns

@@ -1,6 +1,0 @@
-use Rattle.own_run.proofs.ListedTurns.{turn_lists}
-use Rattle.own_run.proofs.MeasuredResults.{ended_worth, measured_settles}
-use Rattle.own_run.proofs.laws.results_add_up.Goals as goal
-
-pub returns : goal.returns
-returns c = record { lists = turn_lists; worth = ended_worth; settles = measured_settles }

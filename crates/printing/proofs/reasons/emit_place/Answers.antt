@@ -1,0 +1,27 @@
+use Rattle.printing.proofs.Appending.{fails, begins_longer, then_begins, then_writes}
+use Rattle.printing.proofs.reasons.emit_place.Goals as goal
+
+pub returns-in_err-emit_text : goal.returns-in_err-emit_text
+returns-in_err-emit_text g c =
+    fails _ c.from_residual.ensures.0
+    (begins_longer _ _ _ _ c.in_err-emit_text.ensures)
+
+pub returns-in_err-emit_label : goal.returns-in_err-emit_label
+returns-in_err-emit_label g c =
+    fails _ c.from_residual-in_err-emit_label.ensures.0
+    (then_begins _ _ _ _ _ c.in_ok-emit_text.ensures
+    (begins_longer _ _ _ _ c.in_err-emit_label.ensures))
+
+pub returns-in_err-emit_text-2 : goal.returns-in_err-emit_text-2
+returns-in_err-emit_text-2 g c =
+    fails _ c.from_residual-in_err-emit_text-2.ensures.0
+    (then_begins _ _ _ _ _ c.in_ok-emit_text.ensures
+    (then_begins _ _ _ _ _ c.in_ok-emit_label.ensures
+    (begins_longer _ _ _ _ c.in_err-emit_text-2.ensures)))
+
+pub returns : goal.returns
+returns g c =
+    then_writes _ _ _ _ _ _ c.in_ok-emit_text.ensures
+    (then_writes _ _ _ _ _ _ c.in_ok-emit_label.ensures
+    (then_writes _ _ _ _ _ _ c.in_ok-emit_text-2.ensures
+    c.emit_label-2.ensures))

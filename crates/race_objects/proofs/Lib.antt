@@ -1,3 +1,0 @@
-pub mod NoFloats
-pub mod Shallow
-pub mod SoFar

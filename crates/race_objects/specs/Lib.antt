@@ -1,3 +1,0 @@
-pub mod Races
-pub mod Steps
-pub mod Witnesses

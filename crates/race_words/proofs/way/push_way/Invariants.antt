@@ -1,6 +1,0 @@
-use Rattle.std.proofs.Common.{length}
-use Rattle.race_words.proofs.way.push_way.Given as goal
-
--- the steps that are left
-abbrev pub decreases-steps : goal.decreases-steps
-decreases-steps l = length l.left

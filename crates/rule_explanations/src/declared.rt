@@ -1,0 +1,281 @@
+//! The declarations that are in scope at a statement.
+
+use crate::arguments::{is_of_bytes, parameters};
+use crate::kind::NameKind;
+use std::alloc::{AllocError, Global};
+use syntax::token::{Mark, Spanned, Token, Word};
+
+/// A declaration.
+#[derive(Clone, Copy)]
+pub struct Declared<'t> {
+    pub name: &'t str,
+    pub kind: NameKind,
+    /// The number of the first character of the name.
+    pub at: usize,
+    /// For a side of a split: the section that is split.
+    pub part_of: Option<SideOrigin<'t>>,
+    /// The number of open blocks in which it is in scope.
+    level: usize,
+}
+
+/// The origin of a side of a split.
+#[derive(Clone, Copy)]
+pub struct SideOrigin<'t> {
+    /// The section that is split.
+    pub whole: &'t str,
+    /// The number of the first character of its name in the split.
+    pub at: usize,
+}
+
+/// An open block. If it is the body of an `async`, it has the character at which that starts.
+#[derive(Clone, Copy)]
+struct Block {
+    task: Option<usize>,
+}
+
+/// What is in scope at a token.
+#[derive(Drop)]
+pub struct VisibleNames<'t> {
+    pub declared: Vec<Declared<'t>>,
+    blocks: Vec<Block>,
+    /// Where the `async` is whose block comes next.
+    task: Option<usize>,
+}
+
+impl<'t> VisibleNames<'t> {
+    /// Returns the scope after these tokens. Adds to `over` what was declared in them and is no
+    /// longer in scope.
+    pub fn behind(
+        alloc: Global,
+        tokens: &'t [Spanned],
+        over: &mut Vec<Declared<'t>>,
+    ) -> Result<VisibleNames<'t>, AllocError> {
+        let mut scope = VisibleNames {
+            declared: Vec::new(alloc),
+            blocks: Vec::new(alloc),
+            task: None,
+        };
+        let mut left = tokens;
+        'tokens: while let [first, behind @ ..] = left {
+            scope.pass(alloc, first, behind, over)?;
+            left = behind;
+        }
+        Ok(scope)
+    }
+
+    /// Handles one token, given those after it.
+    fn pass(
+        &mut self,
+        alloc: Global,
+        first: &'t Spanned,
+        behind: &'t [Spanned],
+        over: &mut Vec<Declared<'t>>,
+    ) -> Result<(), AllocError> {
+        match &first.token {
+            Token::Word(Word::Proc) => self.parameters(alloc, behind)?,
+            Token::Word(Word::Array) => self.declare(behind, array_kind(behind))?,
+            Token::Word(Word::Var) => self.declare(behind, NameKind::Scalar)?,
+            Token::Word(Word::Split) => self.split(behind)?,
+            Token::Word(Word::Async) => self.task = Some(first.at),
+            Token::Mark(Mark::LeftBrace) => {
+                let task = self.task.take();
+                self.blocks.push(Block { task })?;
+            }
+            Token::Mark(Mark::RightBrace) => self.close(over)?,
+            _ => {}
+        }
+        Ok(())
+    }
+
+    /// Declares the name that comes first, in the open block.
+    fn declare(&mut self, tokens: &'t [Spanned], kind: NameKind) -> Result<(), AllocError> {
+        if let Some((name, at)) = first_name(tokens) {
+            self.declared.push(Declared {
+                name,
+                kind,
+                at,
+                part_of: None,
+                level: self.blocks.len(),
+            })?;
+        }
+        Ok(())
+    }
+
+    /// Declares the sides of a split, with the kind of the section that is split, whose name comes
+    /// first.
+    fn split(&mut self, tokens: &'t [Spanned]) -> Result<(), AllocError> {
+        let Some((whole, at)) = first_name(tokens) else {
+            return Ok(());
+        };
+        let kind = match self.find(whole) {
+            Some(declared) => declared.kind,
+            None => NameKind::Written { bytes: false },
+        };
+        let part = SideOrigin { whole, at };
+        let mut is_side = false;
+        let mut left = tokens;
+        'tokens: while let [first, behind @ ..] = left {
+            match &first.token {
+                Token::Word(Word::As) => is_side = true,
+                Token::Mark(Mark::LeftBrace) => break,
+                _ => {}
+            }
+            if is_side {
+                self.side(left, kind, part)?;
+            }
+            left = behind;
+        }
+        Ok(())
+    }
+
+    /// Declares a side of a split in its block. Its name comes first.
+    fn side(
+        &mut self,
+        tokens: &'t [Spanned],
+        kind: NameKind,
+        part: SideOrigin<'t>,
+    ) -> Result<(), AllocError> {
+        if let Some((name, at)) = first_name(tokens) {
+            self.declared.push(Declared {
+                name,
+                kind,
+                at,
+                part_of: Some(part),
+                level: self.blocks.len().saturating_add(1),
+            })?;
+        }
+        Ok(())
+    }
+
+    /// Declares the parameters of a procedure, whose name comes first.
+    fn parameters(&mut self, alloc: Global, tokens: &'t [Spanned]) -> Result<(), AllocError> {
+        let parameters = parameters(alloc, tokens.get(1..).unwrap_or(tokens))?;
+        for parameter in &parameters {
+            self.declared.push(Declared {
+                name: parameter.name,
+                kind: parameter.kind,
+                at: parameter.at,
+                part_of: None,
+                level: 1,
+            })?;
+        }
+        Ok(())
+    }
+
+    /// Closes a block: what was declared in it goes out of scope.
+    fn close(&mut self, over: &mut Vec<Declared<'t>>) -> Result<(), AllocError> {
+        let _ = self.blocks.pop();
+        for _ in 0..self.declared.len() {
+            let Some(last) = self.declared.last() else {
+                break;
+            };
+            if last.level <= self.blocks.len() {
+                break;
+            }
+            over.push(*last)?;
+            let _ = self.declared.pop();
+        }
+        Ok(())
+    }
+
+    /// Returns the declaration of a name that is in scope.
+    pub fn find(&self, name: &str) -> Option<Declared<'t>> {
+        find(&self.declared, name)
+    }
+
+    /// Returns whether two sections may overlap: they come from the same section, and are not on
+    /// the two sides of one split.
+    pub fn may_share(&self, one: Declared<'t>, other: Declared<'t>) -> bool {
+        let mut left = Some(one);
+        for _ in 0..=self.declared.len() {
+            let Some(part) = left else {
+                break;
+            };
+            if self.is_apart(part, other) {
+                return false;
+            }
+            left = self.whole_of(part);
+        }
+        self.root_of(one) == self.root_of(other)
+    }
+
+    /// Returns whether another section is, or comes from, the other side of the split that this one
+    /// is a side of.
+    fn is_apart(&self, side: Declared<'t>, other: Declared<'t>) -> bool {
+        let mut right = Some(other);
+        for _ in 0..=self.declared.len() {
+            let Some(part) = right else {
+                break;
+            };
+            if are_sides(side, part) {
+                return true;
+            }
+            right = self.whole_of(part);
+        }
+        false
+    }
+
+    /// Returns the section that this one comes from and that is not itself a side of a split.
+    fn root_of(&self, section: Declared<'t>) -> &'t str {
+        let mut root = section;
+        for _ in 0..=self.declared.len() {
+            match self.whole_of(root) {
+                Some(whole) => root = whole,
+                None => break,
+            }
+        }
+        root.name
+    }
+
+    /// Returns the section that is split into this one and another.
+    fn whole_of(&self, section: Declared<'t>) -> Option<Declared<'t>> {
+        self.find(section.part_of?.whole)
+    }
+
+    /// Returns where the innermost async starts that a declaration is outside of.
+    pub fn task_around(&self, declared: Declared<'t>) -> Option<usize> {
+        let mut task = None;
+        for block in self.blocks.iter().skip(declared.level) {
+            if task.is_none() {
+                task = block.task;
+            }
+        }
+        task
+    }
+}
+
+/// Returns whether two sections are the two sides of one split.
+fn are_sides(one: Declared<'_>, other: Declared<'_>) -> bool {
+    match (one.part_of, other.part_of) {
+        (Some(left), Some(right)) => left.at == right.at && one.name != other.name,
+        _ => false,
+    }
+}
+
+/// Returns the declaration of a name among these.
+pub fn find<'t>(declared: &[Declared<'t>], name: &str) -> Option<Declared<'t>> {
+    for one in declared {
+        if one.name == name {
+            return Some(*one);
+        }
+    }
+    None
+}
+
+/// Returns the kind of the array whose name comes first.
+fn array_kind(tokens: &[Spanned]) -> NameKind {
+    NameKind::Written {
+        bytes: is_of_bytes(tokens),
+    }
+}
+
+/// Returns the name that comes first, with the number of its first character.
+fn first_name(tokens: &[Spanned]) -> Option<(&str, usize)> {
+    match tokens {
+        [first, ..] => match &first.token {
+            Token::Name(name) => Some((name.as_str(), first.at)),
+            _ => None,
+        },
+        [] => None,
+    }
+}

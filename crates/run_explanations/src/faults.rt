@@ -1,0 +1,59 @@
+//! Faults.
+
+use crate::causes::{push_cause, push_mend, spot_of};
+use crate::seen::{SeenFault, SeenRun};
+use excerpts::statements::PlacedStatements;
+use std::alloc::AllocError;
+use types::code::{Label, Program};
+
+/// Adds the recorded faults, and the number of the others.
+pub fn push_faults(
+    told: &mut String,
+    statements: &PlacedStatements<'_>,
+    code: &Program,
+    seen: &SeenRun,
+) -> Result<(), AllocError> {
+    let mut more = seen.many;
+    for fault in &seen.faults {
+        push_fault(told, statements, code, fault)?;
+        more = more.saturating_sub(1);
+    }
+    match more {
+        0 => Ok(()),
+        1 => told.push_str("\n1 more fault\n"),
+        _ => write!(told, "\n{more} more faults\n"),
+    }
+}
+
+/// Adds one fault: where, from which values, and how to fix it.
+fn push_fault(
+    told: &mut String,
+    statements: &PlacedStatements<'_>,
+    code: &Program,
+    fault: &SeenFault,
+) -> Result<(), AllocError> {
+    let path = &fault.path;
+    let label = fault.label;
+    let kind = fault.cause.kind();
+    write!(told, "\nfault {path} at {label}: {kind}\n")?;
+    let spot = spot_of(statements, label, fault.cause)?;
+    statements.push_at(told, label, spot.at)?;
+    push_cause(told, code, spot, fault.cause)?;
+    push_call(told, statements, fault.call)?;
+    push_mend(told, spot, fault.cause)
+}
+
+/// Adds the call that a statement was executed in.
+pub fn push_call(
+    told: &mut String,
+    statements: &PlacedStatements<'_>,
+    call: Option<Label>,
+) -> Result<(), AllocError> {
+    let Some(label) = call else {
+        return Ok(());
+    };
+    match statements.place(label) {
+        Some(place) => write!(told, "It was called at {place}, label {label}.\n"),
+        None => Ok(()),
+    }
+}

@@ -1,0 +1,17 @@
+//! Explanations of faults, of stopped runs, and of invalid traces. A second run finds the causes.
+
+#![tactic(auto)]
+
+pub mod cause;
+mod causes;
+mod faults;
+mod frame;
+mod machine;
+pub mod run;
+pub mod runs;
+pub mod seen;
+mod stops;
+pub mod tasks;
+mod trace_lines;
+pub mod traces;
+mod tried;

@@ -1,6 +1,0 @@
-use Rattle.std.proofs.Common.{length}
-use Rattle.scopes.proofs.declared.Scope.behind.Given as goal
-
--- the tokens that are left
-abbrev pub decreases-tokens : goal.decreases-tokens
-decreases-tokens l = length l.left

@@ -1,4 +1,0 @@
-mod Examples
-pub mod Covering
-pub mod Found
-pub mod Splitting

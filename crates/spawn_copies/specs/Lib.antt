@@ -1,3 +1,0 @@
-pub mod Asyncs
-pub mod Cover
-pub mod Copied

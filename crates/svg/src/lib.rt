@@ -1,5 +1,0 @@
-//! Elements of an SVG, as text.
-
-#![tactic(auto)]
-
-pub mod elements;

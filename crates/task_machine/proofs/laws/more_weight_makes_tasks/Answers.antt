@@ -1,5 +1,0 @@
-use Rattle.task_machine.proofs.Turning.{parts_tasks}
-use Rattle.task_machine.proofs.laws.more_weight_makes_tasks.Goals as goal
-
-pub returns : goal.returns
-returns c = λ b units s t parts wants. parts_tasks b units s t parts wants.body wants.may

@@ -1,0 +1,151 @@
+-- For a sound and accepted program: the work of a task belongs to the program, and its places come
+-- back to it.
+use Rattle.std.proofs.lemmas.Option.{same_Some}
+use Rattle.std.proofs.Common.{◌≡◌, ℕ, List, [], ◌∷◌, refl, sym, ap, ◌∙◌}
+use Rattle.std.specs.Prelude.{ℤ, ◌||◌, true, nat_eq}
+use Rattle.std.specs.Cmp.Lexicographic.{pointwise}
+use Rattle.sections.specs.Covers.{has}
+use Rattle.sections.specs.Place.{Place}
+use Rattle.types.specs.Code.{Do, If, While, Split, Call, Async, Finish, Codes, End, Then, Program}
+use Rattle.types.specs.Contents.{FitsArrays}
+use Rattle.types.specs.Outcome.{Budget}
+use Rattle.types.specs.Run.{State}
+use Rattle.effects.specs.Needs.{Needs, Provides}
+use Rattle.effects.specs.Rounds.{needs_of}
+use Rattle.effects.specs.Sound.{IsSound}
+use Rattle.effects.specs.Statements.{HasStatement, Stands, IsPartOf}
+use Rattle.race_checker.specs.Calm.{IsCalm}
+use Rattle.race_checker.specs.Clash.{IsAccepted}
+use Rattle.race_checker.specs.Scope.{IsScoped}
+use Rattle.race_checker.proofs.Calming.{is_calm}
+use Rattle.race_checker.proofs.Scoping.{is_scoped}
+use Rattle.task_run.specs.OwnRun.{Start, Child, Own, back_from}
+use Rattle.task_run.specs.Given.{given, in_truth, root_of}
+use Rattle.task_run.specs.Frames.{Frame, Rest, Again, AtEnd, Back, Standing, IsGivenChild}
+use Rattle.task_run.specs.Holds.{MayBegin}
+use Rattle.task_run.specs.Lists.{Each}
+use Rattle.task_run.specs.Reached.{Reached, root_begins, child_begins, turns, leaves}
+use Rattle.task_run.specs.Results.{TaskResult}
+use Rattle.task_run.specs.Runs.{MayStand, IsTaskResult}
+use Rattle.task_run.specs.MayRun.{MayRun}
+use Rattle.task_run.specs.RunTurns.{CanTurn, FirstIsOf, KnowsFirst, NextIsOf}
+use Rattle.task_run.specs.Standings.{state_of, with_own}
+use Rattle.task_run.specs.declared.run.Run.{Run}
+use Rattle.task_run.proofs.AcceptedPrograms.{next_has, provides_needs}
+use Rattle.task_run.proofs.HoldingTurns.{root_begins as may_root}
+use Rattle.task_run.proofs.Lists.{each_both}
+use Rattle.task_run.proofs.ReachedTasks.{each_member, goes, has_next}
+use Rattle.task_run.proofs.SettledResults.{paths_same}
+use Rattle.task_run.proofs.TaskRuns.{lists_given}
+use Rattle.task_run.proofs.TurnsBelong.{Belongs, AllBelong, IsOf, turn_kept, handed_kept, begun_kept, ended_places}
+
+-- the async that is first in a block of the program is one of its asyncs
+module _ (p : Program) where
+  abbrev pub IsAsync : ℕ → Codes → Type 0
+  IsAsync l b = HasStatement p l (Async b)
+
+  pub knows_first : (fs : List (Frame Own)) → AllBelong p fs → KnowsFirst IsAsync fs
+  knows_first [] k = tt
+  knows_first (Rest End ∷ fs) k = tt
+  knows_first (Rest (Then l (Async b) rest) ∷ fs) k = k.0 l (Async b) Stands.here
+  knows_first (Rest (Then l (Do s) rest) ∷ fs) k = tt
+  knows_first (Rest (Then l (If t b c) rest) ∷ fs) k = tt
+  knows_first (Rest (Then l (While t b) rest) ∷ fs) k = tt
+  knows_first (Rest (Then l (Split s e x y b) rest) ∷ fs) k = tt
+  knows_first (Rest (Then l (Call f es ss) rest) ∷ fs) k = tt
+  knows_first (Rest (Then l (Finish b) rest) ∷ fs) k = tt
+  knows_first (Again l t b ∷ fs) k = tt
+  knows_first (AtEnd before ∷ fs) k = tt
+  knows_first (Back env ∷ fs) k = tt
+
+module _ (p : Program) (needs : Codes → Needs) (scoped : IsScoped p) (calm : IsCalm p) (provided : Provides p needs) (fresh : ℕ)
+    (root : Start) (named : root.path ≡ []) (may_begin : MayBegin p needs root) (body : IsPartOf p root.body) where
+  abbrev IsOfStart : Start → Standing Own → Type 0
+  IsOfStart s t = IsOf p s.owned t.frames t.state.extra.owned t.state.extra.pending
+
+  pub belongs : {s : Start} {t : Standing Own} → Reached p needs fresh root s t → IsOfStart s t
+  belongs root_begins = begun_kept p root.owned root.body body
+  belongs (child_begins {s = s} {t = t} {c = c} r m) =
+      let of = each_member (Belongs p) c t.state.extra.pending (belongs r).children m in
+      begun_kept p c.start.owned c.start.body of.body
+  belongs (turns {s = s} {f = f} {fs = fs} {st = st} r) =
+      turn_kept p needs s.nest (in_truth p needs fresh) s.owned f fs st
+      (has_next p needs scoped calm provided fresh root named may_begin s (record { frames = f ∷ fs; state = st }) r) (belongs r)
+  belongs (leaves {s = s} {before = before} {fs = fs} {st = st} {x = x} rs r all e) =
+      handed_kept p s.owned before x fs st (belongs r)
+
+  -- each path has one start: what a task of a listed path owns in the end is what is listed
+  pub given_back : {u : Start} {st : State Own} → Reached p needs fresh root u (record { frames = []; state = st }) → (c : Child)
+      → Belongs p c → IsGivenChild p needs fresh root c → pointwise nat_eq st.path c.listed.path ≡ true → (q : Place)
+      → (st.extra.owned q || back_from st.extra.pending q) ≡ has c.listed.windows q
+  given_back {u} {st} end c of is e q =
+      let task = (goes p needs scoped calm provided fresh root named may_begin end).task in
+      let path : u.path ≡ c.start.path = sym task.path ∙ paths_same st.path c.listed.path e ∙ is.listed in
+      let same : u ≡ c.start = same_Some _ _ (sym task.comes ∙ ap (given p needs fresh root) path ∙ is.is) in
+      ended_places p u.owned st.extra.owned st.extra.pending (belongs end) q
+      ∙ ap (λ (v : Start). v.owned q) same
+      ∙ of.places q
+
+  -- each listed task is given its start
+  pub children_given : {s : Start} {t : Standing Own} → Reached p needs fresh root s t
+      → Each (IsGivenChild p needs fresh root) t.state.extra.pending
+  children_given {s} {t} r =
+      lists_given p needs fresh root s t.frames t.state (goes p needs scoped calm provided fresh root named may_begin r).task
+
+-- ---- sound and accepted programs
+-- what the task of a child's path owns in the end, with what comes back to it, is what is listed
+-- for the child
+abbrev pub IsGivenBack : Program → List (List ℤ) → Budget → Child → Type 0
+IsGivenBack p input b c =
+    (r : TaskResult) (k : IsTaskResult p input b r) → pointwise nat_eq k.state.path c.listed.path ≡ true → (q : Place)
+    → (k.state.extra.owned q || back_from k.state.extra.pending q) ≡ has c.listed.windows q
+
+module _ (p : Program) (sound : IsSound p) (accepted : IsAccepted p) (input : List (List ℤ)) (b : Budget)
+    (fits : FitsArrays p.arrays input) where
+  begins_root : MayBegin p (needs_of p) (root_of p input b.nest)
+  begins_root = may_root p (needs_of p) (is_scoped p sound) (is_calm p sound accepted) (provides_needs p sound) input b.nest fits
+
+  main_part : IsPartOf p p.main.body
+  main_part l s h = HasStatement.in_main h
+
+  -- a run of the program has all that its next statement needs, and knows an async that is next
+  pub can_turn : (r : Run) → MayRun p input b r → CanTurn (needs_of p) (IsAsync p) r
+  can_turn r m = record {
+    frames = m.frames;
+    own = m.own;
+    shows = m.shows;
+    next = next_has p sound accepted input b fits m.start (record { frames = m.frames; state = with_own m.own (state_of r.thread) }) m.stands;
+    known = knows_first p m.frames
+        (belongs p (needs_of p) (is_scoped p sound) (is_calm p sound accepted) (provides_needs p sound) b.steps (root_of p input b.nest)
+        refl begins_root main_part m.stands).frames;
+  }
+
+  -- its next statement belongs to the program
+  first_is_of : (fs : List (Frame Own)) → AllBelong p fs → FirstIsOf p fs
+  first_is_of [] k = tt
+  first_is_of (Rest End ∷ fs) k = tt
+  first_is_of (Rest (Then l c rest) ∷ fs) k = k.0 l c Stands.here
+  first_is_of (Again l t b ∷ fs) k = tt
+  first_is_of (AtEnd before ∷ fs) k = tt
+  first_is_of (Back env ∷ fs) k = tt
+
+  pub next_is_of : (r : Run) → MayRun p input b r → NextIsOf p r
+  next_is_of r m = record {
+    frames = m.frames;
+    own = m.own;
+    shows = m.shows;
+    next = first_is_of m.frames
+        (belongs p (needs_of p) (is_scoped p sound) (is_calm p sound accepted) (provides_needs p sound) b.steps (root_of p input b.nest)
+        refl begins_root main_part m.stands).frames;
+  }
+
+  pub children_give_back : (s : Start) (t : Standing Own) → MayStand p input b s t → Each (IsGivenBack p input b) t.state.extra.pending
+  children_give_back s t stands =
+      each_both (Belongs p) (IsGivenChild p (needs_of p) b.steps (root_of p input b.nest)) (IsGivenBack p input b)
+      t.state.extra.pending
+      (λ c of is r k e q. given_back p (needs_of p) (is_scoped p sound) (is_calm p sound accepted) (provides_needs p sound) b.steps
+      (root_of p input b.nest) refl begins_root main_part k.ended c of is e q)
+      (belongs p (needs_of p) (is_scoped p sound) (is_calm p sound accepted) (provides_needs p sound) b.steps
+      (root_of p input b.nest) refl begins_root main_part stands).children
+      (children_given p (needs_of p) (is_scoped p sound) (is_calm p sound accepted) (provides_needs p sound) b.steps
+      (root_of p input b.nest) refl begins_root main_part stands)

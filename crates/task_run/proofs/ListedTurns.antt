@@ -1,0 +1,120 @@
+-- The actions of a turn determine how the lists of a task's children change.
+use Rattle.std.proofs.Common.{◌≡◌, ℕ, zero, suc, List, [], ◌∷◌, Option, Ok, Err, refl, ap, subst}
+use Rattle.std.specs.Prelude.{Bool, true, false, ok_or}
+use Rattle.shared_lemmas.proofs.Truths.{false_true}
+use Rattle.sections.specs.Place.{sides_of}
+use Rattle.types.specs.declared.fault.FaultKind.TheVariants.{SplitPoint}
+use Rattle.types.specs.Code.{Code, Do, If, While, Split, Call, Async, Finish, Codes, End, Then, Program, Number}
+use Rattle.types.specs.Code.{Primitive, Truth}
+use Rattle.types.specs.Value.{Valued}
+use Rattle.types.specs.Run.{Flow, On, Faulted, Stopped, State, number_at, numbers_at, truth_at, window_at, Rules}
+use Rattle.types.proofs.Keeps.{primitive_keeps}
+use Rattle.effects.specs.Needs.{Needs}
+use Rattle.task_run.specs.Results.{Settled}
+use Rattle.task_run.specs.OwnRun.{Child, Step, Own, notes, own_rules, child_of}
+use Rattle.task_run.specs.Frames.{Frame, Rest, Again, AtEnd, Back, Standing, by_value, chosen, paid, by_flow, turn}
+use Rattle.task_run.specs.Frames.{done_by, done_at, done_in}
+use Rattle.task_run.specs.Stops.{is_over, is_next_over, stops}
+use Rattle.task_run.specs.Worth.{Lists, around, lists, ListsAs}
+use Rattle.task_run.proofs.TurnActions.{silent}
+
+abbrev listing : List Child → List (List Child) → Lists
+listing cs css = record { inner = cs; outer = css }
+
+-- ---- over the budget nothing is done
+over_by : (needs : Codes → Needs) (nest n : ℕ) (s : Code) (st : State Own) → is_over nest n s ≡ true
+    → done_by needs nest n s st ≡ []
+over_by needs nest zero s st e = refl
+over_by needs zero (suc n) (Async b) st e = refl
+over_by needs (suc m) (suc n) (Async b) st e = absurd (false_true e)
+over_by needs nest (suc n) (Finish b) st e = absurd (false_true e)
+over_by needs nest (suc n) (Do s) st e = absurd (false_true e)
+over_by needs nest (suc n) (If t b c) st e = absurd (false_true e)
+over_by needs nest (suc n) (While t b) st e = absurd (false_true e)
+over_by needs nest (suc n) (Split s x y z b) st e = absurd (false_true e)
+over_by needs nest (suc n) (Call f es ss) st e = absurd (false_true e)
+
+over_at : (needs : Codes → Needs) (nest : ℕ) (g : Flow) (s : Code) (st : State Own) → is_next_over nest g st.steps s ≡ true
+    → done_at needs nest g s st ≡ []
+over_at needs nest On s st e = over_by needs nest st.steps s st e
+over_at needs nest Faulted s st e = refl
+over_at needs nest Stopped s st e = refl
+
+pub over_does_nothing : (needs : Codes → Needs) (nest : ℕ) (f : Frame Own) (st : State Own) → stops nest f st ≡ true
+    → done_in needs nest f st ≡ []
+over_does_nothing needs nest (Rest End) st e = refl
+over_does_nothing needs nest (Rest (Then l s rest)) st e = over_at needs nest st.flow s st e
+over_does_nothing needs nest (Again l t b) st e = over_at needs nest st.flow (While t b) st e
+over_does_nothing needs nest (AtEnd before) st e = refl
+over_does_nothing needs nest (Back env) st e = refl
+
+module _ (p : Program) (needs : Codes → Needs) (close : State Own → Option Settled) where
+  abbrev r : ℕ → Rules Own
+  r nest = own_rules needs nest close
+
+  value_lists : {A : Type 0} (l : ℕ) (v : Valued A) (go : A → Standing Own) (fs : List (Frame Own)) (st : State Own)
+      (ls : Lists) → listing st.extra.pending (around fs) ≡ ls → ((x : A) → lists (go x) ≡ ls) → lists (by_value l v go fs st) ≡ ls
+  value_lists l (Ok x) go fs st ls e h = h x
+  value_lists l (Err f) go fs st ls e h = e
+
+  chosen_lists : (v : Bool) (fs gs : List (Frame Own)) (st : State Own) (ls : Lists) → listing st.extra.pending (around fs) ≡ ls
+      → listing st.extra.pending (around gs) ≡ ls → lists (chosen v fs gs st) ≡ ls
+  chosen_lists true fs gs st ls e f = e
+  chosen_lists false fs gs st ls e f = f
+
+  -- a statement that takes a step
+  module _ (nest n : ℕ) (fs : List (Frame Own)) (st : State Own) where
+    abbrev after : State Own
+    after = record st { steps = n; extra = notes Step st.extra }
+
+    abbrev old : Lists
+    old = listing st.extra.pending (around fs)
+
+    do_lists : (l : ℕ) (s : Primitive) → lists (paid p (r nest) (suc n) l (Do s) fs st) ≡ old
+    do_lists l s =
+        ap (λ cs. listing cs (around fs))
+        (primitive_keeps p _ (λ st to. to.extra.pending ≡ st.extra.pending)
+        (silent (λ x. x.pending)) l s after)
+
+    if_lists : (l : ℕ) (t : Truth) (b c : Codes) → lists (paid p (r nest) (suc n) l (If t b c) fs st) ≡ old
+    if_lists l t b c = value_lists l (truth_at st t) _ fs after _ refl (λ v. chosen_lists v _ _ after _ refl refl)
+
+    while_lists : (l : ℕ) (t : Truth) (b : Codes) → lists (paid p (r nest) (suc n) l (While t b) fs st) ≡ old
+    while_lists l t b = value_lists l (truth_at st t) _ fs after _ refl (λ v. chosen_lists v _ _ after _ refl refl)
+
+    split_lists : (l s x y : ℕ) (e : Number) (b : Codes) → lists (paid p (r nest) (suc n) l (Split s e x y b) fs st) ≡ old
+    split_lists l s x y e b =
+        value_lists l (number_at st e) _ fs after _ refl (λ v.
+        value_lists l (ok_or (sides_of (window_at st s) v) SplitPoint) _ fs after _ refl (λ ws. refl))
+
+    call_lists : (l f : ℕ) (es : List Number) (ss : List ℕ) → lists (paid p (r nest) (suc n) l (Call f es ss) fs st) ≡ old
+    call_lists l f es ss = value_lists l (numbers_at st es) _ fs after _ refl (λ vs. refl)
+
+  paid_lists : (nest n l : ℕ) (s : Code) (fs : List (Frame Own)) (st : State Own)
+      → ListsAs (done_by needs nest n s st) (listing st.extra.pending (around fs)) (lists (paid p (r nest) n l s fs st))
+  paid_lists (suc m) (suc n) l (Async b) fs st =
+      record { child = child_of (needs b) m b (record st { steps = n }); start = refl; lists = refl }
+  paid_lists nest (suc n) l (Do s) fs st = do_lists nest n fs st l s
+  paid_lists nest (suc n) l (If t b c) fs st = if_lists nest n fs st l t b c
+  paid_lists nest (suc n) l (While t b) fs st = while_lists nest n fs st l t b
+  paid_lists nest (suc n) l (Split s e x y b) fs st = split_lists nest n fs st l s x y e b
+  paid_lists nest (suc n) l (Call f es ss) fs st = call_lists nest n fs st l f es ss
+  -- a finish spawns no task, and neither does a statement that is over the budget
+  paid_lists nest n l s fs st = refl
+
+  flow_lists : (nest : ℕ) (g : Flow) (l : ℕ) (s : Code) (fs below : List (Frame Own)) (st : State Own) → around fs ≡ around below
+      → ListsAs (done_at needs nest g s st) (listing st.extra.pending (around below)) (lists (by_flow p (r nest) g l s fs below st))
+  flow_lists nest On l s fs below st e =
+      subst (λ css. ListsAs (done_by needs nest st.steps s st) (listing st.extra.pending css) (lists (paid p (r nest) st.steps l s fs st)))
+      e (paid_lists nest st.steps l s fs st)
+  flow_lists nest Faulted l s fs below st e = refl
+  flow_lists nest Stopped l s fs below st e = refl
+
+  -- a turn changes the lists according to its actions
+  pub turn_lists : (nest : ℕ) (f : Frame Own) (fs : List (Frame Own)) (st : State Own)
+      → ListsAs (done_in needs nest f st) (lists (record { frames = f ∷ fs; state = st })) (lists (turn p (r nest) f fs st))
+  turn_lists nest (Rest End) fs st = refl
+  turn_lists nest (Rest (Then l s rest)) fs st = flow_lists nest st.flow l s (Rest rest ∷ fs) fs st refl
+  turn_lists nest (Again l t b) fs st = flow_lists nest st.flow l (While t b) fs fs st refl
+  turn_lists nest (AtEnd before) fs st = refl
+  turn_lists nest (Back env) fs st = refl

@@ -1,0 +1,65 @@
+use Rattle.std.proofs.Common.{◌≡◌, ◌++◌, ap, ◌∙◌, sym, subst, map, rules}
+use Rattle.std.proofs.lemmas.List.{map-append}
+use Rattle.std.specs.Prelude.{◌||◌}
+use Rattle.sections.specs.Covers.{has}
+use Rattle.sections.specs.Place.{Place}
+use Rattle.sections.specs.Translation.{window}
+use Rattle.holdings.specs.Held.{Held, Map, numbers, only, owned, AreApart}
+use Rattle.holdings.specs.Holdings.{held}
+use Rattle.task_run.specs.Places.{Places}
+use Rattle.task_run.proofs.HeldPlaces.{has-append, owns, all_owned, all_there, child_contents}
+use Rattle.task_run.proofs.HeldPlaces.{child_owned, left_contents, left_owned, copies_apart, pasted}
+use Rattle.task_run.proofs.memory.TaskMemory.part.Goals as goal
+
+pub returns-in_err-child-clause-refused : goal.returns-in_err-child-clause-refused
+returns-in_err-child-clause-refused c =
+    let m = held c.args.self.now.holdings in
+    let rs = map window c.args.reads.now in
+    let there = all_there (has rs) m c.requires.there in
+    search rules
+
+pub returns-in_err-own-clause-refused : goal.returns-in_err-own-clause-refused
+returns-in_err-own-clause-refused c =
+    let m = held c.args.self.now.holdings in
+    let ws = map window c.args.writes.now in
+    let there = all_owned (has ws) m c.requires.owned in
+    search rules
+
+pub returns-in-Ok-clause-contents : goal.returns-in-Ok-clause-contents
+returns-in-Ok-clause-contents c =
+    let m = held c.args.self.now.holdings in
+    let ws = map window c.args.writes.now in let rs = map window c.args.reads.now in
+    let together : (λ (q : Place). has ws q || has rs q) ≡ has (map window (c.args.writes.now ++ c.args.reads.now))
+    = (λ t q. sym (has-append ws rs q) t) ∙ ap has (sym (map-append window c.args.writes.now c.args.reads.now)) in
+    ap numbers (pasted ws rs m (held c.in_ok-child.child) (held c.in_ok-own.own) _ c.in-Ok.ensures.pasted
+    c.in_ok-own.ensures.taken c.in_ok-child.ensures.shared)
+    ∙ child_contents (has ws) (has rs) m c.requires.owned
+    ∙ ap (λ (s : Places). only s (numbers m)) together
+
+pub returns-in-Ok-clause-owned : goal.returns-in-Ok-clause-owned
+returns-in-Ok-clause-owned c =
+    let m = held c.args.self.now.holdings in
+    let ws = map window c.args.writes.now in let rs = map window c.args.reads.now in
+    ap owns (pasted ws rs m (held c.in_ok-child.child) (held c.in_ok-own.own) _ c.in-Ok.ensures.pasted
+    c.in_ok-own.ensures.taken c.in_ok-child.ensures.shared)
+    ∙ child_owned (has ws) (has rs) m c.requires.owned
+
+pub returns-in-Ok-clause-left : goal.returns-in-Ok-clause-left
+returns-in-Ok-clause-left c =
+    let m = held c.args.self.now.holdings in let ws = map window c.args.writes.now in
+    ap numbers c.in_ok-own.ensures.left
+    ∙ left_contents (has ws) (has ws) m c.requires.owned
+
+pub returns-in-Ok-clause-keeps : goal.returns-in-Ok-clause-keeps
+returns-in-Ok-clause-keeps c =
+    let m = held c.args.self.now.holdings in let ws = map window c.args.writes.now in
+    ap owns c.in_ok-own.ensures.left
+    ∙ left_owned (has ws) (has ws) m c.requires.owned
+
+pub returns-in-Err-clause-refused : goal.returns-in-Err-clause-refused
+returns-in-Err-clause-refused c =
+    let m = held c.args.self.now.holdings in
+    let apart : AreApart (owned (held c.in_ok-own.own)) (owned (held c.in_ok-child.child))
+    = subst (λ (o : Map Held). AreApart (owned (held c.in_ok-own.own)) (owned o)) (sym c.in_ok-child.ensures.shared)
+    (copies_apart (has (map window c.args.reads.now)) m (owned (held c.in_ok-own.own))) in
+    search rules

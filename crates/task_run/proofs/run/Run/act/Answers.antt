@@ -1,0 +1,97 @@
+use Rattle.std.proofs.Common.{◌≡◌, ap, ◌∙◌, sym, subst, map}
+use Rattle.std.specs.Prelude.{IfOk}
+use Rattle.sections.specs.Translation.{section}
+use Rattle.types.specs.Code.{Code, Do, If, While, Split, Call, Async, Finish}
+use Rattle.types.specs.Translation.{primitive, truth, number, code, codes}
+use Rattle.types.proofs.Blocks.{code_If, code_While, code_Split, code_Async, code_Finish}
+use Rattle.task_run.specs.RunTurns.{CanAct, DidAct}
+use Rattle.task_run.specs.declared.turn.Done.TheVariants.{Gone, Entered}
+use Rattle.task_run.proofs.RunSteps.{acts_primitive, did_Call, did_Do, did_Finish, did_If, did_same, did_Split, did_While}
+use Rattle.task_run.proofs.run.Run.act.Goals as goal
+
+pub spawn-requires-clause-can : goal.spawn-requires-clause-can
+spawn-requires-clause-can g c =
+    let x = c.args.stmt.now in let needed = c.args.needed.now in
+    let is : Async (codes c.deref-in-Async.result.now) ≡ code x.kind
+    = ap (λ l. Async (codes l)) c.deref-in-Async.ensures.value
+    ∙ sym (ap code c.in-Async.is ∙ code_Async c.in-Async.body) in
+    subst (λ (k : Code). CanAct (g.N.Needed.needs needed) (g.N.Needed.IsAsync needed) x.label k c.args.self.now) (sym is) c.requires.can
+
+pub returns-in_ok-primitive-in-Do-clause-did : goal.returns-in_ok-primitive-in-Do-clause-did
+returns-in_ok-primitive-in-Do-clause-did g c =
+    let needs = g.N.Needed.needs c.args.needed.now in
+    let m = c.args.self.now in let x = c.args.stmt.now in
+    let s = primitive c.in-Do.primitive in
+    let is : Do s ≡ code x.kind = ap code (sym c.in-Do.is) in
+    did_same needs x.label (Do s) (code x.kind) m Gone _ is
+    (did_Do needs x.label m _ s
+    (acts_primitive x.label s m c.primitive.new.self c.in_ok-primitive-in-Do.ensures.state c.in_ok-primitive-in-Do.ensures.task))
+
+pub returns-in_ok-choose-in-If-clause-did : goal.returns-in_ok-choose-in-If-clause-did
+returns-in_ok-choose-in-If-clause-did g c =
+    let needs = g.N.Needed.needs c.args.needed.now in
+    let m = c.args.self.now in let x = c.args.stmt.now in let guard = truth c.in-If.guard in
+    let body = codes c.deref.result.now in let other = codes c.deref-in-If.result.now in
+    let is : If guard body other ≡ code x.kind
+    = ap (λ l. If guard (codes l) other) c.deref.ensures.value
+    ∙ ap (λ l. If guard (codes c.in-If.body.items) (codes l)) c.deref-in-If.ensures.value
+    ∙ sym (ap code c.in-If.is ∙ code_If c.in-If.guard c.in-If.body c.in-If.other) in
+    did_same needs x.label (If guard body other) (code x.kind) m Gone _ is
+    (did_If needs x.label m _ guard body other c.in_ok-choose-in-If.ensures)
+
+pub returns-in_ok-turn_loop-in-While-clause-did : goal.returns-in_ok-turn_loop-in-While-clause-did
+returns-in_ok-turn_loop-in-While-clause-did g c =
+    let needs = g.N.Needed.needs c.args.needed.now in
+    let m = c.args.self.now in let x = c.args.stmt.now in let guard = truth c.in-While.guard in
+    let body = codes c.deref-in-While.result.now in
+    let is : While guard body ≡ code x.kind
+    = ap (λ l. While guard (codes l)) c.deref-in-While.ensures.value
+    ∙ sym (ap code c.in-While.is ∙ code_While c.in-While.guard c.in-While.body) in
+    did_same needs x.label (While guard body) (code x.kind) m Gone _ is
+    (did_While needs x.label m _ guard body c.in_ok-turn_loop-in-While.ensures)
+
+pub returns-in_ok-split-in-Split-clause-did : goal.returns-in_ok-split-in-Split-clause-did
+returns-in_ok-split-in-Split-clause-did g c =
+    let needs = g.N.Needed.needs c.args.needed.now in
+    let m = c.args.self.now in let x = c.args.stmt.now in
+    let s = c.in-Split.sides.section.number in let left = c.in-Split.sides.left.number in let right = c.in-Split.sides.right.number in
+    let at = number c.in-Split.sides.at in let body = codes c.deref-in-Split.result.now in
+    let is : Split s at left right body ≡ code x.kind
+    = ap (λ l. Split s at left right (codes l)) c.deref-in-Split.ensures.value
+    ∙ sym (ap code c.in-Split.is ∙ code_Split c.in-Split.sides c.in-Split.body) in
+    did_same needs x.label (Split s at left right body) (code x.kind) m Gone _ is
+    (did_Split needs x.label m _ s left right at body c.in_ok-split-in-Split.ensures)
+
+pub returns-in_ok-call-in-Call-clause-did : goal.returns-in_ok-call-in-Call-clause-did
+returns-in_ok-call-in-Call-clause-did g c =
+    let needs = g.N.Needed.needs c.args.needed.now in
+    let m = c.args.self.now in let x = c.args.stmt.now in
+    let f = c.in-Call.procedure.number in
+    let values = map number c.deref-in-Call.result.now in let sections = map section c.deref-in-Call-2.result.now in
+    let is : Call f values sections ≡ code x.kind
+    = ap (λ l. Call f (map number l) sections) c.deref-in-Call.ensures.value
+    ∙ ap (λ l. Call f (map number c.in-Call.values.items) (map section l)) c.deref-in-Call-2.ensures.value
+    ∙ sym (ap code c.in-Call.is) in
+    did_same needs x.label (Call f values sections) (code x.kind) m Gone _ is
+    (did_Call needs x.label m _ f values sections c.in_ok-call-in-Call.ensures)
+
+pub returns-in-Async-clause-did : goal.returns-in-Async-clause-did
+returns-in-Async-clause-did g c =
+    let needs = g.N.Needed.needs c.args.needed.now in
+    let m = c.args.self.now in let x = c.args.stmt.now in
+    let is : Async (codes c.deref-in-Async.result.now) ≡ code x.kind
+    = ap (λ l. Async (codes l)) c.deref-in-Async.ensures.value
+    ∙ sym (ap code c.in-Async.is ∙ code_Async c.in-Async.body) in
+    subst (λ (k : Code). IfOk c.spawn.result (λ d. DidAct needs x.label k m d c.spawn.new.self)) is
+    c.spawn.ensures.did
+
+pub returns-in_ok-enter-in-Finish-clause-did : goal.returns-in_ok-enter-in-Finish-clause-did
+returns-in_ok-enter-in-Finish-clause-did g c =
+    let needs = g.N.Needed.needs c.args.needed.now in
+    let m = c.args.self.now in let x = c.args.stmt.now in
+    let body = codes c.deref-in-Finish.result.now in
+    let is : Finish body ≡ code x.kind
+    = ap (λ l. Finish (codes l)) c.deref-in-Finish.ensures.value
+    ∙ sym (ap code c.in-Finish.is ∙ code_Finish c.in-Finish.body) in
+    did_same needs x.label (Finish body) (code x.kind) m Entered _ is
+    (did_Finish needs x.label body m _ (c.in_ok-enter-in-Finish.ensures x.label))

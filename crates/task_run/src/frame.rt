@@ -1,0 +1,33 @@
+//! The frames of a task: the work that is left.
+
+use crate::result::Listed;
+use types::code::{Label, Stmt, Truth};
+use types::fault::Fault;
+use types::value::Environment;
+
+/// Work that waits until the frames above it are done.
+#[derive(Drop)]
+pub enum TaskFrame<'p> {
+    /// The rest of a block.
+    Rest(&'p [Stmt]),
+    /// The next iteration of a loop.
+    Again {
+        label: Label,
+        guard: &'p Truth,
+        body: &'p [Stmt],
+    },
+    /// The end of a finish.
+    EndFinish(Outer),
+    /// The return from a call to the caller's environment.
+    EndCall {
+        environment: Environment,
+    },
+}
+
+/// The lines and faults of a task, and the tasks that it had listed, when a finish began.
+#[derive(Drop)]
+pub struct Outer {
+    pub lines: Vec<Vec<i64>>,
+    pub faults: Vec<Fault>,
+    pub pending: Vec<Listed>,
+}

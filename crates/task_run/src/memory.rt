@@ -1,0 +1,171 @@
+//! The memory that a task reads and writes.
+
+ghost use Rattle.std.specs.Prelude.{◌≡◌, ◌&&◌, ◌++◌, ◌∷◌, [], true, not, map, IfOk, IfSome, OnOk};
+ghost use Rattle.sections.specs.Covers.{has};
+ghost use Rattle.sections.specs.Translation.{section as section_of, window as window_of};
+ghost use Rattle.types.specs.Contents.{read as read_of, IsThere};
+ghost use Rattle.types.specs.Translation.{environment as environment_of};
+ghost use Rattle.task_run.specs.Places.{Places as PlaceSet, only, without};
+ghost use Rattle.task_run.specs.Translation.{contents_of, owned_by};
+
+use holdings::error::HoldError;
+use holdings::holdings::Holdings;
+use sections::id::SectionId;
+use sections::window::{Place, Window};
+use serial_run::arrays::Arrays;
+use statement_steps::memory::Memory;
+use std::alloc::{AllocError, Global};
+use types::value::{Environment, Places};
+
+/// What a task holds, as the memory of its statements.
+#[derive(Drop)]
+pub struct TaskMemory {
+    pub holdings: Holdings,
+}
+
+impl Places for TaskMemory {
+    ghost numbers = { λ m. read_of (contents_of m.holdings) };
+
+    #[inline(always)]
+    fn read(&self, place: Place) -> i64 {
+        self.holdings.number(place)
+    }
+}
+
+impl Memory for TaskMemory {
+    ghost use Rattle.std.specs.Prelude.{refl};
+
+    ghost contents = { λ m. contents_of m.holdings };
+
+    ghost Writable = { λ m q. owned_by m.holdings q ≡ true };
+
+    ghost Shape = { PlaceSet };
+
+    ghost shape = { λ m. owned_by m.holdings };
+
+    fn write(&mut self, place: Place, value: i64) -> Result<(), AllocError> {
+        if self.holdings.set(place, value) {
+            return Ok(());
+        }
+        // The place is owned, so the only possible error is out of memory.
+        match self.holdings.write(place.array, place.index, value) {
+            Ok(()) => Ok(()),
+            Err(_) => Err(AllocError),
+        }
+    }
+
+    ghost reads = { λ s. refl };
+}
+
+/// A read is 0 where nothing is held. A write has no precondition: a write to a place that isn't
+/// owned stores the number as a copy, and no accepted program does this. Therefore flat code needs
+/// no facts about what a task holds.
+impl Arrays for TaskMemory {
+    ghost use Rattle.std.specs.Prelude.{⊤, refl};
+    ghost use Rattle.task_run.specs.TaskKind.{task_kind};
+
+    ghost kind = { task_kind };
+
+    ghost Has = { λ m q. ⊤ };
+
+    #[inline(always)]
+    fn get(&self, place: Place) -> i64 {
+        self.holdings.number(place)
+    }
+
+    #[inline(always)]
+    fn set(&mut self, place: Place, value: i64) -> bool {
+        self.holdings.set(place, value)
+    }
+
+    #[inline(never)]
+    fn put(&mut self, place: Place, value: i64) -> Result<(), AllocError> {
+        self.holdings.put(place, value)
+    }
+
+    ghost reads = { λ s. refl };
+
+    ghost has = { λ p s w v q fits lies is. tt };
+
+    ghost fits_on = { λ p s t same fits. tt };
+
+    ghost none_lies = { λ p. tt };
+
+    ghost sides_lie = { λ p w v ws lies is. (tt, tt) };
+}
+
+impl TaskMemory {
+    ghost use Rattle.std.specs.Prelude.{IfErr};
+    ghost use Rattle.holdings.specs.declared.error.HoldError.TheVariants.{OutOfMemory};
+
+    /// Takes the places of `writes` out, and copies those of `reads`, for a child.
+    pub fn part(
+        &mut self,
+        alloc: Global,
+        writes: &[Window],
+        reads: &[Window],
+    ) -> Result<Holdings, HoldError>
+        requires owned { (q : _) → has (map window_of writes.now) q ≡ true
+            → owned_by self.old.holdings q ≡ true }
+        requires there { (q : _) → has (map window_of reads.now) q ≡ true
+            → IsThere (contents_of self.old.holdings q) }
+        ensures contents { IfOk result (λ c. contents_of c
+            ≡ only (has (map window_of (writes.now ++ reads.now)))
+            (contents_of self.old.holdings)) }
+        ensures owned { IfOk result (λ c. owned_by c ≡ has (map window_of writes.now)) }
+        ensures left { OnOk result (contents_of self.new.holdings
+            ≡ without (has (map window_of writes.now)) (contents_of self.old.holdings)) }
+        ensures keeps { OnOk result (owned_by self.new.holdings
+            ≡ (λ q. owned_by self.old.holdings q && not (has (map window_of writes.now) q))) }
+        ensures refused { IfErr result (λ e. e ≡ OutOfMemory) }
+    {
+        let mut child = self.holdings.share(alloc, reads)?;
+        let own = self.holdings.carve(alloc, writes)?;
+        match child.paste(alloc, own) {
+            Ok(()) => Ok(child),
+            Err((error, _)) => Err(error),
+        }
+    }
+
+    /// Takes the places of windows out, and copies those of sections, for a child. A single section
+    /// needs no list of windows.
+    pub fn part_for(
+        &mut self,
+        alloc: Global,
+        environment: &Environment,
+        writes: &[Window],
+        reads: &[SectionId],
+    ) -> Result<Holdings, HoldError>
+        requires owned { (q : _) → has (map window_of writes.now) q ≡ true
+            → owned_by self.old.holdings q ≡ true }
+        requires there { (q : _) → has (map (environment_of environment.now).windows
+            (map section_of reads.now)) q ≡ true → IsThere (contents_of self.old.holdings q) }
+        ensures contents { IfOk result (λ c. contents_of c ≡ only (has (map window_of writes.now
+            ++ map (environment_of environment.now).windows (map section_of reads.now)))
+            (contents_of self.old.holdings)) }
+        ensures owned { IfOk result (λ c. owned_by c ≡ has (map window_of writes.now)) }
+        ensures left { OnOk result (contents_of self.new.holdings
+            ≡ without (has (map window_of writes.now)) (contents_of self.old.holdings)) }
+        ensures keeps { OnOk result (owned_by self.new.holdings
+            ≡ (λ q. owned_by self.old.holdings q && not (has (map window_of writes.now) q))) }
+        ensures refused { IfErr result (λ e. e ≡ OutOfMemory) }
+    {
+        match only_one(reads) {
+            Some(section) => self.part(alloc, writes, &[environment.window(section)]),
+            None => {
+                let reads = environment.windows_of(alloc, reads)?;
+                self.part(alloc, writes, &reads)
+            }
+        }
+    }
+}
+
+/// Returns the section if there is exactly one.
+fn only_one(sections: &[SectionId]) -> Option<SectionId>
+    ensures { IfSome result (λ s. sections.now ≡ s ∷ []) }
+{
+    match sections {
+        [section] => Some(*section),
+        _ => None,
+    }
+}

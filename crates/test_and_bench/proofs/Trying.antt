@@ -1,0 +1,67 @@
+-- A program of a folder, and its result.
+use Rattle.std.proofs.Common.{◌≡◌, ℕ, List, Result, Ok, refl, sym, subst, codes}
+use Rattle.std.specs.Prelude.{ℤ, Bool, false, IfOk}
+use Rattle.std.specs.Str.{bytes_eq}
+use Rattle.types.specs.Code.{Program}
+use Rattle.types.specs.Outcome.{Budget, Outcome, outcome}
+use Rattle.types.specs.Typed.{code_of}
+use Rattle.types.specs.declared.typed.Typed.{Typed}
+use Rattle.race_checker.specs.Clash.{IsAccepted}
+use Rattle.printing.specs.OutcomeText.{outcome_text, status_of}
+use Rattle.command_line.specs.Requests.{usual}
+use Rattle.files.specs.Held.{Held, BeginsWith, HasText, IsGiven, TellsNoProgram, TellsNoText}
+use Rattle.failures.specs.declared.failure.Failure.{Failure}
+use Rattle.failures.specs.declared.failure.Failure.TheVariants.{NoMemory}
+use Rattle.commands.specs.Answers.{IsCodeOf}
+use Rattle.test_and_bench.specs.Trials.{Trial, IsCompared, IsUncompared, file, input_file, told_by, without_output}
+
+-- ---- files
+
+-- running out of memory is allowed for any file
+pub memory_uncompared : (held : Held) (t : Trial) (f : Failure) → f ≡ NoMemory → IsUncompared held t f
+memory_uncompared held t f is = subst (IsUncompared held t) (sym is) (without_output tt)
+
+-- for a file with the same name
+pub no_program_at : (held : Held) (name other : List ℕ) (f : Failure) → name ≡ other → TellsNoProgram held name f
+    → TellsNoProgram held other f
+no_program_at held name other f same why = subst (λ (n : List ℕ). TellsNoProgram held n f) same why
+
+-- for files with the same contents
+pub no_text_kept : (mid held : Held) (name : List ℕ) (f : Failure) → mid ≡ held → TellsNoText mid name f → TellsNoText held name f
+no_text_kept mid held name f same why = subst (λ (h : Held). TellsNoText h name f) same why
+
+-- ---- runs
+
+-- the same outcome under the same budget, for the same program
+pub same_budget : (p : Program) (input : List (List ℤ)) (b d : Budget) (o : Outcome) → o ≡ outcome p input b → b ≡ d
+    → o ≡ outcome p input d
+same_budget p input b d o is same = subst (λ (x : Budget). o ≡ outcome p input x) same is
+
+pub same_program : (t u : Typed) (input : List (List ℤ)) (b : Budget) (o : Outcome) → o ≡ outcome (code_of t) input b → t ≡ u
+    → o ≡ outcome (code_of u) input b
+same_program t u input b o is same = subst (λ (x : Typed). o ≡ outcome (code_of x) input b) same is
+
+-- the text of the usual outcome is what the program prints
+pub told_as : (r : Result Bool Failure) (p : Program) (input : List (List ℤ)) (o : Outcome) (bytes : List ℕ)
+    → o ≡ outcome p input usual.budget → IfOk r (λ same. same ≡ bytes_eq (outcome_text p.arrays false o) bytes)
+    → IfOk r (λ same. same ≡ bytes_eq (told_by p input) bytes)
+told_as r p input o bytes same told =
+    subst (λ (x : Outcome). IfOk r (λ s. s ≡ bytes_eq (outcome_text p.arrays false x) bytes)) same told
+
+-- what was printed, compared with the expected output
+pub compared : (held : Held) (t : Trial) (text : List ℕ) (p : Program) (input : List (List ℤ)) (bytes : List ℕ) (same : Bool)
+    → HasText held (file t (codes ".afx")) text → IsCodeOf text p → IsAccepted p → BeginsWith (input_file t) held p.arrays input
+    → IsGiven (held (file t (codes ".out"))) (Ok bytes) → same ≡ bytes_eq (told_by p input) bytes → IsCompared held t same
+compared held t text p input bytes same has_text is_code accepted begins given is = record {
+  text = text;
+  has_text = has_text;
+  told = told_by p input;
+  status = status_of (outcome p input usual.budget);
+  answers = record {
+    run = record { code = p; accepted = accepted; input = input; given = record { is_code = is_code; begins = begins } };
+    shows = record { told_is = refl; status_is = refl };
+  };
+  bytes = bytes;
+  given = given;
+  same_is = is;
+}

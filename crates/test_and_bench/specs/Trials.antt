@@ -1,0 +1,174 @@
+-- The expected output of the programs of a folder, and what is printed about them.
+use Rattle.std.specs.Prelude.{ℕ, zero, suc, ℤ, ◌≡◌, ◌≢◌, ◌-◌, ◌+◌, Bool, true, false, if◌then◌else◌, List, []}
+use Rattle.std.specs.Prelude.{◌∷◌, ◌++◌, codes, Option, None, Some, Result, Ok, MatchOption, length, map}
+use Rattle.std.specs.Prelude.{take, drop, IsPermutation}
+use Rattle.std.specs.Fmt.{decimal}
+use Rattle.std.specs.List.{flat_map}
+use Rattle.std.specs.List.Sorted.{IsSorted}
+use Rattle.std.specs.Str.{bytes_eq}
+use Rattle.std.specs.Prelude.{String}
+use Rattle.std.specs.String.{string_bytes, string_cmp}
+use Rattle.std.specs.Global.{Global}
+use Rattle.types.specs.Code.{Program}
+use Rattle.types.specs.Outcome.{Outcome, outcome}
+use Rattle.types.specs.Translation.{input as lists_of}
+use Rattle.types.specs.Typed.{code_of}
+use Rattle.printing.specs.OutcomeText.{outcome_text}
+use Rattle.printing.specs.Reasons.{escaped}
+use Rattle.command_line.specs.Requests.{Settings, usual}
+use Rattle.command_line.specs.declared.request.Command.TheVariants.{Run}
+use Rattle.files.specs.Held.{Held, HasText, IsGiven, TellsNoProgram, TellsNoText}
+use Rattle.failures.specs.Messages.{failure_text}
+use Rattle.failures.specs.declared.failure.Failure.{Failure}
+use Rattle.failures.specs.declared.failure.Failure.TheVariants.{CannotWriteOutput}
+use Rattle.commands.specs.Answers.{AnswersRun, Done, Explains}
+use Rattle.test_and_bench.specs.Folders.{AreGiven, Folders, TellsNoFolder}
+use Rattle.test_and_bench.specs.declared.outcomes.Case.{Case}
+use Rattle.test_and_bench.specs.declared.testing.Found.{Found}
+use Rattle.test_and_bench.specs.declared.trial.Folder.{Folder as rFolder}
+use Rattle.test_and_bench.specs.declared.trial.Trial.{Trial as rTrial}
+
+-- ---- names
+
+-- a folder, and the names of all its entries
+pub record Folder : Type 0 where
+  pub name : List ℕ
+  pub names : List (List ℕ)
+
+abbrev pub folder : rFolder → Folder
+folder f = record { name = f.name.now; names = map string_bytes f.names.now }
+
+-- a program of it, given by the part of its file name before `.afx`
+pub record Trial : Type 0 where
+  pub folder : Folder
+  pub stem : List ℕ
+
+abbrev pub trial : rTrial → Trial
+trial t = record { folder = folder t.folder; stem = t.stem.now }
+
+-- whether it is one of these
+abbrev pub has_name : (names : List (List ℕ)) → (name : List ℕ) → Bool
+has_name [] name = false
+has_name (one ∷ names) name = if bytes_eq one name then true else has_name names name
+
+-- the part of a name before `.afx`, if it ends with that
+abbrev pub stem : (name : List ℕ) → List (List ℕ)
+stem name =
+    if bytes_eq (drop (length name - 4) name) (codes ".afx") then take (length name - 4) name ∷ [] else []
+
+-- its file with this ending: `folder/stem.afx`
+abbrev pub file : Trial → (ending : List ℕ) → List ℕ
+file t ending = t.folder.name ++ (codes "/" ++ (t.stem ++ ending))
+
+-- the file of its input, if the folder has one
+abbrev pub input_file : Trial → Option (List ℕ)
+input_file t =
+    if has_name t.folder.names (t.stem ++ codes ".json") then Some (file t (codes ".json")) else None
+
+-- it runs under the default settings, on its input
+abbrev pub settings_of : Trial → Settings
+settings_of t = record usual { input = input_file t }
+
+-- ---- one program
+
+-- what a program prints under the default settings
+abbrev pub told_by : Program → (input : List (List ℤ)) → List ℕ
+told_by p input = outcome_text p.arrays false (outcome p input usual.budget)
+
+-- whether the text of an outcome of a case's program is the expected output
+abbrev pub is_wanted : Case → Outcome → Bool
+is_wanted c o = bytes_eq (outcome_text (code_of c.accepted.now.typed).arrays false o) c.wanted.now
+
+-- whether what it prints under the default settings is the expected output
+abbrev pub tells_wanted : Case → Bool
+tells_wanted c = bytes_eq (told_by (code_of c.accepted.now.typed) (lists_of c.input.now)) c.wanted.now
+
+-- `run` prints this much for its text, and its `.out` file has these bytes: whether the two are
+-- equal
+pub record IsCompared (held : Held) (t : Trial) (same : Bool) : Type 0 where
+  pub text : List ℕ
+  pub has_text : HasText held (file t (codes ".afx")) text
+  pub told : List ℕ
+  pub status : ℕ
+  pub answers : AnswersRun (settings_of t) held text told status
+  pub bytes : List ℕ
+  pub given : IsGiven (held (file t (codes ".out"))) (Ok bytes)
+  pub same_is : same ≡ bytes_eq told bytes
+
+-- the failure says why it can't be compared: its file has no text, `run` fails before it answers,
+-- or there is no `.out` file
+pub data IsUncompared (held : Held) (t : Trial) (f : Failure) : Type 0 where
+  without_text : TellsNoProgram held (file t (codes ".afx")) f → IsUncompared held t f
+  without_answer : (text : List ℕ) → HasText held (file t (codes ".afx")) text
+      → Explains Run (settings_of t) held text f → f ≢ CannotWriteOutput → IsUncompared held t f
+  without_output : TellsNoText held (file t (codes ".out")) f → IsUncompared held t f
+
+-- the line of a program that fails, with control characters in its name escaped
+pub data IsLine (held : Held) (t : Trial) (line : List ℕ) : Type 0 where
+  otherwise : IsCompared held t false → line ≡ escaped t.stem ++ codes ".afx: output differs\n"
+      → IsLine held t line
+  uncompared : (f : Failure) → IsUncompared held t f
+      → line ≡ escaped t.stem ++ (codes ".afx: " ++ (failure_text f ++ codes "\n")) → IsLine held t line
+
+-- a program without a line passes, and any other has the line of one that fails
+abbrev pub HasLine : Held → Trial → Option (String Global) → Type 0
+HasLine held t line = MatchOption line (IsCompared held t true) (λ l. IsLine held t (string_bytes l))
+
+-- ---- all of them
+
+-- of these programs of a folder, this many passed and this many failed, with these lines
+pub data AreTested (held : Held) (f : Folder)
+    : (stems : List (List ℕ)) → (lines : List ℕ) → (passed failed : ℕ) → Type 0 where
+  none : AreTested held f [] [] 0 0
+  pass : (ss : List (List ℕ)) (s lines : List ℕ) (n m : ℕ) → AreTested held f ss lines n m
+      → IsCompared held (record { folder = f; stem = s }) true
+      → AreTested held f (ss ++ s ∷ []) lines (n + 1) m
+  fail : (ss : List (List ℕ)) (s lines line : List ℕ) (n m : ℕ) → AreTested held f ss lines n m
+      → IsLine held (record { folder = f; stem = s }) line
+      → AreTested held f (ss ++ s ∷ []) (lines ++ line) n (m + 1)
+
+-- one more program is counted that passed
+abbrev pub AddsPassed : (old new : Found) → Type 0
+AddsPassed old new =
+    (string_bytes new.lines ≡ string_bytes old.lines) × (new.passed ≡ old.passed + 1)
+    × (new.failed ≡ old.failed)
+
+-- one more program is counted that failed, and its line follows the others
+abbrev pub AddsFailed : (line : String Global) → (old new : Found) → Type 0
+AddsFailed line old new =
+    (string_bytes new.lines ≡ string_bytes old.lines ++ string_bytes line) × (new.passed ≡ old.passed)
+    × (new.failed ≡ old.failed + 1)
+
+-- the last line: `2 passed, 1 failed`
+abbrev pub closing : (passed failed : ℕ) → List ℕ
+closing n m = decimal n ++ (codes " passed, " ++ (decimal m ++ codes " failed\n"))
+
+-- 0 if none failed
+abbrev pub tested_status : (failed : ℕ) → ℕ
+tested_status zero = 0
+tested_status (suc n) = 1
+
+-- the programs of a folder were tested, sorted by name, and the results are printed
+pub record AnswersTest (named : Folders) (held : Held) (name told : List ℕ) (status : ℕ) : Type 0 where
+  pub names : List (List ℕ)
+  pub given : AreGiven (named name) (Ok names)
+  pub programs : List (String Global)
+  pub all : IsPermutation (flat_map stem names) (map string_bytes programs)
+  pub ordered : IsSorted string_cmp programs
+  pub lines : List ℕ
+  pub passed : ℕ
+  pub failed : ℕ
+  pub tested : AreTested held (record { name = name; names = names })
+      (map string_bytes programs) lines passed failed
+  pub told_is : told ≡ lines ++ closing passed failed
+  pub status_is : status ≡ tested_status failed
+
+-- why none was tested
+abbrev pub ExplainsTest : Folders → (name : List ℕ) → Failure → Type 0
+ExplainsTest named name CannotWriteOutput = Unit {0}
+ExplainsTest named name f = TellsNoFolder named name f
+
+-- `test` was done: its answer was written, or there is a reason why not
+abbrev pub DoesTest : Folders → Held → (name : List ℕ) → (old new : Option (List ℕ)) → Result ℕ Failure
+    → Type 0
+DoesTest named held name old new r = Done (AnswersTest named held name) (ExplainsTest named name) old new r

@@ -1,0 +1,235 @@
+//! Whether a program of a folder prints its expected output.
+
+ghost use Rattle.std.specs.Prelude.{◌≡◌, ◌++◌, codes, IfErr, IfOk, Ok};
+ghost use Rattle.std.specs.String.{string_bytes};
+ghost use Rattle.types.specs.Inputs.{IsInput};
+ghost use Rattle.types.specs.Translation.{input as lists_of};
+ghost use Rattle.types.specs.Typed.{code_of};
+ghost use Rattle.files.specs.Held.{BeginsWith, HasText, IsGiven, TellsNoInput, TellsNoText};
+ghost use Rattle.failures.specs.Messages.{failure_text};
+ghost use Rattle.printing.specs.Reasons.{escaped};
+ghost use Rattle.test_and_bench.specs.Trials.{HasLine, IsCompared, IsUncompared};
+ghost use Rattle.test_and_bench.specs.Trials.{file as file_of, has_name as has_name_of, input_file, trial as trial_of};
+
+use crate::outcomes::Case;
+use crate::runs::Runs;
+use crate::stems::has_name;
+use commands::programs::accepted_of;
+use failures::failure::Failure;
+use failures::message::emit_message;
+use files::file_source::{FileSource, read_file, read_program};
+use files::input_file::input_of;
+use printing::reasons::emit_file;
+use std::alloc::{AllocError, Global};
+use std::sync::Wait;
+use std::thread::Threads;
+use types::input::Input;
+use types::typed::Typed;
+
+/// A folder, and the names of all its entries.
+#[derive(Clone, Copy)]
+pub struct Folder<'f> {
+    pub name: &'f str,
+    pub names: &'f [String],
+}
+
+/// A program of a folder, given by the part of its file name before `.afx`.
+#[derive(Clone, Copy)]
+pub struct Trial<'f> {
+    pub folder: Folder<'f>,
+    pub stem: &'f str,
+}
+
+impl Trial<'_> {
+    /// Returns the line of a program that fails, or None if it passes.
+    pub fn line<R: Threads + Wait + Sync, F: FileSource, W: Runs>(
+        &self,
+        rt: &R,
+        alloc: Global,
+        runs: &W,
+        files: &mut F,
+    ) -> Result<Option<String>, Failure>
+        ensures line { IfOk result (HasLine (F.held files.old) (trial_of self.now)) }
+        ensures why { IfErr result (λ f. f ≡ Failure.NoMemory) }
+        ensures keeps { F.held files.new ≡ F.held files.old }
+    {
+        match self.passes(rt, alloc, runs, files) {
+            Ok(passes) => if passes {
+                Ok(None)
+            } else {
+                Ok(Some(otherwise(alloc, self.stem)?))
+            },
+            Err(failure) => Ok(Some(failed(alloc, self.stem, &failure)?)),
+        }
+    }
+
+    /// Returns whether it prints the contents of its `.out` file.
+    fn passes<R: Threads + Wait + Sync, F: FileSource, W: Runs>(
+        &self,
+        rt: &R,
+        alloc: Global,
+        runs: &W,
+        files: &mut F,
+    ) -> Result<bool, Failure>
+        ensures compared { IfOk result (IsCompared (F.held files.old) (trial_of self.now)) }
+        ensures why { IfErr result (IsUncompared (F.held files.old) (trial_of self.now)) }
+        ensures keeps { F.held files.new ≡ F.held files.old }
+    {
+        let name = self.file(alloc, ".afx")?;
+        let bytes = read_program(alloc, files, name.as_str())?;
+        match std::str::from_utf8(&bytes) {
+            Ok(text) => self.tells_as_wanted(rt, alloc, runs, files, text),
+            Err(_) => Err(Failure::not_utf8(alloc, name.as_str())),
+        }
+    }
+
+    /// Returns whether the program with this text does.
+    fn tells_as_wanted<R: Threads + Wait + Sync, F: FileSource, W: Runs>(
+        &self,
+        rt: &R,
+        alloc: Global,
+        runs: &W,
+        files: &mut F,
+        text: &str,
+    ) -> Result<bool, Failure>
+        requires { HasText (F.held files.old) (file_of (trial_of self.now) (codes ".afx")) text.now }
+        ensures compared { IfOk result (IsCompared (F.held files.old) (trial_of self.now)) }
+        ensures why { IfErr result (IsUncompared (F.held files.old) (trial_of self.now)) }
+        ensures keeps { F.held files.new ≡ F.held files.old }
+    {
+        let accepted = accepted_of(rt, alloc, text)?;
+        let input = self.input(alloc, files, accepted.typed())?;
+        let wanted = self.wanted(alloc, files)?;
+        let case = Case {
+            alloc,
+            accepted: &accepted,
+            input: &input,
+            wanted: &wanted,
+        };
+        case.tells(rt, runs)
+    }
+
+    /// Returns the initial contents of its arrays: the lists in its `.json` file, if the folder has
+    /// one.
+    fn input<F: FileSource>(
+        &self,
+        alloc: Global,
+        files: &mut F,
+        typed: &Typed,
+    ) -> Result<Input, Failure>
+        ensures begins { IfOk result (λ i. BeginsWith (input_file (trial_of self.now))
+            (F.held files.old) (code_of typed.now).arrays (lists_of i)) }
+        ensures fits { IfOk result (λ i. IsInput (code_of typed.now).arrays (lists_of i)) }
+        ensures why { IfErr result (TellsNoInput (input_file (trial_of self.now))
+            (F.held files.old) (code_of typed.now).arrays) }
+        ensures keeps { F.held files.new ≡ F.held files.old }
+    {
+        if !self.has_input(alloc)? {
+            return input_of(alloc, files, typed, None);
+        }
+        let name = self.file(alloc, ".json")?;
+        input_of(alloc, files, typed, Some(name.as_str()))
+    }
+
+    /// Returns whether the folder has its `.json` file.
+    fn has_input(&self, alloc: Global) -> Result<bool, Failure>
+        ensures has { let t = trial_of self.now in IfOk result
+            (λ has. has ≡ has_name_of t.folder.names (t.stem ++ codes ".json")) }
+        ensures why { IfErr result (λ f. f ≡ Failure.NoMemory) }
+    {
+        let stem = self.stem;
+        match format!(in alloc; "{stem}.json") {
+            Ok(name) => Ok(has_name(self.folder.names, name.as_str())),
+            Err(AllocError) => Err(Failure::NoMemory),
+        }
+    }
+
+    /// Returns the contents of its `.out` file.
+    fn wanted<F: FileSource>(&self, alloc: Global, files: &mut F) -> Result<Vec<u8>, Failure>
+        ensures given { IfOk result (λ v. IsGiven
+            (F.held files.old (file_of (trial_of self.now) (codes ".out"))) (Ok v.items)) }
+        ensures why { IfErr result
+            (TellsNoText (F.held files.old) (file_of (trial_of self.now) (codes ".out"))) }
+        ensures keeps { F.held files.new ≡ F.held files.old }
+    {
+        let name = self.file(alloc, ".out")?;
+        read_file(alloc, files, name.as_str())
+    }
+
+    /// Returns the name of its file with this ending.
+    fn file(&self, alloc: Global, ending: &str) -> Result<String, Failure>
+        ensures name { IfOk result
+            (λ name. string_bytes name ≡ file_of (trial_of self.now) ending.now) }
+        ensures why { IfErr result (λ f. f ≡ Failure.NoMemory) }
+    {
+        let folder = self.folder.name;
+        let stem = self.stem;
+        match format!(in alloc; "{folder}/{stem}{ending}") {
+            Ok(name) => Ok(name),
+            Err(AllocError) => Err(Failure::NoMemory),
+        }
+    }
+}
+
+/// Returns the line of a program whose output differs.
+fn otherwise(alloc: Global, stem: &str) -> Result<String, Failure>
+    ensures line { IfOk result
+        (λ line. string_bytes line ≡ escaped stem.now ++ codes ".afx: output differs\n") }
+    ensures why { IfErr result (λ f. f ≡ Failure.NoMemory) }
+{
+    let shown = shown_of(alloc, stem)?;
+    match format!(in alloc; "{shown}.afx: output differs\n") {
+        Ok(line) => Ok(line),
+        Err(AllocError) => Err(Failure::NoMemory),
+    }
+}
+
+/// Returns the line of a program that can't be compared.
+fn failed(alloc: Global, stem: &str, failure: &Failure) -> Result<String, Failure>
+    ensures line { IfOk result (λ line. string_bytes line
+        ≡ escaped stem.now ++ (codes ".afx: " ++ (failure_text failure.now ++ codes "\n"))) }
+    ensures why { IfErr result (λ f. f ≡ Failure.NoMemory) }
+{
+    let shown = shown_of(alloc, stem)?;
+    let message = message_of(alloc, failure)?;
+    match format!(in alloc; "{shown}.afx: {message}") {
+        Ok(line) => Ok(line),
+        Err(AllocError) => Err(Failure::NoMemory),
+    }
+}
+
+/// Returns a name of a folder, with control characters escaped.
+fn shown_of(alloc: Global, name: &str) -> Result<String, Failure>
+    ensures text { IfOk result (λ text. string_bytes text ≡ escaped name.now) }
+    ensures why { IfErr result (λ f. f ≡ Failure.NoMemory) }
+{
+    let mut bytes = Vec::new(alloc);
+    if emit_file(&mut bytes, "", name).is_err() {
+        return Err(Failure::NoMemory);
+    }
+    text_of(bytes)
+}
+
+/// Returns the message of a failure, with its newline.
+fn message_of(alloc: Global, failure: &Failure) -> Result<String, Failure>
+    ensures text { IfOk result (λ text. string_bytes text ≡ failure_text failure.now ++ codes "\n") }
+    ensures why { IfErr result (λ f. f ≡ Failure.NoMemory) }
+{
+    let mut bytes = Vec::new(alloc);
+    if emit_message(&mut bytes, failure).is_err() {
+        return Err(Failure::NoMemory);
+    }
+    text_of(bytes)
+}
+
+/// Returns the text that these bytes are.
+fn text_of(bytes: Vec<u8>) -> Result<String, Failure>
+    ensures text { IfOk result (λ text. string_bytes text ≡ bytes.items) }
+    ensures why { IfErr result (λ f. f ≡ Failure.NoMemory) }
+{
+    match String::from_utf8(bytes) {
+        Ok(text) => Ok(text),
+        // No contract states that they are UTF-8; they consist of texts.
+        Err(_) => Err(Failure::NoMemory),
+    }
+}

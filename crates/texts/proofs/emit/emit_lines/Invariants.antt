@@ -1,8 +1,0 @@
-use Rattle.texts.specs.OutcomeText.{line_text}
-use Rattle.texts.proofs.Appending.{AppendsFirst}
-use Rattle.texts.proofs.emit.emit_lines.Given as goal
-
-abbrev pub invariant-loop-line : goal.invariant-loop-line
-invariant-loop-line g l =
-    AppendsFirst (λ line. line_text line.items) l.lines l.line-index (g.W.Write.contents l.fn.out)
-    (g.W.Write.contents l.out)

@@ -1,9 +1,0 @@
-use Rattle.std.specs.String.{string_bytes}
-use Rattle.trials.specs.Trials.{folder}
-use Rattle.trials.proofs.Tested.{HaveTested}
-use Rattle.trials.proofs.testing.tested.Given as goal
-
-abbrev pub invariant-loop-stem : goal.invariant-loop-stem
-invariant-loop-stem g l =
-    HaveTested (g.F.FileSource.held l.fn.files) (folder l.folder) l.stems (g.F.FileSource.held l.files) l.stem-index
-    (string_bytes l.found.lines) l.found.passed l.found.failed

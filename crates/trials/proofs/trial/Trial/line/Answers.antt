@@ -1,6 +1,0 @@
-use Rattle.trials.specs.Trials.{uncompared}
-use Rattle.trials.proofs.trial.Trial.line.Goals as goal
-
-pub returns-in_ok-failed-in-Err-clause-line : goal.returns-in_ok-failed-in-Err-clause-line
-returns-in_ok-failed-in-Err-clause-line g c =
-    uncompared c.in-Err.failure c.in-Err.ensures.why c.in_ok-failed-in-Err.ensures.line

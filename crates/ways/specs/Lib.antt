@@ -1,5 +1,0 @@
-pub mod Known
-pub mod Least
-pub mod Searched
-pub mod Settled
-pub mod Ways

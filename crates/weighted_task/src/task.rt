@@ -1,0 +1,132 @@
+//! Tasks, and the children that they spawn.
+
+ghost use Rattle.std.specs.Prelude.{◌≡◌, IfErr, IfOk, IfSome};
+ghost use Rattle.task_run.specs.Jobs.{IsJob};
+ghost use Rattle.weighted_task.specs.Tasks.{IsBegun, IsChild, IsFirst, IsRoot, IsRootBody, IsTask};
+
+use crate::stake::{ScopeMark, Share, Stake};
+use std::alloc::AllocError;
+use task_run::job::Job;
+use task_run::run::Run;
+use task_run::start::Start;
+use types::path::Path;
+use weights::weight::Weight;
+
+/// A task: a run, with a weight in each scope that it belongs to.
+#[derive(Drop)]
+pub struct Task<'p> {
+    pub body: Box<Body<'p>>,
+    /// The weight in its innermost scope.
+    pub share: Share,
+}
+
+/// A task without its weight in its innermost scope.
+#[derive(Drop)]
+pub struct Body<'p> {
+    pub job: Job<'p>,
+    /// None once it has reached an end.
+    pub run: Option<Run<'p>>,
+
+    // The scopes that it belongs to.
+    /// The innermost.
+    pub scope: ScopeMark,
+    /// The weights in the others, the innermost last.
+    pub outer: Vec<Stake>,
+    /// The number of finishes that it has started.
+    pub opened: u32,
+}
+
+/// A task that was spawned and has taken no turn.
+#[derive(Drop)]
+pub struct Child<'p> {
+    pub job: Job<'p>,
+    pub start: Box<Start<'p>>,
+    /// The scope that it was started in.
+    pub scope: ScopeMark,
+    pub share: Share,
+}
+
+impl<'p> Task<'p> {
+    /// Returns the root at its start, with its weight in the root scope.
+    pub fn root(job: Job<'p>, weight: Weight) -> Result<Task<'p>, Weight>
+        requires job { IsJob job }
+        ensures task { IfOk result (IsRoot job.entry) }
+        ensures weight { IfOk result (λ t. t.share.weight ≡ weight) }
+        ensures refused { IfErr result (λ w. w ≡ weight) }
+    {
+        match root_body(job) {
+            Ok(body) => {
+                let share = Share { weight };
+                Ok(Task { body, share })
+            }
+            Err(_) => Err(weight),
+        }
+    }
+
+    /// Returns its path.
+    pub fn path(&self) -> &Path
+        requires task { IsTask self.now }
+        ensures { IfSome self.now.body.value.run (λ r. result.now ≡ r.thread.path) }
+    {
+        let Some(run) = &self.body.run else {
+            unreachable!()
+        };
+        &run.thread.path
+    }
+
+    /// Returns the number of steps that it may still take.
+    pub fn steps(&self) -> u32
+        requires task { IsTask self.now }
+        ensures { IfSome self.now.body.value.run (λ r. result ≡ r.thread.steps) }
+    {
+        let Some(run) = &self.body.run else {
+            unreachable!()
+        };
+        run.thread.steps
+    }
+}
+
+impl<'p> Child<'p> {
+    /// Returns the task, before its first turn.
+    pub fn begin(self) -> Result<Task<'p>, AllocError>
+        requires child { IsChild self }
+        ensures task { IfOk result (IsBegun self.entry) }
+    {
+        let Child {
+            job,
+            start,
+            scope,
+            share,
+        } = self;
+        let run = Run::begin(job.plan(), Box::into_inner(start))?;
+        let body = first_body(job, run, scope)?;
+        Ok(Task { body, share })
+    }
+}
+
+/// Returns the root's body.
+fn root_body<'p>(job: Job<'p>) -> Result<Box<Body<'p>>, AllocError>
+    requires { IsJob job }
+    ensures { IfOk result (λ b. IsRootBody job.entry b.value) }
+{
+    let run = Run::begin(job.plan(), job.root()?)?;
+    let scope = ScopeMark {
+        depth: 0,
+        number: 0,
+    };
+    first_body(job, run, scope)
+}
+
+/// Returns the body of a task that has started no finish.
+fn first_body<'p>(job: Job<'p>, run: Run<'p>, scope: ScopeMark) -> Result<Box<Body<'p>>, AllocError>
+    ensures { IfOk result (λ b. IsFirst job.entry run.entry scope b.value) }
+{
+    let body = Body {
+        job,
+        run: Some(run),
+        scope,
+        outer: Vec::new(job.alloc),
+        opened: 0,
+    };
+    Ok(Box::new(job.alloc, body)?)
+}

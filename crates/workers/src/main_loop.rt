@@ -1,0 +1,641 @@
+//! The workers of a run.
+
+ghost use Rattle.std.specs.Prelude.{◌≡◌, ◌≤◌, IfErr, IfOk, IfSome, OnOk, Option, Some};
+ghost use Rattle.types.specs.Translation.{outcome as outcome_in};
+ghost use Rattle.task_run.specs.Jobs.{outcome_of};
+ghost use Rattle.finish_scope.specs.Own.{IsOwnPassing};
+ghost use Rattle.workers.specs.Own.{HasCode, IsOwnBody, IsOwnChild, IsOwnEnded, IsOwnEnding, IsOwnNext};
+ghost use Rattle.workers.specs.Own.{IsOwnLeaving, IsOwnStep, IsOwnTask, IsOwnTurn};
+ghost use Rattle.workers.specs.Causes.{Happens};
+ghost use Rattle.workers.specs.WorkerStates.{Fails, HasSeat, Tells};
+
+use crate::code::OwnCode;
+use crate::error::{RunError, Trouble};
+use crate::gate::Gate;
+use crate::locked_log::{LockedLog, hold};
+use crate::log_guard::LogGuard;
+use crate::open_scopes::{AfterTurn, Next, OpenScopes};
+use crate::passing::pass;
+use crate::pool::Pool;
+use crate::ready::{First, Ready};
+use crate::scopes;
+use crate::scopes::ScopeRecorder;
+use crate::settings::Settings;
+use crate::worker::{Report, WorkerParts, WorkerState};
+use crossbeam_deque::Worker;
+use finish_scope::inner::Inner;
+use finish_scope::resting::{Passing, Resting};
+use finish_scope::running::Running;
+use plain_code::pieces::ProgramCode;
+use std::alloc::AllocError;
+use std::sync::{Arc, Mutex, Wait};
+use std::thread;
+use task_run::job::Job;
+use task_run::result::TaskResult;
+use tickets::Tickets;
+use types::outcome::Outcome;
+use weighted_task::finish::{Ending, Entering, Parked};
+use weighted_task::stake::ScopeMark;
+use weighted_task::task::{Child, Task};
+use weighted_task::turn::{WeightedResult as Ended, WeightedTurn};
+use weights::weight::Weight;
+use worker_threads::Crew;
+
+/// The number of times that a worker looks for a task before it rests.
+const LOOKS: u32 = 64;
+
+/// The state that the workers of a run share.
+#[derive(Drop)]
+pub struct Shared<'p, J: Running, G: Gate> {
+    pub job: Job<'p>,
+    pub code: OwnCode<'p, J>,
+    pub settings: Settings,
+    pub gate: &'p G,
+    pub tickets: Tickets,
+    pub pool: Pool<'p, J>,
+    pub log: Option<LockedLog<'p, J>>,
+    pub ghost of: { J.job ≡ Some job },
+}
+
+impl<'p, J: Running, G: Gate> Shared<'p, J, G> {
+    // ---- turns
+
+    /// Continues a task up to a turn that is more than a step.
+    fn turn<R: Wait>(
+        &self,
+        rt: &R,
+        number: usize,
+        open_scopes: &mut OpenScopes<'p, J>,
+        task: Task<'p>,
+    ) -> Result<AfterTurn<'p>, Trouble>
+        requires { IsOwnTask J.job task }
+        ensures step { IfOk result (IsOwnStep J.job) }
+        ensures cause { IfErr result (Happens J.job) }
+    {
+        match self.next_turn(rt, task)? {
+            WeightedTurn::Going(task) => Ok(AfterTurn::Follows(Next::Goes(task))),
+            WeightedTurn::Over(task) => Ok(AfterTurn::Follows(Next::Goes(task))),
+            WeightedTurn::Spawns(task, child) => { Ok(AfterTurn::Spawned(task, child)) }
+            WeightedTurn::WantsWeight(wanting) => {
+                let recorder = self.recorder(wanting.body.scope);
+                let (task, child) = scopes::replenish(rt, &open_scopes.scope, wanting, &recorder)?;
+                Ok(AfterTurn::Spawned(task, child))
+            }
+            WeightedTurn::EntersFinish(entering) => {
+                Ok(AfterTurn::Follows(self.enter(rt, number, open_scopes, entering)?))
+            }
+            WeightedTurn::EndsFinish(ending) => Ok(AfterTurn::Follows(self.park(
+                rt,
+                number,
+                open_scopes,
+                ending,
+            )?)),
+            WeightedTurn::Ended(ended) => Ok(AfterTurn::Follows(self.end(
+                rt,
+                number,
+                open_scopes,
+                ended,
+            )?)),
+        }
+    }
+
+    /// Returns the next turn that is more than a step.
+    fn next_turn<R: Wait>(&self, rt: &R, task: Task<'p>) -> Result<WeightedTurn<'p>, Trouble>
+        requires { IsOwnTask J.job task }
+        ensures next { IfOk result (IsOwnTurn J.job) }
+        ensures cause { IfErr result (Happens J.job) }
+    {
+        if self.log.is_some() {
+            self.noted_turn(rt, task)
+        } else {
+            Ok(go::<J>(task, self.code.lend())?)
+        }
+    }
+
+    /// Returns the next turn that is more than a step, and records each step; or a step, if the run
+    /// is over.
+    fn noted_turn<R: Wait>(&self, rt: &R, task: Task<'p>) -> Result<WeightedTurn<'p>, Trouble>
+        requires { IsOwnTask J.job task }
+        ensures next { IfOk result (IsOwnTurn J.job) }
+        ensures cause { IfErr result (Happens J.job) }
+    {
+        let mut task = task;
+        for _ in rt.forever() {
+            match self.noted_step(rt, task)? {
+                WeightedTurn::Going(next) => task = next,
+                turn => return Ok(turn),
+            }
+            if self.pool.is_over() {
+                return Ok(WeightedTurn::Going(task));
+            }
+        }
+        unreachable!()
+    }
+
+    /// Takes one turn of a task. If it is a step or spawns a task, that is recorded in the same holding
+    /// of the log's lock.
+    fn noted_step<R: Wait>(&self, rt: &R, task: Task<'p>) -> Result<WeightedTurn<'p>, Trouble>
+        requires { IsOwnTask J.job task }
+        ensures next { IfOk result (IsOwnTurn J.job) }
+        ensures cause { IfErr result (Happens J.job) }
+    {
+        let mut log_guard = self.hold(rt);
+        let steps = steps_of::<J>(&task);
+        match advance::<J>(task)? {
+            WeightedTurn::Going(next) => {
+                note_step::<J>(&mut log_guard, &next, steps);
+                Ok(WeightedTurn::Going(next))
+            }
+            WeightedTurn::Spawns(task, child) => {
+                note_spawn::<J>(&mut log_guard, &task);
+                Ok(WeightedTurn::Spawns(task, child))
+            }
+            turn => Ok(turn),
+        }
+    }
+
+    // ---- recording
+
+    /// Takes the log's lock, if events are recorded and the run isn't over.
+    fn hold<R: Wait>(&self, rt: &R) -> LogGuard<'_, 'p, J> {
+        hold::<J, R>(&self.log, rt, &self.pool)
+    }
+
+    /// Returns the log and the gate for what the worker does at this scope.
+    fn recorder(&self, scope: ScopeMark) -> ScopeRecorder<'_, 'p, J, G> {
+        ScopeRecorder {
+            log: &self.log,
+            gate: self.gate,
+            pool: &self.pool,
+            scope,
+        }
+    }
+
+    // ---- after a turn
+
+    /// Draws the ticket of a task that starts.
+    fn draw(&self, state: &mut WorkerState) -> Result<(), RunError>
+        requires seat { HasSeat self.now.tickets self.now.settings.tasks state.old.seat }
+        ensures seat { OnOk result
+            (HasSeat self.now.tickets self.now.settings.tasks state.new.seat) }
+        ensures failed { IfErr result
+            (Fails J.job self.now.tickets self.now.settings.tasks state.new.seat) }
+    {
+        let ticket = self.tickets.draw(&mut state.seat);
+        if ticket.number() < self.settings.tasks {
+            Ok(())
+        } else {
+            Err(RunError::TooManyTasks(ticket))
+        }
+    }
+
+    /// Pushes a spawned task to the worker's deque.
+    fn begin(
+        &self,
+        number: usize,
+        own: &mut Worker<Ready<'p, J>>,
+        open_scopes: &mut OpenScopes<'p, J>,
+        child: Child<'p>,
+    ) -> Result<(), Trouble>
+        requires { IsOwnChild J.job child }
+        ensures cause { IfErr result (Happens J.job) }
+    {
+        let scope = Arc::try_clone(&open_scopes.scope)?;
+        match own.push(Ready::new(child, scope, open_scopes.place, number)) {
+            Ok(()) => {
+                self.pool.wake();
+                Ok(())
+            }
+            Err(_) => Err(Trouble::RefusedPush),
+        }
+    }
+
+    /// Gives a task that started a finish its new scope.
+    #[inline(never)]
+    fn enter<R: Wait>(
+        &self,
+        rt: &R,
+        number: usize,
+        open_scopes: &mut OpenScopes<'p, J>,
+        entering: Entering<'p>,
+    ) -> Result<Next<'p>, Trouble>
+        requires { IsOwnBody J.job entering.body.value }
+        ensures next { IfOk result (IsOwnNext J.job) }
+        ensures cause { IfErr result (Happens J.job) }
+    {
+        let (inner, weight) = Inner::open(self.job.alloc, self.settings.w0);
+        let task = self.start_finish(rt, entering, weight);
+        let scope = Arc::new(self.job.alloc, Mutex::new(inner))?;
+        open_scopes.outer.push(open_scopes.place)?;
+        open_scopes.place = self.pool.put(rt, number, Arc::try_clone(&scope)?)?;
+        open_scopes.scope = scope;
+        Ok(Next::Goes(task))
+    }
+
+    /// Starts a finish with the first weight of its scope, and records that.
+    fn start_finish<R: Wait>(&self, rt: &R, entering: Entering<'p>, weight: Weight) -> Task<'p>
+        requires own { IsOwnBody J.job entering.body.value }
+        requires enough { 1 ≤ weight }
+        ensures { IsOwnTask J.job result }
+    {
+        let mut log_guard = self.hold(rt);
+        let task = entering.enter(weight);
+        note_open::<J>(&mut log_guard, &task);
+        task
+    }
+
+    /// Parks a task at the end of a finish, or of `main`.
+    #[inline(never)]
+    fn park<R: Wait>(
+        &self,
+        rt: &R,
+        number: usize,
+        open_scopes: &mut OpenScopes<'p, J>,
+        ending: Ending<'p>,
+    ) -> Result<Next<'p>, Trouble>
+        requires { IsOwnEnding J.job ending }
+        ensures next { IfOk result (IsOwnNext J.job) }
+        ensures cause { IfErr result (Happens J.job) }
+    {
+        let outer = std::mem::replace(&mut open_scopes.outer, Vec::new(self.job.alloc));
+        let recorder = self.recorder(ending.scope);
+        let (weight, parked) = ending.set_down();
+        let owner = Resting { parked, outer };
+        let passing = scopes::park(rt, &open_scopes.scope, weight, owner, &recorder)?;
+        self.after(rt, number, open_scopes, passing)
+    }
+
+    /// Returns the result of a task that has finished to its scope.
+    fn end<R: Wait>(
+        &self,
+        rt: &R,
+        number: usize,
+        open_scopes: &mut OpenScopes<'p, J>,
+        ended: Ended<'p>,
+    ) -> Result<Next<'p>, Trouble>
+        requires { IsOwnEnded J.job ended }
+        ensures next { IfOk result (IsOwnNext J.job) }
+        ensures cause { IfErr result (Happens J.job) }
+    {
+        let path = if G::wants_paths() {
+            Some(ended.made.path.clone()?)
+        } else {
+            None
+        };
+        let recorder = self.recorder(ended.scope);
+        let (weight, made) = ended.take_weight();
+        let passing = scopes::give_back(rt, &open_scopes.scope, weight, made, &recorder)?;
+        self.gate.leave(path.as_ref());
+        self.after(rt, number, open_scopes, passing)
+    }
+
+    /// Returns what follows a task that waits or has finished: the owner that continues, if any.
+    fn after<R: Wait>(
+        &self,
+        rt: &R,
+        number: usize,
+        open_scopes: &mut OpenScopes<'p, J>,
+        passing: Option<Passing<'p>>,
+    ) -> Result<Next<'p>, Trouble>
+        requires { IfSome passing (IsOwnPassing J.job) }
+        ensures next { IfOk result (IsOwnNext J.job) }
+        ensures cause { IfErr result (Happens J.job) }
+    {
+        match passing {
+            Some(passing) => {
+                self.pool.clear(rt, open_scopes.place)?;
+                self.go_behind(rt, number, open_scopes, passing)
+            }
+            None => Ok(Next::Idle),
+        }
+    }
+
+    /// Continues an owner after its finish, in the surrounding scope.
+    #[inline(never)]
+    fn go_behind<R: Wait>(
+        &self,
+        rt: &R,
+        number: usize,
+        open_scopes: &mut OpenScopes<'p, J>,
+        passing: Passing<'p>,
+    ) -> Result<Next<'p>, Trouble>
+        requires { IsOwnPassing J.job passing }
+        ensures next { IfOk result (IsOwnNext J.job) }
+        ensures cause { IfErr result (Happens J.job) }
+    {
+        let Passing { owner, results } = passing;
+        let Resting { parked, mut outer } = owner;
+        if let Some(place) = outer.pop() {
+            open_scopes.scope = self.pool.scope_at(rt, place)?;
+            open_scopes.place = place;
+        }
+        open_scopes.outer = outer;
+        let mut log_guard = self.hold(rt);
+        match passed::<J>(parked, results)? {
+            Next::Goes(task) => {
+                note_resume::<J>(&mut log_guard, number, &task);
+                Ok(Next::Goes(task))
+            }
+            next => Ok(next),
+        }
+    }
+
+    // ---- running tasks
+
+    /// Takes a turn of a task. If it spawned another, it draws its ticket, and then starts it.
+    fn step<R: Wait>(
+        &self,
+        rt: &R,
+        state: &mut WorkerState,
+        own: &mut Worker<Ready<'p, J>>,
+        open_scopes: &mut OpenScopes<'p, J>,
+        task: Task<'p>,
+    ) -> Result<Next<'p>, RunError>
+        requires task { IsOwnTask J.job task }
+        requires seat { HasSeat self.now.tickets self.now.settings.tasks state.old.seat }
+        ensures seat { OnOk result
+            (HasSeat self.now.tickets self.now.settings.tasks state.new.seat) }
+        ensures failed { IfErr result
+            (Fails J.job self.now.tickets self.now.settings.tasks state.new.seat) }
+        ensures next { IfOk result (IsOwnNext J.job) }
+    {
+        match self.turn(rt, state.number, open_scopes, task)? {
+            AfterTurn::Follows(next) => Ok(next),
+            AfterTurn::Spawned(task, child) => {
+                self.draw(state)?;
+                self.begin(state.number, own, open_scopes, child)?;
+                Ok(Next::Goes(task))
+            }
+        }
+    }
+
+    /// Runs a task until it waits or has finished, and then any owner that continues because of it.
+    fn go_on<R: Wait>(
+        &self,
+        rt: &R,
+        state: &mut WorkerState,
+        own: &mut Worker<Ready<'p, J>>,
+        open_scopes: &mut OpenScopes<'p, J>,
+        task: Task<'p>,
+    ) -> Result<Option<Outcome>, RunError>
+        requires task { IsOwnTask J.job task }
+        requires seat { HasSeat self.now.tickets self.now.settings.tasks state.old.seat }
+        ensures seat { OnOk result
+            (HasSeat self.now.tickets self.now.settings.tasks state.new.seat) }
+        ensures failed { IfErr result
+            (Fails J.job self.now.tickets self.now.settings.tasks state.new.seat) }
+        ensures outcome { IfOk result (λ o. IfSome o (λ x. outcome_in x ≡ outcome_of self.now.job)) }
+    {
+        let mut task = task;
+        for _ in rt.forever() {
+            match self.step(rt, state, own, open_scopes, task)? {
+                Next::Goes(next) => task = next,
+                Next::Idle => return Ok(None),
+                Next::Told(outcome) => return Ok(Some(outcome)),
+            }
+            if self.pool.is_over() {
+                return Ok(None);
+            }
+        }
+        unreachable!()
+    }
+
+    /// Runs the root from its start. It draws the first ticket.
+    fn run_first<R: Wait>(
+        &self,
+        rt: &R,
+        state: &mut WorkerState,
+        own: &mut Worker<Ready<'p, J>>,
+        first: First<'p, J>,
+    ) -> Result<Option<Outcome>, RunError>
+        requires seat { HasSeat self.now.tickets self.now.settings.tasks state.old.seat }
+        ensures seat { OnOk result
+            (HasSeat self.now.tickets self.now.settings.tasks state.new.seat) }
+        ensures failed { IfErr result
+            (Fails J.job self.now.tickets self.now.settings.tasks state.new.seat) }
+        ensures outcome { IfOk result (λ o. IfSome o (λ x. outcome_in x ≡ outcome_of self.now.job)) }
+    {
+        self.draw(state)?;
+        let mut log_guard = self.hold(rt);
+        let (task, mut open_scopes) = first.begin();
+        note_taken::<J>(&mut log_guard, state.number, state.number, &task);
+        drop(log_guard);
+        self.go_on(rt, state, own, &mut open_scopes, task)
+    }
+
+    /// Runs a task below the root from its start.
+    fn run_next<R: Wait>(
+        &self,
+        rt: &R,
+        state: &mut WorkerState,
+        own: &mut Worker<Ready<'p, J>>,
+        ready: Ready<'p, J>,
+    ) -> Result<Option<Outcome>, RunError>
+        requires seat { HasSeat self.now.tickets self.now.settings.tasks state.old.seat }
+        ensures seat { OnOk result
+            (HasSeat self.now.tickets self.now.settings.tasks state.new.seat) }
+        ensures failed { IfErr result
+            (Fails J.job self.now.tickets self.now.settings.tasks state.new.seat) }
+        ensures outcome { IfOk result (λ o. IfSome o (λ x. outcome_in x ≡ outcome_of self.now.job)) }
+    {
+        let from = ready.from();
+        let mut log_guard = self.hold(rt);
+        let (task, mut open_scopes) = ready.begin()?;
+        note_taken::<J>(&mut log_guard, state.number, from, &task);
+        drop(log_guard);
+        self.let_in(&task);
+        self.go_on(rt, state, own, &mut open_scopes, task)
+    }
+
+    /// Lends a task to the gate before its first turn.
+    fn let_in(&self, task: &Task<'p>)
+        requires { IsOwnTask J.job task.now }
+    {
+        self.gate.enter(task);
+    }
+
+    // ---- a worker
+
+    /// Sets the mark that ends the run, while no worker records an event. Returns true if it wasn't
+    /// set before.
+    fn end_run<R: Wait>(&self, rt: &R) -> bool {
+        let _page = self.hold(rt);
+        self.pool.end()
+    }
+
+    /// Returns a task, if there is one. A worker that has looked without success for long rests
+    /// before.
+    fn find_work<R: Wait>(
+        &self,
+        rt: &R,
+        state: &WorkerState,
+        own: &mut Worker<Ready<'p, J>>,
+        looks: &mut u32,
+    ) -> Option<Ready<'p, J>> {
+        let found = self.pool.find(state.number, own);
+        if found.is_some() {
+            *looks = 0;
+            return found;
+        }
+        if *looks < LOOKS {
+            *looks += 1;
+            thread::yield_now();
+            return None;
+        }
+        *looks = 0;
+        self.pool.rest(rt, state.number, &state.parker, own)
+    }
+
+    /// Runs tasks until the run is over. One worker starts with the root.
+    fn main_loop<R: Wait>(
+        &self,
+        rt: &R,
+        state: &mut WorkerState,
+        own: &mut Worker<Ready<'p, J>>,
+        first: Option<First<'p, J>>,
+    ) -> Result<Option<Outcome>, RunError>
+        requires seat { HasSeat self.now.tickets self.now.settings.tasks state.old.seat }
+        ensures seat { OnOk result
+            (HasSeat self.now.tickets self.now.settings.tasks state.new.seat) }
+        ensures failed { IfErr result
+            (Fails J.job self.now.tickets self.now.settings.tasks state.new.seat) }
+        ensures outcome { IfOk result (λ o. IfSome o (λ x. outcome_in x ≡ outcome_of self.now.job)) }
+    {
+        if let Some(first) = first {
+            if let Some(outcome) = self.run_first(rt, state, own, first)? {
+                return Ok(Some(outcome));
+            }
+        }
+        let mut looks = 0u32;
+        for _ in rt.forever() {
+            if self.pool.is_over() {
+                return Ok(None);
+            }
+            if let Some(ready) = self.find_work(rt, state, own, &mut looks) {
+                if let Some(outcome) = self.run_next(rt, state, own, ready)? {
+                    return Ok(Some(outcome));
+                }
+            }
+        }
+        unreachable!()
+    }
+}
+
+/// Continues a task up to a turn that is more than a step.
+fn go<'p, J: Running>(
+    task: Task<'p>,
+    code: &ProgramCode<'p>,
+) -> Result<WeightedTurn<'p>, AllocError>
+    requires own { IsOwnTask J.job task }
+    requires code { HasCode J.job code.now }
+    ensures { IfOk result (IsOwnTurn J.job) }
+{
+    task.go(code)
+}
+
+/// Takes one turn of a task.
+fn advance<'p, J: Running>(task: Task<'p>) -> Result<WeightedTurn<'p>, AllocError>
+    requires { IsOwnTask J.job task }
+    ensures { IfOk result (IsOwnTurn J.job) }
+{
+    task.advance()
+}
+
+/// Returns the number of steps that a task may still take.
+fn steps_of<'p, J: Running>(task: &Task<'p>) -> u32
+    requires { IsOwnTask J.job task.now }
+{
+    task.steps()
+}
+
+// ---- recording
+
+/// Records a step if the task has fewer steps left than before.
+fn note_step<'p, J: Running>(log_guard: &mut LogGuard<'_, 'p, J>, task: &Task<'p>, before: u32)
+    requires { IsOwnTask J.job task.now }
+{
+    if task.steps() < before {
+        log_guard.stepped(task.path());
+    }
+}
+
+/// Records that a task spawned another.
+fn note_spawn<'p, J: Running>(log_guard: &mut LogGuard<'_, 'p, J>, task: &Task<'p>)
+    requires { IsOwnTask J.job task.now }
+{
+    log_guard.spawned(task.path());
+}
+
+/// Records that a task started a finish.
+fn note_open<'p, J: Running>(log_guard: &mut LogGuard<'_, 'p, J>, task: &Task<'p>)
+    requires { IsOwnTask J.job task.now }
+{
+    log_guard.opened(task.path());
+}
+
+/// Records that a worker takes a task that it or another worker spawned.
+fn note_taken<'p, J: Running>(
+    log_guard: &mut LogGuard<'_, 'p, J>,
+    number: usize,
+    from: usize,
+    task: &Task<'p>,
+)
+    requires { IsOwnTask J.job task.now }
+{
+    log_guard.taken(number, from, task.path());
+}
+
+/// Records that a worker continues with an owner after its finish.
+fn note_resume<'p, J: Running>(log_guard: &mut LogGuard<'_, 'p, J>, number: usize, task: &Task<'p>)
+    requires { IsOwnTask J.job task.now }
+{
+    log_guard.resumed(number, task.path());
+}
+
+// ---- tasks
+
+/// Continues an owner of the run whose scope passes.
+#[inline(never)]
+fn passed<'p, J: Running>(
+    owner: Box<Parked<'p>>,
+    results: Vec<TaskResult>,
+) -> Result<Next<'p>, Trouble>
+    requires own { IsOwnLeaving J.job owner.value results.items }
+    ensures next { IfOk result (IsOwnNext J.job) }
+    ensures cause { IfErr result (Happens J.job) }
+{
+    pass(owner, results)
+}
+
+impl<'p, J: Running + Send + Sync, G: Gate + Sync> Crew for Shared<'p, J, G> {
+    type Kit = WorkerParts<'p, J>;
+
+    type Report = Report;
+
+    ghost fits = { λ f k. HasSeat f.tickets f.settings.tasks k.state.seat };
+
+    ghost told = { λ f r. Tells J.job f.tickets f.job f.settings.tasks r };
+
+    fn work<R: Wait>(&self, rt: &R, parts: WorkerParts<'p, J>) -> Report {
+        let WorkerParts {
+            mut state,
+            mut own,
+            first,
+        } = parts;
+        let told = self.main_loop(rt, &mut state, &mut own, first);
+        let silent = match &told {
+            Ok(None) => true,
+            _ => false,
+        };
+        let is_first = !silent && self.end_run(rt);
+        Report {
+            told,
+            is_first,
+            seat: state.seat,
+        }
+    }
+
+    fn call_off(&self) {
+        self.pool.end();
+    }
+}

@@ -1,0 +1,39 @@
+//! Parts and reports of workers.
+
+use crate::error::RunError;
+use crate::ready::{First, Ready};
+use crossbeam_deque::Worker;
+use crossbeam_utils::sync::Parker;
+use finish_scope::running::Running;
+use tickets::Seat;
+use types::outcome::Outcome;
+
+/// The data that one worker owns.
+#[derive(Drop)]
+pub struct WorkerParts<'p, J: Running> {
+    pub state: WorkerState,
+    /// The tasks that it is to run, the newest first.
+    pub own: Worker<Ready<'p, J>>,
+    /// The root, with which one worker starts.
+    pub first: Option<First<'p, J>>,
+}
+
+/// A worker's number, parker and seat.
+#[derive(Drop)]
+pub struct WorkerState {
+    pub number: usize,
+    /// The worker's parker.
+    pub parker: Parker,
+    /// The seat on which it draws tickets.
+    pub seat: Seat,
+}
+
+/// A worker's report.
+#[derive(Drop)]
+pub struct Report {
+    pub told: Result<Option<Outcome>, RunError>,
+    /// Whether that ended the run. It is true of at most one report.
+    pub is_first: bool,
+    /// The seat on which it drew tickets.
+    pub seat: Seat,
+}
