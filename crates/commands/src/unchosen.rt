@@ -5,11 +5,9 @@ ghost use Rattle.std.specs.Prelude.{◌≡◌};
 use crate::unread::{first_of, place_behind, text_before};
 use command_line::request::Choosing;
 use excerpts::source::push_line;
+use files::choices::MOST_BYTES;
 use files::file_source::FileSource;
 use std::alloc::{AllocError, Global};
-
-/// The maximum number of bytes of a file of choices.
-const MOST_BYTES: usize = 16_777_216;
 
 const TOO_LONG: &str = "
 A file of choices can have at most 16777216 bytes; this one is larger.

@@ -8,9 +8,7 @@ use files::file_source::FileSource;
 use std::alloc::{AllocError, Global};
 use syntax::TextPlace;
 use syntax::error::SyntaxError;
-
-/// The maximum number of bytes of a program's text.
-const MOST_BYTES: usize = 1_048_576;
+use syntax::parser::MOST_BYTES;
 
 /// The maximum number of bytes that are read of a text that is too long, to count its bytes.
 const MOST_COUNTED: usize = 16_777_216;

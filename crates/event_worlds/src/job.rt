@@ -6,15 +6,13 @@ ghost use Rattle.types.specs.Translation.{input as lists_in};
 ghost use Rattle.types.specs.Typed.{code_of};
 ghost use Rattle.event_worlds.specs.Jobs.{IsWeightedJob};
 
+use events::worker_id::MOST_WEIGHT;
 use race_checker::accepted::Accepted;
 use std::alloc::Global;
 use task_run::job::Job;
 use types::budget::Budget;
 use types::input::Input;
 use types::laws::typed_programs_are_sound;
-
-/// The maximum weight that a scope issues at once: 2^32.
-pub const MOST_WEIGHT: u64 = 4_294_967_296;
 
 /// A job, and the weight that a scope issues at once.
 #[derive(Clone, Copy)]

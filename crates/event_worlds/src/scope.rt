@@ -11,9 +11,7 @@ ghost use Rattle.event_worlds.specs.declared.error.EventError.TheVariants.{NoMem
 use crate::error::EventError;
 use std::alloc::Global;
 use task_run::result::TaskResult;
-
-/// The maximum number of times that a scope issues weight.
-pub const MOST_ISSUES: u64 = 2_147_483_648;
+use weights::book::MOST_ISSUES;
 
 /// The weight that a scope has issued, the weight that came back, and the results of tasks that
 /// ended in it.

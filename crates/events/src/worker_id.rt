@@ -7,6 +7,9 @@ use std::marker::Model;
 /// The maximum number of workers.
 pub const MOST_WORKERS: u32 = 64;
 
+/// The maximum weight that a scope issues at a time: 2^32.
+pub const MOST_WEIGHT: u64 = 4_294_967_296;
+
 /// A worker's number, from 0 to 63.
 #[derive(Clone, Copy, PartialEq, Eq, Hash, Debug)]
 pub struct WorkerId {

@@ -5,4 +5,3 @@
 pub mod escaped;
 pub mod failure;
 pub mod message;
-mod replacing;

@@ -13,7 +13,7 @@ use failures::failure::Failure;
 use std::alloc::{AllocError, Global};
 
 /// The maximum number of bytes of a file of choices.
-const MOST_BYTES: usize = 16_777_216;
+pub const MOST_BYTES: usize = 16_777_216;
 
 /// Returns the choices in the file with this name. Reads no more of the file than it needs to.
 #[tactic(auto, using(crate::proofs::ReadChoices::file_unread))]

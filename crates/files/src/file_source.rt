@@ -5,17 +5,15 @@ ghost use Rattle.std.specs.Prelude.{IfOk, IfErr, MatchResult, OnOk};
 ghost use Rattle.failures.specs.Failures.{TellsUnwritten};
 ghost use Rattle.files.specs.Held.{Held, IsGiven, KeepsOthers, TellsNoProgram, TellsNoText, first};
 
+use crate::replacing::{FileNumber, number_of, replace};
 use failures::failure::Failure;
-use failures::replacing::{FileNumber, number_of, replace};
 use std::alloc::Global;
 use std::fs::OpenFile;
 use std::io::{ErrorKind, Read};
 use std::rt::Files;
 use std::{fs, io};
 use syntax::error::SyntaxError;
-
-/// The maximum number of bytes of a program.
-const MOST_BYTES: usize = 1_048_576;
+use syntax::parser::MOST_BYTES;
 
 /// The maximum number of bytes of any file of the machine: 1 GiB.
 const MOST_READ: usize = 1_073_741_824;

@@ -5,3 +5,4 @@
 pub mod choices;
 pub mod file_source;
 pub mod input_file;
+mod replacing;

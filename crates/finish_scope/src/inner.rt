@@ -15,14 +15,11 @@ use std::marker::{Model, PhantomData};
 use std::sync::Mutex;
 use task_run::result::TaskResult;
 use types::path::Path;
-use weights::book::{Back, Book};
+use weights::book::{Back, Book, MOST_ISSUES};
 use weights::weight::Weight;
 
 /// A scope that threads share.
 pub type Scope<'p, J> = Mutex<Inner<'p, J>>;
-
-/// The maximum number of times that a scope issues weight.
-const MOST_ISSUES: u64 = 2_147_483_648;
 
 /// The state of a scope, under its lock.
 #[derive(Drop)]

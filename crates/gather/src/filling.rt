@@ -83,7 +83,7 @@ impl Filling {
     }
 
     /// Fills a hole with the settled result of its task.
-    pub fn fill(&mut self, alloc: Global, hole: Listed, child: Settled) -> Result<(), GatherError>
+    pub fn fill(&mut self, hole: Listed, child: Settled) -> Result<(), GatherError>
         ensures filled { OnOk result
             (part_of self.new ≡ filled (waiting_for self.old hole) (settled_of child)) }
         ensures apart { OnOk result (comes_back_twice (waiting_for self.old hole) ≡ false) }
@@ -92,7 +92,7 @@ impl Filling {
             → IsClear self.new) }
         ensures refused { IfErr result (RefusesHole (waiting_for self.old hole)) }
     {
-        self.take_back(alloc, hole.path, hole.windows, child.holdings)?;
+        self.take_back(hole.path, hole.windows, child.holdings)?;
         self.so_far.stopped |= child.stopped;
         tell(&mut self.so_far, hole.lines, hole.faults)?;
         tell(&mut self.so_far, child.lines, child.faults)?;
@@ -103,7 +103,6 @@ impl Filling {
     /// task owns exactly these places, whole blocks move without a look at their numbers.
     fn take_back(
         &mut self,
-        alloc: Global,
         path: Path,
         windows: Vec<Window>,
         child: Holdings,
@@ -118,26 +117,21 @@ impl Filling {
             (meets (part_of self.old).owned (map window_of windows.items))) }
     {
         if self.strays.is_empty() && child.owns_just(&windows) {
-            return paste(alloc, &mut self.so_far.holdings, child, path);
+            return paste(&mut self.so_far.holdings, child, path);
         }
         self.take_strays(path, windows, &child)
     }
 }
 
 /// Takes in the owned places that come back from a task.
-fn paste(
-    alloc: Global,
-    holdings: &mut Holdings,
-    child: Holdings,
-    path: Path,
-) -> Result<(), GatherError>
+fn paste(holdings: &mut Holdings, child: Holdings, path: Path) -> Result<(), GatherError>
     ensures pasted { OnOk result (held holdings.new
         ≡ over (as_owned (owned (held child))) (held holdings.old)) }
     ensures apart { OnOk result (AreApart (owned (held child)) (owned (held holdings.old))) }
     ensures refused { IfErr result (RefusesPaste path
         (AreApart (owned (held child)) (owned (held holdings.old)))) }
 {
-    match holdings.paste(alloc, child) {
+    match holdings.paste(child) {
         Ok(()) => Ok(()),
         Err((error, _)) => match error {
             HoldError::OwnedTwice => Err(GatherError::Double(path)),

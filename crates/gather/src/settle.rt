@@ -89,7 +89,7 @@ impl Stage {
                 self.open(alloc, hole)?;
                 Ok(true)
             }
-            None => self.go_on(alloc),
+            None => self.go_on(),
         }
     }
 
@@ -118,7 +118,7 @@ impl Stage {
 
     /// Fills the hole of the waiting result with the current part, whose own holes are all filled.
     /// Returns false if no result waits.
-    fn go_on(&mut self, alloc: Global) -> Result<bool, GatherError>
+    fn go_on(&mut self) -> Result<bool, GatherError>
         requires { self.old.filling.holes.items ≡ [] }
         ensures leads { OnOk result (Leads (stage_of self.old) (stage_of self.new)) }
         ensures clear { OnOk result
@@ -136,7 +136,7 @@ impl Stage {
                 let WaitingResult { filling, hole } = next;
                 let part = std::mem::replace(&mut self.filling, filling);
                 let child = part.close()?;
-                self.filling.fill(alloc, hole, child)?;
+                self.filling.fill(hole, child)?;
                 Ok(true)
             }
         }

@@ -17,7 +17,7 @@ pub enum HoldError {
     NotHeld,
     /// H2: out of memory, as is possible in `own.carve(alloc, &windows)`.
     OutOfMemory,
-    /// H3: a pasted place is already owned here, as in `own.paste(alloc, others)`.
+    /// H3: a pasted place is already owned here, as in `own.paste(others)`.
     OwnedTwice,
 }
 

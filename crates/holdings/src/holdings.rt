@@ -222,7 +222,7 @@ impl Holdings {
     }
 
     /// Takes in the owned places of others. Their copies are dropped.
-    pub fn paste(&mut self, _alloc: Global, other: Holdings) -> Result<(), (HoldError, Holdings)>
+    pub fn paste(&mut self, other: Holdings) -> Result<(), (HoldError, Holdings)>
         ensures pasted { OnOk result (held self.new
             ≡ over (as_owned (owned (held other))) (held self.old)) }
         ensures apart { OnOk result (AreApart (owned (held other)) (owned (held self.old))) }

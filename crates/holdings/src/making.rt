@@ -7,10 +7,10 @@ ghost use Rattle.blocks.specs.Held.{Owned, as_owned, number_of, numbers};
 ghost use Rattle.holdings.specs.Lists.{listed};
 ghost use Rattle.holdings.specs.Rows.{held_in, in_row};
 
-use crate::pieces::PLACES;
 use crate::row::BlockRow;
 use crate::rows::BlockRows;
 use blocks::block::Block;
+use blocks::numbers::PLACES;
 use std::alloc::{AllocError, Global};
 
 impl BlockRows {

@@ -4,10 +4,8 @@ ghost use Rattle.std.specs.Prelude.{◌≡◌, ◌+◌, ◌/◌, ◌%◌};
 ghost use Rattle.sections.specs.Translation.{window as window_of};
 ghost use Rattle.holdings.specs.Pieces.{behind_piece, piece};
 
+use blocks::numbers::PLACES;
 use sections::window::Window;
-
-/// The number of places of a block.
-pub const PLACES: usize = 256;
 
 /// Splits a window into its places in the block of its first place, and the places after them.
 pub fn cut(window: Window) -> (Window, Window)

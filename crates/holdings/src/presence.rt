@@ -10,10 +10,11 @@ ghost use Rattle.blocks.specs.Held.{IsJustAt, IsThere, IsOnlyAt, owned, owned_nu
 ghost use Rattle.holdings.specs.Rows.{StandsIn, block_in, held_in, held_of};
 ghost use Rattle.holdings.specs.Wanted.{wanted};
 
-use crate::pieces::{PLACES, block_number, cut, offsets};
+use crate::pieces::{block_number, cut, offsets};
 use crate::row::BlockRow;
 use crate::rows::BlockRows;
 use blocks::block::Block;
+use blocks::numbers::PLACES;
 use sections::window::{Place, Window};
 
 /// What a test requires of places.

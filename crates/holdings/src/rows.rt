@@ -1,8 +1,8 @@
 //! Blocks of all arrays.
 
-use crate::pieces::PLACES;
 use crate::row::BlockRow;
 use blocks::block::Block;
+use blocks::numbers::PLACES;
 use sections::window::Place;
 use std::alloc::{AllocError, Global};
 

@@ -12,11 +12,9 @@ use failures::failure::Failure;
 use statement_places::statement_places;
 use std::alloc::{AllocError, Global};
 use syntax::TextPlace;
+use syntax::parser::MOST_BYTES;
 use types::code::Array;
 use types::outcome::Outcome;
-
-/// The maximum number of bytes of a text that spells a program.
-const MOST_BYTES: usize = 1_048_576;
 
 /// Returns the object of an outcome of a text's program, whose arrays are `declared`.
 pub fn outcome_told(

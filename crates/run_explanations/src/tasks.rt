@@ -1,9 +1,7 @@
 //! Runs that exceed the task limit.
 
 use std::alloc::{AllocError, Global};
-
-/// The maximum that `--tasks` allows.
-const MOST_TASKS: u64 = 1_048_576;
+use types::budget::MOST_TASKS;
 
 /// Returns the text after the line of a run that would have started more tasks than allowed.
 pub fn explained_tasks(alloc: Global, tasks: u64) -> Result<String, AllocError> {

@@ -20,7 +20,7 @@ use std::alloc::{AllocError, Global};
 use syntax_tree::tree::Program;
 
 /// The maximum number of bytes of a text.
-const MOST_BYTES: usize = 1_048_576;
+pub const MOST_BYTES: usize = 1_048_576;
 
 /// The maximum number of brackets that can be open at once.
 const MOST_OPEN: usize = 100;

@@ -121,7 +121,7 @@ impl TaskMemory {
     {
         let mut child = self.holdings.share(alloc, reads)?;
         let own = self.holdings.carve(alloc, writes)?;
-        match child.paste(alloc, own) {
+        match child.paste(own) {
             Ok(()) => Ok(child),
             Err((error, _)) => Err(error),
         }

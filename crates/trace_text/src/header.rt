@@ -2,11 +2,8 @@
 
 ghost use Rattle.std.specs.Prelude.{◌≡◌, ◌<◌, ◌≤◌, ◌⊎◌, ◌↔◌, IsNone, IfSome};
 
-use events::worker_id::MOST_WORKERS;
+use events::worker_id::{MOST_WEIGHT, MOST_WORKERS};
 use types::budget::Budget;
-
-/// The maximum weight that a scope issues at a time.
-pub const MOST_WEIGHT: u64 = 4_294_967_296;
 
 /// The settings of a run.
 #[derive(Clone, Copy, PartialEq, Eq, Debug)]

@@ -19,6 +19,9 @@ pub const MOST_STEPS: u32 = 1_000_000_000;
 /// The maximum nesting of asyncs that a budget can allow.
 pub const MOST_NEST: u32 = 1_000;
 
+/// The maximum number of tasks that a run can be allowed.
+pub const MOST_TASKS: u64 = 1_048_576;
+
 impl Budget {
     /// Returns the budget with these numbers, or `None` if one of them is out of range.
     pub fn new(steps: u64, nest: u64) -> Option<Budget>

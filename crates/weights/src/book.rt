@@ -11,6 +11,9 @@ use std::alloc::{AllocError, Global};
 use std::marker::Model;
 use types::path::Path;
 
+/// The maximum number of times that a scope issues weight: 2^31.
+pub const MOST_ISSUES: u64 = 2_147_483_648;
+
 /// Whether some weight is still out.
 #[derive(Clone, Copy, Debug, PartialEq, Eq)]
 pub enum Back {

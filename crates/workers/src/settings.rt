@@ -2,8 +2,9 @@
 
 ghost use Rattle.std.specs.Prelude.{◌≡◌, ◌<◌, ◌≤◌, ◌⊎◌, ◌↔◌, IsNone, IfSome};
 
+use events::worker_id::{MOST_WEIGHT, MOST_WORKERS};
 use trace_text::header::Header;
-use types::budget::Budget;
+use types::budget::{Budget, MOST_TASKS};
 
 /// The limits of a run, and its number of workers.
 #[derive(Clone, Copy, PartialEq, Eq, Debug)]
@@ -20,15 +21,6 @@ pub struct Settings {
     ghost workers_in_range: { (1 ≤ workers) × (workers ≤ 64) },
 }
 
-/// The maximum of the setting `tasks`.
-pub const MOST_TASKS: u64 = 1_048_576;
-
-/// The maximum of the setting `w0`.
-pub const MOST_WEIGHT: u64 = 4_294_967_296;
-
-/// The maximum of the setting `workers`.
-pub const MOST_WORKERS: u64 = 64;
-
 impl Settings {
     /// Returns settings with these numbers, or None if one of them is out of range.
     pub fn new(budget: Budget, tasks: u64, w0: u64, workers: u64) -> Option<Settings>
@@ -42,7 +34,7 @@ impl Settings {
         if tasks < 1 || tasks > MOST_TASKS || w0 < 1 || w0 > MOST_WEIGHT {
             return None;
         }
-        if workers < 1 || workers > MOST_WORKERS {
+        if workers < 1 || workers > MOST_WORKERS as u64 {
             return None;
         }
         Some(Settings {

@@ -63,7 +63,7 @@ fn copied(rt: &impl Abort, alloc: Global, rows: &[WindowNumbers]) -> String {
     let carved = own.copied();
     let shared = copies.copied();
     assert!(rt; shared == 0, "to share copies nothing");
-    let is_back = own.paste(alloc, part).is_ok();
+    let is_back = own.paste(part).is_ok();
     assert!(rt; is_back, "places that aren't owned here");
     let pasted = own.copied().saturating_sub(carved);
     format!(in alloc; "{carved} {pasted}").expect(rt, "memory")
@@ -88,10 +88,10 @@ fn copied_by_halves(rt: &impl Abort, alloc: Global) -> String {
     let low_carved = own.copied();
     let second = own.carve(alloc, &high).expect(rt, "owned places");
     let high_carved = own.copied();
-    let is_back = own.paste(alloc, first).is_ok();
+    let is_back = own.paste(first).is_ok();
     assert!(rt; is_back, "places that aren't owned here");
     let low_pasted = own.copied();
-    let is_back = own.paste(alloc, second).is_ok();
+    let is_back = own.paste(second).is_ok();
     assert!(rt; is_back, "places that aren't owned here");
     let high_pasted = own.copied();
     format!(in alloc; "{low_carved} {high_carved} {low_pasted} {high_pasted}").expect(rt, "memory")

@@ -142,7 +142,7 @@ fn act(
         Paste(of) => {
             let last = all.pop().expect(rt, "holdings");
             let own = all.get_mut(of).expect(rt, "holdings");
-            if let Err((error, back)) = own.paste(alloc, last) {
+            if let Err((error, back)) = own.paste(last) {
                 all.push(back)?;
                 return Err(error);
             }

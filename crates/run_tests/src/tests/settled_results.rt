@@ -182,7 +182,7 @@ fn holdings_of(
     let copies = all.share(alloc, &windows(rt, alloc, copied));
     let own = all.carve(alloc, &windows(rt, alloc, owned));
     let mut holdings = copies.expect(rt, "memory");
-    let pasted = holdings.paste(alloc, own.expect(rt, "memory"));
+    let pasted = holdings.paste(own.expect(rt, "memory"));
     assert!(rt; pasted.is_ok());
     holdings
 }
