@@ -113,7 +113,7 @@ fn start<'s, E, C: Crew, R: Threads + Wait + Sync>(
 ) -> Result<PromisedHandle<C::Report, ReportPromise<C>>, CrewError>
     requires fits { C.fits crew.now kit }
     ensures promise { IfOk result (λ h. h.promise.0.value ≡ crew.now) }
-    ensures refused { IfErr result (λ e. e ≡ Refusal.NoThread) }
+    ensures refused { IfErr result (λ e. e ≡ CrewError.NoThread) }
 {
     let spawned = scope.spawn_with(
         ReportPromise(Snapshot::of(crew)),
