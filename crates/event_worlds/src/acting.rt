@@ -280,7 +280,7 @@ impl<'p> WorldTask<'p> {
         ensures stepped { OnOk result (DidStep self.old self.new) }
         ensures same { OnErr result (self.new ≡ self.old) }
         ensures refused { IfErr result (λ e. e ≡ Illegal) }
-        ensures other { OnErr result ((r : AnyRun) → self.old.doing ≡ Doing.Steps r → ⊥) }
+        ensures other { OnErr result ((r : AnyRun) → self.old.doing ≡ TaskProgress.Steps r → ⊥) }
     {
         let TaskProgress::Steps(_) = &self.doing else {
             return Err(EventError::Illegal);
@@ -380,13 +380,13 @@ impl<'p> WorldTask<'p> {
 
     /// Starts a finish, in whose scope the task has the weight w0. Returns the name of the scope.
     fn open(&mut self, path: &Path, job: WeightedJob<'p>) -> Result<ScopeId, EventError>
-        requires { (r : AnyRun) → self.old.doing ≡ Doing.Opens r
+        requires { (r : AnyRun) → self.old.doing ≡ TaskProgress.Opens r
             → self.old.opened < job.job.budget.steps }
         ensures opened { IfOk result
             (λ id. DidOpen self.old self.new path.now id job.entry.w0) }
         ensures same { OnErr result (IsSame self.old self.new) }
         ensures other { IfErr result (λ e. e ≡ Illegal
-            → (r : AnyRun) → self.old.doing ≡ Doing.Opens r → ⊥) }
+            → (r : AnyRun) → self.old.doing ≡ TaskProgress.Opens r → ⊥) }
     {
         let TaskProgress::Opens(_) = &self.doing else {
             return Err(EventError::Illegal);

@@ -141,11 +141,11 @@ pub(crate) fn take_step<'p>(job: Job<'p>, run: &mut Run<'p>) -> Result<(), Event
     requires job { IsJob job }
     requires task { (c : Course) × IsRunOf job c run.old }
     ensures stepped { OnOk result
-        (IsLooked job.entry (Doing.Runs run.old) (Doing.Steps run.new)) }
+        (IsLooked job.entry (TaskProgress.Runs run.old) (TaskProgress.Steps run.new)) }
     ensures refused { IfErr result
-        (λ e. e ≡ Illegal → IsNotToStep job.entry (Doing.Runs run.old)) }
+        (λ e. e ≡ Illegal → IsNotToStep job.entry (TaskProgress.Runs run.old)) }
     ensures memory { IfErr result
-        (λ e. e ≡ NoMemory → IsNextKind job.entry (Doing.Runs run.old) ToStep) }
+        (λ e. e ≡ NoMemory → IsNextKind job.entry (TaskProgress.Runs run.old) ToStep) }
 {
     if !kind_of_run(run).is_step() {
         return Err(EventError::Illegal);

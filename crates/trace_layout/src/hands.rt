@@ -145,11 +145,11 @@ impl Hands {
     fn going(&self, path: &Path) -> Option<usize>
         ensures none { IfNone result ((k : ℕ) (d : AnySpell) → get is_path self.now.tasks path.now ≡ Some k
             → k < length self.now.spells.items
-            → (slice_index_or self.now.spells.items k d).ending ≡ Ending.Going → ⊥) }
+            → (slice_index_or self.now.spells.items k d).ending ≡ SpellEnd.Going → ⊥) }
         ensures found { IfSome result (λ k. get is_path self.now.tasks path.now ≡ Some k) }
         ensures there { IfSome result (λ k. k < length self.now.spells.items) }
         ensures going { IfSome result (λ k. (d : AnySpell)
-            → (slice_index_or self.now.spells.items k d).ending ≡ Ending.Going) }
+            → (slice_index_or self.now.spells.items k d).ending ≡ SpellEnd.Going) }
         ensures same { (es : List AnyEvent) (n : ℕ) → AreHands es n self.now
             → IfSome result (λ k. (d : AnySpell)
             → (slice_index_or self.now.spells.items k d).path.turns.items ≡ path.now.turns.items) }
@@ -163,16 +163,16 @@ impl Hands {
 impl Spell {
     /// Returns whether no event has ended it.
     fn is_going(&self) -> bool
-        ensures { IsTrue result ↔ (self.now.ending ≡ Ending.Going) }
+        ensures { IsTrue result ↔ (self.now.ending ≡ SpellEnd.Going) }
     {
         matches!(self.ending, SpellEnd::Going)
     }
 
     /// Ends it before this event.
     fn leave(&mut self, number: usize)
-        ensures going { self.old.ending ≡ Ending.Going
-            → self.new ≡ record self.old { ending = Ending.Left; last = number - 1 } }
-        ensures ended { (self.old.ending ≡ Ending.Going → ⊥) → self.new ≡ self.old }
+        ensures going { self.old.ending ≡ SpellEnd.Going
+            → self.new ≡ record self.old { ending = SpellEnd.Left; last = number - 1 } }
+        ensures ended { (self.old.ending ≡ SpellEnd.Going → ⊥) → self.new ≡ self.old }
     {
         if self.is_going() {
             self.last = number.saturating_sub(1);
