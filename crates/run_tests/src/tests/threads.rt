@@ -264,7 +264,8 @@ fn a_scope_issues_weight_two_to_the_31_times(rt: HostRuntime) {
         match inner.replenish(weight) {
             Ok(more) => weight = more,
             Err(late) => {
-                late.back.forfeit();
+                let Late { reason: _, back } = late;
+                back.forfeit();
                 assert!(rt; false, "a scope refused before");
                 return;
             }
