@@ -128,6 +128,8 @@ impl<'p, J: Running> Inner<'p, J> {
         ensures same { OnErr result (self.new ≡ self.old) }
         ensures of_run { OnErr result (IsOwnScope J.job self.old.results self.old.owner) }
     {
+        // For the proof: the scope is used, so what it holds is of the run.
+        let _ = &self.book;
         if self.out() < weight.units() {
             return Err(Late {
                 reason: Reason::NotDue,
