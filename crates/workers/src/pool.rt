@@ -64,8 +64,8 @@ impl<'p, J: Running> Pool<'p, J> {
         alloc: Global,
     ) -> Result<(usize, Deque<Ready<'p, J>>, Parker), AllocError> {
         let number = self.sleep_slots.len();
-        let own = Deque::new(alloc, FIRST_ROOM)?;
-        self.fronts.push(own.front()?)?;
+        let (own, front) = deque::<Ready<'p, J>>(alloc)?;
+        self.fronts.push(front)?;
         self.tables.push(Mutex::new(ScopeTable::new(alloc)))?;
         let parker = Parker::new(alloc)?;
         self.sleep_slots.push(SleepSlot {
@@ -229,4 +229,11 @@ impl<'p, J: Running> Pool<'p, J> {
             None => Err(Trouble::NoScope),
         }
     }
+}
+
+/// Returns a deque, and its front.
+fn deque<T: Drop>(alloc: Global) -> Result<(Deque<T>, Front<T>), AllocError> {
+    let own = Deque::new(alloc, FIRST_ROOM)?;
+    let front = own.front()?;
+    Ok((own, front))
 }
