@@ -9,8 +9,8 @@ use Rattle.command_line.specs.declared.request.Color.{Color}
 use Rattle.command_line.specs.declared.request.Color.TheVariants.{Auto, Always, Never}
 use Rattle.command_line.specs.declared.request.Action.{Action}
 use Rattle.command_line.specs.declared.request.Action.TheVariants.{Answer, Rewrite}
-use Rattle.command_line.specs.declared.request.Command.TheVariants.{Run, Serial, Check, Pairs, Meetings, Explore}
-use Rattle.command_line.specs.declared.request.Command.TheVariants.{Listing, Chrome, Labels, Format}
+use Rattle.command_line.specs.declared.request.Command.TheVariants.{Run, Serial, Check, Pairs, Explore}
+use Rattle.command_line.specs.declared.request.Command.TheVariants.{Listing, Chrome, Labels, Format, Meetings}
 use Rattle.command_line.specs.declared.request.Command.TheVariants.{CheckFormat, CostByLabel, Summary, View}
 use Rattle.command_line.specs.declared.request.Command.TheVariants.{Cost, CostByProcedure, Places, Draw}
 use Rattle.command_words.specs.declared.plain.PlainLine.{PlainLine as rLine}

@@ -4,9 +4,9 @@ ghost use Rattle.std.specs.Prelude.{◌≡◌, ◌∷◌, [], map, option_map, S
 ghost use Rattle.std.specs.String.{string_bytes};
 ghost use Rattle.command_words.specs.Reading.{bare as bare_line, line_of, read, told_line, read_behind};
 ghost use Rattle.command_words.specs.Reading.{read_choosing, read_rest, read_cost, read_format, read_parts};
-ghost use Rattle.command_words.specs.Reading.{no_texts, read_file, read_flaggable, read_flagged, read_optioned};
-ghost use Rattle.command_words.specs.Reading.{read_serial_texts, read_texts, read_whole, read_showing, read_view};
-ghost use Rattle.command_words.specs.Reading.{shown_of, texts_of};
+ghost use Rattle.command_words.specs.Reading.{no_texts, read_file, read_flaggable, read_flagged};
+ghost use Rattle.command_words.specs.Reading.{read_optioned, read_serial_texts, read_texts, read_whole};
+ghost use Rattle.command_words.specs.Reading.{read_showing, read_view, shown_of, texts_of};
 ghost use Rattle.command_line.specs.Requests.{is_file_name as names_file};
 
 use crate::manners::manner_in;

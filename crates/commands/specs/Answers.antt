@@ -53,8 +53,8 @@ use Rattle.failures.specs.declared.failure.Failure.TheVariants.{NoMemory, Choice
 use Rattle.failures.specs.declared.failure.Failure.TheVariants.{NotLaidOut, Trace, Illegal}
 use Rattle.failures.specs.declared.failure.Failure.TheVariants.{CannotWrite, Run as RunFailed}
 use Rattle.command_line.specs.declared.request.Command.{Command}
-use Rattle.command_line.specs.declared.request.Command.TheVariants.{Run, Serial, Check, Listing, Pairs, Meetings}
-use Rattle.command_line.specs.declared.request.Command.TheVariants.{Explore, Labels, Places, Format}
+use Rattle.command_line.specs.declared.request.Command.TheVariants.{Run, Serial, Check, Listing, Pairs}
+use Rattle.command_line.specs.declared.request.Command.TheVariants.{Meetings, Explore, Labels, Places, Format}
 use Rattle.command_line.specs.declared.request.Command.TheVariants.{CheckFormat, View, Summary, Draw, Chrome}
 use Rattle.command_line.specs.declared.request.Command.TheVariants.{Cost, CostByLabel, CostByProcedure}
 
