@@ -50,39 +50,53 @@ module _ {T : Type 0} where
 
   pub puts : (v : Tally T) (xs : List T) → Pushes IsBalanced 0 v xs (λ w. w ≡ tally (v.put ++ xs) v.taken)
   puts v xs left ends was at =
-      let w : Tally T = tally (v.put ++ xs) v.taken in
-      (w, (λ weigh.
-          let before = ap (sum_by weigh) (put_in-first ends v at) in
-          let after = ap (sum_by weigh) (put_in-set_first ends v w at) in
-          let more = sum_by-append weigh v.put xs in
-          let taken = sum_by-set (λ (u : Tally T). sum_by weigh u.taken) ends 0 v w at in
-          omega (arith, was weigh, before, after, more, taken, sum_by-append weigh left xs)), refl)
+      let w : Tally T = tally (v.put ++ xs) v.taken in (
+        w,
+        (λ weigh.
+            let before = ap (sum_by weigh) (put_in-first ends v at) in
+            let after = ap (sum_by weigh) (put_in-set_first ends v w at) in
+            let more = sum_by-append weigh v.put xs in
+            let taken = sum_by-set (λ (u : Tally T). sum_by weigh u.taken) ends 0 v w at in
+            omega (arith, was weigh, before, after, more, taken, sum_by-append weigh left xs)),
+        refl,
+      )
 
   pub takes : (port : ℕ) (v : Tally T) (most : ℕ) → Takes IsBalanced port v most (λ xs w. w ≡ tally v.put (v.taken ++ xs))
   takes port v most xs left ends some_task few was at =
-      let w : Tally T = tally v.put (v.taken ++ xs) in
-      (w, (λ weigh.
-          let put = ap (sum_by weigh) (put_in-set ends port v w at refl) in
-          let more = sum_by-append weigh v.taken xs in
-          let taken = sum_by-set (λ (u : Tally T). sum_by weigh u.taken) ends port v w at in
-          omega (arith, was weigh, put, more, taken, sum_by-append weigh xs left)), refl)
+      let w : Tally T = tally v.put (v.taken ++ xs) in (
+        w,
+        (λ weigh.
+            let put = ap (sum_by weigh) (put_in-set ends port v w at refl) in
+            let more = sum_by-append weigh v.taken xs in
+            let taken = sum_by-set (λ (u : Tally T). sum_by weigh u.taken) ends port v w at in
+            omega (arith, was weigh, put, more, taken, sum_by-append weigh xs left)),
+        refl,
+      )
 
   pub pops : (port : ℕ) (v : Tally T) → Pops IsBalanced port v (λ xs w. w ≡ tally v.put (v.taken ++ xs))
   pops port v x left ends was at =
-      let w : Tally T = tally v.put (v.taken ++ x ∷ []) in
-      (w, (λ weigh.
-          let put = ap (sum_by weigh) (put_in-set ends port v w at refl) in
-          let more = sum_by-append weigh v.taken (x ∷ []) in
-          let taken = sum_by-set (λ (u : Tally T). sum_by weigh u.taken) ends port v w at in
-          omega (arith, was weigh, put, more, taken, sum_by-append weigh left (x ∷ []))), refl)
+      let w : Tally T = tally v.put (v.taken ++ x ∷ []) in (
+        w,
+        (λ weigh.
+            let put = ap (sum_by weigh) (put_in-set ends port v w at refl) in
+            let more = sum_by-append weigh v.taken (x ∷ []) in
+            let taken = sum_by-set (λ (u : Tally T). sum_by weigh u.taken) ends port v w at in
+            omega (arith, was weigh, put, more, taken, sum_by-append weigh left (x ∷ []))),
+        refl,
+      )
 
   -- a batch is a steal for each of its tasks
   pub takes_batch : (port : ℕ) (v : Tally T) (most : ℕ)
       → TakesBatch IsBalanced port v most (λ v xs w. w ≡ tally v.put (v.taken ++ xs))
-  takes_batch port v most =
-      (takes port v most, λ xs u first. (takes port u 1, λ ys w next.
+  takes_batch port v most = (
+    takes port v most,
+    λ xs u first. (
+      takes port u 1,
+      λ ys w next.
           next ∙ ap (λ (z : Tally T). tally z.put (z.taken ++ ys)) first
-          ∙ ap (λ l. tally v.put l) (append_assoc v.taken xs ys)))
+          ∙ ap (λ l. tally v.put l) (append_assoc v.taken xs ys),
+    ),
+  )
 
   -- what the other ends have taken out
   abbrev taken_by_all : List (Tally T) → List T
