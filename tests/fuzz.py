@@ -97,6 +97,8 @@ def try_format(case, checked):
     case.same("list after fmt", case.run("list", "case.afx"), case.run("list", "laid.afx"))
     if checked.status == 0 or checked.err.startswith(b"C1"):
         case.same("mhp after fmt", case.run("mhp", "case.afx"), case.run("mhp", "laid.afx"))
+        case.same("mhp --accesses after fmt", case.run("mhp", "case.afx", "--accesses"),
+                  case.run("mhp", "laid.afx", "--accesses"))
 
 
 def try_racy(case):

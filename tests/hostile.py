@@ -108,8 +108,8 @@ def deep_texts():
 
 
 # What a text that is as deep or long as it may be is tried with. A check of very many labels takes its time.
-WAYS = (["check"], ["list"], ["list", "--lines"], ["fmt"], ["fmt", "--check"], ["mhp"], ["cost"], ["bench"],
-        ["serial"], ["run", "--workers", "1"], ["run", "--workers", "8"], ["explore", "--random", "1"],
+WAYS = (["check"], ["list"], ["list", "--lines"], ["fmt"], ["fmt", "--check"], ["mhp"], ["mhp", "--accesses"],
+        ["cost"], ["bench"], ["serial"], ["run", "--workers", "1"], ["run", "--workers", "8"], ["explore", "--random", "1"],
         ["run", "--workers", "2", "--trace", "deep.trace"], ["check", "--explain"], ["check", "--format", "json"],
         ["serial", "--explain"])
 # These texts need up to 520 KB, so they are counted with a little more, and known_open tries them with 512 KB. Brackets and

@@ -174,6 +174,7 @@ def cases_of(name, text, given, shared, alone):
     options = ["--input", f"{name}.json"] if given else []
     for command in ("check", "mhp", "list", "fmt"):
         yield Case(name, [command, file])
+    yield Case(name, ["mhp", file, "--accesses"])
     yield Case(name, ["fmt", file, "--write"], file, text.encode())
     yield Case(name, ["serial", file, *options, *shared])
     yield Case(name, ["explore", file, *options, "--random", "1", *shared])

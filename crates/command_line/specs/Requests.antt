@@ -6,7 +6,7 @@ use Rattle.types.specs.Outcome.{Budget}
 use Rattle.types.specs.Translation.{budget as budget_of}
 use Rattle.command_line.specs.declared.request.Command.{Command}
 use Rattle.command_line.specs.declared.request.Command.TheVariants.{Run, Serial, Check, Pairs, Explore}
-use Rattle.command_line.specs.declared.request.Command.TheVariants.{Places, Listing, Labels, Format}
+use Rattle.command_line.specs.declared.request.Command.TheVariants.{Places, Listing, Labels, Format, Meetings}
 use Rattle.command_line.specs.declared.request.Command.TheVariants.{CheckFormat, View, Summary, Draw, Chrome}
 use Rattle.command_line.specs.declared.request.Command.TheVariants.{Cost, CostByLabel, CostByProcedure}
 use Rattle.command_line.specs.declared.request.Action.{Action}
@@ -443,6 +443,10 @@ pub data AsksPlainly (words : List (List ℕ)) (a : Asked) : Type 0 where
       → words ≡ codes "fmt" ∷ file ∷ codes "--write" ∷ [] → a ≡ rewriting file → AsksPlainly words a
   to_pair : (file : List ℕ) → IsTrue (is_file_name file)
       → words ≡ codes "mhp" ∷ file ∷ [] → a ≡ plain Pairs file → AsksPlainly words a
+  to_meet : (file : List ℕ) → IsTrue (is_file_name file)
+      → words ≡ codes "mhp" ∷ codes "--accesses" ∷ file ∷ [] → a ≡ plain Meetings file → AsksPlainly words a
+  to_meet_behind : (file : List ℕ) → IsTrue (is_file_name file)
+      → words ≡ codes "mhp" ∷ file ∷ codes "--accesses" ∷ [] → a ≡ plain Meetings file → AsksPlainly words a
   to_cost : (file : List ℕ) (o : Options) → IsTrue (is_file_name file) → AreForMeasuring o
       → words ≡ codes "cost" ∷ file ∷ measured_words_of (texts_by o) → a ≡ optioned Cost file o
       → AsksPlainly words a

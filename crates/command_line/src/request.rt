@@ -21,6 +21,8 @@ pub enum Command {
     Places,
     /// `mhp`: write the pairs of its labels that may run together.
     Pairs,
+    /// `mhp --accesses`: write the pairs of accesses of each procedure that may run together.
+    Meetings,
     /// `explore`: run it over one shared store by given choices.
     Explore,
     /// `fmt`: write its text in the canonical layout, with its comments.

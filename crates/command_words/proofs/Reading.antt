@@ -13,7 +13,7 @@ use Rattle.std.proofs.lemmas.Option.{none-some}
 use Rattle.command_words.specs.declared.plain.PlainLine.{PlainLine as rLine}
 use Rattle.command_line.specs.declared.request.Action.{Action}
 use Rattle.command_line.specs.declared.request.Action.TheVariants.{Answer, Rewrite}
-use Rattle.command_line.specs.declared.request.Command.TheVariants.{Run, Serial, Check, Listing, Pairs, Explore}
+use Rattle.command_line.specs.declared.request.Command.TheVariants.{Run, Serial, Check, Listing, Pairs, Meetings, Explore}
 use Rattle.command_line.specs.declared.request.Command.TheVariants.{Labels, Places, Format, CheckFormat, Cost}
 use Rattle.command_line.specs.declared.request.Color.{Color}
 use Rattle.command_line.specs.declared.request.Color.TheVariants.{Auto, Always, Never}
@@ -35,7 +35,8 @@ use Rattle.command_line.specs.Requests.{AreForMeasuring, measured_words_behind, 
 use Rattle.command_line.specs.Requests.{Choosing, Listed, InFile, Random, IsRightChoosing, choosing_words_of, file_of, list_of}
 use Rattle.command_line.specs.Requests.{asked_of, seed_of, serial_words_of, texts_by, words_of}
 use Rattle.command_line.specs.Requests.{to_label, to_place, to_place_behind, to_format, to_check_format, to_check_format_behind}
-use Rattle.command_line.specs.Requests.{by_no_word, to_run, to_run_on_one_thread, to_check, to_list, to_list_behind, to_pair, to_explore}
+use Rattle.command_line.specs.Requests.{by_no_word, to_run, to_run_on_one_thread, to_check, to_list, to_list_behind, to_explore}
+use Rattle.command_line.specs.Requests.{to_pair, to_meet, to_meet_behind}
 use Rattle.shared_lemmas.proofs.Truths.{if_false, if_true}
 
 -- ---- options in order
@@ -323,6 +324,13 @@ read_places_behind file named =
     if_false (bytes_eq file (codes "--lines") && false) _ _ (and-false (bytes_eq file (codes "--lines")))
     ∙ read_named (Answer Places) file named
 
+-- and that of `mhp`
+read_accesses_behind : (file : List ℕ) → IsTrue (is_file_name file)
+    → read_plain (codes "mhp" ∷ file ∷ codes "--accesses" ∷ []) ≡ Some (bare (Answer Meetings) file)
+read_accesses_behind file named =
+    if_false (bytes_eq file (codes "--accesses") && false) _ _ (and-false (bytes_eq file (codes "--accesses")))
+    ∙ read_named (Answer Meetings) file named
+
 -- ---- names of files
 
 named_differs : (file option : List ℕ) → is_file_name option ≡ false → IsTrue (is_file_name file)
@@ -429,6 +437,10 @@ asks_line words a (to_check_format file named is asked) =
 asks_line words a (to_check_format_behind file named is asked) =
     bare_line words a (Answer CheckFormat) file (ap read_plain is ∙ read_check_behind file named) asked
 asks_line words a (to_pair file named is asked) = bare_line words a (Answer Pairs) file (ap read_plain is ∙ read_named (Answer Pairs) file named) asked
+asks_line words a (to_meet file named is asked) =
+    bare_line words a (Answer Meetings) file (ap read_plain is ∙ if_true (is_file_name file) _ _ named) asked
+asks_line words a (to_meet_behind file named is asked) =
+    bare_line words a (Answer Meetings) file (ap read_plain is ∙ read_accesses_behind file named) asked
 asks_line words a (to_rewrite file named is asked) =
     bare_line words a Rewrite file (ap read_plain is ∙ read_write_before file named) asked
 asks_line words a (to_rewrite_behind file named is asked) =
@@ -507,9 +519,12 @@ plainly_begun words a (to_format file named is asked) = begins words _ file _ na
 plainly_begun words a (to_check_format_behind file named is asked) = begins words _ file _ named is
 plainly_begun words a (to_rewrite_behind file named is asked) = begins words _ file _ named is
 plainly_begun words a (to_pair file named is asked) = begins words _ file _ named is
+plainly_begun words a (to_meet_behind file named is asked) = begins words _ file _ named is
 plainly_begun words a (to_list file named is asked) =
     subst BeginsPlainly (sym is) (record { explain = refl; color = refl; form = refl })
 plainly_begun words a (to_place file named is asked) =
+    subst BeginsPlainly (sym is) (record { explain = refl; color = refl; form = refl })
+plainly_begun words a (to_meet file named is asked) =
     subst BeginsPlainly (sym is) (record { explain = refl; color = refl; form = refl })
 plainly_begun words a (to_check_format file named is asked) =
     subst BeginsPlainly (sym is) (record { explain = refl; color = refl; form = refl })

@@ -10,7 +10,7 @@ use Rattle.command_line.specs.declared.request.Color.TheVariants.{Auto, Always, 
 use Rattle.command_line.specs.declared.request.Action.{Action}
 use Rattle.command_line.specs.declared.request.Action.TheVariants.{Answer, Rewrite}
 use Rattle.command_line.specs.declared.request.Command.TheVariants.{Run, Serial, Check, Pairs, Explore}
-use Rattle.command_line.specs.declared.request.Command.TheVariants.{Listing, Chrome, Labels, Format}
+use Rattle.command_line.specs.declared.request.Command.TheVariants.{Listing, Chrome, Labels, Format, Meetings}
 use Rattle.command_line.specs.declared.request.Command.TheVariants.{CheckFormat, CostByLabel, Summary, View}
 use Rattle.command_line.specs.declared.request.Command.TheVariants.{Cost, CostByProcedure, Places, Draw}
 use Rattle.command_words.specs.declared.plain.PlainLine.{PlainLine as rLine}
@@ -183,11 +183,6 @@ read_format one (other ∷ []) =
     (read_flagged (codes "--write") Rewrite one other)
 read_format one (other ∷ third ∷ behind) = None
 
--- the arguments after a command that takes only a file
-abbrev pub read_alone : Action → (file : List ℕ) → (behind : List (List ℕ)) → Option Line
-read_alone action file [] = read_file action file
-read_alone action file (other ∷ behind) = None
-
 -- the arguments after the trace to be shown, and how to show it
 abbrev pub shown_line : (file trace : List ℕ) → (input : Option (List ℕ)) → Action × Option (List ℕ)
     → Option Line
@@ -238,7 +233,8 @@ read_behind command file behind =
     then read_flaggable (Answer Check) (codes "--list") (Answer Listing) file behind else
     (if bytes_eq command (codes "list")
     then read_flaggable (Answer Labels) (codes "--lines") (Answer Places) file behind else
-    (if bytes_eq command (codes "mhp") then read_alone (Answer Pairs) file behind else
+    (if bytes_eq command (codes "mhp")
+    then read_flaggable (Answer Pairs) (codes "--accesses") (Answer Meetings) file behind else
     (if bytes_eq command (codes "fmt") then read_format file behind else
     (if bytes_eq command (codes "explore")
     then read_optioned (Answer Explore) file (read_choosing behind) else

@@ -87,7 +87,7 @@ fn action_asked(word: &str, given: &ArgMatches<'_>) -> Option<Action> {
         "serial" => Action::Answer(Command::Serial),
         "check" => Action::Answer(checking(given)),
         "list" => Action::Answer(listing(given)),
-        "mhp" => Action::Answer(Command::Pairs),
+        "mhp" => Action::Answer(pairing(given)),
         "cost" => Action::Answer(costing(given)),
         "explore" => Action::Answer(Command::Explore),
         "view" => Action::Answer(viewing(given)),
@@ -110,6 +110,15 @@ fn listing(given: &ArgMatches<'_>) -> Command {
         Command::Places
     } else {
         Command::Labels
+    }
+}
+
+/// Returns which command `mhp` is.
+fn pairing(given: &ArgMatches<'_>) -> Command {
+    if given.get_flag("accesses") {
+        Command::Meetings
+    } else {
+        Command::Pairs
     }
 }
 

@@ -2,11 +2,11 @@
 
 ghost use Rattle.std.specs.Prelude.{◌≡◌, ◌∷◌, [], map, option_map, Some};
 ghost use Rattle.std.specs.String.{string_bytes};
-ghost use Rattle.command_words.specs.Reading.{bare as bare_line, line_of, read, told_line, read_alone, read_behind};
+ghost use Rattle.command_words.specs.Reading.{bare as bare_line, line_of, read, told_line, read_behind};
 ghost use Rattle.command_words.specs.Reading.{read_choosing, read_rest, read_cost, read_format, read_parts};
-ghost use Rattle.command_words.specs.Reading.{no_texts, read_file, read_flaggable, read_flagged, read_optioned};
-ghost use Rattle.command_words.specs.Reading.{read_serial_texts, read_texts, read_whole, read_showing, read_view};
-ghost use Rattle.command_words.specs.Reading.{shown_of, texts_of};
+ghost use Rattle.command_words.specs.Reading.{no_texts, read_file, read_flaggable, read_flagged};
+ghost use Rattle.command_words.specs.Reading.{read_optioned, read_serial_texts, read_texts, read_whole};
+ghost use Rattle.command_words.specs.Reading.{read_showing, read_view, shown_of, texts_of};
 ghost use Rattle.command_line.specs.Requests.{is_file_name as names_file};
 
 use crate::manners::manner_in;
@@ -116,7 +116,13 @@ fn line_behind<'w>(command: &str, file: &'w str, behind: &'w [String]) -> Option
             behind,
         )
     } else if command == "mhp" {
-        alone_line(Answer(Command::Pairs), file, behind)
+        flagged_line(
+            Answer(Command::Pairs),
+            "--accesses",
+            Answer(Command::Meetings),
+            file,
+            behind,
+        )
     } else if command == "fmt" {
         format_line(file, behind)
     } else if command == "explore" {
@@ -359,17 +365,6 @@ fn format_line<'w>(one: &'w str, others: &'w [String]) -> Option<PlainLine<'w>>
             None => flag_line("--write", Action::Rewrite, one, other.as_str()),
         },
         [_, _, ..] => None,
-    }
-}
-
-/// Returns the line of a command that takes only a file.
-fn alone_line<'w>(action: Action, file: &'w str, behind: &'w [String]) -> Option<PlainLine<'w>>
-    ensures { option_map line_of result
-        ≡ read_alone action file.now (map string_bytes behind.now) }
-{
-    match behind {
-        [] => file_line(action, file),
-        [_, ..] => None,
     }
 }
 

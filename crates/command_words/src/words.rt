@@ -1,6 +1,7 @@
 //! The arguments of a command line.
 
-ghost use Rattle.std.specs.Prelude.{ℕ, ◌≡◌, ◌∷◌, [], codes, IfOk, IsErrAnd, IsOkAnd, IsSomeAnd, IsTrue, List, map, Some, true, false};
+ghost use Rattle.std.specs.Prelude.{ℕ, ◌≡◌, ◌∷◌, [], List, map, Some, true, false, codes};
+ghost use Rattle.std.specs.Prelude.{IfOk, IsErrAnd, IsOkAnd, IsSomeAnd, IsTrue};
 ghost use Rattle.std.specs.String.{string_bytes};
 ghost use Rattle.command_words.specs.Orders.{AsText, AsObject, Times, Tests, Order as OrderIn, Orders};
 ghost use Rattle.command_words.specs.Orders.{AsksForObject, names_once, order as order_said, subject_of};

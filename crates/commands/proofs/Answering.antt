@@ -6,7 +6,7 @@ use Rattle.std.proofs.Math.Dec.{ltb}
 use Rattle.std.proofs.lemmas.Bool.{ltb-false, ltb-true}
 use Rattle.std.specs.List.{flat_map}
 use Rattle.shared_lemmas.proofs.Results.{ok_is_no_error}
-use Rattle.std.specs.Prelude.{◌↔◌, ℤ, IfErr, IfOk, IsErrAnd, Bool, true, false}
+use Rattle.std.specs.Prelude.{◌↔◌, ℤ, IfErr, IfOk, IsErrAnd, Bool, length, suc, true, false}
 use Rattle.std.specs.Str.{chars}
 use Rattle.std.specs.Str.Lines.{lines}
 use Rattle.syntax.specs.Canonical.{listed}
@@ -29,7 +29,7 @@ use Rattle.parallel_relation.specs.Pairs.{ArePairs, AreListed, HasPair}
 use Rattle.parallel_relation.specs.Together.{LabelsMeet}
 use Rattle.parallel_relation.specs.declared.pairs.Pairs.{Pairs as KeptPairs}
 use Rattle.race_checker.specs.Clash.{IsAccepted}
-use Rattle.commands.specs.Answers.{Answers, AnswersExplore, AnswersPairs, TellsAccepted, accepted_told, command_about}
+use Rattle.commands.specs.Answers.{Answers, AnswersExplore, AnswersMeetings, AnswersPairs, TellsAccepted, accepted_told, command_about}
 use Rattle.commands.specs.Answers.{Explores, HasInput, IsExplored, LacksInput}
 use Rattle.commands.specs.Answers.{Answer, Does, Done, Explains, Failed, IsCodeOf, IsRunBy, LooksForRaces, Shows}
 use Rattle.commands.specs.Answers.{TellsNoCode, TellsNotAccepted, TellsNotBegun, TellsNotGiven, TestsRules}
@@ -48,6 +48,7 @@ use Rattle.std.proofs.lemmas.Str.{encodes-chars}
 use Rattle.shared_lemmas.proofs.Truths.{false_true}
 use Rattle.printing.specs.Appending.{Writes}
 use Rattle.commands.specs.Chosen.{ComesTo}
+use Rattle.commands.specs.MeetingLines.{HasLines}
 use Rattle.files.specs.Choosing.{TellsNoChoices}
 use Rattle.printing.specs.ExploredText.{open_text}
 use Rattle.files.specs.Held.{Held, TellsNoInput}
@@ -322,6 +323,16 @@ pairs_answer text code kept list is_code are listed = record {
   pairs = list;
   listed = listed_as (HasPair kept) (LabelsMeet code) are list listed;
   told_is = refl;
+  status_is = refl;
+}
+
+-- the pairs of accesses that may run together
+pub meetings_answer : (text told lines : List ℕ) (code : Program) → IsCodeOf text code → told ≡ lines
+    → HasLines code (suc (length code.procedures)) lines → AnswersMeetings text told 0
+meetings_answer text told lines code is_code is has = record {
+  code = code;
+  is_code = is_code;
+  lines_are = subst (HasLines code (suc (length code.procedures))) (sym is) has;
   status_is = refl;
 }
 

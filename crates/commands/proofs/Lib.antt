@@ -1,3 +1,4 @@
 pub mod Answering
 pub mod Looked
+pub mod MeetingLines
 pub mod Rewriting

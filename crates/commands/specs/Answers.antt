@@ -1,6 +1,6 @@
 -- The answers of commands to the text of a program, and the reasons for failures.
 use Rattle.std.specs.Prelude.{ℕ, ℤ, ◌≡◌, ◌≢◌, ◌⊎◌, ◌+◌, ◌++◌, List, [], Bool, false, IsTrue}
-use Rattle.std.specs.Prelude.{Option, Some, is_some, Result, MatchResult}
+use Rattle.std.specs.Prelude.{Option, Some, is_some, Result, MatchResult, length, suc}
 use Rattle.std.specs.Io.KnownBytes.{Appends, Keeps}
 use Rattle.std.specs.List.{flat_map}
 use Rattle.std.specs.Str.{chars, IsUtf8}
@@ -34,6 +34,7 @@ use Rattle.race_checker.specs.Races.{IsLeastRace, Race as ProgramRace}
 use Rattle.printing.specs.Appending.{AppendsBeginning}
 use Rattle.gather.specs.RunErrors.{IsRunCause}
 use Rattle.commands.specs.Chosen.{ComesTo, HasLeaves}
+use Rattle.commands.specs.MeetingLines.{HasLines}
 use Rattle.commands.specs.declared.costing.Shares.{Shares}
 use Rattle.commands.specs.declared.costing.Shares.TheVariants.{Untold, ByLabel, ByProcedure}
 use Rattle.commands.specs.declared.telling.About.{About}
@@ -53,7 +54,7 @@ use Rattle.failures.specs.declared.failure.Failure.TheVariants.{NotLaidOut, Trac
 use Rattle.failures.specs.declared.failure.Failure.TheVariants.{CannotWrite, Run as RunFailed}
 use Rattle.command_line.specs.declared.request.Command.{Command}
 use Rattle.command_line.specs.declared.request.Command.TheVariants.{Run, Serial, Check, Listing, Pairs}
-use Rattle.command_line.specs.declared.request.Command.TheVariants.{Explore, Labels, Places, Format}
+use Rattle.command_line.specs.declared.request.Command.TheVariants.{Meetings, Explore, Labels, Places, Format}
 use Rattle.command_line.specs.declared.request.Command.TheVariants.{CheckFormat, View, Summary, Draw, Chrome}
 use Rattle.command_line.specs.declared.request.Command.TheVariants.{Cost, CostByLabel, CostByProcedure}
 
@@ -92,6 +93,7 @@ IsRunBy CostByProcedure code = Unit {0}
 IsRunBy Check code = ⊥
 IsRunBy Listing code = ⊥
 IsRunBy Pairs code = ⊥
+IsRunBy Meetings code = ⊥
 IsRunBy Labels code = ⊥
 IsRunBy Places code = ⊥
 IsRunBy Format code = ⊥
@@ -198,6 +200,13 @@ pub record TellsPairs (text : List ℕ) (text_of : List (ℕ × ℕ) → List �
 abbrev pub AnswersPairs : (text told : List ℕ) → (status : ℕ) → Type 0
 AnswersPairs text = TellsPairs text (flat_map pair_text)
 
+-- `mhp --accesses`: the pairs of accesses of each procedure and of `main` that may run together
+pub record AnswersMeetings (text told : List ℕ) (status : ℕ) : Type 0 where
+  pub code : Program
+  pub is_code : IsCodeOf text code
+  pub lines_are : HasLines code (suc (length code.procedures)) told
+  pub status_is : status ≡ 0
+
 -- `list`: the listing of the text's program, even if it breaks rules
 pub record AnswersLabels (text told : List ℕ) (status : ℕ) : Type 0 where
   pub program : tree.Program
@@ -258,6 +267,7 @@ Answers Serial s held text told status = AnswersSerial s held text told status
 Answers Check s held text told status = TellsAccepted text (accepted_told Counts) told status
 Answers Listing s held text told status = TellsAccepted text (accepted_told Lines) told status
 Answers Pairs s held text told status = AnswersPairs text told status
+Answers Meetings s held text told status = AnswersMeetings text told status
 Answers Explore s held text told status = AnswersExplore s held text told status
 Answers Labels s held text told status = AnswersLabels text told status
 Answers Places s held text told status = AnswersPlaces text told status
@@ -290,6 +300,7 @@ TestsRules Serial = Unit {0}
 TestsRules Check = Unit {0}
 TestsRules Listing = Unit {0}
 TestsRules Pairs = Unit {0}
+TestsRules Meetings = Unit {0}
 TestsRules Explore = Unit {0}
 TestsRules Cost = Unit {0}
 TestsRules CostByLabel = Unit {0}
@@ -330,6 +341,7 @@ LooksForRaces Draw = Unit {0}
 LooksForRaces Chrome = Unit {0}
 LooksForRaces Serial = ⊥
 LooksForRaces Pairs = ⊥
+LooksForRaces Meetings = ⊥
 LooksForRaces Labels = ⊥
 LooksForRaces Places = ⊥
 LooksForRaces Format = ⊥

@@ -1,4 +1,5 @@
 pub mod Answers
 pub mod Chosen
+pub mod MeetingLines
 pub mod Outcomes
 pub mod Rewriting

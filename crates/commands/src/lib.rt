@@ -2,6 +2,7 @@
 
 #![tactic(auto)]
 
+pub mod accesses;
 pub mod costing;
 pub mod explaining;
 pub mod exploring;

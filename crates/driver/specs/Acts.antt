@@ -16,7 +16,7 @@ use Rattle.command_line.specs.declared.request.Action.{Action}
 use Rattle.command_line.specs.declared.request.Action.TheVariants.{Answer as AnswerBy, Rewrite}
 use Rattle.command_line.specs.declared.request.Command.{Command}
 use Rattle.command_line.specs.declared.request.Command.TheVariants.{Run, Serial, Check, Listing, Pairs}
-use Rattle.command_line.specs.declared.request.Command.TheVariants.{Explore, Labels, Places, Format}
+use Rattle.command_line.specs.declared.request.Command.TheVariants.{Meetings, Explore, Labels, Places, Format}
 use Rattle.command_line.specs.declared.request.Command.TheVariants.{CheckFormat, View, Summary, Draw, Chrome}
 use Rattle.command_line.specs.declared.request.Command.TheVariants.{Cost, CostByLabel, CostByProcedure}
 use Rattle.failures.specs.declared.failure.Failure.{Failure}
@@ -51,6 +51,7 @@ Leaves Serial s text held later r = later ≡ held
 Leaves Check s text held later r = later ≡ held
 Leaves Listing s text held later r = later ≡ held
 Leaves Pairs s text held later r = later ≡ held
+Leaves Meetings s text held later r = later ≡ held
 Leaves Explore s text held later r = later ≡ held
 Leaves Labels s text held later r = later ≡ held
 Leaves Places s text held later r = later ≡ held

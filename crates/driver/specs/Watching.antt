@@ -6,7 +6,7 @@ use Rattle.command_line.specs.declared.request.Action.{Action}
 use Rattle.command_line.specs.declared.request.Action.TheVariants.{Answer as AnswerBy, Rewrite}
 use Rattle.command_line.specs.declared.request.Command.{Command}
 use Rattle.command_line.specs.declared.request.Command.TheVariants.{Run, Serial, Check, Listing, Pairs}
-use Rattle.command_line.specs.declared.request.Command.TheVariants.{Explore, Labels, Places, Format}
+use Rattle.command_line.specs.declared.request.Command.TheVariants.{Meetings, Explore, Labels, Places, Format}
 use Rattle.command_line.specs.declared.request.Command.TheVariants.{CheckFormat, View, Summary, Draw, Chrome}
 use Rattle.command_line.specs.declared.request.Command.TheVariants.{Cost, CostByLabel, CostByProcedure}
 use Rattle.command_words.specs.Orders.{Order, AsText, AsObject, Times, Tests, command_of}
@@ -20,6 +20,7 @@ is_watched Run s = false
 is_watched Check s = false
 is_watched Listing s = false
 is_watched Pairs s = false
+is_watched Meetings s = false
 is_watched Explore s = false
 is_watched Labels s = false
 is_watched Places s = false

@@ -10,6 +10,7 @@ ghost use Rattle.driver.specs.declared.doing.TextOrder.TheVariants.{Answering};
 use crate::loaded::Loaded;
 use crate::tracing::run_of;
 use command_line::request::{Action, Command};
+use commands::accesses::list_accesses;
 use commands::costing::{Shares, tell_cost};
 use commands::formatting::{check_format, format};
 use commands::listing::{list_labels, list_places};
@@ -65,6 +66,7 @@ pub fn perform<R: Threads + Wait + Sync, F: FileSource, O: Write, W: Watch>(
             Command::CostByLabel => tell_cost(alloc, Shares::ByLabel, question, files, out),
             Command::CostByProcedure => tell_cost(alloc, Shares::ByProcedure, question, files, out),
             Command::Pairs => pairs(alloc, text, out),
+            Command::Meetings => list_accesses(alloc, text, out),
             Command::Explore => run_by_choices(rt, alloc, question, files, out),
             Command::View => view(rt, alloc, Look::Table, question, files, out),
             Command::Summary => view(rt, alloc, Look::Numbers, question, files, out),

@@ -161,7 +161,7 @@ impl Failure {
 }
 
 /// Returns the procedure with this number. `main` is numbered after the others.
-fn procedure_of(code: &Program, procedure: ProcedureId) -> &Procedure
+pub fn procedure_of(code: &Program, procedure: ProcedureId) -> &Procedure
     ensures { plain_procedure result.now ≡ told_procedure (program code.now) procedure.number }
 {
     match code.procedures.get(procedure.number) {
@@ -181,8 +181,8 @@ fn race_in(alloc: Global, procedure: &Procedure, race: Race) -> Result<Failure, 
     })
 }
 
-/// Returns an access of a section as text.
-fn section_told(
+/// Returns an access of a section as the message of a race prints it: `2 write a`.
+pub fn section_told(
     alloc: Global,
     procedure: &Procedure,
     access: effects::access::Access,

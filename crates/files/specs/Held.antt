@@ -11,7 +11,8 @@ use Rattle.types.specs.declared.input_error.InputError.{InputError}
 use Rattle.failures.specs.declared.failure.Failure.{Failure}
 use Rattle.failures.specs.declared.failure.Failure.TheVariants.{CannotRead, NotUtf8, Syntax, Input, NoMemory}
 use Rattle.files.specs.declared.file_source.FileError.{FileError}
-use Rattle.files.specs.declared.file_source.FileError.TheVariants.{Failed as Unread, NoMemory as NoMemoryInFile}
+use Rattle.files.specs.declared.file_source.FileError.TheVariants.{Failed as Unread}
+use Rattle.files.specs.declared.file_source.FileError.TheVariants.{NoMemory as NoMemoryInFile}
 
 -- the bytes of a file, or why there are none
 abbrev pub Bytes : Type 0

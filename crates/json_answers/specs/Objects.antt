@@ -15,7 +15,7 @@ use Rattle.printing.specs.OutcomeText.{status_of}
 use Rattle.command_line.specs.Requests.{Settings}
 use Rattle.command_line.specs.declared.request.Command.{Command}
 use Rattle.command_line.specs.declared.request.Command.TheVariants.{Run, Serial, Check, Listing, Pairs}
-use Rattle.command_line.specs.declared.request.Command.TheVariants.{Explore, Labels, Places, Format}
+use Rattle.command_line.specs.declared.request.Command.TheVariants.{Meetings, Explore, Labels, Places, Format}
 use Rattle.command_line.specs.declared.request.Command.TheVariants.{CheckFormat, View, Summary, Draw, Chrome}
 use Rattle.command_line.specs.declared.request.Command.TheVariants.{Cost, CostByLabel, CostByProcedure}
 use Rattle.files.specs.Held.{Held}
@@ -79,6 +79,7 @@ ObjectOf Check s held text told status = ObjectOfCheck text told status
 ObjectOf Cost s held text told status = ObjectOfCost s held text told status
 ObjectOf Pairs s held text told status = ObjectOfPairs text told status
 ObjectOf Listing s held text told status = ⊥
+ObjectOf Meetings s held text told status = ⊥
 ObjectOf Explore s held text told status = ⊥
 ObjectOf Labels s held text told status = ⊥
 ObjectOf Places s held text told status = ⊥

@@ -75,6 +75,12 @@ const LINES: Entry = Entry {
     takes: Takes::Nothing,
 };
 
+const ACCESSES: Entry = Entry {
+    name: "accesses",
+    help: "Print the pairs of accesses that may run in parallel, for each procedure",
+    takes: Takes::NothingBut(&["format"]),
+};
+
 const CHECK: Entry = Entry {
     name: "check",
     help: "Print nothing if the file is formatted; otherwise print `not formatted` and exit with status 1",
@@ -244,7 +250,7 @@ const LIST_EXAMPLE: &str = "Example: afx list examples/race.afx --lines";
 
 const LAYOUT_EXAMPLE: &str = "Example: afx fmt examples/race.afx --check";
 
-const PAIRS_EXAMPLE: &str = "Example: afx mhp examples/two_arrays.afx";
+const PAIRS_EXAMPLE: &str = "Example: afx mhp examples/two_arrays.afx --accesses";
 
 const COST_EXAMPLE: &str =
     "The program runs on one thread, and the numbers are the same on every machine. Work is the number of steps of all
@@ -328,7 +334,7 @@ const PAIRED: Row = Row {
     name: "mhp",
     about: "List the pairs of statements that may run in parallel",
     example: PAIRS_EXAMPLE,
-    entries: &[FILE, FORMAT, EXPLAIN, COLOR],
+    entries: &[FILE, ACCESSES, FORMAT, EXPLAIN, COLOR],
 };
 
 const COSTED: Row = Row {

@@ -4,7 +4,8 @@ use Rattle.std.specs.String.{string_bytes}
 use Rattle.failures.specs.declared.failure.Failure.{Failure}
 use Rattle.failures.specs.declared.failure.Failure.TheVariants.{CannotRead, NoMemory}
 use Rattle.files.specs.declared.file_source.FileError.{FileError}
-use Rattle.files.specs.declared.file_source.FileError.TheVariants.{Failed as Unread, NoMemory as NoMemoryInFile}
+use Rattle.files.specs.declared.file_source.FileError.TheVariants.{Failed as Unread}
+use Rattle.files.specs.declared.file_source.FileError.TheVariants.{NoMemory as NoMemoryInFile}
 
 -- the names of all entries of a folder, or why there are none
 abbrev pub Names : Type 0

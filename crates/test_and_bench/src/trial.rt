@@ -9,7 +9,8 @@ ghost use Rattle.files.specs.Held.{BeginsWith, HasText, IsGiven, TellsNoInput, T
 ghost use Rattle.failures.specs.Messages.{failure_text};
 ghost use Rattle.printing.specs.Reasons.{escaped};
 ghost use Rattle.test_and_bench.specs.Trials.{HasLine, IsCompared, IsUncompared};
-ghost use Rattle.test_and_bench.specs.Trials.{file as file_of, has_name as has_name_of, input_file, trial as trial_of};
+ghost use Rattle.test_and_bench.specs.Trials.{file as file_of, has_name as has_name_of};
+ghost use Rattle.test_and_bench.specs.Trials.{input_file, trial as trial_of};
 
 use crate::outcomes::Case;
 use crate::runs::Runs;

@@ -18,7 +18,7 @@ use Rattle.trace_text.specs.declared.header.Header.{Header}
 use Rattle.command_line.specs.Requests.{Settings}
 use Rattle.command_line.specs.declared.request.Command.{Command}
 use Rattle.command_line.specs.declared.request.Command.TheVariants.{Run, Serial, Check, Listing, Pairs}
-use Rattle.command_line.specs.declared.request.Command.TheVariants.{Explore, Labels, Places, Format}
+use Rattle.command_line.specs.declared.request.Command.TheVariants.{Meetings, Explore, Labels, Places, Format}
 use Rattle.command_line.specs.declared.request.Command.TheVariants.{CheckFormat, View, Summary, Draw, Chrome}
 use Rattle.command_line.specs.declared.request.Command.TheVariants.{Cost, CostByLabel, CostByProcedure}
 use Rattle.files.specs.Held.{Held, HasText, TellsNoText}
@@ -86,6 +86,7 @@ TellsTrace Serial h es told = ⊥
 TellsTrace Check h es told = ⊥
 TellsTrace Listing h es told = ⊥
 TellsTrace Pairs h es told = ⊥
+TellsTrace Meetings h es told = ⊥
 TellsTrace Explore h es told = ⊥
 TellsTrace Labels h es told = ⊥
 TellsTrace Places h es told = ⊥
@@ -162,6 +163,7 @@ Draws Serial = ⊥
 Draws Check = ⊥
 Draws Listing = ⊥
 Draws Pairs = ⊥
+Draws Meetings = ⊥
 Draws Explore = ⊥
 Draws Labels = ⊥
 Draws Places = ⊥

@@ -20,7 +20,7 @@ const ROWS: &[(&str, &str)] = &[
     ("check", " list format explain color"),
     ("list", " lines explain color"),
     ("fmt", " check write explain color"),
-    ("mhp", " format explain color"),
+    ("mhp", " accesses format explain color"),
     (
         "cost",
         " input steps nest by-line by-procedure format explain color",
