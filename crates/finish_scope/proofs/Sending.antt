@@ -63,8 +63,8 @@ module _ (κ : NamedLft) (J : RattleType) (gh : Ghosts J.Denot) where
   abbrev pub scope_row : RattleType
   scope_row = Mutex.the_row (Inner.the_row κ J gh)
 
-  pub shelf_send : IsSend (ScopeTable.the_row scope_row)
-  shelf_send =
+  pub table_send : IsSend (ScopeTable.the_row scope_row)
+  table_send =
       let scope = Arc.the_row scope_row Heap.the_row ghosts in
       let scopes = Option.the_row scope in
       declared_send (ScopeTable.the_type scope_row) (

@@ -3,7 +3,7 @@
 ghost use Rattle.std.specs.Prelude.{◌≡◌, ◌≢◌, ◌+◌, ◌<◌, ◌≤◌, ◌⊎◌, ◌↔◌, IfErr, IfNone, IfOk};
 ghost use Rattle.std.specs.Prelude.{IfSome, None, OnErr, OnOk};
 ghost use Rattle.weights.specs.Ledger.{issued_of, returned_of};
-ghost use Rattle.finish_scope.specs.Own.{IsOwnPassing, IsOwnResting, IsResultOfRun};
+ghost use Rattle.finish_scope.specs.Own.{IsOwnPassing, IsOwnResting, IsOwnScope, IsResultOfRun};
 ghost use Rattle.finish_scope.specs.Scopes.{Cannot, Counts, Keeps, Mints, Parks, Passes, TakesBack};
 ghost use Rattle.finish_scope.specs.Scopes.{IsEven, out_of, given_by, scope_at_opening};
 
@@ -82,7 +82,8 @@ impl<'p, J: Running> Inner<'p, J> {
 
     /// Returns whether memory ran out for a result, or for the entry of a weight.
     pub fn marked(&self) -> bool
-        ensures { result ≡ self.now.marked }
+        ensures marked { result ≡ self.now.marked }
+        ensures of_run { IsOwnScope J.job self.now.results self.now.owner }
     {
         self.marked
     }
@@ -95,6 +96,7 @@ impl<'p, J: Running> Inner<'p, J> {
         ensures case { IfErr result (λ l. Cannot self.old weight l.reason) }
         ensures back { IfErr result (λ l. l.back ≡ weight) }
         ensures same { OnErr result (self.new ≡ self.old) }
+        ensures of_run { OnErr result (IsOwnScope J.job self.old.results self.old.owner) }
     {
         if weight.units() > self.out() {
             return Err(Late {
@@ -124,7 +126,10 @@ impl<'p, J: Running> Inner<'p, J> {
         ensures reason { IfErr result (λ l. l.reason ≡ Reason.NotDue) }
         ensures back { IfErr result (λ l. (l.back.0 ≡ weight) × (l.back.1 ≡ made)) }
         ensures same { OnErr result (self.new ≡ self.old) }
+        ensures of_run { OnErr result (IsOwnScope J.job self.old.results self.old.owner) }
     {
+        // For the proof: the scope is used, so what it holds is of the run.
+        let _ = &self.book;
         if self.out() < weight.units() {
             return Err(Late {
                 reason: Reason::NotDue,
@@ -151,6 +156,7 @@ impl<'p, J: Running> Inner<'p, J> {
         ensures reason { IfErr result (λ l. l.reason ≡ Reason.NotDue) }
         ensures back { IfErr result (λ l. (l.back.0 ≡ weight) × (l.back.1 ≡ owner.entry)) }
         ensures same { OnErr result (self.new ≡ self.old) }
+        ensures of_run { OnErr result (IsOwnScope J.job self.old.results self.old.owner) }
     {
         if self.owner.is_some() || self.out() < weight.units() {
             return Err(Late {
@@ -170,6 +176,7 @@ impl<'p, J: Running> Inner<'p, J> {
         ensures passes { IfSome result (Passes self.old self.new) }
         ensures none { IfNone result ((self.old.owner ≡ None) ⊎ (IsEven self.old → ⊥)) }
         ensures same { IfNone result (self.new ≡ self.old) }
+        ensures of_run { IfNone result (IsOwnScope J.job self.old.results self.old.owner) }
     {
         if self.out() > 0 {
             return None;

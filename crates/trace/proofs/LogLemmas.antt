@@ -1,15 +1,11 @@
 -- Logs stay clean.
 use Rattle.std.proofs.Common.{◌≡◌, ℕ, List, [], ◌∷◌, ◌++◌, sym, subst}
 use Rattle.event_worlds.specs.Jobs.{IsWeightedJob}
-use Rattle.event_worlds.specs.Replay.{IllegalAt as IsIllegalAt}
-use Rattle.event_worlds.specs.Replaying.{IsRefused, IsReplayed, comes, event}
+use Rattle.event_worlds.specs.Replaying.{IsReplayed, event}
 use Rattle.event_worlds.specs.Shown.{Becomes, Refuses, WorldStays}
 use Rattle.event_worlds.specs.declared.error.EventError.{EventError}
 use Rattle.event_worlds.specs.declared.error.EventError.TheVariants.{Illegal as IsIllegal}
 use Rattle.event_worlds.specs.declared.error.EventError.TheVariants.{NoMemory as IsNoMemory}
-use Rattle.event_worlds.specs.declared.error.ReplayError.{ReplayError}
-use Rattle.event_worlds.specs.declared.error.ReplayError.TheVariants.{IllegalAt}
-use Rattle.event_worlds.specs.declared.job.WeightedJob.{WeightedJob}
 use Rattle.events.specs.declared.event.Event.{Event}
 use Rattle.event_worlds.specs.declared.world.World.{World}
 use Rattle.event_worlds.proofs.Staying.{stays_shown}
@@ -47,11 +43,3 @@ clean_still old new es clean stays =
         job = stays.job;
       });
     }
-
--- events that were rejected
-pub refused_by : (j k : WeightedJob) (es fs : List Event) (x : ReplayError) (n : ℕ) → IsRefused j es x → x ≡ IllegalAt n → j ≡ k
-    → es ≡ fs → (m : ℕ) × (comes k fs ≡ IsIllegalAt m)
-refused_by j k es fs x n r is same items = (
-  n,
-  subst (λ i. comes i fs ≡ IsIllegalAt n) same (subst (λ l. comes j l ≡ IsIllegalAt n) items (subst (IsRefused j es) is r)),
-)

@@ -8,13 +8,12 @@ use Rattle.types.specs.declared.input.Input.{Input}
 use Rattle.race_checker.specs.declared.accepted.Accepted.{Accepted}
 use Rattle.task_run.specs.Jobs.{budget_of, program_of}
 use Rattle.event_worlds.specs.Jobs.{IsWeightedJob}
-use Rattle.event_worlds.specs.Replay.{IllegalAt, Legal}
+use Rattle.event_worlds.specs.Replay.{Legal}
 use Rattle.event_worlds.specs.Replaying.{IsReplayed, comes, event}
 use Rattle.event_worlds.specs.Shown.{Refuses}
 use Rattle.event_worlds.specs.World.{World as TheWorld}
 use Rattle.event_worlds.specs.Worlds.{outcome_of}
 use Rattle.event_worlds.specs.declared.error.EventError.{EventError}
-use Rattle.event_worlds.specs.declared.error.EventError.TheVariants.{Illegal, NoMemory}
 use Rattle.events.specs.declared.event.Event.{Event}
 use Rattle.event_worlds.specs.declared.job.WeightedJob.{WeightedJob}
 use Rattle.event_worlds.specs.declared.world.World.{World}
@@ -41,11 +40,6 @@ pub record IsClean (l : Recorded) : Type 0 where
 pub record Leaves (e : Event) (old new : Recorded) (error : EventError) : Type 0 where
   pub events : new.events ≡ old.events
   pub world : Refuses (event e) old.world new.world error
-
--- events that lead to no log: one of them isn't legal; or memory ran out
-abbrev pub IsRefusedBy : WeightedJob → List Event → EventError → Type 0
-IsRefusedBy j es Illegal = (n : ℕ) × (comes j es ≡ IllegalAt n)
-IsRefusedBy j es NoMemory = Unit {0}
 
 -- the events are legal from the start of the log's job, and lead to a world with this outcome: therefore
 -- its root's scope has passed

@@ -10,11 +10,10 @@ ghost use Rattle.event_worlds.specs.Replaying.{event as event_of};
 ghost use Rattle.event_worlds.specs.Shown.{Becomes, IsLegal};
 ghost use Rattle.event_worlds.specs.declared.error.EventError.TheVariants.{Illegal, NoMemory};
 ghost use Rattle.event_worlds.specs.Walks.{IsIllegal};
-ghost use Rattle.trace.specs.Logs.{IsClean, IsRefusedBy, LeadsToOutcome, Leaves, job_of};
+ghost use Rattle.trace.specs.Logs.{IsClean, LeadsToOutcome, Leaves, job_of};
 
-use event_worlds::error::{EventError, ReplayError};
+use event_worlds::error::EventError;
 use event_worlds::job::WeightedJob;
-use event_worlds::replay::replay;
 use event_worlds::world::World;
 use events::event::Event;
 use race_checker::accepted::Accepted;
@@ -69,32 +68,6 @@ impl<'p> Log<'p> {
             world,
             events: Vec::new(alloc),
         })
-    }
-
-    /// Returns the log of a run that is over, with these events. It copies no task before the task
-    /// acts, unlike `record`.
-    pub fn of_events(
-        alloc: Global,
-        header: &Header,
-        accepted: &'p Accepted,
-        input: &'p Input,
-        events: Vec<Event>,
-    ) -> Result<Log<'p>, EventError>
-        requires { FitsArrays (code_of accepted.now.typed).arrays (lists_in input.now) }
-        ensures events { IfOk result (λ l. l.events ≡ events.items) }
-        ensures job { IfOk result (λ l. l.world.job
-            ≡ job_of alloc accepted.entry input.entry header.now.budget header.now.w0) }
-        ensures refused { IfErr result (IsRefusedBy
-            (job_of alloc accepted.entry input.entry header.now.budget header.now.w0) events.items) }
-    {
-        let Some(job) = WeightedJob::new(alloc, accepted, input, header.budget, header.w0) else {
-            unreachable!()
-        };
-        match replay(job, &events) {
-            Ok(world) => Ok(Log { world, events }),
-            Err(ReplayError::IllegalAt(_)) => Err(EventError::Illegal),
-            Err(ReplayError::NoMemory) => Err(EventError::NoMemory),
-        }
     }
 
     /// Appends an event to the list, and moves the world by it.

@@ -19,6 +19,7 @@ use Rattle.tickets.specs.Shares.{times}
 use Rattle.weighted_task.specs.Ends.{IsParked}
 use Rattle.weighted_task.specs.Tasks.{IsResultOf}
 use Rattle.weighted_task.specs.declared.finish.Parked.{Parked}
+use Rattle.finish_scope.specs.Own.{IsOwnScope}
 use Rattle.finish_scope.specs.Scopes.{Standing, Cannot, IsEven, out_of}
 use Rattle.finish_scope.specs.declared.late.Reason.{Reason}
 use Rattle.finish_scope.specs.declared.late.Reason.TheVariants.{NotDue as L1, IssuedTooOften as L2}
@@ -35,59 +36,68 @@ pub record DoesNotSettle (o : Option Job) (e : GatherError) : Type 0 where
   pub tasks : Each (IsResultOf owner.job) results
   pub own_case : IsCaseOf (task_result owner.made) (map task_result results) e
 
--- a scope whose weight was out issued no more, because it had issued w0 2^31 times
-pub record IsSpent : Type 0 where
-  pub scope : Standing
-  pub weight : ℕ
-  pub cannot : Cannot scope weight L2
+module _ (o : Option Job) where
+  -- all results that the scope holds are of tasks of the run, and so is the owner that is parked there
+  abbrev pub IsOfRun : Standing → Type 0
+  IsOfRun s = IsOwnScope o s.results s.owner
 
--- a scope was given more than was out, or a second owner
-pub record WasNotDue : Type 0 where
-  pub scope : Standing
-  pub weight : ℕ
-  pub late : (out_of scope < weight) ⊎ (scope.owner ≢ None)
+  -- a scope of the run, whose weight was out, issued no more, because it had issued w0 2^31 times
+  pub record IsSpent : Type 0 where
+    pub scope : Standing
+    pub of : IsOfRun scope
+    pub weight : ℕ
+    pub cannot : Cannot scope weight L2
 
--- all weight of a scope was back, and nobody was parked there
-pub record HadNoOwner : Type 0 where
-  pub scope : Standing
-  pub even : IsEven scope
-  pub nobody : scope.owner ≡ None
+  -- a scope of the run was given more than was out, or a second owner
+  pub record WasNotDue : Type 0 where
+    pub scope : Standing
+    pub of : IsOfRun scope
+    pub weight : ℕ
+    pub late : (out_of scope < weight) ⊎ (scope.owner ≢ None)
 
--- memory had run out for a result, or for the entry of a weight
-pub record WasMarked : Type 0 where
-  pub scope : Standing
-  pub marked : scope.marked ≡ true
+  -- all weight of a scope of the run was back, and nobody was parked there
+  pub record HadNoOwner : Type 0 where
+    pub scope : Standing
+    pub of : IsOfRun scope
+    pub even : IsEven scope
+    pub nobody : scope.owner ≡ None
+
+  -- memory had run out for a result of the run, or for the entry of a weight
+  pub record WasMarked : Type 0 where
+    pub scope : Standing
+    pub of : IsOfRun scope
+    pub marked : scope.marked ≡ true
 
 -- what happened, by the trouble that a worker had
 abbrev pub Happens : Option Job → Trouble → Type 0
 Happens o OutOfMemory = Unit {0}
 Happens o RefusedPush = Unit {0}
-Happens o IssuedTooOften = IsSpent
+Happens o IssuedTooOften = IsSpent o
 Happens o (Gather e) = DoesNotSettle o e
-Happens o NotDue = WasNotDue
-Happens o NoOwner = HadNoOwner
+Happens o NotDue = WasNotDue o
+Happens o NoOwner = HadNoOwner o
 Happens o NoScope = Unit {0}
 
 -- what happened at a scope, by what a call under its lock answered
-abbrev pub HappensAtScope : Trouble → Type 0
-HappensAtScope OutOfMemory = WasMarked
-HappensAtScope RefusedPush = ⊥
-HappensAtScope IssuedTooOften = IsSpent
-HappensAtScope (Gather e) = ⊥
-HappensAtScope NotDue = WasNotDue
-HappensAtScope NoOwner = HadNoOwner
-HappensAtScope NoScope = ⊥
+abbrev pub HappensAtScope : Option Job → Trouble → Type 0
+HappensAtScope o OutOfMemory = WasMarked o
+HappensAtScope o RefusedPush = ⊥
+HappensAtScope o IssuedTooOften = IsSpent o
+HappensAtScope o (Gather e) = ⊥
+HappensAtScope o NotDue = WasNotDue o
+HappensAtScope o NoOwner = HadNoOwner o
+HappensAtScope o NoScope = ⊥
 
 -- what happened, by the error of a run
 abbrev pub Happened : Option Job → RunError → Type 0
 Happened o In.OutOfMemory = Unit {0}
 Happened o In.RefusedPush = Unit {0}
 Happened o In.RefusedThread = Unit {0}
-Happened o In.IssuedTooOften = IsSpent
+Happened o In.IssuedTooOften = IsSpent o
 Happened o (In.TooManyTasks ticket) = Unit {0}
 Happened o (In.Gather e) = DoesNotSettle o e
-Happened o In.NotDue = WasNotDue
-Happened o In.NoOwner = HadNoOwner
+Happened o In.NotDue = WasNotDue o
+Happened o In.NoOwner = HadNoOwner o
 Happened o In.NoScope = Unit {0}
 Happened o In.NoReport = Unit {0}
 Happened o In.Unlogged = Unit {0}

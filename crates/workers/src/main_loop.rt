@@ -16,13 +16,12 @@ use crate::locked_log::{LockedLog, hold};
 use crate::log_guard::LogGuard;
 use crate::open_scopes::{AfterTurn, Next, OpenScopes};
 use crate::passing::pass;
-use crate::pool::Pool;
+use crate::pool::{Pool, Tasks};
 use crate::ready::{First, Ready};
 use crate::scopes;
 use crate::scopes::ScopeRecorder;
 use crate::settings::Settings;
 use crate::worker::{Report, WorkerParts, WorkerState};
-use crossbeam_deque::Worker;
 use finish_scope::inner::Inner;
 use finish_scope::resting::{Passing, Resting};
 use finish_scope::running::Running;
@@ -193,7 +192,7 @@ impl<'p, J: Running, G: Gate> Shared<'p, J, G> {
     fn begin(
         &self,
         number: usize,
-        own: &mut Worker<Ready<'p, J>>,
+        tasks: &mut Tasks<'p, J>,
         open_scopes: &mut OpenScopes<'p, J>,
         child: Child<'p>,
     ) -> Result<(), Trouble>
@@ -201,7 +200,10 @@ impl<'p, J: Running, G: Gate> Shared<'p, J, G> {
         ensures cause { IfErr result (Happens J.job) }
     {
         let scope = Arc::try_clone(&open_scopes.scope)?;
-        match own.push(Ready::new(child, scope, open_scopes.place, number)) {
+        match tasks
+            .own
+            .push(Ready::new(child, scope, open_scopes.place, number))
+        {
             Ok(()) => {
                 self.pool.wake();
                 Ok(())
@@ -347,7 +349,7 @@ impl<'p, J: Running, G: Gate> Shared<'p, J, G> {
         &self,
         rt: &R,
         state: &mut WorkerState,
-        own: &mut Worker<Ready<'p, J>>,
+        tasks: &mut Tasks<'p, J>,
         open_scopes: &mut OpenScopes<'p, J>,
         task: Task<'p>,
     ) -> Result<Next<'p>, RunError>
@@ -363,7 +365,7 @@ impl<'p, J: Running, G: Gate> Shared<'p, J, G> {
             AfterTurn::Follows(next) => Ok(next),
             AfterTurn::Spawned(task, child) => {
                 self.draw(state)?;
-                self.begin(state.number, own, open_scopes, child)?;
+                self.begin(state.number, tasks, open_scopes, child)?;
                 Ok(Next::Goes(task))
             }
         }
@@ -374,7 +376,7 @@ impl<'p, J: Running, G: Gate> Shared<'p, J, G> {
         &self,
         rt: &R,
         state: &mut WorkerState,
-        own: &mut Worker<Ready<'p, J>>,
+        tasks: &mut Tasks<'p, J>,
         open_scopes: &mut OpenScopes<'p, J>,
         task: Task<'p>,
     ) -> Result<Option<Outcome>, RunError>
@@ -388,7 +390,7 @@ impl<'p, J: Running, G: Gate> Shared<'p, J, G> {
     {
         let mut task = task;
         for _ in rt.forever() {
-            match self.step(rt, state, own, open_scopes, task)? {
+            match self.step(rt, state, tasks, open_scopes, task)? {
                 Next::Goes(next) => task = next,
                 Next::Idle => return Ok(None),
                 Next::Told(outcome) => return Ok(Some(outcome)),
@@ -405,7 +407,7 @@ impl<'p, J: Running, G: Gate> Shared<'p, J, G> {
         &self,
         rt: &R,
         state: &mut WorkerState,
-        own: &mut Worker<Ready<'p, J>>,
+        tasks: &mut Tasks<'p, J>,
         first: First<'p, J>,
     ) -> Result<Option<Outcome>, RunError>
         requires seat { HasSeat self.now.tickets self.now.settings.tasks state.old.seat }
@@ -420,7 +422,7 @@ impl<'p, J: Running, G: Gate> Shared<'p, J, G> {
         let (task, mut open_scopes) = first.begin();
         note_taken::<J>(&mut log_guard, state.number, state.number, &task);
         drop(log_guard);
-        self.go_on(rt, state, own, &mut open_scopes, task)
+        self.go_on(rt, state, tasks, &mut open_scopes, task)
     }
 
     /// Runs a task below the root from its start.
@@ -428,7 +430,7 @@ impl<'p, J: Running, G: Gate> Shared<'p, J, G> {
         &self,
         rt: &R,
         state: &mut WorkerState,
-        own: &mut Worker<Ready<'p, J>>,
+        tasks: &mut Tasks<'p, J>,
         ready: Ready<'p, J>,
     ) -> Result<Option<Outcome>, RunError>
         requires seat { HasSeat self.now.tickets self.now.settings.tasks state.old.seat }
@@ -444,7 +446,7 @@ impl<'p, J: Running, G: Gate> Shared<'p, J, G> {
         note_taken::<J>(&mut log_guard, state.number, from, &task);
         drop(log_guard);
         self.let_in(&task);
-        self.go_on(rt, state, own, &mut open_scopes, task)
+        self.go_on(rt, state, tasks, &mut open_scopes, task)
     }
 
     /// Lends a task to the gate before its first turn.
@@ -469,10 +471,10 @@ impl<'p, J: Running, G: Gate> Shared<'p, J, G> {
         &self,
         rt: &R,
         state: &WorkerState,
-        own: &mut Worker<Ready<'p, J>>,
+        tasks: &mut Tasks<'p, J>,
         looks: &mut u32,
     ) -> Option<Ready<'p, J>> {
-        let found = self.pool.find(state.number, own);
+        let found = self.pool.find(tasks);
         if found.is_some() {
             *looks = 0;
             return found;
@@ -483,7 +485,7 @@ impl<'p, J: Running, G: Gate> Shared<'p, J, G> {
             return None;
         }
         *looks = 0;
-        self.pool.rest(rt, state.number, &state.parker, own)
+        self.pool.rest(rt, state.number, &state.parker, tasks)
     }
 
     /// Runs tasks until the run is over. One worker starts with the root.
@@ -491,7 +493,7 @@ impl<'p, J: Running, G: Gate> Shared<'p, J, G> {
         &self,
         rt: &R,
         state: &mut WorkerState,
-        own: &mut Worker<Ready<'p, J>>,
+        tasks: &mut Tasks<'p, J>,
         first: Option<First<'p, J>>,
     ) -> Result<Option<Outcome>, RunError>
         requires seat { HasSeat self.now.tickets self.now.settings.tasks state.old.seat }
@@ -501,8 +503,9 @@ impl<'p, J: Running, G: Gate> Shared<'p, J, G> {
             (Fails J.job self.now.tickets self.now.settings.tasks state.new.seat) }
         ensures outcome { IfOk result (λ o. IfSome o (λ x. outcome_in x ≡ outcome_of self.now.job)) }
     {
+        tasks.thieves = self.pool.thieves(self.job.alloc, state.number)?;
         if let Some(first) = first {
-            if let Some(outcome) = self.run_first(rt, state, own, first)? {
+            if let Some(outcome) = self.run_first(rt, state, tasks, first)? {
                 return Ok(Some(outcome));
             }
         }
@@ -511,8 +514,8 @@ impl<'p, J: Running, G: Gate> Shared<'p, J, G> {
             if self.pool.is_over() {
                 return Ok(None);
             }
-            if let Some(ready) = self.find_work(rt, state, own, &mut looks) {
-                if let Some(outcome) = self.run_next(rt, state, own, ready)? {
+            if let Some(ready) = self.find_work(rt, state, tasks, &mut looks) {
+                if let Some(outcome) = self.run_next(rt, state, tasks, ready)? {
                     return Ok(Some(outcome));
                 }
             }
@@ -619,10 +622,10 @@ impl<'p, J: Running + Send + Sync, G: Gate + Sync> Crew for Shared<'p, J, G> {
     fn work<R: Wait>(&self, rt: &R, parts: WorkerParts<'p, J>) -> Report {
         let WorkerParts {
             mut state,
-            mut own,
+            mut tasks,
             first,
         } = parts;
-        let told = self.main_loop(rt, &mut state, &mut own, first);
+        let told = self.main_loop(rt, &mut state, &mut tasks, first);
         let silent = match &told {
             Ok(None) => true,
             _ => false,

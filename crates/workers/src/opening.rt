@@ -12,7 +12,7 @@ use crate::gate::Gate;
 use crate::locked_log::LockedLog;
 use crate::main_loop::Shared;
 use crate::open_scopes::OpenScopes;
-use crate::pool::Pool;
+use crate::pool::{Pool, Tasks};
 use crate::ready::First;
 use crate::settings::Settings;
 use crate::worker::{WorkerParts, WorkerState};
@@ -72,7 +72,19 @@ pub fn open<'p, J: Running, G: Gate, R: Wait>(
         pool,
         log,
     };
-    Ok((shared, WorkerParts { state, own, first }, all_parts))
+    let tasks = Tasks {
+        own,
+        thieves: Vec::new(alloc),
+    };
+    Ok((
+        shared,
+        WorkerParts {
+            state,
+            tasks,
+            first,
+        },
+        all_parts,
+    ))
 }
 
 /// Returns the parts of a worker for each seat.
@@ -92,9 +104,13 @@ fn make_all_parts<'p, J: Running>(
     for seat in seats {
         let (number, own, parker) = pool.add_worker(alloc)?;
         let state = state_at(number, parker, tickets, settings, seat);
+        let tasks = Tasks {
+            own,
+            thieves: Vec::new(alloc),
+        };
         all_parts.push(WorkerParts {
             state,
-            own,
+            tasks,
             first: None,
         })?;
     }

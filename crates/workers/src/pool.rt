@@ -5,8 +5,8 @@ ghost use Rattle.workers.specs.Causes.{Happens};
 
 use crate::error::Trouble;
 use crate::ready::Ready;
-use crossbeam_deque::{Steal, Stealer, Worker};
 use crossbeam_utils::sync::{Parker, Unparker};
+use deques::{Deque, Front, Thief};
 use finish_scope::inner::Scope;
 use finish_scope::resting::ScopePosition;
 use finish_scope::running::Running;
@@ -15,10 +15,13 @@ use std::alloc::{AllocError, Global};
 use std::sync::atomic::{AtomicBool, AtomicUsize, Ordering};
 use std::sync::{Arc, Mutex, Wait};
 
+/// The number of tasks for which a deque has room at the start.
+const FIRST_ROOM: usize = 64;
+
 /// The data that all workers share, independent of what they run.
 #[derive(Drop)]
 pub struct Pool<'p, J: Running> {
-    thieves: Vec<Stealer<Ready<'p, J>>>,
+    fronts: Vec<Front<Ready<'p, J>>>,
     tables: Vec<Mutex<ScopeTable<Scope<'p, J>>>>,
     sleep_slots: Vec<SleepSlot>,
     /// The number of resting workers.
@@ -34,11 +37,20 @@ struct SleepSlot {
     unparker: Unparker,
 }
 
+/// Where a worker puts tasks, and where it takes them from.
+#[derive(Drop)]
+pub struct Tasks<'p, J: Running> {
+    /// The tasks that it is to run, the newest first.
+    pub own: Deque<Ready<'p, J>>,
+    /// Those that take tasks from the other workers.
+    pub thieves: Vec<Thief<Ready<'p, J>>>,
+}
+
 impl<'p, J: Running> Pool<'p, J> {
     /// Returns a pool without workers.
     pub fn new(alloc: Global) -> Pool<'p, J> {
         Pool {
-            thieves: Vec::new(alloc),
+            fronts: Vec::new(alloc),
             tables: Vec::new(alloc),
             sleep_slots: Vec::new(alloc),
             resting: AtomicUsize::new(0),
@@ -50,10 +62,10 @@ impl<'p, J: Running> Pool<'p, J> {
     pub fn add_worker(
         &mut self,
         alloc: Global,
-    ) -> Result<(usize, Worker<Ready<'p, J>>, Parker), AllocError> {
+    ) -> Result<(usize, Deque<Ready<'p, J>>, Parker), AllocError> {
         let number = self.sleep_slots.len();
-        let (own, thief) = deque::<Ready<'p, J>>(alloc)?;
-        self.thieves.push(thief)?;
+        let own = Deque::new(alloc, FIRST_ROOM)?;
+        self.fronts.push(own.front()?)?;
         self.tables.push(Mutex::new(ScopeTable::new(alloc)))?;
         let parker = Parker::new(alloc)?;
         self.sleep_slots.push(SleepSlot {
@@ -65,26 +77,41 @@ impl<'p, J: Running> Pool<'p, J> {
 
     // ---- tasks
 
+    /// Returns a thief for each other deque. The first one takes tasks from the next worker.
+    pub fn thieves(
+        &self,
+        alloc: Global,
+        number: usize,
+    ) -> Result<Vec<Thief<Ready<'p, J>>>, AllocError> {
+        let mut thieves = Vec::new(alloc);
+        let mut victim = number;
+        for _ in 1..self.fronts.len() {
+            victim = victim.wrapping_add(1);
+            if victim >= self.fronts.len() {
+                victim = 0;
+            }
+            if let Some(front) = self.fronts.get(victim) {
+                thieves.push(front.thief()?)?;
+            }
+        }
+        Ok(thieves)
+    }
+
     /// Returns a task: the newest of the worker's deque, or else one of another worker.
-    pub fn find(&self, number: usize, own: &mut Worker<Ready<'p, J>>) -> Option<Ready<'p, J>> {
-        match own.pop() {
+    pub fn find(&self, tasks: &mut Tasks<'p, J>) -> Option<Ready<'p, J>> {
+        match tasks.own.pop() {
             Some(ready) => Some(ready),
-            None => self.steal(number, own),
+            None => self.steal(tasks),
         }
     }
 
     /// Steals a task from another worker. If that has more, it steals some of them too, and wakes
     /// one resting worker.
-    fn steal(&self, number: usize, own: &mut Worker<Ready<'p, J>>) -> Option<Ready<'p, J>> {
-        let mut victim = number;
-        for _ in 1..self.thieves.len() {
-            victim = victim.wrapping_add(1);
-            if victim >= self.thieves.len() {
-                victim = 0;
-            }
-            let thief = self.thieves.get(victim)?;
-            if let Steal::Success(ready) = thief.steal_batch_and_pop(own) {
-                if has_more::<Ready<'p, J>>(own) {
+    fn steal(&self, tasks: &mut Tasks<'p, J>) -> Option<Ready<'p, J>> {
+        let Tasks { own, thieves } = tasks;
+        for thief in thieves.iter_mut() {
+            if let Some(ready) = thief.steal(own) {
+                if own.len() > 0 {
                     self.wake();
                 }
                 return Some(ready);
@@ -102,12 +129,12 @@ impl<'p, J: Running> Pool<'p, J> {
         rt: &R,
         number: usize,
         parker: &Parker,
-        own: &mut Worker<Ready<'p, J>>,
+        tasks: &mut Tasks<'p, J>,
     ) -> Option<Ready<'p, J>> {
         let sleep_slot = self.sleep_slots.get(number)?;
         sleep_slot.taken.store(true, Ordering::SeqCst);
         self.resting.fetch_add(1, Ordering::SeqCst);
-        let found = self.find(number, own);
+        let found = self.find(tasks);
         if found.is_none() && !self.is_over() {
             parker.park(rt);
         }
@@ -202,16 +229,4 @@ impl<'p, J: Running> Pool<'p, J> {
             None => Err(Trouble::NoScope),
         }
     }
-}
-
-/// Returns a deque, and its stealer.
-fn deque<T: Drop>(alloc: Global) -> Result<(Worker<T>, Stealer<T>), AllocError> {
-    let own = Worker::new_lifo(alloc, 64)?;
-    let thief = own.stealer()?;
-    Ok((own, thief))
-}
-
-/// Returns whether a task is left in a worker's deque.
-fn has_more<T>(own: &mut Worker<T>) -> bool {
-    !own.is_empty()
 }

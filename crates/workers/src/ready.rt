@@ -1,6 +1,6 @@
 //! Tasks that wait for a worker.
 
-ghost use Rattle.std.specs.Prelude.{IfOk};
+ghost use Rattle.std.specs.Prelude.{◌≡◌, IfOk};
 ghost use Rattle.workers.specs.Own.{IsOwnChild, IsOwnTask};
 
 use crate::open_scopes::OpenScopes;
@@ -12,7 +12,7 @@ use std::marker::Model;
 use std::sync::Arc;
 use weighted_task::task::{Child, Task};
 
-/// A spawned task of the run, and its scope.
+/// A spawned task of the run, and its scope. Contracts see it as the path of the task.
 #[derive(Drop)]
 pub struct Ready<'p, J: Running> {
     child: Child<'p>,
@@ -23,12 +23,12 @@ pub struct Ready<'p, J: Running> {
 }
 
 impl<'p, J: Running> Model for Ready<'p, J> {
-    ghost use Rattle.std.specs.Prelude.{ℕ};
+    ghost use Rattle.std.specs.Prelude.{ℕ, List};
     ghost use Rattle.workers.specs.Own.{IsOwnChild};
 
-    ghost Value = { ℕ };
+    ghost Value = { List ℕ };
 
-    ghost view = { λ r. 0 };
+    ghost view = { λ r. r.child.start.value.path.turns.items };
 
     ghost invariant = { λ r. IsOwnChild J.job r.child };
 }
@@ -42,6 +42,7 @@ impl<'p, J: Running> Ready<'p, J> {
         from: usize,
     ) -> Ready<'p, J>
         requires { IsOwnChild J.job child }
+        ensures { result ≡ child.entry.start.value.path.turns.items }
     {
         Ready {
             child,

@@ -8,8 +8,9 @@ ghost use Rattle.types.specs.Typed.{code_of};
 ghost use Rattle.task_run.specs.Jobs.{IsJob, outcome_of};
 ghost use Rattle.gather.specs.RunErrors.{IsRunCause};
 ghost use Rattle.tickets.specs.Seats.{AreDrawn};
+ghost use Rattle.trace_numbers.specs.Counts.{tasks_in};
 ghost use Rattle.trace.specs.Logs.{IsClean, LeadsToOutcome, job_of as weighted_job_of};
-ghost use Rattle.workers.specs.Causes.{Happened, HasTicket, IsReason, IsRunReason, job_of};
+ghost use Rattle.workers.specs.Causes.{Happened, HasTicket, IsOfLog, IsReason, IsRunReason, job_of};
 ghost use Rattle.workers.specs.Logs.{IsLogOfRun, weighted};
 ghost use Rattle.workers.specs.Own.{HasCode};
 
@@ -30,6 +31,7 @@ use std::sync::Wait;
 use std::thread::Threads;
 use task_run::job::Job;
 use trace::log::Log;
+use trace_numbers::counts::spawns;
 use types::input::Input;
 use types::laws::typed_programs_are_sound;
 use worker_threads::{CrewError, work_together};
@@ -55,6 +57,8 @@ pub fn run<'p, G: Gate + Sync, R: Threads + Wait + Sync>(
         (code_of accepted.now.typed) (lists_in input.now) (budget_of settings.budget)) }
     ensures drawn { IfOk result (λ r. AreDrawn settings.workers r.0.tasks.number) }
     ensures tasks { IfOk result (λ r. r.0.tasks.number ≤ settings.tasks) }
+    ensures started { IfOk result
+        (λ r. IfSome r.1 (λ l. r.0.tasks.number ≡ tasks_in l.events)) }
     ensures log { IfOk result (λ r. IsSome r.1 ↔ IsSome log.entry) }
     ensures clean { IfOk result (λ r. IfSome r.1 IsClean) }
     ensures job { IfOk result (λ r. IfSome r.1 (λ l. l.world.job
@@ -93,6 +97,8 @@ fn run_as<'p, J: Running + Send + Sync, G: Gate + Sync, R: Threads + Wait + Sync
     ensures outcome { IfOk result (λ r. outcome_in r.0.outcome ≡ outcome_of job.entry) }
     ensures drawn { IfOk result (λ r. AreDrawn settings.workers r.0.tasks.number) }
     ensures tasks { IfOk result (λ r. r.0.tasks.number ≤ settings.tasks) }
+    ensures started { IfOk result
+        (λ r. IfSome r.1 (λ l. r.0.tasks.number ≡ tasks_in l.events)) }
     ensures kept { IfOk result (λ r. IsSome r.1 ↔ IsSome log.entry) }
     ensures log { IfOk result (λ r. IfSome r.1 (IsLogOfRun J.job J.w0)) }
     ensures failed { IfErr result
@@ -102,7 +108,7 @@ fn run_as<'p, J: Running + Send + Sync, G: Gate + Sync, R: Threads + Wait + Sync
     match run_by::<J, G, R>(rt, job, code, settings, gate, locked::<J>(log)) {
         Ok((told, log)) => match told {
             Ok(finished) => match close::<J>(log) {
-                Ok(log) => Ok((finished, log)),
+                Ok(log) => with_all_tasks(finished, log),
                 Err(error) => Err(error),
             },
             Err(RunError::NoReport) => match close::<J>(log) {
@@ -113,6 +119,26 @@ fn run_as<'p, J: Running + Send + Sync, G: Gate + Sync, R: Threads + Wait + Sync
         },
         Err(error) => Err(error),
     }
+}
+
+/// Returns what a run returns, if as many tasks drew a ticket as start in the events of its log.
+fn with_all_tasks<'p>(
+    finished: Finished,
+    log: Option<Log<'p>>,
+) -> Result<(Finished, Option<Log<'p>>), RunError>
+    ensures same { IfOk result (λ r. (r.0 ≡ finished.entry) × (r.1 ≡ log.entry)) }
+    ensures started { IfOk result
+        (λ r. IfSome r.1 (λ l. r.0.tasks.number ≡ tasks_in l.events)) }
+    ensures failed { IfErr result IsOfLog }
+    ensures logged { IfErr result (λ _. IsSome log.entry) }
+{
+    if let Some(log) = &log {
+        let tasks = finished.tasks.number();
+        if tasks == 0 || tasks - 1 != spawns(log.events()) as u64 {
+            return Err(RunError::Unlogged);
+        }
+    }
+    Ok((finished, log))
 }
 
 /// Runs a program once its log is under a lock. Returns what the workers reported, and the log.

@@ -51,7 +51,7 @@ pub fn replenish<'p, J: Running, G: Gate, R: Wait>(
     requires { IsOwnWanting J.job wanting }
     ensures task { IfOk result (λ p. IsOwnTask J.job p.0) }
     ensures child { IfOk result (λ p. IsOwnChild J.job p.1) }
-    ensures scope { IfErr result HappensAtScope }
+    ensures scope { IfErr result (HappensAtScope J.job) }
     ensures cause { IfErr result (Happens J.job) }
 {
     let (weight, paused) = wanting.take_weight();
@@ -87,7 +87,7 @@ pub fn give_back<'p, J: Running, G: Gate, R: Wait>(
 ) -> Result<Option<Passing<'p>>, Trouble>
     requires own { IsResultOfRun J.job made }
     ensures own { IfOk result (λ p. IfSome p (IsOwnPassing J.job)) }
-    ensures scope { IfErr result HappensAtScope }
+    ensures scope { IfErr result (HappensAtScope J.job) }
     ensures cause { IfErr result (Happens J.job) }
 {
     let mut guard = scope.lock(rt);
@@ -121,7 +121,7 @@ pub fn park<'p, J: Running, G: Gate, R: Wait>(
 ) -> Result<Option<Passing<'p>>, Trouble>
     requires own { IsOwnResting J.job owner }
     ensures own { IfOk result (λ p. IfSome p (IsOwnPassing J.job)) }
-    ensures scope { IfErr result HappensAtScope }
+    ensures scope { IfErr result (HappensAtScope J.job) }
     ensures cause { IfErr result (Happens J.job) }
 {
     let mut guard = scope.lock(rt);
@@ -153,7 +153,7 @@ fn passes<'p, J: Running, G: Gate, R: Wait>(
 ) -> Result<Option<Passing<'p>>, Trouble>
     requires { (back ≡ Back.Complete) → IsEven inner.old }
     ensures own { IfOk result (λ p. IfSome p (IsOwnPassing J.job)) }
-    ensures scope { IfErr result HappensAtScope }
+    ensures scope { IfErr result (HappensAtScope J.job) }
     ensures cause { IfErr result (Happens J.job) }
 {
     if inner.marked() {

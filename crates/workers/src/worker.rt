@@ -1,8 +1,8 @@
 //! Parts and reports of workers.
 
 use crate::error::RunError;
-use crate::ready::{First, Ready};
-use crossbeam_deque::Worker;
+use crate::pool::Tasks;
+use crate::ready::First;
 use crossbeam_utils::sync::Parker;
 use finish_scope::running::Running;
 use tickets::Seat;
@@ -12,8 +12,8 @@ use types::outcome::Outcome;
 #[derive(Drop)]
 pub struct WorkerParts<'p, J: Running> {
     pub state: WorkerState,
-    /// The tasks that it is to run, the newest first.
-    pub own: Worker<Ready<'p, J>>,
+    /// The tasks, without thieves before the run.
+    pub tasks: Tasks<'p, J>,
     /// The root, with which one worker starts.
     pub first: Option<First<'p, J>>,
 }

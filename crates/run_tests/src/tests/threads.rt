@@ -20,6 +20,7 @@ use types::budget::Budget;
 use types::input::Input;
 use types::path::Path;
 use weighted_task::task::Task;
+use weights::book::MOST_ISSUES;
 use workers::error::RunError;
 use workers::gate::{Gate, NoGate};
 use workers::reports::Finished;
@@ -394,4 +395,33 @@ fn a_scope_issues_nothing_for_more_than_is_out(rt: HostRuntime) {
         }
     }
     weight.forfeit();
+}
+
+#[test]
+fn a_scope_issues_weight_two_to_the_31_times(rt: HostRuntime) {
+    let alloc = rt.alloc();
+    let (mut inner, mut weight) = Inner::<Brand>::open(alloc, 1);
+    for _ in 1..MOST_ISSUES {
+        match inner.replenish(weight) {
+            Ok(more) => weight = more,
+            Err(late) => {
+                let Late { reason: _, back } = late;
+                back.forfeit();
+                assert!(rt; false, "a scope refused before");
+                return;
+            }
+        }
+    }
+    match inner.replenish(weight) {
+        Ok(weight) => {
+            weight.forfeit();
+            assert!(rt; false, "a scope issued once too often");
+        }
+        Err(late) => {
+            let Late { reason, back } = late;
+            assert!(rt; back.units() == MOST_ISSUES, "another weight");
+            back.forfeit();
+            assert!(rt; reason == Reason::IssuedTooOften, "another reason");
+        }
+    }
 }

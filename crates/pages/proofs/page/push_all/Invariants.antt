@@ -1,7 +1,7 @@
 use Rattle.std.proofs.Common.{◌≡◌, ◌++◌, drop}
 use Rattle.std.specs.List.{flat_map}
 use Rattle.std.specs.String.{string_bytes}
-use Rattle.pages.proofs.page.push_all.SampleWithInput as goal
+use Rattle.pages.proofs.page.push_all.Given as goal
 
 -- the text so far, and the pieces that are left
 abbrev pub invariant-loop-piece : goal.invariant-loop-piece

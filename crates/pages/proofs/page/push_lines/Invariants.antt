@@ -2,7 +2,7 @@ use Rattle.std.proofs.Common.{◌≡◌, ◌++◌, drop}
 use Rattle.std.specs.List.{flat_map}
 use Rattle.std.specs.String.{string_bytes}
 use Rattle.pages.specs.Pages.{indented}
-use Rattle.pages.proofs.page.push_lines.SampleWithInput as goal
+use Rattle.pages.proofs.page.push_lines.Given as goal
 
 -- the text so far, and the lines that are left
 abbrev pub invariant-loop-line : goal.invariant-loop-line

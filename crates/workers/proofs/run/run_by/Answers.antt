@@ -5,7 +5,7 @@ use denote.Ref.{NamedLft}
 use mir.Syntax.{named}
 use Rattle.workers.specs.contracts.main_loop.Shared as Shared
 use Rattle.workers.specs.contracts.worker.WorkerParts as WorkerParts
-use Rattle.workers.proofs.Sending.{floor_sync, kit_send}
+use Rattle.workers.proofs.Sending.{shared_sync, parts_send}
 use Rattle.workers.proofs.run.run_by.Lts.{arg-3-0, arg-3-2}
 use Rattle.workers.proofs.run.run_by.Goals as goal
 
@@ -13,7 +13,7 @@ use Rattle.workers.proofs.run.run_by.Goals as goal
 pub work_together-requires-send-C-Kit : goal.work_together-requires-send-C-Kit
 work_together-requires-send-C-Kit g c κs within =
     let κ : NamedLft = record { mir = named 6; lft = κs.1.1.1.1.1.1.0 } in
-    let s : IsSend (WorkerParts.the_row κ (param 0 g.row.J) g.J.Running) = kit_send κ (param 0 g.row.J) g.J.Running in
+    let s : IsSend (WorkerParts.the_row κ (param 0 g.row.J) g.J.Running) = parts_send κ (param 0 g.row.J) g.J.Running in
     param_send 2 (arg-3-2 g.row.J g.row.G g.row.R g.J.laws g.G.laws g.R.laws g.J.Running g.J.Running-dict g.G.Gate g.G.Gate-dict g.R.Threads g.R.Threads-dict g.R.Wait g.R.Wait-dict κs)
     (record { owned = s.owned; leaving = λ k. s.leaving no })
 
@@ -22,6 +22,6 @@ pub work_together-requires-sync-C : goal.work_together-requires-sync-C
 work_together-requires-sync-C g c κs within =
     let κ : NamedLft = record { mir = named 6; lft = κs.1.1.1.1.1.1.0 } in
     let s : IsSync (Shared.the_row κ (param 0 g.row.J) (param 1 g.row.G) g.J.Running g.G.Gate) =
-    floor_sync κ (param 0 g.row.J) g.J.Running (param 1 g.row.G) g.G.Gate c.type_bounds.sync-G in
+    shared_sync κ (param 0 g.row.J) g.J.Running (param 1 g.row.G) g.G.Gate c.type_bounds.sync-G in
     param_sync 0 (arg-3-0 g.row.J g.row.G g.row.R g.J.laws g.G.laws g.R.laws g.J.Running g.J.Running-dict g.G.Gate g.G.Gate-dict g.R.Threads g.R.Threads-dict g.R.Wait g.R.Wait-dict κs)
     (record { shared = s.shared })

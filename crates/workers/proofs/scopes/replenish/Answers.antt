@@ -11,11 +11,11 @@ returns-in-Ok-clause-child g c =
 
 pub returns-clause-scope : goal.returns-clause-scope
 returns-clause-scope g c =
-    subst HappensAtScope (sym c.not_issued.ensures)
-    (issued_nothing c.deref_mut.result.now c.take_weight-weight.result.0 c.in-Err.late.reason c.in-Err.ensures.case)
+    subst (HappensAtScope g.J.Running.job) (sym c.not_issued.ensures)
+    (issued_nothing g.J.Running.job c.deref_mut.result.now c.in-Err.ensures.of_run c.take_weight-weight.result.0 c.in-Err.late.reason c.in-Err.ensures.case)
 
 pub returns-clause-cause : goal.returns-clause-cause
 returns-clause-cause g c =
     subst (Happens g.J.Running.job) (sym c.not_issued.ensures)
-    (issued_nothing_of g.J.Running.job c.deref_mut.result.now c.take_weight-weight.result.0 c.in-Err.late.reason
+    (issued_nothing_of g.J.Running.job c.deref_mut.result.now c.in-Err.ensures.of_run c.take_weight-weight.result.0 c.in-Err.late.reason
     c.in-Err.ensures.case)
