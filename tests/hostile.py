@@ -498,11 +498,16 @@ def outputs(tests):
     tests.file("pairs.afx", "main { var k = 0; while k < 2 { " + "async { skip; } " * 300 + "k = k + 1; } }\n")
     tests.file("loop.afx", "main { var k = 0; finish { while k < 600 { async { skip; } k = k + 1; } } }\n")
     tests.run("run", "loop.afx", "--workers", "1", "--trace", "loop.trace")
+    (tests.room / "tests_of_output").mkdir()
+    tests.file("tests_of_output/t.afx", TWO_ARRAYS)
+    tests.file("tests_of_output/t.out", "7 8\n")
     much = (["run", "prints.afx"], ["serial", "prints.afx"], ["view", "loop.afx", "loop.trace"], ["mhp", "pairs.afx"], ["man"],
             ["list", "pairs.afx"], ["fmt", "pairs.afx"], ["explore", "prints.afx", "--random", "1"],
             ["run", "prints.afx", "--format", "json"], ["completions", "bash"])
     little = (["run", "t.afx"], ["check", "t.afx"], ["view", "loop.afx", "loop.trace", "--summary"], ["explain", "Y5"],
-              ["--help"], ["--version"], ["cost", "t.afx"])
+              ["--help"], ["--version"], ["cost", "t.afx"], ["cost", "t.afx", "--by-line"], ["explain", "--list"],
+              ["check", "t.afx", "--list"], ["mhp", "t.afx", "--format", "json"], ["list", "t.afx", "--lines"],
+              ["bench", "t.afx"], ["test", "tests_of_output"])
     for words in much + little:
         closed_pipe(tests, words)
         with open("/dev/full", "wb") as full:

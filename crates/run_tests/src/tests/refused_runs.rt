@@ -108,17 +108,19 @@ fn in_parallel<R: Abort + Eprint + Threads + Wait + Sync>(
 
 /// Returns an empty log.
 fn empty_log<'p>(
-    rt: &(impl Abort + Eprint),
+    rt: &impl Eprint,
     alloc: Global,
-    of: (&'p Accepted, &'p Input),
+    program: &'p Accepted,
+    input: &'p Input,
     header: &Header,
 ) -> Option<Log<'p>>
-    requires { FitsArrays (code_of of.0.now.typed).arrays (lists_in of.1.now) }
-    ensures { IfSome result (λ l. (l.events ≡ []) × (l.world.job
-        ≡ job_of alloc of.0.entry of.1.entry header.now.budget header.now.w0)) }
+    requires { FitsArrays (code_of program.now.typed).arrays (lists_in input.now) }
+    ensures begun { IfSome result (λ l. l.events ≡ []) }
+    ensures job { IfSome result (λ l. l.world.job
+        ≡ job_of alloc program.entry input.entry header.now.budget header.now.w0) }
 {
     for _ in 0..CALLS {
-        match Log::new(alloc, header, of.0, of.1) {
+        match Log::new(alloc, header, program, input) {
             Ok(log) => return Some(log),
             Err(_) => report(rt, "Log::new"),
         }
@@ -135,9 +137,10 @@ fn with_log<'p, R: Abort + Eprint + Threads + Wait + Sync>(
 ) -> Option<(Outcome, Log<'p>)>
     requires { FitsArrays (code_of of.0.now.typed).arrays (lists_in of.1.now) }
 {
+    let (program, input) = of;
     for _ in 0..CALLS {
-        let log = empty_log(rt, alloc, of, &header_of(settings))?;
-        match run(rt, alloc, of.0, of.1, settings, &NoGate, Some(log)) {
+        let log = empty_log(rt, alloc, program, input, &header_of(settings))?;
+        match run(rt, alloc, program, input, settings, &NoGate, Some(log)) {
             Ok((finished, log)) => return Some((finished.outcome, log.expect(rt, "the log"))),
             Err(error) => report_run(rt, &error),
         }
@@ -274,7 +277,7 @@ fn traces_agree<R: Abort + Eprint + Threads + Wait + Sync>(
     let job = WeightedJob::new(alloc, &program, &input, Budget::usual(), W0);
     let leads = lead_to(rt, job.expect(rt, "a weight"), &events, &outcome)?;
     assert!(rt; leads, "the trace leads to another end");
-    let empty = empty_log(rt, alloc, (&program, &input), &header)?;
+    let empty = empty_log(rt, alloc, &program, &input, &header)?;
     let leads = recorded_lead_to(rt, empty, &events, &outcome)?;
     assert!(rt; leads, "the recorded events lead to another end");
     Some(())
