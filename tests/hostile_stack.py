@@ -91,7 +91,7 @@ def mistakes():
            + "skip; " * 60_000 + "a[0] = 2; } }\n", "C1 race in main: 3 write a, 60004 write a")
     yield ("a race through 256 calls", "proc p0(mut s: int) { s[0] = 1; }\n" + calls
            + "main { array a: int[1]; finish { async { p255(a); } a[0] = 2; } }\n",
-           "C1 race in main: 259 write a, 260 write a")
+           "C1 race in main: 1 write a, 260 write a")
 
 
 def try_mistakes(tests):

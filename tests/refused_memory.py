@@ -33,7 +33,7 @@ ENOUGH = 20
 TESTS = TOP / "crates" / "run_tests" / "out" / "run_tests_tests"
 OF_CALLS = "::refused_"
 PASSED = b"\ntest result: ok\n"
-CALLS = {"parse", "type_check", "check", "summarize", "may_run_together", "zeros", "serial", "explore_random", "run",
+CALLS = {"parse", "type_check", "check", "summarize", "may_run_together", "zeros", "serial", "explore", "run",
          "Log::new", "write_lines", "read_lines", "replay", "record"}
 
 TWICE = """proc twice(mut s: int) {

@@ -22,7 +22,7 @@ use std::io::Eprint;
 use std::process::Abort;
 use std::sync::Wait;
 use std::thread::Threads;
-use step_trees::explore::{Explored, explore_random};
+use step_trees::explore::{Explored, explore, explore_random};
 use trace::log::Log;
 use trace_text::error::TraceError;
 use trace_text::header::Header;
@@ -65,14 +65,23 @@ fn on_one_thread(rt: &impl Eprint, alloc: Global, of: (&Accepted, &Input)) -> Op
     None
 }
 
-/// Runs a program by random choices.
-fn by_choices(rt: &impl Eprint, alloc: Global, of: (&Accepted, &Input)) -> Option<Explored>
+/// Runs a program by choices: the given ones, or random ones.
+fn by_choices(
+    rt: &impl Eprint,
+    alloc: Global,
+    of: (&Accepted, &Input),
+    choices: Option<&[u32]>,
+) -> Option<Explored>
     requires { FitsArrays (code_of of.0.now.typed).arrays (lists_in of.1.now) }
 {
     for _ in 0..CALLS {
-        match explore_random(alloc, of.0, of.1, 1) {
+        let explored = match choices {
+            Some(choices) => explore(alloc, of.0, of.1, choices),
+            None => explore_random(alloc, of.0, of.1, 1),
+        };
+        match explored {
             Ok(explored) => return Some(explored),
-            Err(_) => report(rt, "explore_random"),
+            Err(_) => report(rt, "explore"),
         }
     }
     None
@@ -232,12 +241,14 @@ fn ways_agree<R: Abort + Eprint + Threads + Wait + Sync>(
     rt: &R,
     alloc: Global,
     text: &str,
+    choices: Option<&[u32]>,
 ) -> Option<()> {
     let program = accepted_again(rt, alloc, text)?;
     let input = zeros(rt, alloc, &program)?;
     let outcome = on_one_thread(rt, alloc, (&program, &input))?;
-    if let Explored::Ended(explored) = by_choices(rt, alloc, (&program, &input))? {
-        assert!(rt; explored == outcome, "choices end otherwise");
+    match by_choices(rt, alloc, (&program, &input), choices)? {
+        Explored::Ended(explored) => assert!(rt; explored == outcome, "choices end otherwise"),
+        Explored::Open { .. } | Explored::NoSuchChoice(_) => panic!(rt; "choices don't end"),
     }
     for workers in [1, 2, 8] {
         let settings = Settings::new(Budget::usual(), 64, W0, workers).expect(rt, "settings");
@@ -250,8 +261,10 @@ fn ways_agree<R: Abort + Eprint + Threads + Wait + Sync>(
 #[test]
 fn runs_end_alike_once_there_is_memory(rt: HostRuntime) {
     let alloc = rt.alloc();
-    for text in [TWO_ARRAYS, FAULTS, HALVES] {
-        let _ = ways_agree(&rt, alloc, text);
+    let choices: &[u32] = &[0, 0, 0, 0, 0];
+    let _ = ways_agree(&rt, alloc, TWO_ARRAYS, Some(choices));
+    for text in [FAULTS, HALVES] {
+        let _ = ways_agree(&rt, alloc, text, None);
     }
 }
 
