@@ -18,7 +18,7 @@ from hostile_traces import LINES, cut_anywhere, of_other_runs, spelled_otherwise
 from runs import LIMIT, Counts, Ended, built_program, fail, finish, run, shown, start
 
 # The most seconds of a part in the short sweep, for those whose tables are long.
-SHORT_SECONDS = {"texts": 8, "traces": 8, "stack": 20}
+SHORT_SECONDS = {"texts": 6, "traces": 6, "stack": 16}
 TWO_ARRAYS = "main { array a: int[1]; array b: int[1]; finish { async { a[0] = 7; } b[0] = 8; } print a[0], b[0]; }\n"
 LONG_PRINTS = "main { var k = 0; while k < 20000 { print k, k, k; k = k + 1; } }\n"
 

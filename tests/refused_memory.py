@@ -10,6 +10,7 @@ not end by a signal, and not run longer than 20 seconds. A test of the libraries
 right answer, or reports that memory ran out.
 """
 import collections
+import json
 import mmap
 import os
 import pathlib
@@ -68,6 +69,22 @@ def refusals(command):
     """The statuses and lines with which a command may end where a request was refused."""
     lines = {(4, line.encode() + b"\n") for line in CODES[command].split() + ["no memory"]}
     return lines | {(1, b"error: out of memory\n"), (1, b"cannot write output\n")}
+
+
+def is_shorter(case, ended):
+    """Whether the answer is right, but an explanation or an object of it lacks for memory, or tells that."""
+    status, out, err = case.right
+    if "--explain" in case.words:
+        # (there may be another explanation, which needs less memory)
+        begins = ended.err.partition(b"\n")[0] == err.partition(b"\n")[0]
+        return (ended.status, ended.out) == (status, out) and (begins or not ended.err)
+    if "json" not in case.words:
+        return False
+    if not ended.out:
+        return (ended.status, ended.err) == (status, err)
+    held = json.loads(ended.out)
+    refused = (ended.status, ended.err) in refusals(case.words[0])
+    return refused and (held["status"], held["message"] + "\n") == (ended.status, ended.err.decode())
 
 
 class Case:
@@ -146,7 +163,7 @@ class Sweep:
         fault = None
         if ended.key() == case.right:
             self.whole += 1
-        elif ended.out == b"" and (ended.status, ended.err) in refusals(case.words[0]):
+        elif ended.out == b"" and (ended.status, ended.err) in refusals(case.words[0]) or is_shorter(case, ended):
             self.refused += 1
         else:
             fault = str(ended)
@@ -206,6 +223,11 @@ def cases_of(name, text, given, shared, alone):
     yield Case(name, ["serial", file, *options, *shared])
     yield Case(name, ["explore", file, *options, "--random", "1", *shared])
     yield Case(name, ["cost", file, *options])
+    if name in ("readers_race", "faults"):
+        yield Case(name, ["check", file, "--explain"])
+        yield Case(name, ["check", file, "--format", "json"])
+        yield Case(name, ["run", file, *options, "--workers", "2", "--explain"])
+        yield Case(name, ["run", file, *options, "--workers", "2", "--format", "json"])
     for workers in ("1", "2", "8"):
         words = ["run", file, *options, *alone, "--workers", workers]
         yield Case(name, words + shared)
@@ -238,6 +260,9 @@ def check_right(sweep, case, ended):
         wanted = (status, out.encode(), b"")
     if case.name == "readers_race" and case.words[0] in ("check", "run", "explore", "view"):
         wanted = (1, b"", RACE.encode())
+    if "--explain" in case.words or "json" in case.words:
+        # (the rows of crates/examples say what these print)
+        wanted = None
     fault = str(ended) if ended.is_bad() or (wanted and ended.key() != wanted) else None
     sweep.counts.judge(f"{' '.join(case.words)}, nothing refused", fault)
 

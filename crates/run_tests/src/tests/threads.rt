@@ -10,6 +10,7 @@ use finish_scope::inner::Inner;
 use finish_scope::late::{Late, Reason};
 use race_checker::accepted::Accepted;
 use std::alloc::Global;
+use std::hint::spin_loop;
 use std::marker::Brand;
 use std::process::Abort;
 use std::sync::Wait;
@@ -38,8 +39,8 @@ pub(crate) const TWO_TASKS: &str = "main { finish { async { skip; } async { skip
 /// The outcome of tasks that do nothing.
 const NOTHING: &str = "Ended { arrays: [], lines: [], faults: [] }";
 
-/// The number of times that a slow gate yields.
-const SLOW_TURNS: u32 = 2_000;
+/// The number of turns for which a slow gate spins.
+const SLOW_TURNS: u32 = 5_000;
 
 /// The turns of a task's path.
 pub(crate) type Turns = &'static [u32];
@@ -165,7 +166,7 @@ impl Gate for HoldingFirst {
     fn hold(&self) {}
 }
 
-/// A gate that yields 0 to 7 times, by numbers that look random.
+/// A gate that yields 0 to 3 times, by numbers that look random.
 #[derive(Drop)]
 struct Yielding {
     drawn: AtomicU64,
@@ -176,7 +177,7 @@ impl Yielding {
         let number = self
             .drawn
             .fetch_add(0x9E37_79B9_7F4A_7C15, Ordering::SeqCst);
-        for _ in 0..number >> 61 {
+        for _ in 0..number >> 62 {
             thread::yield_now();
         }
     }
@@ -202,13 +203,13 @@ impl Gate for Yielding {
     }
 }
 
-/// A gate that yields often, also while a scope is locked.
+/// A gate that takes its time, also while a scope is locked.
 struct Slow;
 
 impl Slow {
     fn pass(&self) {
         for _ in 0..SLOW_TURNS {
-            thread::yield_now();
+            spin_loop();
         }
     }
 }
