@@ -77,7 +77,7 @@ def is_shorter(case, ended):
     if "--explain" in case.words:
         # (there may be another explanation, which needs less memory)
         begins = ended.err.partition(b"\n")[0] == err.partition(b"\n")[0]
-        return (ended.status, ended.out) == (status, out) and (begins or not ended.err)
+        return (ended.status, ended.out) == (status, out) and (begins or not ended.err and status > 1)
     if "json" not in case.words:
         return False
     if not ended.out:
