@@ -6,7 +6,6 @@ ghost use Rattle.workers.specs.Causes.{Happens};
 use crate::error::Trouble;
 use crate::ready::Ready;
 use crossbeam_utils::sync::{Parker, Unparker};
-use deques::{Deque, Front, Thief};
 use finish_scope::inner::Scope;
 use finish_scope::resting::ScopePosition;
 use finish_scope::running::Running;
@@ -14,6 +13,7 @@ use finish_scope::scope_table::ScopeTable;
 use std::alloc::{AllocError, Global};
 use std::sync::atomic::{AtomicBool, AtomicUsize, Ordering};
 use std::sync::{Arc, Mutex, Wait};
+use worker_threads::{Deque, Front, Thief};
 
 /// The number of tasks for which a deque has room at the start.
 const FIRST_ROOM: usize = 64;
