@@ -152,7 +152,7 @@ fn tell_command_line<O: Write, E: Write>(
         Reply::Said(error) => match format!(in alloc; "{error}") {
             Ok(text) if error.use_stderr() => refuse(err, &text),
             Ok(text) => hand_out(out, err, &text),
-            Err(AllocError) => 1,
+            Err(AllocError) => refuse(err, "error: out of memory\n"),
         },
         Reply::Page(text) => hand_out(out, err, text),
         Reply::NoPage(line) => refuse(err, line),
