@@ -34,7 +34,8 @@ use test_and_bench::folders::FolderSource;
 
 /// Carries out the arguments after the program's name, and returns the exit status. It is a mistake
 /// if they give the same name to two files: no file is both read and written. `--progress` reports
-/// the progress of a run to `terminal`, and `bench` reads the time from it.
+/// the progress of a run to `terminal`, and `bench` reads the time from it. By default explanations
+/// are written if it is a terminal.
 pub fn act<R: Threads + Wait + Sync, F: FolderSource, O: Write, E: Write, T: Terminal>(
     rt: &R,
     alloc: Global,
@@ -45,14 +46,14 @@ pub fn act<R: Threads + Wait + Sync, F: FolderSource, O: Write, E: Write, T: Ter
     terminal: &mut T,
 ) -> u8
     ensures asked { (a : Asked) → Asks (map string_bytes words.now) a → names_once a ≡ true
-        → Acts a (F.held files.old) (F.held files.new) (O.contents out.old) (O.contents out.new)
+        → Acts (T.seen terminal.old) a (F.held files.old) (F.held files.new) (O.contents out.old) (O.contents out.new)
         (E.contents err.old) (E.contents err.new) result }
     ensures as_object { (x : Subject) (a : Asked) → AsksForObject (map string_bytes words.now) x a
-        → names_once a ≡ true → TellsAs x a (F.held files.old) (F.held files.new)
+        → names_once a ≡ true → TellsAs (T.seen terminal.old) x a (F.held files.old) (F.held files.new)
         (O.contents out.old) (O.contents out.new)
         (E.contents err.old) (E.contents err.new) result }
     ensures timed { (a : Asked) → AsksToTime (map string_bytes words.now) a → names_once a ≡ true
-        → TimesAs a (F.held files.old) (F.held files.new) (O.contents out.old) (O.contents out.new)
+        → TimesAs (T.seen terminal.old) a (F.held files.old) (F.held files.new) (O.contents out.old) (O.contents out.new)
         (E.contents err.old) (E.contents err.new) result }
     ensures tested { (folder : List ℕ) → AsksToTest (map string_bytes words.now) folder
         → TestsAs folder (F.named files.old) (F.held files.old) (F.held files.new)
@@ -63,7 +64,7 @@ pub fn act<R: Threads + Wait + Sync, F: FolderSource, O: Write, E: Write, T: Ter
     ensures watched { (o : OrderIn) → Orders (map string_bytes words.now) o → order_names_once o ≡ true
         → WatchesOrder T.Told o result terminal.old terminal.new }
     ensures always { ((result ≤ 1) × (F.held files.new ≡ F.held files.old)) ⊎ ((o : OrderIn)
-        × ActsOn o (F.named files.old) (F.held files.old) (F.held files.new)
+        × ActsOn (T.seen terminal.old) o (F.named files.old) (F.held files.old) (F.held files.new)
         (O.contents out.old) (O.contents out.new) (E.contents err.old) (E.contents err.new) result) }
 {
     match order_of(alloc, words) {
@@ -82,7 +83,7 @@ fn carry_out<R: Threads + Wait + Sync, F: FolderSource, O: Write, E: Write, T: T
     err: &mut E,
     terminal: &mut T,
 ) -> u8
-    ensures acts { ActsOn (order_said order.entry) (F.named files.old)
+    ensures acts { ActsOn (T.seen terminal.old) (order_said order.entry) (F.named files.old)
         (F.held files.old) (F.held files.new)
         (O.contents out.old) (O.contents out.new) (E.contents err.old) (E.contents err.new) result }
     ensures watched { WatchesOrder T.Told (order_said order.entry) result terminal.old terminal.new }
@@ -90,18 +91,21 @@ fn carry_out<R: Threads + Wait + Sync, F: FolderSource, O: Write, E: Write, T: T
     match order {
         Order::AsText(request) => {
             let doing = TextOrder::Answering;
+            let explains = request.telling.explain.explains(terminal.is_terminal());
             let done = read_and_do(rt, alloc, Ordered { doing, request }, files, out, terminal);
-            report(done, request.telling.explain, err)
+            report(done, explains, err)
         }
         Order::AsObject(subject, request) => {
             let doing = TextOrder::Describing(subject);
+            let explains = request.telling.explain.explains(terminal.is_terminal());
             let done = read_and_do(rt, alloc, Ordered { doing, request }, files, out, terminal);
-            report(done, request.telling.explain, err)
+            report(done, explains, err)
         }
         Order::Times(request) => {
             let doing = TextOrder::Timing;
+            let explains = request.telling.explain.explains(terminal.is_terminal());
             let done = read_and_do(rt, alloc, Ordered { doing, request }, files, out, terminal);
-            report(done, request.telling.explain, err)
+            report(done, explains, err)
         }
         Order::Tests(folder) => {
             let done = test(rt, alloc, folder, files, out);
@@ -110,11 +114,11 @@ fn carry_out<R: Threads + Wait + Sync, F: FolderSource, O: Write, E: Write, T: T
     }
 }
 
-/// Writes the explanation of an answer, or of a failure, to the standard error. `explain` is
-/// whether an explanation was requested.
-fn report<E: Write>(done: Result<Answered, Refusal>, explain: bool, err: &mut E) -> u8
-    requires said { IsSaid explain done }
-    ensures { Reports explain (E.contents err.old) (E.contents err.new) (in_short done) result }
+/// Writes the explanation of an answer, or of a failure, to the standard error. `explains` is
+/// whether there should be one.
+fn report<E: Write>(done: Result<Answered, Refusal>, explains: bool, err: &mut E) -> u8
+    requires said { IsSaid explains done }
+    ensures { Reports explains (E.contents err.old) (E.contents err.new) (in_short done) result }
 {
     match done {
         Ok(answered) => answered.follow(err),

@@ -1,7 +1,7 @@
 //! Carrying out orders on the file of a program.
 
 ghost use Rattle.std.specs.Prelude.{◌≡◌};
-ghost use Rattle.command_line.specs.Requests.{asked_of};
+ghost use Rattle.command_line.specs.Requests.{asked_of, is_explained};
 ghost use Rattle.driver.specs.Acts.{IsSaid, in_short};
 ghost use Rattle.driver.specs.Orders.{DoesWithLoaded, ReadsAnd, TellsUnread};
 ghost use Rattle.driver.specs.Watching.{WatchesDoing};
@@ -57,7 +57,7 @@ pub fn read_and_do<R: Threads + Wait + Sync, F: FileSource, O: Write, T: Termina
     ensures done { ReadsAnd ordered.entry.doing (asked_of ordered.entry.request)
         (F.held files.old) (F.held files.new)
         (O.contents out.old) (O.contents out.new) (in_short result) }
-    ensures said { IsSaid ordered.entry.request.telling.explain result }
+    ensures said { IsSaid (is_explained ordered.entry.request.telling.explain (T.seen terminal.old)) result }
     ensures watched { WatchesDoing T.Told ordered.entry.doing (asked_of ordered.entry.request)
         (in_short result) terminal.old terminal.new }
 {
@@ -128,7 +128,7 @@ fn do_with<R: Threads + Wait + Sync, F: FileSource, O: Write, T: Terminal>(
     }
 }
 
-/// Adds the explanation to a result.
+/// Adds the explanation to a result, if it should be explained.
 fn explained<R: Threads + Sync, F: FileSource>(
     rt: &R,
     alloc: Global,
@@ -138,7 +138,7 @@ fn explained<R: Threads + Sync, F: FileSource>(
     done: Result<u8, Failure>,
 ) -> Result<Answered, Refusal>
     ensures same { in_short result ≡ done }
-    ensures said { IsSaid request.entry.telling.explain result }
+    ensures said { IsSaid source.now.explains result }
     ensures keeps { F.held files.new ≡ F.held files.old }
 {
     match done {

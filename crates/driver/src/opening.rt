@@ -3,6 +3,7 @@
 ghost use Rattle.std.specs.Prelude.{◌≡◌, ◌≤◌, [], length, false, IfErr, IfOk};
 ghost use Rattle.std.specs.String.{string_bytes};
 ghost use Rattle.files.specs.Held.{HasText, TellsNoProgram};
+ghost use Rattle.command_line.specs.Requests.{is_explained};
 ghost use Rattle.command_line.specs.declared.request.Color.TheVariants.{Always, Never};
 ghost use Rattle.excerpts.specs.declared.paint.Paint.TheVariants.{Coloured, Plain};
 
@@ -15,8 +16,8 @@ use failures::failure::Failure;
 use files::file_source::{FileSource, read_program};
 use std::alloc::Global;
 
-/// Returns the text of the file that a request names; or the reason why it has none, explained if
-/// that is requested.
+/// Returns the text of the file that a request names; or the reason why it has none. That is
+/// explained on request, and by default at a terminal.
 pub(crate) fn source_of<F: FileSource, T: Terminal>(
     alloc: Global,
     files: &mut F,
@@ -29,13 +30,24 @@ pub(crate) fn source_of<F: FileSource, T: Terminal>(
     ensures why { IfErr result
         (λ refusal. TellsNoProgram (F.held files.old) request.entry.file.now refusal.failure) }
     ensures bare { IfErr result
-        (λ refusal. request.entry.telling.explain ≡ false → string_bytes refusal.more ≡ []) }
+        (λ refusal. is_explained request.entry.telling.explain (T.seen terminal.now) ≡ false
+        → string_bytes refusal.more ≡ []) }
+    ensures explains { IfOk result
+        (λ source. source.explains ≡ is_explained request.entry.telling.explain (T.seen terminal.now)) }
     ensures keeps { F.held files.new ≡ F.held files.old }
 {
+    let explains = request.telling.explain.explains(terminal.is_terminal());
     let paint = paint_of(request.telling, terminal);
     match text_in(alloc, files, request.file) {
-        Ok(text) => Ok(ProgramSource { text, paint }),
-        Err(failure) => Err(Refusal::unread(alloc, files, request, paint, failure)),
+        Ok(text) => Ok(ProgramSource {
+            text,
+            explains,
+            paint,
+        }),
+        Err(failure) => {
+            let file = request.file;
+            Err(Refusal::unread(alloc, files, file, explains, paint, failure))
+        }
     }
 }
 

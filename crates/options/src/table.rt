@@ -43,6 +43,9 @@ enum Takes {
     TextBut(&'static str, &'static [&'static str]),
     /// An option whose value is one of these words. The help shows this name for the value.
     OneOf(&'static str, &'static [&'static str]),
+    /// An option whose value, after `=`, is one of these words; without a value it is the last word
+    /// here. The help shows this name for the value.
+    MaybeOneOf(&'static str, &'static [&'static str], &'static str),
     /// An option with a number in this inclusive range.
     Number(i64, i64),
     /// An option with a 64-bit number.
@@ -197,8 +200,8 @@ const PROGRESS: Entry = Entry {
 
 const EXPLAIN: Entry = Entry {
     name: "explain",
-    help: "Explain an error, a fault or a stopped run: where it is, why, and how to fix it",
-    takes: Takes::Nothing,
+    help: "Explain an error, a fault or a stopped run [default: auto, on a terminal; always without a value]",
+    takes: Takes::MaybeOneOf("WHEN", &["auto", "always", "never"], "always"),
 };
 
 const COLOR: Entry = Entry {
@@ -554,6 +557,13 @@ fn argument<'w>(alloc: Global, entry: Entry) -> Result<Arg<'w>, AllocError> {
             .long(entry.name)
             .value_name(value)
             .value_parser(words),
+        Takes::MaybeOneOf(value, words, missing) => argument
+            .long(entry.name)
+            .value_name(value)
+            .value_parser(words)
+            .num_args(0..=1)
+            .require_equals(true)
+            .default_missing_value(missing),
         Takes::Number(least, most) => argument
             .long(entry.name)
             .value_name("N")

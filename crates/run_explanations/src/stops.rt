@@ -1,6 +1,7 @@
 //! Tasks that exceed their budget.
 
 use crate::faults::push_call;
+use crate::headings::heading_of;
 use crate::seen::{BudgetPart, Overrun};
 use excerpts::statements::PlacedStatements;
 use std::alloc::AllocError;
@@ -12,10 +13,11 @@ pub fn push_overrun(
     statements: &PlacedStatements<'_>,
     budget: Budget,
     overrun: &Overrun,
+    file: &str,
 ) -> Result<(), AllocError> {
-    told.push('\n')?;
     let label = overrun.label;
     let path = &overrun.path;
+    heading_of(file, "stopped").push(told, statements.place(label))?;
     statements.push_at(told, label, None)?;
     match overrun.part {
         BudgetPart::Steps => {
