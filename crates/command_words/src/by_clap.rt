@@ -46,7 +46,7 @@ fn described(alloc: Global, given: Option<&ArgMatches<'_>>) -> Result<Reply, All
 /// Returns the order of another command.
 fn ordered<'w>(alloc: Global, asked: Option<(&str, &ArgMatches<'w>)>) -> Result<Order<'w>, Error> {
     match asked {
-        Some(("bench", given)) => Ok(Order::Times(request(alloc, Command::Cost, given)?)),
+        Some(("bench", given)) => Ok(Order::Times(request(alloc, Command::Run, given)?)),
         Some(("test", given)) => Ok(Order::Tests(given.get_str("FOLDER").unwrap_or("-"))),
         asked => Ok(told(asked, request_asked(alloc, asked)?)),
     }

@@ -258,8 +258,9 @@ Example: afx cost examples/doubling.afx --input examples/doubling.json
 Example: afx cost examples/doubling.afx --input examples/doubling.json --by-line";
 
 const BENCH_EXAMPLE: &str =
-    "Each run is repeated five times; the minimum and the median are printed, in microseconds. If the program has faults or
-is stopped, its outcome is printed and nothing is timed.
+    "Each run is repeated five times; the minimum and the median are printed, in microseconds. The speed-up is the serial
+median divided by that of the most workers; no number of workers gives more than work / span. If the program has faults
+or is stopped, its outcome is printed and nothing is timed.
 
 Example: afx bench examples/doubling.afx --input examples/doubling.json";
 
@@ -353,9 +354,9 @@ const COSTED: Row = Row {
 
 const BENCHED: Row = Row {
     name: "bench",
-    about: "Time a program serially and in parallel on 1, 2 and 4 threads",
+    about: "Time a program serially and in parallel on 1, 2 and 4 threads, or up to --workers",
     example: BENCH_EXAMPLE,
-    entries: &[FILE, INPUT, STEPS, NEST, EXPLAIN, COLOR],
+    entries: &[FILE, INPUT, STEPS, NEST, TASKS, W0, WORKERS, EXPLAIN, COLOR],
 };
 
 const TESTED: Row = Row {
