@@ -18,7 +18,7 @@ ghost use Rattle.printing.specs.Appending.{AppendsBeginning};
 use crate::answered::Answered;
 use crate::doing::{Ordered, TextOrder, read_and_do};
 use crate::refusal::Refusal;
-use crate::terminal::Terminal;
+use crate::terminal::{Terminal, explains_on};
 use crate::trying::test;
 use command_words::order::Order;
 use command_words::words::order_of;
@@ -91,19 +91,19 @@ fn carry_out<R: Threads + Wait + Sync, F: FolderSource, O: Write, E: Write, T: T
     match order {
         Order::AsText(request) => {
             let doing = TextOrder::Answering;
-            let explains = request.telling.explain.explains(terminal.is_terminal());
+            let explains = explains_on(request.telling, terminal);
             let done = read_and_do(rt, alloc, Ordered { doing, request }, files, out, terminal);
             report(done, explains, err)
         }
         Order::AsObject(subject, request) => {
             let doing = TextOrder::Describing(subject);
-            let explains = request.telling.explain.explains(terminal.is_terminal());
+            let explains = explains_on(request.telling, terminal);
             let done = read_and_do(rt, alloc, Ordered { doing, request }, files, out, terminal);
             report(done, explains, err)
         }
         Order::Times(request) => {
             let doing = TextOrder::Timing;
-            let explains = request.telling.explain.explains(terminal.is_terminal());
+            let explains = explains_on(request.telling, terminal);
             let done = read_and_do(rt, alloc, Ordered { doing, request }, files, out, terminal);
             report(done, explains, err)
         }

@@ -9,7 +9,7 @@ ghost use Rattle.excerpts.specs.declared.paint.Paint.TheVariants.{Coloured, Plai
 
 use crate::refusal::Refusal;
 use crate::source::ProgramSource;
-use crate::terminal::Terminal;
+use crate::terminal::{Terminal, explains_on};
 use command_line::request::{Color, Request, Telling};
 use excerpts::paint::Paint;
 use failures::failure::Failure;
@@ -36,7 +36,7 @@ pub(crate) fn source_of<F: FileSource, T: Terminal>(
         (λ source. source.explains ≡ is_explained request.entry.telling.explain (T.seen terminal.now)) }
     ensures keeps { F.held files.new ≡ F.held files.old }
 {
-    let explains = request.telling.explain.explains(terminal.is_terminal());
+    let explains = explains_on(request.telling, terminal);
     let paint = paint_of(request.telling, terminal);
     match text_in(alloc, files, request.file) {
         Ok(text) => Ok(ProgramSource {

@@ -1,7 +1,9 @@
 //! The terminal at which a user watches a run, and reads explanations.
 
 ghost use Rattle.std.specs.Prelude.{◌≡◌, Bool, false};
+ghost use Rattle.command_line.specs.Requests.{is_explained};
 
+use command_line::request::Telling;
 use statement_steps::watch::{Unwatched, Watch};
 use std::time::Clock;
 use test_and_bench::clock::Stopwatch;
@@ -18,6 +20,13 @@ pub trait Terminal: Watch + Stopwatch {
 
     /// Returns whether explanations may be colored.
     fn has_colours(&self) -> bool;
+}
+
+/// Returns whether failures and outcomes are explained on this terminal.
+pub fn explains_on<T: Terminal>(telling: Telling, terminal: &T) -> bool
+    ensures { result ≡ is_explained telling.explain (T.seen terminal.now) }
+{
+    telling.explain.explains(terminal.is_terminal())
 }
 
 /// Without a user there is no terminal, and there are no colors.

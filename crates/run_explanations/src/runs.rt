@@ -2,7 +2,7 @@
 
 use crate::faults::push_faults;
 use crate::seen::SeenRun;
-use crate::stops::push_overrun;
+use crate::stops::push_stop;
 use excerpts::statements::PlacedStatements;
 use std::alloc::{AllocError, Global};
 use types::budget::Budget;
@@ -24,7 +24,7 @@ pub fn explained_run(
         return Ok(told);
     };
     match &seen.overrun {
-        Some(overrun) => push_overrun(&mut told, &statements, budget, overrun, file)?,
+        Some(overrun) => push_stop(&mut told, &statements, budget, seen, overrun, file)?,
         None => push_faults(&mut told, &statements, code, seen, file)?,
     }
     Ok(told)
