@@ -116,8 +116,14 @@ fn timed<'w>(request: Request<'w>) -> Option<Order<'w>>
         → IsSomeAnd result (λ r. order_said r ≡ Times (asked_of request.entry)) }
 {
     match request.settings.trace {
-        None if !request.settings.arrays => Some(Order::Times(request)),
-        _ => None,
+        Some(_) => None,
+        None => {
+            if request.settings.arrays {
+                None
+            } else {
+                Some(Order::Times(request))
+            }
+        }
     }
 }
 

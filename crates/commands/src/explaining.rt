@@ -53,7 +53,8 @@ pub fn explanation<R: Threads + Sync, F: FileSource>(
             explained_rule(alloc, text, *error, heading_of(file, error.code()))
         }
         Failure::Race { first, second, .. } => {
-            race_explained(rt, alloc, text, (first, second), heading_of(file, "C1"))
+            let accesses = (first.as_str(), second.as_str());
+            race_explained(rt, alloc, text, accesses, heading_of(file, "C1"))
         }
         Failure::Input(error) => match settings.input {
             Some(name) => input_explained(alloc, files, text, name, error),

@@ -5,7 +5,6 @@ use crate::rule_texts::is_word;
 use excerpts::heading::Heading;
 use excerpts::statements::PlacedStatements;
 use std::alloc::{AllocError, Global};
-use syntax::TextPlace;
 use syntax::token::{Spanned, Token, Word};
 
 /// A limit, and what is printed about a program that exceeds it.
