@@ -25,7 +25,7 @@ pub fn explained_tasks(
         let more = tasks.saturating_mul(2).min(MOST_TASKS);
         write!(
             told,
-            "help: start fewer tasks and give each more work, or raise the limit with `run --tasks {more}`.\n"
+            "help: start fewer tasks and give each more work, or raise the limit with `--tasks {more}`.\n"
         )?;
     }
     Ok(told)
