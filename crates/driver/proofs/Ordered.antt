@@ -37,10 +37,15 @@ module _ (d : TextOrder) (a : Asked) (held : Held) (old new : Option (List ℕ))
 -- ---- what was ordered
 
 module _ (held later : Held) (old new err_old err_new : Option (List ℕ)) (status : ℕ) where
-  pub acted : (at_terminal : Bool) (d : TextOrder) (a : Asked) (r : Result ℕ Failure) → ReadsAnd d a held later old new r
-      → Reports (is_explained a.telling.explain at_terminal) err_old err_new r status
+  pub acted : (at_terminal : Bool) (d : TextOrder) (a : Asked) (r : Result ℕ Failure) (explains : Bool)
+      → explains ≡ is_explained a.telling.explain at_terminal → ReadsAnd d a held later old new r
+      → Reports explains err_old err_new r status
       → ActsWith at_terminal d a held later old new err_old err_new status
-  acted at_terminal d a r does reports = record { result = r; does = does; reports = reports }
+  acted at_terminal d a r explains is does reports = record {
+    result = r;
+    does = does;
+    reports = subst (λ (e : Bool). Reports e err_old err_new r status) is reports;
+  }
 
 module _ (named : Folders) (held later : Held) (old new err_old err_new : Option (List ℕ)) (status : ℕ) where
   pub tested_as : (folder : List ℕ) (r : Result ℕ Failure) → TestsFolder named held later folder old new r

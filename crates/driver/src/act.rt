@@ -92,19 +92,34 @@ fn carry_out<R: Threads + Wait + Sync, F: FolderSource, O: Write, E: Write, T: T
         Order::AsText(request) => {
             let doing = TextOrder::Answering;
             let explains = explains_on(request.telling, terminal);
-            let done = read_and_do(rt, alloc, Ordered { doing, request }, files, out, terminal);
+            let ordered = Ordered {
+                doing,
+                request,
+                explains,
+            };
+            let done = read_and_do(rt, alloc, ordered, files, out, terminal);
             report(done, explains, err)
         }
         Order::AsObject(subject, request) => {
             let doing = TextOrder::Describing(subject);
             let explains = explains_on(request.telling, terminal);
-            let done = read_and_do(rt, alloc, Ordered { doing, request }, files, out, terminal);
+            let ordered = Ordered {
+                doing,
+                request,
+                explains,
+            };
+            let done = read_and_do(rt, alloc, ordered, files, out, terminal);
             report(done, explains, err)
         }
         Order::Times(request) => {
             let doing = TextOrder::Timing;
             let explains = explains_on(request.telling, terminal);
-            let done = read_and_do(rt, alloc, Ordered { doing, request }, files, out, terminal);
+            let ordered = Ordered {
+                doing,
+                request,
+                explains,
+            };
+            let done = read_and_do(rt, alloc, ordered, files, out, terminal);
             report(done, explains, err)
         }
         Order::Tests(folder) => {

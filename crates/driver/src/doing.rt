@@ -1,7 +1,7 @@
 //! Carrying out orders on the file of a program.
 
 ghost use Rattle.std.specs.Prelude.{◌≡◌};
-ghost use Rattle.command_line.specs.Requests.{asked_of, is_explained};
+ghost use Rattle.command_line.specs.Requests.{asked_of};
 ghost use Rattle.driver.specs.Acts.{IsSaid, in_short};
 ghost use Rattle.driver.specs.Orders.{DoesWithLoaded, ReadsAnd, TellsUnread};
 ghost use Rattle.driver.specs.Watching.{WatchesDoing};
@@ -38,11 +38,12 @@ pub enum TextOrder {
     Timing,
 }
 
-/// An order for the text of a program, and its request.
+/// An order for the text of a program, its request, and whether failures and outcomes are explained.
 #[derive(Clone, Copy)]
 pub struct Ordered<'o> {
     pub doing: TextOrder,
     pub request: Request<'o>,
+    pub explains: bool,
 }
 
 /// Reads a program, and carries out the order on its text.
@@ -57,12 +58,16 @@ pub fn read_and_do<R: Threads + Wait + Sync, F: FileSource, O: Write, T: Termina
     ensures done { ReadsAnd ordered.entry.doing (asked_of ordered.entry.request)
         (F.held files.old) (F.held files.new)
         (O.contents out.old) (O.contents out.new) (in_short result) }
-    ensures said { IsSaid (is_explained ordered.entry.request.telling.explain (T.seen terminal.old)) result }
+    ensures said { IsSaid ordered.entry.explains result }
     ensures watched { WatchesDoing T.Told ordered.entry.doing (asked_of ordered.entry.request)
         (in_short result) terminal.old terminal.new }
 {
-    let Ordered { doing, request } = ordered;
-    let source = match source_of(alloc, files, request, terminal) {
+    let Ordered {
+        doing,
+        request,
+        explains,
+    } = ordered;
+    let source = match source_of(alloc, files, request, explains, terminal) {
         Ok(source) => source,
         Err(refusal) => {
             tell_unread(rt, alloc, doing, request.file, &refusal.failure, out);

@@ -3,25 +3,25 @@
 ghost use Rattle.std.specs.Prelude.{◌≡◌, ◌≤◌, [], length, false, IfErr, IfOk};
 ghost use Rattle.std.specs.String.{string_bytes};
 ghost use Rattle.files.specs.Held.{HasText, TellsNoProgram};
-ghost use Rattle.command_line.specs.Requests.{is_explained};
 ghost use Rattle.command_line.specs.declared.request.Color.TheVariants.{Always, Never};
 ghost use Rattle.excerpts.specs.declared.paint.Paint.TheVariants.{Coloured, Plain};
 
 use crate::refusal::Refusal;
 use crate::source::ProgramSource;
-use crate::terminal::{Terminal, explains_on};
+use crate::terminal::Terminal;
 use command_line::request::{Color, Request, Telling};
 use excerpts::paint::Paint;
 use failures::failure::Failure;
 use files::file_source::{FileSource, read_program};
 use std::alloc::Global;
 
-/// Returns the text of the file that a request names; or the reason why it has none. That is
-/// explained on request, and by default at a terminal.
+/// Returns the text of the file that a request names; or the reason why it has none, explained if
+/// it should be.
 pub(crate) fn source_of<F: FileSource, T: Terminal>(
     alloc: Global,
     files: &mut F,
     request: Request<'_>,
+    explains: bool,
     terminal: &T,
 ) -> Result<ProgramSource, Refusal>
     ensures text { IfOk result
@@ -30,13 +30,10 @@ pub(crate) fn source_of<F: FileSource, T: Terminal>(
     ensures why { IfErr result
         (λ refusal. TellsNoProgram (F.held files.old) request.entry.file.now refusal.failure) }
     ensures bare { IfErr result
-        (λ refusal. is_explained request.entry.telling.explain (T.seen terminal.now) ≡ false
-        → string_bytes refusal.more ≡ []) }
-    ensures explains { IfOk result
-        (λ source. source.explains ≡ is_explained request.entry.telling.explain (T.seen terminal.now)) }
+        (λ refusal. explains ≡ false → string_bytes refusal.more ≡ []) }
+    ensures explains { IfOk result (λ source. source.explains ≡ explains) }
     ensures keeps { F.held files.new ≡ F.held files.old }
 {
-    let explains = explains_on(request.telling, terminal);
     let paint = paint_of(request.telling, terminal);
     match text_in(alloc, files, request.file) {
         Ok(text) => Ok(ProgramSource {
