@@ -13,7 +13,17 @@ import sys
 import tempfile
 
 TOP = pathlib.Path(__file__).resolve().parent.parent
-AFX = os.path.abspath(os.environ.get("AFX", str(TOP / "afx")))
+
+
+def program():
+    """Returns the program that AFX names, or else the one that ./afx runs."""
+    if os.environ.get("AFX"):
+        return os.path.abspath(os.environ["AFX"])
+    subprocess.run([str(TOP / "afx"), "--version"], stdout=subprocess.DEVNULL, check=True)
+    return str(TOP / "crates/afx/out/afx")
+
+
+AFX = program()
 
 REFUSED = b"main { print x; }\n"
 REFUSED_LINE = b"Y1 at label 1\n"
@@ -86,7 +96,6 @@ def main():
     with tempfile.TemporaryDirectory() as room:
         for name, text in FILES.items():
             (pathlib.Path(room) / name).write_bytes(text)
-        subprocess.run([AFX, "--version"], stdout=subprocess.DEVNULL, stderr=subprocess.DEVNULL, check=True)
         for words, out, line, more, status in RUNS:
             for option in ([], ["--explain"], ["--explain=auto"], ["--explain=always"], ["--explain=never"]):
                 for way in (at_terminal, at_pipe):
