@@ -88,15 +88,15 @@ fn push_command(alloc: Global, text: &mut String, command: &Command<'_>) -> Resu
 fn push_argument(alloc: Global, text: &mut String, arg: &Arg<'_>) -> Result<(), AllocError> {
     text.push_str(" \\\n            '")?;
     if let Some(long) = arg.get_long() {
-        let mark = if needs_equals(arg) { "=-[" } else { "[" };
-        push_all(text, &["--", long, mark])?;
+        push_all(text, &["--", long])?;
+        text.push_str(if needs_equals(arg) { "=-[" } else { "[" })?;
         Quoting::Zsh.push(text, arg.get_help().unwrap_or(""))?;
         text.push(']')?;
     }
     if takes_value(arg) {
         let name = value_name(alloc, arg)?;
-        let mark = if needs_equals(arg) { "::" } else { ":" };
-        push_all(text, &[mark, name.as_str(), ":"])?;
+        text.push_str(if needs_equals(arg) { "::" } else { ":" })?;
+        push_all(text, &[name.as_str(), ":"])?;
         OFFERS.push(alloc, text, arg)?;
     }
     text.push('\'')
