@@ -1,9 +1,13 @@
-//! Worker threads that borrow shared data, each with a promised report.
+//! Worker threads that borrow shared data, each with a promised report, and the deques of their tasks.
 
 #![tactic(auto)]
 
 mod crew;
+mod deque;
+mod deque_ends;
+mod deque_rule;
 mod starting;
 
 pub use crew::{Crew, CrewError, ReportPromise};
+pub use deque_ends::{Deque, Front, Thief};
 pub use starting::work_together;

@@ -1,6 +1,6 @@
 -- The log of a run is of its job.
 use Rattle.std.proofs.Common.{◌≡◌, ℕ, Option, Some, None, Result, Ok, Err, sym, ap, ◌∙◌, subst}
-use Rattle.std.specs.Prelude.{IfOk, IfSome}
+use Rattle.std.specs.Prelude.{IfErr, IfOk, IfSome}
 use Rattle.std.proofs.lemmas.Option.{same_Some}
 use Rattle.types.specs.Outcome.{Outcome}
 use Rattle.task_run.specs.Jobs.{outcome_of}
@@ -40,6 +40,12 @@ pub log_reason : (o : Option Job) (workers tasks : ℕ) (HasLog : Type 0) (e : R
     → IsRunReason o workers tasks HasLog e
 log_reason o workers tasks HasLog e r has =
     record { cause = with_log tasks HasLog e has (r.cause tasks); ticket = r.ticket workers; happened = r.happened o }
+
+-- the same of a call that may end so
+pub log_reason_of : {T : Type 0} (o : Option Job) (workers tasks : ℕ) (HasLog Has : Type 0) (r : Result T RunError)
+    → IfErr r IsOfLog → IfErr r (λ _. Has) → (Has → HasLog) → IfErr r (IsRunReason o workers tasks HasLog)
+log_reason_of o workers tasks HasLog Has (Ok x) failed has to = tt
+log_reason_of o workers tasks HasLog Has (Err e) failed has to = log_reason o workers tasks HasLog e failed (to has)
 
 module _ (o : Option Job) (w0 : ℕ) (j : Job) (v : ℕ) (of : o ≡ Some j) (weight : w0 ≡ v) (l : Recorded) where
   pub own_log : l.world.job ≡ weighted j v → IsOwnLog o w0 l

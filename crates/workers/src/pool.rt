@@ -6,7 +6,6 @@ ghost use Rattle.workers.specs.Causes.{Happens};
 use crate::error::Trouble;
 use crate::ready::Ready;
 use crossbeam_utils::sync::{Parker, Unparker};
-use deques::{Deque, Front, Thief};
 use finish_scope::inner::Scope;
 use finish_scope::resting::ScopePosition;
 use finish_scope::running::Running;
@@ -14,6 +13,7 @@ use finish_scope::scope_table::ScopeTable;
 use std::alloc::{AllocError, Global};
 use std::sync::atomic::{AtomicBool, AtomicUsize, Ordering};
 use std::sync::{Arc, Mutex, Wait};
+use worker_threads::{Deque, Front, Thief};
 
 /// The number of tasks for which a deque has room at the start.
 const FIRST_ROOM: usize = 64;
@@ -64,8 +64,8 @@ impl<'p, J: Running> Pool<'p, J> {
         alloc: Global,
     ) -> Result<(usize, Deque<Ready<'p, J>>, Parker), AllocError> {
         let number = self.sleep_slots.len();
-        let own = Deque::new(alloc, FIRST_ROOM)?;
-        self.fronts.push(own.front()?)?;
+        let (own, front) = deque::<Ready<'p, J>>(alloc)?;
+        self.fronts.push(front)?;
         self.tables.push(Mutex::new(ScopeTable::new(alloc)))?;
         let parker = Parker::new(alloc)?;
         self.sleep_slots.push(SleepSlot {
@@ -229,4 +229,11 @@ impl<'p, J: Running> Pool<'p, J> {
             None => Err(Trouble::NoScope),
         }
     }
+}
+
+/// Returns a deque, and its front.
+fn deque<T: Drop>(alloc: Global) -> Result<(Deque<T>, Front<T>), AllocError> {
+    let own = Deque::new(alloc, FIRST_ROOM)?;
+    let front = own.front()?;
+    Ok((own, front))
 }

@@ -126,7 +126,7 @@ fn with_all_tasks<'p>(
     finished: Finished,
     log: Option<Log<'p>>,
 ) -> Result<(Finished, Option<Log<'p>>), RunError>
-    ensures same { IfOk result (λ r. (r.0 ≡ finished.entry) × (r.1 ≡ log.entry)) }
+    ensures same { IfOk result (λ r. (r.0 ≡ finished) × (r.1 ≡ log.entry)) }
     ensures started { IfOk result
         (λ r. IfSome r.1 (λ l. r.0.tasks.number ≡ tasks_in l.events)) }
     ensures failed { IfErr result IsOfLog }

@@ -35,3 +35,9 @@ returns-in_err-go_by-clause-memory c =
     err_passed c.from_residual.result _ (λ (e : EventError). e ≡ NoMemory → IsLegal c.args.self.world (event_of c.args.event))
     c.from_residual.ensures.1
     (λ is. subst (λ (l : Recorded). IsLegal l.world (event_of c.args.event)) c.self.view_is (c.in_err-go_by.ensures.memory is))
+
+pub returns-in_err-push-clause-memory : goal.returns-in_err-push-clause-memory
+returns-in_err-push-clause-memory c =
+    err_any c.from_residual-in_err-push.result
+    (λ x is. subst (λ (l : Recorded). IsLegal l.world (event_of c.args.event)) c.self.view_is
+    (λ w shown. let b = c.in_ok-go_by.ensures.legal w shown in (b.0, b.1)))

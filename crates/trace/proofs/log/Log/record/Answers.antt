@@ -43,7 +43,7 @@ returns-clause-moved c =
 pub returns-then-not-is_legal-clause-refused : goal.returns-then-not-is_legal-clause-refused
 returns-then-not-is_legal-clause-refused c =
     let old = c.self.inside in
-    subst (λ (l : Recorded). Leaves c.args.event l (recorded old.world old.events.items) Illegal) c.self.view_is
+    subst (λ (l : Recorded). Leaves c.args.event l l Illegal) c.self.view_is
     (record { events = refl; world = (stays_self old.world, OnFalse_at c.if-not-is_legal.true c.is_legal.ensures.illegal) })
 
 pub returns-in_err-reserve-clause-memory : goal.returns-in_err-reserve-clause-memory

@@ -4,8 +4,8 @@ use Rattle.std.proofs.lemmas.List.Sums.{sum_by-append, sum_by-cons, sum_by_push}
 use mathlib.Core.Option.{some, some-injective, some-ne-none}
 use lib.ListN.{get_elem?}
 use Rattle.crossbeam_deque.specs.Tasks.{Admits, Finds, Learns, Pops, Pushes, Takes, TakesBatch}
-use Rattle.deques.specs.declared.rule.Tally.{Tally}
-use Rattle.deques.specs.Tallies.{tally, put_in, Accounts, IsBalanced}
+use Rattle.worker_threads.specs.declared.deque_rule.Tally.{Tally}
+use Rattle.worker_threads.specs.Tallies.{tally, put_in, Accounts, IsBalanced}
 
 module _ {T : Type 0} where
   -- if an end changes, the sum changes with it

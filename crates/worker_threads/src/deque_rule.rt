@@ -16,7 +16,7 @@ pub struct Balance;
 
 impl<T> Protocol<T, Tally<T>> for Balance {
     ghost use Rattle.std.specs.Prelude.{[]};
-    ghost use Rattle.deques.specs.Tallies.{tally, IsBalanced};
+    ghost use Rattle.worker_threads.specs.Tallies.{tally, IsBalanced};
 
     ghost holds = { IsBalanced };
 
@@ -30,7 +30,7 @@ pub struct Puts;
 
 impl<T> Outcome<T, Tally<T>> for Puts {
     ghost use Rattle.std.specs.Prelude.{◌≡◌, ◌++◌};
-    ghost use Rattle.deques.specs.Tallies.{tally};
+    ghost use Rattle.worker_threads.specs.Tallies.{tally};
 
     ghost then = { λ v xs w. w ≡ tally (v.put ++ xs) v.taken };
 }
@@ -40,7 +40,7 @@ pub struct Takes;
 
 impl<T> Outcome<T, Tally<T>> for Takes {
     ghost use Rattle.std.specs.Prelude.{◌≡◌, ◌++◌};
-    ghost use Rattle.deques.specs.Tallies.{tally};
+    ghost use Rattle.worker_threads.specs.Tallies.{tally};
 
     ghost then = { λ v xs w. w ≡ tally v.put (v.taken ++ xs) };
 }
@@ -50,7 +50,7 @@ pub struct Pops;
 
 impl<T> Outcome<T, Tally<T>> for Pops {
     ghost use Rattle.std.specs.Prelude.{◌≡◌, ◌++◌, []};
-    ghost use Rattle.deques.specs.Tallies.{tally, Accounts};
+    ghost use Rattle.worker_threads.specs.Tallies.{tally, Accounts};
 
     ghost then = { λ v xs w. w ≡ tally v.put (v.taken ++ xs) };
 
@@ -61,7 +61,7 @@ impl<T> Outcome<T, Tally<T>> for Pops {
 pub struct Whole;
 
 impl<T> Lesson<T, Tally<T>> for Whole {
-    ghost use Rattle.deques.specs.Tallies.{Accounts};
+    ghost use Rattle.worker_threads.specs.Tallies.{Accounts};
 
     ghost fact = { λ v items. Accounts v.put v.taken items };
 }

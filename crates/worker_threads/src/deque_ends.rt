@@ -3,7 +3,7 @@
 ghost use Rattle.std.specs.Prelude.{◌≡◌};
 ghost use Rattle.crossbeam_deque.specs.Handles.{IsPassOf, stealer_deque, stealer_flavor, worker_flavor, worker_port};
 
-use crate::rule::{Balance, Tally};
+use crate::deque_rule::{Balance, Tally};
 use crossbeam_deque::{Pass, Stealer, Worker};
 use std::alloc::Global;
 

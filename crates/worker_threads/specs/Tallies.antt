@@ -1,6 +1,6 @@
 -- What went in and out at the ends of a deque.
 use Rattle.std.specs.Prelude.{◌≡◌, ℕ, ◌+◌, List, [], ◌∷◌, sum_by}
-use Rattle.deques.specs.declared.rule.Tally.{Tally}
+use Rattle.worker_threads.specs.declared.deque_rule.Tally.{Tally}
 
 module _ {T : Type 0} where
   abbrev pub tally : (put taken : List T) → Tally T

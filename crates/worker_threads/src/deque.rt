@@ -2,11 +2,11 @@
 
 ghost use Rattle.std.specs.Prelude.{◌≡◌, ◌≤◌, ◌++◌, [], ◌∷◌, List, length, IfErr, IfNone, IfOk, MatchOption, MatchResult};
 ghost use Rattle.crossbeam_deque.specs.Handles.{stealer_deque, worker_capacity, worker_deque, worker_index};
-ghost use Rattle.deques.specs.Ends.{put_into, taken_by, taken_from};
-ghost use Rattle.deques.specs.Tallies.{Accounts};
+ghost use Rattle.worker_threads.specs.DequeEnds.{put_into, taken_by, taken_from};
+ghost use Rattle.worker_threads.specs.Tallies.{Accounts};
 
-use crate::ends::{Deque, Front, Thief};
-use crate::rule::{Balance, Pops, Puts, Takes, Tally, Whole};
+use crate::deque_ends::{Deque, Front, Thief};
+use crate::deque_rule::{Balance, Pops, Puts, Takes, Tally, Whole};
 use crossbeam_deque::{Steal, Worker};
 use std::alloc::{AllocError, Global};
 

@@ -1,8 +1,8 @@
 -- What contracts say of a deque and of a thief.
 use Rattle.std.specs.Prelude.{List}
 use Rattle.crossbeam_deque.specs.Handles.{view, worker_view}
-use Rattle.deques.specs.declared.ends.Deque.{Deque}
-use Rattle.deques.specs.declared.ends.Thief.{Thief}
+use Rattle.worker_threads.specs.declared.deque_ends.Deque.{Deque}
+use Rattle.worker_threads.specs.declared.deque_ends.Thief.{Thief}
 
 module _ {T : Type 0} where
   -- the tasks that were put into the deque, and those that its worker took out
