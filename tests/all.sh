@@ -42,6 +42,7 @@ if [ -z "$AFX" ]; then
 fi
 
 part 'exit statuses and small stacks' sh tests/program.sh
+part 'at a terminal' python3 tests/terminal.py
 part 'threads' sh tests/threads.sh
 part 'rows of command lines' python3 tests/rows.py
 part 'children first' python3 tests/child_first.py

@@ -13,12 +13,12 @@ import tempfile
 import threading
 import time
 
+from hostile_stack import DEEPEST, SMALL_STACK, nested, stack, try_deep_texts
 from hostile_traces import LINES, cut_anywhere, of_other_runs, spelled_otherwise, swapped_and_doubled
 from runs import LIMIT, Counts, Ended, built_program, fail, finish, run, shown, start
 
-SMALL_STACK = 512 * 1024
 # The most seconds of a part in the short sweep, for those whose tables are long.
-SHORT_SECONDS = {"texts": 8, "traces": 8, "stack": 24}
+SHORT_SECONDS = {"texts": 6, "traces": 6, "stack": 16}
 TWO_ARRAYS = "main { array a: int[1]; array b: int[1]; finish { async { a[0] = 7; } b[0] = 8; } print a[0], b[0]; }\n"
 LONG_PRINTS = "main { var k = 0; while k < 20000 { print k, k, k; k = k + 1; } }\n"
 
@@ -76,109 +76,6 @@ class Tests:
 
 def as_bytes(text):
     return text if isinstance(text, bytes) else text.encode()
-
-
-# ---- little stack
-
-def nested(opening, inner, depth):
-    """A program of blocks inside blocks."""
-    return "main { " + opening * depth + inner + " }" * depth + " }\n"
-
-
-def deep_texts():
-    """Name, text, outcome: as many brackets as a program may have, and chains as long as it may be."""
-    splits = "".join(f"split {'a' if n == 0 else f's{n - 1}'} at 0 as l{n}, s{n} {{ " for n in range(98))
-    indices = "a[" * 98 + "0" + "]" * 98
-    yield "brackets", "main { print " + "(" * 99 + "1" + ")" * 99 + "; }\n", "1\n"
-    yield "indices", f"main {{ array a: int[1]; print {indices}; }}\n", "0\n"
-    yield "ifs", nested("if true { ", "print 1;", 99), "1\n"
-    yield "elses", nested("if false { } else { ", "print 1;", 99), "1\n"
-    yield "finishes", nested("finish { ", "print 1;", 99), "1\n"
-    yield "asyncs", nested("async { ", "print 1;", 99), "1\n"
-    yield "both", nested("finish { async { ", "print 1;", 49).replace(" }" * 49, " } }" * 49), "1\n"
-    yield "splits", "main { array a: int[1]; " + splits + "print 1; " + "}" * 98 + " }\n", "1\n"
-    yield "a sum", "main { print 1" + "+1" * 500_000 + "; }\n", "500001\n"
-    yield "a product", "main { print 1" + "*1" * 500_000 + "; }\n", "1\n"
-    yield "an and", "main { if true" + " and true" * 110_000 + " { print 1; } }\n", "1\n"
-    yield "an or", "main { if false" + " or false" * 100_000 + " { print 1; } else { print 2; } }\n", "2\n"
-    yield "a print", "main { print 1" + ",1" * 500_000 + "; }\n", "1" + " 1" * 500_000 + "\n"
-    yield "statements", "main { " + "skip;" * 65_535 + " }\n", ""
-    yield "finishes in a row", "main { " + "finish{async{skip;}}" * 20_000 + " }\n", ""
-    yield "else ifs", "main { var k = 1; " + "if k == 0 { skip; } else { k = k; } " * 20_000 + "print k; }\n", "1\n"
-
-
-# What a text that is as deep or long as it may be is tried with. A check of very many labels takes its time.
-WAYS = (["check"], ["list"], ["list", "--lines"], ["fmt"], ["fmt", "--check"], ["mhp"], ["mhp", "--accesses"],
-        ["cost"], ["bench"], ["serial"], ["run", "--workers", "1"], ["run", "--workers", "8"], ["explore", "--random", "1"],
-        ["run", "--workers", "2", "--trace", "deep.trace"], ["check", "--explain"], ["check", "--format", "json"],
-        ["serial", "--explain"])
-# These texts need up to 520 KB, so they are counted with a little more, and known_open tries them with 512 KB. Brackets and
-# indices need about 500 KB.
-DEEPEST = {"ifs", "elses"}
-LARGER_STACK = 640 * 1024
-
-
-def stack(tests):
-    for words, status, out in tests.until_over(deep_runs(tests)):
-        tests.expect(words, status, out, stack=SMALL_STACK, environment={})
-    try_deep_texts(tests, lambda name: LARGER_STACK if name in DEEPEST else SMALL_STACK, {"bench"})
-
-
-def try_deep_texts(tests, stack_of, left_out=frozenset()):
-    """Each deep text by each command: the environment lies on the stack too, so there is none."""
-    texts = {name: (text, out) for name, text, out in deep_texts() if stack_of(name)}
-    for name, way in tests.until_over((name, way) for name in texts for way in WAYS):
-        text, out = texts[name]
-        command, *options = way
-        if command in left_out and len(text) > 10_000:
-            # (five runs by each of four ways say no more about the stack)
-            continue
-        given = {"stack": stack_of(name), "environment": {}}
-        file = tests.file("deep.afx", text)
-        ended = tests.run(command, file, *options, **given)
-        wanted = out if command in ("serial", "run", "explore") else None
-        status = 1 if "--check" in options else 0
-        good = ended.status == status and (wanted is None or ended.out == wanted.encode())
-        told = f"{given['stack'] // 1024} KB of stack, {name}: {' '.join(way)}"
-        tests.judge(told, None if good else str(ended))
-        if "--trace" in options and good:
-            for more in ([], ["--summary"], ["--svg", "deep.svg"], ["--chrome", "deep.json"]):
-                ended = tests.run("view", file, "deep.trace", *more, **given)
-                tests.judge(f"{told}; view {' '.join(more)}", None if ended.status == 0 else str(ended))
-
-
-def deep_runs(tests):
-    """Calls, tasks in a row, tasks in tasks, and trees of 100,000 choices: words, status, output (None: any)."""
-    calls = tests.file("calls.afx", "proc d(n: int) { if n > 0 { d(n - 1); } } main { d(100000); }\n")
-    row = tests.file("row.afx", "main { var k = 0; finish { while k < 1000000 { async { skip; } k = k + 1; } } print k; }\n")
-    path = tests.file("path.afx", "proc f(n: int) { if n > 0 { async { f(n - 1); } } else { print 7; } } main { f(1000); }\n")
-    for command, *options in (["serial"], ["run", "--workers", "1"], ["run", "--workers", "8"]):
-        yield [command, calls, *options], 0, ""
-        large = ["--steps", "1000000000"] + (["--tasks", "1048576"] if command == "run" else [])
-        yield [command, row, *options, *large], 0, "1000000\n"
-        yield [command, path, *options, "--nest", "1000"], 0, "7\n"
-        yield [command, path, *options, "--nest", "999"], 3, "stopped\n"
-    for workers in ("1", "8"):
-        trace = f"path{workers}.trace"
-        words = ["run", path, "--nest", "1000", "--workers", workers, "--trace", trace]
-        tests.run(*words)
-        yield words[:-1] + ["again.trace"], 0, "7\n"
-        for options in ([], ["--summary"], ["--svg", "path.svg"], ["--chrome", "path.json"]):
-            yield ["view", path, trace, *options], 0, None
-    for command in ("explore", "cost"):
-        random_choices = ["--random", "1"] if command == "explore" else []
-        nest_limit = ["--nest", "1000"] if command == "cost" else []
-        yield [command, path, *nest_limit, *random_choices], 0, "7\n" if command == "explore" else None
-        yield [command, calls, *random_choices], 0, "" if command == "explore" else None
-    deep = tests.file("deep_choices.afx", "main { while true { async { skip; } } }\n")
-    nest = tests.file("nest.afx", "proc down() { finish { down(); } } main { down(); }\n")
-    rising = tests.file("rising.afx", "proc f() { async { f(); } } main { f(); }\n")
-    zeros = tests.file("zeros", "0\n" * 100_000)
-    owner = tests.file("owner", "\n".join(str(n // 2) for n in range(100_000)))
-    yield ["explore", deep, "--choices-from", zeros], 3, "open 1\n"
-    yield ["explore", deep, "--choices-from", owner], 3, "open 50001\n"
-    yield ["explore", nest, "--choices-from", zeros], 3, "open 1\n"
-    yield ["explore", rising, "--choices-from", zeros], 3, "open 1\n"
 
 
 # ---- texts of programs and inputs
@@ -383,8 +280,14 @@ def device(tests, name, minor):
 
 def odd_names(tests):
     for word in (b"\xff.afx", b"a\xc3", b"--trace=\xff"):
-        for words in ([b"run", word], [b"run", b"t.afx", b"--trace", word], [word]):
+        for words in ([b"run", word], [b"run", b"t.afx", b"--trace", word], [word], [b"view", b"t.afx", word],
+                      [b"run", b"in.afx", b"--input", word], [b"view", b"t.afx", b"t.trace", b"--svg", word],
+                      [b"fmt", word, b"--write"], [b"explore", b"t.afx", b"--choices-from", word], [b"test", word]):
             tests.expect(words, 1, "", "not UTF-8 command line\n", name=f"afx {words}")
+    (tests.room / "tests").mkdir()
+    with open(os.fsencode(tests.room) + b"/tests/\xff.afx", "wb") as file:
+        file.write(b"main { }\n")
+    tests.expect(["test", "tests"], 1, "", "cannot read tests\n")
     tests.expect(["run", "no\x1b[31m\nfile"], 1, "", "cannot read no\\x1b[31m\\x0afile\n")
     tests.expect(["run", "x" * 5000], 1, "", f"cannot read {'x' * 5000}\n")
     tests.expect(["run", ""], 1, "", "cannot read \n")
@@ -431,11 +334,15 @@ def written_again(path, contents, stop):
 
 def same_names(tests):
     """The same name twice, also with `./`."""
-    before = (tests.room / "t.afx").read_bytes()
-    for name in ("t.afx", "./t.afx"):
-        ended = tests.run("run", "t.afx", "--trace", name)
-        good = ended.status == 1 and (tests.room / "t.afx").read_bytes() == before
-        tests.judge(f"run t.afx --trace {name}", None if good else str(ended))
+    for name, words in (("t.afx", ["run", "t.afx", "--trace"]),
+                        ("in.json", ["run", "in.afx", "--input", "in.json", "--trace"]),
+                        ("t.trace", ["view", "t.afx", "t.trace", "--svg"]),
+                        ("t.afx", ["view", "t.afx", "t.trace", "--chrome"])):
+        before = (tests.room / name).read_bytes()
+        for target in (name, f"./{name}"):
+            ended = tests.run(*words, target)
+            good = ended.status == 1 and ended.err and (tests.room / name).read_bytes() == before
+            tests.judge(f"{' '.join(words)} {target}", None if good else str(ended))
 
 
 def formatted_links(tests):
@@ -451,6 +358,24 @@ def formatted_links(tests):
             good = good and (room / "link.afx").is_symlink() and real == link
         tests.judge(f"fmt --write on a {kind} link", None if good else f"{ended}, link {link}, file {real}")
         (room / "link.afx").unlink()
+    links_of_links(tests)
+
+
+def links_of_links(tests):
+    """`fmt --write` on a link to a link, on one from another folder, and on one that leads nowhere."""
+    room = tests.room
+    (room / "linked").mkdir()
+    links = {"first.afx": "real.afx", "second.afx": "first.afx", "linked/third.afx": "../second.afx"}
+    for name, target in links.items():
+        (room / name).symlink_to(target)
+    for name in ("second.afx", "linked/third.afx"):
+        (room / "real.afx").write_bytes(b"main { }\n")
+        tests.expect(["fmt", name, "--write"], 0, "")
+        good = (room / "real.afx").read_bytes() == b"main {\n}\n"
+        good = good and all(os.readlink(room / link) == target for link, target in links.items())
+        tests.judge(f"fmt --write on {name} keeps its links", None if good else "a link is a file now")
+    (room / "nowhere.afx").symlink_to("none.afx")
+    tests.expect(["fmt", "nowhere.afx", "--write"], 1, "", "cannot read nowhere.afx\n")
 
 
 def over_own_files(tests):
@@ -573,11 +498,16 @@ def outputs(tests):
     tests.file("pairs.afx", "main { var k = 0; while k < 2 { " + "async { skip; } " * 300 + "k = k + 1; } }\n")
     tests.file("loop.afx", "main { var k = 0; finish { while k < 600 { async { skip; } k = k + 1; } } }\n")
     tests.run("run", "loop.afx", "--workers", "1", "--trace", "loop.trace")
+    (tests.room / "tests_of_output").mkdir()
+    tests.file("tests_of_output/t.afx", TWO_ARRAYS)
+    tests.file("tests_of_output/t.out", "7 8\n")
     much = (["run", "prints.afx"], ["serial", "prints.afx"], ["view", "loop.afx", "loop.trace"], ["mhp", "pairs.afx"], ["man"],
             ["list", "pairs.afx"], ["fmt", "pairs.afx"], ["explore", "prints.afx", "--random", "1"],
             ["run", "prints.afx", "--format", "json"], ["completions", "bash"])
     little = (["run", "t.afx"], ["check", "t.afx"], ["view", "loop.afx", "loop.trace", "--summary"], ["explain", "Y5"],
-              ["--help"], ["--version"], ["cost", "t.afx"])
+              ["--help"], ["--version"], ["cost", "t.afx"], ["cost", "t.afx", "--by-line"], ["explain", "--list"],
+              ["check", "t.afx", "--list"], ["mhp", "t.afx", "--format", "json"], ["list", "t.afx", "--lines"],
+              ["bench", "t.afx"], ["test", "tests_of_output"])
     for words in much + little:
         closed_pipe(tests, words)
         with open("/dev/full", "wb") as full:
@@ -710,13 +640,20 @@ def small_disk(tests):
     try:
         text = b"main {" + b" skip;" * 5000 + b" }\n"
         (disk / "f.afx").write_bytes(text)
-        (disk / "old.trace").write_bytes(b"old\n")
-        for words, kept in ((["run", "loop.afx", "--trace", "disk/old.trace"], b"old\n"), (["fmt", "disk/f.afx", "--write"], text)):
+        for name in ("old.trace", "old.svg", "old.json"):
+            (disk / name).write_bytes(b"old\n")
+        for words, kept in ((["run", "loop.afx", "--trace", "disk/old.trace"], b"old\n"),
+                            (["fmt", "disk/f.afx", "--write"], text),
+                            (["view", "loop.afx", "loop.trace", "--svg", "disk/old.svg"], b"old\n"),
+                            (["view", "loop.afx", "loop.trace", "--chrome", "disk/old.json"], b"old\n"),
+                            (["run", "loop.afx", "--trace", "disk/new.trace"], None)):
             ended = tests.run(*words)
             name = next(word for word in words if word.startswith("disk/"))
             good = ended.key() == (1, b"", f"cannot write {name}\n".encode())
-            now = (tests.room / name).read_bytes()
-            fault = None if good and now == kept else f"{ended}; {len(kept)} bytes before, {len(now)} now"
+            now = (tests.room / name).read_bytes() if (tests.room / name).exists() else None
+            more = [other for other in os.listdir(disk) if other.endswith(".new")]
+            fault = f"{ended}; {shown(kept or b'')} before, {shown(now or b'')} now, {more}"
+            fault = None if good and now == kept and not more else fault
             tests.judge(f"a full disk: afx {' '.join(words)}", fault)
     finally:
         subprocess.run(["umount", str(disk)], check=True)
@@ -732,7 +669,34 @@ def signals(tests):
             for options in ([], ["--trace", "long.trace"]):
                 words = ["run", "long.afx", "--workers", workers, "--steps", "1000000000", *options]
                 interrupt(tests, words, number)
-    interrupt(tests, ["serial", "long.afx", "--steps", "1000000000"], signal.SIGINT)
+    for command in (["serial"], ["cost"], ["bench"], ["run", "--explain"], ["run", "--format", "json"]):
+        interrupt(tests, [command[0], "long.afx", *command[1:], "--steps", "1000000000"], signal.SIGINT)
+    interrupted_files(tests)
+
+
+def interrupted_files(tests):
+    """Ctrl-C while a program is formatted or a picture is written: the old file, or the whole new one."""
+    tests.file("much.afx", "main { var k = 0; finish { while k < 20000 { async { skip; } k = k + 1; } } }\n")
+    tests.run("run", "much.afx", "--workers", "1", "--trace", "much.trace")
+    text = b"main {" + b" skip;" * 60_000 + b" }\n"
+    for name, words, before in (("long.afx", ["fmt", "long.afx", "--write"], text),
+                                ("much.svg", ["view", "much.afx", "much.trace", "--svg", "much.svg"], b"old\n"),
+                                ("much.json", ["view", "much.afx", "much.trace", "--chrome", "much.json"], b"old\n")):
+        path = tests.room / name
+        path.write_bytes(before)
+        began = time.monotonic()
+        tests.run(*words)
+        took, whole, halves = time.monotonic() - began, path.read_bytes(), []
+        for n in range(10):
+            path.write_bytes(before)
+            process = start(tests.program, words, cwd=tests.room)
+            time.sleep(took * n / 10)
+            process.send_signal(signal.SIGINT)
+            finish(process)
+            if path.read_bytes() not in (before, whole):
+                halves.append(path.stat().st_size)
+        fault = f"half files of {halves} of {len(whole)} bytes" if halves or whole == before else None
+        tests.judge(f"Ctrl-C while {' '.join(words)} works, 10 times", fault)
 
 
 def interrupt(tests, words, number):

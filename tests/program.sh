@@ -53,6 +53,7 @@ expect 0 "$(cat "$room/help")" '' help -h
 echo 'main { array q: int[3]; print q[0]; }' >"$room/q.afx"
 expect 1 '' 'N4 q
 
+-: N4: not a list, or a list of the wrong length
 The array `q` has 3 elements, but the list has 2.
 help: write one number for each element; an omitted array starts with zeros.' \
     run "$room/q.afx" --input - --explain <<'END'

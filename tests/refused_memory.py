@@ -1,12 +1,16 @@
 #!/usr/bin/env python3
-"""Refuses requests for memory, and starts of threads, in runs of the built program. tests/refused_memory.sh calls it.
+"""Refuses requests for memory, and starts of threads, in runs of the built program, and in the tests of the libraries
+that make calls again. tests/refused_memory.sh calls it.
 
     tests/refused_memory.py LIBRARY all|short     AFX=./afx names another program
 
 LIBRARY is tests/refuse_allocation.c, built. A run passes if it gives the whole right answer, or one of the lines of
 `refusals` with its status, and then nothing on standard output. A file that it writes is whole or isn't there. It must
-not end by a signal, and not run longer than 20 seconds.
+not end by a signal, and not run longer than 20 seconds. A test of the libraries passes if each of its calls has the
+right answer, or reports that memory ran out.
 """
+import collections
+import json
 import mmap
 import os
 import pathlib
@@ -19,10 +23,19 @@ import time
 
 from runs import LIMIT, TOP, Counts, Fast, built_program, fail, run, shown
 
-# Every n, or each of so many; the most seconds of the short sweep; how many runs in a row without a refusal end a sweep.
+# Every n, or each of so many; the most seconds of the short sweeps, of the program and of the libraries; how many runs in
+# a row without a refusal end a sweep.
 STRIDES = {"all": 1, "short": 23}
-SHORT_SECONDS = 28
+SHORT_SECONDS = 24
+CALL_SECONDS = 6
 ENOUGH = 20
+
+# The tests that `rt ci` has built, those that make calls again, and the calls that must run out of memory some time.
+TESTS = TOP / "crates" / "run_tests" / "out" / "run_tests_tests"
+OF_CALLS = "::refused_"
+PASSED = b"\ntest result: ok\n"
+CALLS = {"parse", "type_check", "check", "summarize", "may_run_together", "zeros", "serial", "explore", "run",
+         "Log::new", "write_lines", "read_lines", "replay", "record"}
 
 TWICE = """proc twice(mut s: int) {
   if len(s) <= 1 { if len(s) == 1 { s[0] = s[0] * 2; } }
@@ -58,6 +71,22 @@ def refusals(command):
     return lines | {(1, b"error: out of memory\n"), (1, b"cannot write output\n")}
 
 
+def is_shorter(case, ended):
+    """Whether the answer is right, but an explanation or an object of it lacks for memory, or tells that."""
+    status, out, err = case.right
+    if "--explain" in case.words:
+        # (there may be another explanation, which needs less memory)
+        begins = ended.err.partition(b"\n")[0] == err.partition(b"\n")[0]
+        return (ended.status, ended.out) == (status, out) and (begins or not ended.err and status > 1)
+    if "json" not in case.words:
+        return False
+    if not ended.out:
+        return (ended.status, ended.err) == (status, err)
+    held = json.loads(ended.out)
+    refused = (ended.status, ended.err) in refusals(case.words[0])
+    return refused and (held["status"], held["message"] + "\n") == (ended.status, ended.err.decode())
+
+
 class Case:
     """A command line, its right answer, and the file that it writes."""
 
@@ -80,8 +109,8 @@ class Case:
 class Sweep:
     """All runs, with what they share."""
 
-    def __init__(self, program, library, way, room):
-        self.way, self.stride, self.room = way, STRIDES[way], room
+    def __init__(self, program, library, way, room, seconds=SHORT_SECONDS):
+        self.way, self.stride, self.room, self.seconds = way, STRIDES[way], room, seconds
         self.fast, self.counts, self.program = Fast(program, room, min(LIMIT, 20)), Counts(), program
         report = pathlib.Path(room) / ".report"
         report.write_bytes(bytes(24))
@@ -91,7 +120,7 @@ class Sweep:
         self.began, self.refused, self.whole, self.traces = time.monotonic(), 0, 0, set()
 
     def is_over(self):
-        return self.way == "short" and time.monotonic() - self.began > SHORT_SECONDS
+        return self.way == "short" and time.monotonic() - self.began > self.seconds
 
     def once(self, case, **refuse):
         """One run. Returns how it ended, and how many requests, refusals and starts of threads there were."""
@@ -134,7 +163,7 @@ class Sweep:
         fault = None
         if ended.key() == case.right:
             self.whole += 1
-        elif ended.out == b"" and (ended.status, ended.err) in refusals(case.words[0]):
+        elif ended.out == b"" and (ended.status, ended.err) in refusals(case.words[0]) or is_shorter(case, ended):
             self.refused += 1
         else:
             fault = str(ended)
@@ -168,6 +197,22 @@ class Sweep:
                 self.judge(case, self.once(case, each=k)[0], f"each {k}")
 
 
+class CallSweep(Sweep):
+    """Tests of the libraries in which calls that run out of memory are made again."""
+
+    def __init__(self, *given):
+        super().__init__(*given, CALL_SECONDS)
+        self.told = collections.Counter()
+
+    def judge(self, case, ended, said):
+        """Counts one run, and which calls ran out of memory in it."""
+        lines = ended.err.decode("utf-8", "replace").splitlines()
+        calls = [line.removeprefix("out of memory: ") for line in lines]
+        good = (ended.status, ended.out) == (0, PASSED) and set(calls) <= CALLS
+        self.told.update(calls if good else [])
+        self.counts.judge(f"{case.name}, refused: {said}", None if good else str(ended))
+
+
 def cases_of(name, text, given, shared, alone):
     """The commands of one program. The trace that `view` reads is made here before."""
     file, trace = f"{name}.afx", f"{name}.trace"
@@ -179,6 +224,11 @@ def cases_of(name, text, given, shared, alone):
     yield Case(name, ["serial", file, *options, *shared])
     yield Case(name, ["explore", file, *options, "--random", "1", *shared])
     yield Case(name, ["cost", file, *options])
+    if name in ("readers_race", "faults"):
+        yield Case(name, ["check", file, "--explain"])
+        yield Case(name, ["check", file, "--format", "json"])
+        yield Case(name, ["run", file, *options, "--workers", "2", "--explain"])
+        yield Case(name, ["run", file, *options, "--workers", "2", "--format", "json"])
     for workers in ("1", "2", "8"):
         words = ["run", file, *options, *alone, "--workers", workers]
         yield Case(name, words + shared)
@@ -211,6 +261,9 @@ def check_right(sweep, case, ended):
         wanted = (status, out.encode(), b"")
     if case.name == "readers_race" and case.words[0] in ("check", "run", "explore", "view"):
         wanted = (1, b"", RACE.encode())
+    if "--explain" in case.words or "json" in case.words:
+        # (the rows of crates/examples say what these print)
+        wanted = None
     fault = str(ended) if ended.is_bad() or (wanted and ended.key() != wanted) else None
     sweep.counts.judge(f"{' '.join(case.words)}, nothing refused", fault)
 
@@ -247,6 +300,27 @@ def refuse_threads(sweep):
         sweep.counts.judge(f"{' '.join(words)}, each of {case.threads} threads refused", fault)
 
 
+def refuse_other_threads(sweep):
+    """`check` looks at 257 blocks on several threads, or on fewer if they can't be started. A folder's tests tell E1."""
+    calls = "".join(f"proc p{n}(mut s: int) {{ p{n - 1}(s); }}\n" for n in range(1, 256))
+    many = "proc p0(mut s: int) { s[0] = 1; }\n" + calls + "main { array a: int[1]; p255(a); print a[0]; }\n"
+    os.mkdir("tests")
+    for name, content in (("many.afx", many), ("tests/many.afx", many), ("tests/many.out", "1\n")):
+        pathlib.Path(name).write_text(content)
+    for words, right, others in (
+            (["check", "many.afx"], (0, b"accepted: 256 procedures, 258 labels\n", b""), [(4, b"", b"C2\n")]),
+            (["test", "tests"], (0, b"1 passed, 0 failed\n", b""), [(1, b"many.afx: E1\n0 passed, 1 failed\n", b"")])):
+        case = Case("many", words)
+        fault = None if sweep.first(case).key() == right else str(case.right)
+        sweep.counts.judge(f"{' '.join(words)}, nothing refused", fault)
+        for n in range(1, case.threads + 2):
+            ended, _ = sweep.once(case, thread=n)
+            fault = None if ended.key() in (right, *others) else str(ended)
+            sweep.counts.judge(f"{' '.join(words)}, refused: thread {n}", fault)
+        fault = None if case.threads > 1 else f"{case.threads} threads"
+        sweep.counts.judge(f"{' '.join(words)} starts threads", fault)
+
+
 def few_processes(sweep):
     """No process or thread more than there is, by `ulimit -u`. It says nothing to root, who becomes another user."""
     room = pathlib.Path(sweep.room)
@@ -265,6 +339,30 @@ def few_processes(sweep):
         sweep.counts.judge(f"ulimit -u 1; {' '.join(words)}", None if ended.key() == wanted else str(ended))
 
 
+def refuse_calls(library, way, room, counts):
+    """Each request of the tests that make calls again, refused in turn; and each start of a thread."""
+    sweep = CallSweep(str(TESTS), library, way, room)
+    sweep.counts = counts
+    listed = run(str(TESTS), ["--list"]).out.decode().splitlines()
+    names = [line.removesuffix(": test") for line in listed if OF_CALLS in line]
+    counts.judge("tests of calls", None if names else f"{TESTS} has none")
+    for at, name in enumerate(names):
+        case = Case(name, [name])
+        ended = sweep.first(case)
+        good = ended.key() == (0, PASSED, b"")
+        counts.judge(f"{name}, nothing refused", None if good else str(ended))
+        # (the short sweep has some of each test)
+        sweep.seconds = CALL_SECONDS * (at + 1) / len(names)
+        sweep.all_ways(case, 5 * at)
+        for n in range(1, case.threads + 1):
+            if not sweep.is_over():
+                sweep.judge(case, sweep.once(case, thread=n)[0], f"thread {n}")
+    missing = CALLS - set(sweep.told)
+    if way == "all":
+        counts.judge("each call ran out of memory", f"not {sorted(missing)}" if missing else None)
+    print(f"{len(names)} tests of calls: {sum(sweep.told.values())} calls ran out of memory")
+
+
 def main():
     if len(sys.argv) != 3 or sys.argv[2] not in STRIDES:
         fail("usage: tests/refused_memory.sh [all|short]")
@@ -275,8 +373,13 @@ def main():
         sweep = Sweep(program, library, way, room)
         texts = lay_out(program)
         refuse_threads(sweep)
+        refuse_other_threads(sweep)
         few_processes(sweep)
         refuse_memory(sweep, texts)
+        if TESTS.exists():
+            refuse_calls(library, way, room, sweep.counts)
+        else:
+            print("left out: calls of the libraries, whose tests rt ci builds")
         os.chdir(TOP)
     print(f"{sweep.refused} errors of memory and threads, {sweep.whole} whole answers"
           + (", stopped by the clock" if sweep.is_over() else ""))

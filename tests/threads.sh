@@ -53,6 +53,7 @@ expect 'run, 2 workers, beside 1' $((two - one)) 1
 expect 'run, 4 workers, beside 1' $((four - one)) 3
 expect 'serial' "$(started serial "$file")" 0
 expect 'bench' "$(started bench "$file")" $((checked + 5 * (one + two + four)))
+expect 'bench, 2 workers' "$(started bench "$file" --workers 2)" $((checked + 5 * (one + two)))
 expect 'test' "$(started test "$room/tests")" $((checked + one + four))
 
 echo "$passed passed, $failed failed"

@@ -5,7 +5,7 @@
 use driver::act::{act, refuse_words};
 use driver::folders::MachineFolders;
 use driver::progress::Progress;
-use driver::terminal::WatchedTerminal;
+use driver::terminal::{Sight, WatchedTerminal};
 use std::env::VarError;
 use std::io::{BufWriter, IsTerminal, Stderr, Stdout};
 use std::process::ExitCode;
@@ -19,8 +19,11 @@ fn main(rt: HostRuntime) -> ExitCode {
         Ok((words, mut out)) => {
             let mut files = MachineFolders::new(&rt);
             let seen = terminal(&rt);
-            let colours = seen.is_some() && !refuses_colours(&rt);
-            let mut progress = WatchedTerminal::new(Progress::new(alloc, &rt, seen), colours, &rt);
+            let sight = Sight {
+                is_terminal: seen.is_some(),
+                has_colours: seen.is_some() && !refuses_colours(&rt),
+            };
+            let mut progress = WatchedTerminal::new(Progress::new(alloc, &rt, seen), sight, &rt);
             act(
                 &rt,
                 alloc,

@@ -1,6 +1,6 @@
 -- Requests: what the arguments of a command line ask for.
 use Rattle.std.specs.Prelude.{ℕ, ◌≡◌, ◌<◌, ◌≤◌, ◌^◌, List, [], ◌∷◌, codes, Bool, true, false, not, Option}
-use Rattle.std.specs.Prelude.{None, Some, nat_eq, IsTrue, IfSome, option_map, unwrap_or}
+use Rattle.std.specs.Prelude.{None, Some, nat_eq, IsTrue, IfSome, option_map, unwrap_or, if◌then◌else◌}
 use Rattle.std.specs.Fmt.{decimal}
 use Rattle.types.specs.Outcome.{Budget}
 use Rattle.types.specs.Translation.{budget as budget_of}
@@ -14,6 +14,9 @@ use Rattle.command_line.specs.declared.request.Action.TheVariants.{Answer, Rewri
 use Rattle.command_line.specs.declared.manner.Manner.{Manner}
 use Rattle.command_line.specs.declared.request.Color.{Color}
 use Rattle.command_line.specs.declared.request.Color.TheVariants.{Auto, Always, Never}
+use Rattle.command_line.specs.declared.request.Explain.{Explain}
+use Rattle.command_line.specs.declared.request.Explain.TheVariants.{AtTerminal, Always as Explained}
+use Rattle.command_line.specs.declared.request.Explain.TheVariants.{Never as Unexplained}
 use Rattle.command_line.specs.declared.request.Telling.{Telling}
 use Rattle.command_line.specs.declared.request.Choosing.{Choosing as rChoosing}
 use Rattle.command_line.specs.declared.request.Choosing.TheVariants.{Listed as rListed, InFile as rInFile}
@@ -109,7 +112,13 @@ usual = record {
 
 -- how a command line reports by default
 abbrev pub usual_telling : Telling
-usual_telling = record { explain = false; color = Auto }
+usual_telling = record { explain = AtTerminal; color = Auto }
+
+-- whether explanations follow, by whether the standard error is a terminal
+abbrev pub is_explained : Explain → (at_terminal : Bool) → Bool
+is_explained AtTerminal at_terminal = at_terminal
+is_explained Explained at_terminal = true
+is_explained Unexplained at_terminal = false
 
 -- ---- arguments
 
@@ -479,7 +488,10 @@ manner_words m behind =
 
 -- how to report with these options; the default is used for all others
 abbrev pub telling_by : Manner → Telling
-telling_by m = record { explain = m.explain; color = unwrap_or m.color Auto }
+telling_by m = record {
+  explain = if m.explain then Explained else AtTerminal;
+  color = unwrap_or m.color Auto;
+}
 
 -- the request with these reporting options
 abbrev pub told_so : Manner → Asked → Asked

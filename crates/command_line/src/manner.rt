@@ -3,7 +3,7 @@
 ghost use Rattle.std.specs.Prelude.{◌≡◌};
 ghost use Rattle.command_line.specs.Requests.{no_manner, telling_by};
 
-use crate::request::{Color, Telling};
+use crate::request::{Color, Explain, Telling};
 
 /// The reporting options that are given.
 #[derive(Clone, Copy, PartialEq, Eq, Debug)]
@@ -31,7 +31,11 @@ impl Manner {
     {
         let usual = Telling::usual();
         Telling {
-            explain: self.explain,
+            explain: if self.explain {
+                Explain::Always
+            } else {
+                usual.explain
+            },
             color: self.color.unwrap_or(usual.color),
         }
     }

@@ -56,11 +56,37 @@ pub enum Color {
     Never,
 }
 
+/// When the line of a failure, or an outcome, is followed by where and why it occurred.
+#[derive(Clone, Copy, PartialEq, Eq, Debug)]
+pub enum Explain {
+    /// `--explain=auto`: if the standard error is a terminal.
+    AtTerminal,
+    /// `--explain` or `--explain=always`
+    Always,
+    /// `--explain=never`
+    Never,
+}
+
+impl Explain {
+    ghost use Rattle.command_line.specs.Requests.{is_explained};
+
+    /// Returns whether explanations follow if the standard error is a terminal, or isn't.
+    pub fn explains(self, at_terminal: bool) -> bool
+        ensures { result ≡ is_explained self at_terminal }
+    {
+        match self {
+            Explain::AtTerminal => at_terminal,
+            Explain::Always => true,
+            Explain::Never => false,
+        }
+    }
+}
+
 /// How a command reports.
 #[derive(Clone, Copy, PartialEq, Eq, Debug)]
 pub struct Telling {
-    /// `--explain`: the line of a failure is followed by where and why it occurred.
-    pub explain: bool,
+    /// `--explain` or `--explain=WHEN`
+    pub explain: Explain,
     /// `--color WHEN`
     pub color: Color,
 }
@@ -68,12 +94,12 @@ pub struct Telling {
 impl Telling {
     ghost use Rattle.command_line.specs.Requests.{usual_telling};
 
-    /// Returns the default: no explanations, and colors at a terminal.
+    /// Returns the default: explanations and colors at a terminal.
     pub fn usual() -> Telling
         ensures { result ≡ usual_telling }
     {
         Telling {
-            explain: false,
+            explain: Explain::AtTerminal,
             color: Color::Auto,
         }
     }

@@ -6,9 +6,7 @@ use Rattle.std.specs.String.{string_bytes}
 use Rattle.std.proofs.Common.{true≢false, Global, String}
 use Rattle.std.proofs.lemmas.Slice.Eq.{bytes_eq-Decides}
 use Rattle.command_line.specs.Requests.{Asked, Asks, is_file_name}
-use Rattle.command_line.specs.declared.request.Action.TheVariants.{Answer}
-use Rattle.command_line.specs.declared.request.Command.TheVariants.{Cost}
-use Rattle.command_words.specs.Orders.{Order, AsText, AsObject, Times, Tests, Orders, AsksForObject, subject_of}
+use Rattle.command_words.specs.Orders.{Order, AsText, AsObject, Times, Tests, Orders, AsksForObject, IsTimed, subject_of}
 use Rattle.command_words.specs.Reading.{taken}
 use Rattle.command_words.specs.declared.order.Subject.{Subject}
 use Rattle.command_words.proofs.Reading.{Lacks, bench_asks_nothing, some_is_none, test_asks_nothing, asks_no_form}
@@ -106,13 +104,13 @@ module _ (command : List ℕ) (behind : List (List ℕ)) where
 
   -- `bench` orders a timing
   pub bench_times : (P : Order → Type 0) → command ≡ codes "bench"
-      → ((a : Asked) → Asks (codes "cost" ∷ behind) a → a.action ≡ Answer Cost → P (Times a))
+      → ((a : Asked) → Asks (codes "run" ∷ behind) a → IsTimed a → P (Times a))
       → (o : Order) → Orders (command ∷ behind) o → P o
   bench_times P is times =
       orders_else P (λ others a asks. bench_asks_nothing others a (subst (λ (c : List ℕ). Asks (c ∷ others) a) is asks))
       (λ a p.
       let others = tail_is command (codes "bench") behind p.behind p.words_are in
-      times a (subst (λ (ws : List (List ℕ)). Asks (codes "cost" ∷ ws) a) (sym others) p.asks) p.measured)
+      times a (subst (λ (ws : List (List ℕ)). Asks (codes "run" ∷ ws) a) (sym others) p.asks) p.timed)
       (λ folder p. absurd (test_is_bench (sym (head_is command (codes "test") behind (folder ∷ []) p.words_are) ∙ is)))
 
   -- `test` orders a test

@@ -1,6 +1,6 @@
 -- Orders of command lines: to answer for one program, as text or as one object; to time its runs; or to
 -- test the programs of a folder.
-use Rattle.std.specs.Prelude.{ℕ, ◌≡◌, Bool, true, List, [], ◌∷◌, Option, None, Some, IsTrue, codes}
+use Rattle.std.specs.Prelude.{ℕ, ◌≡◌, Bool, true, false, List, [], ◌∷◌, Option, None, Some, IsTrue, codes}
 use Rattle.command_line.specs.Requests.{Asked, Asks, asked_of, is_file_name}
 use Rattle.command_line.specs.declared.request.Action.{Action}
 use Rattle.command_line.specs.declared.request.Action.TheVariants.{Answer, Rewrite}
@@ -55,11 +55,17 @@ pub record AsksForObject (words : List (List ℕ)) (x : Subject) (a : Asked) : T
   pub told : subject_of a.action ≡ Some x
   pub words_are : words ≡ command ∷ codes "--format" ∷ codes "json" ∷ behind
 
--- `bench` is followed by what can follow `cost` without shares
+-- a parallel run that isn't recorded and whose arrays aren't shown
+pub record IsTimed (a : Asked) : Type 0 where
+  pub parallel : a.action ≡ Answer Run
+  pub untraced : a.settings.trace ≡ None
+  pub unshown : a.settings.arrays ≡ false
+
+-- `bench` is followed by what can follow `run` without a trace and without arrays
 pub record AsksToTime (words : List (List ℕ)) (a : Asked) : Type 0 where
   pub behind : List (List ℕ)
-  pub asks : Asks (codes "cost" ∷ behind) a
-  pub measured : a.action ≡ Answer Cost
+  pub asks : Asks (codes "run" ∷ behind) a
+  pub timed : IsTimed a
   pub words_are : words ≡ codes "bench" ∷ behind
 
 -- `test` is followed by the name of a folder

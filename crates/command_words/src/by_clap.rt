@@ -4,7 +4,7 @@ use crate::order::{Order, Subject};
 use clap::error::ErrorKind;
 use clap::{ArgMatches, Error};
 use command_line::request::{
-    Action, Choosing, Color, Command, Request, RunOptions, Spread, Telling,
+    Action, Choosing, Color, Command, Explain, Request, RunOptions, Spread, Telling,
 };
 use options::reply::{self, Reply};
 use options::table::{CLOSING, commands};
@@ -46,7 +46,7 @@ fn described(alloc: Global, given: Option<&ArgMatches<'_>>) -> Result<Reply, All
 /// Returns the order of another command.
 fn ordered<'w>(alloc: Global, asked: Option<(&str, &ArgMatches<'w>)>) -> Result<Order<'w>, Error> {
     match asked {
-        Some(("bench", given)) => Ok(Order::Times(request(alloc, Command::Cost, given)?)),
+        Some(("bench", given)) => Ok(Order::Times(request(alloc, Command::Run, given)?)),
         Some(("test", given)) => Ok(Order::Tests(given.get_str("FOLDER").unwrap_or("-"))),
         asked => Ok(told(asked, request_asked(alloc, asked)?)),
     }
@@ -188,7 +188,11 @@ fn asking<'w>(alloc: Global, action: Action, given: &ArgMatches<'w>) -> Result<R
 /// Returns the reporting options. `clap` has checked that their values are possible ones.
 fn telling(given: &ArgMatches<'_>) -> Telling {
     Telling {
-        explain: given.get_flag("explain"),
+        explain: match given.get_str("explain") {
+            Some("always") => Explain::Always,
+            Some("never") => Explain::Never,
+            _ => Explain::AtTerminal,
+        },
         color: match given.get_str("color") {
             Some("always") => Color::Always,
             Some("never") => Color::Never,

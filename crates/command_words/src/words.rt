@@ -4,13 +4,11 @@ ghost use Rattle.std.specs.Prelude.{ℕ, ◌≡◌, ◌∷◌, [], List, map, So
 ghost use Rattle.std.specs.Prelude.{IfOk, IsErrAnd, IsOkAnd, IsSomeAnd, IsTrue};
 ghost use Rattle.std.specs.String.{string_bytes};
 ghost use Rattle.command_words.specs.Orders.{AsText, AsObject, Times, Tests, Order as OrderIn, Orders};
-ghost use Rattle.command_words.specs.Orders.{AsksForObject, names_once, order as order_said, subject_of};
+ghost use Rattle.command_words.specs.Orders.{AsksForObject, IsTimed, names_once, order as order_said, subject_of};
 ghost use Rattle.command_words.specs.declared.order.Subject.{Subject as SubjectOf};
 ghost use Rattle.command_words.specs.Reading.{line_of};
 ghost use Rattle.command_line.specs.Requests.{AreRight, Asked, Asks, Options, asked_of};
 ghost use Rattle.command_line.specs.Requests.{acting, is_file_name as names_file, texts_by};
-ghost use Rattle.command_line.specs.declared.request.Action.TheVariants.{Answer};
-ghost use Rattle.command_line.specs.declared.request.Command.TheVariants.{Cost};
 ghost use Rattle.options.specs.Replies.{IsConflict};
 
 use crate::by_clap::order_by_clap;
@@ -100,16 +98,33 @@ fn object_in<'w>(command: &str, behind: &'w [String]) -> Option<Order<'w>>
     Some(Order::AsObject(subject, request))
 }
 
-/// Returns the order of the arguments after `bench`: what can follow `cost`, except the option for
-/// shares.
+/// Returns the order of the arguments after `bench`: what can follow `run`, except a trace and
+/// arrays.
 fn times_in<'w>(behind: &'w [String]) -> Option<Order<'w>>
-    ensures { (a : Asked) → Asks (codes "cost" ∷ map string_bytes behind.now) a
-        → a.action ≡ Answer Cost → IsSomeAnd result (λ r. order_said r ≡ Times a) }
+    ensures { (a : Asked) → Asks (codes "run" ∷ map string_bytes behind.now) a
+        → IsTimed a → IsSomeAnd result (λ r. order_said r ≡ Times a) }
 {
-    let request = asked_in("cost", behind)?;
+    let request = asked_in("run", behind)?;
     match Subject::of(request.action)? {
-        Subject::Cost => Some(Order::Times(request)),
+        Subject::Run => timed(request),
         _ => None,
+    }
+}
+
+/// Returns the order to time the runs of a request, if it has no trace and shows no arrays.
+fn timed<'w>(request: Request<'w>) -> Option<Order<'w>>
+    ensures { IsTimed (asked_of request.entry)
+        → IsSomeAnd result (λ r. order_said r ≡ Times (asked_of request.entry)) }
+{
+    match request.settings.trace {
+        Some(_) => None,
+        None => {
+            if request.settings.arrays {
+                None
+            } else {
+                Some(Order::Times(request))
+            }
+        }
     }
 }
 

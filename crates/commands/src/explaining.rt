@@ -9,6 +9,7 @@ use crate::unchosen::{choices_explained, no_leaf_explained, open_explained};
 use crate::unlaid::layout_explained;
 use crate::unread::{reread_explained, unreadable_explained, unwritten_explained};
 use command_line::request::{Command, RunOptions};
+use excerpts::heading::Heading;
 use explanations::input_errors::explained_input;
 use explanations::races::explained_race;
 use explanations::syntax_errors::explained_syntax;
@@ -18,6 +19,7 @@ use files::file_source::FileSource;
 use gather::run_error::RunError;
 use race_checker::check::{Refused, check};
 use rule_explanations::rule_errors::explained_rule;
+use run_explanations::headings::heading_of;
 use run_explanations::run::seen_again;
 use run_explanations::runs::explained_run;
 use run_explanations::tasks::explained_tasks;
@@ -30,12 +32,13 @@ use types::input_error::InputError;
 use witness::witness::witness_of;
 
 /// Returns what went wrong, why, and what would be right: in the text of a program, in the file of
-/// its input or of a trace, in its choices, or in its formatting. Returns an empty text if there is
-/// no more to say than the failure's line.
+/// its input or of a trace, in its choices, or in its formatting. The program is in the file with
+/// this name. Returns an empty text if there is no more to say than the failure's line.
 pub fn explanation<R: Threads + Sync, F: FileSource>(
     rt: &R,
     alloc: Global,
     files: &mut F,
+    file: &str,
     question: Question<'_>,
     failure: &Failure,
 ) -> Result<String, AllocError>
@@ -43,23 +46,32 @@ pub fn explanation<R: Threads + Sync, F: FileSource>(
 {
     let Question { text, settings } = question;
     match failure {
-        Failure::Syntax(error) => explained_syntax(alloc, text, error),
-        Failure::Types(error) => explained_rule(alloc, text, *error),
-        Failure::Race { first, second, .. } => race_explained(rt, alloc, text, first, second),
+        Failure::Syntax(error) => {
+            explained_syntax(alloc, text, error, heading_of(file, error.code()))
+        }
+        Failure::Types(error) => {
+            explained_rule(alloc, text, *error, heading_of(file, error.code()))
+        }
+        Failure::Race { first, second, .. } => {
+            let accesses = (first.as_str(), second.as_str());
+            race_explained(rt, alloc, text, accesses, heading_of(file, "C1"))
+        }
         Failure::Input(error) => match settings.input {
             Some(name) => input_explained(alloc, files, text, name, error),
             None => Ok(String::new(alloc)),
         },
-        Failure::Run(RunError::TooManyTasks(_)) => explained_tasks(alloc, settings.spread.tasks),
+        Failure::Run(RunError::TooManyTasks(_)) => {
+            explained_tasks(alloc, settings.spread.tasks, heading_of(file, "E2"))
+        }
         Failure::Trace(TraceError::NotALine(line)) => {
             trace_explained(alloc, files, settings.trace, Wrong::Line(*line))
         }
         Failure::Illegal(event) => {
             trace_explained(alloc, files, settings.trace, Wrong::Event(*event))
         }
-        Failure::NotLaidOut => layout_explained(alloc, text),
+        Failure::NotLaidOut => layout_explained(alloc, text, heading_of(file, "not-formatted")),
         Failure::ChoicesNotUnderstood => choices_explained(alloc, files, settings.choices),
-        Failure::NoLeaf(choice) => no_leaf_explained(alloc, *choice),
+        Failure::NoLeaf(choice) => no_leaf_explained(alloc, file, *choice),
         _ => file_explained(alloc, files, failure),
     }
 }
@@ -74,30 +86,32 @@ fn file_explained<F: FileSource>(
     ensures { F.held files.new ≡ F.held files.old }
 {
     match failure {
-        Failure::CannotRead { .. } => unreadable_explained(alloc),
+        Failure::CannotRead { name } => unreadable_explained(alloc, name.as_str()),
         Failure::NotUtf8 { name } => reread_explained(alloc, files, name.as_str()),
         Failure::CannotWrite { name } => unwritten_explained(alloc, name.as_str()),
         _ => Ok(String::new(alloc)),
     }
 }
 
-/// Explains why the least race of a program is one. It looks for the race again.
+/// Explains why the least race of a program is one. It looks for the race again. The two accesses
+/// are given as the race's line prints them.
 fn race_explained<R: Threads + Sync>(
     rt: &R,
     alloc: Global,
     text: &str,
-    first: &str,
-    second: &str,
+    accesses: (&str, &str),
+    heading: Heading<'_>,
 ) -> Result<String, AllocError> {
+    let (first, second) = accesses;
     let Ok(typed) = typed_of(alloc, text) else {
-        return explained_race(alloc, text, first, second);
+        return explained_race(alloc, text, first, second, heading);
     };
     match check(rt, alloc, typed) {
         Err(Refused::Race { race, typed }) => match witness_of(alloc, &typed, race)? {
-            Some(witness) => explained(alloc, text, &typed, race, &witness),
-            None => explained_race(alloc, text, first, second),
+            Some(witness) => explained(alloc, text, &typed, race, &witness, heading),
+            None => explained_race(alloc, text, first, second, heading),
         },
-        _ => explained_race(alloc, text, first, second),
+        _ => explained_race(alloc, text, first, second, heading),
     }
 }
 
@@ -120,7 +134,8 @@ fn input_explained<F: FileSource>(
     let Ok(input) = std::str::from_utf8(&bytes) else {
         return Ok(String::new(alloc));
     };
-    explained_input(alloc, &typed.code().arrays, input, error)
+    let heading = heading_of(name, error.code());
+    explained_input(alloc, &typed.code().arrays, input, error, heading)
 }
 
 /// Explains what is wrong with the file of a trace. It reads the file again.
@@ -139,17 +154,26 @@ fn trace_explained<F: FileSource>(
         return Ok(String::new(alloc));
     };
     match std::str::from_utf8(&bytes) {
-        Ok(trace) => explained_trace(alloc, trace, wrong),
+        Ok(trace) => explained_trace(alloc, trace, wrong, heading_of(name, word_of(wrong))),
         Err(_) => Ok(String::new(alloc)),
     }
 }
 
+/// Returns the word of the page about what is wrong with a trace.
+fn word_of(wrong: Wrong) -> &'static str {
+    match wrong {
+        Wrong::Line(_) => "J1",
+        Wrong::Event(_) => "illegal",
+    }
+}
+
 /// Explains the faults of a run, or which task was over its budget, after an outcome with this
-/// status. It runs the program again on one thread, and reads files again. Returns an empty text
-/// after any other answer, and if files can't be read again.
+/// status. It runs the program, in the file with this name, again on one thread, and reads files
+/// again. Returns an empty text after any other answer, and if files can't be read again.
 pub fn run_explanation<F: FileSource>(
     alloc: Global,
     files: &mut F,
+    file: &str,
     command: Command,
     question: Question<'_>,
     status: u8,
@@ -161,15 +185,20 @@ pub fn run_explanation<F: FileSource>(
         return Ok(String::new(alloc));
     }
     match budget_of(command, question.settings, status) {
-        None => without_run(alloc, command, status),
-        Some(budget) => run_again(alloc, files, question, budget),
+        None => without_run(alloc, file, command, status),
+        Some(budget) => run_again(alloc, files, file, question, budget),
     }
 }
 
 /// Explains an answer that needs no further run: a run by choices that is open.
-fn without_run(alloc: Global, command: Command, status: u8) -> Result<String, AllocError> {
+fn without_run(
+    alloc: Global,
+    file: &str,
+    command: Command,
+    status: u8,
+) -> Result<String, AllocError> {
     match command {
-        Command::Explore if status == 3 => open_explained(alloc),
+        Command::Explore if status == 3 => open_explained(alloc, file),
         _ => Ok(String::new(alloc)),
     }
 }
@@ -191,6 +220,7 @@ fn budget_of(command: Command, settings: RunOptions<'_>, status: u8) -> Option<B
 fn run_again<F: FileSource>(
     alloc: Global,
     files: &mut F,
+    file: &str,
     question: Question<'_>,
     budget: Budget,
 ) -> Result<String, AllocError>
@@ -200,5 +230,12 @@ fn run_again<F: FileSource>(
         return Ok(String::new(alloc));
     };
     let seen = seen_again(alloc, &given.typed, &given.input, budget)?;
-    explained_run(alloc, question.text, given.typed.code(), budget, &seen)
+    explained_run(
+        alloc,
+        question.text,
+        given.typed.code(),
+        budget,
+        &seen,
+        file,
+    )
 }

@@ -2,15 +2,15 @@
 
 ghost use Rattle.std.specs.Prelude.{◌≡◌};
 
-use crate::unread::{first_of, place_behind, text_before};
+use crate::unread::{first_of, headed, place_behind, text_before};
 use command_line::request::Choosing;
-use excerpts::source::push_line;
+use excerpts::heading::Heading;
 use files::choices::MOST_BYTES;
 use files::file_source::FileSource;
+use run_explanations::headings::heading_of;
 use std::alloc::{AllocError, Global};
 
-const TOO_LONG: &str = "
-A file of choices can have at most 16777216 bytes; this one is larger.
+const TOO_LONG: &str = "A file of choices can have at most 16777216 bytes; this one is larger.
 help: use fewer choices, or let `--random 1` make them.
 ";
 
@@ -24,8 +24,8 @@ help: remove this choice and those after it; `open N` then gives the number of t
 More: `afx explain no-leaf`.
 ";
 
-const OPEN: &str = "
-All choices are used and the run has not ended: this many tasks can still take a step.
+const OPEN: &str =
+    "All choices are used and the run has not ended: this many tasks can still take a step.
 help: add choices, or let `--random 1` choose until the end.
 More: `afx explain open`.
 ";
@@ -39,19 +39,26 @@ pub fn choices_explained<F: FileSource>(
     ensures { F.held files.new ≡ F.held files.old }
 {
     match choosing {
-        Some(Choosing::Listed(list)) => entry_explained(alloc, list, wrong_in_list(list), LISTED),
+        Some(Choosing::Listed(list)) => {
+            let heading = heading_of("--choices", WORD);
+            entry_explained(alloc, heading, list, wrong_in_list(list), LISTED)
+        }
         Some(Choosing::InFile(name)) => match first_of(files, name, MOST_BYTES + 1) {
-            Some(bytes) => filed_explained(alloc, &bytes),
-            None => entry_explained(alloc, "", None, FILED),
+            Some(bytes) => filed_explained(alloc, name, &bytes),
+            None => entry_explained(alloc, heading_of(name, WORD), "", None, FILED),
         },
         _ => Ok(String::new(alloc)),
     }
 }
 
+/// The word of the page about choices.
+const WORD: &str = "choices";
+
 /// Explains which entry of a file is not a choice, or that the file is too long.
-fn filed_explained(alloc: Global, bytes: &[u8]) -> Result<String, AllocError> {
+fn filed_explained(alloc: Global, name: &str, bytes: &[u8]) -> Result<String, AllocError> {
+    let heading = heading_of(name, WORD);
     if bytes.len() > MOST_BYTES {
-        return String::from_str(alloc, TOO_LONG);
+        return headed(alloc, heading, TOO_LONG);
     }
     let text = text_before(bytes);
     let behind = if text.len() < bytes.len() {
@@ -59,24 +66,28 @@ fn filed_explained(alloc: Global, bytes: &[u8]) -> Result<String, AllocError> {
     } else {
         None
     };
-    entry_explained(alloc, text, wrong_in_file(text).or(behind), FILED)
+    entry_explained(alloc, heading, text, wrong_in_file(text).or(behind), FILED)
 }
 
 /// Explains where the entry is that is not a choice, and how to write choices.
 fn entry_explained(
     alloc: Global,
+    heading: Heading<'_>,
     text: &str,
     at: Option<usize>,
     mend: &str,
 ) -> Result<String, AllocError> {
     let mut told = String::new(alloc);
-    told.push('\n')?;
     match at {
         Some(at) => {
-            push_line(&mut told, text, place_behind(text.get(..at).unwrap_or("")))?;
+            let place = place_behind(text.get(..at).unwrap_or(""));
+            heading.push_excerpt(&mut told, text, place)?;
             told.push_str("Expected a choice: an integer from 0 to 4294967295.\n")?;
         }
-        None => told.push_str("A choice is an integer from 0 to 4294967295.\n")?,
+        None => {
+            heading.push(&mut told, None)?;
+            told.push_str("A choice is an integer from 0 to 4294967295.\n")?;
+        }
     }
     told.push_str(mend)?;
     Ok(told)
@@ -131,17 +142,18 @@ fn separates(byte: u8) -> bool {
 }
 
 /// Explains why a choice names no task.
-pub fn no_leaf_explained(alloc: Global, choice: usize) -> Result<String, AllocError> {
+pub fn no_leaf_explained(alloc: Global, file: &str, choice: usize) -> Result<String, AllocError> {
     let mut told = String::new(alloc);
+    heading_of(file, "no-leaf").push(&mut told, None)?;
     write!(
         told,
-        "\nA choice is the number, from 0, of a task that can take a step. At choice {choice} (counting from 0) there are\n"
+        "A choice is the number, from 0, of a task that can take a step. At choice {choice} (counting from 0) there are\n"
     )?;
     told.push_str(NO_LEAF)?;
     Ok(told)
 }
 
 /// Explains why a run by choices is open.
-pub fn open_explained(alloc: Global) -> Result<String, AllocError> {
-    String::from_str(alloc, OPEN)
+pub fn open_explained(alloc: Global, file: &str) -> Result<String, AllocError> {
+    headed(alloc, heading_of(file, "open"), OPEN)
 }

@@ -2,19 +2,24 @@
 
 use crate::programs::program_of;
 use crate::unread::place_behind;
-use excerpts::source::push_excerpt;
+use excerpts::heading::Heading;
 use layout::laid_out;
 use std::alloc::{AllocError, Global};
 
 /// Explains where a text differs from its canonical layout, and how to format it.
-pub fn layout_explained(alloc: Global, text: &str) -> Result<String, AllocError> {
+pub fn layout_explained(
+    alloc: Global,
+    text: &str,
+    heading: Heading<'_>,
+) -> Result<String, AllocError> {
     let Ok(_program) = program_of(alloc, text) else {
         return Ok(String::new(alloc));
     };
     let laid = laid_out(alloc, text)?;
     let at = alike(text, laid.as_str());
     let mut told = String::new(alloc);
-    push_excerpt(&mut told, text, place_behind(text.get(..at).unwrap_or("")))?;
+    let place = place_behind(text.get(..at).unwrap_or(""));
+    heading.push_excerpt(&mut told, text, place)?;
     told.push_str("Found ")?;
     push_first(&mut told, text.get(at..).unwrap_or(""))?;
     told.push_str(", but the formatted program has ")?;

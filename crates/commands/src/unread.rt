@@ -2,9 +2,10 @@
 
 ghost use Rattle.std.specs.Prelude.{◌≡◌};
 
-use excerpts::source::push_excerpt;
+use excerpts::heading::Heading;
 use failures::failure::Failure;
 use files::file_source::FileSource;
+use run_explanations::headings::heading_of;
 use std::alloc::{AllocError, Global};
 use syntax::TextPlace;
 use syntax::error::SyntaxError;
@@ -13,24 +14,21 @@ use syntax::parser::MOST_BYTES;
 /// The maximum number of bytes that are read of a text that is too long, to count its bytes.
 const MOST_COUNTED: usize = 16_777_216;
 
-const UNREAD: &str = "
-The file doesn't exist, is a folder, can't be read, or has more than 1 GiB.
+const UNREAD: &str = "The file doesn't exist, is a folder, can't be read, or has more than 1 GiB.
 help: check the name: it is relative to the current folder. `-` is standard input.
 ";
 
-const UNWRITTEN: &str = "
-The folder doesn't exist, the name is a folder, the file can't be written, or the disk is full.
+const UNWRITTEN: &str =
+    "The folder doesn't exist, the name is a folder, the file can't be written, or the disk is full.
 Or the command has read this file under another name.
 help: name a file in an existing folder that you can write to.
 ";
 
-const NEVER_WRITTEN: &str = "
-`-` is standard input and can't be written.
+const NEVER_WRITTEN: &str = "`-` is standard input and can't be written.
 help: name a file.
 ";
 
-const NO_TEXT: &str = "
-Programs, inputs and traces must be UTF-8.
+const NO_TEXT: &str = "Programs, inputs and traces must be UTF-8.
 help: save the file as UTF-8; outside comments a program is ASCII only.
 ";
 
@@ -45,14 +43,28 @@ pub fn unread_explanation<F: FileSource>(
     ensures { F.held files.new ≡ F.held files.old }
 {
     match failure {
-        Failure::CannotRead { .. } => String::from_str(alloc, UNREAD),
-        Failure::Syntax(SyntaxError::TooLong) => too_long_explained(alloc, bytes_of(files, name)),
+        Failure::CannotRead { .. } => unreadable_explained(alloc, name),
+        Failure::Syntax(SyntaxError::TooLong) => {
+            let many = bytes_of(files, name);
+            too_long_explained(alloc, name, many)
+        }
         Failure::NotUtf8 { .. } => match first_of(files, name, MOST_BYTES) {
-            Some(bytes) => no_text_explained(alloc, &bytes),
-            None => String::from_str(alloc, NO_TEXT),
+            Some(bytes) => no_text_explained(alloc, name, &bytes),
+            None => headed(alloc, heading_of(name, NO_UTF8), NO_TEXT),
         },
         _ => Ok(String::new(alloc)),
     }
+}
+
+/// The word of the page about files that aren't text.
+const NO_UTF8: &str = "not-UTF-8";
+
+/// Returns an explanation without a position.
+pub fn headed(alloc: Global, heading: Heading<'_>, behind: &str) -> Result<String, AllocError> {
+    let mut told = String::new(alloc);
+    heading.push(&mut told, None)?;
+    told.push_str(behind)?;
+    Ok(told)
 }
 
 /// Returns the first bytes of a file, if they can be read again: the standard input gives them
@@ -77,9 +89,10 @@ fn bytes_of<F: FileSource>(files: &mut F, name: &str) -> usize
 }
 
 /// Explains how many bytes a program's text has that is too long.
-fn too_long_explained(alloc: Global, many: usize) -> Result<String, AllocError> {
+fn too_long_explained(alloc: Global, name: &str, many: usize) -> Result<String, AllocError> {
     let mut told = String::new(alloc);
-    told.push_str("\nA program can have at most 1048576 bytes; this one has ")?;
+    heading_of(name, "S5").push(&mut told, None)?;
+    told.push_str("A program can have at most 1048576 bytes; this one has ")?;
     if many >= MOST_COUNTED {
         told.push_str("at least 16777216.\n")?;
     } else if many > MOST_BYTES {
@@ -100,20 +113,21 @@ pub fn reread_explained<F: FileSource>(
     ensures { F.held files.new ≡ F.held files.old }
 {
     match files.read(name) {
-        Ok(bytes) => no_text_explained(alloc, &bytes),
-        Err(_) => String::from_str(alloc, NO_TEXT),
+        Ok(bytes) => no_text_explained(alloc, name, &bytes),
+        Err(_) => headed(alloc, heading_of(name, NO_UTF8), NO_TEXT),
     }
 }
 
 /// Explains where bytes are not UTF-8.
-fn no_text_explained(alloc: Global, bytes: &[u8]) -> Result<String, AllocError> {
+fn no_text_explained(alloc: Global, name: &str, bytes: &[u8]) -> Result<String, AllocError> {
+    let heading = heading_of(name, NO_UTF8);
     let front = text_before(bytes);
     let at = front.len();
     let Some(byte) = bytes.get(at) else {
-        return String::from_str(alloc, NO_TEXT);
+        return headed(alloc, heading, NO_TEXT);
     };
     let mut told = String::new(alloc);
-    push_excerpt(&mut told, front, place_behind(front))?;
+    heading.push_excerpt(&mut told, front, place_behind(front))?;
     write!(
         told,
         "Byte {at} of the file (counting from 0) is {byte}, which is not valid UTF-8 there.\n"
@@ -149,15 +163,16 @@ pub fn place_behind(text: &str) -> TextPlace {
 }
 
 /// Explains why a file can't be read.
-pub fn unreadable_explained(alloc: Global) -> Result<String, AllocError> {
-    String::from_str(alloc, UNREAD)
+pub fn unreadable_explained(alloc: Global, name: &str) -> Result<String, AllocError> {
+    headed(alloc, heading_of(name, "cannot-read"), UNREAD)
 }
 
 /// Explains why a file can't be written.
 pub fn unwritten_explained(alloc: Global, name: &str) -> Result<String, AllocError> {
+    let heading = heading_of(name, "cannot-write");
     if name == "-" {
-        String::from_str(alloc, NEVER_WRITTEN)
+        headed(alloc, heading, NEVER_WRITTEN)
     } else {
-        String::from_str(alloc, UNWRITTEN)
+        headed(alloc, heading, UNWRITTEN)
     }
 }

@@ -1,6 +1,6 @@
 -- From a program that is read to what was ordered.
-use Rattle.std.proofs.Common.{◌≡◌, ℕ, ◌≤◌, length, List, Option, Result, Err, sym, subst, false}
-use Rattle.command_line.specs.Requests.{Asked}
+use Rattle.std.proofs.Common.{◌≡◌, ℕ, ◌≤◌, length, List, Option, Result, Err, sym, subst, Bool, false}
+use Rattle.command_line.specs.Requests.{Asked, is_explained}
 use Rattle.files.specs.Held.{Held, HasText, TellsNoProgram}
 use Rattle.failures.specs.declared.failure.Failure.{Failure}
 use Rattle.command_words.specs.Orders.{Order}
@@ -37,9 +37,15 @@ module _ (d : TextOrder) (a : Asked) (held : Held) (old new : Option (List ℕ))
 -- ---- what was ordered
 
 module _ (held later : Held) (old new err_old err_new : Option (List ℕ)) (status : ℕ) where
-  pub acted : (d : TextOrder) (a : Asked) (r : Result ℕ Failure) → ReadsAnd d a held later old new r
-      → Reports a.telling.explain err_old err_new r status → ActsWith d a held later old new err_old err_new status
-  acted d a r does reports = record { result = r; does = does; reports = reports }
+  pub acted : (at_terminal : Bool) (d : TextOrder) (a : Asked) (r : Result ℕ Failure) (explains : Bool)
+      → explains ≡ is_explained a.telling.explain at_terminal → ReadsAnd d a held later old new r
+      → Reports explains err_old err_new r status
+      → ActsWith at_terminal d a held later old new err_old err_new status
+  acted at_terminal d a r explains is does reports = record {
+    result = r;
+    does = does;
+    reports = subst (λ (e : Bool). Reports e err_old err_new r status) is reports;
+  }
 
 module _ (named : Folders) (held later : Held) (old new err_old err_new : Option (List ℕ)) (status : ℕ) where
   pub tested_as : (folder : List ℕ) (r : Result ℕ Failure) → TestsFolder named held later folder old new r
@@ -47,6 +53,7 @@ module _ (named : Folders) (held later : Held) (old new err_old err_new : Option
   tested_as folder r does reports = record { result = r; does = does; reports = reports }
 
   -- one order is another
-  pub ordered : (o p : Order) → o ≡ p → ActsOn o named held later old new err_old err_new status
-      → ActsOn p named held later old new err_old err_new status
-  ordered o p same acts = subst (λ (q : Order). ActsOn q named held later old new err_old err_new status) same acts
+  pub ordered : (at_terminal : Bool) (o p : Order) → o ≡ p
+      → ActsOn at_terminal o named held later old new err_old err_new status
+      → ActsOn at_terminal p named held later old new err_old err_new status
+  ordered at_terminal o p same acts = subst (λ (q : Order). ActsOn at_terminal q named held later old new err_old err_new status) same acts

@@ -89,13 +89,13 @@ pub record Performs (x : Action) (file : List ℕ) (s : Settings) (text : List �
   pub done : Done (AnswersTo x s held text) (ExplainsTo x file s held text) old new r
   pub leaves : LeavesTo x file s text held later r
 
--- the line of a failure was appended as far as it was accepted; an explanation follows if that is requested
+-- the line of a failure was appended as far as it was accepted; an explanation follows if there should be one
 pub record IsTold (explain : Bool) (old new : Option (List ℕ)) (f : Failure) : Type 0 where
   pub more : List ℕ
   pub bare : explain ≡ false → more ≡ []
   pub told : AppendsBeginning old new ((failure_text f ++ codes "\n") ++ more)
 
--- nothing is written after an answer, unless an explanation is requested and a run ended with faults or was
+-- nothing is written after an answer, unless there should be an explanation and a run ended with faults or was
 -- stopped: then the explanation of its outcome was appended, as far as it was accepted
 pub record IsFollowed (explain : Bool) (answered : ℕ) (old new : Option (List ℕ)) : Type 0 where
   pub more : List ℕ
@@ -128,7 +128,7 @@ IsHandedOn (Ok status) old new r =
     Keeps old new × (IfOk r (λ n. n ≡ status) × IfErr r (λ f. f ≡ CannotWriteOutput))
 IsHandedOn (Err f) old new r = (new ≡ old) × (r ≡ Err f)
 
--- a refusal and an answer are explained only if that is requested; an answer with status 0 or 1 is never
+-- a refusal and an answer are explained only if they should be; an answer with status 0 or 1 is never
 -- explained
 pub record IsSaid (explain : Bool) (r : Result Answered Refusal) : Type 0 where
   pub bare : IfErr r (λ refusal. explain ≡ false → string_bytes refusal.more ≡ [])

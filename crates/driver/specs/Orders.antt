@@ -1,7 +1,7 @@
 -- Orders that were carried out, and reported.
 use Rattle.std.specs.Prelude.{ℕ, ◌≤◌, Bool, false, List, [], length, Option, Result, IsErrAnd, ◌≡◌}
 use Rattle.std.specs.Io.KnownBytes.{Keeps}
-use Rattle.command_line.specs.Requests.{Asked, asked_of}
+use Rattle.command_line.specs.Requests.{Asked, asked_of, is_explained}
 use Rattle.files.specs.Held.{Held, HasText, TellsNoProgram}
 use Rattle.failures.specs.declared.failure.Failure.{Failure}
 use Rattle.json_answers.specs.Failing.{IsToldAsObject, TellsFailure}
@@ -56,29 +56,30 @@ pub record ActsBy (Does : Result ℕ Failure → Type 0) (explain : Bool)
   pub does : Does result
   pub reports : Reports explain err_old err_new result status
 
--- this was done with the file of a program, and reported
-abbrev pub ActsWith : TextOrder → (a : Asked) → (held later : Held) → (old new : Option (List ℕ))
+-- this was done with the file of a program, and reported: with explanations on request, and by default if
+-- the standard error is a terminal
+abbrev pub ActsWith : (at_terminal : Bool) → TextOrder → (a : Asked) → (held later : Held) → (old new : Option (List ℕ))
     → (err_old err_new : Option (List ℕ)) → (status : ℕ) → Type 0
-ActsWith d a held later old new err_old err_new status =
-    ActsBy (ReadsAnd d a held later old new) a.telling.explain err_old err_new status
+ActsWith at_terminal d a held later old new err_old err_new status =
+    ActsBy (ReadsAnd d a held later old new) (is_explained a.telling.explain at_terminal) err_old err_new status
 
 -- the request was carried out, and reported
-abbrev pub Acts : (a : Asked) → (held later : Held) → (old new : Option (List ℕ))
+abbrev pub Acts : (at_terminal : Bool) → (a : Asked) → (held later : Held) → (old new : Option (List ℕ))
     → (err_old err_new : Option (List ℕ)) → (status : ℕ) → Type 0
-Acts a held later old new err_old err_new status =
-    ActsWith Answering a held later old new err_old err_new status
+Acts at_terminal a held later old new err_old err_new status =
+    ActsWith at_terminal Answering a held later old new err_old err_new status
 
 -- the request was answered as one object, and reported
-abbrev pub TellsAs : (x : Subject) → (a : Asked) → (held later : Held) → (old new : Option (List ℕ))
+abbrev pub TellsAs : (at_terminal : Bool) → (x : Subject) → (a : Asked) → (held later : Held) → (old new : Option (List ℕ))
     → (err_old err_new : Option (List ℕ)) → (status : ℕ) → Type 0
-TellsAs x a held later old new err_old err_new status =
-    ActsWith (Describing x) a held later old new err_old err_new status
+TellsAs at_terminal x a held later old new err_old err_new status =
+    ActsWith at_terminal (Describing x) a held later old new err_old err_new status
 
 -- the runs of a program were timed, and that was reported
-abbrev pub TimesAs : (a : Asked) → (held later : Held) → (old new : Option (List ℕ))
+abbrev pub TimesAs : (at_terminal : Bool) → (a : Asked) → (held later : Held) → (old new : Option (List ℕ))
     → (err_old err_new : Option (List ℕ)) → (status : ℕ) → Type 0
-TimesAs a held later old new err_old err_new status =
-    ActsWith Timing a held later old new err_old err_new status
+TimesAs at_terminal a held later old new err_old err_new status =
+    ActsWith at_terminal Timing a held later old new err_old err_new status
 
 -- the programs of a folder were tested, and that was reported
 abbrev pub TestsAs : (folder : List ℕ) → Folders → (held later : Held) → (old new : Option (List ℕ))
@@ -87,13 +88,13 @@ TestsAs folder named held later old new err_old err_new status =
     ActsBy (TestsFolder named held later folder old new) false err_old err_new status
 
 -- an order was carried out
-abbrev pub ActsOn : Order → Folders → (held later : Held) → (old new : Option (List ℕ))
+abbrev pub ActsOn : (at_terminal : Bool) → Order → Folders → (held later : Held) → (old new : Option (List ℕ))
     → (err_old err_new : Option (List ℕ)) → (status : ℕ) → Type 0
-ActsOn (AsText a) named held later old new err_old err_new status =
-    Acts a held later old new err_old err_new status
-ActsOn (AsObject x a) named held later old new err_old err_new status =
-    TellsAs x a held later old new err_old err_new status
-ActsOn (Times a) named held later old new err_old err_new status =
-    TimesAs a held later old new err_old err_new status
-ActsOn (Tests folder) named held later old new err_old err_new status =
+ActsOn at_terminal (AsText a) named held later old new err_old err_new status =
+    Acts at_terminal a held later old new err_old err_new status
+ActsOn at_terminal (AsObject x a) named held later old new err_old err_new status =
+    TellsAs at_terminal x a held later old new err_old err_new status
+ActsOn at_terminal (Times a) named held later old new err_old err_new status =
+    TimesAs at_terminal a held later old new err_old err_new status
+ActsOn at_terminal (Tests folder) named held later old new err_old err_new status =
     TestsAs folder named held later old new err_old err_new status

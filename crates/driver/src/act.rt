@@ -19,7 +19,7 @@ ghost use Rattle.printing.specs.Appending.{AppendsBeginning};
 use crate::answered::Answered;
 use crate::doing::{Ordered, TextOrder, read_and_do};
 use crate::refusal::Refusal;
-use crate::terminal::Terminal;
+use crate::terminal::{Terminal, explains_on};
 use crate::trying::test;
 use command_words::order::Order;
 use command_words::words::order_of;
@@ -35,7 +35,8 @@ use test_and_bench::folders::FolderSource;
 
 /// Carries out the arguments after the program's name, and returns the exit status. It is a mistake
 /// if they give the same name to two files: no file is both read and written. `--progress` reports
-/// the progress of a run to `terminal`, and `bench` reads the time from it.
+/// the progress of a run to `terminal`, and `bench` reads the time from it. By default explanations
+/// are written if it is a terminal.
 pub fn act<R: Threads + Wait + Sync, F: FolderSource, O: Write, E: Write, T: Terminal>(
     rt: &R,
     alloc: Global,
@@ -46,14 +47,14 @@ pub fn act<R: Threads + Wait + Sync, F: FolderSource, O: Write, E: Write, T: Ter
     terminal: &mut T,
 ) -> u8
     ensures asked { (a : Asked) → Asks (map string_bytes words.now) a → names_once a ≡ true
-        → Acts a (F.held files.old) (F.held files.new) (O.contents out.old) (O.contents out.new)
+        → Acts (T.seen terminal.old) a (F.held files.old) (F.held files.new) (O.contents out.old) (O.contents out.new)
         (E.contents err.old) (E.contents err.new) result }
     ensures as_object { (x : Subject) (a : Asked) → AsksForObject (map string_bytes words.now) x a
-        → names_once a ≡ true → TellsAs x a (F.held files.old) (F.held files.new)
+        → names_once a ≡ true → TellsAs (T.seen terminal.old) x a (F.held files.old) (F.held files.new)
         (O.contents out.old) (O.contents out.new)
         (E.contents err.old) (E.contents err.new) result }
     ensures timed { (a : Asked) → AsksToTime (map string_bytes words.now) a → names_once a ≡ true
-        → TimesAs a (F.held files.old) (F.held files.new) (O.contents out.old) (O.contents out.new)
+        → TimesAs (T.seen terminal.old) a (F.held files.old) (F.held files.new) (O.contents out.old) (O.contents out.new)
         (E.contents err.old) (E.contents err.new) result }
     ensures tested { (folder : List ℕ) → AsksToTest (map string_bytes words.now) folder
         → TestsAs folder (F.named files.old) (F.held files.old) (F.held files.new)
@@ -64,7 +65,7 @@ pub fn act<R: Threads + Wait + Sync, F: FolderSource, O: Write, E: Write, T: Ter
     ensures watched { (o : OrderIn) → Orders (map string_bytes words.now) o → order_names_once o ≡ true
         → WatchesOrder T.Told o result terminal.old terminal.new }
     ensures always { ((result ≤ 1) × (F.held files.new ≡ F.held files.old)) ⊎ ((o : OrderIn)
-        × ActsOn o (F.named files.old) (F.held files.old) (F.held files.new)
+        × ActsOn (T.seen terminal.old) o (F.named files.old) (F.held files.old) (F.held files.new)
         (O.contents out.old) (O.contents out.new) (E.contents err.old) (E.contents err.new) result) }
 {
     match order_of(alloc, words) {
@@ -83,7 +84,7 @@ fn carry_out<R: Threads + Wait + Sync, F: FolderSource, O: Write, E: Write, T: T
     err: &mut E,
     terminal: &mut T,
 ) -> u8
-    ensures acts { ActsOn (order_said order.entry) (F.named files.old)
+    ensures acts { ActsOn (T.seen terminal.old) (order_said order.entry) (F.named files.old)
         (F.held files.old) (F.held files.new)
         (O.contents out.old) (O.contents out.new) (E.contents err.old) (E.contents err.new) result }
     ensures watched { WatchesOrder T.Told (order_said order.entry) result terminal.old terminal.new }
@@ -91,18 +92,36 @@ fn carry_out<R: Threads + Wait + Sync, F: FolderSource, O: Write, E: Write, T: T
     match order {
         Order::AsText(request) => {
             let doing = TextOrder::Answering;
-            let done = read_and_do(rt, alloc, Ordered { doing, request }, files, out, terminal);
-            report(done, request.telling.explain, err)
+            let explains = explains_on(request.telling, terminal);
+            let ordered = Ordered {
+                doing,
+                request,
+                explains,
+            };
+            let done = read_and_do(rt, alloc, ordered, files, out, terminal);
+            report(done, explains, err)
         }
         Order::AsObject(subject, request) => {
             let doing = TextOrder::Describing(subject);
-            let done = read_and_do(rt, alloc, Ordered { doing, request }, files, out, terminal);
-            report(done, request.telling.explain, err)
+            let explains = explains_on(request.telling, terminal);
+            let ordered = Ordered {
+                doing,
+                request,
+                explains,
+            };
+            let done = read_and_do(rt, alloc, ordered, files, out, terminal);
+            report(done, explains, err)
         }
         Order::Times(request) => {
             let doing = TextOrder::Timing;
-            let done = read_and_do(rt, alloc, Ordered { doing, request }, files, out, terminal);
-            report(done, request.telling.explain, err)
+            let explains = explains_on(request.telling, terminal);
+            let ordered = Ordered {
+                doing,
+                request,
+                explains,
+            };
+            let done = read_and_do(rt, alloc, ordered, files, out, terminal);
+            report(done, explains, err)
         }
         Order::Tests(folder) => {
             let done = test(rt, alloc, folder, files, out);
@@ -111,11 +130,11 @@ fn carry_out<R: Threads + Wait + Sync, F: FolderSource, O: Write, E: Write, T: T
     }
 }
 
-/// Writes the explanation of an answer, or of a failure, to the standard error. `explain` is
-/// whether an explanation was requested.
-fn report<E: Write>(done: Result<Answered, Refusal>, explain: bool, err: &mut E) -> u8
-    requires said { IsSaid explain done }
-    ensures { Reports explain (E.contents err.old) (E.contents err.new) (in_short done) result }
+/// Writes the explanation of an answer, or of a failure, to the standard error. `explains` is
+/// whether there should be one.
+fn report<E: Write>(done: Result<Answered, Refusal>, explains: bool, err: &mut E) -> u8
+    requires said { IsSaid explains done }
+    ensures { Reports explains (E.contents err.old) (E.contents err.new) (in_short done) result }
 {
     match done {
         Ok(answered) => answered.follow(err),
@@ -152,7 +171,7 @@ fn tell_command_line<O: Write, E: Write>(
         Reply::Said(error) => match format!(in alloc; "{error}") {
             Ok(text) if error.use_stderr() => refuse(err, &text),
             Ok(text) => hand_out(out, err, &text),
-            Err(AllocError) => 1,
+            Err(AllocError) => refuse(err, "error: out of memory\n"),
         },
         Reply::Page(text) => hand_out(out, err, text),
         Reply::NoPage(line) => refuse(err, line),

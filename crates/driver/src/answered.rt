@@ -22,8 +22,8 @@ pub struct Answered {
 }
 
 impl Answered {
-    /// Explains a run that ended with faults or was stopped, in these colors, if that is requested
-    /// and there is memory for it.
+    /// Explains a run that ended with faults or was stopped, if it should be explained and there is
+    /// memory for it.
     pub fn explained<F: FileSource>(
         alloc: Global,
         files: &mut F,
@@ -32,11 +32,11 @@ impl Answered {
         status: u8,
     ) -> Answered
         ensures status { result.status ≡ status }
-        ensures bare { request.entry.telling.explain ≡ false → string_bytes result.more ≡ [] }
+        ensures bare { source.now.explains ≡ false → string_bytes result.more ≡ [] }
         ensures calm { status ≤ 1 → string_bytes result.more ≡ [] }
         ensures keeps { F.held files.new ≡ F.held files.old }
     {
-        if !request.telling.explain || status < 2 {
+        if !source.explains || status < 2 {
             return Answered {
                 status,
                 more: String::new(alloc),
@@ -77,5 +77,5 @@ fn outcome_explained<F: FileSource>(
         text,
         settings: request.settings,
     };
-    run_explanation(alloc, files, command, question, status)
+    run_explanation(alloc, files, request.file, command, question, status)
 }

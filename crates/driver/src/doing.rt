@@ -38,11 +38,12 @@ pub enum TextOrder {
     Timing,
 }
 
-/// An order for the text of a program, and its request.
+/// An order for the text of a program, its request, and whether failures and outcomes are explained.
 #[derive(Clone, Copy)]
 pub struct Ordered<'o> {
     pub doing: TextOrder,
     pub request: Request<'o>,
+    pub explains: bool,
 }
 
 /// Reads a program, and carries out the order on its text.
@@ -57,12 +58,16 @@ pub fn read_and_do<R: Threads + Wait + Sync, F: FileSource, O: Write, T: Termina
     ensures done { ReadsAnd ordered.entry.doing (asked_of ordered.entry.request)
         (F.held files.old) (F.held files.new)
         (O.contents out.old) (O.contents out.new) (in_short result) }
-    ensures said { IsSaid ordered.entry.request.telling.explain result }
+    ensures said { IsSaid ordered.entry.explains result }
     ensures watched { WatchesDoing T.Told ordered.entry.doing (asked_of ordered.entry.request)
         (in_short result) terminal.old terminal.new }
 {
-    let Ordered { doing, request } = ordered;
-    let source = match source_of(alloc, files, request, terminal) {
+    let Ordered {
+        doing,
+        request,
+        explains,
+    } = ordered;
+    let source = match source_of(alloc, files, request, explains, terminal) {
         Ok(source) => source,
         Err(refusal) => {
             tell_unread(rt, alloc, doing, request.file, &refusal.failure, out);
@@ -128,7 +133,7 @@ fn do_with<R: Threads + Wait + Sync, F: FileSource, O: Write, T: Terminal>(
     }
 }
 
-/// Adds the explanation to a result.
+/// Adds the explanation to a result, if it should be explained.
 fn explained<R: Threads + Sync, F: FileSource>(
     rt: &R,
     alloc: Global,
@@ -138,7 +143,7 @@ fn explained<R: Threads + Sync, F: FileSource>(
     done: Result<u8, Failure>,
 ) -> Result<Answered, Refusal>
     ensures same { in_short result ≡ done }
-    ensures said { IsSaid request.entry.telling.explain result }
+    ensures said { IsSaid source.now.explains result }
     ensures keeps { F.held files.new ≡ F.held files.old }
 {
     match done {

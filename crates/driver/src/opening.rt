@@ -16,11 +16,12 @@ use files::file_source::{FileSource, read_program};
 use std::alloc::Global;
 
 /// Returns the text of the file that a request names; or the reason why it has none, explained if
-/// that is requested.
+/// it should be.
 pub(crate) fn source_of<F: FileSource, T: Terminal>(
     alloc: Global,
     files: &mut F,
     request: Request<'_>,
+    explains: bool,
     terminal: &T,
 ) -> Result<ProgramSource, Refusal>
     ensures text { IfOk result
@@ -29,13 +30,21 @@ pub(crate) fn source_of<F: FileSource, T: Terminal>(
     ensures why { IfErr result
         (λ refusal. TellsNoProgram (F.held files.old) request.entry.file.now refusal.failure) }
     ensures bare { IfErr result
-        (λ refusal. request.entry.telling.explain ≡ false → string_bytes refusal.more ≡ []) }
+        (λ refusal. explains ≡ false → string_bytes refusal.more ≡ []) }
+    ensures explains { IfOk result (λ source. source.explains ≡ explains) }
     ensures keeps { F.held files.new ≡ F.held files.old }
 {
     let paint = paint_of(request.telling, terminal);
     match text_in(alloc, files, request.file) {
-        Ok(text) => Ok(ProgramSource { text, paint }),
-        Err(failure) => Err(Refusal::unread(alloc, files, request, paint, failure)),
+        Ok(text) => Ok(ProgramSource {
+            text,
+            explains,
+            paint,
+        }),
+        Err(failure) => {
+            let file = request.file;
+            Err(Refusal::unread(alloc, files, file, explains, paint, failure))
+        }
     }
 }
 

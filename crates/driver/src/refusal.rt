@@ -40,7 +40,7 @@ impl Refusal {
         }
     }
 
-    /// Explains a failure, in these colors, if that is requested and there is memory for it.
+    /// Explains a failure, if it should be explained and there is memory for it.
     pub fn explained<R: Threads + Sync, F: FileSource>(
         rt: &R,
         alloc: Global,
@@ -50,39 +50,40 @@ impl Refusal {
         failure: Failure,
     ) -> Refusal
         ensures failure { result.failure ≡ failure }
-        ensures more { request.entry.telling.explain ≡ false → string_bytes result.more ≡ [] }
+        ensures more { source.now.explains ≡ false → string_bytes result.more ≡ [] }
         ensures keeps { F.held files.new ≡ F.held files.old }
     {
-        if !request.telling.explain {
+        if !source.explains {
             return Refusal::bare(alloc, failure);
         }
         let question = Question {
             text: source.text.as_str(),
             settings: request.settings,
         };
-        let more = explanation(rt, alloc, files, question, &failure);
+        let more = explanation(rt, alloc, files, request.file, question, &failure);
         Refusal {
             failure,
             more: said(alloc, more, source.paint),
         }
     }
 
-    /// Explains why the file of a program gave no text.
+    /// Explains why the file of a program gave no text, in these colors, if it should be explained.
     pub fn unread<F: FileSource>(
         alloc: Global,
         files: &mut F,
-        request: Request<'_>,
+        file: &str,
+        explains: bool,
         paint: Paint,
         failure: Failure,
     ) -> Refusal
         ensures failure { result.failure ≡ failure }
-        ensures more { request.entry.telling.explain ≡ false → string_bytes result.more ≡ [] }
+        ensures more { explains ≡ false → string_bytes result.more ≡ [] }
         ensures keeps { F.held files.new ≡ F.held files.old }
     {
-        if !request.telling.explain {
+        if !explains {
             return Refusal::bare(alloc, failure);
         }
-        let more = unread_explanation(alloc, files, request.file, &failure);
+        let more = unread_explanation(alloc, files, file, &failure);
         Refusal {
             failure,
             more: said(alloc, more, paint),

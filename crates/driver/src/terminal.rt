@@ -1,41 +1,72 @@
 //! The terminal at which a user watches a run, and reads explanations.
 
-ghost use Rattle.std.specs.Prelude.{◌≡◌};
+ghost use Rattle.std.specs.Prelude.{◌≡◌, Bool, false};
+ghost use Rattle.command_line.specs.Requests.{is_explained};
 
+use command_line::request::Telling;
 use statement_steps::watch::{Unwatched, Watch};
 use std::time::Clock;
 use test_and_bench::clock::Stopwatch;
 
-/// A watch for the progress of runs, with a clock. It also knows whether explanations may be
-/// colored.
+/// A watch for the progress of runs, with a clock. It also knows whether the standard error is a
+/// terminal, and whether explanations may be colored.
 pub trait Terminal: Watch + Stopwatch {
+    /// Whether the standard error is a terminal.
+    ghost seen: { Self → Bool };
+
+    /// Returns whether the standard error is a terminal.
+    fn is_terminal(&self) -> bool
+        ensures { result ≡ seen self.now };
+
     /// Returns whether explanations may be colored.
     fn has_colours(&self) -> bool;
 }
 
-/// A terminal without a user and without colors.
+/// Returns whether failures and outcomes are explained on this terminal.
+pub fn explains_on<T: Terminal>(telling: Telling, terminal: &T) -> bool
+    ensures { result ≡ is_explained telling.explain (T.seen terminal.now) }
+{
+    telling.explain.explains(terminal.is_terminal())
+}
+
+/// Without a user there is no terminal, and there are no colors.
 impl Terminal for Unwatched {
+    ghost seen = { λ _. false };
+
+    fn is_terminal(&self) -> bool {
+        false
+    }
+
     fn has_colours(&self) -> bool {
         false
     }
 }
 
-/// A terminal with a user, with or without colors, and with a clock.
+/// The watch of a user, with a clock. The standard error may be a terminal, with or without colors.
 #[derive(Drop)]
 pub struct WatchedTerminal<W: Watch, C: Clock> {
     watch: W,
-    has_colours: bool,
+    sight: Sight,
     clock: C,
 }
 
+/// What the standard error is.
+#[derive(Clone, Copy, PartialEq, Eq, Debug)]
+pub struct Sight {
+    /// It is a terminal.
+    pub is_terminal: bool,
+    /// Explanations may be colored there.
+    pub has_colours: bool,
+}
+
 impl<W: Watch + Drop, C: Clock + Drop> WatchedTerminal<W, C> {
-    /// Returns a terminal, which has colors if `has_colours`.
-    pub fn new(watch: W, has_colours: bool, clock: C) -> WatchedTerminal<W, C>
-        ensures colours { result.has_colours ≡ has_colours }
+    /// Returns a terminal with these properties.
+    pub fn new(watch: W, sight: Sight, clock: C) -> WatchedTerminal<W, C>
+        ensures sight { result.sight ≡ sight }
     {
         WatchedTerminal {
             watch,
-            has_colours,
+            sight,
             clock,
         }
     }
@@ -66,9 +97,15 @@ impl<W: Watch, C: Clock> Watch for WatchedTerminal<W, C> {
 }
 
 impl<W: Watch, C: Clock> Terminal for WatchedTerminal<W, C> {
+    ghost seen = { λ terminal. terminal.sight.is_terminal };
+
+    fn is_terminal(&self) -> bool {
+        self.sight.is_terminal
+    }
+
     fn has_colours(&self) -> bool
-        ensures { result ≡ self.now.has_colours }
+        ensures { result ≡ self.now.sight.has_colours }
     {
-        self.has_colours
+        self.sight.has_colours
     }
 }

@@ -42,7 +42,10 @@ fn explaining_words(alloc: Global, command: &str) -> io::Result<Option<Vec<Strin
         Some(first) if takes_explain(first.as_str()) => {}
         _ => return Ok(None),
     }
-    if words.iter().any(|word| word.as_str() == "--explain") {
+    if words
+        .iter()
+        .any(|word| word.as_str().starts_with("--explain"))
+    {
         return Ok(None);
     }
     words.insert(1, String::from_str(alloc, "--explain")?)?;

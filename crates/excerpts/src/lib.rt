@@ -4,6 +4,7 @@
 #![tactic(auto)]
 
 pub mod escaped;
+pub mod heading;
 pub mod named;
 pub mod nouns;
 pub mod paint;

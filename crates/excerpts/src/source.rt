@@ -79,12 +79,6 @@ pub fn place_of(characters: &[char], at: usize) -> TextPlace {
     TextPlace { line, column }
 }
 
-/// Adds an empty line, and the line of a place with a caret.
-pub fn push_excerpt(told: &mut String, text: &str, place: TextPlace) -> Result<(), AllocError> {
-    told.push('\n')?;
-    push_line(told, text, place)
-}
-
 /// Adds the line of a place with its number, and under it a caret at the place.
 pub fn push_line(told: &mut String, text: &str, place: TextPlace) -> Result<(), AllocError> {
     let number = place.line;

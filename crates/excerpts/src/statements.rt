@@ -44,6 +44,14 @@ impl<'t> PlacedStatements<'t> {
         self.places.get(number).copied()
     }
 
+    /// Returns the position of a character of a statement, or else that of its first.
+    pub fn place_at(&self, label: u32, at: Option<usize>) -> Option<TextPlace> {
+        match at {
+            Some(at) => Some(self.source.place(at)),
+            None => self.place(label),
+        }
+    }
+
     /// Adds the line of a statement, with a caret under one of its characters, or else under the
     /// first.
     pub fn push_at(
@@ -52,11 +60,7 @@ impl<'t> PlacedStatements<'t> {
         label: u32,
         at: Option<usize>,
     ) -> Result<(), AllocError> {
-        let place = match at {
-            Some(at) => Some(self.source.place(at)),
-            None => self.place(label),
-        };
-        match place {
+        match self.place_at(label, at) {
             Some(place) => push_line(told, self.text, place),
             None => Ok(()),
         }

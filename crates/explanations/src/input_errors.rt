@@ -1,9 +1,10 @@
 //! Inputs that don't match their program.
 
 use excerpts::escaped::Escaped;
+use excerpts::heading::Heading;
 use excerpts::nouns::noun;
 use excerpts::similar::similar;
-use excerpts::source::{line_of, push_excerpt};
+use excerpts::source::line_of;
 use serde_json::Value;
 use std::alloc::{AllocError, Global};
 use syntax::TextPlace;
@@ -18,6 +19,7 @@ pub fn explained_input(
     arrays: &[Array],
     text: &str,
     error: &InputError,
+    heading: Heading<'_>,
 ) -> Result<String, AllocError> {
     let mut told = String::new(alloc);
     let value = match Value::from_str(alloc, text) {
@@ -27,10 +29,12 @@ pub fn explained_input(
                 return Err(AllocError);
             }
             let place = place_in(text, wrong.line(), wrong.column());
+            heading.push_excerpt(&mut told, text, place)?;
             push_no_json(&mut told, text, place, wrong.is_eof())?;
             return Ok(told);
         }
     };
+    heading.push(&mut told, None)?;
     match error {
         InputError::NotAnObject => told.push_str(NO_OBJECT)?,
         InputError::UnknownArray { name } => push_unknown(alloc, &mut told, arrays, name)?,
@@ -41,8 +45,8 @@ pub fn explained_input(
     Ok(told)
 }
 
-const NO_OBJECT: &str = "
-The input must be one object with a list of numbers for each array that doesn't start with zeros.
+const NO_OBJECT: &str =
+    "The input must be one object with a list of numbers for each array that doesn't start with zeros.
 help: write {\"a\": [1, 2]}, where a is the name of an array.
 ";
 
@@ -64,7 +68,6 @@ fn push_no_json(
     place: TextPlace,
     is_cut: bool,
 ) -> Result<(), AllocError> {
-    push_excerpt(told, text, place)?;
     told.push_str(if is_cut {
         "The JSON ends too early.\n"
     } else {
@@ -144,7 +147,7 @@ fn push_unknown(
     name: &str,
 ) -> Result<(), AllocError> {
     let shown = Escaped(name);
-    write!(told, "\nThe program has no array `{shown}`.")?;
+    write!(told, "The program has no array `{shown}`.")?;
     match similar_array(alloc, arrays, name)? {
         Some(other) => write!(told, " Did you mean `{other}`?\n")?,
         None => told.push('\n')?,
@@ -191,14 +194,14 @@ fn push_length(
                 let elements = noun(wanted, "element", "elements");
                 write!(
                     told,
-                    "\nThe array `{name}` has {wanted} {elements}, but the list has {given}.\n"
+                    "The array `{name}` has {wanted} {elements}, but the list has {given}.\n"
                 )?;
             }
             None => {
                 let numbers = noun(wanted, "number", "numbers");
                 write!(
                     told,
-                    "\nThe array `{name}` needs a list of {wanted} {numbers}.\n"
+                    "The array `{name}` needs a list of {wanted} {numbers}.\n"
                 )?;
             }
         }
@@ -226,7 +229,7 @@ fn push_element(
     };
     for (number, element) in list.iter().enumerate() {
         if !fits(array.element, element) {
-            write!(told, "\nElement {number} of `{name}` (counting from 0) is ")?;
+            write!(told, "Element {number} of `{name}` (counting from 0) is ")?;
             push_value(alloc, told, element)?;
             break;
         }

@@ -1,5 +1,6 @@
 //! Programs that have a race.
 
+use excerpts::heading::Heading;
 use excerpts::statements::PlacedStatements;
 use std::alloc::{AllocError, Global};
 
@@ -10,12 +11,13 @@ pub fn explained_race(
     text: &str,
     first: &str,
     second: &str,
+    heading: Heading<'_>,
 ) -> Result<String, AllocError> {
     let mut told = String::new(alloc);
     let Some(statements) = PlacedStatements::of(alloc, text)? else {
         return Ok(told);
     };
-    told.push('\n')?;
+    heading.push(&mut told, statements.place(label_of(first)))?;
     push_access(&mut told, &statements, first)?;
     push_access(&mut told, &statements, second)?;
     told.push_str(if label_of(first) == label_of(second) {

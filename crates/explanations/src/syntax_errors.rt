@@ -6,8 +6,9 @@ use crate::expected::{Front, WORDS, mark_text, word_text};
 use crate::habits::{
     BLOCK, TokensAround, begins_with_relation, mend_of_head, mend_of_second, mend_of_type_name,
 };
+use excerpts::heading::Heading;
 use excerpts::named::begins_with;
-use excerpts::source::{place_of, push_excerpt};
+use excerpts::source::place_of;
 use std::alloc::{AllocError, Global};
 use syntax::cursor::Stuck;
 use syntax::error::SyntaxError;
@@ -20,17 +21,21 @@ pub fn explained_syntax(
     alloc: Global,
     text: &str,
     error: &SyntaxError,
+    heading: Heading<'_>,
 ) -> Result<String, AllocError> {
     let mut told = String::new(alloc);
     if let Some(place) = error.place() {
-        push_excerpt(&mut told, text, place)?;
+        heading.push_excerpt(&mut told, text, place)?;
     }
     match error {
         SyntaxError::NotACharacter { place } => push_no_token(&mut told, text, *place)?,
         SyntaxError::UnexpectedToken { .. } => push_unexpected(alloc, &mut told, text)?,
         SyntaxError::NumberTooLarge { .. } => told.push_str(TOO_LARGE)?,
         SyntaxError::TooDeep { .. } => told.push_str(TOO_DEEP)?,
-        SyntaxError::TooLong => told.push_str(TOO_LONG)?,
+        SyntaxError::TooLong => {
+            heading.push(&mut told, None)?;
+            told.push_str(TOO_LONG)?;
+        }
         SyntaxError::OutOfMemory => {}
     }
     Ok(told)
@@ -48,8 +53,7 @@ const TOO_DEEP: &str = "Brackets are nested more than 100 deep here.
 help: move part of the expression into a variable, or part of the block into a procedure.
 ";
 
-const TOO_LONG: &str = "
-A program can have at most 1048576 bytes.
+const TOO_LONG: &str = "A program can have at most 1048576 bytes.
 help: shorten it; use --input to read numbers from a file.
 ";
 

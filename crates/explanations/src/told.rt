@@ -6,6 +6,7 @@ use crate::mends::{push_mend, push_sharing, push_unfinished};
 use crate::names::{kind_word, procedure_name, procedure_of, section_name};
 use crate::way::{WayLine, end_of, push_way};
 use effects::access::Access;
+use excerpts::heading::Heading;
 use excerpts::statements::PlacedStatements;
 use race_checker::race::Race;
 use std::alloc::{AllocError, Global};
@@ -24,12 +25,14 @@ pub fn explained(
     typed: &Typed,
     race: Race,
     witness: &Witness,
+    heading: Heading<'_>,
 ) -> Result<String, AllocError> {
     let Some(statements) = PlacedStatements::of(alloc, text)? else {
         return Ok(String::new(alloc));
     };
     let code = typed.code();
-    let mut told = String::from_str(alloc, "\n")?;
+    let mut told = String::new(alloc);
+    heading.push(&mut told, statements.place(race.first.label))?;
     let ways = in_order(
         witness,
         witness.pending.as_slice(),

@@ -43,6 +43,9 @@ enum Takes {
     TextBut(&'static str, &'static [&'static str]),
     /// An option whose value is one of these words. The help shows this name for the value.
     OneOf(&'static str, &'static [&'static str]),
+    /// An option whose value, after `=`, is one of these words; without a value it is the last word
+    /// here. The help shows this name for the value.
+    MaybeOneOf(&'static str, &'static [&'static str], &'static str),
     /// An option with a number in this inclusive range.
     Number(i64, i64),
     /// An option with a 64-bit number.
@@ -203,8 +206,8 @@ const PROGRESS: Entry = Entry {
 
 const EXPLAIN: Entry = Entry {
     name: "explain",
-    help: "Explain an error, a fault or a stopped run: where it is, why, and how to fix it",
-    takes: Takes::Nothing,
+    help: "Explain an error, a fault or a stopped run [default: auto, on a terminal; always without a value]",
+    takes: Takes::MaybeOneOf("WHEN", &["auto", "always", "never"], "always"),
 };
 
 const COLOR: Entry = Entry {
@@ -261,8 +264,9 @@ Example: afx cost examples/doubling.afx --input examples/doubling.json
 Example: afx cost examples/doubling.afx --input examples/doubling.json --by-line";
 
 const BENCH_EXAMPLE: &str =
-    "Each run is repeated five times; the minimum and the median are printed, in microseconds. If the program has faults or
-is stopped, its outcome is printed and nothing is timed.
+    "Each run is repeated five times; the minimum and the median are printed, in microseconds. The speed-up is the serial
+median divided by that of the most workers; no number of workers gives more than work / span. If the program has faults
+or is stopped, its outcome is printed and nothing is timed.
 
 Example: afx bench examples/doubling.afx --input examples/doubling.json";
 
@@ -356,9 +360,9 @@ const COSTED: Row = Row {
 
 const BENCHED: Row = Row {
     name: "bench",
-    about: "Time a program serially and in parallel on 1, 2 and 4 threads",
+    about: "Time a program serially and in parallel on 1, 2 and 4 threads, or up to --workers",
     example: BENCH_EXAMPLE,
-    entries: &[FILE, INPUT, STEPS, NEST, EXPLAIN, COLOR],
+    entries: &[FILE, INPUT, STEPS, NEST, TASKS, W0, WORKERS, EXPLAIN, COLOR],
 };
 
 const TESTED: Row = Row {
@@ -560,6 +564,13 @@ fn argument<'w>(alloc: Global, entry: Entry) -> Result<Arg<'w>, AllocError> {
             .long(entry.name)
             .value_name(value)
             .value_parser(words),
+        Takes::MaybeOneOf(value, words, missing) => argument
+            .long(entry.name)
+            .value_name(value)
+            .value_parser(words)
+            .num_args(0..=1)
+            .require_equals(true)
+            .default_missing_value(missing),
         Takes::Number(least, most) => argument
             .long(entry.name)
             .value_name("N")

@@ -1,6 +1,6 @@
 //! Completions for bash.
 
-use crate::offers::{Wording, takes_value};
+use crate::offers::{Wording, needs_equals, takes_value};
 use crate::page::push_all;
 use clap::{Arg, Command};
 use std::alloc::{AllocError, Global};
@@ -118,7 +118,7 @@ fn push_options(text: &mut String, command: &Command<'_>) -> Result<(), AllocErr
 fn push_values(alloc: Global, text: &mut String, command: &Command<'_>) -> Result<(), AllocError> {
     for arg in command.get_arguments() {
         if let Some(long) = arg.get_long() {
-            if takes_value(arg) {
+            if takes_value(arg) && !needs_equals(arg) {
                 push_all(text, &["    \"", command.get_name(), " --", long, "\")"])?;
                 OFFERS.push(alloc, text, arg)?;
                 text.push_str(" ;;\n")?;

@@ -1,6 +1,6 @@
 //! Completions for fish.
 
-use crate::offers::{Wording, takes_value};
+use crate::offers::{Wording, needs_equals, takes_value};
 use crate::page::push_all;
 use crate::quoting::Quoting;
 use clap::{Arg, Command};
@@ -74,7 +74,7 @@ fn push_argument(
         push_all(text, &[" -l ", long, " -d '"])?;
         Quoting::Fish.push(text, arg.get_help().unwrap_or(""))?;
         text.push('\'')?;
-        if takes_value(arg) {
+        if takes_value(arg) && !needs_equals(arg) {
             text.push_str(" -r")?;
         }
     }

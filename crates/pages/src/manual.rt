@@ -1,7 +1,7 @@
 //! The manual page.
 
 use crate::find::tables;
-use crate::offers::{takes_value, value_name};
+use crate::offers::{needs_equals, takes_value, value_name};
 use crate::page::push_all;
 use crate::quoting::Quoting;
 use clap::builder::ValueParser;
@@ -117,7 +117,11 @@ fn push_argument(alloc: Global, text: &mut String, arg: &Arg<'_>) -> Result<(), 
     push_option(text, arg)?;
     if takes_value(arg) {
         let name = value_name(alloc, arg)?;
-        push_all(text, &["\\fI", name.as_str(), "\\fR"])?;
+        if needs_equals(arg) {
+            push_all(text, &["[=\\fI", name.as_str(), "\\fR]"])?;
+        } else {
+            push_all(text, &["\\fI", name.as_str(), "\\fR"])?;
+        }
     }
     text.push('\n')?;
     push_line(text, arg.get_help().unwrap_or(""))?;

@@ -96,6 +96,11 @@ pub fn value_name(alloc: Global, arg: &Arg<'_>) -> Result<String, AllocError> {
     Ok(name)
 }
 
+/// Returns whether the value of an option is optional and follows `=`, as in `--explain=never`.
+pub fn needs_equals(arg: &Arg<'_>) -> bool {
+    arg.is_require_equals_set()
+}
+
 /// Returns whether an option takes a value. A positional argument does.
 pub fn takes_value(arg: &Arg<'_>) -> bool {
     match arg.get_action() {

@@ -1,6 +1,6 @@
 //! Completions for zsh.
 
-use crate::offers::{Wording, takes_value, value_name};
+use crate::offers::{Wording, needs_equals, takes_value, value_name};
 use crate::page::push_all;
 use crate::quoting::Quoting;
 use clap::{Arg, Command};
@@ -88,13 +88,15 @@ fn push_command(alloc: Global, text: &mut String, command: &Command<'_>) -> Resu
 fn push_argument(alloc: Global, text: &mut String, arg: &Arg<'_>) -> Result<(), AllocError> {
     text.push_str(" \\\n            '")?;
     if let Some(long) = arg.get_long() {
-        push_all(text, &["--", long, "["])?;
+        let mark = if needs_equals(arg) { "=-[" } else { "[" };
+        push_all(text, &["--", long, mark])?;
         Quoting::Zsh.push(text, arg.get_help().unwrap_or(""))?;
         text.push(']')?;
     }
     if takes_value(arg) {
         let name = value_name(alloc, arg)?;
-        push_all(text, &[":", name.as_str(), ":"])?;
+        let mark = if needs_equals(arg) { "::" } else { ":" };
+        push_all(text, &[mark, name.as_str(), ":"])?;
         OFFERS.push(alloc, text, arg)?;
     }
     text.push('\'')

@@ -2,10 +2,9 @@
 
 use crate::arguments::parameters;
 use crate::rule_texts::is_word;
-use excerpts::source::push_excerpt;
+use excerpts::heading::Heading;
 use excerpts::statements::PlacedStatements;
 use std::alloc::{AllocError, Global};
-use syntax::TextPlace;
 use syntax::token::{Spanned, Token, Word};
 
 /// A limit, and what is printed about a program that exceeds it.
@@ -53,8 +52,8 @@ const STATEMENTS: Limit = Limit {
     mend: "use loops and procedures for repeated code.",
 };
 
-const LIMITS: &str = "
-A program has at most 256 procedures besides main, 16 parameters for each procedure, 32 arrays, 4194304 elements in all
+const LIMITS: &str =
+    "A program has at most 256 procedures besides main, 16 parameters for each procedure, 32 arrays, 4194304 elements in all
 arrays together, and 65535 statements.
 help: stay within these limits.
 ";
@@ -92,31 +91,30 @@ pub fn push_over_limit(
     alloc: Global,
     told: &mut String,
     statements: &PlacedStatements<'_>,
+    heading: Heading<'_>,
 ) -> Result<(), AllocError> {
     let (text, source) = (statements.text, &statements.source);
     for count in &counts(alloc, &source.tokens)? {
         if let Some(at) = count.over {
-            return push_limit(told, text, source.place(at), count.limit, count.many);
+            heading.push_excerpt(told, text, source.place(at))?;
+            return push_limit(told, count.limit, count.many);
         }
     }
     match statements.place(65_536) {
         Some(place) => {
             let many = u64::try_from(statements.places.len()).unwrap_or(u64::MAX);
-            push_limit(told, text, place, STATEMENTS, many)
+            heading.push_excerpt(told, text, place)?;
+            push_limit(told, STATEMENTS, many)
         }
-        None => told.push_str(LIMITS),
+        None => {
+            heading.push(told, None)?;
+            told.push_str(LIMITS)
+        }
     }
 }
 
-/// Adds a limit, and the place at which it is exceeded.
-fn push_limit(
-    told: &mut String,
-    text: &str,
-    place: TextPlace,
-    limit: Limit,
-    many: u64,
-) -> Result<(), AllocError> {
-    push_excerpt(told, text, place)?;
+/// Adds a limit that is exceeded.
+fn push_limit(told: &mut String, limit: Limit, many: u64) -> Result<(), AllocError> {
     let (owner, most, what) = (limit.owner, limit.most, limit.what);
     write!(
         told,

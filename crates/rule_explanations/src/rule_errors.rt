@@ -5,10 +5,11 @@ use crate::declared::{Declared, VisibleNames, find};
 use crate::expressions::{ExpressionPart, Value, parts_of, wrong_part};
 use crate::limits::push_over_limit;
 use crate::rule_texts;
+use excerpts::heading::Heading;
 use excerpts::named::{Named, Role, head, names};
 use excerpts::nouns::noun;
 use excerpts::similar::similar;
-use excerpts::source::{Source, push_excerpt};
+use excerpts::source::Source;
 use excerpts::statements::PlacedStatements;
 use std::alloc::{AllocError, Global};
 use syntax::TextPlace;
@@ -17,19 +18,25 @@ use types::error::TypeError;
 
 /// Returns the text after the line of a rule that a program breaks: where, why, and how to fix it.
 /// It is empty if the text isn't that of such a program.
-pub fn explained_rule(alloc: Global, text: &str, error: TypeError) -> Result<String, AllocError> {
+pub fn explained_rule(
+    alloc: Global,
+    text: &str,
+    error: TypeError,
+    heading: Heading<'_>,
+) -> Result<String, AllocError> {
     let mut told = String::new(alloc);
     let Some(statements) = PlacedStatements::of(alloc, text)? else {
         return Ok(told);
     };
     match error.label() {
         None => match error {
-            TypeError::OverLimit => push_over_limit(alloc, &mut told, &statements)?,
-            _ => rule_texts::push_without_label(&mut told, &statements, error)?,
+            TypeError::OverLimit => push_over_limit(alloc, &mut told, &statements, heading)?,
+            _ => rule_texts::push_without_label(&mut told, &statements, error, heading)?,
         },
         Some(label) => {
             if let Some(place) = statements.place(label) {
-                let broken = Broken::at(alloc, text, &statements.source, place)?;
+                let shown = Shown { text, heading };
+                let broken = Broken::at(alloc, shown, &statements.source, place)?;
                 broken.push(&mut told, error)?;
             }
         }
@@ -37,11 +44,18 @@ pub fn explained_rule(alloc: Global, text: &str, error: TypeError) -> Result<Str
     Ok(told)
 }
 
+/// The text of a program, and the first line of an explanation.
+#[derive(Clone, Copy)]
+struct Shown<'t> {
+    text: &'t str,
+    heading: Heading<'t>,
+}
+
 /// A statement that breaks a rule.
 #[derive(Drop)]
 pub struct Broken<'t> {
     alloc: Global,
-    text: &'t str,
+    shown: Shown<'t>,
     source: &'t Source,
     place: TextPlace,
     head: &'t [Spanned],
@@ -55,7 +69,7 @@ impl<'t> Broken<'t> {
     /// Finds the statement that starts at a place.
     fn at(
         alloc: Global,
-        text: &'t str,
+        shown: Shown<'t>,
         source: &'t Source,
         place: TextPlace,
     ) -> Result<Broken<'t>, AllocError> {
@@ -68,7 +82,7 @@ impl<'t> Broken<'t> {
         let names = names(alloc, head)?;
         Ok(Broken {
             alloc,
-            text,
+            shown,
             source,
             place,
             head,
@@ -94,14 +108,21 @@ impl<'t> Broken<'t> {
 
     // ---- where
 
-    /// Adds the line of a character, with a caret under it.
+    /// Adds the first line, and the line of a character, with a caret under it.
     fn push_at(&self, told: &mut String, at: usize) -> Result<(), AllocError> {
-        push_excerpt(told, self.text, self.source.place(at))
+        self.push_excerpt(told, self.source.place(at))
     }
 
-    /// Adds the line at which the statement starts.
+    /// Adds the first line, and the line at which the statement starts.
     fn push_start(&self, told: &mut String) -> Result<(), AllocError> {
-        push_excerpt(told, self.text, self.place)
+        self.push_excerpt(told, self.place)
+    }
+
+    /// Adds the first line, and the line of a position, with a caret under it.
+    fn push_excerpt(&self, told: &mut String, place: TextPlace) -> Result<(), AllocError> {
+        self.shown
+            .heading
+            .push_excerpt(told, self.shown.text, place)
     }
 
     /// Adds the place of a declaration.

@@ -1,8 +1,8 @@
 //! Texts for broken rules that need no look at a statement.
 
 use crate::arguments::ParameterHead;
+use excerpts::heading::Heading;
 use excerpts::named::begins_with;
-use excerpts::source::push_excerpt;
 use excerpts::statements::PlacedStatements;
 use std::alloc::{AllocError, Global};
 use syntax::token::{Mark, Spanned, Token, Word};
@@ -25,8 +25,7 @@ pub const ARGUMENTS: &str = "An argument doesn't match its parameter.
 help: pass a number, or the name of a section with the same element type, as the parameter requires.
 ";
 
-const NO_MAIN: &str = "
-The program has no `main`.
+const NO_MAIN: &str = "The program has no `main`.
 help: add `main { .. }` after the procedures.
 ";
 
@@ -35,21 +34,32 @@ pub fn push_without_label(
     told: &mut String,
     statements: &PlacedStatements<'_>,
     error: TypeError,
+    heading: Heading<'_>,
 ) -> Result<(), AllocError> {
     match error {
-        TypeError::NoMain => told.push_str(NO_MAIN),
-        TypeError::DeclaredTwice { .. } => push_twice(told, statements),
+        TypeError::NoMain => {
+            heading.push(told, None)?;
+            told.push_str(NO_MAIN)
+        }
+        TypeError::DeclaredTwice { .. } => push_twice(told, statements, heading),
         _ => Ok(()),
     }
 }
 
 /// Adds which array, parameter or procedure is declared twice.
-fn push_twice(told: &mut String, statements: &PlacedStatements<'_>) -> Result<(), AllocError> {
+fn push_twice(
+    told: &mut String,
+    statements: &PlacedStatements<'_>,
+    heading: Heading<'_>,
+) -> Result<(), AllocError> {
     let source = &statements.source;
-    if let Some((first, second)) = twice(&source.tokens) {
-        push_excerpt(told, statements.text, source.place(second.at))?;
-        let place = source.place(first.at);
-        write!(told, "The name was first declared at {place}.\n")?;
+    match twice(&source.tokens) {
+        Some((first, second)) => {
+            heading.push_excerpt(told, statements.text, source.place(second.at))?;
+            let place = source.place(first.at);
+            write!(told, "The name was first declared at {place}.\n")?;
+        }
+        None => heading.push(told, None)?,
     }
     told.push_str("help: use another name.\n")
 }

@@ -6,6 +6,7 @@ pub mod cause;
 mod causes;
 mod faults;
 mod frame;
+pub mod headings;
 mod machine;
 pub mod run;
 pub mod runs;

@@ -19,11 +19,14 @@ use types::input::Input;
 /// The maximum number of faults that are reported with their causes.
 const MOST_FAULTS: u64 = 4;
 
+/// The maximum number of printed lines that are kept.
+const MOST_LINES: u64 = 10;
+
 /// The state of a run on one thread.
 #[derive(Drop)]
 pub struct RepeatedRun<'p> {
     plan: Plan<'p>,
-    /// The task whose statements run now. What it prints is left out.
+    /// The task whose statements run now. What it prints is in `seen`.
     thread: Thread<Store>,
     /// The work that is left, with the next item last.
     left: Vec<RepeatedFrame<'p>>,
@@ -43,6 +46,8 @@ impl<'p> RepeatedRun<'p> {
                 faults: Vec::new(plan.alloc),
                 many: 0,
                 overrun: None,
+                lines: Vec::new(plan.alloc),
+                printed: 0,
             },
         })
     }
@@ -179,10 +184,10 @@ impl<'p> RepeatedRun<'p> {
                 }
                 Err(cause) => self.fault(label, cause),
             },
-            Primitive::Print { values } => {
-                let _ = self.numbers(label, values)?;
-                Ok(())
-            }
+            Primitive::Print { values } => match self.numbers(label, values)? {
+                Some(values) => self.print(values),
+                None => Ok(()),
+            },
             Primitive::Fault { value } => match self.number(label, value)? {
                 Some(number) => self.fault(label, Cause::Raised(number)),
                 None => Ok(()),
@@ -364,6 +369,15 @@ impl<'p> RepeatedRun<'p> {
             self.seen.faults.push(fault)?;
         }
         self.seen.many = self.seen.many.saturating_add(1);
+        Ok(())
+    }
+
+    /// Records a printed line.
+    fn print(&mut self, values: Vec<i64>) -> Result<(), AllocError> {
+        if self.seen.printed < MOST_LINES {
+            self.seen.lines.push(values)?;
+        }
+        self.seen.printed = self.seen.printed.saturating_add(1);
         Ok(())
     }
 

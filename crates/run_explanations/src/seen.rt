@@ -37,8 +37,8 @@ pub struct Overrun {
     pub part: BudgetPart,
 }
 
-/// What was seen of a run: its faults, or the first task in depth-first order that was over its
-/// budget.
+/// What was seen of a run: what it printed, its faults, or the first task in depth-first order that
+/// was over its budget.
 #[derive(Drop)]
 pub struct SeenRun {
     /// The first faults, in depth-first order.
@@ -46,4 +46,8 @@ pub struct SeenRun {
     /// The number of faults.
     pub many: u64,
     pub overrun: Option<Overrun>,
+    /// The numbers of the first printed lines.
+    pub lines: Vec<Vec<i64>>,
+    /// The number of printed lines.
+    pub printed: u64,
 }

@@ -1,22 +1,38 @@
 //! Tasks that exceed their budget.
 
 use crate::faults::push_call;
-use crate::seen::{BudgetPart, Overrun};
+use crate::headings::heading_of;
+use crate::seen::{BudgetPart, Overrun, SeenRun};
 use excerpts::statements::PlacedStatements;
 use std::alloc::AllocError;
 use types::budget::{Budget, MOST_NEST, MOST_STEPS};
 
-/// Adds which task exceeded which part of its budget, where, and which option raises the limit.
-pub fn push_overrun(
+/// Adds which task exceeded which part of its budget, where, what was printed until then, and which
+/// option raises the limit.
+pub fn push_stop(
     told: &mut String,
     statements: &PlacedStatements<'_>,
     budget: Budget,
+    seen: &SeenRun,
     overrun: &Overrun,
+    file: &str,
 ) -> Result<(), AllocError> {
-    told.push('\n')?;
+    let label = overrun.label;
+    heading_of(file, "stopped").push(told, statements.place(label))?;
+    statements.push_at(told, label, None)?;
+    push_overrun(told, budget, overrun)?;
+    push_call(told, statements, overrun.call)?;
+    push_printed(told, seen)?;
+    match overrun.part {
+        BudgetPart::Steps => push_more_steps(told, budget.steps),
+        BudgetPart::Nest => push_more_nest(told, budget.nest),
+    }
+}
+
+/// Adds which task exceeded which part of its budget.
+fn push_overrun(told: &mut String, budget: Budget, overrun: &Overrun) -> Result<(), AllocError> {
     let label = overrun.label;
     let path = &overrun.path;
-    statements.push_at(told, label, None)?;
     match overrun.part {
         BudgetPart::Steps => {
             let steps = budget.steps;
@@ -26,20 +42,43 @@ pub fn push_overrun(
             } else {
                 write!(told, "all of its {steps} steps")?;
             }
-            write!(told, " before this statement, label {label}.\n")?;
-            push_call(told, statements, overrun.call)?;
-            push_more_steps(told, steps)
+            write!(told, " before this statement, label {label}.\n")
         }
         BudgetPart::Nest => {
             let nest = budget.nest;
             write!(
                 told,
                 "Task {path} would start another task at label {label}, but asyncs can be nested at most {nest} deep.\n"
-            )?;
-            push_call(told, statements, overrun.call)?;
-            push_more_nest(told, nest)
+            )
         }
     }
+}
+
+/// Adds the first lines that were printed, and the number of the others.
+fn push_printed(told: &mut String, seen: &SeenRun) -> Result<(), AllocError> {
+    if seen.printed == 0 {
+        return Ok(());
+    }
+    told.push_str("Printed until then, on one thread:\n")?;
+    let mut more = seen.printed;
+    for line in &seen.lines {
+        push_line(told, line)?;
+        more = more.saturating_sub(1);
+    }
+    match more {
+        0 => Ok(()),
+        1 => told.push_str("  .. and 1 more line\n"),
+        _ => write!(told, "  .. and {more} more lines\n"),
+    }
+}
+
+/// Adds the numbers of a printed line.
+fn push_line(told: &mut String, numbers: &[i64]) -> Result<(), AllocError> {
+    told.push(' ')?;
+    for number in numbers {
+        write!(told, " {number}")?;
+    }
+    told.push('\n')
 }
 
 /// Adds how to raise the step limit.

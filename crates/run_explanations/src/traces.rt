@@ -1,7 +1,7 @@
 //! Traces that no run of the program has.
 
 use crate::trace_lines::{push_kind_rule, push_line_form};
-use excerpts::source::push_excerpt;
+use excerpts::heading::Heading;
 use std::alloc::{AllocError, Global};
 use syntax::TextPlace;
 
@@ -15,18 +15,28 @@ pub enum Wrong {
 }
 
 /// Returns the text after the line that reports what is wrong with a trace.
-pub fn explained_trace(alloc: Global, trace: &str, wrong: Wrong) -> Result<String, AllocError> {
+pub fn explained_trace(
+    alloc: Global,
+    trace: &str,
+    wrong: Wrong,
+    heading: Heading<'_>,
+) -> Result<String, AllocError> {
     let mut told = String::new(alloc);
     match wrong {
-        Wrong::Line(number) => push_no_line(&mut told, trace, number)?,
-        Wrong::Event(event) => push_event(&mut told, trace, event)?,
+        Wrong::Line(number) => push_no_line(&mut told, trace, number, heading)?,
+        Wrong::Event(event) => push_event(&mut told, trace, event, heading)?,
     }
     Ok(told)
 }
 
 /// Explains a malformed line.
-fn push_no_line(told: &mut String, trace: &str, number: usize) -> Result<(), AllocError> {
-    push_excerpt(told, trace, beginning(number))?;
+fn push_no_line(
+    told: &mut String,
+    trace: &str,
+    number: usize,
+    heading: Heading<'_>,
+) -> Result<(), AllocError> {
+    heading.push_excerpt(told, trace, beginning(number))?;
     if is_program(trace) {
         return told.push_str(PROGRAM);
     }
@@ -56,9 +66,14 @@ fn is_program(text: &str) -> bool {
 }
 
 /// Explains an illegal event.
-fn push_event(told: &mut String, trace: &str, event: usize) -> Result<(), AllocError> {
+fn push_event(
+    told: &mut String,
+    trace: &str,
+    event: usize,
+    heading: Heading<'_>,
+) -> Result<(), AllocError> {
     let number = event.saturating_add(2);
-    push_excerpt(told, trace, beginning(number))?;
+    heading.push_excerpt(told, trace, beginning(number))?;
     told.push_str("All earlier events are legal for this program and input; this one isn't.\n")?;
     push_kind_rule(told, line_of(trace, number))?;
     told.push_str(

@@ -8,6 +8,8 @@ mod numbers;
 mod outcomes_of_tasks;
 mod pieces;
 mod progress_lines;
+mod refused_calls;
+mod refused_runs;
 mod runs_by_choices;
 mod settled_results;
 mod threads;

@@ -23,11 +23,14 @@ impl Times {
     }
 }
 
-/// The durations of the runs of a program: serially, and in parallel on 1, 2 and 4 workers.
+/// The durations of the runs of a program: serially, and in parallel on up to this many workers.
 #[derive(Clone, Copy, PartialEq, Eq, Debug)]
 pub struct Timed {
+    pub workers: u64,
     pub serial: Times,
     pub on_one: Times,
-    pub on_two: Times,
-    pub on_four: Times,
+    /// On 2 workers, if there are more than 2.
+    pub on_two: Option<Times>,
+    /// On all workers, if there is more than 1.
+    pub on_all: Option<Times>,
 }

@@ -1,6 +1,6 @@
 //! `bench`: how long a program runs serially and in parallel.
 
-ghost use Rattle.std.specs.Prelude.{◌≡◌, ◌≤◌, ◌++◌, IfErr, IfOk, OnOk};
+ghost use Rattle.std.specs.Prelude.{◌≡◌, ◌≤◌, ◌++◌, codes, IfErr, IfOk, OnOk};
 ghost use Rattle.std.specs.String.{string_bytes};
 ghost use Rattle.types.specs.Translation.{budget as budget_of, input as lists_in};
 ghost use Rattle.types.specs.Typed.{code_of};
@@ -8,8 +8,9 @@ ghost use Rattle.cost.specs.Costs.{cost_of, tally_of};
 ghost use Rattle.command_line.specs.Requests.{settings as settings_of};
 ghost use Rattle.commands.specs.Outcomes.{Fits, IsOutcomeOf};
 ghost use Rattle.test_and_bench.specs.Runs.{TellsNoRun};
-ghost use Rattle.test_and_bench.specs.Times.{AreAllOfFive, AreOfFive, DoesBench, counts};
-ghost use Rattle.test_and_bench.specs.Times.{times_line as line_of_times, times_text};
+ghost use Rattle.test_and_bench.specs.Times.{AreAllOfFive, AreOfFive, DoesBench, IsMadeAbove, counts, speeds};
+ghost use Rattle.test_and_bench.specs.Times.{times_line as line_of_times, times_line_if, times_text};
+ghost use Rattle.std.specs.Fmt.{decimal};
 ghost use Rattle.test_and_bench.specs.declared.times.Timed.{Timed as TimedOf};
 
 use crate::clock::Stopwatch;
@@ -27,6 +28,7 @@ use std::alloc::{AllocError, Global};
 use std::io::Write;
 use std::sync::Wait;
 use std::thread::Threads;
+use trace_numbers::text::push_parallelism;
 use types::input::Input;
 
 /// What is needed to measure durations.
@@ -38,9 +40,9 @@ pub struct Timing<'t, W, C> {
     pub clock: &'t mut C,
 }
 
-/// Runs a program five times serially, and five times each in parallel on 1, 2 and 4 workers.
-/// Writes how long the runs took, how many tasks there were, and how many places are copied for
-/// them. If the run has faults or is stopped, writes its outcome instead. Returns the exit status.
+/// Runs a program five times serially, and five times each in parallel on 1, on 2 and on all
+/// workers. Writes how long the runs took, how much faster all workers are and can be, how many
+/// tasks there were, and how many places are copied for them. If the run has faults or is stopped, writes its outcome instead. Returns the exit status.
 pub fn bench<R: Threads + Wait + Sync, F: FileSource, O: Write, W: Runs, C: Stopwatch>(
     rt: &R,
     timing: Timing<'_, W, C>,
@@ -110,18 +112,21 @@ impl Job<'_> {
     ) -> Result<String, Failure>
         requires { Fits self.now.accepted.now.typed self.now.input.now }
         ensures text { IfOk result
-            (λ text. (t : TimedOf) × AreAllOfFive t × (string_bytes text ≡ times_text t cost.now)) }
+            (λ text. (t : TimedOf) × AreAllOfFive self.now.settings.spread.workers t
+            × (string_bytes text ≡ times_text t cost.now)) }
         ensures why { IfErr result (TellsNoRun (settings_of self.now.settings)) }
     {
         let serial = self.on_one_thread(clock)?;
         let on_one = self.as_tasks(rt, runs, clock, 1)?;
-        let on_two = self.as_tasks(rt, runs, clock, 2)?;
-        let on_four = self.as_tasks(rt, runs, clock, 4)?;
+        let workers = self.settings.spread.workers;
+        let on_two = self.above(rt, runs, clock, 2, 2)?;
+        let on_all = self.above(rt, runs, clock, workers, 1)?;
         let timed = Timed {
+            workers,
             serial,
             on_one,
             on_two,
-            on_four,
+            on_all,
         };
         match text_of(self.alloc, &timed, cost) {
             Ok(text) => Ok(text),
@@ -158,6 +163,28 @@ impl Job<'_> {
         ) {
             Ok(_outcome) => Ok(clock.micros().saturating_sub(begun)),
             Err(AllocError) => Err(Failure::NoMemory),
+        }
+    }
+
+    /// Returns the durations of five parallel runs on this many workers, if there are more workers
+    /// than others.
+    fn above<R: Threads + Wait + Sync, W: Runs, C: Stopwatch>(
+        &self,
+        rt: &R,
+        runs: &W,
+        clock: &mut C,
+        workers: u64,
+        others: u64,
+    ) -> Result<Option<Times>, Failure>
+        requires fits { Fits self.now.accepted.now.typed self.now.input.now }
+        requires workers { (1 ≤ workers) × (workers ≤ 64) }
+        ensures made { IfOk result (IsMadeAbove others self.now.settings.spread.workers) }
+        ensures why { IfErr result (TellsNoRun (settings_of self.now.settings)) }
+    {
+        if self.settings.spread.workers > others {
+            Ok(Some(self.as_tasks(rt, runs, clock, workers)?))
+        } else {
+            Ok(None)
         }
     }
 
@@ -214,6 +241,46 @@ fn push_times(text: &mut String, run: &str, times: Times) -> Result<(), AllocErr
     write!(text, "{run}: min {least} us, median {median} us\n")
 }
 
+/// Adds the line of a run, if it is made.
+fn push_if(text: &mut String, run: &str, times: Option<Times>) -> Result<(), AllocError>
+    ensures { OnOk result (string_bytes text.new
+        ≡ string_bytes text.old ++ times_line_if run.now times) }
+{
+    match times {
+        Some(times) => push_times(text, run, times),
+        None => Ok(()),
+    }
+}
+
+/// Adds the line of the runs on all workers, if they are made.
+fn push_all(text: &mut String, timed: &Timed) -> Result<(), AllocError>
+    ensures { OnOk result (string_bytes text.new ≡ string_bytes text.old
+        ++ times_line_if (codes "run, " ++ (decimal timed.now.workers ++ codes " workers"))
+        timed.now.on_all) }
+{
+    let Some(times) = timed.on_all else {
+        return Ok(());
+    };
+    let workers = timed.workers;
+    let (least, median) = (times.least, times.median);
+    write!(
+        text,
+        "run, {workers} workers: min {least} us, median {median} us\n"
+    )
+}
+
+/// Adds how many times as fast the program is on all workers, and what work and span allow.
+fn push_speeds(text: &mut String, timed: &Timed, cost: &Cost) -> Result<(), AllocError>
+    ensures { OnOk result (string_bytes text.new
+        ≡ string_bytes text.old ++ speeds timed.now cost.now) }
+{
+    let parallel = timed.on_all.unwrap_or(timed.on_one);
+    text.push_str("speed-up: ")?;
+    push_parallelism(text, timed.serial.median as usize, parallel.median as usize)?;
+    text.push_str("work / span: ")?;
+    push_parallelism(text, cost.work, cost.span)
+}
+
 /// Adds how many tasks there were, and how many places are copied for them.
 fn push_counts(text: &mut String, cost: &Cost) -> Result<(), AllocError>
     ensures { OnOk result (string_bytes text.new ≡ string_bytes text.old ++ counts cost.now) }
@@ -223,15 +290,16 @@ fn push_counts(text: &mut String, cost: &Cost) -> Result<(), AllocError>
     write!(text, "tasks: {tasks}\ncopied places: {copied}\n")
 }
 
-/// Returns a line for each of the durations, followed by those counts.
+/// Returns a line for each of the durations, followed by the speed-up and those counts.
 fn text_of(alloc: Global, timed: &Timed, cost: &Cost) -> Result<String, AllocError>
     ensures { IfOk result (λ text. string_bytes text ≡ times_text timed.now cost.now) }
 {
     let mut text = String::new(alloc);
     push_times(&mut text, "serial", timed.serial)?;
     push_times(&mut text, "run, 1 worker", timed.on_one)?;
-    push_times(&mut text, "run, 2 workers", timed.on_two)?;
-    push_times(&mut text, "run, 4 workers", timed.on_four)?;
+    push_if(&mut text, "run, 2 workers", timed.on_two)?;
+    push_all(&mut text, timed)?;
+    push_speeds(&mut text, timed, cost)?;
     push_counts(&mut text, cost)?;
     Ok(text)
 }

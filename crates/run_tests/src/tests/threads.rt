@@ -1,18 +1,20 @@
-//! Workers: several work at once, and each task passes the gate once.
+//! Workers: several work at once, each task passes the gate once, and gates change no outcome.
 
 ghost use Rattle.types.specs.Contents.{FitsArrays};
 ghost use Rattle.types.specs.Translation.{input as lists_in};
 ghost use Rattle.types.specs.Typed.{code_of};
 
-use crate::tests::{accepted, compare};
+use crate::tests::worlds::{HALVES, THREE};
+use crate::tests::{FAULTS, TWO_ARRAYS, accepted, compare, one_thread_outcome};
 use finish_scope::inner::Inner;
 use finish_scope::late::{Late, Reason};
 use race_checker::accepted::Accepted;
 use std::alloc::Global;
+use std::hint::spin_loop;
 use std::marker::Brand;
 use std::process::Abort;
 use std::sync::Wait;
-use std::sync::atomic::{AtomicBool, AtomicU32, Ordering};
+use std::sync::atomic::{AtomicBool, AtomicU32, AtomicU64, Ordering};
 use std::thread;
 use std::thread::Threads;
 use types::budget::Budget;
@@ -33,6 +35,12 @@ const MANY_TASKS: &str =
     "main { var k = 0; finish { while k < 500 { async { skip; } k = k + 1; } } print k; }";
 
 pub(crate) const TWO_TASKS: &str = "main { finish { async { skip; } async { skip; } } }";
+
+/// The outcome of tasks that do nothing.
+const NOTHING: &str = "Ended { arrays: [], lines: [], faults: [] }";
+
+/// The number of turns for which a slow gate spins.
+const SLOW_TURNS: u32 = 5_000;
 
 /// The turns of a task's path.
 pub(crate) type Turns = &'static [u32];
@@ -126,6 +134,106 @@ impl Gate for Counting {
     fn hold(&self) {}
 }
 
+/// A gate that holds 0.1 until two other tasks have left.
+#[derive(Drop)]
+struct HoldingFirst {
+    left: AtomicU32,
+    both_have_left: AtomicBool,
+    gave_up: AtomicBool,
+}
+
+impl Gate for HoldingFirst {
+    ghost wants = { Unit {0} };
+
+    fn wants_paths() -> bool {
+        true
+    }
+
+    fn enter(&self, task: &Task<'_>) {
+        if is_at(task.path(), &[1]) && !waited_for(&self.both_have_left) {
+            self.gave_up.store(true, Ordering::SeqCst);
+        }
+    }
+
+    fn leave(&self, path: Option<&Path>) {
+        if let Some(path) = path {
+            if !is_at(path, &[1]) && self.left.fetch_add(1, Ordering::SeqCst) == 1 {
+                self.both_have_left.store(true, Ordering::SeqCst);
+            }
+        }
+    }
+
+    fn hold(&self) {}
+}
+
+/// A gate that yields 0 to 3 times, by numbers that look random.
+#[derive(Drop)]
+struct Yielding {
+    drawn: AtomicU64,
+}
+
+impl Yielding {
+    fn pass(&self) {
+        let number = self
+            .drawn
+            .fetch_add(0x9E37_79B9_7F4A_7C15, Ordering::SeqCst);
+        for _ in 0..number >> 62 {
+            thread::yield_now();
+        }
+    }
+}
+
+impl Gate for Yielding {
+    ghost wants = { ⊥ };
+
+    fn wants_paths() -> bool {
+        false
+    }
+
+    fn enter(&self, _task: &Task<'_>) {
+        self.pass();
+    }
+
+    fn leave(&self, _path: Option<&Path>) {
+        self.pass();
+    }
+
+    fn hold(&self) {
+        self.pass();
+    }
+}
+
+/// A gate that takes its time, also while a scope is locked.
+struct Slow;
+
+impl Slow {
+    fn pass(&self) {
+        for _ in 0..SLOW_TURNS {
+            spin_loop();
+        }
+    }
+}
+
+impl Gate for Slow {
+    ghost wants = { ⊥ };
+
+    fn wants_paths() -> bool {
+        false
+    }
+
+    fn enter(&self, _task: &Task<'_>) {
+        self.pass();
+    }
+
+    fn leave(&self, _path: Option<&Path>) {
+        self.pass();
+    }
+
+    fn hold(&self) {
+        self.pass();
+    }
+}
+
 /// Returns whether a flag was set before the last look.
 pub(crate) fn waited_for(flag: &AtomicBool) -> bool {
     for _ in 0..TURNS {
@@ -182,9 +290,43 @@ fn two_workers_really_work(rt: HostRuntime) {
     for (held, awaited) in HELD {
         let gate = Holding::new(held, awaited);
         let said = told(&rt, alloc, TWO_TASKS, settings(&rt, 65_536, 8, 2), &gate);
-        let want = "Ended { arrays: [], lines: [], faults: [] }";
-        compare(&rt, alloc, "two tasks", said.as_str(), want);
+        compare(&rt, alloc, "two tasks", said.as_str(), NOTHING);
         assert!(rt; !gate.gave_up(), "{held:?} waited in vain for {awaited:?}");
+    }
+}
+
+#[test]
+fn a_task_that_is_held_stops_no_other(rt: HostRuntime) {
+    let alloc = rt.alloc();
+    let gate = HoldingFirst {
+        left: AtomicU32::new(0),
+        both_have_left: AtomicBool::new(false),
+        gave_up: AtomicBool::new(false),
+    };
+    let said = told(&rt, alloc, THREE, settings(&rt, 65_536, 8, 2), &gate);
+    compare(&rt, alloc, "three tasks", said.as_str(), NOTHING);
+    assert!(rt;
+        !gate.gave_up.load(Ordering::SeqCst),
+        "0.1 waited in vain for 0.2 and 0.3"
+    );
+}
+
+#[test]
+fn gates_change_no_outcome(rt: HostRuntime) {
+    let alloc = rt.alloc();
+    for text in [TWO_ARRAYS, HALVES, FAULTS, THREE] {
+        let program = accepted(&rt, alloc, text);
+        let want = one_thread_outcome(&rt, alloc, &program, Budget::usual());
+        for workers in [1, 2, 8] {
+            let settings = settings(&rt, 65_536, 8, workers);
+            let yielding = Yielding {
+                drawn: AtomicU64::new(workers),
+            };
+            let said = told(&rt, alloc, text, settings, &yielding);
+            compare(&rt, alloc, text, said.as_str(), want.as_str());
+            let said = told(&rt, alloc, text, settings, &Slow);
+            compare(&rt, alloc, text, said.as_str(), want.as_str());
+        }
     }
 }
 

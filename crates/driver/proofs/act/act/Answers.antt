@@ -19,19 +19,19 @@ returns-in-Err-clause-tested g c folder asks = absurd (c.in-Err.ensures.read (Te
 
 pub returns-in-Ok-clause-asked : goal.returns-in-Ok-clause-asked
 returns-in-Ok-clause-asked g c a asks once =
-    ordered _ _ _ _ _ _ _ _ (order c.in-Ok.order) (AsText a) (c.in-Ok.ensures.read (AsText a) asks once) c.carry_out.ensures.acts
+    ordered _ _ _ _ _ _ _ _ _ (order c.in-Ok.order) (AsText a) (c.in-Ok.ensures.read (AsText a) asks once) c.carry_out.ensures.acts
 
 pub returns-in-Ok-clause-as_object : goal.returns-in-Ok-clause-as_object
 returns-in-Ok-clause-as_object g c x a asks once =
-    ordered _ _ _ _ _ _ _ _ (order c.in-Ok.order) (AsObject x a) (c.in-Ok.ensures.read (AsObject x a) asks once) c.carry_out.ensures.acts
+    ordered _ _ _ _ _ _ _ _ _ (order c.in-Ok.order) (AsObject x a) (c.in-Ok.ensures.read (AsObject x a) asks once) c.carry_out.ensures.acts
 
 pub returns-in-Ok-clause-timed : goal.returns-in-Ok-clause-timed
 returns-in-Ok-clause-timed g c a asks once =
-    ordered _ _ _ _ _ _ _ _ (order c.in-Ok.order) (Times a) (c.in-Ok.ensures.read (Times a) asks once) c.carry_out.ensures.acts
+    ordered _ _ _ _ _ _ _ _ _ (order c.in-Ok.order) (Times a) (c.in-Ok.ensures.read (Times a) asks once) c.carry_out.ensures.acts
 
 pub returns-in-Ok-clause-tested : goal.returns-in-Ok-clause-tested
 returns-in-Ok-clause-tested g c folder asks =
-    ordered _ _ _ _ _ _ _ _ (order c.in-Ok.order) (Tests folder) (c.in-Ok.ensures.read (Tests folder) asks refl) c.carry_out.ensures.acts
+    ordered _ _ _ _ _ _ _ _ _ (order c.in-Ok.order) (Tests folder) (c.in-Ok.ensures.read (Tests folder) asks refl) c.carry_out.ensures.acts
 
 pub returns-in-Err-clause-twice : goal.returns-in-Err-clause-twice
 returns-in-Err-clause-twice g c o orders twice =

@@ -11,25 +11,28 @@ use Rattle.driver.proofs.act.carry_out.Goals as goal
 pub returns-in-AsText-clause-acts : goal.returns-in-AsText-clause-acts
 returns-in-AsText-clause-acts g c =
     let asked = asked_of c.in-AsText.request in let done = c.read_and_do-done in
-    ordered _ _ _ _ _ _ _ _ (AsText asked) (order c.args.order) (sym (ap order c.in-AsText.is))
-    (acted _ _ _ _ _ _ _ Answering asked (in_short done.result) done.ensures.done c.report.ensures)
+    ordered _ _ _ _ _ _ _ _ _ (AsText asked) (order c.args.order) (sym (ap order c.in-AsText.is))
+    (acted _ _ _ _ _ _ _ _ Answering asked (in_short done.result) _ c.explains_on-explains.ensures done.ensures.done
+    c.report.ensures)
 
 pub returns-in-AsObject-clause-acts : goal.returns-in-AsObject-clause-acts
 returns-in-AsObject-clause-acts g c =
     let x = c.in-AsObject.subject in let asked = asked_of c.in-AsObject.request in
     let done = c.read_and_do-done-in-AsObject in
-    ordered _ _ _ _ _ _ _ _ (AsObject x asked) (order c.args.order) (sym (ap order c.in-AsObject.is))
-    (acted _ _ _ _ _ _ _ (Describing x) asked (in_short done.result) done.ensures.done c.report-in-AsObject.ensures)
+    ordered _ _ _ _ _ _ _ _ _ (AsObject x asked) (order c.args.order) (sym (ap order c.in-AsObject.is))
+    (acted _ _ _ _ _ _ _ _ (Describing x) asked (in_short done.result) _ c.explains_on-explains-in-AsObject.ensures
+    done.ensures.done c.report-in-AsObject.ensures)
 
 pub returns-in-Times-clause-acts : goal.returns-in-Times-clause-acts
 returns-in-Times-clause-acts g c =
     let asked = asked_of c.in-Times.request in let done = c.read_and_do-done-in-Times in
-    ordered _ _ _ _ _ _ _ _ (Times asked) (order c.args.order) (sym (ap order c.in-Times.is))
-    (acted _ _ _ _ _ _ _ Timing asked (in_short done.result) done.ensures.done c.report-in-Times.ensures)
+    ordered _ _ _ _ _ _ _ _ _ (Times asked) (order c.args.order) (sym (ap order c.in-Times.is))
+    (acted _ _ _ _ _ _ _ _ Timing asked (in_short done.result) _ c.explains_on-explains-in-Times.ensures done.ensures.done
+    c.report-in-Times.ensures)
 
 pub returns-in-Tests-clause-acts : goal.returns-in-Tests-clause-acts
 returns-in-Tests-clause-acts g c =
-    ordered _ _ _ _ _ _ _ _ (Tests c.in-Tests.folder.now) (order c.args.order) (sym (ap order c.in-Tests.is))
+    ordered _ _ _ _ _ _ _ _ _ (Tests c.in-Tests.folder.now) (order c.args.order) (sym (ap order c.in-Tests.is))
     (tested_as _ _ _ _ _ _ _ _ c.in-Tests.folder.now (in_short c.test-done.result) c.test-done.ensures.done
     c.report-in-Tests.ensures)
 
@@ -37,7 +40,7 @@ pub returns-in-AsText-clause-watched : goal.returns-in-AsText-clause-watched
 returns-in-AsText-clause-watched g c =
     let asked = asked_of c.in-AsText.request in let done = c.read_and_do-done in
     watched_as g.T.Watch.Told _ _ (AsText asked) (order c.args.order) (sym (ap order c.in-AsText.is)) _
-    (reported_watched g.T.Watch.Told _ _ (is_watched_by asked.action asked.settings) asked.telling.explain _ _ (in_short done.result) _
+    (reported_watched g.T.Watch.Told _ _ (is_watched_by asked.action asked.settings) _ _ _ (in_short done.result) _
     done.ensures.watched c.report.ensures)
 
 pub returns-in-AsObject-clause-watched : goal.returns-in-AsObject-clause-watched
@@ -45,7 +48,7 @@ returns-in-AsObject-clause-watched g c =
     let x = c.in-AsObject.subject in let asked = asked_of c.in-AsObject.request in
     let done = c.read_and_do-done-in-AsObject in
     watched_as g.T.Watch.Told _ _ (AsObject x asked) (order c.args.order) (sym (ap order c.in-AsObject.is)) _
-    (reported_watched g.T.Watch.Told _ _ (is_watched (command_of x) asked.settings) asked.telling.explain _ _ (in_short done.result) _
+    (reported_watched g.T.Watch.Told _ _ (is_watched (command_of x) asked.settings) _ _ _ (in_short done.result) _
     done.ensures.watched c.report-in-AsObject.ensures)
 
 pub returns-in-Times-clause-watched : goal.returns-in-Times-clause-watched

@@ -2,7 +2,8 @@ use Rattle.std.proofs.Common.{List, ℕ, ◌≤◌, length, Result, subst, sym}
 use Rattle.files.specs.Held.{HasText}
 use Rattle.failures.specs.declared.failure.Failure.{Failure}
 use Rattle.command_line.specs.Requests.{asked_of}
-use Rattle.driver.specs.Acts.{in_short}
+use Rattle.std.specs.Prelude.{Bool}
+use Rattle.driver.specs.Acts.{IsSaid, in_short}
 use Rattle.driver.specs.Watching.{WatchesDoing}
 use Rattle.driver.proofs.Ordered.{read_on_text, read_without_text}
 use Rattle.driver.proofs.Watched.{unread_watched}
@@ -35,3 +36,7 @@ returns-clause-watched g c =
     let old = c.args.terminal.now in let new = c.do_with-done.new.terminal in
     subst (λ (r : Result ℕ Failure). WatchesDoing g.T.Watch.Told c.args.ordered.doing a r old new)
     (sym c.explained.ensures.same) c.do_with-done.ensures.watched
+
+pub returns-clause-said : goal.returns-clause-said
+returns-clause-said g c =
+    subst (λ (e : Bool). IsSaid e c.explained.result) c.in-Ok.ensures.explains c.explained.ensures.said

@@ -1,0 +1,115 @@
+#!/usr/bin/env python3
+"""Runs the program with its standard error at a pseudo-terminal, at a pipe, and with each word of `--explain`, and compares
+what it writes: only at a terminal explanations are written by default. No contract says that `main` finds a terminal, and
+the rows of examples/rows have none. Prints each run that differs; the last line is `N passed, M failed`.
+
+    python3 tests/terminal.py      AFX=./afx names another program
+"""
+import os
+import pathlib
+import pty
+import subprocess
+import sys
+import tempfile
+
+TOP = pathlib.Path(__file__).resolve().parent.parent
+AFX = os.path.abspath(os.environ.get("AFX", str(TOP / "afx")))
+
+REFUSED = b"main { print x; }\n"
+REFUSED_LINE = b"Y1 at label 1\n"
+REFUSED_MORE = b"""
+refused.afx:1:14: Y1: name not in scope
+     1 | main { print x; }
+       |              ^
+`x` is not in scope here.
+Nothing is in scope here.
+help: declare it first, in this block or an enclosing one; or use a name that is in scope.
+"""
+FAULTY = b"main { array a: int[3]; var i = 3; print a[i]; }\n"
+FAULTY_MORE = b"""
+faulty.afx:1:42: F1: index out of bounds
+fault 0 at 2: F1
+     1 | main { array a: int[3]; var i = 3; print a[i]; }
+       |                                          ^
+Index 3, length 3: `a` has the elements 0 to 2.
+help: test the index first, as in `if 0 <= i and i < len(a) { .. }`, or make the array larger.
+"""
+ENDLESS = b"main { while true { } }\n"
+ENDLESS_MORE = b"""
+endless.afx:1:8: stopped: step or nesting limit exceeded
+     1 | main { while true { } }
+       |        ^
+Task 0 had used all of its 1000 steps before this statement, label 1.
+help: raise the limit with `--steps 2000`, or look for an infinite loop or recursion.
+"""
+FILES = {"refused.afx": REFUSED, "faulty.afx": FAULTY, "endless.afx": ENDLESS, "right.afx": b"main { print 1; }\n"}
+
+# The words of a run, its output, the line that it writes in any case, its explanation, and its status.
+RUNS = (
+    (["check", "refused.afx"], b"", REFUSED_LINE, REFUSED_MORE, 1),
+    (["run", "refused.afx"], b"", REFUSED_LINE, REFUSED_MORE, 1),
+    (["serial", "faulty.afx"], b"fault 0 at 2: F1\n", b"", FAULTY_MORE, 2),
+    (["run", "faulty.afx", "--workers", "2"], b"fault 0 at 2: F1\n", b"", FAULTY_MORE, 2),
+    (["serial", "endless.afx", "--steps", "1000"], b"stopped\n", b"", ENDLESS_MORE, 3),
+    (["run", "right.afx"], b"1\n", b"", b"", 0),
+)
+
+
+def at_terminal(words, room, env):
+    """Returns the output, the standard error and the status of a run whose standard error is a terminal."""
+    ours, theirs = pty.openpty()
+    ran = subprocess.Popen([AFX, *words], cwd=room, env=env, stdin=subprocess.DEVNULL, stdout=subprocess.PIPE, stderr=theirs)
+    os.close(theirs)
+    told = b""
+    while True:
+        try:
+            piece = os.read(ours, 65536)
+        except OSError:  # the terminal is closed at the end of the run
+            break
+        if not piece:
+            break
+        told += piece
+    out = ran.stdout.read()
+    os.close(ours)
+    return out, told.replace(b"\r\n", b"\n"), ran.wait()
+
+
+def at_pipe(words, room, env):
+    """Returns the same of a run whose standard error is a pipe."""
+    ran = subprocess.run([AFX, *words], cwd=room, env=env, stdin=subprocess.DEVNULL, capture_output=True)
+    return ran.stdout, ran.stderr, ran.returncode
+
+
+def main():
+    passed = failed = 0
+    env = {**os.environ, "NO_COLOR": "1"}
+    with tempfile.TemporaryDirectory() as room:
+        for name, text in FILES.items():
+            (pathlib.Path(room) / name).write_bytes(text)
+        subprocess.run([AFX, "--version"], stdout=subprocess.DEVNULL, stderr=subprocess.DEVNULL, check=True)
+        for words, out, line, more, status in RUNS:
+            for option in ([], ["--explain"], ["--explain=auto"], ["--explain=always"], ["--explain=never"]):
+                for way in (at_terminal, at_pipe):
+                    is_explained = option in (["--explain"], ["--explain=always"]) or (
+                        option != ["--explain=never"] and way is at_terminal)
+                    wanted = (out, line + more * is_explained, status)
+                    told = way([words[0], *option, *words[1:]], room, env)
+                    if told == wanted:
+                        passed += 1
+                    else:
+                        failed += 1
+                        print(f"{way.__name__}: afx {' '.join([words[0], *option, *words[1:]])}\n  {told}\n  for {wanted}")
+        # With colours the explanation has escapes, at a terminal alone.
+        colourful = {name: value for name, value in os.environ.items() if name != "NO_COLOR"}
+        for way in (at_terminal, at_pipe):
+            told = way(["check", "--explain", "refused.afx"], room, colourful)[1]
+            if (b"\x1b[" in told) == (way is at_terminal):
+                passed += 1
+            else:
+                failed += 1
+                print(f"{way.__name__}: colours: {told}")
+    print(f"{passed} passed, {failed} failed")
+    sys.exit(1 if failed else 0)
+
+
+main()
