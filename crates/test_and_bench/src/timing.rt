@@ -5,6 +5,7 @@ ghost use Rattle.std.specs.String.{string_bytes};
 ghost use Rattle.types.specs.Translation.{budget as budget_of, input as lists_in};
 ghost use Rattle.types.specs.Typed.{code_of};
 ghost use Rattle.cost.specs.Costs.{cost_of, tally_of};
+ghost use Rattle.trace_numbers.specs.Text.{line, parallelism};
 ghost use Rattle.command_line.specs.Requests.{settings as settings_of};
 ghost use Rattle.commands.specs.Outcomes.{Fits, IsOutcomeOf};
 ghost use Rattle.test_and_bench.specs.Runs.{TellsNoRun};
@@ -275,10 +276,18 @@ fn push_speeds(text: &mut String, timed: &Timed, cost: &Cost) -> Result<(), Allo
         ≡ string_bytes text.old ++ speeds timed.now cost.now) }
 {
     let parallel = timed.on_all.unwrap_or(timed.on_one);
-    text.push_str("speed-up: ")?;
-    push_parallelism(text, timed.serial.median as usize, parallel.median as usize)?;
-    text.push_str("work / span: ")?;
-    push_parallelism(text, cost.work, cost.span)
+    let (serial, parallel) = (timed.serial.median, parallel.median);
+    push_rate(text, "speed-up", serial as usize, parallel as usize)?;
+    push_rate(text, "work / span", cost.work, cost.span)
+}
+
+/// Adds a line with a label and the quotient of two numbers, or `-` if the second is 0.
+fn push_rate(text: &mut String, label: &str, first: usize, second: usize) -> Result<(), AllocError>
+    ensures { OnOk result (string_bytes text.new
+        ≡ string_bytes text.old ++ line label.now (parallelism first second)) }
+{
+    write!(text, "{label}: ")?;
+    push_parallelism(text, first, second)
 }
 
 /// Adds how many tasks there were, and how many places are copied for them.

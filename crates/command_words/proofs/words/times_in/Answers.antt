@@ -1,4 +1,4 @@
-use Rattle.std.proofs.Common.{ap, ◌∙◌, subst, sym}
+use Rattle.std.proofs.Common.{ap, ◌≡◌, ◌∙◌, subst, sym}
 use Rattle.std.specs.Prelude.{IsSomeAnd}
 use Rattle.command_line.specs.Requests.{Asked, asked_of}
 use Rattle.command_words.specs.Orders.{IsTimed, Times, order, subject_of}
