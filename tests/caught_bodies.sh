@@ -55,10 +55,18 @@ failed() {
         END { for (name in names) printf "%s ", name }' "$1/log"
 }
 
-# The crates without an edit. Their tests must pass: otherwise a failure would show nothing about a mutant.
+# The crates without an edit. Their tests must pass: otherwise a failure would show nothing about a mutant. The test that a
+# scope issues weight 2^31 times is left out: an unproved run, which counts steps, would take it an hour.
 as_they_stand() {
     mkdir -p "$1/.git"
     tar -cf - --exclude=out --exclude=must-fail crates crates.txt HANDLES | tar -xf - -C "$1"
+    python3 - "$1/crates/run_tests/src/tests/threads.rt" <<'PYTHON'
+import re, sys
+text = open(sys.argv[1]).read()
+less, count = re.subn(r"#\[test\]\nfn a_scope_issues_weight_two_to_the_31_times.*?\n}\n", "", text, flags=re.S)
+assert count == 1, "no test to leave out"
+open(sys.argv[1], "w").write(less.replace("use weights::book::MOST_ISSUES;\n", ""))
+PYTHON
 }
 as_they_stand "$room/as_it_is"
 
