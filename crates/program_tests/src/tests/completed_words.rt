@@ -25,7 +25,7 @@ const ROWS: &[(&str, &str)] = &[
         "cost",
         " input steps nest by-line by-procedure format explain color",
     ),
-    ("bench", " input steps nest explain color"),
+    ("bench", " input steps nest tasks w0 workers explain color"),
     ("test", ""),
     (
         "explore",
