@@ -127,7 +127,10 @@ for name in "$@"; do
     as_they_stand "$copy"
     apply "$top/tests/bodies/$name.edit" "$copy"
     way=$(sed -n 's/^try: //p' "$top/tests/bodies/$name.edit")
-    if [ -n "$way" ]; then
+    if [ "${way%% *}" = examples ]; then
+        # (one argument, as in crates/examples/args)
+        names=$(shown_by_program "$copy" examples "${way#* }")
+    elif [ -n "$way" ]; then
         names=$(shown_by_program "$copy" $way)
     else
         names=$(shown_by_tests "$copy")
