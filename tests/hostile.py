@@ -13,7 +13,7 @@ import tempfile
 import threading
 import time
 
-from hostile_stack import DEEPEST, SMALL_STACK, nested, stack, try_deep_texts
+from hostile_stack import SMALL_STACK, nested, stack
 from hostile_traces import LINES, cut_anywhere, of_other_runs, spelled_otherwise, swapped_and_doubled
 from runs import LIMIT, Counts, Ended, built_program, fail, finish, run, shown, start
 
@@ -30,8 +30,6 @@ class Tests:
         self.program, self.room, self.counts = program, pathlib.Path(room), Counts()
         # (when a table has to end, in the short sweep)
         self.end, self.left_out = None, 0
-        # (what the program has to learn before a test can be counted)
-        self.awaits, self.open = None, 0
 
     def until_over(self, cases):
         """The cases of a table. In the short sweep they come in a mixed order, as many as there is time for."""
@@ -53,14 +51,8 @@ class Tests:
         return run(self.program, words, room=self.room, **more)
 
     def judge(self, name, fault):
-        """Counts a test; what is known to be wrong is printed and not counted."""
-        if not self.awaits:
-            self.counts.judge(name, fault)
-        elif fault:
-            self.open += 1
-            print(f"open, awaits {self.awaits}: {name}: {fault}", flush=True)
-        else:
-            print(f"mended, so it can be counted: {name}", flush=True)
+        """Counts a test."""
+        self.counts.judge(name, fault)
 
     def expect(self, words, status, out=None, err=b"", name=None, **more):
         """Runs the program and compares: None is any output."""
@@ -735,38 +727,28 @@ def rows(tests):
         tests.expect([command[0], "n.afx", *command[1:], "--nest", "98"], 3, "stopped\n")
 
 
-# ---- what is wrong today
-
-def known_open(tests):
-    """What the program has to learn: each line of these says what it does today."""
-    # The parser keeps too much on the stack for each bracket and block.
-    tests.awaits = "stack"
-    try_deep_texts(tests, lambda name: SMALL_STACK if name in DEEPEST else None)
-    tests.awaits = None
-
-
-PARTS = {part.__name__: part for part in (files, outputs, signals, rows, texts, traces, stack, known_open)}
+PARTS = {part.__name__: part for part in (files, outputs, signals, rows, texts, traces, stack)}
 
 
 def main():
     program, wanted = built_program(), sys.argv[1:]
     is_short = wanted[:1] == ["short"]
-    wanted = wanted[is_short:] or [name for name in PARTS if not (is_short and name == "known_open")]
+    wanted = wanted[is_short:] or list(PARTS)
     if not set(wanted) <= set(PARTS):
         fail(f"usage: tests/hostile.sh [short] [{' | '.join(PARTS)}]..")
     with tempfile.TemporaryDirectory() as room:
         tests = Tests(program, room)
         for name in wanted:
-            began, passed, is_open, left_out = time.monotonic(), tests.counts.passed, tests.open, tests.left_out
+            began, passed, left_out = time.monotonic(), tests.counts.passed, tests.left_out
             tests.end = began + SHORT_SECONDS[name] if is_short and name in SHORT_SECONDS else None
             try:
                 PARTS[name](tests)
             except (OSError, ValueError) as error:
                 # (a file that a run should have left, say)
                 tests.counts.judge(f"{name} ends early", repr(error))
-            more = [f", {many} {what}" for many, what in ((tests.open - is_open, "open"),
-                                                         (tests.left_out - left_out, "left out by the clock")) if many]
-            print(f"{name}: {tests.counts.passed - passed} passed{''.join(more)}, {time.monotonic() - began:.0f} s", flush=True)
+            missed = tests.left_out - left_out
+            more = f", {missed} left out by the clock" if missed else ""
+            print(f"{name}: {tests.counts.passed - passed} passed{more}, {time.monotonic() - began:.0f} s", flush=True)
     return tests.counts.close()
 
 

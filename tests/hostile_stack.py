@@ -1,10 +1,6 @@
 """Commands with little stack: deep and long programs, long runs, and explanations of what is wrong in them."""
 
 SMALL_STACK = 512 * 1024
-# These texts need up to 520 KB, so they are counted with a little more, and `known_open` tries them with 512 KB. Brackets
-# and indices need about 500 KB.
-DEEPEST = {"ifs", "elses"}
-LARGER_STACK = 640 * 1024
 # What needs many steps or tasks.
 LARGE = ["--steps", "1000000000", "--tasks", "1048576"]
 
@@ -16,7 +12,7 @@ def stack(tests):
         err = None if "--explain" in words else b""
         tests.expect(words, status, out, err, stack=SMALL_STACK, environment={})
     try_mistakes(tests)
-    try_deep_texts(tests, lambda name: LARGER_STACK if name in DEEPEST else SMALL_STACK, {"bench"})
+    try_deep_texts(tests, {"bench"})
 
 
 # ---- texts
@@ -56,22 +52,22 @@ WAYS = (["check"], ["check", "--explain"], ["check", "--format", "json"], ["list
         ["run", "--workers", "2", "--trace", "deep.trace"])
 
 
-def try_deep_texts(tests, stack_of, left_out=frozenset()):
+def try_deep_texts(tests, left_out):
     """Each deep text by each command: the environment lies on the stack too, so there is none."""
-    texts = {name: (text, out) for name, text, out in deep_texts() if stack_of(name)}
+    texts = {name: (text, out) for name, text, out in deep_texts()}
     for name, way in tests.until_over((name, way) for name in texts for way in WAYS):
         text, out = texts[name]
         command, *options = way
         if command in left_out and len(text) > 10_000:
             # (five runs by each of four ways say no more about the stack)
             continue
-        given = {"stack": stack_of(name), "environment": {}}
+        given = {"stack": SMALL_STACK, "environment": {}}
         file = tests.file("deep.afx", text)
         ended = tests.run(command, file, *options, **given)
         wanted = out if command in ("serial", "run", "explore") and "json" not in options else None
         status = 1 if "--check" in options else 0
         good = ended.status == status and (wanted is None or ended.out == wanted.encode())
-        told = f"{given['stack'] // 1024} KB of stack, {name}: {' '.join(way)}"
+        told = f"512 KB of stack, {name}: {' '.join(way)}"
         tests.judge(told, None if good else str(ended))
         if "--trace" in options and good:
             for more in ([], ["--summary"], ["--svg", "deep.svg"], ["--chrome", "deep.json"]):
