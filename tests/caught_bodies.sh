@@ -85,7 +85,10 @@ tested_as_it_is() {
 printed() (
     cd "$1/crates/$2"
     shift 2
-    timeout 1200 rt try --seconds 600 --data fault.afx="$top/tests/bodies/fault.afx" -- "$@" >"$room/out" 2>"$room/err" || true
+    # (the files of its folder data, as `rt ci` gives them, and one more)
+    set -- -- "$@"
+    [ ! -d data ] || for file in $(find data -type f); do set -- --data "${file#data/}=$PWD/$file" "$@"; done
+    timeout 1200 rt try --seconds 600 --data fault.afx="$top/tests/bodies/fault.afx" "$@" >"$room/out" 2>"$room/err" || true
     grep -q '^run=ended' "$room/out" "$room/err" || exit 0
     grep -hvE '^(races|checked|interpreter|allocations): ' "$room/out" "$room/err"
 )
