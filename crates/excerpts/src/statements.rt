@@ -1,6 +1,8 @@
 //! The statements of a program, by their labels.
 
+use crate::indices::{are_alike, first_index};
 use crate::named::{Named, Role, begins_with, head, is_name, is_operator, names};
+use crate::procedures::procedure_has;
 use crate::sides::is_used;
 use crate::source::{Source, push_line};
 use statement_places::statement_places;
@@ -130,12 +132,28 @@ impl<'t> PlacedStatements<'t> {
         index
     }
 
+    /// Returns whether two statements first use a section with the same index: `a` in
+    /// `a[i + 1] = 0;` and in `x = a[i + 1];`.
+    pub fn use_one_index(&self, first: u32, second: u32, section: &str) -> bool {
+        let one = first_index(self.head(first), section);
+        let other = first_index(self.head(second), section);
+        match (one, other) {
+            (Some(one), Some(other)) => are_alike(one, other),
+            _ => false,
+        }
+    }
+
     /// Returns whether the block of the split around a statement uses this side of the split.
     pub fn uses_side(&self, label: u32, side: &str) -> bool {
         match self.head(label).first() {
             Some(first) => is_used(&self.source.tokens, first.at, side),
             None => false,
         }
+    }
+
+    /// Returns whether a name is in the text of a procedure, or of `main`.
+    pub fn has_name(&self, procedure: &str, name: &str) -> bool {
+        procedure_has(&self.source.tokens, procedure, name)
     }
 
     /// Returns the tokens of a statement's head.

@@ -204,6 +204,12 @@ const PROGRESS: Entry = Entry {
     takes: Takes::Nothing,
 };
 
+const ALL: Entry = Entry {
+    name: "all",
+    help: "Explain the reported race, and list all pairs of statements that may race",
+    takes: Takes::NothingBut(&["format"]),
+};
+
 const EXPLAIN: Entry = Entry {
     name: "explain",
     help: "Explain an error, a fault or a stopped run [default: auto, on a terminal; always without a value]",
@@ -317,7 +323,7 @@ const CHECKED: Row = Row {
     name: "check",
     about: "Check a program for errors and races",
     example: CHECK_EXAMPLE,
-    entries: &[FILE, LIST, FORMAT, EXPLAIN, COLOR],
+    entries: &[FILE, LIST, ALL, FORMAT, EXPLAIN, COLOR],
 };
 
 const LISTED: Row = Row {
