@@ -33,7 +33,8 @@ use witness::witness::witness_of;
 
 /// Returns what went wrong, why, and what would be right: in the text of a program, in the file of
 /// its input or of a trace, in its choices, or in its formatting. The request names the file of the
-/// program. If it is for all races, they are listed after the explanation of a race. Returns an empty text if there is no more to say than the failure's line.
+/// program. If it is for all races, they are listed after the explanation of a race. Returns an
+/// empty text if there is no more to say than the failure's line.
 pub fn explanation<R: Threads + Sync, F: FileSource>(
     rt: &R,
     alloc: Global,
