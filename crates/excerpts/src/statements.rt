@@ -4,7 +4,7 @@ use crate::indices::{are_alike, first_index};
 use crate::named::{Named, Role, begins_with, head, is_name, is_operator, names};
 use crate::procedures::procedure_has;
 use crate::sides::is_used;
-use crate::source::{Source, push_line};
+use crate::source::{Source, line_of, push_line, push_start};
 use statement_places::statement_places;
 use std::alloc::{AllocError, Global};
 use syntax::TextPlace;
@@ -66,6 +66,20 @@ impl<'t> PlacedStatements<'t> {
             Some(place) => push_line(told, self.text, place),
             None => Ok(()),
         }
+    }
+
+    /// Returns where a statement starts, its label, and its text up to the end of the line:
+    /// `5:3 label 2  async { .. }`.
+    pub fn described(&self, label: u32) -> Result<String, AllocError> {
+        let Some(place) = self.place(label) else {
+            return format!(in self.alloc; "label {label}");
+        };
+        let line = place.line;
+        let column = place.column;
+        let mut told = format!(in self.alloc; "{line}:{column} label {label}  ")?;
+        let before = usize::try_from(column).unwrap_or(1).saturating_sub(1);
+        push_start(&mut told, line_of(self.text, place), before)?;
+        Ok(told)
     }
 
     /// Returns the name of the element with this number, from 0, in a statement's head.
