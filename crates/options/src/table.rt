@@ -60,6 +60,12 @@ const FILE: Entry = Entry {
     takes: Takes::File,
 };
 
+const FILES: Entry = Entry {
+    name: "FILE",
+    help: "Program file, or - for standard input; several files come after the options",
+    takes: Takes::File,
+};
+
 const FOLDER: Entry = Entry {
     name: "FOLDER",
     help: "Folder with the test programs",
@@ -323,7 +329,7 @@ const CHECKED: Row = Row {
     name: "check",
     about: "Check a program for errors and races",
     example: CHECK_EXAMPLE,
-    entries: &[FILE, LIST, ALL, FORMAT, EXPLAIN, COLOR],
+    entries: &[FILES, LIST, ALL, FORMAT, EXPLAIN, COLOR],
 };
 
 const LISTED: Row = Row {
@@ -337,7 +343,7 @@ const FORMATTED: Row = Row {
     name: "fmt",
     about: "Format a program, keeping its comments",
     example: LAYOUT_EXAMPLE,
-    entries: &[FILE, CHECK, WRITE, EXPLAIN, COLOR],
+    entries: &[FILES, CHECK, WRITE, EXPLAIN, COLOR],
 };
 
 const PAIRED: Row = Row {
