@@ -7,13 +7,23 @@ use syntax::token::{Mark, Spanned, Token};
 /// `a` in `a[i + 1] = a[i];`.
 pub fn first_index<'t>(head: &'t [Spanned], section: &str) -> Option<&'t [Spanned]> {
     let mut left = head;
-    'tokens: while let [name, open, behind @ ..] = left {
-        if is_name(name, section) && is_mark(open, Mark::LeftBracket) {
-            return Some(up_to_bracket(behind));
+    'tokens: while let [first, behind @ ..] = left {
+        if is_name(first, section) {
+            if let Some(index) = index_in(behind) {
+                return Some(index);
+            }
         }
-        left = left.get(1..).unwrap_or(&[]);
+        left = behind;
     }
     None
+}
+
+/// Returns the tokens of the index at the start of these tokens, if there is one.
+fn index_in(tokens: &[Spanned]) -> Option<&[Spanned]> {
+    match tokens {
+        [open, behind @ ..] if is_mark(open, Mark::LeftBracket) => Some(up_to_bracket(behind)),
+        _ => None,
+    }
 }
 
 /// Returns the tokens before the bracket that closes what is open.
