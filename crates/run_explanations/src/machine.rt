@@ -66,12 +66,9 @@ impl<'p> RepeatedRun<'p> {
         self.seen
     }
 
-    /// Returns the statements of the steps; none if they aren't recorded.
-    pub fn into_steps(self) -> TaskSteps {
-        match self.steps {
-            Some(steps) => steps,
-            None => TaskSteps::new(self.plan.alloc),
-        }
+    /// Returns the statements of the steps, if they were recorded.
+    pub fn into_steps(self) -> Option<TaskSteps> {
+        self.steps
     }
 
     /// Does the next item of work, and returns whether there was one.

@@ -30,7 +30,10 @@ pub fn steps_again(
 ) -> Result<TaskSteps, AllocError> {
     let steps = TaskSteps::new(alloc);
     let machine = ended_run(alloc, typed, input, budget, Some(steps))?;
-    Ok(machine.into_steps())
+    match machine.into_steps() {
+        Some(steps) => Ok(steps),
+        None => Ok(TaskSteps::new(alloc)),
+    }
 }
 
 /// Runs a program on one thread, up to its end or to the first task that is over its budget. Steps
