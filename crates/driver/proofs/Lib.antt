@@ -1,6 +1,6 @@
 pub mod Objects
 pub mod Ordered
-pub mod Several
+pub mod SeveralFiles
 pub mod Acting
 pub mod Leaving
 pub mod TracedRuns

@@ -1,5 +1,5 @@
 use Rattle.std.proofs.Common.{arith, refl, ◌∙◌}
-use Rattle.driver.proofs.Several.{none_acted, one_more}
+use Rattle.driver.proofs.SeveralFiles.{none_acted, one_more}
 use Rattle.driver.proofs.several.do_with_each.Goals as goal
 
 pub loop-file-init : goal.loop-file-init

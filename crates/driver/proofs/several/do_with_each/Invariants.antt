@@ -1,5 +1,5 @@
 use Rattle.command_line.specs.Requests.{is_explained}
-use Rattle.driver.proofs.Several.{HaveActed}
+use Rattle.driver.proofs.SeveralFiles.{HaveActed}
 use Rattle.driver.proofs.several.do_with_each.Given as goal
 
 abbrev pub invariant-loop-file : goal.invariant-loop-file
