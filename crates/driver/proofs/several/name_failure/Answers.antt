@@ -2,4 +2,4 @@ use Rattle.printing.proofs.Appending.{beginning_written}
 use Rattle.driver.proofs.several.name_failure.Goals as goal
 
 pub returns-in-Err : goal.returns-in-Err
-returns-in-Err g c = beginning_written _ _ _ _ c.emit_name.ensures
+returns-in-Err g c = rw c.in-Err.is (beginning_written _ _ _ _ c.emit_name.ensures)
