@@ -10,12 +10,6 @@ use trace_pictures::timeline::draw;
 use trace_text::header::Header;
 use trace_text::read::read_lines;
 
-/// No statements.
-const UNKNOWN: Statements<'static> = Statements {
-    labels: &[],
-    descriptions: &[],
-};
-
 /// What two workers do in the program with two arrays.
 const TWO_WORKERS: &str = "{\"format\":1,\"nest\":100,\"steps\":1000000,\"w0\":8,\"workers\":2}
 {\"e\":\"take\",\"path\":\"0\",\"worker\":0}
@@ -68,6 +62,30 @@ const NO_RUN: &str = "{\"format\":1,\"nest\":100,\"steps\":1000000,\"w0\":8,\"wo
 {\"e\":\"open\",\"path\":\"0\"}
 ";
 
+/// Returns the spans of events whose statements aren't known.
+fn bare_spans(rt: &impl Abort, alloc: Global, events: &[Event]) -> String {
+    let unknown = Statements {
+        labels: &[],
+        descriptions: &[],
+    };
+    spans(alloc, events, unknown).expect(rt, "memory")
+}
+
+/// Returns the picture of a trace whose statements aren't known.
+fn bare_picture(
+    rt: &impl Abort,
+    alloc: Global,
+    heading: &str,
+    header: &Header,
+    events: &[Event],
+) -> String {
+    let unknown = Statements {
+        labels: &[],
+        descriptions: &[],
+    };
+    draw(alloc, heading, header, events, unknown).expect(rt, "memory")
+}
+
 /// Parses a trace.
 fn trace(rt: &impl Abort, alloc: Global, text: &str) -> (Header, Vec<Event>) {
     read_lines(alloc, text).expect(rt, "a trace")
@@ -101,7 +119,7 @@ fn told_spans(rt: &impl Abort, alloc: Global, text: &str) -> String {
 
 /// Compares the spans of events with the expected ones.
 fn compare_spans(rt: &impl Abort, alloc: Global, events: &[Event], want: &str) {
-    let text = spans(alloc, events, UNKNOWN).expect(rt, "memory");
+    let text = bare_spans(rt, alloc, events);
     let told = told_spans(rt, alloc, text.as_str());
     assert_eq!(rt; told.as_str(), want);
 }
@@ -110,7 +128,7 @@ fn compare_spans(rt: &impl Abort, alloc: Global, events: &[Event], want: &str) {
 fn a_picture_has_its_bars_arrows_and_brackets(rt: HostRuntime) {
     let alloc = rt.alloc();
     let (header, events) = trace(&rt, alloc, TWO_WORKERS);
-    let picture = draw(alloc, "a <b> & \"c\"", &header, &events, UNKNOWN).expect(&rt, "memory");
+    let picture = bare_picture(&rt, alloc, "a <b> & \"c\"", &header, &events);
     for line in LINES_OF_ITS_PICTURE {
         assert!(rt; picture.as_str().contains(*line), "{line}");
     }
@@ -166,7 +184,7 @@ fn rectangles(picture: &str, class: &str) -> usize {
 fn as_many_cells_are_underlined_as_the_span_says(rt: HostRuntime) {
     let alloc = rt.alloc();
     let (header, events) = trace(&rt, alloc, TWO_WORKERS);
-    let picture = draw(alloc, "", &header, &events, UNKNOWN).expect(&rt, "memory");
+    let picture = bare_picture(&rt, alloc, "", &header, &events);
     // The legend has one more.
     assert_eq!(rt; rectangles(picture.as_str(), "<rect class=\"chain\""), 5);
     assert_eq!(rt; rectangles(picture.as_str(), "<circle class=\"back\""), 2);
@@ -183,7 +201,7 @@ fn spans_nest(rt: HostRuntime) {
 fn arrows_lead_from_spawns_to_takes(rt: HostRuntime) {
     let alloc = rt.alloc();
     let (_, events) = trace(&rt, alloc, TWO_WORKERS);
-    let text = spans(alloc, &events, UNKNOWN).expect(&rt, "memory");
+    let text = bare_spans(&rt, alloc, &events);
     let spawn =
         "{\"ph\":\"s\",\"id\":\"0.1\",\"name\":\"spawn\",\"cat\":\"spawn\",\"pid\":0,\"tid\":0,\"ts\":2}";
     let take =
@@ -196,7 +214,7 @@ fn arrows_lead_from_spawns_to_takes(rt: HostRuntime) {
 fn no_events_have_a_picture(rt: HostRuntime) {
     let alloc = rt.alloc();
     let (header, _) = trace(&rt, alloc, TWO_WORKERS);
-    let picture = draw(alloc, "", &header, &[], UNKNOWN).expect(&rt, "memory");
+    let picture = bare_picture(&rt, alloc, "", &header, &[]);
     assert!(rt;
         picture.as_str().contains("2 workers · 0 events · 1 task · 1 finish scope · 0 steals")
     );
@@ -208,7 +226,7 @@ fn no_events_have_a_picture(rt: HostRuntime) {
 fn events_of_no_run_have_a_picture(rt: HostRuntime) {
     let alloc = rt.alloc();
     let (header, events) = trace(&rt, alloc, NO_RUN);
-    let picture = draw(alloc, "no run", &header, &events, UNKNOWN).expect(&rt, "memory");
+    let picture = bare_picture(&rt, alloc, "no run", &header, &events);
     assert!(rt; picture.as_str().contains(">worker 63</text>"));
     assert!(rt; picture.as_str().ends_with("</svg>\n"));
     compare_spans(&rt, alloc, &events, "3B2 3E3 3B3 3E12 1B4 1E12 2B5 2E9 ");
