@@ -14,4 +14,4 @@ loop-file-preserved g c =
     c.loop-file.file-index c.file-item.result _ _ _ _ _ _ _ _ _ _ _ _ _ _ (omega arith) c.file-item.is
     c.as_str.ensures.value (c.ordered_for-ordered.ensures.explains ∙ c.explains_on-explains.ensures)
     c.ordered_for-ordered.ensures.answers c.ordered_for-ordered.ensures.asks c.loop-file.invariant
-    c.do_with_one-status.ensures c.larger.ensures
+    c.do_with_one-status.ensures c.larger-worst.ensures

@@ -5,7 +5,7 @@ pub returns : goal.returns
 returns g c = record {
   result = in_short c.read_and_do-done.result;
   does = c.read_and_do-done.ensures.done;
-  named = g.E.Write.contents c.name_failure.err;
+  named = g.E.Write.contents c.name_failure.new.err;
   names = c.name_failure.ensures;
   reports = c.report.ensures;
 }
