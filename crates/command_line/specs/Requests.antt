@@ -112,7 +112,7 @@ usual = record {
 
 -- how a command line reports by default
 abbrev pub usual_telling : Telling
-usual_telling = record { explain = AtTerminal; color = Auto }
+usual_telling = record { explain = AtTerminal; all = false; color = Auto }
 
 -- whether explanations follow, by whether the standard error is a terminal
 abbrev pub is_explained : Explain → (at_terminal : Bool) → Bool
@@ -490,6 +490,7 @@ manner_words m behind =
 abbrev pub telling_by : Manner → Telling
 telling_by m = record {
   explain = if m.explain then Explained else AtTerminal;
+  all = false;
   color = unwrap_or m.color Auto;
 }
 

@@ -36,6 +36,7 @@ impl Manner {
             } else {
                 usual.explain
             },
+            all: usual.all,
             color: self.color.unwrap_or(usual.color),
         }
     }

@@ -87,6 +87,8 @@ impl Explain {
 pub struct Telling {
     /// `--explain` or `--explain=WHEN`
     pub explain: Explain,
+    /// `check --all`: the explanation of a race is followed by all races.
+    pub all: bool,
     /// `--color WHEN`
     pub color: Color,
 }
@@ -100,6 +102,7 @@ impl Telling {
     {
         Telling {
             explain: Explain::AtTerminal,
+            all: false,
             color: Color::Auto,
         }
     }

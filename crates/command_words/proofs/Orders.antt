@@ -6,7 +6,8 @@ use Rattle.std.specs.String.{string_bytes}
 use Rattle.std.proofs.Common.{true≢false, Global, String}
 use Rattle.std.proofs.lemmas.Slice.Eq.{bytes_eq-Decides}
 use Rattle.command_line.specs.Requests.{Asked, Asks, is_file_name}
-use Rattle.command_words.specs.Orders.{Order, AsText, AsObject, Times, Tests, Orders, AsksForObject, IsTimed, subject_of}
+use Rattle.command_words.specs.Orders.{Order, AsText, AsObject, Times, Tests, Each, Orders, AsksForObject, IsTimed}
+use Rattle.command_words.specs.Orders.{subject_of}
 use Rattle.command_words.specs.Reading.{taken}
 use Rattle.command_words.specs.declared.order.Subject.{Subject}
 use Rattle.command_words.proofs.Reading.{Lacks, bench_asks_nothing, some_is_none, test_asks_nothing, asks_no_form}
@@ -82,6 +83,7 @@ none_asked (AsText a) asks = record { a = a; is = refl; asks = asks }
 none_asked (AsObject x a) p = absurd (none_begins p.command (codes "--format" ∷ codes "json" ∷ p.behind) p.words_are)
 none_asked (Times a) p = absurd (none_begins (codes "bench") p.behind p.words_are)
 none_asked (Tests folder) p = absurd (none_begins (codes "test") (folder ∷ []) p.words_are)
+none_asked (Each x files t) p = absurd p
 
 pub no_words : (ws : List (String Global)) → length ws < 1 → map string_bytes ws ≡ []
 no_words [] short = refl
@@ -101,6 +103,7 @@ module _ (command : List ℕ) (behind : List (List ℕ)) where
       absurd (nothing p.behind a (subst (λ (c : List ℕ). Asks (c ∷ p.behind) a) (sym first) p.asks))
   orders_else P nothing times tests (Times a) p = times a p
   orders_else P nothing times tests (Tests folder) p = tests folder p
+  orders_else P nothing times tests (Each x files t) p = absurd p
 
   -- `bench` orders a timing
   pub bench_times : (P : Order → Type 0) → command ≡ codes "bench"
@@ -133,3 +136,4 @@ module _ (command : List ℕ) (behind : List (List ℕ)) where
       absurd (no_bench (head_is command (codes "bench") behind p.behind p.words_are))
   told_only P no_test no_bench text object (Tests folder) p =
       absurd (no_test (head_is command (codes "test") behind (folder ∷ []) p.words_are))
+  told_only P no_test no_bench text object (Each x files t) p = absurd p

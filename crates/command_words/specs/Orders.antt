@@ -1,15 +1,17 @@
--- Orders of command lines: to answer for one program, as text or as one object; to time its runs; or to
--- test the programs of a folder.
-use Rattle.std.specs.Prelude.{ℕ, ◌≡◌, Bool, true, false, List, [], ◌∷◌, Option, None, Some, IsTrue, codes}
+-- Orders of command lines: to answer for one program, as text or as one object; to time its runs; to test
+-- the programs of a folder; or to answer for several programs, one after the other.
+use Rattle.std.specs.Prelude.{ℕ, ◌≡◌, Bool, true, false, List, [], ◌∷◌, Option, None, Some, IsTrue, codes, map}
+use Rattle.std.specs.String.{string_bytes}
 use Rattle.command_line.specs.Requests.{Asked, Asks, asked_of, is_file_name}
 use Rattle.command_line.specs.declared.request.Action.{Action}
 use Rattle.command_line.specs.declared.request.Action.TheVariants.{Answer, Rewrite}
 use Rattle.command_line.specs.declared.request.Command.{Command}
+use Rattle.command_line.specs.declared.request.Telling.{Telling}
 use Rattle.command_line.specs.declared.request.Command.TheVariants.{Run, Serial, Check, Pairs, Cost}
 use Rattle.command_words.specs.Files.{names_once as asks_once}
 use Rattle.command_words.specs.declared.order.Order.{Order as rOrder}
 use Rattle.command_words.specs.declared.order.Order.TheVariants.{AsText as rAsText, AsObject as rAsObject}
-use Rattle.command_words.specs.declared.order.Order.TheVariants.{Times as rTimes, Tests as rTests}
+use Rattle.command_words.specs.declared.order.Order.TheVariants.{Times as rTimes, Tests as rTests, Each as rEach}
 use Rattle.command_words.specs.declared.order.Subject.{Subject}
 use Rattle.command_words.specs.declared.order.Subject.TheVariants.{Run as RunTold, Serial as SerialTold}
 use Rattle.command_words.specs.declared.order.Subject.TheVariants.{Check as CheckTold, Cost as CostTold}
@@ -20,12 +22,14 @@ pub data Order : Type 0 where
   AsObject : (x : Subject) → (a : Asked) → Order
   Times : (a : Asked) → Order
   Tests : (folder : List ℕ) → Order
+  Each : (x : Action) → (files : List (List ℕ)) → (t : Telling) → Order
 
 abbrev pub order : rOrder → Order
 order (rAsText request) = AsText (asked_of request)
 order (rAsObject x request) = AsObject x (asked_of request)
 order (rTimes request) = Times (asked_of request)
 order (rTests folder) = Tests folder.now
+order (rEach several) = Each several.action (map string_bytes several.files.now) several.telling
 
 -- a command whose answer can be written as one object
 abbrev pub answer_told : Command → Option Subject
@@ -79,6 +83,8 @@ Orders words (AsText a) = Asks words a
 Orders words (AsObject x a) = AsksForObject words x a
 Orders words (Times a) = AsksToTime words a
 Orders words (Tests folder) = AsksToTest words folder
+-- which arguments order this isn't specified
+Orders words (Each x files t) = ⊥
 
 -- it gives no two files the same name
 abbrev pub names_once : Order → Bool
@@ -86,3 +92,4 @@ names_once (AsText a) = asks_once a
 names_once (AsObject x a) = asks_once a
 names_once (Times a) = asks_once a
 names_once (Tests folder) = true
+names_once (Each x files t) = true

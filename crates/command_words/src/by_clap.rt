@@ -185,14 +185,18 @@ fn asking<'w>(alloc: Global, action: Action, given: &ArgMatches<'w>) -> Result<R
     })
 }
 
-/// Returns the reporting options. `clap` has checked that their values are possible ones.
+/// Returns the reporting options. `clap` has checked that their values are possible ones. A list of
+/// all races follows an explanation.
 fn telling(given: &ArgMatches<'_>) -> Telling {
+    let all = given.get_flag("all");
     Telling {
         explain: match given.get_str("explain") {
+            _ if all => Explain::Always,
             Some("always") => Explain::Always,
             Some("never") => Explain::Never,
             _ => Explain::AtTerminal,
         },
+        all,
         color: match given.get_str("color") {
             Some("always") => Color::Always,
             Some("never") => Color::Never,

@@ -8,5 +8,6 @@ pub mod manners;
 pub mod order;
 pub mod plain;
 pub mod settings;
+mod several;
 mod taking;
 pub mod words;

@@ -5,7 +5,7 @@ ghost use Rattle.command_words.specs.Orders.{names_once as names_once_in, order 
 ghost use Rattle.command_words.specs.Orders.{command_of, subject_of};
 
 use crate::files::names_once;
-use command_line::request::{Action, Command, Request};
+use command_line::request::{Action, Command, Request, Telling};
 
 /// The order that the arguments of a command line give.
 #[derive(Clone, Copy, PartialEq, Eq, Debug)]
@@ -18,6 +18,16 @@ pub enum Order<'w> {
     Times(Request<'w>),
     /// `test`: a folder whose programs are run; their results are compared with the expected ones.
     Tests(&'w str),
+    /// `check` or `fmt` of several files, one after the other.
+    Each(Several<'w>),
+}
+
+/// One action for several files.
+#[derive(Clone, Copy, PartialEq, Eq, Debug)]
+pub struct Several<'w> {
+    pub action: Action,
+    pub files: &'w [String],
+    pub telling: Telling,
 }
 
 impl Order<'_> {
@@ -28,7 +38,7 @@ impl Order<'_> {
         match self {
             Order::AsText(request) | Order::AsObject(_, request) | Order::Times(request) =>
                 names_once(request),
-            Order::Tests(_) => true,
+            Order::Tests(_) | Order::Each(_) => true,
         }
     }
 }

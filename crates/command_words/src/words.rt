@@ -15,15 +15,16 @@ use crate::by_clap::order_by_clap;
 use crate::order::{Order, Subject};
 use crate::plain::{PlainLine, is_file_name, line_in, line_of_none};
 use crate::settings::settings_in;
+use crate::several::several_in;
 use crate::taking::take;
 use command_line::request::{Request, Telling};
 use options::reply::{self, Reply};
 use std::alloc::Global;
 
 /// Parses the arguments after the program's name. It parses a command, its reporting options, a
-/// file and other options in this order itself. `clap` parses all other arguments: other orders,
-/// help, pages and mistakes. It is a mistake to give two files the same name: `run a.afx --trace
-/// a.afx`.
+/// file and other options in this order itself, and several files of one action. `clap` parses all
+/// other arguments: other orders, help, pages and mistakes. It is a mistake to give two files the
+/// same name: `run a.afx --trace a.afx`.
 pub fn order_of<'w>(alloc: Global, words: &'w [String]) -> Result<Order<'w>, Reply>
     ensures read { (o : OrderIn) → Orders (map string_bytes words.now) o → names_once o ≡ true
         → IsOkAnd result (λ r. order_said r ≡ o) }
@@ -33,7 +34,10 @@ pub fn order_of<'w>(alloc: Global, words: &'w [String]) -> Result<Order<'w>, Rep
 {
     let order = match order_in(words) {
         Some(order) => order,
-        None => order_by_clap(alloc, words)?,
+        None => match several_in(words) {
+            Some(several) => Order::Each(several),
+            None => order_by_clap(alloc, words)?,
+        },
     };
     if order.names_once() {
         Ok(order)

@@ -8,12 +8,12 @@ use crate::question::Question;
 use crate::unchosen::{choices_explained, no_leaf_explained, open_explained};
 use crate::unlaid::layout_explained;
 use crate::unread::{reread_explained, unreadable_explained, unwritten_explained};
-use command_line::request::{Command, RunOptions};
+use command_line::request::{Command, Request, RunOptions};
 use excerpts::heading::Heading;
 use explanations::input_errors::explained_input;
 use explanations::races::explained_race;
 use explanations::syntax_errors::explained_syntax;
-use explanations::told::explained;
+use explanations::told::{explained, push_races};
 use failures::failure::Failure;
 use files::file_source::FileSource;
 use gather::run_error::RunError;
@@ -32,19 +32,20 @@ use types::input_error::InputError;
 use witness::witness::witness_of;
 
 /// Returns what went wrong, why, and what would be right: in the text of a program, in the file of
-/// its input or of a trace, in its choices, or in its formatting. The program is in the file with
-/// this name. Returns an empty text if there is no more to say than the failure's line.
+/// its input or of a trace, in its choices, or in its formatting. The request names the file of the
+/// program. If it is for all races, they are listed after the explanation of a race. Returns an
+/// empty text if there is no more to say than the failure's line.
 pub fn explanation<R: Threads + Sync, F: FileSource>(
     rt: &R,
     alloc: Global,
     files: &mut F,
-    file: &str,
-    question: Question<'_>,
+    request: Request<'_>,
+    text: &str,
     failure: &Failure,
 ) -> Result<String, AllocError>
     ensures { F.held files.new ≡ F.held files.old }
 {
-    let Question { text, settings } = question;
+    let Request { file, settings, .. } = request;
     match failure {
         Failure::Syntax(error) => {
             explained_syntax(alloc, text, error, heading_of(file, error.code()))
@@ -54,7 +55,8 @@ pub fn explanation<R: Threads + Sync, F: FileSource>(
         }
         Failure::Race { first, second, .. } => {
             let accesses = (first.as_str(), second.as_str());
-            race_explained(rt, alloc, text, accesses, heading_of(file, "C1"))
+            let heading = heading_of(file, "C1");
+            race_explained(rt, alloc, text, accesses, heading, request.telling.all)
         }
         Failure::Input(error) => match settings.input {
             Some(name) => input_explained(alloc, files, text, name, error),
@@ -93,14 +95,15 @@ fn file_explained<F: FileSource>(
     }
 }
 
-/// Explains why the least race of a program is one. It looks for the race again. The two accesses
-/// are given as the race's line prints them.
+/// Explains why the least race of a program is one. It looks for the race again, and lists all
+/// races if `all`. The two accesses are given as the race's line prints them.
 fn race_explained<R: Threads + Sync>(
     rt: &R,
     alloc: Global,
     text: &str,
     accesses: (&str, &str),
     heading: Heading<'_>,
+    all: bool,
 ) -> Result<String, AllocError> {
     let (first, second) = accesses;
     let Ok(typed) = typed_of(alloc, text) else {
@@ -108,7 +111,11 @@ fn race_explained<R: Threads + Sync>(
     };
     match check(rt, alloc, typed) {
         Err(Refused::Race { race, typed }) => match witness_of(alloc, &typed, race)? {
-            Some(witness) => explained(alloc, text, &typed, race, &witness, heading),
+            Some(witness) => {
+                let mut told = explained(alloc, text, &typed, race, &witness, heading)?;
+                push_races(alloc, &mut told, text, &typed, all)?;
+                Ok(told)
+            }
             None => explained_race(alloc, text, first, second, heading),
         },
         _ => explained_race(alloc, text, first, second, heading),

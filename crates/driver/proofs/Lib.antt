@@ -1,5 +1,6 @@
 pub mod Objects
 pub mod Ordered
+pub mod SeveralFiles
 pub mod Acting
 pub mod Leaving
 pub mod TracedRuns

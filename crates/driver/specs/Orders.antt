@@ -1,11 +1,16 @@
 -- Orders that were carried out, and reported.
-use Rattle.std.specs.Prelude.{ℕ, ◌≤◌, Bool, false, List, [], length, Option, Result, IsErrAnd, ◌≡◌}
+use Rattle.std.specs.Prelude.{ℕ, ◌≤◌, Bool, false, List, [], ◌∷◌, ◌++◌, codes, length, Option, Result, Ok, Err}
+use Rattle.std.specs.Prelude.{IsErrAnd, ◌≡◌, nat_lt, if◌then◌else◌}
 use Rattle.std.specs.Io.KnownBytes.{Keeps}
-use Rattle.command_line.specs.Requests.{Asked, asked_of, is_explained}
+use Rattle.command_line.specs.Requests.{Asked, asked_of, is_explained, usual}
+use Rattle.command_line.specs.declared.request.Action.{Action}
+use Rattle.command_line.specs.declared.request.Telling.{Telling}
 use Rattle.files.specs.Held.{Held, HasText, TellsNoProgram}
 use Rattle.failures.specs.declared.failure.Failure.{Failure}
+use Rattle.printing.specs.Appending.{AppendsBeginning}
+use Rattle.printing.specs.Reasons.{escaped}
 use Rattle.json_answers.specs.Failing.{IsToldAsObject, TellsFailure}
-use Rattle.command_words.specs.Orders.{Order, AsText, AsObject, Times, Tests}
+use Rattle.command_words.specs.Orders.{Order, AsText, AsObject, Times, Tests, Each}
 use Rattle.command_words.specs.declared.order.Subject.{Subject}
 use Rattle.driver.specs.Acts.{Performs, Reports}
 use Rattle.driver.specs.Objects.{TellsObject}
@@ -87,6 +92,39 @@ abbrev pub TestsAs : (folder : List ℕ) → Folders → (held later : Held) →
 TestsAs folder named held later old new err_old err_new status =
     ActsBy (TestsFolder named held later folder old new) false err_old err_new status
 
+-- ---- several files, one after the other
+
+-- the request for one of the files, under the default settings
+abbrev pub asked_for : Action → Telling → (file : List ℕ) → Asked
+asked_for x t file = record { action = x; file = file; settings = usual; telling = t }
+
+-- a failure's message comes after the name of its file, as far as that was accepted
+abbrev pub Names : (file : List ℕ) → Result ℕ Failure → (old new : Option (List ℕ)) → Type 0
+Names file (Ok status) old new = new ≡ old
+Names file (Err f) old new = AppendsBeginning old new (escaped file ++ codes ": ")
+
+-- this was done with one of several files, and reported, with explanations if there should be some
+pub record ActsOnOne (explain : Bool) (d : TextOrder) (a : Asked) (held later : Held)
+    (old new err_old err_new : Option (List ℕ)) (status : ℕ) : Type 0 where
+  pub result : Result ℕ Failure
+  pub does : ReadsAnd d a held later old new result
+  pub named : Option (List ℕ)
+  pub names : Names a.file result err_old named
+  pub reports : Reports explain named err_new result status
+
+-- the larger of two statuses
+abbrev pub larger : ℕ → ℕ → ℕ
+larger s t = if nat_lt s t then t else s
+
+-- this was done with these files, one after the other; the status is the largest
+pub data ActsOnEach (explain : Bool) (x : Action) (t : Telling) (held : Held) (old err_old : Option (List ℕ))
+    : (files : List (List ℕ)) → (later : Held) → (new err_new : Option (List ℕ)) → (status : ℕ) → Type 0 where
+  none : ActsOnEach explain x t held old err_old [] held old err_old 0
+  more : (fs : List (List ℕ)) (f : List ℕ) (mid later : Held) (between new err_between err_new : Option (List ℕ))
+      (s n : ℕ) → ActsOnEach explain x t held old err_old fs mid between err_between s
+      → ActsOnOne explain Answering (asked_for x t f) mid later between new err_between err_new n
+      → ActsOnEach explain x t held old err_old (fs ++ f ∷ []) later new err_new (larger s n)
+
 -- an order was carried out
 abbrev pub ActsOn : (at_terminal : Bool) → Order → Folders → (held later : Held) → (old new : Option (List ℕ))
     → (err_old err_new : Option (List ℕ)) → (status : ℕ) → Type 0
@@ -98,3 +136,5 @@ ActsOn at_terminal (Times a) named held later old new err_old err_new status =
     TimesAs at_terminal a held later old new err_old err_new status
 ActsOn at_terminal (Tests folder) named held later old new err_old err_new status =
     TestsAs folder named held later old new err_old err_new status
+ActsOn at_terminal (Each x files t) named held later old new err_old err_new status =
+    ActsOnEach (is_explained t.explain at_terminal) x t held old err_old files later new err_new status

@@ -9,7 +9,7 @@ use Rattle.command_line.specs.declared.request.Command.TheVariants.{Run, Serial,
 use Rattle.command_line.specs.declared.request.Command.TheVariants.{Meetings, Explore, Labels, Places, Format}
 use Rattle.command_line.specs.declared.request.Command.TheVariants.{CheckFormat, View, Summary, Draw, Chrome}
 use Rattle.command_line.specs.declared.request.Command.TheVariants.{Cost, CostByLabel, CostByProcedure}
-use Rattle.command_words.specs.Orders.{Order, AsText, AsObject, Times, Tests, command_of}
+use Rattle.command_words.specs.Orders.{Order, AsText, AsObject, Times, Tests, Each, command_of}
 use Rattle.driver.specs.declared.doing.TextOrder.{TextOrder}
 use Rattle.driver.specs.declared.doing.TextOrder.TheVariants.{Answering, Describing, Timing}
 
@@ -58,3 +58,4 @@ module _ {W : Type 0} (Told : List ℕ → W → W → Type 0) where
   WatchesOrder (AsObject x a) status old new = WatchesTo (is_watched (command_of x) a.settings) status old new
   WatchesOrder (Times a) status old new = Unit {0}
   WatchesOrder (Tests folder) status old new = new ≡ old
+  WatchesOrder (Each x files t) status old new = Unit {0}

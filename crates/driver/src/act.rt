@@ -2,7 +2,7 @@
 
 ghost use Rattle.std.specs.Prelude.{ℕ, ◌≡◌, ◌≤◌, ◌⊎◌, List, codes, true, false, map, Err};
 ghost use Rattle.std.specs.String.{string_bytes};
-ghost use Rattle.driver.specs.Acts.{IsSaid, Reports, TellsMistake, in_short};
+ghost use Rattle.driver.specs.Acts.{Reports, TellsMistake};
 ghost use Rattle.failures.specs.Failures.{TellsNotUtf8};
 ghost use Rattle.failures.specs.declared.failure.Failure.{Failure as FailureOf};
 ghost use Rattle.command_line.specs.Requests.{Asked, Asks};
@@ -16,9 +16,10 @@ ghost use Rattle.driver.specs.Watching.{WatchesOrder};
 ghost use Rattle.options.specs.Replies.{IsMistake};
 ghost use Rattle.printing.specs.Appending.{AppendsBeginning};
 
-use crate::answered::Answered;
 use crate::doing::{Ordered, TextOrder, read_and_do};
 use crate::refusal::Refusal;
+use crate::reporting::report;
+use crate::several::do_with_each;
 use crate::terminal::{Terminal, explains_on};
 use crate::trying::test;
 use command_words::order::Order;
@@ -127,18 +128,7 @@ fn carry_out<R: Threads + Wait + Sync, F: FolderSource, O: Write, E: Write, T: T
             let done = test(rt, alloc, folder, files, out);
             report(done, false, err)
         }
-    }
-}
-
-/// Writes the explanation of an answer, or of a failure, to the standard error. `explains` is
-/// whether there should be one.
-fn report<E: Write>(done: Result<Answered, Refusal>, explains: bool, err: &mut E) -> u8
-    requires said { IsSaid explains done }
-    ensures { Reports explains (E.contents err.old) (E.contents err.new) (in_short done) result }
-{
-    match done {
-        Ok(answered) => answered.follow(err),
-        Err(refusal) => refusal.tell(err),
+        Order::Each(several) => do_with_each(rt, alloc, several, files, out, err, terminal),
     }
 }
 

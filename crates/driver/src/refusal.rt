@@ -10,7 +10,6 @@ use crate::said::said;
 use crate::source::ProgramSource;
 use command_line::request::Request;
 use commands::explaining::explanation;
-use commands::question::Question;
 use commands::unread::unread_explanation;
 use excerpts::paint::Paint;
 use failures::failure::Failure;
@@ -56,11 +55,8 @@ impl Refusal {
         if !source.explains {
             return Refusal::bare(alloc, failure);
         }
-        let question = Question {
-            text: source.text.as_str(),
-            settings: request.settings,
-        };
-        let more = explanation(rt, alloc, files, request.file, question, &failure);
+        let text = source.text.as_str();
+        let more = explanation(rt, alloc, files, request, text, &failure);
         Refusal {
             failure,
             more: said(alloc, more, source.paint),

@@ -19,6 +19,7 @@ impl TestRow<'_> {
         let wanted = self.wanted;
         let asks_otherwise = self.command.contains(" --list")
             || self.command.contains(" --accesses")
+            || self.command.contains(" --all")
             || self.command.contains(" --by-")
             || self.command.contains(" --format");
         let has_outputs = wanted.out_left.is_none()

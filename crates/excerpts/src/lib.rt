@@ -5,9 +5,11 @@
 
 pub mod escaped;
 pub mod heading;
+mod indices;
 pub mod named;
 pub mod nouns;
 pub mod paint;
+mod procedures;
 pub mod sides;
 pub mod similar;
 pub mod source;

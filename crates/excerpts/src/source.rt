@@ -114,6 +114,20 @@ pub fn line_of(text: &str, place: TextPlace) -> &str {
     ""
 }
 
+/// Adds a line without these characters at its start, as far as it is shown. An open block is closed
+/// as in `async { .. }`.
+pub fn push_start(told: &mut String, line: &str, before: usize) -> Result<(), AllocError> {
+    let mut last = ' ';
+    for character in line.trim_end().chars().skip(before).take(SHOWN) {
+        told.push(shown(character))?;
+        last = character;
+    }
+    if last == '{' {
+        told.push_str(" .. }")?;
+    }
+    Ok(())
+}
+
 /// Returns the number of characters of a line before those that are shown.
 fn first_shown(place: TextPlace) -> usize {
     let column = usize::try_from(place.column).unwrap_or(0);

@@ -1,8 +1,10 @@
 //! The statements of a program, by their labels.
 
+use crate::indices::{are_alike, first_index};
 use crate::named::{Named, Role, begins_with, head, is_name, is_operator, names};
+use crate::procedures::procedure_has;
 use crate::sides::is_used;
-use crate::source::{Source, push_line};
+use crate::source::{Source, line_of, push_line, push_start};
 use statement_places::statement_places;
 use std::alloc::{AllocError, Global};
 use syntax::TextPlace;
@@ -64,6 +66,20 @@ impl<'t> PlacedStatements<'t> {
             Some(place) => push_line(told, self.text, place),
             None => Ok(()),
         }
+    }
+
+    /// Returns where a statement starts, its label, and its text up to the end of the line:
+    /// `5:3 label 2  async { .. }`.
+    pub fn described(&self, label: u32) -> Result<String, AllocError> {
+        let Some(place) = self.place(label) else {
+            return format!(in self.alloc; "label {label}");
+        };
+        let line = place.line;
+        let column = place.column;
+        let mut told = format!(in self.alloc; "{line}:{column} label {label}  ")?;
+        let before = usize::try_from(column).unwrap_or(1).saturating_sub(1);
+        push_start(&mut told, line_of(self.text, place), before)?;
+        Ok(told)
     }
 
     /// Returns the name of the element with this number, from 0, in a statement's head.
@@ -130,12 +146,28 @@ impl<'t> PlacedStatements<'t> {
         index
     }
 
+    /// Returns whether two statements first use a section with the same index: `a` in
+    /// `a[i + 1] = 0;` and in `x = a[i + 1];`.
+    pub fn use_one_index(&self, first: u32, second: u32, section: &str) -> bool {
+        let one = first_index(self.head(first), section);
+        let other = first_index(self.head(second), section);
+        match (one, other) {
+            (Some(one), Some(other)) => are_alike(one, other),
+            _ => false,
+        }
+    }
+
     /// Returns whether the block of the split around a statement uses this side of the split.
     pub fn uses_side(&self, label: u32, side: &str) -> bool {
         match self.head(label).first() {
             Some(first) => is_used(&self.source.tokens, first.at, side),
             None => false,
         }
+    }
+
+    /// Returns whether a name is in the text of a procedure, or of `main`.
+    pub fn has_name(&self, procedure: &str, name: &str) -> bool {
+        procedure_has(&self.source.tokens, procedure, name)
     }
 
     /// Returns the tokens of a statement's head.

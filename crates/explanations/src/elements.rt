@@ -7,6 +7,7 @@ use excerpts::statements::PlacedStatements;
 use race_checker::race::Race;
 use types::code::Program;
 use types::ids::ProcedureId;
+use witness::crossing::RunsTogether;
 use witness::sharing::Sharing;
 use witness::step::{Rule, WayStep};
 use witness::witness::Witness;
@@ -59,6 +60,33 @@ pub fn elements_of(
         (Some(one), Some(other)) => Elements::Different(one.min(other), one.max(other)),
         _ => Elements::Any,
     }
+}
+
+/// Returns whether the two accesses of a race use one section of the same frame with the same index,
+/// such as `a[i]` in a task and in a statement after it.
+pub fn use_one_index(
+    code: &Program,
+    statements: &PlacedStatements<'_>,
+    race: Race,
+    witness: &Witness,
+) -> bool {
+    let is_one_frame = !enters(&witness.pending) && !enters(&witness.later);
+    let follows = matches!(witness.meeting, RunsTogether::Follows);
+    if !is_one_frame || !follows || !matches!(witness.sharing, Sharing::Same) {
+        return false;
+    }
+    let name = section_name(procedure_of(code, race.procedure), race.first.section);
+    statements.use_one_index(race.first.label, race.second.label, name)
+}
+
+/// Returns whether a way goes into a procedure, or through a split.
+fn enters(way: &[WayStep]) -> bool {
+    for step in way {
+        if matches!(step.rule, Rule::Enter { .. } | Rule::Side) {
+            return true;
+        }
+    }
+    false
 }
 
 /// Returns whether the section of a race is an array of one element.

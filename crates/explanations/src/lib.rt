@@ -2,6 +2,7 @@
 
 #![tactic(auto)]
 
+mod all;
 mod brackets;
 mod characters;
 mod elements;

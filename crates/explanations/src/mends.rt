@@ -1,7 +1,7 @@
 //! Why two sections overlap, and how to fix the race.
 
 use crate::elements::Elements;
-use crate::names::{other_side, procedure_of, section_name};
+use crate::names::{other_side, procedure_name, procedure_of, section_name};
 use crate::starts::{are_alike, is_direct, splits_first};
 use excerpts::statements::PlacedStatements;
 use race_checker::race::Race;
@@ -66,6 +66,45 @@ fn push_same(told: &mut String, name: &str, elements: Elements) -> Result<(), Al
     }
 }
 
+/// Names for the sides of a new split.
+#[derive(Clone, Copy)]
+struct Sides {
+    left: &'static str,
+    right: &'static str,
+}
+
+/// The names that are suggested, the first of which the procedure doesn't use yet.
+const SIDE_NAMES: [Sides; 4] = [
+    Sides {
+        left: "l",
+        right: "r",
+    },
+    Sides {
+        left: "left",
+        right: "right",
+    },
+    Sides {
+        left: "low",
+        right: "high",
+    },
+    Sides {
+        left: "first",
+        right: "second",
+    },
+];
+
+/// Returns names for the sides of a new split that the text of a procedure doesn't contain.
+fn free_sides(statements: &PlacedStatements<'_>, procedure: &str) -> Sides {
+    for sides in SIDE_NAMES {
+        if !statements.has_name(procedure, sides.left)
+            && !statements.has_name(procedure, sides.right)
+        {
+            return sides;
+        }
+    }
+    SIDE_NAMES[0]
+}
+
 /// How to fix a race in such a way that the accesses still run in parallel.
 #[derive(Clone, Copy)]
 enum Advice<'c> {
@@ -78,9 +117,16 @@ enum Advice<'c> {
     /// Each task of a loop gets a part that is split off.
     Tiles,
     /// Each task of a loop, or each half of a recursion, gets a part of this section.
-    Halves(&'c str),
+    Halves {
+        name: &'c str,
+        sides: Sides,
+    },
     /// The two elements of this section, of which the larger index is this, go to two parts.
-    Between(&'c str, u64),
+    Between {
+        name: &'c str,
+        index: u64,
+        sides: Sides,
+    },
     /// The task or the call that uses `whole` gets `other`, the side of a split next to `side`.
     OtherSide {
         whole: &'c str,
@@ -107,13 +153,14 @@ fn advice_of<'c>(
     }
     let name = section_name(procedure, race.first.section);
     let is_alike = are_alike(witness);
+    let sides = free_sides(statements, procedure_name(code, race.procedure));
     if let Elements::Different(_, index) = elements {
         if is_alike || is_direct(witness) {
-            return Advice::Between(name, index);
+            return Advice::Between { name, index, sides };
         }
     }
     if matches!(witness.meeting, RunsTogether::Turns) {
-        return advice_for_loop(witness, name, elements, is_alike);
+        return advice_for_loop(witness, name, elements, is_alike, sides);
     }
     if is_alike || writes_directly(race, witness) {
         if let Some(advice) = other_side_of(procedure, statements, race, witness) {
@@ -123,7 +170,7 @@ fn advice_of<'c>(
     let is_root = other_side(procedure, race.first.section).is_none();
     match (is_alike, is_root && elements.is_one()) {
         (true, true) => Advice::Results,
-        (true, false) => Advice::Halves(name),
+        (true, false) => Advice::Halves { name, sides },
         (false, _) if are_both_ifs(statements, witness) => Advice::Else,
         (false, _) => Advice::Order,
     }
@@ -135,11 +182,12 @@ fn advice_for_loop<'c>(
     name: &'c str,
     elements: Elements,
     is_alike: bool,
+    sides: Sides,
 ) -> Advice<'c> {
     match (is_alike, elements.is_one()) {
         (true, true) => Advice::Results,
         (true, false) if splits_first(&witness.pending) => Advice::Tiles,
-        (true, false) => Advice::Halves(name),
+        (true, false) => Advice::Halves { name, sides },
         (false, true) => Advice::Order,
         (false, false) => Advice::Rounds,
     }
@@ -216,20 +264,32 @@ fn push_advice(told: &mut String, advice: Advice<'_>) -> Result<(), AllocError> 
         Advice::Else => told.push_str(ELSE),
         Advice::Tiles => told.push_str(TILES),
         Advice::Results => told.push_str(RESULTS),
-        Advice::Halves(name) => write!(
-            told,
-            "help: give each task its own part: `split {name} at len({name}) / 2 as l, r {{ .. }}`; see `afx explain parallel_loop`.\n"
-        ),
-        Advice::Between(name, index) => write!(
-            told,
-            "help: give each its own part: `split {name} at {index} as l, r {{ .. }}`; `r[0]` is then `{name}[{index}]`.\n"
-        ),
+        Advice::Halves { name, sides } => push_halves(told, name, sides),
+        Advice::Between { name, index, sides } => push_between(told, name, index, sides),
         Advice::OtherSide { whole, other, side } => { push_other_side(told, whole, other, side) }
         Advice::OneSplit(name) => write!(
             told,
             "help: split {name} only once, and then one of its sides; see `afx explain middle_part`.\n"
         ),
     }
+}
+
+/// Adds a split of a section into halves.
+fn push_halves(told: &mut String, name: &str, sides: Sides) -> Result<(), AllocError> {
+    let Sides { left, right } = sides;
+    write!(
+        told,
+        "help: give each task its own part: `split {name} at len({name}) / 2 as {left}, {right} {{ .. }}`; see `afx explain parallel_loop`.\n"
+    )
+}
+
+/// Adds a split of a section at an index.
+fn push_between(told: &mut String, name: &str, index: u64, sides: Sides) -> Result<(), AllocError> {
+    let Sides { left, right } = sides;
+    write!(
+        told,
+        "help: give each its own part: `split {name} at {index} as {left}, {right} {{ .. }}`; `{right}[0]` is then `{name}[{index}]`.\n"
+    )
 }
 
 const ELSE: &str =

@@ -1,5 +1,6 @@
 //! The text after the line of a race.
 
+use crate::all::{push_all, push_others, push_too_many, races_of};
 use crate::elements::elements_of;
 use crate::lines::push_lines;
 use crate::mends::{push_mend, push_sharing, push_unfinished};
@@ -46,6 +47,29 @@ pub fn explained(
     push_sharing(&mut told, code, race, witness.sharing, elements)?;
     push_mend(&mut told, code, &statements, race, witness, elements)?;
     Ok(told)
+}
+
+/// Adds how many other races a program has, or all its races. Adds nothing if there isn't enough
+/// memory to find them.
+pub fn push_races(
+    alloc: Global,
+    told: &mut String,
+    text: &str,
+    typed: &Typed,
+    all: bool,
+) -> Result<(), AllocError> {
+    let Some(statements) = PlacedStatements::of(alloc, text)? else {
+        return Ok(());
+    };
+    let Ok(found) = races_of(alloc, typed, &statements) else {
+        return Ok(());
+    };
+    match found {
+        Some(races) if all => push_all(alloc, told, &statements, typed, &races),
+        Some(races) => push_others(told, &races),
+        None if all => push_too_many(told),
+        None => Ok(()),
+    }
 }
 
 /// Returns two things in this order if the first access of the race is the pending one, and

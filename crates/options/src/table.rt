@@ -60,6 +60,12 @@ const FILE: Entry = Entry {
     takes: Takes::File,
 };
 
+const FILES: Entry = Entry {
+    name: "FILE",
+    help: "Program file, or - for standard input; several files come after the options",
+    takes: Takes::File,
+};
+
 const FOLDER: Entry = Entry {
     name: "FOLDER",
     help: "Folder with the test programs",
@@ -204,6 +210,12 @@ const PROGRESS: Entry = Entry {
     takes: Takes::Nothing,
 };
 
+const ALL: Entry = Entry {
+    name: "all",
+    help: "Explain the reported race, and list all pairs of statements that may race",
+    takes: Takes::NothingBut(&["format"]),
+};
+
 const EXPLAIN: Entry = Entry {
     name: "explain",
     help: "Explain an error, a fault or a stopped run [default: auto, on a terminal; always without a value]",
@@ -317,7 +329,7 @@ const CHECKED: Row = Row {
     name: "check",
     about: "Check a program for errors and races",
     example: CHECK_EXAMPLE,
-    entries: &[FILE, LIST, FORMAT, EXPLAIN, COLOR],
+    entries: &[FILES, LIST, ALL, FORMAT, EXPLAIN, COLOR],
 };
 
 const LISTED: Row = Row {
@@ -331,7 +343,7 @@ const FORMATTED: Row = Row {
     name: "fmt",
     about: "Format a program, keeping its comments",
     example: LAYOUT_EXAMPLE,
-    entries: &[FILE, CHECK, WRITE, EXPLAIN, COLOR],
+    entries: &[FILES, CHECK, WRITE, EXPLAIN, COLOR],
 };
 
 const PAIRED: Row = Row {

@@ -15,7 +15,7 @@ const PAGES: &[Page] = &[
         about: "data race",
         rule: "Two statements may run in parallel and access overlapping sections, and at least one of them writes. The message names
 the procedure and, for each access, its label, `read` or `write`, and its section. `afx list FILE` prints the labels.
-The check compares whole sections and ignores indices.",
+The check compares whole sections and ignores indices. It reports the least race; `afx check --all FILE` lists all.",
         program: [
             "main {",
             "  array a: int[1];",

@@ -11,6 +11,7 @@ mod machine;
 pub mod run;
 pub mod runs;
 pub mod seen;
+pub mod steps;
 mod stops;
 pub mod tasks;
 mod trace_lines;

@@ -3,6 +3,7 @@
 use crate::cause::Cause;
 use crate::frame::{Parent, RepeatedFrame};
 use crate::seen::{BudgetPart, Overrun, SeenFault, SeenRun};
+use crate::steps::TaskSteps;
 use crate::tried::Tried;
 use sections::id::{ArrayId, SectionId};
 use sections::window::{Place, Window};
@@ -31,11 +32,18 @@ pub struct RepeatedRun<'p> {
     /// The work that is left, with the next item last.
     left: Vec<RepeatedFrame<'p>>,
     seen: SeenRun,
+    /// The statements of the steps, if they are recorded.
+    steps: Option<TaskSteps>,
 }
 
 impl<'p> RepeatedRun<'p> {
-    /// Creates the machine at the start of the root task.
-    pub fn new(plan: Plan<'p>, input: &Input) -> Result<RepeatedRun<'p>, AllocError> {
+    /// Creates the machine at the start of the root task. Steps are added to a record, if there is
+    /// one.
+    pub fn new(
+        plan: Plan<'p>,
+        input: &Input,
+        steps: Option<TaskSteps>,
+    ) -> Result<RepeatedRun<'p>, AllocError> {
         let mut left = Vec::new(plan.alloc);
         left.push(RepeatedFrame::Block(&plan.program.main.body))?;
         Ok(RepeatedRun {
@@ -49,12 +57,18 @@ impl<'p> RepeatedRun<'p> {
                 lines: Vec::new(plan.alloc),
                 printed: 0,
             },
+            steps,
         })
     }
 
     /// Returns what was seen.
     pub fn into_seen(self) -> SeenRun {
         self.seen
+    }
+
+    /// Returns the statements of the steps, if they were recorded.
+    pub fn into_steps(self) -> Option<TaskSteps> {
+        self.steps
     }
 
     /// Does the next item of work, and returns whether there was one.
@@ -126,6 +140,9 @@ impl<'p> RepeatedRun<'p> {
         let label = stmt.label;
         if !self.thread.takes_step() {
             return self.overrun(label, BudgetPart::Steps);
+        }
+        if let Some(steps) = &mut self.steps {
+            steps.add(&self.thread.path, label)?;
         }
         match &stmt.kind {
             StmtKind::Do(primitive) => self.primitive(label, primitive),

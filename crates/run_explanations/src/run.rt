@@ -2,6 +2,7 @@
 
 use crate::machine::RepeatedRun;
 use crate::seen::SeenRun;
+use crate::steps::TaskSteps;
 use statement_steps::thread::Plan;
 use std::alloc::{AllocError, Global};
 use types::budget::Budget;
@@ -16,16 +17,44 @@ pub fn seen_again(
     input: &Input,
     budget: Budget,
 ) -> Result<SeenRun, AllocError> {
+    let machine = ended_run(alloc, typed, input, budget, None)?;
+    Ok(machine.into_seen())
+}
+
+/// Runs a program as `seen_again` does, and returns the statements at which its tasks took steps.
+pub fn steps_again(
+    alloc: Global,
+    typed: &Typed,
+    input: &Input,
+    budget: Budget,
+) -> Result<TaskSteps, AllocError> {
+    let steps = TaskSteps::new(alloc);
+    let machine = ended_run(alloc, typed, input, budget, Some(steps))?;
+    match machine.into_steps() {
+        Some(steps) => Ok(steps),
+        None => Ok(TaskSteps::new(alloc)),
+    }
+}
+
+/// Runs a program on one thread, up to its end or to the first task that is over its budget. Steps
+/// are added to a record, if there is one.
+fn ended_run<'p>(
+    alloc: Global,
+    typed: &'p Typed,
+    input: &Input,
+    budget: Budget,
+    steps: Option<TaskSteps>,
+) -> Result<RepeatedRun<'p>, AllocError> {
     let plan = Plan {
         alloc,
         program: typed.code(),
         budget,
     };
-    let mut machine = RepeatedRun::new(plan, input)?;
+    let mut machine = RepeatedRun::new(plan, input, steps)?;
     for _ in 0..u64::MAX {
         if !machine.advance()? {
             break;
         }
     }
-    Ok(machine.into_seen())
+    Ok(machine)
 }

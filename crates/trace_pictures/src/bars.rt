@@ -5,6 +5,7 @@ use crate::elements::{
     push_words,
 };
 use crate::sheet::{BAR_HEIGHT, Sheet};
+use crate::statements::Statements;
 use events::event::Event;
 use std::alloc::{AllocError, Global};
 use trace_layout::spells::{Spell, SpellEnd, Spells};
@@ -25,19 +26,22 @@ pub fn push_bars(
     alloc: Global,
     sheet: Sheet,
     spells: &Spells,
+    statements: Statements<'_>,
 ) -> Result<(), AllocError> {
-    for spell in &spells.all {
-        push_bar(text, alloc, sheet, spell)?;
+    let firsts = statements.first_labels(alloc, spells)?;
+    for (spell, label) in spells.all.iter().zip(firsts.iter()) {
+        push_bar(text, alloc, sheet, spell, statements.described(*label))?;
     }
     Ok(())
 }
 
-/// Adds a bar, with the task's path at its left if it fits.
+/// Adds a bar, with the task's path at its left if it fits. The tooltip has its first statement.
 fn push_bar(
     text: &mut String,
     alloc: Global,
     sheet: Sheet,
     spell: &Spell,
+    statement: Option<&str>,
 ) -> Result<(), AllocError> {
     let x = sheet.axis.x(spell.first);
     let y = sheet.bar(spell.worker);
@@ -52,9 +56,12 @@ fn push_bar(
     let first = spell.first;
     let last = spell.last;
     let own = spell.own;
-    let title = format!(in alloc;
+    let mut title = format!(in alloc;
         "task {path}, events {first} to {last}, {own} by the task itself"
     )?;
+    if let Some(statement) = statement {
+        write!(title, ", from {statement}")?;
+    }
     let shade = if sheet.axis.is_wide() { "p" } else { "d" };
     let colour = colour(spell);
     let class = format!(in alloc; "{shade}{colour}")?;
@@ -73,28 +80,45 @@ pub fn push_events(
     sheet: Sheet,
     events: &[Event],
     spells: &Spells,
+    statements: Statements<'_>,
 ) -> Result<(), AllocError> {
     for (number, event) in events.iter().enumerate() {
         if let Some(spell) = spells.of_event(number) {
-            push_cell(text, alloc, sheet, number, event, spell)?;
+            if is_step(event) {
+                let title = step_title(alloc, number, event, spell, statements.at(number))?;
+                push_cell(text, alloc, sheet, number, spell, title.as_str())?;
+            }
             push_mark(text, sheet, number, event, spell)?;
         }
     }
     push_edges(text, sheet, spells)
 }
 
-/// Adds the cell of a step. Other events have none.
+/// Returns the tooltip of a step: its number, its kind, its task, and its statement if it is known.
+fn step_title(
+    alloc: Global,
+    number: usize,
+    event: &Event,
+    spell: &Spell,
+    statement: Option<&str>,
+) -> Result<String, AllocError> {
+    let kind = EventKind::of(event).name();
+    let path = &spell.path;
+    match statement {
+        Some(statement) => format!(in alloc; "{number} {kind} {path}, at {statement}"),
+        None => format!(in alloc; "{number} {kind} {path}"),
+    }
+}
+
+/// Adds the cell of a step.
 fn push_cell(
     text: &mut String,
     alloc: Global,
     sheet: Sheet,
     number: usize,
-    event: &Event,
     spell: &Spell,
+    title: &str,
 ) -> Result<(), AllocError> {
-    if !is_step(event) {
-        return Ok(());
-    }
     let x = sheet.axis.x(number);
     let place = Rectangle {
         x: x + 5,
@@ -104,10 +128,7 @@ fn push_cell(
     };
     let colour = colour(spell);
     let class = format!(in alloc; "d{colour}")?;
-    let kind = EventKind::of(event).name();
-    let path = &spell.path;
-    let title = format!(in alloc; "{number} {kind} {path}")?;
-    push_titled_rectangle(text, class.as_str(), &place, title.as_str())
+    push_titled_rectangle(text, class.as_str(), &place, title)
 }
 
 /// Adds the mark of a spawn, an open or a park.

@@ -1,5 +1,6 @@
 //! The spans of a trace in the trace event format, which Perfetto and Chrome's tracing page open.
 
+use crate::statements::Statements;
 use events::event::Event;
 use events::worker_id::WorkerId;
 use std::alloc::{AllocError, Global};
@@ -10,8 +11,13 @@ use types::path::Path;
 
 /// Returns the spans of a list of events. There is one for each spell of a task in its worker's
 /// thread, with the number of an event as the time. There are also arrows from a spawn to the
-/// child's take, a mark for each steal and pass, and the number of running tasks.
-pub fn spans(alloc: Global, events: &[Event]) -> Result<String, AllocError> {
+/// child's take, a mark for each steal and pass, and the number of running tasks. A span has the
+/// first statement of its spell.
+pub fn spans(
+    alloc: Global,
+    events: &[Event],
+    statements: Statements<'_>,
+) -> Result<String, AllocError> {
     let layout = layout_of(alloc, events)?;
     let mut text = String::from_str(
         alloc,
@@ -20,8 +26,9 @@ pub fn spans(alloc: Global, events: &[Event]) -> Result<String, AllocError> {
     for number in 0..layout.lanes(0) {
         push_thread(&mut text, number)?;
     }
-    for spell in &layout.spells.all {
-        push_beginning(&mut text, spell)?;
+    let firsts = statements.first_labels(alloc, &layout.spells)?;
+    for (spell, label) in layout.spells.all.iter().zip(firsts.iter()) {
+        push_beginning(&mut text, spell, statements.described(*label))?;
         push_end(&mut text, spell)?;
     }
     for birth in &layout.moves.births {
@@ -44,7 +51,11 @@ fn push_thread(text: &mut String, number: u32) -> Result<(), AllocError> {
 }
 
 /// Adds the start of a spell, with the arrow from its spawn.
-fn push_beginning(text: &mut String, spell: &Spell) -> Result<(), AllocError> {
+fn push_beginning(
+    text: &mut String,
+    spell: &Spell,
+    statement: Option<&str>,
+) -> Result<(), AllocError> {
     let path = &spell.path;
     let depth = path.turns.len();
     let worker = spell.worker.number();
@@ -57,9 +68,28 @@ fn push_beginning(text: &mut String, spell: &Spell) -> Result<(), AllocError> {
         text,
         ",\n{{\"ph\":\"B\",\"name\":\"{path}\",\"cat\":\"depth{depth}\",\"pid\":0,\"tid\":{worker},\"ts\":{first},"
     )?;
-    write!(text, "\"args\":{{\"event\":{first},\"by\":\"{by}\"}}}}")?;
+    write!(text, "\"args\":{{\"event\":{first},\"by\":\"{by}\"")?;
+    if let Some(statement) = statement {
+        text.push_str(",\"statement\":\"")?;
+        push_escaped(text, statement)?;
+        text.push('"')?;
+    }
+    text.push_str("}}")?;
     if depth > 0 && matches!(spell.beginning, Beginning::Taken) {
         return push_arrow(text, "\"f\",\"bp\":\"e\"", spell.worker, first, path);
+    }
+    Ok(())
+}
+
+/// Adds words as they are written in a JSON string.
+fn push_escaped(text: &mut String, words: &str) -> Result<(), AllocError> {
+    for letter in words.chars() {
+        match letter {
+            '"' => text.push_str("\\\"")?,
+            '\\' => text.push_str("\\\\")?,
+            _ if letter.is_control() => text.push(' ')?,
+            _ => text.push(letter)?,
+        }
     }
     Ok(())
 }

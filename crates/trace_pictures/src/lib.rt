@@ -12,4 +12,5 @@ mod frame;
 mod heading;
 mod legend;
 mod sheet;
+pub mod statements;
 pub mod timeline;

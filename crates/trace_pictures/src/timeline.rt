@@ -11,6 +11,7 @@ use crate::frame::{push_beginning, push_grid, push_lanes};
 use crate::heading::{heading_of, numbers_of, push_heading};
 use crate::legend::{LEGEND_WIDTH, push_legend};
 use crate::sheet::Sheet;
+use crate::statements::Statements;
 use events::event::Event;
 use std::alloc::{AllocError, Global};
 use trace_layout::axis::{Axis, LEFT};
@@ -20,12 +21,13 @@ use trace_text::header::Header;
 
 /// Returns the picture of a trace under a heading: a lane for each worker with the tasks that it
 /// ran, along an axis of events; below them finishes, the number of running tasks, and a legend.
-/// Any list of events has a picture.
+/// Tooltips show the statements. Any list of events has a picture.
 pub fn draw(
     alloc: Global,
     heading: &str,
     header: &Header,
     events: &[Event],
+    statements: Statements<'_>,
 ) -> Result<String, AllocError> {
     let layout = layout_of(alloc, events)?;
     let summary = summarize(alloc, events)?;
@@ -51,7 +53,7 @@ pub fn draw(
     push_heading(&mut text, heading.as_str(), numbers.as_str())?;
     push_lanes(&mut text, alloc, sheet, &summary.by_worker)?;
     push_grid(&mut text, alloc, sheet)?;
-    push_tasks(&mut text, alloc, sheet, events, &layout)?;
+    push_tasks(&mut text, alloc, sheet, events, &layout, statements)?;
     push_steals(&mut text, alloc, sheet, &layout.moves.steals)?;
     brackets.push(&mut text, alloc, sheet, &layout.finishes)?;
     push_busy(&mut text, alloc, sheet, &layout.in_hands)?;
@@ -111,15 +113,16 @@ fn push_tasks(
     sheet: Sheet,
     events: &[Event],
     layout: &Layout,
+    statements: Statements<'_>,
 ) -> Result<(), AllocError> {
     if sheet.axis.is_wide() {
         for taking in &layout.moves.takings {
             push_taking(text, sheet, taking)?;
         }
     }
-    push_bars(text, alloc, sheet, &layout.spells)?;
+    push_bars(text, alloc, sheet, &layout.spells, statements)?;
     if sheet.axis.is_wide() {
-        push_events(text, alloc, sheet, events, &layout.spells)?;
+        push_events(text, alloc, sheet, events, &layout.spells, statements)?;
     }
     push_chain(text, sheet, &layout.chain, &layout.spells)
 }

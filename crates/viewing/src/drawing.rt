@@ -5,6 +5,7 @@ ghost use Rattle.command_line.specs.Requests.{settings as settings_of};
 ghost use Rattle.viewing.specs.Files.{WritesTo};
 ghost use Rattle.viewing.specs.Views.{IsDrawn, Views, command_of, picture_name as name_of_picture};
 
+use crate::statements::{EventStatements, statements_of};
 use crate::traces::{Trace, trace_name, trace_of};
 use command_line::request::RunOptions;
 use commands::memory::or_no_memory;
@@ -42,7 +43,9 @@ pub fn draw<R: Threads + Sync, F: FileSource, O: Write>(
 {
     let settings = question.settings;
     let trace = trace_of(rt, alloc, question, files)?;
-    let picture = or_no_memory(drawn(alloc, form, trace_name(settings), &trace))?;
+    let statements = statements_of(alloc, question, files, &trace);
+    let heading = trace_name(settings);
+    let picture = or_no_memory(drawn(alloc, form, heading, &trace, &statements))?;
     write_file(alloc, files, picture_name(settings), picture.as_bytes())?;
     answer(out, "")
 }
@@ -57,10 +60,17 @@ fn picture_name<'w>(settings: RunOptions<'w>) -> &'w str
     }
 }
 
-/// Returns a trace drawn in this form. The heading is that of a picture.
-fn drawn(alloc: Global, form: Form, heading: &str, trace: &Trace) -> Result<String, AllocError> {
+/// Returns a trace drawn in this form, with these statements. The heading is that of a picture.
+fn drawn(
+    alloc: Global,
+    form: Form,
+    heading: &str,
+    trace: &Trace,
+    statements: &EventStatements,
+) -> Result<String, AllocError> {
+    let Trace { header, events } = trace;
     match form {
-        Form::Picture => timeline::draw(alloc, heading, &trace.header, &trace.events),
-        Form::Spans => chrome::spans(alloc, &trace.events),
+        Form::Picture => timeline::draw(alloc, heading, header, events, statements.lent()),
+        Form::Spans => chrome::spans(alloc, events, statements.lent()),
     }
 }

@@ -3,5 +3,6 @@
 #![tactic(auto)]
 
 pub mod drawing;
+mod statements;
 pub mod tables;
 mod traces;

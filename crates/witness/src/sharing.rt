@@ -24,11 +24,7 @@ pub enum Sharing {
 }
 
 /// Returns why two sections may share places, or `None` if they share none.
-pub(crate) fn sharing_of(
-    sections: &SectionTree,
-    first: SectionId,
-    second: SectionId,
-) -> Option<Sharing>
+pub fn sharing_of(sections: &SectionTree, first: SectionId, second: SectionId) -> Option<Sharing>
     ensures why { IfSome result (Shares (origins_of sections.now) first.number second.number) }
     ensures some { overlap_of (origins_of sections.now) first.number second.number ≡ true
         → IsSome result }

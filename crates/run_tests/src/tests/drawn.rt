@@ -5,6 +5,7 @@ use serde_json::Value;
 use std::alloc::Global;
 use std::process::Abort;
 use trace_pictures::chrome::spans;
+use trace_pictures::statements::Statements;
 use trace_pictures::timeline::draw;
 use trace_text::header::Header;
 use trace_text::read::read_lines;
@@ -61,6 +62,30 @@ const NO_RUN: &str = "{\"format\":1,\"nest\":100,\"steps\":1000000,\"w0\":8,\"wo
 {\"e\":\"open\",\"path\":\"0\"}
 ";
 
+/// Returns the spans of events whose statements aren't known.
+fn bare_spans(rt: &impl Abort, alloc: Global, events: &[Event]) -> String {
+    let unknown = Statements {
+        labels: &[],
+        descriptions: &[],
+    };
+    spans(alloc, events, unknown).expect(rt, "memory")
+}
+
+/// Returns the picture of a trace whose statements aren't known.
+fn bare_picture(
+    rt: &impl Abort,
+    alloc: Global,
+    heading: &str,
+    header: &Header,
+    events: &[Event],
+) -> String {
+    let unknown = Statements {
+        labels: &[],
+        descriptions: &[],
+    };
+    draw(alloc, heading, header, events, unknown).expect(rt, "memory")
+}
+
 /// Parses a trace.
 fn trace(rt: &impl Abort, alloc: Global, text: &str) -> (Header, Vec<Event>) {
     read_lines(alloc, text).expect(rt, "a trace")
@@ -94,7 +119,7 @@ fn told_spans(rt: &impl Abort, alloc: Global, text: &str) -> String {
 
 /// Compares the spans of events with the expected ones.
 fn compare_spans(rt: &impl Abort, alloc: Global, events: &[Event], want: &str) {
-    let text = spans(alloc, events).expect(rt, "memory");
+    let text = bare_spans(rt, alloc, events);
     let told = told_spans(rt, alloc, text.as_str());
     assert_eq!(rt; told.as_str(), want);
 }
@@ -103,10 +128,51 @@ fn compare_spans(rt: &impl Abort, alloc: Global, events: &[Event], want: &str) {
 fn a_picture_has_its_bars_arrows_and_brackets(rt: HostRuntime) {
     let alloc = rt.alloc();
     let (header, events) = trace(&rt, alloc, TWO_WORKERS);
-    let picture = draw(alloc, "a <b> & \"c\"", &header, &events).expect(&rt, "memory");
+    let picture = bare_picture(&rt, alloc, "a <b> & \"c\"", &header, &events);
     for line in LINES_OF_ITS_PICTURE {
         assert!(rt; picture.as_str().contains(*line), "{line}");
     }
+}
+
+/// The statements of the program with two arrays, by their labels.
+const DESCRIPTIONS: &[&str] = &[
+    "",
+    "4:3 label 1  finish { .. }",
+    "5:5 label 2  async { .. }",
+    "6:7 label 3  a[0] = 7;",
+    "8:5 label 4  b[0] = \"8\";",
+    "10:3 label 5  print a[0], b[0];",
+];
+
+/// The labels of its statements at the events of two workers.
+const LABELS: &[u32] = &[0, 1, 2, 0, 0, 4, 3, 0, 0, 0, 0, 5, 0, 0];
+
+#[test]
+fn tooltips_and_spans_have_statements(rt: HostRuntime) {
+    let alloc = rt.alloc();
+    let (header, events) = trace(&rt, alloc, TWO_WORKERS);
+    let mut descriptions = Vec::new(alloc);
+    for description in DESCRIPTIONS {
+        let description = String::from_str(alloc, *description).expect(&rt, "memory");
+        descriptions.push(description).expect(&rt, "memory");
+    }
+    let statements = Statements {
+        labels: LABELS,
+        descriptions: &descriptions,
+    };
+    let picture = draw(alloc, "", &header, &events, statements).expect(&rt, "memory");
+    for line in [
+        "<title>2 spawn 0, at 5:5 label 2  async { .. }</title>",
+        "<title>5 step 0, at 8:5 label 4  b[0] = &quot;8&quot;;</title>",
+        "<title>task 0, events 0 to 7, 5 by the task itself, from 4:3 label 1  finish { .. }</title>",
+        "<title>task 0.1, events 4 to 8, 3 by the task itself, from 6:7 label 3  a[0] = 7;</title>",
+        "<title>task 0, events 10 to 12, 3 by the task itself, from 10:3 label 5  print a[0], b[0];</title>",
+    ] {
+        assert!(rt; picture.as_str().contains(line), "{line}");
+    }
+    let text = spans(alloc, &events, statements).expect(&rt, "memory");
+    let taken = "\"args\":{\"event\":4,\"by\":\"take\",\"statement\":\"6:7 label 3  a[0] = 7;\"}}";
+    assert!(rt; text.as_str().contains(taken));
 }
 
 /// Returns the number of rectangles of a class in a picture.
@@ -118,7 +184,7 @@ fn rectangles(picture: &str, class: &str) -> usize {
 fn as_many_cells_are_underlined_as_the_span_says(rt: HostRuntime) {
     let alloc = rt.alloc();
     let (header, events) = trace(&rt, alloc, TWO_WORKERS);
-    let picture = draw(alloc, "", &header, &events).expect(&rt, "memory");
+    let picture = bare_picture(&rt, alloc, "", &header, &events);
     // The legend has one more.
     assert_eq!(rt; rectangles(picture.as_str(), "<rect class=\"chain\""), 5);
     assert_eq!(rt; rectangles(picture.as_str(), "<circle class=\"back\""), 2);
@@ -135,7 +201,7 @@ fn spans_nest(rt: HostRuntime) {
 fn arrows_lead_from_spawns_to_takes(rt: HostRuntime) {
     let alloc = rt.alloc();
     let (_, events) = trace(&rt, alloc, TWO_WORKERS);
-    let text = spans(alloc, &events).expect(&rt, "memory");
+    let text = bare_spans(&rt, alloc, &events);
     let spawn =
         "{\"ph\":\"s\",\"id\":\"0.1\",\"name\":\"spawn\",\"cat\":\"spawn\",\"pid\":0,\"tid\":0,\"ts\":2}";
     let take =
@@ -148,7 +214,7 @@ fn arrows_lead_from_spawns_to_takes(rt: HostRuntime) {
 fn no_events_have_a_picture(rt: HostRuntime) {
     let alloc = rt.alloc();
     let (header, _) = trace(&rt, alloc, TWO_WORKERS);
-    let picture = draw(alloc, "", &header, &[]).expect(&rt, "memory");
+    let picture = bare_picture(&rt, alloc, "", &header, &[]);
     assert!(rt;
         picture.as_str().contains("2 workers · 0 events · 1 task · 1 finish scope · 0 steals")
     );
@@ -160,7 +226,7 @@ fn no_events_have_a_picture(rt: HostRuntime) {
 fn events_of_no_run_have_a_picture(rt: HostRuntime) {
     let alloc = rt.alloc();
     let (header, events) = trace(&rt, alloc, NO_RUN);
-    let picture = draw(alloc, "no run", &header, &events).expect(&rt, "memory");
+    let picture = bare_picture(&rt, alloc, "no run", &header, &events);
     assert!(rt; picture.as_str().contains(">worker 63</text>"));
     assert!(rt; picture.as_str().ends_with("</svg>\n"));
     compare_spans(&rt, alloc, &events, "3B2 3E3 3B3 3E12 1B4 1E12 2B5 2E9 ");

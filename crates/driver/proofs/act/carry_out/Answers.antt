@@ -1,6 +1,7 @@
-use Rattle.std.proofs.Common.{ap, refl, sym}
+use Rattle.std.proofs.Common.{ap, map, refl, sym}
 use Rattle.command_line.specs.Requests.{asked_of}
-use Rattle.command_words.specs.Orders.{AsText, AsObject, Times, Tests, command_of, order}
+use Rattle.std.specs.String.{string_bytes}
+use Rattle.command_words.specs.Orders.{AsText, AsObject, Times, Tests, Each, command_of, order}
 use Rattle.driver.specs.Acts.{in_short}
 use Rattle.driver.specs.Watching.{is_watched, is_watched_by}
 use Rattle.driver.specs.declared.doing.TextOrder.TheVariants.{Answering, Describing, Timing}
@@ -58,3 +59,15 @@ returns-in-Times-clause-watched g c =
 pub returns-in-Tests-clause-watched : goal.returns-in-Tests-clause-watched
 returns-in-Tests-clause-watched g c =
     watched_as g.T.Watch.Told _ _ (Tests c.in-Tests.folder.now) (order c.args.order) (sym (ap order c.in-Tests.is)) _ refl
+
+pub returns-in-Each-clause-acts : goal.returns-in-Each-clause-acts
+returns-in-Each-clause-acts g c =
+    let several = c.in-Each.several in
+    ordered _ _ _ _ _ _ _ _ _ (Each several.action (map string_bytes several.files.now) several.telling)
+    (order c.args.order) (sym (ap order c.in-Each.is)) c.do_with_each.ensures
+
+pub returns-in-Each-clause-watched : goal.returns-in-Each-clause-watched
+returns-in-Each-clause-watched g c =
+    let several = c.in-Each.several in
+    watched_as g.T.Watch.Told _ _ (Each several.action (map string_bytes several.files.now) several.telling)
+    (order c.args.order) (sym (ap order c.in-Each.is)) _ tt

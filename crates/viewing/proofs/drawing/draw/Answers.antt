@@ -1,4 +1,4 @@
-use Rattle.std.proofs.Common.{refl}
+use Rattle.std.proofs.Common.{refl, ◌∙◌}
 use Rattle.command_line.specs.Requests.{settings}
 use Rattle.commands.proofs.Answering.{answered}
 use Rattle.viewing.specs.Views.{AnswersTrace, ExplainsTrace, IsDrawn, command_of, picture_name}
@@ -38,7 +38,8 @@ returns-clause-picture g c =
     let s = settings c.args.question.settings in let held = g.F.FileSource.held c.args.files.now in
     let text = c.args.question.text.now in let trace = c.in_ok-trace.trace in
     wrote_anyway (picture_name s) (IsDrawn s held text) held _ c.answer.result
-    (wrote _ (picture_name s) c.picture_name.ensures (IsDrawn s held text) held _ _ c.in_ok-trace.ensures.keeps
+    (wrote _ (picture_name s) c.picture_name.ensures (IsDrawn s held text) held _ _
+    (c.statements_of-statements.ensures.keeps ∙ c.in_ok-trace.ensures.keeps)
     c.as_bytes.result.now
     (record { header = trace.header; events = trace.events.items; trace = c.in_ok-trace.ensures.trace })
     c.in_ok-write_file.ensures.written c.in_ok-write_file.ensures.others)

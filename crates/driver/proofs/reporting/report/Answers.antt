@@ -1,6 +1,6 @@
 use Rattle.std.proofs.Common.{Ok, Err}
 use Rattle.driver.proofs.Acting.{followed, reported, reported_by}
-use Rattle.driver.proofs.act.report.Goals as goal
+use Rattle.driver.proofs.reporting.report.Goals as goal
 
 pub returns-in-Ok : goal.returns-in-Ok
 returns-in-Ok g c =

@@ -1,0 +1,106 @@
+//! The statements at the events of a trace.
+
+ghost use Rattle.std.specs.Prelude.{◌≡◌};
+
+use crate::traces::Trace;
+use commands::question::Question;
+use events::event::Event;
+use excerpts::statements::PlacedStatements;
+use files::file_source::FileSource;
+use run_explanations::run::steps_again;
+use run_explanations::steps::TaskSteps;
+use std::alloc::{AllocError, Global};
+use trace_pictures::statements::Statements;
+use types::code::Label;
+
+/// The statements at the events of a trace, and their descriptions.
+#[derive(Drop)]
+pub struct EventStatements {
+    labels: Vec<Label>,
+    descriptions: Vec<String>,
+}
+
+impl EventStatements {
+    /// Returns no statements.
+    fn none(alloc: Global) -> EventStatements {
+        EventStatements {
+            labels: Vec::new(alloc),
+            descriptions: Vec::new(alloc),
+        }
+    }
+
+    /// Lends them to a picture.
+    pub fn lent(&self) -> Statements<'_> {
+        Statements {
+            labels: &self.labels,
+            descriptions: &self.descriptions,
+        }
+    }
+}
+
+/// Finds the statements at the events of a trace, by a run of the program on one thread: a task
+/// takes the same steps in each run. Returns none if memory runs out, or if a file can't be read
+/// again.
+pub fn statements_of<F: FileSource>(
+    alloc: Global,
+    question: Question<'_>,
+    files: &mut F,
+    trace: &Trace,
+) -> EventStatements
+    ensures keeps { F.held files.new ≡ F.held files.old }
+{
+    let Ok(given) = question.given(alloc, files) else {
+        return EventStatements::none(alloc);
+    };
+    let budget = trace.header.budget;
+    let Ok(steps) = steps_again(alloc, &given.typed, &given.input, budget) else {
+        return EventStatements::none(alloc);
+    };
+    match described(alloc, question.text, &trace.events, steps) {
+        Ok(statements) => statements,
+        Err(AllocError) => EventStatements::none(alloc),
+    }
+}
+
+/// Returns the statements at events, given those at which tasks take their steps.
+fn described(
+    alloc: Global,
+    text: &str,
+    events: &[Event],
+    steps: TaskSteps,
+) -> Result<EventStatements, AllocError> {
+    Ok(EventStatements {
+        labels: labels_at(alloc, events, steps)?,
+        descriptions: descriptions_in(alloc, text)?,
+    })
+}
+
+/// Returns the label of the statement at each event, or 0.
+fn labels_at(alloc: Global, events: &[Event], steps: TaskSteps) -> Result<Vec<Label>, AllocError> {
+    let mut steps = steps;
+    let mut labels = Vec::new(alloc);
+    for event in events {
+        let label = match event {
+            Event::Step { path } | Event::Spawn { path } | Event::Open { path } => steps.take_next(
+                path,
+            ),
+            _ => None,
+        };
+        labels.push(label.unwrap_or(0))?;
+    }
+    Ok(labels)
+}
+
+/// Returns the description of each statement of a text, by its label.
+fn descriptions_in(alloc: Global, text: &str) -> Result<Vec<String>, AllocError> {
+    let mut descriptions = Vec::new(alloc);
+    let Some(statements) = PlacedStatements::of(alloc, text)? else {
+        return Ok(descriptions);
+    };
+    descriptions.push(String::new(alloc))?;
+    for number in 0..statements.places.len() {
+        let label = Label::try_from(number).unwrap_or(0).saturating_add(1);
+        descriptions.push(statements.described(label)?)?;
+    }
+    Ok(descriptions)
+}
