@@ -5,8 +5,8 @@ ghost use Rattle.command_line.specs.Requests.{settings as settings_of};
 ghost use Rattle.viewing.specs.Files.{WritesTo};
 ghost use Rattle.viewing.specs.Views.{IsDrawn, Views, command_of, picture_name as name_of_picture};
 
-use crate::statements::{EventStatements, statements_of};
-use crate::traces::{Trace, trace_name, trace_of};
+use crate::statements::statements_of;
+use crate::traces::{JudgedTrace, trace_name, trace_of};
 use command_line::request::RunOptions;
 use commands::memory::or_no_memory;
 use commands::question::Question;
@@ -42,10 +42,8 @@ pub fn draw<R: Threads + Sync, F: FileSource, O: Write>(
         (IsDrawn s (F.held files.old) question.entry.text.now) (F.held files.old) (F.held files.new) result }
 {
     let settings = question.settings;
-    let trace = trace_of(rt, alloc, question, files)?;
-    let statements = statements_of(alloc, question, files, &trace);
-    let heading = trace_name(settings);
-    let picture = or_no_memory(drawn(alloc, form, heading, &trace, &statements))?;
+    let judged = trace_of(rt, alloc, question, files)?;
+    let picture = or_no_memory(drawn(alloc, form, question, &judged))?;
     write_file(alloc, files, picture_name(settings), picture.as_bytes())?;
     answer(out, "")
 }
@@ -60,17 +58,23 @@ fn picture_name<'w>(settings: RunOptions<'w>) -> &'w str
     }
 }
 
-/// Returns a trace drawn in this form, with these statements. The heading is that of a picture.
+/// Returns a trace drawn in this form, with the statements at its events.
 fn drawn(
     alloc: Global,
     form: Form,
-    heading: &str,
-    trace: &Trace,
-    statements: &EventStatements,
+    question: Question<'_>,
+    judged: &JudgedTrace,
 ) -> Result<String, AllocError> {
-    let Trace { header, events } = trace;
+    let JudgedTrace { trace, .. } = judged;
+    let statements = statements_of(alloc, question.text, judged)?;
     match form {
-        Form::Picture => timeline::draw(alloc, heading, header, events, statements.lent()),
-        Form::Spans => chrome::spans(alloc, events, statements.lent()),
+        Form::Picture => timeline::draw(
+            alloc,
+            trace_name(question.settings),
+            &trace.header,
+            &trace.events,
+            statements.lent(),
+        ),
+        Form::Spans => chrome::spans(alloc, &trace.events, statements.lent()),
     }
 }

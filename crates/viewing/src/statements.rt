@@ -1,12 +1,8 @@
 //! The statements at the events of a trace.
 
-ghost use Rattle.std.specs.Prelude.{◌≡◌};
-
-use crate::traces::Trace;
-use commands::question::Question;
+use crate::traces::JudgedTrace;
 use events::event::Event;
 use excerpts::statements::PlacedStatements;
-use files::file_source::FileSource;
 use run_explanations::run::steps_again;
 use run_explanations::steps::TaskSteps;
 use std::alloc::{AllocError, Global};
@@ -21,14 +17,6 @@ pub struct EventStatements {
 }
 
 impl EventStatements {
-    /// Returns no statements.
-    fn none(alloc: Global) -> EventStatements {
-        EventStatements {
-            labels: Vec::new(alloc),
-            descriptions: Vec::new(alloc),
-        }
-    }
-
     /// Lends them to a picture.
     pub fn lent(&self) -> Statements<'_> {
         Statements {
@@ -39,27 +27,17 @@ impl EventStatements {
 }
 
 /// Finds the statements at the events of a trace, by a run of the program on one thread: a task
-/// takes the same steps in each run. Returns none if memory runs out, or if a file can't be read
-/// again.
-pub fn statements_of<F: FileSource>(
+/// takes the same steps in each run.
+pub fn statements_of(
     alloc: Global,
-    question: Question<'_>,
-    files: &mut F,
-    trace: &Trace,
-) -> EventStatements
-    ensures keeps { F.held files.new ≡ F.held files.old }
-{
-    let Ok(given) = question.given(alloc, files) else {
-        return EventStatements::none(alloc);
-    };
+    text: &str,
+    judged: &JudgedTrace,
+) -> Result<EventStatements, AllocError> {
+    let given = &judged.given;
+    let trace = &judged.trace;
     let budget = trace.header.budget;
-    let Ok(steps) = steps_again(alloc, &given.typed, &given.input, budget) else {
-        return EventStatements::none(alloc);
-    };
-    match described(alloc, question.text, &trace.events, steps) {
-        Ok(statements) => statements,
-        Err(AllocError) => EventStatements::none(alloc),
-    }
+    let steps = steps_again(alloc, given.accepted.typed(), &given.input, budget)?;
+    described(alloc, text, &trace.events, steps)
 }
 
 /// Returns the statements at events, given those at which tasks take their steps.

@@ -40,8 +40,8 @@ pub fn view<R: Threads + Sync, F: FileSource, O: Write>(
         question.entry.text.now (O.contents out.old) (O.contents out.new) result }
     ensures keeps { F.held files.new ≡ F.held files.old }
 {
-    let trace = trace_of(rt, alloc, question, files)?;
-    let told = or_no_memory(shown(alloc, look, &trace))?;
+    let judged = trace_of(rt, alloc, question, files)?;
+    let told = or_no_memory(shown(alloc, look, &judged.trace))?;
     answer(out, told.as_str())
 }
 

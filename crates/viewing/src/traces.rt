@@ -9,7 +9,7 @@ ghost use Rattle.viewing.specs.Views.{AreLegal, HasTrace, HoldsTrace, TellsIlleg
 ghost use Rattle.viewing.specs.Views.{TellsNoTrace, trace_name as name_of_trace};
 
 use command_line::request::RunOptions;
-use commands::question::Question;
+use commands::question::{Begun, Question};
 use event_worlds::error::ReplayError;
 use event_worlds::job::WeightedJob;
 use event_worlds::laws::replays_refuse_the_first;
@@ -31,15 +31,22 @@ pub struct Trace {
     pub events: Vec<Event>,
 }
 
+/// A trace, with the program and the input of its run.
+#[derive(Drop)]
+pub struct JudgedTrace {
+    pub given: Begun,
+    pub trace: Trace,
+}
+
 /// Returns the requested trace, if it is one of the text's program on the input.
 pub fn trace_of<R: Threads + Sync, F: FileSource>(
     rt: &R,
     alloc: Global,
     question: Question<'_>,
     files: &mut F,
-) -> Result<Trace, Failure>
+) -> Result<JudgedTrace, Failure>
     ensures trace { IfOk result (λ t. HasTrace (settings_of question.entry.settings) (F.held files.old)
-        question.entry.text.now t.header t.events.items) }
+        question.entry.text.now t.trace.header t.trace.events.items) }
     ensures why { IfErr result (TellsNoTrace (settings_of question.entry.settings) (F.held files.old)
         question.entry.text.now) }
     ensures keeps { F.held files.new ≡ F.held files.old }
@@ -47,7 +54,7 @@ pub fn trace_of<R: Threads + Sync, F: FileSource>(
     let given = question.begun(rt, alloc, files)?;
     let trace = trace_in(alloc, files, trace_name(question.settings))?;
     judge(alloc, &given.accepted, &given.input, &trace)?;
-    Ok(trace)
+    Ok(JudgedTrace { given, trace })
 }
 
 /// Returns the name of the trace's file.

@@ -6,28 +6,28 @@ use Rattle.viewing.proofs.Viewing.{draws_form, form_tells, views_no_trace, views
 use Rattle.viewing.proofs.Written.{wrote, wrote_anyway}
 use Rattle.viewing.proofs.drawing.draw.Goals as goal
 
-pub returns-in_err-trace-clause-done : goal.returns-in_err-trace-clause-done
-returns-in_err-trace-clause-done g c =
+pub returns-in_err-judged-clause-done : goal.returns-in_err-judged-clause-done
+returns-in_err-judged-clause-done g c =
     let s = settings c.args.question.settings in let held = g.F.FileSource.held c.args.files.now in
     views_no_trace s held c.args.question.text.now (command_of c.args.form) _ _ _ c.from_residual.ensures.1
-    c.in_err-trace.ensures.why
+    c.in_err-judged.ensures.why
 
 pub returns-in_err-write_file-clause-done : goal.returns-in_err-write_file-clause-done
 returns-in_err-write_file-clause-done g c =
     let s = settings c.args.question.settings in let held = g.F.FileSource.held c.args.files.now in
     views_unwritten s held c.args.question.text.now (command_of c.args.form) (draws_form c.args.form) _ _
-    c.in_ok-trace.ensures.trace _ c.picture_name.ensures _ _ _ c.from_residual-in_err-write_file.ensures.1
+    c.in_ok-judged.ensures.trace _ c.picture_name.ensures _ _ _ c.from_residual-in_err-write_file.ensures.1
     c.in_err-write_file.ensures.why
 
 pub returns-clause-done : goal.returns-clause-done
 returns-clause-done g c =
     let s = settings c.args.question.settings in let held = g.F.FileSource.held c.args.files.now in
-    let text = c.args.question.text.now in let by = command_of c.args.form in let trace = c.in_ok-trace.trace in
+    let text = c.args.question.text.now in let by = command_of c.args.form in let trace = c.in_ok-judged.judged.trace in
     answered (AnswersTrace by s held text) (ExplainsTrace by s held text) _ _ c.answer.result _ 0 tt
     (record {
       header = trace.header;
       events = trace.events.items;
-      trace = c.in_ok-trace.ensures.trace;
+      trace = c.in_ok-judged.ensures.trace;
       tells = form_tells c.args.form trace.header trace.events.items;
       status_is = refl;
     })
@@ -36,11 +36,10 @@ returns-clause-done g c =
 pub returns-clause-picture : goal.returns-clause-picture
 returns-clause-picture g c =
     let s = settings c.args.question.settings in let held = g.F.FileSource.held c.args.files.now in
-    let text = c.args.question.text.now in let trace = c.in_ok-trace.trace in
+    let text = c.args.question.text.now in let trace = c.in_ok-judged.judged.trace in
     wrote_anyway (picture_name s) (IsDrawn s held text) held _ c.answer.result
-    (wrote _ (picture_name s) c.picture_name.ensures (IsDrawn s held text) held _ _
-    (c.statements_of-statements.ensures.keeps ∙ c.in_ok-trace.ensures.keeps)
+    (wrote _ (picture_name s) c.picture_name.ensures (IsDrawn s held text) held _ _ c.in_ok-judged.ensures.keeps
     c.as_bytes.result.now
-    (record { header = trace.header; events = trace.events.items; trace = c.in_ok-trace.ensures.trace })
+    (record { header = trace.header; events = trace.events.items; trace = c.in_ok-judged.ensures.trace })
     c.in_ok-write_file.ensures.written c.in_ok-write_file.ensures.others)
     c.answer.ensures.failure
