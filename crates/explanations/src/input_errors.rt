@@ -57,7 +57,7 @@ fn place_in(text: &str, line: usize, byte: usize) -> TextPlace {
         column: 1,
     };
     let characters = characters_of(line_of(text, place), byte);
-    place.column = u32::try_from(characters).unwrap_or(1);
+    place.column = u32::try_from(characters).unwrap_or(1).max(1);
     place
 }
 
