@@ -5,8 +5,8 @@ use Rattle.std.specs.Str.{bytes_eq}
 use Rattle.std.specs.String.{string_bytes}
 use Rattle.std.proofs.Common.{true≢false, Global, String}
 use Rattle.std.proofs.lemmas.Slice.Eq.{bytes_eq-Decides}
-use Rattle.command_line.specs.Requests.{Asked, Asks, is_file_name}
-use Rattle.command_words.specs.Orders.{Order, AsText, AsObject, Times, Tests, Each, Orders, AsksForObject, IsTimed}
+use Rattle.command_line.specs.Requests.{Asked, Asks}
+use Rattle.command_words.specs.Orders.{Order, AsText, AsObject, Times, Tests, Each, Orders, AsksForObject, IsTested, IsTimed}
 use Rattle.command_words.specs.Orders.{subject_of}
 use Rattle.command_words.specs.Reading.{taken}
 use Rattle.command_words.specs.declared.order.Subject.{Subject}
@@ -82,7 +82,7 @@ pub none_asked : (o : Order) → Orders [] o → IsAsked [] o
 none_asked (AsText a) asks = record { a = a; is = refl; asks = asks }
 none_asked (AsObject x a) p = absurd (none_begins p.command (codes "--format" ∷ codes "json" ∷ p.behind) p.words_are)
 none_asked (Times a) p = absurd (none_begins (codes "bench") p.behind p.words_are)
-none_asked (Tests folder) p = absurd (none_begins (codes "test") (folder ∷ []) p.words_are)
+none_asked (Tests a) p = absurd (none_begins (codes "test") p.behind p.words_are)
 none_asked (Each x files t) p = absurd p
 
 pub no_words : (ws : List (String Global)) → length ws < 1 → map string_bytes ws ≡ []
@@ -95,14 +95,14 @@ module _ (command : List ℕ) (behind : List (List ℕ)) where
   -- a command without a request orders a timing or a test
   orders_else : (P : Order → Type 0) → ((others : List (List ℕ)) (a : Asked) → Asks (command ∷ others) a → ⊥)
       → ((a : Asked) → Orders (command ∷ behind) (Times a) → P (Times a))
-      → ((folder : List ℕ) → Orders (command ∷ behind) (Tests folder) → P (Tests folder))
+      → ((a : Asked) → Orders (command ∷ behind) (Tests a) → P (Tests a))
       → (o : Order) → Orders (command ∷ behind) o → P o
   orders_else P nothing times tests (AsText a) asks = absurd (nothing behind a asks)
   orders_else P nothing times tests (AsObject x a) p =
       let first = head_is command p.command behind (codes "--format" ∷ codes "json" ∷ p.behind) p.words_are in
       absurd (nothing p.behind a (subst (λ (c : List ℕ). Asks (c ∷ p.behind) a) (sym first) p.asks))
   orders_else P nothing times tests (Times a) p = times a p
-  orders_else P nothing times tests (Tests folder) p = tests folder p
+  orders_else P nothing times tests (Tests a) p = tests a p
   orders_else P nothing times tests (Each x files t) p = absurd p
 
   -- `bench` orders a timing
@@ -114,16 +114,18 @@ module _ (command : List ℕ) (behind : List (List ℕ)) where
       (λ a p.
       let others = tail_is command (codes "bench") behind p.behind p.words_are in
       times a (subst (λ (ws : List (List ℕ)). Asks (codes "run" ∷ ws) a) (sym others) p.asks) p.timed)
-      (λ folder p. absurd (test_is_bench (sym (head_is command (codes "test") behind (folder ∷ []) p.words_are) ∙ is)))
+      (λ a p. absurd (test_is_bench (sym (head_is command (codes "test") behind p.behind p.words_are) ∙ is)))
 
   -- `test` orders a test
   pub test_tests : (P : Order → Type 0) → command ≡ codes "test"
-      → ((folder : List ℕ) → IsTrue (is_file_name folder) → behind ≡ folder ∷ [] → P (Tests folder))
+      → ((a : Asked) → Asks (codes "run" ∷ behind) a → IsTested a → P (Tests a))
       → (o : Order) → Orders (command ∷ behind) o → P o
   test_tests P is tests =
       orders_else P (λ others a asks. test_asks_nothing others a (subst (λ (c : List ℕ). Asks (c ∷ others) a) is asks))
       (λ a p. absurd (test_is_bench (sym is ∙ head_is command (codes "bench") behind p.behind p.words_are)))
-      (λ folder p. tests folder p.named (tail_is command (codes "test") behind (folder ∷ []) p.words_are))
+      (λ a p.
+      let others = tail_is command (codes "test") behind p.behind p.words_are in
+      tests a (subst (λ (ws : List (List ℕ)). Asks (codes "run" ∷ ws) a) (sym others) p.asks) p.tested)
 
   -- no other command orders a timing or a test
   pub told_only : (P : Order → Type 0) → (command ≡ codes "test" → ⊥) → (command ≡ codes "bench" → ⊥)
@@ -134,6 +136,6 @@ module _ (command : List ℕ) (behind : List (List ℕ)) where
   told_only P no_test no_bench text object (AsObject x a) p = object x a p
   told_only P no_test no_bench text object (Times a) p =
       absurd (no_bench (head_is command (codes "bench") behind p.behind p.words_are))
-  told_only P no_test no_bench text object (Tests folder) p =
-      absurd (no_test (head_is command (codes "test") behind (folder ∷ []) p.words_are))
+  told_only P no_test no_bench text object (Tests a) p =
+      absurd (no_test (head_is command (codes "test") behind p.behind p.words_are))
   told_only P no_test no_bench text object (Each x files t) p = absurd p

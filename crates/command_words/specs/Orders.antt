@@ -2,7 +2,7 @@
 -- the programs of a folder; or to answer for several programs, one after the other.
 use Rattle.std.specs.Prelude.{ℕ, ◌≡◌, Bool, true, false, List, [], ◌∷◌, Option, None, Some, IsTrue, codes, map}
 use Rattle.std.specs.String.{string_bytes}
-use Rattle.command_line.specs.Requests.{Asked, Asks, asked_of, is_file_name}
+use Rattle.command_line.specs.Requests.{Asked, Asks, asked_of, usual_telling}
 use Rattle.command_line.specs.declared.request.Action.{Action}
 use Rattle.command_line.specs.declared.request.Action.TheVariants.{Answer, Rewrite}
 use Rattle.command_line.specs.declared.request.Command.{Command}
@@ -21,14 +21,14 @@ pub data Order : Type 0 where
   AsText : (a : Asked) → Order
   AsObject : (x : Subject) → (a : Asked) → Order
   Times : (a : Asked) → Order
-  Tests : (folder : List ℕ) → Order
+  Tests : (a : Asked) → Order
   Each : (x : Action) → (files : List (List ℕ)) → (t : Telling) → Order
 
 abbrev pub order : rOrder → Order
 order (rAsText request) = AsText (asked_of request)
 order (rAsObject x request) = AsObject x (asked_of request)
 order (rTimes request) = Times (asked_of request)
-order (rTests folder) = Tests folder.now
+order (rTests request) = Tests (asked_of request)
 order (rEach several) = Each several.action (map string_bytes several.files.now) several.telling
 
 -- a command whose answer can be written as one object
@@ -72,17 +72,26 @@ pub record AsksToTime (words : List (List ℕ)) (a : Asked) : Type 0 where
   pub timed : IsTimed a
   pub words_are : words ≡ codes "bench" ∷ behind
 
--- `test` is followed by the name of a folder
-pub record AsksToTest (words : List (List ℕ)) (folder : List ℕ) : Type 0 where
-  pub named : IsTrue (is_file_name folder)
-  pub words_are : words ≡ codes "test" ∷ folder ∷ []
+-- a parallel run on no input that isn't recorded, whose arrays aren't shown and that is reported by default
+pub record IsTested (a : Asked) : Type 0 where
+  pub timed : IsTimed a
+  pub without_input : a.settings.input ≡ None
+  pub told : a.telling ≡ usual_telling
+
+-- `test` is followed by what can follow `run` without an input, a trace, arrays and reporting options: the file is
+-- a folder
+pub record AsksToTest (words : List (List ℕ)) (a : Asked) : Type 0 where
+  pub behind : List (List ℕ)
+  pub asks : Asks (codes "run" ∷ behind) a
+  pub tested : IsTested a
+  pub words_are : words ≡ codes "test" ∷ behind
 
 -- the arguments order this
 abbrev pub Orders : (words : List (List ℕ)) → Order → Type 0
 Orders words (AsText a) = Asks words a
 Orders words (AsObject x a) = AsksForObject words x a
 Orders words (Times a) = AsksToTime words a
-Orders words (Tests folder) = AsksToTest words folder
+Orders words (Tests a) = AsksToTest words a
 -- which arguments order this isn't specified
 Orders words (Each x files t) = ⊥
 
@@ -91,5 +100,5 @@ abbrev pub names_once : Order → Bool
 names_once (AsText a) = asks_once a
 names_once (AsObject x a) = asks_once a
 names_once (Times a) = asks_once a
-names_once (Tests folder) = true
+names_once (Tests a) = asks_once a
 names_once (Each x files t) = true

@@ -47,7 +47,7 @@ fn described(alloc: Global, given: Option<&ArgMatches<'_>>) -> Result<Reply, All
 fn ordered<'w>(alloc: Global, asked: Option<(&str, &ArgMatches<'w>)>) -> Result<Order<'w>, Error> {
     match asked {
         Some(("bench", given)) => Ok(Order::Times(request(alloc, Command::Run, given)?)),
-        Some(("test", given)) => Ok(Order::Tests(given.get_str("FOLDER").unwrap_or("-"))),
+        Some(("test", given)) => Ok(Order::Tests(request(alloc, Command::Run, given)?)),
         asked => Ok(told(asked, request_asked(alloc, asked)?)),
     }
 }
@@ -170,7 +170,7 @@ fn request<'w>(
 fn asking<'w>(alloc: Global, action: Action, given: &ArgMatches<'w>) -> Result<Request<'w>, Error> {
     Ok(Request {
         action,
-        file: given.get_str("FILE").unwrap_or("-"),
+        file: file(given),
         settings: RunOptions {
             input: given.get_str("input"),
             budget: budget(alloc, given)?,
@@ -183,6 +183,14 @@ fn asking<'w>(alloc: Global, action: Action, given: &ArgMatches<'w>) -> Result<R
         },
         telling: telling(given),
     })
+}
+
+/// Returns the file of a program, or the folder of several.
+fn file<'w>(given: &ArgMatches<'w>) -> &'w str {
+    match given.get_str("FILE") {
+        Some(file) => file,
+        None => given.get_str("FOLDER").unwrap_or("-"),
+    }
 }
 
 /// Returns the reporting options. `clap` has checked that their values are possible ones. A list of

@@ -17,7 +17,7 @@ pub enum Order<'w> {
     /// `bench`: a program whose runs are timed.
     Times(Request<'w>),
     /// `test`: a folder whose programs are run; their results are compared with the expected ones.
-    Tests(&'w str),
+    Tests(Request<'w>),
     /// `check` or `fmt` of several files, one after the other.
     Each(Several<'w>),
 }
@@ -36,9 +36,11 @@ impl Order<'_> {
         ensures { result ≡ names_once_in (order_said self.now) }
     {
         match self {
-            Order::AsText(request) | Order::AsObject(_, request) | Order::Times(request) =>
-                names_once(request),
-            Order::Tests(_) | Order::Each(_) => true,
+            Order::AsText(request)
+            | Order::AsObject(_, request)
+            | Order::Times(request)
+            | Order::Tests(request) => names_once(request),
+            Order::Each(_) => true,
         }
     }
 }

@@ -1,23 +1,23 @@
 //! The arguments of a command line.
 
 ghost use Rattle.std.specs.Prelude.{ℕ, ◌≡◌, ◌∷◌, [], List, map, Some, true, false, codes};
-ghost use Rattle.std.specs.Prelude.{IfOk, IsErrAnd, IsOkAnd, IsSomeAnd, IsTrue};
+ghost use Rattle.std.specs.Prelude.{IfOk, IsErrAnd, IsOkAnd, IsSomeAnd};
 ghost use Rattle.std.specs.String.{string_bytes};
 ghost use Rattle.command_words.specs.Orders.{AsText, AsObject, Times, Tests, Order as OrderIn, Orders};
-ghost use Rattle.command_words.specs.Orders.{AsksForObject, IsTimed, names_once, order as order_said, subject_of};
+ghost use Rattle.command_words.specs.Orders.{AsksForObject, IsTested, IsTimed, names_once, order as order_said, subject_of};
 ghost use Rattle.command_words.specs.declared.order.Subject.{Subject as SubjectOf};
 ghost use Rattle.command_words.specs.Reading.{line_of};
 ghost use Rattle.command_line.specs.Requests.{AreRight, Asked, Asks, Options, asked_of};
-ghost use Rattle.command_line.specs.Requests.{acting, is_file_name as names_file, texts_by};
+ghost use Rattle.command_line.specs.Requests.{acting, texts_by, usual_telling};
 ghost use Rattle.options.specs.Replies.{IsConflict};
 
 use crate::by_clap::order_by_clap;
 use crate::order::{Order, Subject};
-use crate::plain::{PlainLine, is_file_name, line_in, line_of_none};
+use crate::plain::{PlainLine, line_in, line_of_none};
 use crate::settings::settings_in;
 use crate::several::several_in;
 use crate::taking::take;
-use command_line::request::{Request, Telling};
+use command_line::request::{Color, Explain, Request, Telling};
 use options::reply::{self, Reply};
 use std::alloc::Global;
 
@@ -132,21 +132,56 @@ fn timed<'w>(request: Request<'w>) -> Option<Order<'w>>
     }
 }
 
-/// Returns the order of the arguments after `test`.
+/// Returns the order of the arguments after `test`: what can follow `run`, except an input, a
+/// trace, arrays and reporting options.
 fn tests_in<'w>(behind: &'w [String]) -> Option<Order<'w>>
-    ensures { (folder : List ℕ) → IsTrue (names_file folder)
-        → map string_bytes behind.now ≡ folder ∷ []
-        → IsSomeAnd result (λ r. order_said r ≡ Tests folder) }
+    ensures { (a : Asked) → Asks (codes "run" ∷ map string_bytes behind.now) a
+        → IsTested a → IsSomeAnd result (λ r. order_said r ≡ Tests a) }
 {
-    match behind {
-        [folder] => {
-            if is_file_name(folder.as_str()) {
-                Some(Order::Tests(folder.as_str()))
-            } else {
-                None
-            }
-        }
+    let request = asked_in("run", behind)?;
+    match Subject::of(request.action)? {
+        Subject::Run => tested(request),
         _ => None,
+    }
+}
+
+/// Returns the order to test programs as requested, if there is no input and no trace, the arrays
+/// aren't shown, and it is reported by default.
+fn tested<'w>(request: Request<'w>) -> Option<Order<'w>>
+    ensures { IsTested (asked_of request.entry)
+        → IsSomeAnd result (λ r. order_said r ≡ Tests (asked_of request.entry)) }
+{
+    match request.settings.input {
+        Some(_) => None,
+        None => match timed(request) {
+            Some(_) => reported_usually(request),
+            None => None,
+        },
+    }
+}
+
+/// Returns the order to test programs as requested, if it is reported by default.
+fn reported_usually<'w>(request: Request<'w>) -> Option<Order<'w>>
+    ensures { request.entry.telling ≡ usual_telling
+        → IsSomeAnd result (λ r. order_said r ≡ Tests (asked_of request.entry)) }
+{
+    if is_usual(request.telling) {
+        Some(Order::Tests(request))
+    } else {
+        None
+    }
+}
+
+/// Returns whether these are the default reporting options.
+fn is_usual(telling: Telling) -> bool
+    ensures { telling ≡ usual_telling → result ≡ true }
+{
+    match telling.explain {
+        Explain::AtTerminal => match telling.color {
+            Color::Auto => !telling.all,
+            _ => false,
+        },
+        _ => false,
     }
 }
 

@@ -48,9 +48,9 @@ module _ (held later : Held) (old new err_old err_new : Option (List ℕ)) (stat
   }
 
 module _ (named : Folders) (held later : Held) (old new err_old err_new : Option (List ℕ)) (status : ℕ) where
-  pub tested_as : (folder : List ℕ) (r : Result ℕ Failure) → TestsFolder named held later folder old new r
-      → Reports false err_old err_new r status → TestsAs folder named held later old new err_old err_new status
-  tested_as folder r does reports = record { result = r; does = does; reports = reports }
+  pub tested_as : (a : Asked) (r : Result ℕ Failure) → TestsFolder named held later a old new r
+      → Reports false err_old err_new r status → TestsAs a named held later old new err_old err_new status
+  tested_as a r does reports = record { result = r; does = does; reports = reports }
 
   -- one order is another
   pub ordered : (at_terminal : Bool) (o p : Order) → o ≡ p

@@ -87,10 +87,10 @@ TimesAs at_terminal a held later old new err_old err_new status =
     ActsWith at_terminal Timing a held later old new err_old err_new status
 
 -- the programs of a folder were tested, and that was reported
-abbrev pub TestsAs : (folder : List ℕ) → Folders → (held later : Held) → (old new : Option (List ℕ))
+abbrev pub TestsAs : (a : Asked) → Folders → (held later : Held) → (old new : Option (List ℕ))
     → (err_old err_new : Option (List ℕ)) → (status : ℕ) → Type 0
-TestsAs folder named held later old new err_old err_new status =
-    ActsBy (TestsFolder named held later folder old new) false err_old err_new status
+TestsAs a named held later old new err_old err_new status =
+    ActsBy (TestsFolder named held later a old new) false err_old err_new status
 
 -- ---- several files, one after the other
 
@@ -134,7 +134,7 @@ ActsOn at_terminal (AsObject x a) named held later old new err_old err_new statu
     TellsAs at_terminal x a held later old new err_old err_new status
 ActsOn at_terminal (Times a) named held later old new err_old err_new status =
     TimesAs at_terminal a held later old new err_old err_new status
-ActsOn at_terminal (Tests folder) named held later old new err_old err_new status =
-    TestsAs folder named held later old new err_old err_new status
+ActsOn at_terminal (Tests a) named held later old new err_old err_new status =
+    TestsAs a named held later old new err_old err_new status
 ActsOn at_terminal (Each x files t) named held later old new err_old err_new status =
     ActsOnEach (is_explained t.explain at_terminal) x t held old err_old files later new err_new status

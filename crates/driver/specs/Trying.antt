@@ -1,7 +1,7 @@
 -- Programs run in several ways: timed, and tested.
 use Rattle.std.specs.Prelude.{ℕ, ◌≡◌, List, Option, Result}
 use Rattle.commands.specs.Answers.{Done, Explains}
-use Rattle.command_line.specs.Requests.{Settings}
+use Rattle.command_line.specs.Requests.{Asked, Settings}
 use Rattle.command_line.specs.declared.request.Command.TheVariants.{Run}
 use Rattle.files.specs.Held.{Held}
 use Rattle.failures.specs.declared.failure.Failure.{Failure}
@@ -15,8 +15,8 @@ pub record TimesRuns (s : Settings) (text : List ℕ) (held later : Held)
   pub done : Done (AnswersTimes s held text) (Explains Run s held text) old new r
   pub keeps : later ≡ held
 
--- the programs of the folder were tested, or there is a reason why not; files are unchanged
-pub record TestsFolder (named : Folders) (held later : Held) (folder : List ℕ) (old new : Option (List ℕ))
+-- the programs of a folder were tested as requested, or there is a reason why not; files are unchanged
+pub record TestsFolder (named : Folders) (held later : Held) (a : Asked) (old new : Option (List ℕ))
     (r : Result ℕ Failure) : Type 0 where
-  pub done : Done (AnswersTest named held folder) (ExplainsTest named folder) old new r
+  pub done : Done (AnswersTest named held a.file a.settings) (ExplainsTest named a.file) old new r
   pub keeps : later ≡ held

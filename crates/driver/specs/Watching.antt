@@ -57,5 +57,5 @@ module _ {W : Type 0} (Told : List ℕ → W → W → Type 0) where
   WatchesOrder (AsText a) status old new = WatchesTo (is_watched_by a.action a.settings) status old new
   WatchesOrder (AsObject x a) status old new = WatchesTo (is_watched (command_of x) a.settings) status old new
   WatchesOrder (Times a) status old new = Unit {0}
-  WatchesOrder (Tests folder) status old new = new ≡ old
+  WatchesOrder (Tests a) status old new = new ≡ old
   WatchesOrder (Each x files t) status old new = Unit {0}

@@ -57,8 +57,8 @@ pub fn act<R: Threads + Wait + Sync, F: FolderSource, O: Write, E: Write, T: Ter
     ensures timed { (a : Asked) → AsksToTime (map string_bytes words.now) a → names_once a ≡ true
         → TimesAs (T.seen terminal.old) a (F.held files.old) (F.held files.new) (O.contents out.old) (O.contents out.new)
         (E.contents err.old) (E.contents err.new) result }
-    ensures tested { (folder : List ℕ) → AsksToTest (map string_bytes words.now) folder
-        → TestsAs folder (F.named files.old) (F.held files.old) (F.held files.new)
+    ensures tested { (a : Asked) → AsksToTest (map string_bytes words.now) a → names_once a ≡ true
+        → TestsAs a (F.named files.old) (F.held files.old) (F.held files.new)
         (O.contents out.old) (O.contents out.new) (E.contents err.old) (E.contents err.new) result }
     ensures twice { (o : OrderIn) → Orders (map string_bytes words.now) o → order_names_once o ≡ false
         → (F.held files.new ≡ F.held files.old) × TellsMistake (O.contents out.old) (O.contents out.new)
@@ -124,8 +124,8 @@ fn carry_out<R: Threads + Wait + Sync, F: FolderSource, O: Write, E: Write, T: T
             let done = read_and_do(rt, alloc, ordered, files, out, terminal);
             report(done, explains, err)
         }
-        Order::Tests(folder) => {
-            let done = test(rt, alloc, folder, files, out);
+        Order::Tests(request) => {
+            let done = test(rt, alloc, request, files, out);
             report(done, false, err)
         }
         Order::Each(several) => do_with_each(rt, alloc, several, files, out, err, terminal),

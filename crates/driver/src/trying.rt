@@ -1,7 +1,7 @@
 //! Programs run in several ways: timed, and tested.
 
 ghost use Rattle.std.specs.Prelude.{false};
-ghost use Rattle.command_line.specs.Requests.{settings as settings_of};
+ghost use Rattle.command_line.specs.Requests.{asked_of, settings as settings_of};
 ghost use Rattle.driver.specs.Acts.{IsSaid, in_short};
 ghost use Rattle.driver.specs.Trying.{TestsFolder, TimesRuns};
 
@@ -9,7 +9,7 @@ use crate::answered::Answered;
 use crate::handing::handed_on;
 use crate::refusal::Refusal;
 use crate::tracing::run_settings;
-use command_line::request::RunOptions;
+use command_line::request::{Request, RunOptions};
 use commands::question::Question;
 use failures::failure::Failure;
 use files::file_source::FileSource;
@@ -69,19 +69,27 @@ pub fn time<R: Threads + Wait + Sync, F: FileSource, O: Write, C: Stopwatch>(
     bench(rt, timing, question, files, out)
 }
 
-/// Tests the programs of a folder.
+/// Tests the programs of a folder: the file of the request.
 pub fn test<R: Threads + Wait + Sync, F: FolderSource, O: Write>(
     rt: &R,
     alloc: Global,
-    folder: &str,
+    request: Request<'_>,
     files: &mut F,
     out: &mut O,
 ) -> Result<Answered, Refusal>
-    ensures done { TestsFolder (F.named files.old) (F.held files.old) (F.held files.new) folder.now
-        (O.contents out.old) (O.contents out.new) (in_short result) }
+    ensures done { TestsFolder (F.named files.old) (F.held files.old) (F.held files.new)
+        (asked_of request.entry) (O.contents out.old) (O.contents out.new) (in_short result) }
     ensures said { IsSaid false result }
 {
-    let done = test_folder(rt, alloc, &OnThreads, folder, files, out);
+    let done = test_folder(
+        rt,
+        alloc,
+        &OnThreads,
+        request.file,
+        request.settings,
+        files,
+        out,
+    );
     match handed_on(out, done) {
         Ok(status) => Ok(Answered {
             status,

@@ -381,7 +381,7 @@ const TESTED: Row = Row {
     name: "test",
     about: "Run the programs in a folder and compare their output with the expected output",
     example: TEST_EXAMPLE,
-    entries: &[FOLDER],
+    entries: &[FOLDER, STEPS, NEST, TASKS, W0, WORKERS],
 };
 
 const EXPLORED: Row = Row {

@@ -4,6 +4,7 @@ use Rattle.std.proofs.Common.{refl, sym, ap, ◌∙◌, subst, String, Global}
 use Rattle.std.proofs.lemmas.List.{map-append, take_more}
 use Rattle.std.specs.Prelude.{true, MatchOption}
 use Rattle.std.specs.String.{string_bytes}
+use Rattle.command_line.specs.Requests.{Settings}
 use Rattle.files.specs.Held.{Held}
 use Rattle.failures.specs.declared.failure.Failure.{Failure}
 use Rattle.failures.specs.declared.failure.Failure.TheVariants.{CannotRead, NoMemory}
@@ -31,10 +32,10 @@ memory_other f is = subst IsOther (sym is) tt
 
 -- ---- one after the other
 
-module _ (held : Held) (f : Folder) (ss : List (String Global)) where
+module _ (held : Held) (f : Folder) (under : Settings) (ss : List (String Global)) where
   -- the first n of them are tested, and the contents of files are unchanged
   pub record HaveTested (now : Held) (n : ℕ) (lines : List ℕ) (passed failed : ℕ) : Type 0 where
-    pub tested : AreTested held f (map string_bytes (take n ss)) lines passed failed
+    pub tested : AreTested held f under (map string_bytes (take n ss)) lines passed failed
     pub keeps : now ≡ held
 
   pub none_tested : HaveTested held 0 [] 0 0
@@ -42,7 +43,7 @@ module _ (held : Held) (f : Folder) (ss : List (String Global)) where
 
   -- the next one, given by the part of its name before `.afx`
   abbrev pub next : String Global → Trial
-  next s = record { folder = f; stem = string_bytes s }
+  next s = record { folder = f; stem = string_bytes s; settings = under }
 
   taken_more : (n : ℕ) (s d : String Global) → n < length ss → s ≡ get_or ss n d
       → map string_bytes (take n ss) ++ string_bytes s ∷ [] ≡ map string_bytes (take (n + 1) ss)
@@ -55,8 +56,8 @@ module _ (held : Held) (f : Folder) (ss : List (String Global)) where
       → s ≡ get_or ss n d → HaveTested mid n lines p m → IsCompared mid (next s) true → now ≡ mid → q ≡ p + 1
       → HaveTested now (n + 1) lines q m
   one_passed mid now n s d lines p q m inside is so_far compared same more = record {
-    tested = subst (λ (k : ℕ). AreTested held f (map string_bytes (take (n + 1) ss)) lines k m) (sym more)
-        (subst (λ (xs : List (List ℕ)). AreTested held f xs lines (p + 1) m) (taken_more n s d inside is)
+    tested = subst (λ (k : ℕ). AreTested held f under (map string_bytes (take (n + 1) ss)) lines k m) (sym more)
+        (subst (λ (xs : List (List ℕ)). AreTested held f under xs lines (p + 1) m) (taken_more n s d inside is)
         (pass (map string_bytes (take n ss)) (string_bytes s) lines p m so_far.tested
         (subst (λ (h : Held). IsCompared h (next s) true) so_far.keeps compared)));
     keeps = same ∙ so_far.keeps;
@@ -66,9 +67,9 @@ module _ (held : Held) (f : Folder) (ss : List (String Global)) where
       → s ≡ get_or ss n d → HaveTested mid n lines p m → IsLine mid (next s) line → now ≡ mid → longer ≡ lines ++ line
       → q ≡ m + 1 → HaveTested now (n + 1) longer p q
   one_failed mid now n s d lines line longer p m q inside is so_far told same added more = record {
-    tested = subst (λ (k : ℕ). AreTested held f (map string_bytes (take (n + 1) ss)) longer p k) (sym more)
-        (subst (λ (l : List ℕ). AreTested held f (map string_bytes (take (n + 1) ss)) l p (m + 1)) (sym added)
-        (subst (λ (xs : List (List ℕ)). AreTested held f xs (lines ++ line) p (m + 1)) (taken_more n s d inside is)
+    tested = subst (λ (k : ℕ). AreTested held f under (map string_bytes (take (n + 1) ss)) longer p k) (sym more)
+        (subst (λ (l : List ℕ). AreTested held f under (map string_bytes (take (n + 1) ss)) l p (m + 1)) (sym added)
+        (subst (λ (xs : List (List ℕ)). AreTested held f under xs (lines ++ line) p (m + 1)) (taken_more n s d inside is)
         (fail (map string_bytes (take n ss)) (string_bytes s) lines line p m so_far.tested
         (subst (λ (h : Held). IsLine h (next s) line) so_far.keeps told))));
     keeps = same ∙ so_far.keeps;

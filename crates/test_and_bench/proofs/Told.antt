@@ -33,15 +33,15 @@ module _ (s : Settings) (held : Held) (text : List ℕ) where
   times_told old new r told status answers written is only =
       answered (AnswersTimes s held text) (Explains Run s held text) old new r told status tt answers written is only
 
-module _ (named : Folders) (held : Held) (name : List ℕ) where
+module _ (named : Folders) (held : Held) (name : List ℕ) (under : Settings) where
   pub test_passed : (b : Option (List ℕ)) (r : Result ℕ Failure) (f : Failure) → IsErrAnd r (λ y. y ≡ f)
-      → TellsNoFolder named name f → Done (AnswersTest named held name) (ExplainsTest named name) b b r
+      → TellsNoFolder named name f → Done (AnswersTest named held name under) (ExplainsTest named name) b b r
   test_passed b r f is why =
-      passed_on (AnswersTest named held name) (ExplainsTest named name) b r f is (no_folder_explained named name f why)
+      passed_on (AnswersTest named held name under) (ExplainsTest named name) b r f is (no_folder_explained named name f why)
       (other_failure f (no_folder_other named name f why))
 
   pub test_without_memory : (b : Option (List ℕ)) (r : Result ℕ Failure) (f : Failure) → IsErrAnd r (λ y. y ≡ f)
-      → f ≡ NoMemory → Done (AnswersTest named held name) (ExplainsTest named name) b b r
+      → f ≡ NoMemory → Done (AnswersTest named held name under) (ExplainsTest named name) b b r
   test_without_memory b r f is memory =
-      passed_on (AnswersTest named held name) (ExplainsTest named name) b r f is (memory_explained named name f memory)
+      passed_on (AnswersTest named held name under) (ExplainsTest named name) b r f is (memory_explained named name f memory)
       (other_failure f (memory_other f memory))

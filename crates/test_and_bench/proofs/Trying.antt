@@ -8,7 +8,6 @@ use Rattle.types.specs.Typed.{code_of}
 use Rattle.types.specs.declared.typed.Typed.{Typed}
 use Rattle.race_checker.specs.Clash.{IsAccepted}
 use Rattle.printing.specs.OutcomeText.{outcome_text, status_of}
-use Rattle.command_line.specs.Requests.{usual}
 use Rattle.files.specs.Held.{Held, BeginsWith, HasText, IsGiven, TellsNoProgram, TellsNoText}
 use Rattle.failures.specs.declared.failure.Failure.{Failure}
 use Rattle.failures.specs.declared.failure.Failure.TheVariants.{NoMemory}
@@ -41,22 +40,22 @@ pub same_program : (t u : Typed) (input : List (List ℤ)) (b : Budget) (o : Out
     → o ≡ outcome (code_of u) input b
 same_program t u input b o is same = subst (λ (x : Typed). o ≡ outcome (code_of x) input b) same is
 
--- the text of the usual outcome is what the program prints
-pub told_as : (r : Result Bool Failure) (p : Program) (input : List (List ℤ)) (o : Outcome) (bytes : List ℕ)
-    → o ≡ outcome p input usual.budget → IfOk r (λ same. same ≡ bytes_eq (outcome_text p.arrays false o) bytes)
-    → IfOk r (λ same. same ≡ bytes_eq (told_by p input) bytes)
-told_as r p input o bytes same told =
+-- the text of the outcome is what the program prints
+pub told_as : (r : Result Bool Failure) (b : Budget) (p : Program) (input : List (List ℤ)) (o : Outcome) (bytes : List ℕ)
+    → o ≡ outcome p input b → IfOk r (λ same. same ≡ bytes_eq (outcome_text p.arrays false o) bytes)
+    → IfOk r (λ same. same ≡ bytes_eq (told_by b p input) bytes)
+told_as r b p input o bytes same told =
     subst (λ (x : Outcome). IfOk r (λ s. s ≡ bytes_eq (outcome_text p.arrays false x) bytes)) same told
 
 -- what was printed, compared with the expected output
 pub compared : (held : Held) (t : Trial) (text : List ℕ) (p : Program) (input : List (List ℤ)) (bytes : List ℕ) (same : Bool)
     → HasText held (file t (codes ".afx")) text → IsCodeOf text p → IsAccepted p → BeginsWith (input_file t) held p.arrays input
-    → IsGiven (held (file t (codes ".out"))) (Ok bytes) → same ≡ bytes_eq (told_by p input) bytes → IsCompared held t same
+    → IsGiven (held (file t (codes ".out"))) (Ok bytes) → same ≡ bytes_eq (told_by t.settings.budget p input) bytes → IsCompared held t same
 compared held t text p input bytes same has_text is_code accepted begins given is = record {
   text = text;
   has_text = has_text;
-  told = told_by p input;
-  status = status_of (outcome p input usual.budget);
+  told = told_by t.settings.budget p input;
+  status = status_of (outcome p input t.settings.budget);
   answers = record {
     run = record { code = p; accepted = accepted; input = input; given = record { is_code = is_code; begins = begins } };
     shows = record { told_is = refl; status_is = refl };

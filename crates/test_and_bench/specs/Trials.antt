@@ -10,12 +10,12 @@ use Rattle.std.specs.Prelude.{String}
 use Rattle.std.specs.String.{string_bytes, string_cmp}
 use Rattle.std.specs.Global.{Global}
 use Rattle.types.specs.Code.{Program}
-use Rattle.types.specs.Outcome.{Outcome, outcome}
-use Rattle.types.specs.Translation.{input as lists_of}
+use Rattle.types.specs.Outcome.{Budget, Outcome, outcome}
+use Rattle.types.specs.Translation.{budget as budget_of, input as lists_of}
 use Rattle.types.specs.Typed.{code_of}
 use Rattle.printing.specs.OutcomeText.{outcome_text}
 use Rattle.printing.specs.Reasons.{escaped}
-use Rattle.command_line.specs.Requests.{Settings, usual}
+use Rattle.command_line.specs.Requests.{Settings, settings}
 use Rattle.command_line.specs.declared.request.Command.TheVariants.{Run}
 use Rattle.files.specs.Held.{Held, HasText, IsGiven, TellsNoProgram, TellsNoText}
 use Rattle.failures.specs.Messages.{failure_text}
@@ -38,13 +38,15 @@ pub record Folder : Type 0 where
 abbrev pub folder : rFolder → Folder
 folder f = record { name = f.name.now; names = map string_bytes f.names.now }
 
--- a program of it, given by the part of its file name before `.afx`
+-- a program of it, given by the part of its file name before `.afx`, and the settings of its runs, apart from
+-- the input
 pub record Trial : Type 0 where
   pub folder : Folder
   pub stem : List ℕ
+  pub settings : Settings
 
 abbrev pub trial : rTrial → Trial
-trial t = record { folder = folder t.folder; stem = t.stem.now }
+trial t = record { folder = folder t.folder; stem = t.stem.now; settings = settings t.settings }
 
 -- whether it is one of these
 abbrev pub has_name : (names : List (List ℕ)) → (name : List ℕ) → Bool
@@ -65,23 +67,24 @@ abbrev pub input_file : Trial → Option (List ℕ)
 input_file t =
     if has_name t.folder.names (t.stem ++ codes ".json") then Some (file t (codes ".json")) else None
 
--- it runs under the default settings, on its input
+-- it runs on its input
 abbrev pub settings_of : Trial → Settings
-settings_of t = record usual { input = input_file t }
+settings_of t = record t.settings { input = input_file t }
 
 -- ---- one program
 
--- what a program prints under the default settings
-abbrev pub told_by : Program → (input : List (List ℤ)) → List ℕ
-told_by p input = outcome_text p.arrays false (outcome p input usual.budget)
+-- what a program prints under a budget
+abbrev pub told_by : Budget → Program → (input : List (List ℤ)) → List ℕ
+told_by b p input = outcome_text p.arrays false (outcome p input b)
 
 -- whether the text of an outcome of a case's program is the expected output
 abbrev pub is_wanted : Case → Outcome → Bool
 is_wanted c o = bytes_eq (outcome_text (code_of c.accepted.now.typed).arrays false o) c.wanted.now
 
--- whether what it prints under the default settings is the expected output
+-- whether what it prints under its settings is the expected output
 abbrev pub tells_wanted : Case → Bool
-tells_wanted c = bytes_eq (told_by (code_of c.accepted.now.typed) (lists_of c.input.now)) c.wanted.now
+tells_wanted c =
+    bytes_eq (told_by (budget_of c.settings.budget) (code_of c.accepted.now.typed) (lists_of c.input.now)) c.wanted.now
 
 -- `run` prints this much for its text, and its `.out` file has these bytes: whether the two are
 -- equal
@@ -116,16 +119,16 @@ HasLine held t line = MatchOption line (IsCompared held t true) (λ l. IsLine he
 
 -- ---- all of them
 
--- of these programs of a folder, this many passed and this many failed, with these lines
-pub data AreTested (held : Held) (f : Folder)
+-- of these programs of a folder, this many passed and this many failed under these settings, with these lines
+pub data AreTested (held : Held) (f : Folder) (under : Settings)
     : (stems : List (List ℕ)) → (lines : List ℕ) → (passed failed : ℕ) → Type 0 where
-  none : AreTested held f [] [] 0 0
-  pass : (ss : List (List ℕ)) (s lines : List ℕ) (n m : ℕ) → AreTested held f ss lines n m
-      → IsCompared held (record { folder = f; stem = s }) true
-      → AreTested held f (ss ++ s ∷ []) lines (n + 1) m
-  fail : (ss : List (List ℕ)) (s lines line : List ℕ) (n m : ℕ) → AreTested held f ss lines n m
-      → IsLine held (record { folder = f; stem = s }) line
-      → AreTested held f (ss ++ s ∷ []) (lines ++ line) n (m + 1)
+  none : AreTested held f under [] [] 0 0
+  pass : (ss : List (List ℕ)) (s lines : List ℕ) (n m : ℕ) → AreTested held f under ss lines n m
+      → IsCompared held (record { folder = f; stem = s; settings = under }) true
+      → AreTested held f under (ss ++ s ∷ []) lines (n + 1) m
+  fail : (ss : List (List ℕ)) (s lines line : List ℕ) (n m : ℕ) → AreTested held f under ss lines n m
+      → IsLine held (record { folder = f; stem = s; settings = under }) line
+      → AreTested held f under (ss ++ s ∷ []) (lines ++ line) n (m + 1)
 
 -- one more program is counted that passed
 abbrev pub AddsPassed : (old new : Found) → Type 0
@@ -148,8 +151,9 @@ abbrev pub tested_status : (failed : ℕ) → ℕ
 tested_status zero = 0
 tested_status (suc n) = 1
 
--- the programs of a folder were tested, sorted by name, and the results are printed
-pub record AnswersTest (named : Folders) (held : Held) (name told : List ℕ) (status : ℕ) : Type 0 where
+-- the programs of a folder were tested under these settings, sorted by name, and the results are printed
+pub record AnswersTest (named : Folders) (held : Held) (name : List ℕ) (under : Settings) (told : List ℕ) (status : ℕ)
+    : Type 0 where
   pub names : List (List ℕ)
   pub given : AreGiven (named name) (Ok names)
   pub programs : List (String Global)
@@ -158,7 +162,7 @@ pub record AnswersTest (named : Folders) (held : Held) (name told : List ℕ) (s
   pub lines : List ℕ
   pub passed : ℕ
   pub failed : ℕ
-  pub tested : AreTested held (record { name = name; names = names })
+  pub tested : AreTested held (record { name = name; names = names }) under
       (map string_bytes programs) lines passed failed
   pub told_is : told ≡ lines ++ closing passed failed
   pub status_is : status ≡ tested_status failed
@@ -169,6 +173,8 @@ ExplainsTest named name CannotWriteOutput = Unit {0}
 ExplainsTest named name f = TellsNoFolder named name f
 
 -- `test` was done: its answer was written, or there is a reason why not
-abbrev pub DoesTest : Folders → Held → (name : List ℕ) → (old new : Option (List ℕ)) → Result ℕ Failure
+abbrev pub DoesTest : Folders → Held → (name : List ℕ) → (under : Settings) → (old new : Option (List ℕ))
+    → Result ℕ Failure
     → Type 0
-DoesTest named held name old new r = Done (AnswersTest named held name) (ExplainsTest named name) old new r
+DoesTest named held name under old new r =
+    Done (AnswersTest named held name under) (ExplainsTest named name) old new r

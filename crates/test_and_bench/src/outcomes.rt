@@ -2,7 +2,7 @@
 
 ghost use Rattle.std.specs.Prelude.{◌≡◌, ◌≤◌, IfErr, IfOk};
 ghost use Rattle.types.specs.Translation.{outcome as outcome_in};
-ghost use Rattle.command_line.specs.Requests.{usual};
+ghost use Rattle.command_line.specs.Requests.{settings as settings_of};
 ghost use Rattle.commands.specs.Outcomes.{Fits};
 ghost use Rattle.test_and_bench.specs.Runs.{TellsNoRun};
 ghost use Rattle.test_and_bench.specs.Trials.{is_wanted, tells_wanted};
@@ -19,17 +19,18 @@ use std::thread::Threads;
 use types::input::Input;
 use types::outcome::Outcome;
 
-/// A program on an input, and its expected output under the default settings.
+/// A program on an input, its settings, and its expected output.
 #[derive(Clone, Copy)]
 pub struct Case<'c> {
     pub alloc: Global,
     pub accepted: &'c Accepted,
     pub input: &'c Input,
+    pub settings: RunOptions<'c>,
     pub wanted: &'c [u8],
 }
 
 impl Case<'_> {
-    /// Returns whether it prints the expected output: serially, and in parallel on 1 and on 4
+    /// Returns whether it prints the expected output: serially, and in parallel on 1 and on all
     /// workers.
     pub fn tells<R: Threads + Wait + Sync, W: Runs>(
         &self,
@@ -38,7 +39,7 @@ impl Case<'_> {
     ) -> Result<bool, Failure>
         requires { Fits self.now.accepted.now.typed self.now.input.now }
         ensures same { IfOk result (λ same. same ≡ tells_wanted self.now) }
-        ensures why { IfErr result (TellsNoRun usual) }
+        ensures why { IfErr result (TellsNoRun (settings_of self.now.settings)) }
     {
         if !self.tells_on_one_thread()? {
             return Ok(false);
@@ -46,7 +47,7 @@ impl Case<'_> {
         if !self.tells_as_tasks(rt, runs, 1)? {
             return Ok(false);
         }
-        self.tells_as_tasks(rt, runs, 4)
+        self.tells_as_tasks(rt, runs, self.settings.spread.workers)
     }
 
     /// Returns whether it does on one thread.
@@ -59,7 +60,7 @@ impl Case<'_> {
             self.alloc,
             self.accepted.typed(),
             self.input,
-            RunOptions::usual().budget,
+            self.settings.budget,
         ) {
             Ok(outcome) => self.is_told(&outcome),
             Err(_) => Err(Failure::NoMemory),
@@ -76,9 +77,9 @@ impl Case<'_> {
         requires fits { Fits self.now.accepted.now.typed self.now.input.now }
         requires workers { (1 ≤ workers) × (workers ≤ 64) }
         ensures same { IfOk result (λ same. same ≡ tells_wanted self.now) }
-        ensures why { IfErr result (TellsNoRun usual) }
+        ensures why { IfErr result (TellsNoRun (settings_of self.now.settings)) }
     {
-        let settings = on_workers(RunOptions::usual(), workers);
+        let settings = on_workers(self.settings, workers);
         match runs.outcome(rt, self.alloc, self.accepted, self.input, settings) {
             Ok(outcome) => self.is_told(&outcome),
             Err(failure) => Err(failure),

@@ -2,6 +2,7 @@
 
 ghost use Rattle.std.specs.Prelude.{◌≡◌, ◌+◌, ◌++◌, map, IfErr, IfOk, MatchOption, OnOk};
 ghost use Rattle.std.specs.String.{string_bytes};
+ghost use Rattle.command_line.specs.Requests.{settings as settings_of};
 ghost use Rattle.printing.specs.Appending.{Writes};
 ghost use Rattle.test_and_bench.specs.Trials.{AddsFailed, AddsPassed, AreTested, DoesTest, closing};
 ghost use Rattle.test_and_bench.specs.Trials.{folder as folder_of, tested_status};
@@ -10,6 +11,7 @@ use crate::folders::{FolderSource, read_folder};
 use crate::runs::Runs;
 use crate::stems::stems_in;
 use crate::trial::{Folder, Trial};
+use command_line::request::RunOptions;
 use failures::failure::Failure;
 use files::file_source::FileSource;
 use printing::emit::append;
@@ -18,7 +20,8 @@ use std::io::Write;
 use std::sync::Wait;
 use std::thread::Threads;
 
-/// Runs each program of a folder, sorted by name, and compares its output with its `.out` file.
+/// Runs each program of a folder, sorted by name, under these settings and on its own input, and
+/// compares its output with its `.out` file.
 /// Writes a line for each program that fails, and then how many passed and failed. Returns the exit
 /// status: 1 if one failed.
 pub fn test_folder<R: Threads + Wait + Sync, F: FolderSource, O: Write, W: Runs>(
@@ -26,11 +29,12 @@ pub fn test_folder<R: Threads + Wait + Sync, F: FolderSource, O: Write, W: Runs>
     alloc: Global,
     runs: &W,
     folder: &str,
+    settings: RunOptions<'_>,
     files: &mut F,
     out: &mut O,
 ) -> Result<u8, Failure>
     ensures done { DoesTest (F.named files.old) (F.held files.old) folder.now
-        (O.contents out.old) (O.contents out.new) result }
+        (settings_of settings.entry) (O.contents out.old) (O.contents out.new) result }
     ensures keeps { F.held files.new ≡ F.held files.old }
 {
     let names = read_folder(alloc, files, folder)?;
@@ -39,7 +43,7 @@ pub fn test_folder<R: Threads + Wait + Sync, F: FolderSource, O: Write, W: Runs>
         name: folder,
         names: names.as_slice(),
     };
-    let found = tested(rt, alloc, runs, files, folder, &stems)?;
+    let found = tested(rt, alloc, runs, files, folder, settings, &stems)?;
     let text = found.text(alloc)?;
     write(out, text.as_str(), found.status())
 }
@@ -105,10 +109,11 @@ fn tested<R: Threads + Wait + Sync, F: FileSource, W: Runs>(
     runs: &W,
     files: &mut F,
     folder: Folder<'_>,
+    settings: RunOptions<'_>,
     stems: &[String],
 ) -> Result<Found, Failure>
     ensures tested { IfOk result (λ f. AreTested (F.held files.old) (folder_of folder.entry)
-        (map string_bytes stems.now) (string_bytes f.lines) f.passed f.failed) }
+        (settings_of settings.entry) (map string_bytes stems.now) (string_bytes f.lines) f.passed f.failed) }
     ensures why { IfErr result (λ f. f ≡ Failure.NoMemory) }
     ensures keeps { F.held files.new ≡ F.held files.old }
 {
@@ -121,6 +126,7 @@ fn tested<R: Threads + Wait + Sync, F: FileSource, W: Runs>(
         let trial = Trial {
             folder,
             stem: stem.as_str(),
+            settings,
         };
         let line = trial.line(rt, alloc, runs, files)?;
         found.add(&line)?;

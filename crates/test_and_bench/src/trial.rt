@@ -15,6 +15,7 @@ ghost use Rattle.test_and_bench.specs.Trials.{input_file, trial as trial_of};
 use crate::outcomes::Case;
 use crate::runs::Runs;
 use crate::stems::has_name;
+use command_line::request::RunOptions;
 use commands::programs::accepted_of;
 use failures::failure::Failure;
 use failures::message::emit_message;
@@ -34,11 +35,13 @@ pub struct Folder<'f> {
     pub names: &'f [String],
 }
 
-/// A program of a folder, given by the part of its file name before `.afx`.
+/// A program of a folder, given by the part of its file name before `.afx`, and the settings of its
+/// runs, apart from the input.
 #[derive(Clone, Copy)]
 pub struct Trial<'f> {
     pub folder: Folder<'f>,
     pub stem: &'f str,
+    pub settings: RunOptions<'f>,
 }
 
 impl Trial<'_> {
@@ -105,6 +108,7 @@ impl Trial<'_> {
             alloc,
             accepted: &accepted,
             input: &input,
+            settings: self.settings,
             wanted: &wanted,
         };
         case.tells(rt, runs)

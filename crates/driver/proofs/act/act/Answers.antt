@@ -15,7 +15,7 @@ pub returns-in-Err-clause-timed : goal.returns-in-Err-clause-timed
 returns-in-Err-clause-timed g c a asks once = absurd (c.in-Err.ensures.read (Times a) asks once)
 
 pub returns-in-Err-clause-tested : goal.returns-in-Err-clause-tested
-returns-in-Err-clause-tested g c folder asks = absurd (c.in-Err.ensures.read (Tests folder) asks refl)
+returns-in-Err-clause-tested g c a asks once = absurd (c.in-Err.ensures.read (Tests a) asks once)
 
 pub returns-in-Ok-clause-asked : goal.returns-in-Ok-clause-asked
 returns-in-Ok-clause-asked g c a asks once =
@@ -30,8 +30,8 @@ returns-in-Ok-clause-timed g c a asks once =
     ordered _ _ _ _ _ _ _ _ _ (order c.in-Ok.order) (Times a) (c.in-Ok.ensures.read (Times a) asks once) c.carry_out.ensures.acts
 
 pub returns-in-Ok-clause-tested : goal.returns-in-Ok-clause-tested
-returns-in-Ok-clause-tested g c folder asks =
-    ordered _ _ _ _ _ _ _ _ _ (order c.in-Ok.order) (Tests folder) (c.in-Ok.ensures.read (Tests folder) asks refl) c.carry_out.ensures.acts
+returns-in-Ok-clause-tested g c a asks once =
+    ordered _ _ _ _ _ _ _ _ _ (order c.in-Ok.order) (Tests a) (c.in-Ok.ensures.read (Tests a) asks once) c.carry_out.ensures.acts
 
 pub returns-in-Err-clause-twice : goal.returns-in-Err-clause-twice
 returns-in-Err-clause-twice g c o orders twice =

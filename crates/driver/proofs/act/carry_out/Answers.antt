@@ -33,8 +33,8 @@ returns-in-Times-clause-acts g c =
 
 pub returns-in-Tests-clause-acts : goal.returns-in-Tests-clause-acts
 returns-in-Tests-clause-acts g c =
-    ordered _ _ _ _ _ _ _ _ _ (Tests c.in-Tests.folder.now) (order c.args.order) (sym (ap order c.in-Tests.is))
-    (tested_as _ _ _ _ _ _ _ _ c.in-Tests.folder.now (in_short c.test-done.result) c.test-done.ensures.done
+    ordered _ _ _ _ _ _ _ _ _ (Tests (asked_of c.in-Tests.request)) (order c.args.order) (sym (ap order c.in-Tests.is))
+    (tested_as _ _ _ _ _ _ _ _ (asked_of c.in-Tests.request) (in_short c.test-done.result) c.test-done.ensures.done
     c.report-in-Tests.ensures)
 
 pub returns-in-AsText-clause-watched : goal.returns-in-AsText-clause-watched
@@ -58,7 +58,7 @@ returns-in-Times-clause-watched g c =
 
 pub returns-in-Tests-clause-watched : goal.returns-in-Tests-clause-watched
 returns-in-Tests-clause-watched g c =
-    watched_as g.T.Watch.Told _ _ (Tests c.in-Tests.folder.now) (order c.args.order) (sym (ap order c.in-Tests.is)) _ refl
+    watched_as g.T.Watch.Told _ _ (Tests (asked_of c.in-Tests.request)) (order c.args.order) (sym (ap order c.in-Tests.is)) _ refl
 
 pub returns-in-Each-clause-acts : goal.returns-in-Each-clause-acts
 returns-in-Each-clause-acts g c =

@@ -9,7 +9,6 @@ use Rattle.types.specs.Translation.{input as lists_of}
 use Rattle.types.specs.Typed.{code_of, program_of}
 use Rattle.types.specs.declared.typed.Typed.{Typed}
 use Rattle.types.proofs.InputLemmas.{FitsArrays-from_IsInput}
-use Rattle.command_line.specs.Requests.{usual}
 use Rattle.command_line.specs.declared.request.Command.TheVariants.{Run}
 use Rattle.files.specs.Held.{Held, BeginsWith, IsGiven}
 use Rattle.commands.proofs.Answering.{code_of_text, err_passed, is_explored, no_input_explained, no_input_other}
@@ -87,5 +86,5 @@ returns-clause-why g c =
           c.in_ok-input.ensures.begins;
     }) in
     IfErr-weaker c.tells.result _ (IsUncompared held t) (λ f told.
-    without_answer text c.requires (no_run_explained s held text run f (same_tasks usual s refl f told))
-    (other_failure f (no_run_other usual f told))) c.tells.ensures.why
+    without_answer text c.requires (no_run_explained s held text run f (same_tasks t.settings s refl f told))
+    (other_failure f (no_run_other t.settings f told))) c.tells.ensures.why
