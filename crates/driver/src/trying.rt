@@ -21,7 +21,7 @@ use std::thread::Threads;
 use test_and_bench::clock::Stopwatch;
 use test_and_bench::folders::FolderSource;
 use test_and_bench::runs::Runs;
-use test_and_bench::testing::test_folder;
+use test_and_bench::testing::{Testing, test_folder};
 use test_and_bench::timing::{Timing, bench};
 use types::input::Input;
 use types::outcome::Outcome;
@@ -81,15 +81,12 @@ pub fn test<R: Threads + Wait + Sync, F: FolderSource, O: Write>(
         (asked_of request.entry) (O.contents out.old) (O.contents out.new) (in_short result) }
     ensures said { IsSaid false result }
 {
-    let done = test_folder(
-        rt,
+    let testing = Testing {
         alloc,
-        &OnThreads,
-        request.file,
-        request.settings,
-        files,
-        out,
-    );
+        runs: &OnThreads,
+        settings: request.settings,
+    };
+    let done = test_folder(rt, &testing, request.file, files, out);
     match handed_on(out, done) {
         Ok(status) => Ok(Answered {
             status,

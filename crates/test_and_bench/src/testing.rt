@@ -20,30 +20,38 @@ use std::io::Write;
 use std::sync::Wait;
 use std::thread::Threads;
 
-/// Runs each program of a folder, sorted by name, under these settings and on its own input, and
-/// compares its output with its `.out` file.
-/// Writes a line for each program that fails, and then how many passed and failed. Returns the exit
-/// status: 1 if one failed.
+/// How programs are tested.
+#[derive(Drop)]
+pub struct Testing<'t, W> {
+    pub alloc: Global,
+    /// Runs programs in parallel.
+    pub runs: &'t W,
+    /// The settings of their runs, apart from the input.
+    pub settings: RunOptions<'t>,
+}
+
+/// Runs each program of a folder, sorted by name, on its own input, and compares its output with its
+/// `.out` file. Writes a line for each program that fails, and then how many passed and failed.
+/// Returns the exit status: 1 if one failed.
 pub fn test_folder<R: Threads + Wait + Sync, F: FolderSource, O: Write, W: Runs>(
     rt: &R,
-    alloc: Global,
-    runs: &W,
+    testing: &Testing<'_, W>,
     folder: &str,
-    settings: RunOptions<'_>,
     files: &mut F,
     out: &mut O,
 ) -> Result<u8, Failure>
     ensures done { DoesTest (F.named files.old) (F.held files.old) folder.now
-        (settings_of settings.entry) (O.contents out.old) (O.contents out.new) result }
+        (settings_of testing.now.settings) (O.contents out.old) (O.contents out.new) result }
     ensures keeps { F.held files.new ≡ F.held files.old }
 {
+    let alloc = testing.alloc;
     let names = read_folder(alloc, files, folder)?;
     let stems = stems_in(alloc, &names)?;
     let folder = Folder {
         name: folder,
         names: names.as_slice(),
     };
-    let found = tested(rt, alloc, runs, files, folder, settings, &stems)?;
+    let found = tested(rt, testing, files, folder, &stems)?;
     let text = found.text(alloc)?;
     write(out, text.as_str(), found.status())
 }
@@ -105,18 +113,18 @@ impl Found {
 /// Runs these programs of a folder, one after the other.
 fn tested<R: Threads + Wait + Sync, F: FileSource, W: Runs>(
     rt: &R,
-    alloc: Global,
-    runs: &W,
+    testing: &Testing<'_, W>,
     files: &mut F,
     folder: Folder<'_>,
-    settings: RunOptions<'_>,
     stems: &[String],
 ) -> Result<Found, Failure>
     ensures tested { IfOk result (λ f. AreTested (F.held files.old) (folder_of folder.entry)
-        (settings_of settings.entry) (map string_bytes stems.now) (string_bytes f.lines) f.passed f.failed) }
+        (settings_of testing.now.settings) (map string_bytes stems.now) (string_bytes f.lines)
+        f.passed f.failed) }
     ensures why { IfErr result (λ f. f ≡ Failure.NoMemory) }
     ensures keeps { F.held files.new ≡ F.held files.old }
 {
+    let alloc = testing.alloc;
     let mut found = Found {
         lines: String::new(alloc),
         passed: 0,
@@ -126,9 +134,9 @@ fn tested<R: Threads + Wait + Sync, F: FileSource, W: Runs>(
         let trial = Trial {
             folder,
             stem: stem.as_str(),
-            settings,
+            settings: testing.settings,
         };
-        let line = trial.line(rt, alloc, runs, files)?;
+        let line = trial.line(rt, alloc, testing.runs, files)?;
         found.add(&line)?;
     }
     Ok(found)

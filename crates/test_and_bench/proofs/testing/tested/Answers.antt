@@ -9,7 +9,7 @@ use Rattle.test_and_bench.proofs.testing.tested.Goals as goal
 pub loop-stem-init : goal.loop-stem-init
 loop-stem-init g c =
     let held = g.F.FileSource.held c.args.files.now in
-    let f = folder c.args.folder in let under = settings c.args.settings in
+    let f = folder c.args.folder in let under = settings c.args.testing.now.settings in
     subst (λ (l : List ℕ). HaveTested held f under c.args.stems.now held 0 l 0 0) (sym c.new.ensures.bytes)
     (none_tested held f under c.args.stems.now)
 
@@ -17,7 +17,7 @@ pub loop-stem-preserved : goal.loop-stem-preserved
 loop-stem-preserved g c =
     let held = g.F.FileSource.held c.args.files.now in
     let mid = g.F.FileSource.held c.loop-stem.files in
-    let f = folder c.args.folder in let under = settings c.args.settings in
+    let f = folder c.args.folder in let under = settings c.args.testing.now.settings in
     let by : List ℕ → Trial = λ s. record { folder = f; stem = s; settings = under } in
     one_more held f under c.args.stems.now mid _ c.loop-stem.stem-index c.stem-item.result _ _ _ _ _ _ _ c.in_ok-line.line (omega arith)
     c.stem-item.is c.loop-stem.invariant
