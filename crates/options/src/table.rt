@@ -284,7 +284,8 @@ Example: afx bench examples/doubling.afx --input examples/doubling.json";
 
 const TEST_EXAMPLE: &str =
     "Each NAME.afx in the folder runs serially, and in parallel on 1 and on 4 threads. It passes if each run prints exactly
-the contents of NAME.out. NAME.json, if present, is its input.
+the contents of NAME.out. NAME.json, if present, is its input. With NAME.err, the program is to be refused with exactly
+that message.
 
 Example: afx test examples/tested";
 

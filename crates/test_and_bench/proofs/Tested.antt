@@ -2,7 +2,7 @@
 use Rattle.std.proofs.Common.{◌≡◌, ℕ, ◌+◌, ◌<◌, List, [], ◌∷◌, ◌++◌, length, map, take, get_or, Option, Some, None}
 use Rattle.std.proofs.Common.{refl, sym, ap, ◌∙◌, subst, String, Global}
 use Rattle.std.proofs.lemmas.List.{map-append, take_more}
-use Rattle.std.specs.Prelude.{true, MatchOption}
+use Rattle.std.specs.Prelude.{MatchOption}
 use Rattle.std.specs.String.{string_bytes}
 use Rattle.command_line.specs.Requests.{Settings}
 use Rattle.files.specs.Held.{Held}
@@ -10,7 +10,7 @@ use Rattle.failures.specs.declared.failure.Failure.{Failure}
 use Rattle.failures.specs.declared.failure.Failure.TheVariants.{CannotRead, NoMemory}
 use Rattle.commands.proofs.Answering.{IsOther}
 use Rattle.test_and_bench.specs.Folders.{Folders, TellsNoFolder}
-use Rattle.test_and_bench.specs.Trials.{Folder, Trial, IsCompared, IsLine, AreTested, ExplainsTest, none, pass, fail}
+use Rattle.test_and_bench.specs.Trials.{Folder, Trial, IsLine, Passes, AreTested, ExplainsTest, none, pass, fail}
 
 -- ---- failures
 
@@ -53,13 +53,13 @@ module _ (held : Held) (f : Folder) (under : Settings) (ss : List (String Global
       ∙ sym (ap (map string_bytes) (take_more ss n d inside))
 
   pub one_passed : (mid now : Held) (n : ℕ) (s d : String Global) (lines : List ℕ) (p q m : ℕ) → n < length ss
-      → s ≡ get_or ss n d → HaveTested mid n lines p m → IsCompared mid (next s) true → now ≡ mid → q ≡ p + 1
+      → s ≡ get_or ss n d → HaveTested mid n lines p m → Passes mid (next s) → now ≡ mid → q ≡ p + 1
       → HaveTested now (n + 1) lines q m
   one_passed mid now n s d lines p q m inside is so_far compared same more = record {
     tested = subst (λ (k : ℕ). AreTested held f under (map string_bytes (take (n + 1) ss)) lines k m) (sym more)
         (subst (λ (xs : List (List ℕ)). AreTested held f under xs lines (p + 1) m) (taken_more n s d inside is)
         (pass (map string_bytes (take n ss)) (string_bytes s) lines p m so_far.tested
-        (subst (λ (h : Held). IsCompared h (next s) true) so_far.keeps compared)));
+        (subst (λ (h : Held). Passes h (next s)) so_far.keeps compared)));
     keeps = same ∙ so_far.keeps;
   }
 
@@ -78,7 +78,7 @@ module _ (held : Held) (f : Folder) (under : Settings) (ss : List (String Global
   -- one more, with a line or without
   pub one_more : (mid now : Held) (n : ℕ) (s d : String Global) (lines longer : List ℕ) (p m q k : ℕ)
       (line : Option (String Global)) → n < length ss → s ≡ get_or ss n d → HaveTested mid n lines p m
-      → MatchOption line (IsCompared mid (next s) true) (λ l. IsLine mid (next s) (string_bytes l)) → now ≡ mid
+      → MatchOption line (Passes mid (next s)) (λ l. IsLine mid (next s) (string_bytes l)) → now ≡ mid
       → MatchOption line ((longer ≡ lines) × (q ≡ p + 1) × (k ≡ m))
       (λ l. (longer ≡ lines ++ string_bytes l) × (q ≡ p) × (k ≡ m + 1)) → HaveTested now (n + 1) longer q k
   one_more mid now n s d lines longer p m q k None inside is so_far found same added =

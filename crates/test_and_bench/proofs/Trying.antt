@@ -4,21 +4,28 @@ use Rattle.std.specs.Prelude.{ℤ, Bool, false, IfOk}
 use Rattle.std.specs.Str.{bytes_eq}
 use Rattle.types.specs.Code.{Program}
 use Rattle.types.specs.Outcome.{Budget, Outcome, outcome}
+use Rattle.types.specs.Translation.{input as lists_of}
 use Rattle.types.specs.Typed.{code_of}
 use Rattle.types.specs.declared.typed.Typed.{Typed}
-use Rattle.race_checker.specs.Clash.{IsAccepted}
 use Rattle.printing.specs.OutcomeText.{outcome_text, status_of}
-use Rattle.files.specs.Held.{Held, BeginsWith, HasText, IsGiven, TellsNoProgram, TellsNoText}
+use Rattle.files.specs.Held.{Held, IsGiven, TellsNoProgram, TellsNoText}
 use Rattle.failures.specs.declared.failure.Failure.{Failure}
 use Rattle.failures.specs.declared.failure.Failure.TheVariants.{NoMemory}
-use Rattle.commands.specs.Answers.{IsCodeOf}
-use Rattle.test_and_bench.specs.Trials.{Trial, IsCompared, IsUncompared, file, input_file, told_by, without_output}
+use Rattle.commands.specs.declared.question.Begun.{Begun}
+use Rattle.commands.proofs.Answering.{begun_so, other_failure}
+use Rattle.test_and_bench.specs.Runs.{TellsNoRun}
+use Rattle.test_and_bench.specs.Trials.{Trial, IsBegun, IsCompared, IsRefused, IsUncompared, file, settings_of, told_by}
+use Rattle.test_and_bench.specs.Trials.{without_answer, without_text}
+use Rattle.test_and_bench.proofs.RunCauses.{no_run_explained, no_run_other, same_tasks}
 
 -- ---- files
 
 -- running out of memory is allowed for any file
-pub memory_uncompared : (held : Held) (t : Trial) (f : Failure) → f ≡ NoMemory → IsUncompared held t f
-memory_uncompared held t f is = subst (IsUncompared held t) (sym is) (without_output tt)
+pub memory_refused : (held : Held) (t : Trial) (f : Failure) → f ≡ NoMemory → IsRefused held t f
+memory_refused held t f is = subst (IsRefused held t) (sym is) (without_text tt)
+
+pub memory_without_text : (held : Held) (name : List ℕ) (f : Failure) → f ≡ NoMemory → TellsNoText held name f
+memory_without_text held name f is = subst (TellsNoText held name) (sym is) tt
 
 -- for a file with the same name
 pub no_program_at : (held : Held) (name other : List ℕ) (f : Failure) → name ≡ other → TellsNoProgram held name f
@@ -48,19 +55,27 @@ told_as r b p input o bytes same told =
     subst (λ (x : Outcome). IfOk r (λ s. s ≡ bytes_eq (outcome_text p.arrays false x) bytes)) same told
 
 -- what was printed, compared with the expected output
-pub compared : (held : Held) (t : Trial) (text : List ℕ) (p : Program) (input : List (List ℤ)) (bytes : List ℕ) (same : Bool)
-    → HasText held (file t (codes ".afx")) text → IsCodeOf text p → IsAccepted p → BeginsWith (input_file t) held p.arrays input
-    → IsGiven (held (file t (codes ".out"))) (Ok bytes) → same ≡ bytes_eq (told_by t.settings.budget p input) bytes → IsCompared held t same
-compared held t text p input bytes same has_text is_code accepted begins given is = record {
-  text = text;
-  has_text = has_text;
-  told = told_by t.settings.budget p input;
-  status = status_of (outcome p input t.settings.budget);
+pub compared : (held : Held) (t : Trial) (b : Begun) (bytes : List ℕ) (same : Bool) → IsBegun held t b
+    → IsGiven (held (file t (codes ".out"))) (Ok bytes)
+    → same ≡ bytes_eq (told_by t.settings.budget (code_of b.accepted.typed) (lists_of b.input)) bytes → IsCompared held t same
+compared held t b bytes same begun given is = record {
+  text = begun.text;
+  has_text = begun.has_text;
+  told = told_by t.settings.budget (code_of b.accepted.typed) (lists_of b.input);
+  status = status_of (outcome (code_of b.accepted.typed) (lists_of b.input) t.settings.budget);
   answers = record {
-    run = record { code = p; accepted = accepted; input = input; given = record { is_code = is_code; begins = begins } };
+    run = begun_so (settings_of t) held begun.text b begun.given;
     shows = record { told_is = refl; status_is = refl };
   };
   bytes = bytes;
   given = given;
   same_is = is;
 }
+
+-- a run that fails
+pub no_answer : (held : Held) (t : Trial) (b : Begun) (f : Failure) → IsBegun held t b → TellsNoRun t.settings f → IsUncompared held t f
+no_answer held t b f begun told =
+    without_answer begun.text begun.has_text
+    (no_run_explained (settings_of t) held begun.text (begun_so (settings_of t) held begun.text b begun.given) f
+    (same_tasks t.settings (settings_of t) refl f told))
+    (other_failure f (no_run_other t.settings f told))

@@ -1,7 +1,7 @@
 -- The expected output of the programs of a folder, and what is printed about them.
 use Rattle.std.specs.Prelude.{ℕ, zero, suc, ℤ, ◌≡◌, ◌≢◌, ◌-◌, ◌+◌, Bool, true, false, if◌then◌else◌, List, []}
 use Rattle.std.specs.Prelude.{◌∷◌, ◌++◌, codes, Option, None, Some, Result, Ok, MatchOption, length, map}
-use Rattle.std.specs.Prelude.{take, drop, IsPermutation}
+use Rattle.std.specs.Prelude.{take, drop, IsPermutation, MatchBool}
 use Rattle.std.specs.Fmt.{decimal}
 use Rattle.std.specs.List.{flat_map}
 use Rattle.std.specs.List.Sorted.{IsSorted}
@@ -21,7 +21,8 @@ use Rattle.files.specs.Held.{Held, HasText, IsGiven, TellsNoProgram, TellsNoText
 use Rattle.failures.specs.Messages.{failure_text}
 use Rattle.failures.specs.declared.failure.Failure.{Failure}
 use Rattle.failures.specs.declared.failure.Failure.TheVariants.{CannotWriteOutput}
-use Rattle.commands.specs.Answers.{AnswersRun, Done, Explains}
+use Rattle.commands.specs.Answers.{AnswersRun, Done, Explains, HasInput, TellsNotBegun}
+use Rattle.commands.specs.declared.question.Begun.{Begun}
 use Rattle.test_and_bench.specs.Folders.{AreGiven, Folders, TellsNoFolder}
 use Rattle.test_and_bench.specs.declared.outcomes.Case.{Case}
 use Rattle.test_and_bench.specs.declared.testing.Found.{Found}
@@ -62,10 +63,13 @@ stem name =
 abbrev pub file : Trial → (ending : List ℕ) → List ℕ
 file t ending = t.folder.name ++ (codes "/" ++ (t.stem ++ ending))
 
+-- whether the folder has that file
+abbrev pub has_file : Trial → (ending : List ℕ) → Bool
+has_file t ending = has_name t.folder.names (t.stem ++ ending)
+
 -- the file of its input, if the folder has one
 abbrev pub input_file : Trial → Option (List ℕ)
-input_file t =
-    if has_name t.folder.names (t.stem ++ codes ".json") then Some (file t (codes ".json")) else None
+input_file t = if has_file t (codes ".json") then Some (file t (codes ".json")) else None
 
 -- it runs on its input
 abbrev pub settings_of : Trial → Settings
@@ -86,6 +90,47 @@ abbrev pub tells_wanted : Case → Bool
 tells_wanted c =
     bytes_eq (told_by (budget_of c.settings.budget) (code_of c.accepted.now.typed) (lists_of c.input.now)) c.wanted.now
 
+-- its file has a text, of whose program, which has no race, this is the code, and this is its input
+pub record IsBegun (held : Held) (t : Trial) (b : Begun) : Type 0 where
+  pub text : List ℕ
+  pub has_text : HasText held (file t (codes ".afx")) text
+  pub given : HasInput (settings_of t) held text (code_of b.accepted.typed) (lists_of b.input)
+
+-- the failure says why it doesn't begin: its file has no text, or the text no accepted program, or that
+-- no input
+pub data IsRefused (held : Held) (t : Trial) (f : Failure) : Type 0 where
+  without_text : TellsNoProgram held (file t (codes ".afx")) f → IsRefused held t f
+  not_begun : (text : List ℕ) → HasText held (file t (codes ".afx")) text
+      → TellsNotBegun (settings_of t) held text f → IsRefused held t f
+
+-- the line of a program that fails for this reason, with control characters in its name escaped
+abbrev pub line_for : Trial → Failure → List ℕ
+line_for t f = escaped t.stem ++ (codes ".afx: " ++ (failure_text f ++ codes "\n"))
+
+-- ---- one that is to be refused
+
+-- its `.err` file has these bytes: whether they are the message of a failure
+pub record IsMessage (held : Held) (t : Trial) (f : Failure) (same : Bool) : Type 0 where
+  pub bytes : List ℕ
+  pub given : IsGiven (held (file t (codes ".err"))) (Ok bytes)
+  pub same_is : same ≡ bytes_eq (failure_text f ++ codes "\n") bytes
+
+-- it is refused: whether with the message in its `.err` file
+pub record IsRefusedAs (held : Held) (t : Trial) (same : Bool) : Type 0 where
+  pub failure : Failure
+  pub refused : IsRefused held t failure
+  pub message : IsMessage held t failure same
+
+-- its line, if it fails: it is refused with another message, or not at all, or its `.err` file can't be read
+pub data IsLineOfRefusal (held : Held) (t : Trial) (line : List ℕ) : Type 0 where
+  with_another : (r : IsRefusedAs held t false) → line ≡ line_for t r.failure → IsLineOfRefusal held t line
+  not_refused : (b : Begun) → IsBegun held t b → line ≡ escaped t.stem ++ codes ".afx: not refused\n"
+      → IsLineOfRefusal held t line
+  unread : (f : Failure) → TellsNoText held (file t (codes ".err")) f → line ≡ line_for t f
+      → IsLineOfRefusal held t line
+
+-- ---- one that is to be run
+
 -- `run` prints this much for its text, and its `.out` file has these bytes: whether the two are
 -- equal
 pub record IsCompared (held : Held) (t : Trial) (same : Bool) : Type 0 where
@@ -98,24 +143,33 @@ pub record IsCompared (held : Held) (t : Trial) (same : Bool) : Type 0 where
   pub given : IsGiven (held (file t (codes ".out"))) (Ok bytes)
   pub same_is : same ≡ bytes_eq told bytes
 
--- the failure says why it can't be compared: its file has no text, `run` fails before it answers,
--- or there is no `.out` file
+-- the failure says why it can't be compared: it is refused, `run` fails before it answers, or there is no
+-- `.out` file
 pub data IsUncompared (held : Held) (t : Trial) (f : Failure) : Type 0 where
-  without_text : TellsNoProgram held (file t (codes ".afx")) f → IsUncompared held t f
+  refused : IsRefused held t f → IsUncompared held t f
   without_answer : (text : List ℕ) → HasText held (file t (codes ".afx")) text
       → Explains Run (settings_of t) held text f → f ≢ CannotWriteOutput → IsUncompared held t f
   without_output : TellsNoText held (file t (codes ".out")) f → IsUncompared held t f
 
--- the line of a program that fails, with control characters in its name escaped
-pub data IsLine (held : Held) (t : Trial) (line : List ℕ) : Type 0 where
+-- its line, if it fails
+pub data IsLineOfRun (held : Held) (t : Trial) (line : List ℕ) : Type 0 where
   otherwise : IsCompared held t false → line ≡ escaped t.stem ++ codes ".afx: output differs\n"
-      → IsLine held t line
-  uncompared : (f : Failure) → IsUncompared held t f
-      → line ≡ escaped t.stem ++ (codes ".afx: " ++ (failure_text f ++ codes "\n")) → IsLine held t line
+      → IsLineOfRun held t line
+  uncompared : (f : Failure) → IsUncompared held t f → line ≡ line_for t f → IsLineOfRun held t line
+
+-- ---- either
+
+-- one with a `.err` file is to be refused, and any other is to be run
+abbrev pub Passes : Held → Trial → Type 0
+Passes held t = MatchBool (has_file t (codes ".err")) (IsRefusedAs held t true) (IsCompared held t true)
+
+abbrev pub IsLine : Held → Trial → (line : List ℕ) → Type 0
+IsLine held t line =
+    MatchBool (has_file t (codes ".err")) (IsLineOfRefusal held t line) (IsLineOfRun held t line)
 
 -- a program without a line passes, and any other has the line of one that fails
 abbrev pub HasLine : Held → Trial → Option (String Global) → Type 0
-HasLine held t line = MatchOption line (IsCompared held t true) (λ l. IsLine held t (string_bytes l))
+HasLine held t line = MatchOption line (Passes held t) (λ l. IsLine held t (string_bytes l))
 
 -- ---- all of them
 
@@ -124,7 +178,7 @@ pub data AreTested (held : Held) (f : Folder) (under : Settings)
     : (stems : List (List ℕ)) → (lines : List ℕ) → (passed failed : ℕ) → Type 0 where
   none : AreTested held f under [] [] 0 0
   pass : (ss : List (List ℕ)) (s lines : List ℕ) (n m : ℕ) → AreTested held f under ss lines n m
-      → IsCompared held (record { folder = f; stem = s; settings = under }) true
+      → Passes held (record { folder = f; stem = s; settings = under })
       → AreTested held f under (ss ++ s ∷ []) lines (n + 1) m
   fail : (ss : List (List ℕ)) (s lines line : List ℕ) (n m : ℕ) → AreTested held f under ss lines n m
       → IsLine held (record { folder = f; stem = s; settings = under }) line

@@ -1,8 +1,8 @@
 use Rattle.std.proofs.Common.{ℕ, List, arith, subst, sym}
-use Rattle.std.specs.Prelude.{true, MatchOption}
+use Rattle.std.specs.Prelude.{MatchOption}
 use Rattle.std.specs.String.{string_bytes}
 use Rattle.command_line.specs.Requests.{settings}
-use Rattle.test_and_bench.specs.Trials.{Trial, IsCompared, IsLine, folder}
+use Rattle.test_and_bench.specs.Trials.{Trial, IsLine, Passes, folder}
 use Rattle.test_and_bench.proofs.Tested.{HaveTested, none_tested, one_more}
 use Rattle.test_and_bench.proofs.testing.tested.Goals as goal
 
@@ -21,6 +21,6 @@ loop-stem-preserved g c =
     let by : List ℕ → Trial = λ s. record { folder = f; stem = s; settings = under } in
     one_more held f under c.args.stems.now mid _ c.loop-stem.stem-index c.stem-item.result _ _ _ _ _ _ _ c.in_ok-line.line (omega arith)
     c.stem-item.is c.loop-stem.invariant
-    (subst (λ (s : List ℕ). MatchOption c.in_ok-line.line (IsCompared mid (by s) true) (λ l. IsLine mid (by s) (string_bytes l)))
+    (subst (λ (s : List ℕ). MatchOption c.in_ok-line.line (Passes mid (by s)) (λ l. IsLine mid (by s) (string_bytes l)))
     c.as_str.ensures.value c.in_ok-line.ensures.line)
     c.in_ok-line.ensures.keeps c.in_ok-add.ensures.added

@@ -1,65 +1,37 @@
-use denote.Param.Send.{sendable}
-use Rattle.std.proofs.Common.{ℕ, List, ◌≤◌, length, Ok, ◌∙◌, subst, sym, codes}
-use Rattle.std.specs.Prelude.{IfOk, IfErr}
-use Rattle.std.specs.Str.{IsUtf8}
+use Rattle.std.proofs.Common.{ℕ, List, Ok, subst, sym, codes}
+use Rattle.std.proofs.lemmas.Result.{IfOk-weaker, IfErr-weaker}
 use Rattle.files.specs.Held.{Held, IsGiven}
-use Rattle.files.proofs.Programs.{no_program_text}
 use Rattle.commands.proofs.Answering.{err_passed}
-use Rattle.test_and_bench.specs.Trials.{IsCompared, IsUncompared, file, trial, without_text}
-use Rattle.test_and_bench.proofs.Trying.{memory_uncompared, no_program_at}
+use Rattle.test_and_bench.specs.Trials.{IsUncompared, file, refused, trial, without_output}
+use Rattle.test_and_bench.proofs.Trying.{compared, no_answer, no_text_kept}
 use Rattle.test_and_bench.proofs.trial.Trial.passes.Goals as goal
 
-pub returns-in_err-name-clause-why : goal.returns-in_err-name-clause-why
-returns-in_err-name-clause-why g c =
+pub returns-in_err-begun-clause-why : goal.returns-in_err-begun-clause-why
+returns-in_err-begun-clause-why g c =
     let held = g.F.FileSource.held c.args.files.now in
     let t = trial c.args.self.now in
-    err_passed c.from_residual.result _ (IsUncompared held t) c.from_residual.ensures.1
-    (memory_uncompared held t _ c.in_err-name.ensures.why)
+    err_passed c.from_residual.result _ (IsUncompared held t) c.from_residual.ensures.1 (refused c.in_err-begun.ensures.why)
 
-pub returns-in_err-bytes-clause-why : goal.returns-in_err-bytes-clause-why
-returns-in_err-bytes-clause-why g c =
+pub returns-in_err-wanted-clause-why : goal.returns-in_err-wanted-clause-why
+returns-in_err-wanted-clause-why g c =
     let held = g.F.FileSource.held c.args.files.now in
     let t = trial c.args.self.now in
-    err_passed c.from_residual-in_err-bytes.result _ (IsUncompared held t) c.from_residual-in_err-bytes.ensures.1
-    (without_text (no_program_at held _ _ _ (c.as_str.ensures.value ∙ c.in_ok-name.ensures.name) c.in_err-bytes.ensures.why))
+    err_passed c.from_residual-in_err-wanted.result _ (IsUncompared held t) c.from_residual-in_err-wanted.ensures.1
+    (without_output (no_text_kept _ held (file t (codes ".out")) _ c.in_ok-begun.ensures.keeps c.in_err-wanted.ensures.why))
 
-pub tells_as_wanted-requires : goal.tells_as_wanted-requires
-tells_as_wanted-requires g c =
+pub returns-clause-compared : goal.returns-clause-compared
+returns-clause-compared g c =
     let held = g.F.FileSource.held c.args.files.now in
     let t = trial c.args.self.now in
-    let text = c.in-Ok.ensures.cases in
-    let shared = c.type_bounds.sync-R in (
-      search sendable,
-      record {
-        given = subst (λ (h : Held). IsGiven (h (file t (codes ".afx"))) (Ok c.in-Ok.text.now)) (sym c.in_ok-bytes.ensures.keeps)
-            (subst (λ (n : List ℕ). IsGiven (held n) (Ok c.in-Ok.text.now)) (c.as_str.ensures.value ∙ c.in_ok-name.ensures.name)
-            (subst (λ (bs : List ℕ). IsGiven (held c.as_str.result.now) (Ok bs)) (sym (text.0 ∙ c.deref.ensures.value))
-            c.in_ok-bytes.ensures.given));
-        is_text = subst IsUtf8 (sym text.0) text.1;
-      },
-    )
-
-pub returns-in-Ok-clause-compared : goal.returns-in-Ok-clause-compared
-returns-in-Ok-clause-compared g c =
-    subst (λ (h : Held). IfOk c.tells_as_wanted.result (IsCompared h (trial c.args.self.now))) c.in_ok-bytes.ensures.keeps
-    c.tells_as_wanted.ensures.compared
-
-pub returns-in-Ok-clause-why : goal.returns-in-Ok-clause-why
-returns-in-Ok-clause-why g c =
-    subst (λ (h : Held). IfErr c.tells_as_wanted.result (IsUncompared h (trial c.args.self.now))) c.in_ok-bytes.ensures.keeps
-    c.tells_as_wanted.ensures.why
+    let given = subst (λ (bs : List ℕ). IsGiven (held (file t (codes ".out"))) (Ok bs)) (sym c.deref.ensures.value)
+    (subst (λ (h : Held). IsGiven (h (file t (codes ".out"))) (Ok c.in_ok-wanted.wanted.items)) c.in_ok-begun.ensures.keeps
+    c.in_ok-wanted.ensures.given) in
+    IfOk-weaker c.tells.result _ _ (λ same is.
+    compared held t c.in_ok-begun.begun c.deref.result.now same c.in_ok-begun.ensures.begun given is) c.tells.ensures.same
 
 pub returns-clause-why : goal.returns-clause-why
 returns-clause-why g c =
     let held = g.F.FileSource.held c.args.files.now in
     let t = trial c.args.self.now in
-    let same = c.as_str.ensures.value ∙ c.in_ok-name.ensures.name in
-    without_text (no_program_at held _ _ c.not_utf8.result (c.as_str-in-Err.ensures.value ∙ c.in_ok-name.ensures.name)
-    (no_program_text held c.as_str-in-Err.result.now c.not_utf8.result c.not_utf8.ensures
-    (record {
-      bytes = c.deref.result.now;
-      given = subst (λ (n : List ℕ). IsGiven (held n) (Ok c.deref.result.now)) (same ∙ sym (c.as_str-in-Err.ensures.value ∙ c.in_ok-name.ensures.name))
-          (subst (λ (bs : List ℕ). IsGiven (held c.as_str.result.now) (Ok bs)) (sym c.deref.ensures.value) c.in_ok-bytes.ensures.given);
-      short = subst (λ (bs : List ℕ). length bs ≤ 1048576) (sym c.deref.ensures.value) c.in_ok-bytes.ensures.short;
-      no_text = c.in-Err.ensures.cases.0;
-    })))
+    IfErr-weaker c.tells.result _ (IsUncompared held t) (λ f told. no_answer held t c.in_ok-begun.begun f c.in_ok-begun.ensures.begun told)
+    c.tells.ensures.why

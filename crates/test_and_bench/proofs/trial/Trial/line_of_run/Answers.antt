@@ -1,5 +1,5 @@
 use Rattle.test_and_bench.specs.Trials.{uncompared}
-use Rattle.test_and_bench.proofs.trial.Trial.line.Goals as goal
+use Rattle.test_and_bench.proofs.trial.Trial.line_of_run.Goals as goal
 
 pub returns-in_ok-failed-in-Err-clause-line : goal.returns-in_ok-failed-in-Err-clause-line
 returns-in_ok-failed-in-Err-clause-line g c =
