@@ -1,3 +1,4 @@
+pub mod Ended
 pub mod Endings
 pub mod RunCauses
 pub mod Tested

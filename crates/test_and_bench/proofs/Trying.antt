@@ -1,7 +1,6 @@
 -- A program of a folder, and its result.
 use Rattle.std.proofs.Common.{◌≡◌, ℕ, List, Result, Ok, refl, sym, subst, codes}
-use Rattle.std.specs.Prelude.{ℤ, Bool, false, IfOk}
-use Rattle.std.specs.Str.{bytes_eq}
+use Rattle.std.specs.Prelude.{ℤ, false, Option, IfOk}
 use Rattle.types.specs.Code.{Program}
 use Rattle.types.specs.Outcome.{Budget, Outcome, outcome}
 use Rattle.types.specs.Translation.{input as lists_of}
@@ -13,6 +12,7 @@ use Rattle.failures.specs.declared.failure.Failure.{Failure}
 use Rattle.failures.specs.declared.failure.Failure.TheVariants.{NoMemory}
 use Rattle.commands.specs.declared.question.Begun.{Begun}
 use Rattle.commands.proofs.Answering.{begun_so, other_failure}
+use Rattle.test_and_bench.specs.Differences.{difference}
 use Rattle.test_and_bench.specs.Runs.{TellsNoRun}
 use Rattle.test_and_bench.specs.Trials.{Trial, IsBegun, IsCompared, IsRefused, IsUncompared, file, settings_of, told_by}
 use Rattle.test_and_bench.specs.Trials.{without_answer, without_text}
@@ -48,17 +48,17 @@ pub same_program : (t u : Typed) (input : List (List ℤ)) (b : Budget) (o : Out
 same_program t u input b o is same = subst (λ (x : Typed). o ≡ outcome (code_of x) input b) same is
 
 -- the text of the outcome is what the program prints
-pub told_as : (r : Result Bool Failure) (b : Budget) (p : Program) (input : List (List ℤ)) (o : Outcome) (bytes : List ℕ)
-    → o ≡ outcome p input b → IfOk r (λ same. same ≡ bytes_eq (outcome_text p.arrays false o) bytes)
-    → IfOk r (λ same. same ≡ bytes_eq (told_by b p input) bytes)
+pub told_as : (r : Result (Option ℕ) Failure) (b : Budget) (p : Program) (input : List (List ℤ)) (o : Outcome) (bytes : List ℕ)
+    → o ≡ outcome p input b → IfOk r (λ line. line ≡ difference (outcome_text p.arrays false o) bytes)
+    → IfOk r (λ line. line ≡ difference (told_by b p input) bytes)
 told_as r b p input o bytes same told =
-    subst (λ (x : Outcome). IfOk r (λ s. s ≡ bytes_eq (outcome_text p.arrays false x) bytes)) same told
+    subst (λ (x : Outcome). IfOk r (λ l. l ≡ difference (outcome_text p.arrays false x) bytes)) same told
 
 -- what was printed, compared with the expected output
-pub compared : (held : Held) (t : Trial) (b : Begun) (bytes : List ℕ) (same : Bool) → IsBegun held t b
+pub compared : (held : Held) (t : Trial) (b : Begun) (bytes : List ℕ) (line : Option ℕ) → IsBegun held t b
     → IsGiven (held (file t (codes ".out"))) (Ok bytes)
-    → same ≡ bytes_eq (told_by t.settings.budget (code_of b.accepted.typed) (lists_of b.input)) bytes → IsCompared held t same
-compared held t b bytes same begun given is = record {
+    → line ≡ difference (told_by t.settings.budget (code_of b.accepted.typed) (lists_of b.input)) bytes → IsCompared held t line
+compared held t b bytes line begun given is = record {
   text = begun.text;
   has_text = begun.has_text;
   told = told_by t.settings.budget (code_of b.accepted.typed) (lists_of b.input);
@@ -69,7 +69,7 @@ compared held t b bytes same begun given is = record {
   };
   bytes = bytes;
   given = given;
-  same_is = is;
+  line_is = is;
 }
 
 -- a run that fails

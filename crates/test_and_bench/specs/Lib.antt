@@ -1,3 +1,4 @@
+pub mod Differences
 pub mod Five
 pub mod Folders
 pub mod Runs

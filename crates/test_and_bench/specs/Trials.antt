@@ -23,6 +23,7 @@ use Rattle.failures.specs.declared.failure.Failure.{Failure}
 use Rattle.failures.specs.declared.failure.Failure.TheVariants.{CannotWriteOutput}
 use Rattle.commands.specs.Answers.{AnswersRun, Done, Explains, HasInput, TellsNotBegun}
 use Rattle.commands.specs.declared.question.Begun.{Begun}
+use Rattle.test_and_bench.specs.Differences.{difference}
 use Rattle.test_and_bench.specs.Folders.{AreGiven, Folders, TellsNoFolder}
 use Rattle.test_and_bench.specs.declared.outcomes.Case.{Case}
 use Rattle.test_and_bench.specs.declared.testing.Found.{Found}
@@ -81,14 +82,15 @@ settings_of t = record t.settings { input = input_file t }
 abbrev pub told_by : Budget → Program → (input : List (List ℤ)) → List ℕ
 told_by b p input = outcome_text p.arrays false (outcome p input b)
 
--- whether the text of an outcome of a case's program is the expected output
-abbrev pub is_wanted : Case → Outcome → Bool
-is_wanted c o = bytes_eq (outcome_text (code_of c.accepted.now.typed).arrays false o) c.wanted.now
+-- the line in which the text of an outcome of a case's program first differs from the expected output, if it
+-- does
+abbrev pub differs_with : Case → Outcome → Option ℕ
+differs_with c o = difference (outcome_text (code_of c.accepted.now.typed).arrays false o) c.wanted.now
 
--- whether what it prints under its settings is the expected output
-abbrev pub tells_wanted : Case → Bool
-tells_wanted c =
-    bytes_eq (told_by (budget_of c.settings.budget) (code_of c.accepted.now.typed) (lists_of c.input.now)) c.wanted.now
+-- the line in which what it prints under its settings first differs from the expected output, if it does
+abbrev pub differs_in : Case → Option ℕ
+differs_in c =
+    difference (told_by (budget_of c.settings.budget) (code_of c.accepted.now.typed) (lists_of c.input.now)) c.wanted.now
 
 -- its file has a text, of whose program, which has no race, this is the code, and this is its input
 pub record IsBegun (held : Held) (t : Trial) (b : Begun) : Type 0 where
@@ -131,9 +133,9 @@ pub data IsLineOfRefusal (held : Held) (t : Trial) (line : List ℕ) : Type 0 wh
 
 -- ---- one that is to be run
 
--- `run` prints this much for its text, and its `.out` file has these bytes: whether the two are
--- equal
-pub record IsCompared (held : Held) (t : Trial) (same : Bool) : Type 0 where
+-- `run` prints this much for its text, and its `.out` file has these bytes: the first line in which the two
+-- differ, if they do
+pub record IsCompared (held : Held) (t : Trial) (line : Option ℕ) : Type 0 where
   pub text : List ℕ
   pub has_text : HasText held (file t (codes ".afx")) text
   pub told : List ℕ
@@ -141,7 +143,7 @@ pub record IsCompared (held : Held) (t : Trial) (same : Bool) : Type 0 where
   pub answers : AnswersRun (settings_of t) held text told status
   pub bytes : List ℕ
   pub given : IsGiven (held (file t (codes ".out"))) (Ok bytes)
-  pub same_is : same ≡ bytes_eq told bytes
+  pub line_is : line ≡ difference told bytes
 
 -- the failure says why it can't be compared: it is refused, `run` fails before it answers, or there is no
 -- `.out` file
@@ -153,7 +155,8 @@ pub data IsUncompared (held : Held) (t : Trial) (f : Failure) : Type 0 where
 
 -- its line, if it fails
 pub data IsLineOfRun (held : Held) (t : Trial) (line : List ℕ) : Type 0 where
-  otherwise : IsCompared held t false → line ≡ escaped t.stem ++ codes ".afx: output differs\n"
+  otherwise : (n : ℕ) → IsCompared held t (Some n)
+      → line ≡ escaped t.stem ++ (codes ".afx: output differs at line " ++ (decimal n ++ codes "\n"))
       → IsLineOfRun held t line
   uncompared : (f : Failure) → IsUncompared held t f → line ≡ line_for t f → IsLineOfRun held t line
 
@@ -161,7 +164,7 @@ pub data IsLineOfRun (held : Held) (t : Trial) (line : List ℕ) : Type 0 where
 
 -- one with a `.err` file is to be refused, and any other is to be run
 abbrev pub Passes : Held → Trial → Type 0
-Passes held t = MatchBool (has_file t (codes ".err")) (IsRefusedAs held t true) (IsCompared held t true)
+Passes held t = MatchBool (has_file t (codes ".err")) (IsRefusedAs held t true) (IsCompared held t None)
 
 abbrev pub IsLine : Held → Trial → (line : List ℕ) → Type 0
 IsLine held t line =

@@ -3,6 +3,7 @@
 #![tactic(auto)]
 
 pub mod clock;
+mod differences;
 pub mod folders;
 pub mod outcomes;
 pub mod runs;

@@ -5,8 +5,9 @@ ghost use Rattle.types.specs.Translation.{outcome as outcome_in};
 ghost use Rattle.command_line.specs.Requests.{settings as settings_of};
 ghost use Rattle.commands.specs.Outcomes.{Fits};
 ghost use Rattle.test_and_bench.specs.Runs.{TellsNoRun};
-ghost use Rattle.test_and_bench.specs.Trials.{is_wanted, tells_wanted};
+ghost use Rattle.test_and_bench.specs.Trials.{differs_in, differs_with};
 
+use crate::differences::difference;
 use crate::runs::{Runs, on_workers};
 use command_line::request::RunOptions;
 use failures::failure::Failure;
@@ -30,30 +31,32 @@ pub struct Case<'c> {
 }
 
 impl Case<'_> {
-    /// Returns whether it prints the expected output: serially, and in parallel on 1 and on all
-    /// workers.
-    pub fn tells<R: Threads + Wait + Sync, W: Runs>(
+    /// Returns the line in which its output first differs from the expected output, or None if it
+    /// doesn't: serially, and in parallel on 1 and on all workers.
+    pub fn difference<R: Threads + Wait + Sync, W: Runs>(
         &self,
         rt: &R,
         runs: &W,
-    ) -> Result<bool, Failure>
+    ) -> Result<Option<usize>, Failure>
         requires { Fits self.now.accepted.now.typed self.now.input.now }
-        ensures same { IfOk result (λ same. same ≡ tells_wanted self.now) }
+        ensures line { IfOk result (λ line. line ≡ differs_in self.now) }
         ensures why { IfErr result (TellsNoRun (settings_of self.now.settings)) }
     {
-        if !self.tells_on_one_thread()? {
-            return Ok(false);
+        let serially = self.difference_on_one_thread()?;
+        if serially.is_some() {
+            return Ok(serially);
         }
-        if !self.tells_as_tasks(rt, runs, 1)? {
-            return Ok(false);
+        let on_one_worker = self.difference_as_tasks(rt, runs, 1)?;
+        if on_one_worker.is_some() {
+            return Ok(on_one_worker);
         }
-        self.tells_as_tasks(rt, runs, self.settings.spread.workers)
+        self.difference_as_tasks(rt, runs, self.settings.spread.workers)
     }
 
-    /// Returns whether it does on one thread.
-    fn tells_on_one_thread(&self) -> Result<bool, Failure>
+    /// Returns that line for a run on one thread.
+    fn difference_on_one_thread(&self) -> Result<Option<usize>, Failure>
         requires { Fits self.now.accepted.now.typed self.now.input.now }
-        ensures same { IfOk result (λ same. same ≡ tells_wanted self.now) }
+        ensures line { IfOk result (λ line. line ≡ differs_in self.now) }
         ensures why { IfErr result (λ f. f ≡ Failure.NoMemory) }
     {
         match serial(
@@ -62,33 +65,34 @@ impl Case<'_> {
             self.input,
             self.settings.budget,
         ) {
-            Ok(outcome) => self.is_told(&outcome),
+            Ok(outcome) => self.difference_of(&outcome),
             Err(_) => Err(Failure::NoMemory),
         }
     }
 
-    /// Returns whether it does in parallel on this many workers.
-    fn tells_as_tasks<R: Threads + Wait + Sync, W: Runs>(
+    /// Returns that line for a parallel run on this many workers.
+    fn difference_as_tasks<R: Threads + Wait + Sync, W: Runs>(
         &self,
         rt: &R,
         runs: &W,
         workers: u64,
-    ) -> Result<bool, Failure>
+    ) -> Result<Option<usize>, Failure>
         requires fits { Fits self.now.accepted.now.typed self.now.input.now }
         requires workers { (1 ≤ workers) × (workers ≤ 64) }
-        ensures same { IfOk result (λ same. same ≡ tells_wanted self.now) }
+        ensures line { IfOk result (λ line. line ≡ differs_in self.now) }
         ensures why { IfErr result (TellsNoRun (settings_of self.now.settings)) }
     {
         let settings = on_workers(self.settings, workers);
         match runs.outcome(rt, self.alloc, self.accepted, self.input, settings) {
-            Ok(outcome) => self.is_told(&outcome),
+            Ok(outcome) => self.difference_of(&outcome),
             Err(failure) => Err(failure),
         }
     }
 
-    /// Returns whether the text of an outcome of the program is the expected output.
-    fn is_told(&self, outcome: &Outcome) -> Result<bool, Failure>
-        ensures same { IfOk result (λ same. same ≡ is_wanted self.now (outcome_in outcome.now)) }
+    /// Returns that line for the text of an outcome of the program.
+    fn difference_of(&self, outcome: &Outcome) -> Result<Option<usize>, Failure>
+        ensures line { IfOk result
+            (λ line. line ≡ differs_with self.now (outcome_in outcome.now)) }
         ensures why { IfErr result (λ f. f ≡ Failure.NoMemory) }
     {
         let mut told = Vec::new(self.alloc);
@@ -98,7 +102,7 @@ impl Case<'_> {
             &self.accepted.typed().code().arrays,
             false,
         ) {
-            Ok(()) => Ok(told.as_slice() == self.wanted),
+            Ok(()) => Ok(difference(&told, self.wanted)),
             Err(_) => Err(Failure::NoMemory),
         }
     }

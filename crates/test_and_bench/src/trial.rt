@@ -1,6 +1,7 @@
 //! Whether a program of a folder prints its expected output.
 
-ghost use Rattle.std.specs.Prelude.{◌≡◌, ◌++◌, codes, true, option_map, IfErr, IfOk, MatchOption, Ok};
+ghost use Rattle.std.specs.Prelude.{◌≡◌, ◌++◌, codes, true, option_map, None, IfErr, IfOk, MatchOption, Ok};
+ghost use Rattle.std.specs.Fmt.{decimal};
 ghost use Rattle.std.specs.String.{string_bytes};
 ghost use Rattle.types.specs.Translation.{input as lists_of};
 ghost use Rattle.types.specs.Typed.{code_of};
@@ -117,29 +118,26 @@ impl<'f> Trial<'f> {
         files: &mut F,
     ) -> Result<Option<String>, Failure>
         ensures line { let t = trial_of self.now in IfOk result (λ line.
-            MatchOption line (IsCompared (F.held files.old) t true)
+            MatchOption line (IsCompared (F.held files.old) t None)
             (λ l. IsLineOfRun (F.held files.old) t (string_bytes l))) }
         ensures why { IfErr result (λ f. f ≡ Failure.NoMemory) }
         ensures keeps { F.held files.new ≡ F.held files.old }
     {
-        match self.passes(rt, alloc, runs, files) {
-            Ok(passes) => if passes {
-                Ok(None)
-            } else {
-                Ok(Some(otherwise(alloc, self.stem)?))
-            },
+        match self.difference(rt, alloc, runs, files) {
+            Ok(None) => Ok(None),
+            Ok(Some(line)) => Ok(Some(otherwise(alloc, self.stem, line)?)),
             Err(failure) => Ok(Some(failed(alloc, self.stem, &failure)?)),
         }
     }
 
-    /// Returns whether it prints the contents of its `.out` file.
-    fn passes<R: Threads + Wait + Sync, F: FileSource, W: Runs>(
+    /// Returns the line in which its output first differs from its `.out` file, or None if it doesn't.
+    fn difference<R: Threads + Wait + Sync, F: FileSource, W: Runs>(
         &self,
         rt: &R,
         alloc: Global,
         runs: &W,
         files: &mut F,
-    ) -> Result<bool, Failure>
+    ) -> Result<Option<usize>, Failure>
         ensures compared { IfOk result (IsCompared (F.held files.old) (trial_of self.now)) }
         ensures why { IfErr result (IsUncompared (F.held files.old) (trial_of self.now)) }
         ensures keeps { F.held files.new ≡ F.held files.old }
@@ -153,7 +151,7 @@ impl<'f> Trial<'f> {
             settings: self.settings,
             wanted: &wanted,
         };
-        case.tells(rt, runs)
+        case.difference(rt, runs)
     }
 
     /// Returns its program, if that has no race, and its input.
@@ -260,14 +258,14 @@ impl<'f> Trial<'f> {
     }
 }
 
-/// Returns the line of a program whose output differs.
-fn otherwise(alloc: Global, stem: &str) -> Result<String, Failure>
-    ensures line { IfOk result
-        (λ line. string_bytes line ≡ escaped stem.now ++ codes ".afx: output differs\n") }
+/// Returns the line of a program whose output differs first in this line.
+fn otherwise(alloc: Global, stem: &str, line: usize) -> Result<String, Failure>
+    ensures line { IfOk result (λ told. string_bytes told ≡ escaped stem.now
+        ++ (codes ".afx: output differs at line " ++ (decimal line ++ codes "\n"))) }
     ensures why { IfErr result (λ f. f ≡ Failure.NoMemory) }
 {
     let shown = shown_of(alloc, stem)?;
-    match format!(in alloc; "{shown}.afx: output differs\n") {
+    match format!(in alloc; "{shown}.afx: output differs at line {line}\n") {
         Ok(line) => Ok(line),
         Err(AllocError) => Err(Failure::NoMemory),
     }

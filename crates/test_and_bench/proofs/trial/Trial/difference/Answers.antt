@@ -4,7 +4,7 @@ use Rattle.files.specs.Held.{Held, IsGiven}
 use Rattle.commands.proofs.Answering.{err_passed}
 use Rattle.test_and_bench.specs.Trials.{IsUncompared, file, refused, trial, without_output}
 use Rattle.test_and_bench.proofs.Trying.{compared, no_answer, no_text_kept}
-use Rattle.test_and_bench.proofs.trial.Trial.passes.Goals as goal
+use Rattle.test_and_bench.proofs.trial.Trial.difference.Goals as goal
 
 pub returns-in_err-begun-clause-why : goal.returns-in_err-begun-clause-why
 returns-in_err-begun-clause-why g c =
@@ -26,12 +26,12 @@ returns-clause-compared g c =
     let given = subst (λ (bs : List ℕ). IsGiven (held (file t (codes ".out"))) (Ok bs)) (sym c.deref.ensures.value)
     (subst (λ (h : Held). IsGiven (h (file t (codes ".out"))) (Ok c.in_ok-wanted.wanted.items)) c.in_ok-begun.ensures.keeps
     c.in_ok-wanted.ensures.given) in
-    IfOk-weaker c.tells.result _ _ (λ same is.
-    compared held t c.in_ok-begun.begun c.deref.result.now same c.in_ok-begun.ensures.begun given is) c.tells.ensures.same
+    IfOk-weaker c.difference.result _ _ (λ line is.
+    compared held t c.in_ok-begun.begun c.deref.result.now line c.in_ok-begun.ensures.begun given is) c.difference.ensures.line
 
 pub returns-clause-why : goal.returns-clause-why
 returns-clause-why g c =
     let held = g.F.FileSource.held c.args.files.now in
     let t = trial c.args.self.now in
-    IfErr-weaker c.tells.result _ (IsUncompared held t) (λ f told. no_answer held t c.in_ok-begun.begun f c.in_ok-begun.ensures.begun told)
-    c.tells.ensures.why
+    IfErr-weaker c.difference.result _ (IsUncompared held t) (λ f told. no_answer held t c.in_ok-begun.begun f c.in_ok-begun.ensures.begun told)
+    c.difference.ensures.why

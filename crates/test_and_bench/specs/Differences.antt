@@ -1,0 +1,19 @@
+-- Where two texts differ.
+use Rattle.std.specs.Prelude.{ℕ, ◌+◌, List, [], ◌∷◌, nat_eq, if◌then◌else◌, Option, None, Some}
+use Rattle.std.specs.Str.{bytes_eq}
+
+-- the line behind a byte of a line
+abbrev pub line_behind : (byte line : ℕ) → ℕ
+line_behind byte line = if nat_eq byte 10 then line + 1 else line
+
+-- the number of the first line in which two texts differ, for texts that start in this line; if one begins
+-- with the other, it is the line in which the shorter one ends
+abbrev pub differing_line : (line : ℕ) → (told wanted : List ℕ) → ℕ
+differing_line line [] wanted = line
+differing_line line (x ∷ told) [] = line
+differing_line line (x ∷ told) (y ∷ wanted) =
+    if nat_eq x y then differing_line (line_behind x line) told wanted else line
+
+-- that line, if the texts differ
+abbrev pub difference : (told wanted : List ℕ) → Option ℕ
+difference told wanted = if bytes_eq told wanted then None else Some (differing_line 1 told wanted)
