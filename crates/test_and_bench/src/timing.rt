@@ -43,7 +43,8 @@ pub struct Timing<'t, W, C> {
 
 /// Runs a program five times serially, and five times each in parallel on 1, on 2 and on all
 /// workers. Writes how long the runs took, how much faster all workers are and can be, how many
-/// tasks there were, and how many places are copied for them. If the run has faults or is stopped, writes its outcome instead. Returns the exit status.
+/// tasks there were, and how many places are copied for them. If the run has faults or is stopped,
+/// writes its outcome instead. Returns the exit status.
 pub fn bench<R: Threads + Wait + Sync, F: FileSource, O: Write, W: Runs, C: Stopwatch>(
     rt: &R,
     timing: Timing<'_, W, C>,
