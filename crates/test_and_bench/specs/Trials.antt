@@ -90,7 +90,8 @@ differs_with c o = difference (outcome_text (code_of c.accepted.now.typed).array
 -- the line in which what it prints under its settings first differs from the expected output, if it does
 abbrev pub differs_in : Case → Option ℕ
 differs_in c =
-    difference (told_by (budget_of c.settings.budget) (code_of c.accepted.now.typed) (lists_of c.input.now)) c.wanted.now
+    let told = told_by (budget_of c.settings.budget) (code_of c.accepted.now.typed) (lists_of c.input.now) in
+    difference told c.wanted.now
 
 -- its file has a text, of whose program, which has no race, this is the code, and this is its input
 pub record IsBegun (held : Held) (t : Trial) (b : Begun) : Type 0 where
@@ -209,8 +210,8 @@ tested_status zero = 0
 tested_status (suc n) = 1
 
 -- the programs of a folder were tested under these settings, sorted by name, and the results are printed
-pub record AnswersTest (named : Folders) (held : Held) (name : List ℕ) (under : Settings) (told : List ℕ) (status : ℕ)
-    : Type 0 where
+pub record AnswersTest (named : Folders) (held : Held) (name : List ℕ) (under : Settings)
+    (told : List ℕ) (status : ℕ) : Type 0 where
   pub names : List (List ℕ)
   pub given : AreGiven (named name) (Ok names)
   pub programs : List (String Global)
