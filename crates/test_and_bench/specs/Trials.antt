@@ -72,9 +72,9 @@ has_file t ending = has_name t.folder.names (t.stem ++ ending)
 abbrev pub input_file : Trial → Option (List ℕ)
 input_file t = if has_file t (codes ".json") then Some (file t (codes ".json")) else None
 
--- it runs on its input
+-- it runs on its input, and no arrays are shown
 abbrev pub settings_of : Trial → Settings
-settings_of t = record t.settings { input = input_file t }
+settings_of t = record t.settings { input = input_file t; arrays = false }
 
 -- ---- one program
 

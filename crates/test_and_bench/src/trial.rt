@@ -1,32 +1,37 @@
 //! Whether a program of a folder prints its expected output.
 
-ghost use Rattle.std.specs.Prelude.{◌≡◌, ◌++◌, codes, true, option_map, None, IfErr, IfOk, MatchOption, Ok};
+ghost use Rattle.std.specs.Prelude.{◌≡◌, ◌++◌, codes, true, None, IfErr, IfOk, MatchOption, Ok};
 ghost use Rattle.std.specs.Fmt.{decimal};
 ghost use Rattle.std.specs.String.{string_bytes};
+ghost use Rattle.types.specs.Inputs.{IsInput};
 ghost use Rattle.types.specs.Translation.{input as lists_of};
 ghost use Rattle.types.specs.Typed.{code_of};
-ghost use Rattle.command_line.specs.Requests.{settings as settings_in};
 ghost use Rattle.commands.specs.Answers.{HasInput, TellsNotBegun};
 ghost use Rattle.commands.specs.Outcomes.{Fits};
-ghost use Rattle.files.specs.Held.{IsGiven, TellsNoText};
+ghost use Rattle.files.specs.Held.{BeginsWith, IsGiven, TellsNoInput, TellsNoText};
 ghost use Rattle.failures.specs.Messages.{failure_text};
 ghost use Rattle.printing.specs.Reasons.{escaped};
 ghost use Rattle.test_and_bench.specs.Trials.{HasLine, IsBegun, IsCompared, IsLineOfRefusal, IsLineOfRun};
 ghost use Rattle.test_and_bench.specs.Trials.{IsMessage, IsRefused, IsRefusedAs, IsUncompared};
-ghost use Rattle.test_and_bench.specs.Trials.{file as file_of, has_file, settings_of, trial as trial_of};
+ghost use Rattle.test_and_bench.specs.Trials.{file as file_of, has_file, input_file, settings_of};
+ghost use Rattle.test_and_bench.specs.Trials.{trial as trial_of};
 
 use crate::outcomes::Case;
 use crate::runs::Runs;
 use crate::stems::has_name;
 use command_line::request::RunOptions;
-use commands::question::{Begun, Question};
+use commands::programs::accepted_of;
+use commands::question::Begun;
 use failures::failure::Failure;
 use failures::message::emit_message;
 use files::file_source::{FileSource, read_file, read_program};
+use files::input_file::input_of;
 use printing::reasons::emit_file;
 use std::alloc::{AllocError, Global};
 use std::sync::Wait;
 use std::thread::Threads;
+use types::input::Input;
+use types::typed::Typed;
 
 /// A folder, and the names of all its entries.
 #[derive(Clone, Copy)]
@@ -44,7 +49,7 @@ pub struct Trial<'f> {
     pub settings: RunOptions<'f>,
 }
 
-impl<'f> Trial<'f> {
+impl Trial<'_> {
     /// Returns the line of a program that fails, or None if it passes. A program with a `.err` file
     /// is to be refused; any other prints the contents of its `.out` file.
     pub fn line<R: Threads + Wait + Sync, F: FileSource, W: Runs>(
@@ -174,8 +179,7 @@ impl<'f> Trial<'f> {
         }
     }
 
-    /// Returns the program with this text, if that has no race, and its input: the lists in the
-    /// `.json` file, if the folder has one.
+    /// Returns the program with this text, if that has no race, and its input.
     fn begun_with<R: Threads + Sync, F: FileSource>(
         &self,
         rt: &R,
@@ -190,28 +194,31 @@ impl<'f> Trial<'f> {
             (TellsNotBegun (settings_of (trial_of self.now)) (F.held files.old) text.now) }
         ensures keeps { F.held files.new ≡ F.held files.old }
     {
-        if self.has(alloc, ".json")? {
-            let input = self.file(alloc, ".json")?;
-            let question = self.question(text, Some(input.as_str()));
-            question.begun(rt, alloc, files)
-        } else {
-            self.question(text, None).begun(rt, alloc, files)
-        }
+        let accepted = accepted_of(rt, alloc, text)?;
+        let input = self.input(alloc, files, accepted.typed())?;
+        Ok(Begun { accepted, input })
     }
 
-    /// Returns the question for its text, with this input.
-    fn question<'q>(&'q self, text: &'q str, input: Option<&'q str>) -> Question<'q>
-        ensures text { result.text.now ≡ text.now }
-        ensures settings { settings_in result.settings ≡ record (settings_in self.now.settings)
-            { input = option_map (λ n. n.now) input.entry } }
+    /// Returns the initial contents of its arrays: the lists in its `.json` file, if the folder has
+    /// one.
+    fn input<F: FileSource>(
+        &self,
+        alloc: Global,
+        files: &mut F,
+        typed: &Typed,
+    ) -> Result<Input, Failure>
+        ensures begins { IfOk result (λ i. BeginsWith (input_file (trial_of self.now))
+            (F.held files.old) (code_of typed.now).arrays (lists_of i)) }
+        ensures fits { IfOk result (λ i. IsInput (code_of typed.now).arrays (lists_of i)) }
+        ensures why { IfErr result (TellsNoInput (input_file (trial_of self.now))
+            (F.held files.old) (code_of typed.now).arrays) }
+        ensures keeps { F.held files.new ≡ F.held files.old }
     {
-        Question {
-            text,
-            settings: RunOptions {
-                input,
-                ..self.settings
-            },
+        if !self.has(alloc, ".json")? {
+            return input_of(alloc, files, typed, None);
         }
+        let name = self.file(alloc, ".json")?;
+        input_of(alloc, files, typed, Some(name.as_str()))
     }
 
     /// Returns whether the folder has its file with this ending.

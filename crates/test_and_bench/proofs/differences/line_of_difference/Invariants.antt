@@ -1,4 +1,4 @@
-use Rattle.std.proofs.Common.{◌≡◌, ℕ, ◌+◌, ◌≤◌}
+use Rattle.std.proofs.Common.{◌≡◌, ◌+◌, ◌≤◌}
 use Rattle.std.specs.Prelude.{drop}
 use Rattle.test_and_bench.specs.Differences.{differing_line}
 use Rattle.test_and_bench.proofs.differences.line_of_difference.Given as goal
