@@ -1,9 +1,9 @@
-use Rattle.std.proofs.Common.{refl, ◌∙◌}
+use Rattle.std.proofs.Common.{refl}
 use Rattle.command_line.specs.Requests.{settings}
 use Rattle.commands.proofs.Answering.{answered}
 use Rattle.viewing.specs.Views.{AnswersTrace, ExplainsTrace, IsDrawn, command_of, picture_name}
 use Rattle.viewing.proofs.Viewing.{draws_form, form_tells, views_no_trace, views_unwritten}
-use Rattle.viewing.proofs.Written.{wrote, wrote_anyway}
+use Rattle.viewing.proofs.Written.{unwritten, wrote, wrote_anyway}
 use Rattle.viewing.proofs.drawing.draw.Goals as goal
 
 pub returns-in_err-judged-clause-done : goal.returns-in_err-judged-clause-done
@@ -18,6 +18,13 @@ returns-in_err-write_file-clause-done g c =
     views_unwritten s held c.args.question.text.now (command_of c.args.form) (draws_form c.args.form) _ _
     c.in_ok-judged.ensures.trace _ c.picture_name.ensures _ _ _ c.from_residual-in_err-write_file.ensures.1
     c.in_err-write_file.ensures.why
+
+pub returns-in_err-write_file-clause-picture : goal.returns-in_err-write_file-clause-picture
+returns-in_err-write_file-clause-picture g c =
+    let s = settings c.args.question.settings in let held = g.F.FileSource.held c.args.files.now in
+    unwritten _ (picture_name s) c.picture_name.ensures (IsDrawn s held c.args.question.text.now) held _ _
+    c.in_ok-judged.ensures.keeps _ _ c.from_residual-in_err-write_file.ensures.1 c.in_err-write_file.ensures.why
+    c.in_err-write_file.ensures.others
 
 pub returns-clause-done : goal.returns-clause-done
 returns-clause-done g c =
