@@ -17,7 +17,7 @@ const ROWS: &[(&str, &str)] = &[
         "serial",
         " input steps nest arrays progress format explain color",
     ),
-    ("check", " list format explain color"),
+    ("check", " list all format explain color"),
     ("list", " lines explain color"),
     ("fmt", " check write explain color"),
     ("mhp", " accesses format explain color"),
@@ -26,7 +26,7 @@ const ROWS: &[(&str, &str)] = &[
         " input steps nest by-line by-procedure format explain color",
     ),
     ("bench", " input steps nest tasks w0 workers explain color"),
-    ("test", ""),
+    ("test", " steps nest tasks w0 workers"),
     (
         "explore",
         " input choices choices-from random arrays explain color",
