@@ -3,9 +3,11 @@
 
 # The programs that test a single cost, and the kernels of docs/COOKBOOK.md at larger sizes; each with its number of tasks.
 single='blocks:1024 halves:65536 readers:1024 wide_readers:100 tree:75025 fib_tasks:987'
-kernels='reduce:256 prefix_sum:2047 histogram:8 merge_sort:8192 parallel_merge_sort:75797 quicksort:87273
-    matrix_product:128 lu:4621 floyd_warshall:505 jacobi:2521 life:4033 blur:256 segmented_sieve:64
-    mandelbrot:128 bfs:211 match:64 lcs:16377 queens:64 ntt:49151'
+kernels='reduce:256 prefix_sum:2049 histogram:9 merge_sort:8192 parallel_merge_sort:75797 quicksort:87273
+    matrix_product:128 lu:4097 floyd_warshall:505 jacobi:2561 life:4097 blur:257 segmented_sieve:64
+    mandelbrot:128 bfs:211 match:65 lcs:18424 queens:64 ntt:49151'
+# Kernels and a loop in another form: with `split` in place of `parts`, or the other way round.
+forms='jacobi_split:2521 histogram_split:8 matrix_product_parts:129 turns:1 turns_split:1 turns_while:1'
 
 # names LIST: prints the names of a list
 names() {
@@ -14,7 +16,7 @@ names() {
 
 # tasks_of NAME: prints the number of tasks of a program
 tasks_of() {
-    for it in $single $kernels; do [ "${it%:*}" != "$1" ] || echo "${it#*:}"; done
+    for it in $single $kernels $forms; do [ "${it%:*}" != "$1" ] || echo "${it#*:}"; done
 }
 
 # Prints the bytes of standard input as a JSON list.

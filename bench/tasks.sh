@@ -1,9 +1,9 @@
 #!/bin/sh
-# Times programs of many tasks, including those of docs/COOKBOOK.md at larger sizes, on one thread and in parallel on 1, 2
-# and 4 workers, in this one run: the minimum of three times each, in milliseconds (of one time, if it takes over 5 s). In
-# brackets is one worker's time divided by that of `serial`, or by that of more workers. Then come the maximum memory of
-# `serial` and of 4 workers, in megabytes, and the number of tasks. A '!' marks an output that differs from that of
-# `serial`. bench/peers.sh times other pools on the same tasks.
+# Times programs of many tasks, including those of docs/COOKBOOK.md at larger sizes (three of them with `parts` and with
+# `split`), on one thread and in parallel on 1, 2 and 4 workers, in this one run: the minimum of three times each, in
+# milliseconds (of one time, if it takes over 5 s). In brackets is one worker's time divided by that of `serial`, or by that of
+# more workers. Then come the maximum memory of `serial` and of 4 workers, in megabytes, and the number of tasks. A '!' marks
+# an output that differs from that of `serial`. bench/peers.sh times other pools on the same tasks.
 #
 # Not a test and not part of CI: times mean nothing on a machine that does other work.
 #
@@ -38,5 +38,5 @@ row() {
 }
 
 printf '%-20s %8s %16s %16s %16s %5s %5s %7s\n' program serial '1 worker' '2 workers' '4 workers' MB 'MB 4' tasks
-[ $# -gt 0 ] || set -- $(names "$single $kernels")
+[ $# -gt 0 ] || set -- $(names "$single $kernels $forms")
 for name; do row "$name" "$(tasks_of "$name")"; done

@@ -8,7 +8,8 @@ NUMBERS = ["0", "1", "2", "3", "7", "8", "99", "255", "256", "257", "1000", "922
 OPERATORS = ["+", "-", "*", "/", "%", "<", "<=", ">", ">=", "==", "!=", "and", "or"]
 STATEMENTS = ["skip;", "print 1;", "fault 3;", "async { skip; }", "finish { }", "async { print 5; }", "var fresh = 4;",
               "finish { async { print 2; } print 3; }", "if true { skip; } else { fault 1; }", "async { fault 2; }",
-              "while false { }", "print 1, 2 / 0;", "fault 9223372036854775807 + 1;"]
+              "while false { }", "print 1, 2 / 0;", "fault 9223372036854775807 + 1;",
+              "parts a by 2 as piece, turn { async { piece[0] = turn; } }"]
 WORDS = ["async", "finish", "if", "while", "else", "split", "at", "as", "len", "not", "true", "false", "mut", "read", "int",
          "byte", "array", "proc", "main", "parts", "by", "rescue", "print", "fault", "var"]
 BYTES = "{}()[];,=+-*/%<>!x0 \n\"@\u00e9\0"
@@ -85,7 +86,8 @@ def wrap_statement(tokens, rng):
     end = statement_at(tokens, at)
     if end > at:
         tokens.insert(end, " } ")
-        tokens.insert(at, rng.choice([" async { ", " finish { ", " if true { ", " finish { async { skip; } "]))
+        tokens.insert(at, rng.choice([" async { ", " finish { ", " if true { ", " finish { async { skip; } ",
+                                        " parts a by 3 as part, number { "]))
 
 
 def drop_statement(tokens, rng):

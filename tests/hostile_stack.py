@@ -25,6 +25,7 @@ def nested(opening, inner, depth):
 def deep_texts():
     """Name, text, outcome: as many brackets as a program may have, and chains as long as it may be."""
     splits = "".join(f"split {'a' if n == 0 else f's{n - 1}'} at 0 as l{n}, s{n} {{ " for n in range(98))
+    parts = "".join(f"parts {'a' if n == 0 else f'p{n - 1}'} by 1 as p{n}, i{n} {{ " for n in range(98))
     indices = "a[" * 98 + "0" + "]" * 98
     yield "brackets", "main { print " + "(" * 99 + "1" + ")" * 99 + "; }\n", "1\n"
     yield "indices", f"main {{ array a: int[1]; print {indices}; }}\n", "0\n"
@@ -34,6 +35,8 @@ def deep_texts():
     yield "asyncs", nested("async { ", "print 1;", 99), "1\n"
     yield "both", nested("finish { async { ", "print 1;", 49).replace(" }" * 49, " } }" * 49), "1\n"
     yield "splits", "main { array a: int[1]; " + splits + "print 1; " + "}" * 98 + " }\n", "1\n"
+    yield "parts", "main { array a: int[1]; " + parts + "print 1; " + "}" * 98 + " }\n", "1\n"
+    yield "turns", "main { array a: int[20000]; parts a by 1 as p, i { p[0] = i; } print a[19999]; }\n", "19999\n"
     yield "a sum", "main { print 1" + "+1" * 500_000 + "; }\n", "500001\n"
     yield "a product", "main { print 1" + "*1" * 500_000 + "; }\n", "1\n"
     yield "an and", "main { if true" + " and true" * 110_000 + " { print 1; } }\n", "1\n"
@@ -67,7 +70,7 @@ def try_deep_texts(tests, left_out):
         wanted = out if command in ("serial", "run", "explore") and "json" not in options else None
         status = 1 if "--check" in options else 0
         good = ended.status == status and (wanted is None or ended.out == wanted.encode())
-        told = f"512 KB of stack, {name}: {' '.join(way)}"
+        told = f"{SMALL_STACK // 1024} KB of stack, {name}: {' '.join(way)}"
         tests.judge(told, None if good else str(ended))
         if "--trace" in options and good:
             for more in ([], ["--summary"], ["--svg", "deep.svg"], ["--chrome", "deep.json"]):
@@ -100,7 +103,7 @@ def try_mistakes(tests):
         ended = tests.run(command, file, *options, stack=SMALL_STACK, environment={})
         good = ended.status == 1 and ended.err.startswith(line.encode() + b"\n")
         good = good and bool(ended.out) == ("json" in options)
-        tests.judge(f"512 KB of stack, {name}: {' '.join(way)}", None if good else str(ended))
+        tests.judge(f"{SMALL_STACK // 1024} KB of stack, {name}: {' '.join(way)}", None if good else str(ended))
 
 
 # ---- runs: each yields words, status and output (None: any)

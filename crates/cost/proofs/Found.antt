@@ -3,11 +3,12 @@ use Rattle.std.proofs.Common.{◌≡◌, ◌⊎◌, ℕ, zero, suc, List, [], �
 use Rattle.std.proofs.lemmas.Bool.{eqb-true, eq-eqb}
 use Rattle.std.proofs.lemmas.Option.{same_Some}
 use Rattle.std.specs.Prelude.{Bool, true, false, nat_eq, if◌then◌else◌, slice_index_or}
-use Rattle.types.specs.Code.{Code, Do, If, While, Split, Call, Async, Finish, Codes, End, Then, Procedure, Program}
+use Rattle.types.specs.Code.{Code, Do, If, While, Split, Parts, Begun, Call, Async, Finish, Codes, End, Then, Procedure}
+use Rattle.types.specs.Code.{Program}
 use Rattle.types.specs.Run.{no_procedure}
 use Rattle.effects.specs.AsyncNeeds.{IsNeedAt}
 use Rattle.effects.specs.Needs.{Needs}
-use Rattle.effects.specs.Statements.{Block, HasStatement, Stands, if_body, if_other, while, split, async, finish}
+use Rattle.effects.specs.Statements.{Block, HasStatement, Stands, if_body, if_other, while, split, parts, async, finish}
 use Rattle.effects.specs.Statements.{here, inside, later, in_procedure, in_main}
 use Rattle.cost.specs.Asyncs.{body_at, body_in, body_in_all, body_inside, body_of_async, first_of}
 use Rattle.cost.specs.Copied.{written_at, written_in}
@@ -29,6 +30,8 @@ found_here l m (Do s) rest c e = absurd cc
 found_here l m (If t b d) rest c e = absurd cc
 found_here l m (While t b) rest c e = absurd cc
 found_here l m (Split s n x y b) rest c e = absurd cc
+found_here l m (Parts s n q i b) rest c e = absurd cc
+found_here l m (Begun s n k q i b) rest c e = absurd cc
 found_here l m (Call f es ss) rest c e = absurd cc
 found_here l m (Finish b) rest c e = absurd cc
 found_here l m (Async b) rest c e = by_test (nat_eq l m) refl e
@@ -49,6 +52,8 @@ mutual
   ]
   found_inside l (While t b) c e = record { body = b; block = while; stands = found_in l b c e }
   found_inside l (Split s n x y b) c e = record { body = b; block = split; stands = found_in l b c e }
+  found_inside l (Parts s n q i b) c e = record { body = b; block = parts; stands = found_in l b c e }
+  found_inside l (Begun s n k q i b) c e = absurd cc
   found_inside l (Async b) c e = record { body = b; block = async; stands = found_in l b c e }
   found_inside l (Finish b) c e = record { body = b; block = finish; stands = found_in l b c e }
 
@@ -105,6 +110,8 @@ mutual
   misses_inside l (If t b d) x c if_other h = found_second (body_in l b) (body_in l d) (misses_in l d c h)
   misses_inside l (While t b) x c while h = misses_in l b c h
   misses_inside l (Split s n left right b) x c split h = misses_in l b c h
+  misses_inside l (Parts s n q i b) x c parts h = misses_in l b c h
+  misses_inside l (Begun s n k q i b) x c block h = elim block [ ]
   misses_inside l (Async b) x c async h = misses_in l b c h
   misses_inside l (Finish b) x c finish h = misses_in l b c h
 

@@ -13,6 +13,7 @@ pub mod Fair
 pub mod Turns
 pub mod Owners
 pub mod Frames
+pub mod TurnFrames
 pub mod Waiting
 pub mod MachineLemmas
 pub mod EndLemmas

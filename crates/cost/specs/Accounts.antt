@@ -4,7 +4,7 @@
 -- counts.
 use Rattle.std.specs.Prelude.{ℕ, ◌+◌, List, [], length, replicate, ℤ, if◌then◌else◌}
 use Rattle.std.specs.Prelude.{nat_lt, slice_index, slice_set}
-use Rattle.types.specs.Code.{Code, Do, If, While, Split, Call, Async, Finish, Program}
+use Rattle.types.specs.Code.{Code, Do, If, While, Split, Parts, Begun, Call, Async, Finish, Program}
 use Rattle.types.specs.Contents.{held_by}
 use Rattle.types.specs.Outcome.{Budget, start}
 use Rattle.types.specs.Run.{State, Rules, Work, Block}
@@ -90,6 +90,8 @@ counted_at l (Do s) a = steps_at l a
 counted_at l (If g b c) a = steps_at l a
 counted_at l (While g b) a = steps_at l a
 counted_at l (Split s e x y b) a = steps_at l a
+counted_at l (Parts s e q i b) a = steps_at l a
+counted_at l (Begun s n k q i b) a = steps_at l a
 counted_at l (Call f es ss) a = steps_at l a
 
 -- an account as a book

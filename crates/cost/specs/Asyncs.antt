@@ -1,6 +1,6 @@
 -- The async with a given label.
 use Rattle.std.specs.Prelude.{ℕ, List, [], ◌∷◌, Option, None, Some, nat_eq, if◌then◌else◌}
-use Rattle.types.specs.Code.{Code, Do, If, While, Split, Call, Async, Finish, Codes, End, Then}
+use Rattle.types.specs.Code.{Code, Do, If, While, Split, Parts, Begun, Call, Async, Finish, Codes, End, Then}
 use Rattle.types.specs.Code.{Procedure, Program}
 
 -- the first value if there is one, else the second
@@ -15,6 +15,8 @@ body_at l m (Do s) = None
 body_at l m (If t b c) = None
 body_at l m (While t b) = None
 body_at l m (Split s e x y b) = None
+body_at l m (Parts s e q i b) = None
+body_at l m (Begun s n k q i b) = None
 body_at l m (Call f es ss) = None
 body_at l m (Finish b) = None
 
@@ -25,6 +27,8 @@ abbrev mutual
   body_inside l (If t b c) = first_of (body_in l b) (body_in l c)
   body_inside l (While t b) = body_in l b
   body_inside l (Split s e x y b) = body_in l b
+  body_inside l (Parts s e q i b) = body_in l b
+  body_inside l (Begun s n k q i b) = None
   body_inside l (Call f es ss) = None
   body_inside l (Async b) = body_in l b
   body_inside l (Finish b) = body_in l b

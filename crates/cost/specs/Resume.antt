@@ -7,8 +7,9 @@ use Rattle.types.specs.Translation.{codes, truth, environment, fault}
 use Rattle.statement_steps.specs.declared.store.Store.{Store}
 use Rattle.statement_steps.specs.declared.thread.Thread.{Thread}
 use Rattle.statement_steps.specs.Standing.{state_of}
+use Rattle.statement_steps.specs.Turns.{pieces}
 use Rattle.cost.specs.declared.frame.CostFrame.{CostFrame}
-use Rattle.cost.specs.declared.frame.CostFrame.TheVariants.{Rest, Again, EndFinish, EndAsync, EndCall}
+use Rattle.cost.specs.declared.frame.CostFrame.TheVariants.{Rest, Again, Turns, EndFinish, EndAsync, EndCall}
 use Rattle.cost.specs.declared.frame.OuterCosts.{OuterCosts}
 use Rattle.cost.specs.declared.frame.OwnerCosts.{OwnerCosts}
 use Rattle.cost.specs.declared.frame.OutputSoFar.{OutputSoFar}
@@ -74,6 +75,7 @@ module _ (p : Program) (fresh : ℕ) where
   abbrev pub frame : CostFrame → Standing → Standing
   frame (Rest b) s = doing (Block (codes b.now)) s
   frame (Again l t b) s = doing (Turn l (truth t.now) (codes b.now)) s
+  frame (Turns t) s = doing (pieces t) s
   frame (EndFinish o) s = record s { state = end_finish o s.state }
   frame (EndAsync owner) s =
       record { state = end_async owner.value s.state; nest = owner.value.nest }

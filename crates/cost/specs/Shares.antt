@@ -1,6 +1,6 @@
 -- The total that a table by label has for the statements of a block.
 use Rattle.std.specs.Prelude.{ℕ, ◌+◌, List, slice_index}
-use Rattle.types.specs.Code.{Code, Do, If, While, Split, Call, Async, Finish, Codes, End, Then}
+use Rattle.types.specs.Code.{Code, Do, If, While, Split, Parts, Begun, Call, Async, Finish, Codes, End, Then}
 
 abbrev mutual
   -- the total of the statements inside a statement, and that of a block including all statements
@@ -10,6 +10,8 @@ abbrev mutual
   share_inside ns (If t b c) = share_of ns b + share_of ns c
   share_inside ns (While t b) = share_of ns b
   share_inside ns (Split s e x y b) = share_of ns b
+  share_inside ns (Parts s e q i b) = share_of ns b
+  share_inside ns (Begun s n k q i b) = share_of ns b
   share_inside ns (Call f es ss) = 0
   share_inside ns (Async b) = share_of ns b
   share_inside ns (Finish b) = share_of ns b

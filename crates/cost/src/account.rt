@@ -49,6 +49,7 @@ impl Account {
             | StmtKind::If { .. }
             | StmtKind::While { .. }
             | StmtKind::Split { .. }
+            | StmtKind::Parts { .. }
             | StmtKind::Call { .. } => self.step(label),
         }
     }

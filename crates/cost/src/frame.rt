@@ -1,5 +1,6 @@
 //! The work that is left to do.
 
+use statement_steps::turns::TurnsToCome;
 use types::code::{Label, Stmt, Truth};
 use types::fault::Fault;
 use types::path::Path;
@@ -16,6 +17,8 @@ pub enum CostFrame<'p> {
         guard: &'p Truth,
         body: &'p [Stmt],
     },
+    /// The turns of a `parts` that are still to come.
+    Turns(TurnsToCome<'p>),
     /// The end of a finish.
     EndFinish {
         outer: OuterCosts,

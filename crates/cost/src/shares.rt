@@ -49,6 +49,7 @@ fn in_statement(table: &[u64], kind: &StmtKind) -> u64
         }
         StmtKind::While { body, .. } => in_block(table, body),
         StmtKind::Split { body, .. } => in_block(table, body),
+        StmtKind::Parts { body, .. } => in_block(table, body),
         StmtKind::Call { .. } => 0,
         StmtKind::Async { body } => in_block(table, body),
         StmtKind::Finish { body } => in_block(table, body),

@@ -4,15 +4,15 @@ use Rattle.std.proofs.Common.{arith}
 use Rattle.std.proofs.lemmas.Bool.{eq-eqb, ne_eqb}
 use Rattle.std.specs.Prelude.{Bool, true, false, ◌||◌, nat_eq, if◌then◌else◌, Some, slice_get, unwrap_or}
 use Rattle.shared_lemmas.proofs.Truths.{false_true}
-use Rattle.sections.specs.Origins.{Origin, Root, origin_of, IsNumbered, IsSideOf, left, right}
+use Rattle.sections.specs.Origins.{Origin, Root, origin_of, IsNumbered, IsChildOf, left, right, piece}
 use Rattle.sections.specs.Member.{Member, first, next}
 use Rattle.sections.proofs.Lines.{root_of-root, root_of-side}
 use Rattle.types.specs.Code.{Code, Codes, Procedure, Program}
 use Rattle.types.specs.Run.{procedure_of}
 use Rattle.effects.specs.Accesses.{Access, own_accesses}
 use Rattle.types.specs.Sound.{passed_for}
-use Rattle.effects.specs.Effects.{past_split, renamed, Inner, AllOf, All, PendingOf, Pending, accesses}
-use Rattle.effects.specs.Sound.{may_write, is_writable, Allowed, SplitsWell, PassesWell, Follows, FollowsOf}
+use Rattle.effects.specs.Effects.{past_parts, past_split, renamed, Inner, AllOf, All, PendingOf, Pending, accesses}
+use Rattle.effects.specs.Sound.{may_write, is_writable, Allowed, CutsWell, SplitsWell, PassesWell, Follows, FollowsOf}
 use Rattle.effects.specs.Sound.{IsSoundIn, IsSound, parameters_of}
 use Rattle.effects.proofs.Members.{numbers_from-below}
 use Rattle.effects.proofs.OwnAllowed.{own_allowed}
@@ -56,7 +56,7 @@ module _ (p : Program) where
   }
 
   -- a side's root is its parent's
-  side_writable : (g : Procedure) (s a : ℕ) → IsNumbered g.sections → IsSideOf g.sections s a
+  side_writable : (g : Procedure) (s a : ℕ) → IsNumbered g.sections → IsChildOf g.sections s a
       → is_writable g a ≡ true → is_writable g s ≡ true
   side_writable g s a numbered side w = subst (λ r. may_write g.parameters r ≡ true) (root_of-side g.sections numbered a s side) w
 
@@ -74,6 +74,20 @@ module _ (p : Program) where
       go y e (next (next m)) = moved g scope x (past_split s l r) y
           (ap (past_split s l r) e ∙ past_split-other s l r y (let h : y < l = k.later y m in omega arith)
           (let h : y < l = k.later y m in let n : r ≡ l + 1 = k.next in omega arith))
+          m (λ h. subst (λ y. is_writable g y ≡ true) e (w h))
+
+  past_parts_allowed : (g : Procedure) (scope : List ℕ) → IsNumbered g.sections
+      → (s q i : ℕ) → CutsWell g scope s q i → (x : Access)
+      → Member x.section (q ∷ scope) → (x.write ≡ true → is_writable g x.section ≡ true)
+      → Allowed g scope (renamed (past_parts s q) x)
+  past_parts_allowed g scope numbered s q i k x m w = go x.section refl m
+    where
+      go : (y : ℕ) → x.section ≡ y → Member y (q ∷ scope) → Allowed g scope (renamed (past_parts s q) x)
+      go y e first = moved g scope x (past_parts s q) s (ap (past_parts s q) e ∙ past_split-left s q q) k.in_scope
+          (λ h. side_writable g s q numbered (piece k.piece) (subst (λ y. is_writable g y ≡ true) e (w h)))
+      go y e (next m) = moved g scope x (past_parts s q) y
+          (ap (past_parts s q) e ∙ past_split-other s q q y (let h : y < q = k.later y m in omega arith)
+          (let h : y < q = k.later y m in omega arith))
           m (λ h. subst (λ y. is_writable g y ≡ true) e (w h))
 
   past_call_allowed : (g : Procedure) (scope : List ℕ) (f : ℕ) (ss : List ℕ)
@@ -102,6 +116,9 @@ module _ (p : Program) where
     through (Inner.split {s = s} {l = l} {r = r}) x deeper g scope numbered k =
         let a = deeper g (l ∷ r ∷ scope) numbered k.2 in
         past_split_allowed g scope numbered s l r k.0 x a.in_scope a.writable
+    through (Inner.parts {s = s} {q = q} {i = i}) x deeper g scope numbered k =
+        let a = deeper g (q ∷ scope) numbered k.2 in
+        past_parts_allowed g scope numbered s q i k.0 x a.in_scope a.writable
     through (Inner.call {f = f} {ss = ss}) x deeper g scope numbered k =
         let callee = sound.procedures f in
         past_call_allowed g scope f ss callee k.passes x (deeper (procedure_of p f) (parameters_of (procedure_of p f)) callee.numbered callee.body)

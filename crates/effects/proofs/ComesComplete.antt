@@ -17,7 +17,7 @@ use Rattle.types.specs.Sound.{passed_for}
 use Rattle.effects.specs.Effects.{Inner, Subject, AllOf, All, PendingOf, Pending, past_split, accesses, labels as by_label, renamed}
 use Rattle.effects.specs.Flows.{flow, flows_of, flows_of_use, flows_of_labels, flows_of_sections}
 use Rattle.effects.specs.Outlines.{visits_of, flows_in, flows_in_all, numbered, StartsIn}
-use Rattle.effects.specs.Sound.{SplitsWell, CallsWell, FollowsOf, Follows, IsSoundIn, IsSound, parameters_of}
+use Rattle.effects.specs.Sound.{CallsWell, FollowsOf, Follows, IsSoundIn, IsSound, parameters_of}
 use Rattle.effects.specs.Starts.{starts_of, starts_of_label, starts_of_access}
 use Rattle.effects.specs.Summarized.{body_of}
 use Rattle.effects.specs.Visits.{Visit, visits_in, visits_inside, in_async, in_finish}
@@ -27,7 +27,7 @@ use Rattle.effects.specs.declared.summary.SummaryRow.TheVariants.{All as AllRow,
 use Rattle.effects.specs.declared.visits.Standing.{Standing}
 use Rattle.effects.specs.declared.visits.Standing.TheVariants.{Open, Begun, Awaited}
 use Rattle.effects.proofs.AccessesInScope.{origin_from_get, allowed, pending_all}
-use Rattle.effects.proofs.ComesSound.{past_root}
+use Rattle.effects.proofs.Dividing.{Divides, past_root}
 use Rattle.effects.proofs.Members.{in_flat_map, in_left, in_right, numbers_from-below}
 use Rattle.shared_lemmas.proofs.Lists.{get-append_last}
 
@@ -59,7 +59,7 @@ record Brings (p : Program) (subject : Subject) (to : (pending : Bool) → ℕ �
       → subject.renamed (root_of g.sections) x ≡ x
   top_pending : (g : Procedure) → IsSoundIn p g → (x : subject.Item) → Pending p subject g.body x
       → subject.renamed (root_of g.sections) x ≡ x
-  past : (g : Procedure) → IsSoundIn p g → (scope : List ℕ) (s l r : ℕ) → SplitsWell g scope s l r → (x : subject.Item)
+  past : (g : Procedure) → IsSoundIn p g → (scope : List ℕ) (s l r : ℕ) → Divides g scope s l r → (x : subject.Item)
       → subject.renamed (root_of g.sections) (subject.renamed (past_split s l r) x) ≡ subject.renamed (root_of g.sections) x
 
 front : (gs : List Procedure) (g d : Procedure) (k : ℕ) → k < length gs → slice_get (gs ++ g ∷ []) k ≡ Some (slice_index_or gs k d)
@@ -120,8 +120,12 @@ module _ (p : Program) (sound : IsSound p) where
           same_item c f g e (down c f g st w begun b scope h.1 part a)
       down_of c f g st w begun l s scope h here part (AllOf.inner {x = x} (Inner.split {s = t} {l = y} {r = z} {b = b}) a e) =
           subst (λ (i : subject.Item). to c f (subject.renamed (root_of g.sections) i)) (sym e)
-          (subst (to c f) (sym (brings.past g st.sound scope t y z h.0 x))
+          (subst (to c f) (sym (brings.past g st.sound scope t y z (Divides.split h.0) x))
           (down c f g st w begun b (y ∷ z ∷ scope) h.2 part a))
+      down_of c f g st w begun l s scope h here part (AllOf.inner {x = x} (Inner.parts {s = t} {q = q} {b = b}) a e) =
+          subst (λ (i : subject.Item). to c f (subject.renamed (root_of g.sections) i)) (sym e)
+          (subst (to c f) (sym (brings.past g st.sound scope t q q (Divides.parts h.0) x))
+          (down c f g st w begun b (q ∷ scope) h.2 part a))
       down_of c f g st w begun l s scope h here part (AllOf.inner {x = x} (Inner.call {f = k} {es = es} {ss = ss}) a e) =
           subst (λ (i : subject.Item). to c f (subject.renamed (root_of g.sections) i)) (sym e)
           (brings.called c f g st w begun l k es ss scope h here x a
@@ -155,8 +159,12 @@ module _ (p : Program) (sound : IsSound p) where
           same_item true f g e (left_down f g st b scope h.1 part a)
       left_of f g st l s scope h here part (PendingOf.inner {x = x} (Inner.split {s = t} {l = y} {r = z} {b = b}) a e) =
           subst (λ (i : subject.Item). to true f (subject.renamed (root_of g.sections) i)) (sym e)
-          (subst (to true f) (sym (brings.past g st.sound scope t y z h.0 x))
+          (subst (to true f) (sym (brings.past g st.sound scope t y z (Divides.split h.0) x))
           (left_down f g st b (y ∷ z ∷ scope) h.2 part a))
+      left_of f g st l s scope h here part (PendingOf.inner {x = x} (Inner.parts {s = t} {q = q} {b = b}) a e) =
+          subst (λ (i : subject.Item). to true f (subject.renamed (root_of g.sections) i)) (sym e)
+          (subst (to true f) (sym (brings.past g st.sound scope t q q (Divides.parts h.0) x))
+          (left_down f g st b (q ∷ scope) h.2 part a))
       left_of f g st l s scope h here part (PendingOf.inner {x = x} (Inner.call {f = k} {es = es} {ss = ss}) a e) =
           subst (λ (i : subject.Item). to true f (subject.renamed (root_of g.sections) i)) (sym e)
           (brings.passed f g st l k es ss scope h here x a

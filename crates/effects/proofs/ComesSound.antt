@@ -2,13 +2,12 @@
 use Rattle.std.proofs.Common.{◌≡◌, ◌⊎◌, inl, inr, ℕ, zero, suc, ◌+◌, ◌<◌, List, [], ◌∷◌, ◌++◌, length, refl, sym, ap, subst, ◌∙◌}
 use Rattle.std.proofs.Common.{Option, None, Some, arith}
 use Rattle.std.specs.Prelude.{Bool, true, false, if◌then◌else◌, nat_eq, nat_lt, slice_get, flat_map}
-use Rattle.std.proofs.lemmas.Bool.{cases_eq, eq-eqb, ne_eqb, ltb-true}
+use Rattle.std.proofs.lemmas.Bool.{eq-eqb, ne_eqb, ltb-true}
 use Rattle.std.proofs.lemmas.Option.{get_or_from_slice_get}
 use Rattle.sections.specs.Member.{Member, first, next}
-use Rattle.sections.specs.Origins.{left, right}
 use Rattle.sections.specs.Overlap.{root_of}
-use Rattle.sections.proofs.Lines.{root_of-root, root_of-side}
-use Rattle.types.specs.Code.{Number, Code, Do, If, While, Split, Call, Async, Finish, Codes, Procedure, Program}
+use Rattle.sections.proofs.Lines.{root_of-root}
+use Rattle.types.specs.Code.{Number, Code, Do, If, While, Split, Parts, Begun, Call, Async, Finish, Codes, Procedure, Program}
 use Rattle.types.specs.Run.{procedure_of, no_procedure}
 use Rattle.types.specs.declared.ids.ProcedureId.{ProcedureId}
 use Rattle.effects.specs.Accesses.{Access, own_accesses}
@@ -18,7 +17,7 @@ use Rattle.types.specs.Sound.{passed_for}
 use Rattle.effects.specs.Effects.{Inner, Subject, AllOf, All, PendingOf, Pending, past_split, renamed, accesses, labels}
 use Rattle.effects.specs.Flows.{flows_of, flows_of_code, flows_of_labels, flows_of_sections, flows_of_use}
 use Rattle.effects.specs.Outlines.{visits_of, starts_in, flows_in, flows_in_all, numbered, StartsIn}
-use Rattle.effects.specs.Sound.{SplitsWell, IsSoundIn, IsSound, parameters_of}
+use Rattle.effects.specs.Sound.{IsSoundIn, IsSound, parameters_of}
 use Rattle.effects.specs.Starts.{starts_of, starts_of_label, starts_of_access}
 use Rattle.effects.specs.Summarized.{body_of}
 use Rattle.effects.specs.Visits.{Visit}
@@ -27,7 +26,8 @@ use Rattle.effects.specs.declared.starts.FirstLabel.{FirstLabel}
 use Rattle.effects.specs.declared.summary.SummaryRow.{SummaryRow}
 use Rattle.effects.specs.declared.visits.Standing.{Standing}
 use Rattle.effects.specs.declared.visits.Standing.TheVariants.{Open, Begun, Awaited}
-use Rattle.effects.proofs.AccessesInScope.{past_split-left, past_split-right, past_split-other, origin_from_get, allowed, pending_all}
+use Rattle.effects.proofs.AccessesInScope.{origin_from_get, allowed, pending_all}
+use Rattle.effects.proofs.Dividing.{Divides, past_root}
 use Rattle.effects.proofs.Members.{in_parts, numbers_from-below}
 use Rattle.effects.proofs.VisitLemmas.{up, left_up, Leaves}
 use Rattle.shared_lemmas.proofs.Truths.{if_false, if_true}
@@ -81,26 +81,11 @@ module _ (p : Program) where
         )
   ]
 
--- at the root, the sides of a split are their parent
 module _ (p : Program) (g : Procedure) (here : IsSoundIn p g) where
-  pub past_root : (scope : List ℕ) (s l r : ℕ) → SplitsWell g scope s l r → (x : ℕ)
-      → root_of g.sections (past_split s l r x) ≡ root_of g.sections x
-  past_root scope s l r well x = elim (cases_eq l x) [
-    | inl e ↦
-        ap (λ (y : ℕ). root_of g.sections (past_split s l r y)) (sym e) ∙ ap (root_of g.sections) (past_split-left s l r)
-        ∙ sym (root_of-side g.sections here.numbered l s (left well.left)) ∙ ap (root_of g.sections) e
-    | inr n ↦ elim (cases_eq r x) [
-      | inl e ↦
-          ap (λ (y : ℕ). root_of g.sections (past_split s l r y)) (sym e) ∙ ap (root_of g.sections) (past_split-right s l r)
-          ∙ sym (root_of-side g.sections here.numbered r s (right well.right)) ∙ ap (root_of g.sections) e
-      | inr m ↦ ap (root_of g.sections) (past_split-other s l r x n m)
-    ]
-  ]
-
-  past_accesses : (scope : List ℕ) (s l r : ℕ) → SplitsWell g scope s l r → (x : Access)
+  past_accesses : (scope : List ℕ) (s l r : ℕ) → Divides g scope s l r → (x : Access)
       → renamed (root_of g.sections) (renamed (past_split s l r) x) ≡ renamed (root_of g.sections) x
   past_accesses scope s l r well x =
-      ap (λ (n : ℕ). let y : Access = record { label = x.label; section = n; write = x.write } in y) (past_root scope s l r well x.section)
+      ap (λ (n : ℕ). let y : Access = record { label = x.label; section = n; write = x.write } in y) (past_root p g here scope s l r well x.section)
 
   -- what the body does is done to parameters, which are their own roots
   top_all : IsSound p → (x : Access) → All p accesses g.body x → renamed (root_of g.sections) x ≡ x
@@ -112,7 +97,7 @@ module _ (p : Program) (g : Procedure) (here : IsSoundIn p g) where
 
 -- what is kept at the root of a procedure
 record AtRoot (p : Program) (subject : Subject) (g : Procedure) (root : ℕ → ℕ) : Type 0 where
-  past : (scope : List ℕ) (s l r : ℕ) → SplitsWell g scope s l r → (x : subject.Item)
+  past : (scope : List ℕ) (s l r : ℕ) → Divides g scope s l r → (x : subject.Item)
       → subject.renamed root (subject.renamed (past_split s l r) x) ≡ subject.renamed root x
   top : (x : subject.Item) → All p subject g.body x → subject.renamed root x ≡ x
   top_pending : (x : subject.Item) → Pending p subject g.body x → subject.renamed root x ≡ x
@@ -288,6 +273,8 @@ module _ (p : Program) (sound : IsSound p) (g : Procedure) (here : IsSoundIn p g
   code_carries caller w k (If t b c) m h = elim h [ ]
   code_carries caller w k (While t b) m h = elim h [ ]
   code_carries caller w k (Split s e l r b) m h = elim h [ ]
+  code_carries caller w k (Parts s e q i b) m h = elim h [ ]
+  code_carries caller w k (Begun s n j q i b) m h = elim h [ ]
   code_carries caller w k (Call f es ss) m {x} h =
       let there = from_when (nat_lt f (length p.procedures))
       (flows_of_labels caller w (record { number = f })

@@ -1,21 +1,22 @@
 -- Environments continue to fit: at the start, in the block of a split and after it, and in a call.
-use Rattle.std.proofs.Common.{◌≡◌, ◌≢◌, inl, ℕ, zero, suc, ◌+◌, ◌<◌, ◌≤◌, List, [], ◌∷◌, length, map, Option, Some, ℤ}
+use Rattle.std.proofs.Common.{◌≡◌, ◌≢◌, inl, ℕ, zero, suc, ◌+◌, ◌*◌, ◌<◌, ◌≤◌, List, [], ◌∷◌, length, map, Option, Some, ℤ}
 use Rattle.std.proofs.Common.{refl, sym, ap, ◌∙◌, subst, arith}
 use Rattle.std.specs.Prelude.{true, slice_get, slice_index_or}
 use Rattle.types.proofs.Bindings.{bind_here, bind_other}
-use Rattle.sections.specs.Origins.{Origin, Root, Left, Right, origin_of, IsNumbered}
-use Rattle.sections.specs.Place.{Window, sides_of, nowhere}
+use Rattle.sections.specs.Origins.{Origin, Root, Left, Right, Piece, origin_of, IsNumbered}
+use Rattle.sections.specs.Place.{Window, sides_of, piece_of, nowhere}
 use Rattle.sections.specs.Member.{Member, first, next}
 use Rattle.sections.specs.Overlap.{beyond}
-use Rattle.sections.specs.Placed.{Apart, AreSidesOf, HasLeft, Placed}
+use Rattle.sections.specs.Placed.{Apart, AreSidesOf, HasLeft, IsPieceOf, Placed}
+use Rattle.sections.proofs.Pieces.{is_piece}
 use Rattle.sections.proofs.Windows.{IsCut, sides_of-cut, disjoint-apart}
 use Rattle.types.specs.Code.{Array, Procedure, Program}
 use Rattle.types.specs.Value.{Environment}
-use Rattle.types.specs.Run.{array_of, no_array, bind, by_number, entry, with_sides}
+use Rattle.types.specs.Run.{array_of, no_array, bind, by_number, entry, with_sides, with_piece}
 use Rattle.types.specs.Outcome.{whole_arrays}
 use Rattle.types.proofs.Lists.{whole_array-by_number}
 use Rattle.types.specs.Sound.{passed_for}
-use Rattle.effects.specs.Sound.{may_write, SplitsWell, PassesWell, IsSoundIn, parameters_of, as_parameter, HasArrays}
+use Rattle.effects.specs.Sound.{may_write, CutsWell, SplitsWell, PassesWell, IsSoundIn, parameters_of, as_parameter, HasArrays}
 use Rattle.effects.specs.Fits.{LiesInArray, Fits, names_in}
 use Rattle.effects.proofs.Members.{numbers_from-below}
 use Rattle.effects.proofs.AccessesInScope.{origin_from_get}
@@ -26,6 +27,7 @@ abbrev kind : Origin → ℕ
 kind Root = 0
 kind (Left p) = 1
 kind (Right p) = 2
+kind (Piece p) = 3
 
 pub root_left : {A : Type 0} {o : Origin} {s : ℕ} → o ≡ Root → o ≡ Left s → A
 root_left e f = absurd (let h : 0 ≡ 1 = ap kind (sym e ∙ f) in omega arith)
@@ -35,6 +37,18 @@ root_right e f = absurd (let h : 0 ≡ 2 = ap kind (sym e ∙ f) in omega arith)
 
 pub left_right : {A : Type 0} {o : Origin} {s t : ℕ} → o ≡ Left s → o ≡ Right t → A
 left_right e f = absurd (let h : 1 ≡ 2 = ap kind (sym e ∙ f) in omega arith)
+
+pub root_piece : {A : Type 0} {o : Origin} {s : ℕ} → o ≡ Root → o ≡ Piece s → A
+root_piece e f = absurd (let h : 0 ≡ 3 = ap kind (sym e ∙ f) in omega arith)
+
+pub left_piece : {A : Type 0} {o : Origin} {s t : ℕ} → o ≡ Left s → o ≡ Piece t → A
+left_piece e f = absurd (let h : 1 ≡ 3 = ap kind (sym e ∙ f) in omega arith)
+
+pub right_piece : {A : Type 0} {o : Origin} {s t : ℕ} → o ≡ Right s → o ≡ Piece t → A
+right_piece e f = absurd (let h : 2 ≡ 3 = ap kind (sym e ∙ f) in omega arith)
+
+pub one_piece : {o : Origin} {s t : ℕ} → o ≡ Piece s → o ≡ Piece t → s ≡ t
+one_piece e f = ap (λ o. beyond 0 (λ p. p) o) (sym e ∙ f)
 
 pub one_left : {o : Origin} {s t : ℕ} → o ≡ Left s → o ≡ Left t → s ≡ t
 one_left e f = ap (λ o. beyond 0 (λ p. p) o) (sym e ∙ f)
@@ -50,6 +64,12 @@ both a b = Some (a, b)
 same_cut : {w v a b c d : Window} (n : ℤ) → w ≡ v → a ≡ c → b ≡ d → sides_of w n ≡ Some (a, b) → sides_of v n ≡ Some (c, d)
 same_cut {w} {v} {a} {b} {c} {d} n e f g h =
     ap (λ x. sides_of x n) (sym e) ∙ h ∙ ap (λ x. both x b) f ∙ ap (λ x. both c x) g
+
+abbrev one : Window → Option Window
+one a = Some a
+
+same_piece : {w v a b : Window} (n k : ℕ) → w ≡ v → a ≡ b → piece_of w n k ≡ Some a → piece_of v n k ≡ Some b
+same_piece {w} {v} {a} {b} n k e f h = ap (λ x. piece_of x n k) (sym e) ∙ h ∙ ap one f
 
 -- Only the windows in scope matter
 
@@ -67,6 +87,12 @@ placed_same g scope env other placed same = record {
     cut = same_cut k.at (same s k.parent) (same l m) (same (l + 1) k.right) k.cut;
   });
   right = placed.right;
+  piece = λ s x m e. (let k = placed.piece s x m e in record {
+    parent = k.parent;
+    size = k.size;
+    turn = k.turn;
+    cut = same_piece k.size k.turn (same s k.parent) (same x m) k.cut;
+  });
 }
 
 pub fits_same : (p : Program) (g : Procedure) (scope : List ℕ) (env other : Environment)
@@ -114,6 +140,14 @@ module _ (g : Procedure) (scope : List ℕ) (env : Environment) (t a b : ℕ) (s
       let k = outer.right s r m e in
       record { left = k.left; turn = k.turn; in_scope = next (next k.in_scope); origin = k.origin }
 
+  piece_inside : (s x : ℕ) → Member x (a ∷ b ∷ scope) → origin_of g.sections x ≡ Piece s
+      → IsPieceOf (names_in g (a ∷ b ∷ scope)) env.windows s x
+  piece_inside s x first e = left_piece splits.left e
+  piece_inside s x (next first) e = right_piece splits.right e
+  piece_inside s x (next (next m)) e =
+      let k = outer.piece s x m e in
+      record { parent = next (next k.parent); size = k.size; turn = k.turn; cut = k.cut }
+
   -- inside a split the windows are related as the origins say, if the sides are those of its
   -- section
   pub placed_inside : Placed (names_in g (a ∷ b ∷ scope)) env.windows
@@ -121,6 +155,7 @@ module _ (g : Procedure) (scope : List ℕ) (env : Environment) (t a b : ℕ) (s
     apart = λ r s ne m n e f w. outer.apart r s ne (old_root r m e) (old_root s n f) e f w;
     left = left_inside;
     right = right_inside;
+    piece = piece_inside;
   }
 
 module _ (p : Program) (g : Procedure) (scope : List ℕ) (env : Environment)
@@ -166,6 +201,82 @@ module _ (p : Program) (g : Procedure) (scope : List ℕ) (env : Environment)
           (placed_same g scope env new fits.placed at_other);
     }
 
+-- In a turn of a `parts`
+
+lies_piece : (p : Program) (w v : Window) (n k : ℕ) → piece_of w n k ≡ Some v → LiesInArray p w → LiesInArray p v
+lies_piece p w v n k cut h =
+    let c = is_piece w v n k cut in
+    let starts : n * k < w.length = c.starts in
+    let lies : w.at + w.length ≤ (array_of p w.array).length = h in
+    subst (LiesInArray p) (sym c.is) (omega (arith, starts, lies))
+
+module _ (g : Procedure) (scope : List ℕ) (env : Environment) (t a i : ℕ) (cuts : CutsWell g scope t a i)
+    (size turn : ℕ) (cut : piece_of (env.windows t) size turn ≡ Some (env.windows a)) (outer : Placed (names_in g scope) env.windows) where
+  root_there : (x : ℕ) → Member x (a ∷ scope) → origin_of g.sections x ≡ Root → Member x scope
+  root_there x first e = root_piece e cuts.piece
+  root_there x (next m) e = m
+
+  left_there : (s l : ℕ) → Member l (a ∷ scope) → origin_of g.sections l ≡ Left s → AreSidesOf (names_in g (a ∷ scope)) env.windows s l
+  left_there s l first e = left_piece e cuts.piece
+  left_there s l (next m) e =
+      let k = outer.left s l m e in
+      record { parent = next k.parent; right = next k.right; right_origin = k.right_origin; at = k.at; cut = k.cut }
+
+  right_there : (s r : ℕ) → Member r (a ∷ scope) → origin_of g.sections r ≡ Right s → HasLeft (names_in g (a ∷ scope)) s r
+  right_there s r first e = right_piece e cuts.piece
+  right_there s r (next m) e =
+      let k = outer.right s r m e in
+      record { left = k.left; turn = k.turn; in_scope = next k.in_scope; origin = k.origin }
+
+  piece_there : (s x : ℕ) → Member x (a ∷ scope) → origin_of g.sections x ≡ Piece s
+      → IsPieceOf (names_in g (a ∷ scope)) env.windows s x
+  piece_there s x first e =
+      subst (λ t. IsPieceOf (names_in g (a ∷ scope)) env.windows t a) (one_piece cuts.piece e)
+      (record { parent = next cuts.in_scope; size = size; turn = turn; cut = cut })
+  piece_there s x (next m) e =
+      let k = outer.piece s x m e in record { parent = next k.parent; size = k.size; turn = k.turn; cut = k.cut }
+
+  pub placed_in_turn : Placed (names_in g (a ∷ scope)) env.windows
+  placed_in_turn = record {
+    apart = λ r s ne m n e f w. outer.apart r s ne (root_there r m e) (root_there s n f) e f w;
+    left = left_there;
+    right = right_there;
+    piece = piece_there;
+  }
+
+module _ (p : Program) (g : Procedure) (scope : List ℕ) (env : Environment)
+    (s q i : ℕ) (cuts : CutsWell g scope s q i) (w : Window) (number : ℕ) where
+  abbrev pub turned : Environment
+  turned = with_piece q i w number env
+
+  pub at_new : turned.windows q ≡ w
+  at_new = bind_here q w env.windows
+
+  pub at_piece : (x : ℕ) → Member x scope → env.windows x ≡ turned.windows x
+  at_piece x m = let h : x < q = cuts.later x m in sym (bind_other q x w env.windows (omega arith))
+
+  -- after a `parts`, its piece is out of scope
+  pub fits_past_parts : Fits p g scope env → Fits p g scope turned
+  fits_past_parts fits = fits_same p g scope env turned fits at_piece
+
+  pub placed_at_turn : (size : ℕ) → piece_of (env.windows s) size number ≡ Some w → Placed (names_in g scope) env.windows
+      → Placed (names_in g (q ∷ scope)) turned.windows
+  placed_at_turn size cut placed =
+      placed_in_turn g scope turned s q i cuts size number
+      (same_piece size number (at_piece s cuts.in_scope) (sym at_new) cut) (placed_same g scope env turned placed at_piece)
+
+  module _ (size : ℕ) (cut : piece_of (env.windows s) size number ≡ Some w) (fits : Fits p g scope env) where
+    lies_there : (x : ℕ) → Member x (q ∷ scope) → LiesInArray p (turned.windows x)
+    lies_there x first = subst (LiesInArray p) (sym at_new)
+        (lies_piece p (env.windows s) w size number cut (fits.lies s cuts.in_scope))
+    lies_there x (next m) = subst (LiesInArray p) (at_piece x m) (fits.lies x m)
+
+    pub fits_in_turn : Fits p g (q ∷ scope) turned
+    fits_in_turn = record {
+      lies = lies_there;
+      placed = placed_at_turn size cut fits.placed;
+    }
+
 -- In a call
 
 pub by_number-map : {A B : Type 0} (f : A → B) (d : B) (c : A) (xs : List A) (k : ℕ) → k < length xs
@@ -205,6 +316,7 @@ module _ (p : Program) (g : Procedure) (scope : List ℕ) (env : Environment) (n
           (subst (λ v. Apart v (env.windows (passed_for ss k))) (at_argument j m) (arguments_apart j k ne m n w));
       left = λ s l m e. root_left (first_root p f sound l m) e;
       right = λ s r m e. root_right (first_root p f sound r m) e;
+      piece = λ s x m e. root_piece (first_root p f sound x m) e;
     };
   }
 
@@ -232,5 +344,6 @@ module _ (p : Program) (sound : IsSoundIn p p.main) (arrays : HasArrays p) where
           (λ q x y. ne (sym x.array ∙ y.array)));
       left = λ s l m e. root_left (first_root p p.main sound l m) e;
       right = λ s r m e. root_right (first_root p p.main sound r m) e;
+      piece = λ s x m e. root_piece (first_root p p.main sound x m) e;
     };
   }

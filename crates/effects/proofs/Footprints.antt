@@ -1,19 +1,20 @@
--- Footprints across a call and a split.
+-- Footprints across a call, a split and a turn of a `parts`.
 use Rattle.std.proofs.Common.{◌≡◌, ◌⊎◌, inl, inr, ℕ, ◌<◌, List, length, map, Some, ℤ, refl, sym, ap, ◌∙◌, subst}
 use Rattle.std.proofs.Common.{arith, true≢false}
 use Rattle.std.specs.Prelude.{Bool, true, false, ◌||◌, nat_eq, if◌then◌else◌, flat_map, ◌↔◌}
-use Rattle.sections.specs.Place.{Place, Window, In, sides_of, nowhere}
+use Rattle.sections.specs.Place.{Place, Window, In, sides_of, piece_of, nowhere}
 use Rattle.sections.specs.Member.{Member}
+use Rattle.sections.proofs.Pieces.{piece_inside}
 use Rattle.sections.proofs.Windows.{sides_of-cut, left_inside, right_inside}
-use Rattle.types.specs.Code.{Number, Split, Call, Codes, Program}
+use Rattle.types.specs.Code.{Number, Do, If, While, Split, Parts, Begun, Call, Async, Finish, Codes, End, Then, Program}
 use Rattle.types.specs.Indexed.{indexed}
 use Rattle.types.specs.Value.{Environment}
-use Rattle.types.specs.Run.{procedure_of, entry, with_sides}
+use Rattle.types.specs.Run.{procedure_of, entry, with_sides, with_piece}
 use Rattle.effects.specs.Accesses.{Access, own_accesses, reads}
 use Rattle.types.specs.Sound.{passed_for}
-use Rattle.effects.specs.Effects.{past_split, renamed, Inner, AllOf, All, PendingOf, Pending, accesses}
+use Rattle.effects.specs.Effects.{past_parts, past_split, renamed, Inner, AllOf, All, PendingOf, Pending, accesses}
 use Rattle.effects.specs.Footprint.{Touches, Overwrites, MayTouch, MayWrite, MayTouchOf, MayWriteOf, MayStillTouch}
-use Rattle.effects.specs.Footprint.{MayStillWrite, MayStillTouchOf, MayStillWriteOf}
+use Rattle.effects.specs.Footprint.{MayStillWrite, MayStillTouchOf, MayStillWriteOf, TurnsTouch, TurnsWrite}
 use Rattle.effects.specs.Sound.{IsSound, parameters_of}
 use Rattle.effects.proofs.Members.{from_map, numbers_from-below}
 use Rattle.effects.proofs.AccessesInScope.{allowed, pending_all}
@@ -22,6 +23,25 @@ use Rattle.effects.proofs.EnvironmentsFit.{by_number-map}
 -- what is overwritten is touched
 pub overwrites_touch : (env : Environment) (xs : Access → Type 0) (q : Place) → Overwrites env xs q → Touches env xs q
 overwrites_touch env xs q t = record { access = t.access; among = t.among; place = t.place }
+
+-- what turns to come may write they may touch
+pub turns_write_touch : (p : Program) (env : Environment) (b : Codes) (q : Place) → TurnsWrite p env b q → TurnsTouch p env b q
+turns_write_touch p env End q h = h
+turns_write_touch p env (Then l (Begun s n k x i b) rest) q (inl t) = inl (record {
+  number = t.number;
+  later = t.later;
+  left = t.left;
+  there = overwrites_touch _ (All p accesses b) q t.there;
+})
+turns_write_touch p env (Then l (Begun s n k x i b) rest) q (inr h) = inr (turns_write_touch p env rest q h)
+turns_write_touch p env (Then l (Do s) rest) q h = turns_write_touch p env rest q h
+turns_write_touch p env (Then l (If t b c) rest) q h = turns_write_touch p env rest q h
+turns_write_touch p env (Then l (While t b) rest) q h = turns_write_touch p env rest q h
+turns_write_touch p env (Then l (Split s e x y b) rest) q h = turns_write_touch p env rest q h
+turns_write_touch p env (Then l (Parts s e x i b) rest) q h = turns_write_touch p env rest q h
+turns_write_touch p env (Then l (Call f es ss) rest) q h = turns_write_touch p env rest q h
+turns_write_touch p env (Then l (Async b) rest) q h = turns_write_touch p env rest q h
+turns_write_touch p env (Then l (Finish b) rest) q h = turns_write_touch p env rest q h
 
 -- Renaming, and places
 
@@ -177,3 +197,40 @@ module _ (p : Program) (env : Environment) (s : ℕ) (e : Number) (l r : ℕ) (b
   split-pending_writes =
       overwrites_renamed (with_sides l r ws env) env (Pending p accesses b) (PendingOf p accesses (Split s e l r b)) (past_split s l r)
       (λ x h. PendingOf.inner Inner.split h refl) q (λ x h. outside x.section)
+
+-- A turn of a `parts`
+
+piece_place : (b : Bool) (v : Window) (env : ℕ → Window) (s x : ℕ) (q : Place) → (In v q → In (env s) q)
+    → In (if b then v else env x) q → In (env (if b || b then s else x)) q
+piece_place true v env s x q f h = f h
+piece_place false v env s x q f h = h
+
+module _ (p : Program) (env : Environment) (s : ℕ) (e : Number) (x i : ℕ) (b : Codes) (n k : ℕ) (w : Window)
+    (cut : piece_of (env.windows s) n k ≡ Some w) (label : ℕ) (q : Place) where
+  abbrev turned : Environment
+  turned = with_piece x i w k env
+
+  around : (y : ℕ) → In (turned.windows y) q → In (env.windows (past_parts s x y)) q
+  around y h =
+      piece_place (nat_eq x y) w env.windows s y q (piece_inside (env.windows s) w n k cut q) h
+
+  -- what the block of a turn may do in its environment, the `parts` may do in the environment around it
+  pub turn-reads : MayTouch p turned b q → MayTouchOf p env label (Parts s e x i b) q
+  turn-reads =
+      touches_renamed turned env (All p accesses b) (AllOf p accesses label (Parts s e x i b)) (past_parts s x)
+      (λ y h. AllOf.inner Inner.parts h refl) q (λ y h. around y.section)
+
+  pub turn-writes : MayWrite p turned b q → MayWriteOf p env label (Parts s e x i b) q
+  turn-writes =
+      overwrites_renamed turned env (All p accesses b) (AllOf p accesses label (Parts s e x i b)) (past_parts s x)
+      (λ y h. AllOf.inner Inner.parts h refl) q (λ y h. around y.section)
+
+  pub turn-pending_reads : MayStillTouch p turned b q → MayStillTouchOf p env (Parts s e x i b) q
+  turn-pending_reads =
+      touches_renamed turned env (Pending p accesses b) (PendingOf p accesses (Parts s e x i b)) (past_parts s x)
+      (λ y h. PendingOf.inner Inner.parts h refl) q (λ y h. around y.section)
+
+  pub turn-pending_writes : MayStillWrite p turned b q → MayStillWriteOf p env (Parts s e x i b) q
+  turn-pending_writes =
+      overwrites_renamed turned env (Pending p accesses b) (PendingOf p accesses (Parts s e x i b)) (past_parts s x)
+      (λ y h. PendingOf.inner Inner.parts h refl) q (λ y h. around y.section)

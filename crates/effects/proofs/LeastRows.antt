@@ -2,7 +2,7 @@
 use Rattle.std.proofs.Common.{◌≡◌, ◌⊎◌, inl, inr, ℕ, refl, sym, subst}
 use Rattle.std.specs.Prelude.{◌↔◌, Bool, true}
 use Rattle.sections.specs.Member.{Member}
-use Rattle.types.specs.Code.{Code, Do, If, While, Split, Call, Async, Finish, Codes, End, Then, Program}
+use Rattle.types.specs.Code.{Code, Do, If, While, Split, Parts, Begun, Call, Async, Finish, Codes, End, Then, Program}
 use Rattle.effects.specs.Effects.{Inner, Subject, AllOf, All, PendingOf, Pending}
 use Rattle.effects.specs.Rows.{Inside, AllInside, LeftBy, SolvesAll, SolvesPending}
 
@@ -18,6 +18,7 @@ module _ (p : Program) (subject : Subject) where
   inside has (Inner.if_other {b = b} {c = c}) x h = inr (as_kept (has c) x h)
   inside has (Inner.while {b = b}) x h = as_kept (has b) x h
   inside has Inner.split x h = record { item = x; among = h; same = refl }
+  inside has Inner.parts x h = record { item = x; among = h; same = refl }
   inside has Inner.call x h = record { item = x; among = h; same = refl }
 
   from_all_of : {l : ℕ} {s : Code} {x : subject.Item} → AllOf p subject l s x → Member x (subject.own l s) ⊎ AllInside p subject s x
@@ -32,6 +33,8 @@ module _ (p : Program) (subject : Subject) where
   to_all_of l (If t b c) x (inr h) = AllOf.inner Inner.if_other h (sym (subject.kept x))
   to_all_of l (While t b) x h = AllOf.inner Inner.while h (sym (subject.kept x))
   to_all_of l (Split s e y z b) x h = AllOf.inner Inner.split h.among h.same
+  to_all_of l (Parts s e q i b) x h = AllOf.inner Inner.parts h.among h.same
+  to_all_of l (Begun s n k q i b) x h = absurd h
   to_all_of l (Call f es ss) x h = AllOf.inner Inner.call h.among h.same
   to_all_of l (Async b) x h = AllOf.async h
   to_all_of l (Finish b) x h = AllOf.finish h
@@ -46,6 +49,7 @@ module _ (p : Program) (subject : Subject) where
   inside_left Inner.if_other x h = h
   inside_left Inner.while x h = h
   inside_left Inner.split x h = h
+  inside_left Inner.parts x h = h
   inside_left Inner.call x h = h
 
   from_pending_of : {s : Code} {x : subject.Item} → PendingOf p subject s x → LeftBy p subject s x
@@ -59,6 +63,8 @@ module _ (p : Program) (subject : Subject) where
   to_pending_of (If t b c) x (inr h) = PendingOf.inner Inner.if_other h (sym (subject.kept x))
   to_pending_of (While t b) x h = PendingOf.inner Inner.while h (sym (subject.kept x))
   to_pending_of (Split s e y z b) x h = PendingOf.inner Inner.split h.among h.same
+  to_pending_of (Parts s e q i b) x h = PendingOf.inner Inner.parts h.among h.same
+  to_pending_of (Begun s n k q i b) x h = absurd h
   to_pending_of (Call f es ss) x h = PendingOf.inner Inner.call h.among h.same
   to_pending_of (Async b) x h = PendingOf.async h
   to_pending_of (Finish b) x h = absurd h

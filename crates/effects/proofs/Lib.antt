@@ -6,6 +6,7 @@ pub mod ComesSound
 pub mod ComesComplete
 pub mod ComingLemmas
 pub mod Derived
+pub mod Dividing
 pub mod DoingLemmas
 pub mod EnvironmentsFit
 pub mod FirstLabels

@@ -4,7 +4,7 @@ use Rattle.std.proofs.lemmas.Bool.{eqb-true, eq-eqb}
 use Rattle.std.specs.Prelude.{Bool, true, false, nat_eq, if◌then◌else◌}
 use Rattle.sections.specs.Member.{Member, first, next}
 use Rattle.sections.proofs.Members.{any_member, member_any}
-use Rattle.types.specs.Code.{Code, Do, If, While, Split, Call, Async, Finish, Codes, End, Then, Program}
+use Rattle.types.specs.Code.{Code, Do, If, While, Split, Parts, Begun, Call, Async, Finish, Codes, End, Then, Program}
 use Rattle.types.specs.Run.{procedure_of}
 use Rattle.effects.specs.Accesses.{Access}
 use Rattle.effects.specs.Tables.{Table, all_in, IsDerived, IsStable}
@@ -193,6 +193,8 @@ module _ (p : Program) (table : Table accesses) (is_derived : IsDerived p access
     provides_of (If t b c) = (provides_in b, provides_in c)
     provides_of (While t b) = provides_in b
     provides_of (Split s e x y b) = provides_in b
+    provides_of (Parts s e q i b) = provides_in b
+    provides_of (Begun s n k q i b) = provides_in b
     provides_of (Call f es ss) = tt
     provides_of (Async b) = (are_needs b, provides_in b)
     provides_of (Finish b) = provides_in b

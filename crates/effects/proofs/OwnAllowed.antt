@@ -6,7 +6,7 @@ use Rattle.shared_lemmas.proofs.Truths.{false_true}
 use Rattle.sections.specs.Member.{Member, first, next}
 use Rattle.types.specs.Code.{Number, Literal, Scalar, Element, Length, Negative, Chain, Links, Done, Link, Truth}
 use Rattle.types.specs.Code.{Constant, Compare, Not, Both, Either, Truths, NoMore, Also, Primitive, Skip, Assign, Store}
-use Rattle.types.specs.Code.{Print, Raise, Code, Do, If, While, Split, Call, Async, Finish, Procedure, Program}
+use Rattle.types.specs.Code.{Print, Raise, Code, Do, If, While, Split, Parts, Begun, Call, Async, Finish, Procedure, Program}
 use Rattle.types.specs.Indexed.{indexed, indexed_links, indexed_truth, indexed_truths}
 use Rattle.types.specs.Sound.{NumberFollows, LinksFollow, TruthFollows, TruthsFollow, StoresWell, PrimitiveFollows, FollowsOf}
 use Rattle.effects.specs.Accesses.{Access, reads, own_primitive, own_accesses}
@@ -92,6 +92,8 @@ module _ (p : Program) (g : Procedure) where
   own_allowed scope l (If t b c) k x m = reads_allowed g scope l (indexed_truth t) (truth_indexed g scope t k.0) x m
   own_allowed scope l (While t b) k x m = reads_allowed g scope l (indexed_truth t) (truth_indexed g scope t k.0) x m
   own_allowed scope l (Split s e y z b) k x m = reads_allowed g scope l (indexed e) (number_indexed g scope e k.1) x m
+  own_allowed scope l (Parts s e q i b) k x m = reads_allowed g scope l (indexed e) (number_indexed g scope e k.1) x m
+  own_allowed scope l (Begun s n j q i b) k x m = elim m [ ]
   own_allowed scope l (Call f es ss) k x m = reads_allowed g scope l (flat_map indexed es) (numbers_indexed g scope es k.values) x m
   own_allowed scope l (Async b) k x m = elim m [ ]
   own_allowed scope l (Finish b) k x m = elim m [ ]

@@ -4,11 +4,11 @@ use Rattle.std.proofs.Common.{ap, ◌∙◌, subst, inl, inr, arith}
 use Rattle.std.proofs.lemmas.Bool.{ltb-true, ltb-false}
 use Rattle.std.specs.Prelude.{Bool, true, false, nat_lt, slice_index_or}
 use Rattle.sections.specs.Member.{Member}
-use Rattle.types.specs.Code.{Code, Do, If, While, Split, Call, Async, Finish, Codes, End, Then, Procedure, Program}
+use Rattle.types.specs.Code.{Code, Do, If, While, Split, Parts, Begun, Call, Async, Finish, Codes, End, Then, Procedure, Program}
 use Rattle.types.specs.Run.{procedure_of, no_procedure}
 use Rattle.effects.specs.Accesses.{Access, own_accesses}
 use Rattle.types.specs.Sound.{passed_for}
-use Rattle.effects.specs.Effects.{past_split, renamed, Inner, AllOf, All, accesses}
+use Rattle.effects.specs.Effects.{past_parts, past_split, renamed, Inner, AllOf, All, accesses}
 use Rattle.effects.specs.Sound.{parameters_of, IsSound}
 use Rattle.effects.specs.Tables.{Table, all_inside, all_in, left_by, left_in, IsDerived, IsDerivedPending, IsStable}
 use Rattle.effects.specs.Tables.{IsStablePending}
@@ -37,6 +37,9 @@ module _ (table more : Table accesses) (grows : (f : ℕ) (x : Access) → Membe
     inside_more (While t b) x m = all_more b x m
     inside_more (Split s e y z b) x m =
         map_more (renamed (past_split s y z)) (all_in accesses table b) (all_in accesses more b) (all_more b) x m
+    inside_more (Parts s e q i b) x m =
+        map_more (renamed (past_parts s q)) (all_in accesses table b) (all_in accesses more b) (all_more b) x m
+    inside_more (Begun s n k q i b) x m = m
     inside_more (Call f es ss) x m = map_more (renamed (passed_for ss)) (table f) (more f) (grows f) x m
     inside_more (Async b) x m = all_more b x m
     inside_more (Finish b) x m = all_more b x m
@@ -60,6 +63,10 @@ module _ (alls table more : Table accesses) (grows : (f : ℕ) (x : Access) → 
     by_more (Split s e y z b) x m =
         map_more table more grows (renamed (past_split s y z)) (left_in accesses alls table b) (left_in accesses alls more b)
         (left_more b) x m
+    by_more (Parts s e q i b) x m =
+        map_more table more grows (renamed (past_parts s q)) (left_in accesses alls table b) (left_in accesses alls more b)
+        (left_more b) x m
+    by_more (Begun s n k q i b) x m = m
     by_more (Call f es ss) x m = map_more table more grows (renamed (passed_for ss)) (table f) (more f) (grows f) x m
     by_more (Async b) x m = m
     by_more (Finish b) x m = m
@@ -141,6 +148,7 @@ module _ (p : Program) where
       from_more (all_in accesses none c) (all_in accesses none b ++ all_in accesses none c) x (λ y m. in_right (all_in accesses none b) m) k
   through Inner.while x k = k
   through (Inner.split {s = s} {l = l} {r = r} {b = b}) x k = moved (past_split s l r) (all_in accesses none b) x k
+  through (Inner.parts {s = s} {q = q} {b = b}) x k = moved (past_parts s q) (all_in accesses none b) x k
   through (Inner.call {f = f}) x k = let h =
       either_of_body f x k in inr (record { access = h.access; among = h.among; label = h.label; write = h.write })
 

@@ -2,10 +2,10 @@
 use Rattle.std.proofs.Common.{inl, inr, ℕ, zero, suc, List, ◌++◌, map, sym, subst}
 use Rattle.std.specs.Prelude.{◌↔◌}
 use Rattle.sections.specs.Member.{Member}
-use Rattle.types.specs.Code.{Code, Do, If, While, Split, Call, Async, Finish, Codes, End, Then, Program}
+use Rattle.types.specs.Code.{Code, Do, If, While, Split, Parts, Begun, Call, Async, Finish, Codes, End, Then, Program}
 use Rattle.types.specs.Run.{procedure_of}
 use Rattle.types.specs.Sound.{passed_for}
-use Rattle.effects.specs.Effects.{past_split, Inner, Subject, AllOf, All, PendingOf, Pending}
+use Rattle.effects.specs.Effects.{past_parts, past_split, Inner, Subject, AllOf, All, PendingOf, Pending}
 use Rattle.effects.specs.Tables.{Table, all_inside, all_in, left_by, left_in, alls_after, pendings_after, IsDerived}
 use Rattle.effects.specs.Tables.{IsDerivedPending, IsStable, IsStablePending}
 use Rattle.effects.proofs.Members.{in_left, in_right, in_map, in_parts, from_map}
@@ -34,6 +34,9 @@ module _ (p : Program) (subject : Subject) (table : Table subject) where
       listed_of (While t b) l x h = AllOf.inner Inner.while (listed b x h) (sym (subject.kept x))
       listed_of (Split s e y z b) l x h =
           renames (Split s e y z b) l b (past_split s y z) Inner.split (all_in subject table b) (listed b) x h
+      listed_of (Parts s e q i b) l x h =
+          renames (Parts s e q i b) l b (past_parts s q) Inner.parts (all_in subject table b) (listed b) x h
+      listed_of (Begun s n k q i b) l x h = elim h [ ]
       listed_of (Call f es ss) l x h = renames (Call f es ss) l (procedure_of p f).body (passed_for ss) Inner.call (table f) (derived f) x h
       listed_of (Async b) l x h = AllOf.async (listed b x h)
       listed_of (Finish b) l x h = AllOf.finish (listed b x h)
@@ -53,6 +56,7 @@ module _ (p : Program) (subject : Subject) (table : Table subject) where
         kept subject (all_in subject table b ++ all_in subject table c) x (in_right (all_in subject table b) h)
     inner_listed (Inner.while {b = b}) x h = kept subject (all_in subject table b) x h
     inner_listed (Inner.split {s = s} {l = l} {r = r}) x h = in_map (subject.renamed (past_split s l r)) h
+    inner_listed (Inner.parts {s = s} {q = q}) x h = in_map (subject.renamed (past_parts s q)) h
     inner_listed (Inner.call {f = f} {ss = ss}) x h = in_map (subject.renamed (passed_for ss)) (stable f x h)
 
     mutual
@@ -88,6 +92,9 @@ module _ (p : Program) (subject : Subject) (alls pendings : Table subject) (deri
       left_of (While t b) x h = PendingOf.inner Inner.while (left b x h) (sym (subject.kept x))
       left_of (Split s e y z b) x h =
           renames_left (Split s e y z b) b (past_split s y z) Inner.split (left_in subject alls pendings b) (left b) x h
+      left_of (Parts s e q i b) x h =
+          renames_left (Parts s e q i b) b (past_parts s q) Inner.parts (left_in subject alls pendings b) (left b) x h
+      left_of (Begun s n k q i b) x h = elim h [ ]
       left_of (Call f es ss) x h =
           renames_left (Call f es ss) (procedure_of p f).body (passed_for ss) Inner.call (pendings f) (derived_pendings f) x h
       left_of (Async b) x h = PendingOf.async (listed p subject alls derived_alls b x h)
@@ -108,6 +115,7 @@ module _ (p : Program) (subject : Subject) (alls pendings : Table subject) (deri
         kept subject (left_in subject alls pendings b ++ left_in subject alls pendings c) x (in_right (left_in subject alls pendings b) h)
     inner_left (Inner.while {b = b}) x h = kept subject (left_in subject alls pendings b) x h
     inner_left (Inner.split {s = s} {l = l} {r = r}) x h = in_map (subject.renamed (past_split s l r)) h
+    inner_left (Inner.parts {s = s} {q = q}) x h = in_map (subject.renamed (past_parts s q)) h
     inner_left (Inner.call {f = f} {ss = ss}) x h = in_map (subject.renamed (passed_for ss)) (stable f x h)
 
     mutual

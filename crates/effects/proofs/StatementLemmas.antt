@@ -5,9 +5,10 @@ use Rattle.std.proofs.lemmas.List.{map-append}
 use Rattle.std.specs.List.{range_with_len}
 use Rattle.std.specs.Prelude.{slice_index_or}
 use Rattle.sections.specs.Member.{Member, first, next}
-use Rattle.types.specs.Code.{Number, Code, Do, If, While, Split, Call, Async, Finish, Codes, End, Then, Procedure, Program}
+use Rattle.types.specs.Code.{Number, Code, Do, If, While, Split, Parts, Begun, Call, Async, Finish, Codes, End, Then, Procedure, Program}
 use Rattle.types.specs.Labels.{labels_of, labels_inside, labels_of_procedures}
 use Rattle.types.specs.Run.{procedure_of, no_procedure}
+use Rattle.types.specs.Sound.{IsText, IsTextOf}
 use Rattle.types.specs.Translation.{code, codes}
 use Rattle.types.specs.declared.code.Stmt.{Stmt}
 use Rattle.effects.specs.Sound.{FollowsOf, Follows, IsSound, parameters_of}
@@ -33,11 +34,31 @@ stands_through Stands.here k h = Stands.inside k h
 stands_through (Stands.inside j g) k h = Stands.inside j (stands_through g k h)
 stands_through (Stands.later g) k h = Stands.later (stands_through g k h)
 
+-- ---- no `parts` has begun in a text
+text_inside : {s : Code} {b : Codes} → Block s b → IsTextOf s → IsText b
+text_inside Block.if_body h = h.0
+text_inside Block.if_other h = h.1
+text_inside Block.while h = h
+text_inside Block.split h = h
+text_inside Block.parts h = h
+text_inside Block.async h = h
+text_inside Block.finish h = h
+
+stands_text : {b : Codes} {l : ℕ} {s : Code} → Stands b l s → IsText b → IsTextOf s
+stands_text Stands.here h = h.0
+stands_text (Stands.inside k at) h = stands_text at (text_inside k h.0)
+stands_text (Stands.later at) h = stands_text at h.1
+
+pub statement_text : (p : Program) → IsSound p → (l : ℕ) (s : Code) → HasStatement p l s → IsTextOf s
+statement_text p sound l s (HasStatement.in_procedure f at) = stands_text at (sound.procedures f).text
+statement_text p sound l s (HasStatement.in_main at) = stands_text at sound.main.text
+
 block_small : {s : Code} {b : Codes} → Block s b → size b ≤ size_in s
 block_small Block.if_body = omega arith
 block_small Block.if_other = omega arith
 block_small Block.while = omega arith
 block_small Block.split = omega arith
+block_small Block.parts = omega arith
 block_small Block.async = omega arith
 block_small Block.finish = omega arith
 
@@ -94,6 +115,7 @@ module _ (p : Program) (g : Procedure) where
   block_follows Block.if_other scope h = record { scope = scope; follows = h.2 }
   block_follows Block.while scope h = record { scope = scope; follows = h.1 }
   block_follows (Block.split {s} {e} {l} {r} {b}) scope h = record { scope = l ∷ r ∷ scope; follows = h.2 }
+  block_follows (Block.parts {s} {e} {q} {i} {b}) scope h = record { scope = q ∷ scope; follows = h.2 }
   block_follows Block.async scope h = record { scope = scope; follows = h }
   block_follows Block.finish scope h = record { scope = scope; follows = h }
 
@@ -126,6 +148,8 @@ abbrev mutual
   listed_inside (If t b c) = listed b ++ listed c
   listed_inside (While t b) = listed b
   listed_inside (Split s e l r b) = listed b
+  listed_inside (Parts s e q i b) = listed b
+  listed_inside (Begun s n k q i b) = listed b
   listed_inside (Async b) = listed b
   listed_inside (Finish b) = listed b
   listed_inside _ = []
@@ -152,6 +176,8 @@ mutual
   keys_inside (If t b c) = keys_joined (listed b) (listed c) ∙ ap (λ ks. ks ++ keys_of (listed c)) (keys_in b) ∙ ap (λ ks. labels_of b ++ ks) (keys_in c)
   keys_inside (While t b) = keys_in b
   keys_inside (Split s e l r b) = keys_in b
+  keys_inside (Parts s e q i b) = keys_in b
+  keys_inside (Begun s n k q i b) = keys_in b
   keys_inside (Async b) = keys_in b
   keys_inside (Finish b) = keys_in b
   keys_inside _ = refl
@@ -172,6 +198,7 @@ listed_in_block (Block.if_body {t} {b} {c}) h = in_left (listed c) h
 listed_in_block (Block.if_other {t} {b} {c}) h = in_right (listed b) h
 listed_in_block Block.while h = h
 listed_in_block Block.split h = h
+listed_in_block Block.parts h = h
 listed_in_block Block.async h = h
 listed_in_block Block.finish h = h
 
@@ -252,6 +279,8 @@ mutual
   ]
   visited_inside w (While t b) v m = record { block = b; inside = Block.while; stands = visited w b v m }
   visited_inside w (Split s e l r b) v m = record { block = b; inside = Block.split; stands = visited w b v m }
+  visited_inside w (Parts s e q i b) v m = record { block = b; inside = Block.parts; stands = visited w b v m }
+  visited_inside w (Begun s n k q i b) v m = elim m [ ]
   visited_inside w (Call f es ss) v m = elim m [ ]
   visited_inside w (Async b) v m = record { block = b; inside = Block.async; stands = visited (in_async w) b v m }
   visited_inside w (Finish b) v m = record { block = b; inside = Block.finish; stands = visited (in_finish w) b v m }
@@ -285,6 +314,7 @@ visited_in_block w m t (Block.if_other {t = g} {b} {c}) h =
     visited_in_more (visits_in w c) (visits_in w b ++ visits_in w c) m t (λ v a. in_right (visits_in w b) a) (h w)
 visited_in_block w m t Block.while h = h w
 visited_in_block w m t Block.split h = h w
+visited_in_block w m t Block.parts h = h w
 visited_in_block w m t Block.async h = h (in_async w)
 visited_in_block w m t Block.finish h = h (in_finish w)
 

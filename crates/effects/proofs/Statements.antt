@@ -2,14 +2,15 @@
 use Rattle.std.proofs.Common.{◌≡◌, ℕ, zero, suc, ◌+◌, ◌-◌, ◌<◌, ◌≤◌, arith, List, [], ◌∷◌, drop, length, Vec, Global, sym, ap, ◌∙◌, add-one}
 use Rattle.std.proofs.Math.Seq.{drop-cons}
 use Rattle.std.specs.Prelude.{slice_index_or}
-use Rattle.types.specs.Code.{Code, Do, If, While, Split, Call, Async, Finish, Codes, End, Then}
+use Rattle.types.specs.Code.{Code, Do, If, While, Split, Parts, Begun, Call, Async, Finish, Codes, End, Then}
 use Rattle.types.specs.Translation.{number, truth, code, codes}
+use Rattle.types.specs.declared.code.Pieces.{Pieces}
 use Rattle.types.specs.declared.code.Sides.{Sides}
 use Rattle.types.specs.declared.code.Truth.{Truth}
 use Rattle.types.specs.declared.code.Stmt.{Stmt}
 use Rattle.types.specs.declared.code.StmtKind.{StmtKind}
-use Rattle.types.specs.declared.code.StmtKind.TheVariants.{If as rIf, While as rWhile, Split as rSplit, Async as rAsync, Finish as rFinish}
-use Rattle.types.proofs.Blocks.{code_If, code_While, code_Split, code_Async, code_Finish}
+use Rattle.types.specs.declared.code.StmtKind.TheVariants.{If as rIf, While as rWhile, Split as rSplit, Parts as rParts, Async as rAsync, Finish as rFinish}
+use Rattle.types.proofs.Blocks.{code_If, code_While, code_Split, code_Parts, code_Async, code_Finish}
 
 pub is_If : (k : StmtKind) (t : Truth) (v w : Vec Stmt Global) (b d : List Stmt) → k ≡ rIf t v w → b ≡ v.items → d ≡ w.items
     → code k ≡ If (truth t) (codes b) (codes d)
@@ -24,6 +25,11 @@ pub is_Split : (k : StmtKind) (s : Sides) (v : Vec Stmt Global) (b : List Stmt) 
     → code k ≡ Split s.section.number (number s.at) s.left.number s.right.number (codes b)
 is_Split k s v b is e =
     ap code is ∙ code_Split s v ∙ ap (λ b. Split s.section.number (number s.at) s.left.number s.right.number (codes b)) (sym e)
+
+pub is_Parts : (k : StmtKind) (x : Pieces) (v : Vec Stmt Global) (b : List Stmt) → k ≡ rParts x v → b ≡ v.items
+    → code k ≡ Parts x.section.number (number x.size) x.piece.number x.turn.number (codes b)
+is_Parts k x v b is e =
+    ap code is ∙ code_Parts x v ∙ ap (λ b. Parts x.section.number (number x.size) x.piece.number x.turn.number (codes b)) (sym e)
 
 pub is_Async : (k : StmtKind) (v : Vec Stmt Global) (b : List Stmt) → k ≡ rAsync v → b ≡ v.items → code k ≡ Async (codes b)
 is_Async k v b is e = ap code is ∙ code_Async v ∙ ap (λ b. Async (codes b)) (sym e)
@@ -44,6 +50,8 @@ abbrev mutual
   size_in (If t b c) = size b + size c
   size_in (While t b) = size b
   size_in (Split s e l r b) = size b
+  size_in (Parts s e q i b) = size b
+  size_in (Begun s n k q i b) = size b
   size_in (Call f es ss) = 0
   size_in (Async b) = size b
   size_in (Finish b) = size b

@@ -1,14 +1,15 @@
 -- What a statement of a body may do, the body may do, up to the names of sides.
 use Rattle.std.proofs.Common.{◌≡◌, inl, inr, ℕ, List, ◌∷◌, ◌++◌, refl, sym, ap, subst, ◌∙◌}
 use Rattle.sections.specs.Member.{Member, first, next}
-use Rattle.types.specs.Code.{Number, Code, Do, If, While, Split, Call, Async, Finish, Codes, End, Then, Procedure, Program}
+use Rattle.types.specs.Code.{Number, Code, Do, If, While, Split, Parts, Begun, Call, Async, Finish, Codes, End, Then, Procedure, Program}
 use Rattle.types.specs.Translation.{codes}
 use Rattle.types.specs.declared.code.Stmt.{Stmt}
-use Rattle.effects.specs.Effects.{Inner, Subject, AllOf, All, PendingOf, Pending, past_split}
-use Rattle.effects.specs.Sound.{SplitsWell, FollowsOf, Follows}
+use Rattle.effects.specs.Effects.{Inner, Subject, AllOf, All, PendingOf, Pending, past_parts, past_split}
+use Rattle.effects.specs.Sound.{CutsWell, SplitsWell, FollowsOf, Follows}
 use Rattle.effects.specs.Visits.{Visit, visits_in, visits_inside, in_async, in_finish}
 use Rattle.effects.specs.declared.visits.Standing.{Standing}
 use Rattle.effects.specs.declared.visits.Standing.TheVariants.{Open, Begun, Awaited}
+use Rattle.effects.proofs.Dividing.{Divides}
 use Rattle.effects.proofs.Members.{in_parts}
 
 -- the visits after others, if the positions and the blocks are the same
@@ -18,7 +19,7 @@ visits_same before {w} {v} {b} {c} standing block =
     ap (λ u. before ++ visits_in u (codes b)) standing ∙ ap (λ l. before ++ visits_in v (codes l)) block
 
 module _ (p : Program) (subject : Subject) (g : Procedure) (root : ℕ → ℕ)
-    (past : (scope : List ℕ) (s l r : ℕ) → SplitsWell g scope s l r → (x : subject.Item)
+    (past : (scope : List ℕ) (s l r : ℕ) → Divides g scope s l r → (x : subject.Item)
     → subject.renamed root (subject.renamed (past_split s l r) x) ≡ subject.renamed root x) where
   -- one of these, which has the same name at the root
   pub record Like (those : subject.Item → Type 0) (x : subject.Item) : Type 0 where
@@ -38,7 +39,15 @@ module _ (p : Program) (subject : Subject) (g : Procedure) (root : ℕ → ℕ)
   within_split {s = s} {l = l} {r = r} scope well h = record {
     item = subject.renamed (past_split s l r) h.item;
     among = AllOf.inner Inner.split h.among refl;
-    same = past scope s l r well h.item ∙ h.same;
+    same = past scope s l r (Divides.split well) h.item ∙ h.same;
+  }
+
+  within_parts : {k s q i : ℕ} {e : Number} {b : Codes} {x : subject.Item} (scope : List ℕ) → CutsWell g scope s q i
+      → Like (All p subject b) x → Like (AllOf p subject k (Parts s e q i b)) x
+  within_parts {s = s} {q = q} scope well h = record {
+    item = subject.renamed (past_parts s q) h.item;
+    among = AllOf.inner Inner.parts h.among refl;
+    same = past scope s q q (Divides.parts well) h.item ∙ h.same;
   }
 
   mutual
@@ -61,6 +70,8 @@ module _ (p : Program) (subject : Subject) (g : Procedure) (root : ℕ → ℕ)
     ]
     up_inside w l (While t b) scope h v m x a = within_if Inner.while (up w b scope h.1 v m x a)
     up_inside w l (Split s e y z b) scope h v m x a = within_split scope h.0 (up w b (y ∷ z ∷ scope) h.2 v m x a)
+    up_inside w l (Parts s e q i b) scope h v m x a = within_parts scope h.0 (up w b (q ∷ scope) h.2 v m x a)
+    up_inside w l (Begun s n k q i b) scope h v m x a = elim m [ ]
     up_inside w l (Call f es ss) scope h v m x a = elim m [ ]
     up_inside w l (Async b) scope h v m x a = like (λ y. AllOf.async) (up (in_async w) b scope h v m x a)
     up_inside w l (Finish b) scope h v m x a = like (λ y. AllOf.finish) (up (in_finish w) b scope h v m x a)
@@ -84,12 +95,14 @@ mutual
   ]
   standing_inside w a f (While t b) v m = standing_in w a f b v m
   standing_inside w a f (Split s e y z b) v m = standing_in w a f b v m
+  standing_inside w a f (Parts s e q i b) v m = standing_in w a f b v m
+  standing_inside w a f (Begun s n k q i b) v m = elim m [ ]
   standing_inside w a f (Call g es ss) v m = elim m [ ]
   standing_inside w a f (Async b) v m = standing_in w a f b v (subst (λ (u : Standing). Member v (visits_in u b)) a m)
   standing_inside w a f (Finish b) v m = standing_in w a f b v (subst (λ (u : Standing). Member v (visits_in u b)) f m)
 
 module _ (p : Program) (subject : Subject) (g : Procedure) (root : ℕ → ℕ)
-    (past : (scope : List ℕ) (s l r : ℕ) → SplitsWell g scope s l r → (x : subject.Item)
+    (past : (scope : List ℕ) (s l r : ℕ) → Divides g scope s l r → (x : subject.Item)
     → subject.renamed root (subject.renamed (past_split s l r) x) ≡ subject.renamed root x) where
   -- what a statement in this position leaves pending after the body has finished
   abbrev pub Leaves : Standing → Visit → subject.Item → Type 0
@@ -106,7 +119,15 @@ module _ (p : Program) (subject : Subject) (g : Procedure) (root : ℕ → ℕ)
   left_split {s = s} {l = l} {r = r} scope well h = record {
     item = subject.renamed (past_split s l r) h.item;
     among = PendingOf.inner Inner.split h.among refl;
-    same = past scope s l r well h.item ∙ h.same;
+    same = past scope s l r (Divides.split well) h.item ∙ h.same;
+  }
+
+  left_parts : {s q i : ℕ} {e : Number} {b : Codes} {x : subject.Item} (scope : List ℕ) → CutsWell g scope s q i
+      → Like p subject g root past (Pending p subject b) x → Like p subject g root past (PendingOf p subject (Parts s e q i b)) x
+  left_parts {s = s} {q = q} scope well h = record {
+    item = subject.renamed (past_parts s q) h.item;
+    among = PendingOf.inner Inner.parts h.among refl;
+    same = past scope s q q (Divides.parts well) h.item ∙ h.same;
   }
 
   mutual
@@ -130,6 +151,8 @@ module _ (p : Program) (subject : Subject) (g : Procedure) (root : ℕ → ℕ)
     left_inside (While t b) scope h v m x a =
         left_within (λ y q. PendingOf.inner Inner.while q (sym (subject.kept y))) (left_up b scope h.1 v m x a)
     left_inside (Split s e y z b) scope h v m x a = left_split scope h.0 (left_up b (y ∷ z ∷ scope) h.2 v m x a)
+    left_inside (Parts s e q i b) scope h v m x a = left_parts scope h.0 (left_up b (q ∷ scope) h.2 v m x a)
+    left_inside (Begun s n k q i b) scope h v m x a = elim m [ ]
     left_inside (Call f es ss) scope h v m x a = elim m [ ]
     left_inside (Async b) scope h v m x a =
         let all = subst (λ (w : Standing). Leaves w v x) (standing_in Begun refl refl b v m) a in

@@ -1,21 +1,27 @@
 -- A run of code whose names follow the rules leaves the windows in scope unchanged.
 use Rattle.std.proofs.Common.{◌≡◌, ℕ, zero, suc, ◌+◌, List, ◌∷◌, Ok, Err, ℤ, refl, sym, ap, ◌∙◌, map}
 use Rattle.std.specs.Prelude.{Bool, true, false, ok_or}
-use Rattle.sections.specs.Place.{Place, sides_of}
+use Rattle.sections.specs.Place.{Place, sides_of, has_piece, piece_at}
 use Rattle.sections.specs.Member.{next}
-use Rattle.types.specs.declared.fault.FaultKind.TheVariants.{SplitPoint}
-use Rattle.types.specs.Code.{Truth, Primitive, Skip, Assign, Store, Print, Raise, Code, Do, If, While, Split, Call}
+use Rattle.types.specs.declared.fault.FaultKind.TheVariants.{SplitPoint, PieceSize}
+use Rattle.types.specs.Code.{Truth, Primitive, Skip, Assign, Store, Print, Raise, Code, Do, If, While, Split, Parts, Begun, Call}
 use Rattle.types.specs.Code.{Async, Finish, Codes, End, Then, Procedure, Program}
 use Rattle.types.specs.Value.{Valued, element_of, holds_number}
-use Rattle.types.specs.Run.{Flow, On, Faulted, Stopped, State, Rules, Work, Block, Turn, at_flow, go_on, spend}
+use Rattle.types.specs.Run.{Flow, On, Faulted, Stopped, State, Rules, Work, Block, Turn, Pieces, at_flow, go_on, spend}
 use Rattle.types.specs.Run.{with_step, with_value, number_at, numbers_at, truth_at, window_at, assign, print, put}
 use Rattle.types.specs.Run.{fault, choose, in_environment, primitive, counted, act, block, work, within, run}
-use Rattle.types.specs.Run.{with_sides, array_of, entry, procedure_of}
+use Rattle.types.specs.Run.{with_sides, array_of, entry, procedure_of, in_turn, piece_size}
 use Rattle.types.specs.Meaning.{begin_one, one_rules}
-use Rattle.effects.specs.Sound.{Follows, FollowsOf}
+use Rattle.effects.specs.Sound.{CutsWell, Follows, FollowsOf}
 use Rattle.effects.specs.Fits.{Fits}
 use Rattle.effects.specs.Kept.{SameWindows, KeepsWindows, WorkFollows}
-use Rattle.effects.proofs.EnvironmentsFit.{at_other, fits_same}
+use Rattle.effects.proofs.EnvironmentsFit.{at_other, at_piece, fits_same}
+
+-- work of a statement: further iterations, or turns
+abbrev IsFurther : Work → Type 0
+IsFurther (Block b) = ⊥
+IsFurther (Turn l t b) = Unit {0}
+IsFurther (Pieces l s n k q i b) = Unit {0}
 
 module _ {X : Type 0} where
   abbrev Keep : List ℕ → (st out : State X) → Type 0
@@ -74,10 +80,12 @@ module _ (p : Program) {X : Type 0} where
     counted_keeps scope l (If t b c) st = λ s m. refl
     counted_keeps scope l (While t b) st = λ s m. refl
     counted_keeps scope l (Split s e x y b) st = λ s m. refl
+    counted_keeps scope l (Parts s e q i b) st = λ s m. refl
+    counted_keeps scope l (Begun s n k q i b) st = λ s m. refl
     counted_keeps scope l (Call f es ss) st = λ s m. refl
 
     module _ (deeper : Work → State X → State X)
-        (deeper_keeps : (scope : List ℕ) (l : ℕ) (t : Truth) (b : Codes) → Follows p g scope b → Keeps scope (deeper (Turn l t b))) where
+        (deeper_keeps : (w : Work) (scope : List ℕ) → IsFurther w → WorkFollows p g scope w → Keeps scope (deeper w)) where
       -- an iteration of a loop, if its block does and further iterations do
       while_keeps : (t : Truth) (b : Codes) (l : ℕ) (scope : List ℕ) → Keeps scope (block p r deeper b) → Keeps scope (deeper (Turn l t b))
           → Keeps scope (act p r deeper l (While t b))
@@ -89,13 +97,24 @@ module _ (p : Program) {X : Type 0} where
           (at_flow_keeps scope (block p r deeper b st).flow (block p r deeper b st) (deeper (Turn l t b)) further))
           (λ st s m. refl))
 
+      -- a turn of a `parts`, if its block does and the later turns do
+      turn_keeps : (s n k q i : ℕ) (b : Codes) (l : ℕ) (scope : List ℕ) → CutsWell g scope s q i
+          → Keeps (q ∷ scope) (block p r deeper b) → Keeps scope (deeper (Pieces l s n (k + 1) q i b))
+          → Keeps scope (act p r deeper l (Begun s n k q i b))
+      turn_keeps s n k q i b l scope well inner further st =
+          let begun = in_turn s n k q i st in
+          let out = block p r deeper b begun in
+          then_keep scope st out (go_on (deeper (Pieces l s n (k + 1) q i b)) out)
+          (λ z m. at_piece p g scope st.environment s q i well (piece_at n k (window_at st s)) k z m ∙ inner begun z (next m))
+          (at_flow_keeps scope out.flow out (deeper (Pieces l s n (k + 1) q i b)) further)
+
       mutual
         pub act_keeps : (s : Code) (l : ℕ) (scope : List ℕ) → FollowsOf p g scope s → Keeps scope (act p r deeper l s)
         act_keeps (Do s) l scope k st = primitive_keeps scope l s st
         act_keeps (If t b c) l scope k st =
             value_keeps scope l (truth_at st t) (choose (block p r deeper b) (block p r deeper c)) st (λ v.
             choose_keeps scope (block p r deeper b) (block p r deeper c) v st (block_keeps b scope k.1) (block_keeps c scope k.2))
-        act_keeps (While t b) l scope k st = while_keeps t b l scope (block_keeps b scope k.1) (deeper_keeps scope l t b k.1) st
+        act_keeps (While t b) l scope k st = while_keeps t b l scope (block_keeps b scope k.1) (deeper_keeps (Turn l t b) scope tt k.1) st
         act_keeps (Split s e x y b) l scope k st =
             value_keeps scope l (number_at st e)
             (λ v. with_value l (ok_or (sides_of (window_at st s) v) SplitPoint)
@@ -104,6 +123,14 @@ module _ (p : Program) {X : Type 0} where
             (λ ws st. block p r deeper b (record st { environment = with_sides x y ws st.environment })) st (λ ws.
             λ z m. at_other p g scope st.environment s x y k.0 ws z m
             ∙ block_keeps b (x ∷ y ∷ scope) k.2 (record st { environment = with_sides x y ws st.environment }) z (next (next m))))
+        act_keeps (Parts s e q i b) l scope k st =
+            value_keeps scope l (number_at st e)
+            (λ v. with_value l (ok_or (piece_size v) PieceSize) (λ n. deeper (Pieces l s n 0 q i b))) st (λ v.
+            value_keeps scope l (ok_or (piece_size v) PieceSize) (λ n. deeper (Pieces l s n 0 q i b)) st (λ n.
+            deeper_keeps (Pieces l s n 0 q i b) scope tt (k.0, k.2) st))
+        act_keeps (Begun s n j q i b) l scope k st =
+            turn_keeps s n j q i b l scope k.0 (block_keeps b (q ∷ scope) k.1)
+            (deeper_keeps (Pieces l s n (j + 1) q i b) scope tt k) st
         act_keeps (Call f es ss) l scope k st =
             value_keeps scope l (numbers_at st es)
             (λ vs. in_environment (entry vs (map (window_at st) ss)) (deeper (Block (procedure_of p f).body))) st (λ vs s m. refl)
@@ -126,11 +153,18 @@ module _ (p : Program) {X : Type 0} where
       work_keeps : (w : Work) (scope : List ℕ) → WorkFollows p g scope w → Keeps scope (work p r deeper w)
       work_keeps (Block b) scope k st = block_keeps b scope k st
       work_keeps (Turn l t b) scope k st = spend_keeps scope st.steps st (λ st. act p r deeper l (While t b) (counted r l (While t b) st))
-          (λ st. while_keeps t b l scope (block_keeps b scope k) (deeper_keeps scope l t b k) (counted r l (While t b) st))
+          (λ st. while_keeps t b l scope (block_keeps b scope k) (deeper_keeps (Turn l t b) scope tt k) (counted r l (While t b) st))
+      work_keeps (Pieces l s n k q i b) scope f st =
+          choose_keeps scope (with_step (λ st. act p r deeper l (Begun s n k q i b) (counted r l (Begun s n k q i b) st))) (λ st. st)
+          (has_piece (window_at st s) n k) st
+          (λ st. spend_keeps scope st.steps st (λ st. act p r deeper l (Begun s n k q i b) (counted r l (Begun s n k q i b) st))
+          (λ st. turn_keeps s n k q i b l scope f.0 (block_keeps b (q ∷ scope) f.1)
+          (deeper_keeps (Pieces l s n (k + 1) q i b) scope tt f) (counted r l (Begun s n k q i b) st)))
+          (λ st s m. refl)
 
     within_keeps : (n : ℕ) (w : Work) (scope : List ℕ) → WorkFollows p g scope w → Keeps scope (within p r n w)
     within_keeps zero w scope k st = λ s m. refl
-    within_keeps (suc n) w scope k st = work_keeps (within p r n) (λ scope l t b f. within_keeps n (Turn l t b) scope f) w scope k st
+    within_keeps (suc n) w scope k st = work_keeps (within p r n) (λ w scope i f. within_keeps n w scope f) w scope k st
 
     pub run_keeps : (w : Work) (scope : List ℕ) → WorkFollows p g scope w → (st : State X)
         → SameWindows scope st.environment (run p r w st).environment

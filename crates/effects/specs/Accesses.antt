@@ -1,7 +1,7 @@
 -- What a statement does to sections by its own expressions.
 use Rattle.std.specs.Prelude.{ℕ, List, [], ◌∷◌, ◌++◌, map, flat_map, Bool, true, false}
 use Rattle.types.specs.Code.{Primitive, Skip, Assign, Store, Print, Raise, Code, Do, If, While}
-use Rattle.types.specs.Code.{Split, Call, Async, Finish}
+use Rattle.types.specs.Code.{Split, Parts, Begun, Call, Async, Finish}
 use Rattle.types.specs.Indexed.{indexed, indexed_truth}
 
 -- the statement with this label may read, or write, elements of a section
@@ -30,6 +30,8 @@ own_accesses l (Do s) = own_primitive l s
 own_accesses l (If t b c) = reads l (indexed_truth t)
 own_accesses l (While t b) = reads l (indexed_truth t)
 own_accesses l (Split s e x y b) = reads l (indexed e)
+own_accesses l (Parts s e q i b) = reads l (indexed e)
+own_accesses l (Begun s n k q i b) = []
 own_accesses l (Call f es ss) = reads l (flat_map indexed es)
 own_accesses l (Async b) = []
 own_accesses l (Finish b) = []

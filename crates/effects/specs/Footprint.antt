@@ -1,7 +1,8 @@
 -- The footprint of statements: the places that they may touch, and those that they may write.
-use Rattle.std.specs.Prelude.{ℕ, ◌≡◌, true}
-use Rattle.sections.specs.Place.{Place, In}
-use Rattle.types.specs.Code.{Code, Codes, Program}
+use Rattle.std.specs.Prelude.{ℕ, ◌≡◌, ◌≤◌, ◌⊎◌, true}
+use Rattle.sections.specs.Place.{Place, In, has_piece, piece_at}
+use Rattle.types.specs.Code.{Code, Begun, Codes, End, Then, Program}
+use Rattle.types.specs.Run.{with_piece}
 use Rattle.types.specs.Value.{Environment}
 use Rattle.effects.specs.Accesses.{Access}
 use Rattle.effects.specs.Effects.{accesses, AllOf, All, PendingOf, Pending}
@@ -51,3 +52,35 @@ module _ (p : Program) (env : Environment) where
   -- the places that may still be written after one statement has finished
   abbrev pub MayStillWriteOf : Code → Place → Type 0
   MayStillWriteOf s = Overwrites env (PendingOf p accesses s)
+
+-- A `parts` that has begun does in each turn to come what its block does at the piece of that turn.
+
+-- in a turn with the number `next` or a later one, this holds in the environment of the turn
+pub record InTurnToCome (env : Environment) (s size next piece turn : ℕ) (holds : Environment → Type 0)
+    : Type 0 where
+  pub number : ℕ
+  pub later : next ≤ number
+  pub left : has_piece (env.windows s) size number ≡ true
+  pub there : holds (with_piece piece turn (piece_at size number (env.windows s)) number env)
+
+module _ (env : Environment) (at : Environment → Codes → Type 0) where
+  -- this holds in a turn to come of a begun `parts` of a list
+  abbrev pub InTurnsOf : Codes → Type 0
+  InTurnsOf End = ⊥
+  InTurnsOf (Then l (Begun s n k q i b) rest) =
+      InTurnToCome env s n k q i (λ e. at e b) ⊎ InTurnsOf rest
+  InTurnsOf (Then l _ rest) = InTurnsOf rest
+
+module _ (p : Program) (env : Environment) where
+  -- the places that the begun `parts` of a list may touch, write, and leave to be touched or written
+  abbrev pub TurnsTouch : Codes → Place → Type 0
+  TurnsTouch b q = InTurnsOf env (λ e b. MayTouch p e b q) b
+
+  abbrev pub TurnsWrite : Codes → Place → Type 0
+  TurnsWrite b q = InTurnsOf env (λ e b. MayWrite p e b q) b
+
+  abbrev pub TurnsStillTouch : Codes → Place → Type 0
+  TurnsStillTouch b q = InTurnsOf env (λ e b. MayStillTouch p e b q) b
+
+  abbrev pub TurnsStillWrite : Codes → Place → Type 0
+  TurnsStillWrite b q = InTurnsOf env (λ e b. MayStillWrite p e b q) b

@@ -1,10 +1,10 @@
 -- Runs leave the windows in scope unchanged.
-use Rattle.std.specs.Prelude.{ℕ, ◌≡◌, List}
+use Rattle.std.specs.Prelude.{ℕ, ◌≡◌, List, ◌∷◌}
 use Rattle.sections.specs.Member.{Member}
 use Rattle.types.specs.Code.{Codes, Procedure, Program}
 use Rattle.types.specs.Value.{Environment}
-use Rattle.types.specs.Run.{State, Rules, Work, Block, Turn}
-use Rattle.effects.specs.Sound.{Follows}
+use Rattle.types.specs.Run.{State, Rules, Work, Block, Turn, Pieces}
+use Rattle.effects.specs.Sound.{CutsWell, Follows}
 
 -- two environments have the same windows for the sections of the scope
 abbrev pub SameWindows : (scope : List ℕ) → (env other : Environment) → Type 0
@@ -23,3 +23,4 @@ pub record KeepsWindows {X : Type 0} (r : Rules X) : Type 0 where
 abbrev pub WorkFollows : Program → Procedure → (scope : List ℕ) → Work → Type 0
 WorkFollows p g scope (Block b) = Follows p g scope b
 WorkFollows p g scope (Turn l t b) = Follows p g scope b
+WorkFollows p g scope (Pieces l s n k q i b) = CutsWell g scope s q i × Follows p g (q ∷ scope) b

@@ -2,7 +2,7 @@
 use Rattle.std.specs.Prelude.{ℕ, ◌≡◌, List, [], ◌∷◌, ◌++◌, Bool, true, nat_eq, nat_lt, if◌then◌else◌}
 use Rattle.std.specs.List.{list_any}
 use Rattle.sections.specs.Member.{Member}
-use Rattle.types.specs.Code.{Code, Do, If, While, Split, Call, Async, Finish, Codes, End, Then, Program}
+use Rattle.types.specs.Code.{Code, Do, If, While, Split, Parts, Begun, Call, Async, Finish, Codes, End, Then, Program}
 use Rattle.types.specs.Run.{procedure_of}
 use Rattle.effects.specs.Accesses.{Access}
 use Rattle.effects.specs.Effects.{accesses, All}
@@ -42,6 +42,8 @@ module _ (p : Program) (needs : Codes → Needs) where
     ProvidesOf (If t b c) = ProvidesIn b × ProvidesIn c
     ProvidesOf (While t b) = ProvidesIn b
     ProvidesOf (Split s e x y b) = ProvidesIn b
+    ProvidesOf (Parts s e q i b) = ProvidesIn b
+    ProvidesOf (Begun s n k q i b) = ProvidesIn b
     ProvidesOf (Call f es ss) = Unit {0}
     ProvidesOf (Async b) = AreNeeds p b (needs b) × ProvidesIn b
     ProvidesOf (Finish b) = ProvidesIn b

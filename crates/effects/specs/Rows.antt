@@ -1,10 +1,10 @@
 -- The rows of the table for All and Pending, as a reader would write them.
 use Rattle.std.specs.Prelude.{ℕ, ◌≡◌, ◌⊎◌, ◌↔◌, Bool, true}
 use Rattle.sections.specs.Member.{Member}
-use Rattle.types.specs.Code.{Code, Do, If, While, Split, Call, Async, Finish, Codes, End, Then, Program}
+use Rattle.types.specs.Code.{Code, Do, If, While, Split, Parts, Begun, Call, Async, Finish, Codes, End, Then, Program}
 use Rattle.types.specs.Run.{procedure_of}
 use Rattle.types.specs.Sound.{passed_for}
-use Rattle.effects.specs.Effects.{past_split, Inner, Subject, AllOf, All, PendingOf, Pending}
+use Rattle.effects.specs.Effects.{past_parts, past_split, Inner, Subject, AllOf, All, PendingOf, Pending}
 
 module _ (p : Program) (subject : Subject) where
   -- one of these, in other names
@@ -19,6 +19,8 @@ module _ (p : Program) (subject : Subject) where
   Inside has (If t b c) x = has b x ⊎ has c x
   Inside has (While t b) x = has b x
   Inside has (Split s e l r b) x = Renamed (past_split s l r) (has b) x
+  Inside has (Parts s e q i b) x = Renamed (past_parts s q) (has b) x
+  Inside has (Begun s n k q i b) x = ⊥
   Inside has (Call f es ss) x = Renamed (passed_for ss) (has (procedure_of p f).body) x
   Inside has (Async b) x = has b x
   Inside has (Finish b) x = has b x

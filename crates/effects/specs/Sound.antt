@@ -6,7 +6,7 @@ use Rattle.effects.specs.Accesses.{Access}
 -- the definition of a sound program is with the rules of the language; every well-typed program is
 -- sound
 pub use Rattle.types.specs.Sound.{no_parameter, may_write, as_parameter, numbers_from, parameters_of}
-pub use Rattle.types.specs.Sound.{is_writable, SplitsWell, PassesWell, CallsWell, FollowsOf, Follows}
+pub use Rattle.types.specs.Sound.{is_writable, SplitsWell, CutsWell, PassesWell, CallsWell, FollowsOf, Follows}
 pub use Rattle.types.specs.Sound.{IsSoundIn, HasArrays, IsSound}
 
 -- in a procedure, where the sections of the scope may be named, an access is allowed

@@ -1,6 +1,6 @@
 -- The statements of a program, at any depth.
 use Rattle.std.specs.Prelude.{ℕ}
-use Rattle.types.specs.Code.{Number, Truth, Code, If, While, Split, Async, Finish, Codes, Then, Program}
+use Rattle.types.specs.Code.{Number, Truth, Code, If, While, Split, Parts, Async, Finish, Codes, Then, Program}
 use Rattle.types.specs.Run.{procedure_of}
 
 -- the blocks inside a statement; what a call runs is in its procedure
@@ -9,6 +9,7 @@ pub data Block : Code → Codes → Type 0 where
   if_other : {t : Truth} {b c : Codes} → Block (If t b c) c
   while : {t : Truth} {b : Codes} → Block (While t b) b
   split : {s : ℕ} {e : Number} {l r : ℕ} {b : Codes} → Block (Split s e l r b) b
+  parts : {s : ℕ} {e : Number} {q i : ℕ} {b : Codes} → Block (Parts s e q i b) b
   async : {b : Codes} → Block (Async b) b
   finish : {b : Codes} → Block (Finish b) b
 

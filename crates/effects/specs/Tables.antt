@@ -1,10 +1,10 @@
 -- All and Pending as lists, over tables of what each procedure's body contains.
 use Rattle.std.specs.Prelude.{ℕ, zero, suc, List, [], ◌++◌, map, ◌↔◌}
 use Rattle.sections.specs.Member.{Member}
-use Rattle.types.specs.Code.{Code, Do, If, While, Split, Call, Async, Finish, Codes, End, Then, Program}
+use Rattle.types.specs.Code.{Code, Do, If, While, Split, Parts, Begun, Call, Async, Finish, Codes, End, Then, Program}
 use Rattle.types.specs.Run.{procedure_of}
 use Rattle.types.specs.Sound.{passed_for}
-use Rattle.effects.specs.Effects.{past_split, Subject, All, Pending}
+use Rattle.effects.specs.Effects.{past_parts, past_split, Subject, All, Pending}
 
 -- what is listed for each procedure
 abbrev pub Table : Subject → Type 0
@@ -18,6 +18,8 @@ module _ (subject : Subject) (table : Table subject) where
     all_inside (If t b c) = all_in b ++ all_in c
     all_inside (While t b) = all_in b
     all_inside (Split s e l r b) = map (subject.renamed (past_split s l r)) (all_in b)
+    all_inside (Parts s e q i b) = map (subject.renamed (past_parts s q)) (all_in b)
+    all_inside (Begun s n k q i b) = []
     all_inside (Call f es ss) = map (subject.renamed (passed_for ss)) (table f)
     all_inside (Async b) = all_in b
     all_inside (Finish b) = all_in b
@@ -39,6 +41,8 @@ module _ (subject : Subject) (alls pendings : Table subject) where
     left_by (If t b c) = left_in b ++ left_in c
     left_by (While t b) = left_in b
     left_by (Split s e l r b) = map (subject.renamed (past_split s l r)) (left_in b)
+    left_by (Parts s e q i b) = map (subject.renamed (past_parts s q)) (left_in b)
+    left_by (Begun s n k q i b) = []
     left_by (Call f es ss) = map (subject.renamed (passed_for ss)) (pendings f)
     left_by (Async b) = all_in subject alls b
     left_by (Finish b) = []

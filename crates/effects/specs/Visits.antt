@@ -1,6 +1,6 @@
 -- The statements of a body, at any depth, each with its position relative to asyncs and finishes.
 use Rattle.std.specs.Prelude.{ℕ, List, [], ◌∷◌, ◌++◌}
-use Rattle.types.specs.Code.{Code, Do, If, While, Split, Call, Async, Finish, Codes, End, Then}
+use Rattle.types.specs.Code.{Code, Do, If, While, Split, Parts, Begun, Call, Async, Finish, Codes, End, Then}
 use Rattle.types.specs.Translation.{code}
 use Rattle.effects.specs.declared.visits.Standing.{Standing}
 use Rattle.effects.specs.declared.visits.Standing.TheVariants.{Open, Begun, Awaited}
@@ -40,6 +40,8 @@ abbrev mutual
   visits_inside w (If t b c) = visits_in w b ++ visits_in w c
   visits_inside w (While t b) = visits_in w b
   visits_inside w (Split s e l r b) = visits_in w b
+  visits_inside w (Parts s e q i b) = visits_in w b
+  visits_inside w (Begun s n k q i b) = []
   visits_inside w (Call f es ss) = []
   visits_inside w (Async b) = visits_in (in_async w) b
   visits_inside w (Finish b) = visits_in (in_finish w) b

@@ -76,6 +76,12 @@ fn add_inside(
             let outside = inside.past_split(alloc, sides.section, sides.left, sides.right)?;
             into.add_all(outside.items())
         }
+        StmtKind::Parts { pieces, body } => {
+            let mut inside = Firsts::new(alloc);
+            add_block(alloc, code, table, body, &mut inside)?;
+            let outside = inside.past_parts(alloc, pieces.section, pieces.piece)?;
+            into.add_all(outside.items())
+        }
         StmtKind::Call {
             procedure,
             sections,

@@ -4,7 +4,7 @@ ghost use Rattle.std.specs.Prelude.{◌≡◌, ◌⊎◌, [], ◌∷◌, ◌++�
 ghost use Rattle.sections.specs.Member.{Member};
 ghost use Rattle.sections.specs.Translation.{section as section_of};
 ghost use Rattle.effects.specs.AccessSets.{HasAccess};
-ghost use Rattle.effects.specs.Effects.{past_split, renamed};
+ghost use Rattle.effects.specs.Effects.{past_parts, past_split, renamed};
 ghost use Rattle.effects.specs.Firsts.{AreFirsts, AreFirstsIn, IsAlikeAt, kept_in, IsPassed, IsPassedAs};
 ghost use Rattle.effects.specs.Translation.{access as access_of};
 
@@ -93,6 +93,20 @@ impl Firsts {
             outside.add(around(*item, section, left, right))?;
         }
         Ok(outside)
+    }
+
+    /// Returns these accesses in the names around a `parts`.
+    pub fn past_parts(
+        &self,
+        alloc: Global,
+        section: SectionId,
+        piece: SectionId,
+    ) -> Result<Firsts, AllocError>
+        ensures { IfOk result (λ outside. AreFirstsIn
+            (map (renamed (past_parts section.number piece.number)) (kept_in self.now))
+            (kept_in outside)) }
+    {
+        self.past_split(alloc, section, piece, piece)
     }
 
     /// Returns what a procedure may do to its parameters, in the names around a call that passes

@@ -42,6 +42,7 @@ pub fn flow_visit(
         StmtKind::If { .. } => Ok(()),
         StmtKind::While { .. } => Ok(()),
         StmtKind::Split { .. } => Ok(()),
+        StmtKind::Parts { .. } => Ok(()),
         StmtKind::Call {
             procedure,
             sections,

@@ -1,14 +1,15 @@
 //! Theorems about the definitions, each the contract of a function with an empty body.
 
 ghost use Rattle.std.specs.Prelude.{◌≡◌, ◌⊎◌, ◌↔◌, ℕ, ℤ, List, [], ◌∷◌, map, length, Some};
-ghost use Rattle.sections.specs.Place.{Place, Window, sides_of};
+ghost use Rattle.sections.specs.Place.{Place, Window, sides_of, piece_of};
 ghost use Rattle.sections.specs.Member.{Member};
 ghost use Rattle.sections.specs.Origins.{IsNumbered};
-ghost use Rattle.types.specs.Code.{Number, Truth, Primitive, Code, Do, Split, Call, Codes};
+ghost use Rattle.types.specs.Code.{Number, Truth, Primitive, Code, Do, Split, Parts, Call, Codes};
 ghost use Rattle.types.specs.Code.{Procedure, Program};
 ghost use Rattle.types.specs.Indexed.{indexed, indexed_truth};
 ghost use Rattle.types.specs.Value.{Environment, number, truth};
 ghost use Rattle.types.specs.Run.{State, Rules, Work, run, primitive, procedure_of, entry, with_sides};
+ghost use Rattle.types.specs.Run.{with_piece};
 ghost use Rattle.types.specs.Meaning.{one_rules};
 ghost use Rattle.types.specs.Outcome.{whole_arrays};
 ghost use Rattle.effects.specs.Accesses.{Access, own_accesses, reads};
@@ -20,7 +21,7 @@ ghost use Rattle.effects.specs.Tables.{Table, IsDerived, IsDerivedPending, IsSta
 ghost use Rattle.effects.specs.Tables.{StableIsLeast};
 ghost use Rattle.effects.specs.Rounds.{possible, summaries, pending_summaries, needs_of};
 ghost use Rattle.effects.specs.Needs.{Provides, needs_in};
-ghost use Rattle.effects.specs.Sound.{Allowed, SplitsWell, PassesWell};
+ghost use Rattle.effects.specs.Sound.{Allowed, SplitsWell, CutsWell, PassesWell};
 ghost use Rattle.effects.specs.Sound.{parameters_of, HasArrays, IsSoundIn, IsSound};
 ghost use Rattle.effects.specs.Fits.{Fits};
 ghost use Rattle.effects.specs.Kept.{SameWindows, KeepsWindows, WorkFollows};
@@ -91,7 +92,8 @@ pub fn steps_keep_to_their_own_accesses<X>()
 {}
 
 /// The environment of `main` fits at its start. An environment continues to fit in the block of a
-/// split, after the split, and in the body of a call. Only the windows in scope matter.
+/// split and in each turn of a `parts`, after both, and in the body of a call. Only the windows in
+/// scope matter.
 pub fn environments_fit()
     ensures start { (p : Program) → IsSoundIn p p.main → HasArrays p
         → Fits p p.main (parameters_of p.main) (entry [] (whole_arrays 0 p.arrays)) }
@@ -102,6 +104,13 @@ pub fn environments_fit()
     ensures behind_split { (p : Program) (g : Procedure) (scope : List ℕ) (env : Environment)
         → Fits p g scope env → (s l r : ℕ) → SplitsWell g scope s l r
         → (ws : Window × Window) → Fits p g scope (with_sides l r ws env) }
+    ensures in_turn { (p : Program) (g : Procedure) (scope : List ℕ) (env : Environment)
+        → Fits p g scope env → (s q i : ℕ) → CutsWell g scope s q i
+        → (size number : ℕ) (w : Window) → piece_of (env.windows s) size number ≡ Some w
+        → Fits p g (q ∷ scope) (with_piece q i w number env) }
+    ensures behind_parts { (p : Program) (g : Procedure) (scope : List ℕ) (env : Environment)
+        → Fits p g scope env → (s q i : ℕ) → CutsWell g scope s q i
+        → (w : Window) (number : ℕ) → Fits p g scope (with_piece q i w number env) }
     ensures in_call { (p : Program) (g : Procedure) (scope : List ℕ) (env : Environment)
         → IsNumbered g.sections → Fits p g scope env
         → (f : Procedure) → IsSoundIn p f
@@ -170,4 +179,23 @@ pub fn splits_keep_footprints()
         → (v : ℤ) (ws : Window × Window) → sides_of (env.windows s) v ≡ Some ws → (q : Place)
         → MayStillWrite p (with_sides l r ws env) b q
         → MayStillWriteOf p env (Split s e l r b) q }
+{}
+
+/// What the block of a turn may do in its environment, the `parts` may do in the environment around
+/// it.
+pub fn turns_keep_footprints()
+    ensures touched { (p : Program) (env : Environment) (label s x i : ℕ) (e : Number) (b : Codes)
+        → (n k : ℕ) (w : Window) → piece_of (env.windows s) n k ≡ Some w → (q : Place)
+        → MayTouch p (with_piece x i w k env) b q → MayTouchOf p env label (Parts s e x i b) q }
+    ensures written { (p : Program) (env : Environment) (label s x i : ℕ) (e : Number) (b : Codes)
+        → (n k : ℕ) (w : Window) → piece_of (env.windows s) n k ≡ Some w → (q : Place)
+        → MayWrite p (with_piece x i w k env) b q → MayWriteOf p env label (Parts s e x i b) q }
+    ensures still_touched { (p : Program) (env : Environment) (s x i : ℕ) (e : Number) (b : Codes)
+        → (n k : ℕ) (w : Window) → piece_of (env.windows s) n k ≡ Some w → (q : Place)
+        → MayStillTouch p (with_piece x i w k env) b q
+        → MayStillTouchOf p env (Parts s e x i b) q }
+    ensures still_written { (p : Program) (env : Environment) (s x i : ℕ) (e : Number) (b : Codes)
+        → (n k : ℕ) (w : Window) → piece_of (env.windows s) n k ≡ Some w → (q : Place)
+        → MayStillWrite p (with_piece x i w k env) b q
+        → MayStillWriteOf p env (Parts s e x i b) q }
 {}

@@ -23,6 +23,7 @@ pub fn own_accesses(alloc: Global, label: Label, kind: &StmtKind) -> Result<Vec<
         StmtKind::If { guard, .. } => guard_reads(alloc, label, guard),
         StmtKind::While { guard, .. } => guard_reads(alloc, label, guard),
         StmtKind::Split { sides, .. } => reads(alloc, label, &sides.at),
+        StmtKind::Parts { pieces, .. } => reads(alloc, label, &pieces.size),
         StmtKind::Call { values, .. } => all_reads(alloc, label, values),
         StmtKind::Async { .. } => Ok(Vec::new(alloc)),
         StmtKind::Finish { .. } => Ok(Vec::new(alloc)),

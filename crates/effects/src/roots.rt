@@ -50,6 +50,7 @@ fn next_root(roots: &[SectionId], section: SectionId, origin: Origin) -> Section
         Origin::Root => section,
         Origin::Left { parent } => root_at(roots, parent),
         Origin::Right { parent } => root_at(roots, parent),
+        Origin::Piece { parent } => root_at(roots, parent),
     }
 }
 

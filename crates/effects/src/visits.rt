@@ -95,6 +95,10 @@ fn visit_inside<'p>(
             visit_block(standing, body, into)?;
             Ok(())
         }
+        StmtKind::Parts { body, .. } => {
+            visit_block(standing, body, into)?;
+            Ok(())
+        }
         StmtKind::Call { .. } => Ok(()),
         StmtKind::Async { body } => {
             visit_block(standing.in_async(), body, into)?;

@@ -1,18 +1,21 @@
 -- The next action of a task is of the kind that its frames show.
-use Rattle.std.proofs.Common.{◌≡◌, ℕ, zero, suc, ◌<◌, Option, List, [], ◌∷◌, ◌++◌, length, take, refl, sym, ap, ◌∙◌, subst, arith}
+use Rattle.std.proofs.Common.{◌≡◌, ℕ, zero, suc, ◌<◌, Option, Some, None, List, [], ◌∷◌, ◌++◌, length, take, refl, sym, ap, ◌∙◌, subst, arith}
 use Rattle.std.proofs.Math.Seq.{take-suc}
 use Rattle.std.specs.Prelude.{Bool, true, false, if◌then◌else◌, nat_eq, slice_index_or}
 use Rattle.std.proofs.lemmas.Bool.{eqb-true}
 use Rattle.std.proofs.lemmas.Option.{same_Some}
 use Rattle.shared_lemmas.proofs.Truths.{false_true, true_false}
-use Rattle.types.specs.Code.{Code, Do, If, While, Split, Call, Async, Finish, Codes, End, Then, Program}
-use Rattle.types.specs.Run.{State, Flow as Going, On, Stopped, counted, stopped}
+use Rattle.sections.specs.Place.{Window, has_piece, piece_of}
+use Rattle.types.specs.Code.{Code, Do, If, While, Split, Parts, Begun, Call, Async, Finish, Codes, End, Then, Program}
+use Rattle.types.specs.Run.{State, Flow as Going, On, Stopped, counted, stopped, window_at}
+use Rattle.types.specs.Value.{Environment}
 use Rattle.effects.specs.Needs.{Needs}
 use Rattle.effects.specs.Rounds.{needs_of}
 use Rattle.statement_steps.specs.Standing.{flow as flow_of}
+use Rattle.statement_steps.proofs.Pieces.{has_none, has_one}
 use Rattle.statement_steps.specs.declared.flow.Flow.{Flow}
 use Rattle.statement_steps.specs.declared.flow.Flow.TheVariants.{On as rOn, Faulted as rFaulted, Stopped as rStopped}
-use Rattle.task_run.specs.Frames.{Frame, Rest, Again, AtEnd, Back, Standing, done_at, done_by, done_in, turn, paid, by_flow}
+use Rattle.task_run.specs.Frames.{Frame, Rest, Again, Further, AtEnd, Back, Standing, done_at, done_by, done_in, turn, paid, by_flow}
 use Rattle.task_run.specs.Given.{in_truth}
 use Rattle.task_run.specs.OwnRun.{Own, Start, Action, Step, Spawn, EnterFinish, EndFinish, child_of, own_rules, last_action}
 use Rattle.task_run.specs.Results.{Settled}
@@ -23,12 +26,12 @@ use Rattle.task_run.specs.declared.run.Run.{Run}
 use Rattle.task_run.specs.declared.start.Start.{Start as rStart}
 use Rattle.task_run.specs.Reached.{begun}
 use Rattle.task_run.specs.Translation.{start}
-use Rattle.types.specs.Translation.{codes}
+use Rattle.types.specs.Translation.{codes, environment}
 use Rattle.task_run.proofs.RunTops.{none_stacked, on_top}
 use Rattle.task_run.specs.Jobs.{IsJob, program_of, budget_of}
 use Rattle.task_run.specs.declared.job.Job.{Job}
 use Rattle.event_worlds.specs.Courses.{Course, HasCome, IsFresh, IsNext, IsRunOf}
-use Rattle.event_worlds.specs.NextKinds.{IsLeft, IsOfKind, HasNext, kind_by, is_step, does, does_nested, block_does, top_does}
+use Rattle.event_worlds.specs.NextKinds.{IsLeft, IsOfKind, HasNext, kind_by, is_step, does, does_nested, block_does, top_does, after_frame}
 use Rattle.event_worlds.specs.declared.next.First.{First}
 use Rattle.event_worlds.specs.declared.next.First.TheVariants.{Acts, Goes}
 use Rattle.event_worlds.specs.declared.next.NextKind.{NextKind}
@@ -58,6 +61,13 @@ pub taken_last : {A : Type 0} (xs : List A) (x : A) (n m : ℕ) → n ≡ suc m 
     → take n xs ≡ take m xs ++ x ∷ []
 taken_last xs x n m next le is = ap (λ k. take k xs) next ∙ take-suc xs m x le ∙ ap (λ y. take m xs ++ y ∷ []) (sym is)
 
+-- what a `parts` does that has a turn left, and one that has none
+pub turn_left : (w v : Window) (n k : ℕ) (more gone : First) → piece_of w n k ≡ Some v → (if has_piece w n k then more else gone) ≡ more
+turn_left w v n k more gone e = ap (λ (b : Bool). if b then more else gone) (has_one w v n k e)
+
+pub no_turn_left : (w : Window) (n k : ℕ) (more gone : First) → piece_of w n k ≡ None → (if has_piece w n k then more else gone) ≡ gone
+no_turn_left w n k more gone e = ap (λ (b : Bool). if b then more else gone) (has_none w n k e)
+
 -- these are the actions that it does: one of this kind, or none
 abbrev ActsSo : (path : List ℕ) → First → List Action → Type 0
 ActsSo path (Acts k) xs = (a : Action) × (xs ≡ a ∷ []) × IsOfKind path k a
@@ -74,12 +84,16 @@ module _ (needs : Codes → Needs) (path : List ℕ) where
   shows_nested zero n (If t b c) st = (Step, refl, refl)
   shows_nested zero n (While t b) st = (Step, refl, refl)
   shows_nested zero n (Split s e x y b) st = (Step, refl, refl)
+  shows_nested zero n (Parts s e q i b) st = (Step, refl, refl)
+  shows_nested zero n (Begun s m k q i b) st = (Step, refl, refl)
   shows_nested zero n (Call f es ss) st = (Step, refl, refl)
   shows_nested (suc m) n (Finish b) st = (EnterFinish, refl, refl)
   shows_nested (suc m) n (Do s) st = (Step, refl, refl)
   shows_nested (suc m) n (If t b c) st = (Step, refl, refl)
   shows_nested (suc m) n (While t b) st = (Step, refl, refl)
   shows_nested (suc m) n (Split s e x y b) st = (Step, refl, refl)
+  shows_nested (suc m) n (Parts s e q i b) st = (Step, refl, refl)
+  shows_nested (suc m) n (Begun s j k q i b) st = (Step, refl, refl)
   shows_nested (suc m) n (Call f es ss) st = (Step, refl, refl)
 
   shows_paid : (nest n : ℕ) (s : Code) (st : State Own) → ActsSo path (does nest n rOn (kind_by s)) (done_by needs nest n s st)
@@ -97,10 +111,17 @@ module _ (needs : Codes → Needs) (path : List ℕ) where
 
   -- the top frame, unless it is the end of a finish
   shows_top : (nest steps : ℕ) (g : Flow) (f : Frame Own) (st : State Own) → st.flow ≡ flow_of g → (g ≡ rOn → st.steps ≡ steps)
-      → ((before : State Own) → f ≡ AtEnd before → ⊥) → ActsSo path (top_does nest steps g f) (done_in needs nest f st)
+      → ((before : State Own) → f ≡ AtEnd before → ⊥)
+      → ActsSo path (top_does nest steps g st.environment.windows f) (done_in needs nest f st)
   shows_top nest steps g (Rest End) st e left other = refl
   shows_top nest steps g (Rest (Then l s rest)) st e left other = shows_at nest steps g s st e left
   shows_top nest steps g (Again l t b) st e left other = shows_at nest steps g (While t b) st e left
+  shows_top nest steps g (Further l s n k q i b) st e left other = by (has_piece (window_at st s) n k)
+    where
+      by : (more : Bool) → ActsSo path (if more then does nest steps g ToStep else Goes g)
+          (if more then done_at needs nest st.flow (Begun s n k q i b) st else [])
+      by true = shows_at nest steps g (Begun s n k q i b) st e left
+      by false = refl
   shows_top nest steps g (AtEnd before) st e left other = absurd (other before refl)
   shows_top nest steps g (Back env) st e left other = refl
 
@@ -108,26 +129,31 @@ module _ (needs : Codes → Needs) (path : List ℕ) where
     -- a statement over the budget stops the task
     over_stops : (n l : ℕ) (s : Code) (fs : List (Frame Own)) (st : State Own) (g : Flow) → does nest n rOn (kind_by s) ≡ Goes g
         → (g ≡ rStopped) × ((to : State Own)
-        × (paid p (own_rules needs nest close) n l s fs st ≡ record { frames = fs; state = to }) × (to.flow ≡ Stopped))
-    over_stops zero l s fs st g e = (sym (goes_inj e), (stopped st, refl, refl))
+        × (paid p (own_rules needs nest close) n l s fs st ≡ record { frames = fs; state = to }) × (to.flow ≡ Stopped)
+        × (to.environment ≡ st.environment))
+    over_stops zero l s fs st g e = (sym (goes_inj e), (stopped st, refl, refl, refl))
     over_stops (suc n) l s fs st g e = by_code nest s e
       where
         by_code : (m : ℕ) (s : Code) → does_nested m (kind_by s) ≡ Goes g
             → (g ≡ rStopped) × ((to : State Own)
-            × (paid p (own_rules needs m close) (suc n) l s fs st ≡ record { frames = fs; state = to }) × (to.flow ≡ Stopped))
-        by_code zero (Async b) e = (sym (goes_inj e), (stopped (record st { steps = n }), refl, refl))
+            × (paid p (own_rules needs m close) (suc n) l s fs st ≡ record { frames = fs; state = to }) × (to.flow ≡ Stopped)
+            × (to.environment ≡ st.environment))
+        by_code zero (Async b) e = (sym (goes_inj e), (stopped (record st { steps = n }), refl, refl, refl))
         by_code (suc m) (Async b) e = absurd (acts_goes e)
         by_code m (Finish b) e = absurd (acts_goes e)
         by_code m (Do s) e = absurd (acts_goes e)
         by_code m (If t b c) e = absurd (acts_goes e)
         by_code m (While t b) e = absurd (acts_goes e)
         by_code m (Split s i x y b) e = absurd (acts_goes e)
+        by_code m (Parts s i x y b) e = absurd (acts_goes e)
+        by_code m (Begun s z j x y b) e = absurd (acts_goes e)
         by_code m (Call f es ss) e = absurd (acts_goes e)
 
 -- ---- the frames that are left, after those that did nothing
--- it is at frames, which did nothing so far
-pub record ComesTo (j : Job) (c : Course) (fs : List (Frame Own)) (now : Flow) (budget : ℕ) : Type 0 where
+-- it is at frames, with this environment, and did nothing so far
+pub record ComesTo (j : Job) (c : Course) (fs : List (Frame Own)) (env : Environment) (now : Flow) (budget : ℕ) : Type 0 where
   pub state : State Own
+  pub environment : state.environment ≡ env
   pub flow : state.flow ≡ flow_of now
   pub steps : now ≡ rOn → state.steps ≡ budget
   pub come : HasCome j c (record { frames = fs; state = state })
@@ -165,7 +191,8 @@ module _ (j : Job) (ok : IsJob j) (c : Course) where
       → next_of j ok c.start f fs st
       ≡ by_flow p (own_rules (needs_of p) c.start.nest (in_truth p (needs_of p) (budget_of j).steps)) st.flow l s above fs st
       → ((to : State Own) → to.flow ≡ Stopped → HasCome j c (At above to) → HasCome j c (At fs to))
-      → st.flow ≡ flow_of g → (g ≡ rOn → st.steps ≡ steps) → does c.start.nest steps g (kind_by s) ≡ Goes next → ComesTo j c fs next steps
+      → st.flow ≡ flow_of g → (g ≡ rOn → st.steps ≡ steps) → does c.start.nest steps g (kind_by s) ≡ Goes next
+      → ComesTo j c fs st.environment next steps
   passes steps f l s above fs st g next h does_so turns_so lands e left is = by_flow_of g next e left is
     where
       turned : Going → Standing Own
@@ -179,41 +206,87 @@ module _ (j : Job) (ok : IsJob j) (c : Course) where
           (shows_at (needs_of p) c.start.path c.start.nest steps g s st e left)
 
       off : (o : Going) (g : Flow) → st.flow ≡ o → o ≡ flow_of g → done_in (needs_of p) c.start.nest f st ≡ [] → turned o ≡ At fs st
-          → (g ≡ rOn → st.steps ≡ steps) → ComesTo j c fs g steps
+          → (g ≡ rOn → st.steps ≡ steps) → ComesTo j c fs st.environment g steps
       off o g e is acts_none to left = record {
         state = st;
+        environment = refl;
         flow = e ∙ is;
         steps = left;
         come = quiet_to f fs st (At fs st) h acts_none (turns_so ∙ ap turned e ∙ to);
       }
 
       by_flow_of : (g next : Flow) → st.flow ≡ flow_of g → (g ≡ rOn → st.steps ≡ steps) → does c.start.nest steps g (kind_by s) ≡ Goes next
-          → ComesTo j c fs next steps
+          → ComesTo j c fs st.environment next steps
       by_flow_of rOn next e left is =
           let over = over_stops (needs_of p) c.start.path p c.start.nest (in_truth p (needs_of p) (budget_of j).steps) st.steps l s above st next
           (ap (λ n. does c.start.nest n rOn (kind_by s)) (left refl) ∙ is) in
           record {
             state = over.1.0;
+            environment = over.1.3;
             flow = over.1.2 ∙ ap flow_of (sym over.0);
             steps = λ on. (let bad : ⊥ = cc (sym over.0 ∙ on) in absurd bad);
             come = lands over.1.0 over.1.2
                 (quiet_to f fs st (At above over.1.0) h (none rOn next e left is) (turns_so ∙ ap turned e ∙ over.1.1));
           }
       by_flow_of rFaulted next e left is =
-          subst (λ g. ComesTo j c fs g steps) (goes_inj is) (off (flow_of rFaulted) rFaulted e refl (none rFaulted next e left is) refl left)
+          subst (λ g. ComesTo j c fs st.environment g steps) (goes_inj is) (off (flow_of rFaulted) rFaulted e refl (none rFaulted next e left is) refl left)
       by_flow_of rStopped next e left is =
-          subst (λ g. ComesTo j c fs g steps) (goes_inj is) (off (flow_of rStopped) rStopped e refl (none rStopped next e left is) refl left)
+          subst (λ g. ComesTo j c fs st.environment g steps) (goes_inj is) (off (flow_of rStopped) rStopped e refl (none rStopped next e left is) refl left)
+
+  -- the turns of a `parts` go away: none is left, or the flow isn't on or no step is left
+  turns_go : (steps l s n k q i : ℕ) (b : Codes) (fs : List (Frame Own)) (st : State Own) (g next : Flow)
+      → HasCome j c (At (Further l s n k q i b ∷ fs) st) → st.flow ≡ flow_of g → (g ≡ rOn → st.steps ≡ steps)
+      → top_does c.start.nest steps g st.environment.windows (Further l s n k q i b) ≡ Goes next
+      → ComesTo j c fs st.environment next steps
+  turns_go steps l s n k q i b fs st g next h e left is = by (has_piece (window_at st s) n k) refl is
+    where
+      code : Code
+      code = Begun s n k q i b
+
+      turned : Standing Own
+      turned = by_flow p (own_rules (needs_of p) c.start.nest (in_truth p (needs_of p) (budget_of j).steps)) st.flow l code fs fs st
+
+      acts_as : (more : Bool) → has_piece (window_at st s) n k ≡ more
+          → done_in (needs_of p) c.start.nest (Further l s n k q i b) st
+          ≡ (if more then done_at (needs_of p) c.start.nest st.flow code st else [])
+      acts_as more m = ap (λ (x : Bool). if x then done_at (needs_of p) c.start.nest st.flow code st else []) m
+
+      turns_as : (more : Bool) → has_piece (window_at st s) n k ≡ more
+          → next_of j ok c.start (Further l s n k q i b) fs st ≡ if◌then◌else◌ {A = Standing Own} more turned (At fs st)
+      turns_as more m = ap (λ (x : Bool). if◌then◌else◌ {A = Standing Own} x turned (At fs st)) m
+
+      by : (more : Bool) → has_piece (window_at st s) n k ≡ more
+          → (if more then does c.start.nest steps g ToStep else Goes g) ≡ Goes next → ComesTo j c fs st.environment next steps
+      by true m is =
+          passes steps (Further l s n k q i b) l code fs fs st g next h (acts_as true m) (turns_as true m) (λ to off there. there) e left is
+      by false m is =
+          let same : g ≡ next = goes_inj is in
+          record {
+            state = st;
+            environment = refl;
+            flow = e ∙ ap flow_of same;
+            steps = λ on. left (same ∙ on);
+            come = quiet_to (Further l s n k q i b) fs st (At fs st) h (acts_as false m) (turns_as false m);
+          }
 
   -- a frame goes away
   goes : (steps : ℕ) (f : Frame Own) (fs : List (Frame Own)) (st : State Own) (g next : Flow) → HasCome j c (At (f ∷ fs) st)
-      → st.flow ≡ flow_of g → (g ≡ rOn → st.steps ≡ steps) → top_does c.start.nest steps g f ≡ Goes next → ComesTo j c fs next steps
+      → st.flow ≡ flow_of g → (g ≡ rOn → st.steps ≡ steps) → top_does c.start.nest steps g st.environment.windows f ≡ Goes next
+      → ComesTo j c fs (after_frame f st.environment) next steps
   goes steps (Rest End) fs st g next h e left is =
       let same : g ≡ next = goes_inj is in
-      record { state = st; flow = e ∙ ap flow_of same; steps = λ on. left (same ∙ on); come = quiet (Rest End) fs st h refl }
+      record {
+        state = st;
+        environment = refl;
+        flow = e ∙ ap flow_of same;
+        steps = λ on. left (same ∙ on);
+        come = quiet (Rest End) fs st h refl;
+      }
   goes steps (Back env) fs st g next h e left is =
       let same : g ≡ next = goes_inj is in
       record {
         state = record st { environment = env };
+        environment = refl;
         flow = e ∙ ap flow_of same;
         steps = λ on. left (same ∙ on);
         come = quiet (Back env) fs st h refl;
@@ -221,12 +294,14 @@ module _ (j : Job) (ok : IsJob j) (c : Course) where
   goes steps (AtEnd before) fs st g next h e left is = absurd (acts_goes is)
   goes steps (Again l t b) fs st g next h e left is =
       passes steps (Again l t b) l (While t b) fs fs st g next h refl refl (λ to off there. there) e left is
+  goes steps (Further l s n k q i b) fs st g next h e left is = turns_go steps l s n k q i b fs st g next h e left is
   goes steps (Rest (Then l s rest)) fs st g next h e left is =
       passes steps (Rest (Then l s rest)) l s (Rest rest ∷ fs) fs st g next h refl refl (λ to off there. drops rest fs to off there) e left is
 
   -- a frame does an action
   acts : (steps : ℕ) (f : Frame Own) (fs : List (Frame Own)) (st : State Own) (g : Flow) (k : NextKind) → HasCome j c (At (f ∷ fs) st)
-      → st.flow ≡ flow_of g → (g ≡ rOn → st.steps ≡ steps) → top_does c.start.nest steps g f ≡ Acts k → HasNext j c k
+      → st.flow ≡ flow_of g → (g ≡ rOn → st.steps ≡ steps) → top_does c.start.nest steps g st.environment.windows f ≡ Acts k
+      → HasNext j c k
   acts steps (AtEnd before) fs st g k h e left is =
       subst (HasNext j c) (acts_inj is) (record { action = EndFinish; next = ends_finish j ok c before fs st h; of = refl })
   acts steps (Rest b) fs st g k h e left is =
@@ -237,40 +312,62 @@ module _ (j : Job) (ok : IsJob j) (c : Course) where
       let so = subst (λ x. ActsSo c.start.path x (done_in (needs_of p) c.start.nest (Again l t b) st)) is
       (shows_top (needs_of p) c.start.path c.start.nest steps g (Again l t b) st e left (λ before bad. (let no : ⊥ = cc bad in no))) in
       record { action = so.0; next = next_is j ok c (Again l t b) fs st so.0 h so.1; of = so.2 }
+  acts steps (Further l s n m q i b) fs st g k h e left is =
+      let f : Frame Own = Further l s n m q i b in
+      let so = subst (λ x. ActsSo c.start.path x (done_in (needs_of p) c.start.nest f st)) is
+      (shows_top (needs_of p) c.start.path c.start.nest steps g f st e left (λ before bad. (let no : ⊥ = cc bad in no))) in
+      record { action = so.0; next = next_is j ok c f fs st so.0 h so.1; of = so.2 }
   acts steps (Back env) fs st g k h e left is = absurd (acts_goes (sym is))
 
   -- ---- the frames in Rust
   -- at first, all frames are left
-  pub all_left : (r : Run) → IsRunOf j c r → IsLeft j c r.frames.items r.thread.flow r.thread.steps
+  pub all_left : (r : Run) → IsRunOf j c r
+      → IsLeft j c r.frames.items (environment r.thread.environment) r.thread.flow r.thread.steps
   all_left r m = record {
     left = m.frames;
     state = with_own m.own (state_of r.thread);
     stacked = m.shows.frames;
+    environment = refl;
     flow = refl;
     steps = λ on. refl;
     come = m.come;
   }
 
-  module _ (frames below : List rFrame) (top : rFrame) (are : frames ≡ below ++ top ∷ []) (g : Flow) (steps : ℕ)
-      (i : IsLeft j c frames g steps) where
+  module _ (frames below : List rFrame) (top : rFrame) (are : frames ≡ below ++ top ∷ []) (env : Environment)
+      (g : Flow) (steps : ℕ) (i : IsLeft j c frames env g steps) where
+    shown_does : (f : Frame Own)
+        → top_does c.start.nest steps g i.state.environment.windows f ≡ top_does c.start.nest steps g env.windows f
+    shown_does f = ap (λ (e : Environment). top_does c.start.nest steps g e.windows f) i.environment
+
     -- the top frame does nothing
-    pub left_below : (next : Flow) → ((f : Frame Own) → ShowsFrame top f → Goes next ≡ top_does c.start.nest steps g f)
-        → IsLeft j c below next steps
-    left_below next does_so =
-        on_top frames below top i.left are i.stacked (λ fs. HasCome j c (At fs i.state) → IsLeft j c below next steps)
+    pub left_below : (after : Environment) (next : Flow) → ((f : Frame Own) → ShowsFrame top f → after ≡ after_frame f env)
+        → ((f : Frame Own) → ShowsFrame top f → Goes next ≡ top_does c.start.nest steps g env.windows f)
+        → IsLeft j c below after next steps
+    left_below after next comes does_so =
+        on_top frames below top i.left are i.stacked (λ fs. HasCome j c (At fs i.state) → IsLeft j c below after next steps)
         (λ f fs shown stacked come.
-        let to = goes steps f fs i.state g next come i.flow i.steps (sym (does_so f shown)) in
-        record { left = fs; state = to.state; stacked = stacked; flow = to.flow; steps = to.steps; come = to.come }) i.come
+        let to = goes steps f fs i.state g next come i.flow i.steps (shown_does f ∙ sym (does_so f shown)) in
+        record {
+          left = fs;
+          state = to.state;
+          stacked = stacked;
+          environment = to.environment ∙ ap (after_frame f) i.environment ∙ sym (comes f shown);
+          flow = to.flow;
+          steps = to.steps;
+          come = to.come;
+        }) i.come
 
     -- it does an action
-    pub acts_now : (k : NextKind) → ((f : Frame Own) → ShowsFrame top f → Acts k ≡ top_does c.start.nest steps g f) → HasNext j c k
+    pub acts_now : (k : NextKind) → ((f : Frame Own) → ShowsFrame top f → Acts k ≡ top_does c.start.nest steps g env.windows f)
+        → HasNext j c k
     acts_now k does_so =
         on_top frames below top i.left are i.stacked (λ fs. HasCome j c (At fs i.state) → HasNext j c k)
-        (λ f fs shown stacked come. acts steps f fs i.state g k come i.flow i.steps (sym (does_so f shown))) i.come
+        (λ f fs shown stacked come. acts steps f fs i.state g k come i.flow i.steps (shown_does f ∙ sym (does_so f shown))) i.come
 
   -- none is left
-  pub ends_now : (frames : List rFrame) (g : Flow) (steps : ℕ) → frames ≡ [] → IsLeft j c frames g steps → HasNext j c ToEnd
-  ends_now frames g steps none i =
+  pub ends_now : (frames : List rFrame) (env : Environment) (g : Flow) (steps : ℕ) → frames ≡ []
+      → IsLeft j c frames env g steps → HasNext j c ToEnd
+  ends_now frames env g steps none i =
       let come = subst (λ (fs : List (Frame Own)). HasCome j c (At fs i.state)) (none_stacked frames i.left none i.stacked) i.come in
       record { action = last_action c.start.path; next = ends_last j ok c i.state come; of = refl }
 
@@ -280,7 +377,7 @@ module _ (j : Job) (ok : IsJob j) (c : Course) where
     first = (begun (budget_of j).steps (start s)).state
 
     does_first : (f : First) → f ≡ block_does s.nest (budget_of j).steps rOn (codes s.body.now)
-        → top_does c.start.nest (budget_of j).steps rOn (Rest (start s).body) ≡ f
+        → top_does c.start.nest (budget_of j).steps rOn first.environment.windows (Rest (start s).body) ≡ f
     does_first f e =
         sym (e ∙ ap (λ n. block_does n (budget_of j).steps rOn (codes s.body.now)) (ap (λ (x : Start). x.nest) fresh.is))
 

@@ -2,14 +2,15 @@
 -- task.
 use Rattle.std.proofs.Common.{◌≡◌, ℕ, zero, suc, ◌+◌, ◌≤◌, List, [], ◌∷◌, ◌++◌, refl, sym, inl}
 use Rattle.std.proofs.Common.{inr, arith, le_refl}
-use Rattle.std.specs.Prelude.{◌⊎◌, false, Option}
+use Rattle.std.specs.Prelude.{◌⊎◌, ◌&&◌, Bool, true, false, Option, if◌then◌else◌}
+use Rattle.sections.specs.Place.{has_piece}
 use Rattle.shared_lemmas.proofs.Truths.{false_true}
-use Rattle.types.specs.Code.{Code, Do, If, While, Split, Call, Async, Finish, Codes, End, Then, Program}
-use Rattle.types.specs.Run.{Flow, On, Faulted, Stopped, State, counted}
+use Rattle.types.specs.Code.{Code, Do, If, While, Split, Parts, Begun, Call, Async, Finish, Codes, End, Then, Program}
+use Rattle.types.specs.Run.{Flow, On, Faulted, Stopped, State, counted, window_at}
 use Rattle.effects.specs.Needs.{Needs}
 use Rattle.task_run.specs.Results.{Settled}
 use Rattle.task_run.specs.OwnRun.{Action, Step, Spawn, EnterFinish, EndFinish, EndTask, Own, own_rules}
-use Rattle.task_run.specs.Frames.{Frame, Rest, Again, AtEnd, Back, turn, paid, by_flow}
+use Rattle.task_run.specs.Frames.{Frame, Rest, Again, Further, AtEnd, Back, Standing, turn, paid, by_flow}
 use Rattle.task_run.specs.Frames.{done_by, done_at, done_in}
 use Rattle.task_run.specs.Stops.{is_over, is_next_over, stops}
 use Rattle.types.proofs.Counted.{counted_steps}
@@ -42,6 +43,15 @@ module _ (p : Program) (needs : Codes → Needs) (nest : ℕ) (close : State Own
   turn_pays (Rest End) fs st = (le_refl st.steps, inl refl)
   turn_pays (Rest (Then l s rest)) fs st = flow_pays st.flow l s (Rest rest ∷ fs) fs st
   turn_pays (Again l t b) fs st = flow_pays st.flow l (While t b) fs fs st
+  turn_pays (Further l s n k q i b) fs st = by (has_piece (window_at st s) n k)
+    where
+      c : Code
+      c = Begun s n k q i b
+
+      by : (left : Bool) → Pays (if left then done_at needs nest st.flow c st else [])
+          (if◌then◌else◌ {A = Standing Own} left (by_flow p (own_rules needs nest close) st.flow l c fs fs st) (record { frames = fs; state = st })).state st
+      by true = flow_pays st.flow l c fs fs st
+      by false = (le_refl st.steps, inl refl)
   turn_pays (AtEnd before) fs st = (le_refl st.steps, inl refl)
   turn_pays (Back env) fs st = (le_refl st.steps, inl refl)
 
@@ -54,12 +64,16 @@ module _ (p : Program) (needs : Codes → Needs) (nest : ℕ) (close : State Own
   acts zero n (If t b c) st e k = nil_cons (sym e)
   acts zero n (While t b) st e k = nil_cons (sym e)
   acts zero n (Split s i x y b) st e k = nil_cons (sym e)
+  acts zero n (Parts s i x y b) st e k = nil_cons (sym e)
+  acts zero n (Begun s z j x y b) st e k = nil_cons (sym e)
   acts zero n (Call f es ss) st e k = nil_cons (sym e)
   acts (suc m) n (Finish b) st e k = nil_cons (sym e)
   acts (suc m) n (Do s) st e k = nil_cons (sym e)
   acts (suc m) n (If t b c) st e k = nil_cons (sym e)
   acts (suc m) n (While t b) st e k = nil_cons (sym e)
   acts (suc m) n (Split s i x y b) st e k = nil_cons (sym e)
+  acts (suc m) n (Parts s i x y b) st e k = nil_cons (sym e)
+  acts (suc m) n (Begun s z j x y b) st e k = nil_cons (sym e)
   acts (suc m) n (Call f es ss) st e k = nil_cons (sym e)
 
   paid_idle : (n l : ℕ) (c : Code) (fs : List (Frame Own)) (st : State Own) → n ≡ st.steps
@@ -82,6 +96,17 @@ module _ (p : Program) (needs : Codes → Needs) (nest : ℕ) (close : State Own
   turn_idle (Rest End) fs st none k = le_refl st.steps
   turn_idle (Rest (Then l s rest)) fs st none k = flow_idle st.flow l s (Rest rest ∷ fs) fs st none k
   turn_idle (Again l t b) fs st none k = flow_idle st.flow l (While t b) fs fs st none k
+  turn_idle (Further l s n j q i b) fs st none k = by (has_piece (window_at st s) n j) none k
+    where
+      c : Code
+      c = Begun s n j q i b
+
+      by : (left : Bool) → (if left then done_at needs nest st.flow c st else []) ≡ []
+          → (left && is_next_over nest st.flow st.steps c) ≡ false
+          → st.steps
+          ≤ (if◌then◌else◌ {A = Standing Own} left (by_flow p (own_rules needs nest close) st.flow l c fs fs st) (record { frames = fs; state = st })).state.steps
+      by true none k = flow_idle st.flow l c fs fs st none k
+      by false none k = le_refl st.steps
   turn_idle (AtEnd before) fs st none k = le_refl st.steps
   turn_idle (Back env) fs st none k = le_refl st.steps
 
@@ -103,12 +128,16 @@ module _ (p : Program) (needs : Codes → Needs) (nest : ℕ) (close : State Own
   named_by zero (suc n) (If t b c) st = tt
   named_by zero (suc n) (While t b) st = tt
   named_by zero (suc n) (Split s i x y b) st = tt
+  named_by zero (suc n) (Parts s i x y b) st = tt
+  named_by zero (suc n) (Begun s z j x y b) st = tt
   named_by zero (suc n) (Call f es ss) st = tt
   named_by (suc m) (suc n) (Finish b) st = tt
   named_by (suc m) (suc n) (Do s) st = tt
   named_by (suc m) (suc n) (If t b c) st = tt
   named_by (suc m) (suc n) (While t b) st = tt
   named_by (suc m) (suc n) (Split s i x y b) st = tt
+  named_by (suc m) (suc n) (Parts s i x y b) st = tt
+  named_by (suc m) (suc n) (Begun s z j x y b) st = tt
   named_by (suc m) (suc n) (Call f es ss) st = tt
 
   named_at : (g : Flow) (c : Code) (st : State Own) → Named (st.path ++ (st.spawned + 1) ∷ []) (done_at needs nest g c st)
@@ -120,5 +149,10 @@ module _ (p : Program) (needs : Codes → Needs) (nest : ℕ) (close : State Own
   turn_names (Rest End) st = tt
   turn_names (Rest (Then l s rest)) st = named_at st.flow s st
   turn_names (Again l t b) st = named_at st.flow (While t b) st
+  turn_names (Further l s n k q i b) st = by (has_piece (window_at st s) n k)
+    where
+      by : (left : Bool) → Named (st.path ++ (st.spawned + 1) ∷ []) (if left then done_at needs nest st.flow (Begun s n k q i b) st else [])
+      by true = named_at st.flow (Begun s n k q i b) st
+      by false = tt
   turn_names (AtEnd before) st = tt
   turn_names (Back env) st = tt

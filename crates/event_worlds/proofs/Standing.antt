@@ -3,9 +3,10 @@ use Rattle.std.proofs.Common.{◌≡◌, ℕ, zero, suc, ◌+◌, List, [], ◌�
 use Rattle.std.proofs.Common.{subst, inl, inr, ⊎_elim}
 use Rattle.std.proofs.lemmas.Option.{same_Some}
 use Rattle.std.proofs.lemmas.List.{append-nil, length_push}
-use Rattle.std.specs.Prelude.{◌⊎◌, false}
-use Rattle.types.specs.Code.{Code, Do, If, While, Split, Call, Async, Finish, Codes, End, Then, Program}
-use Rattle.types.specs.Run.{Flow, On, Faulted, Stopped, State}
+use Rattle.std.specs.Prelude.{◌⊎◌, Bool, true, false, if◌then◌else◌}
+use Rattle.sections.specs.Place.{has_piece}
+use Rattle.types.specs.Code.{Code, Do, If, While, Split, Parts, Begun, Call, Async, Finish, Codes, End, Then, Program}
+use Rattle.types.specs.Run.{Flow, On, Faulted, Stopped, State, window_at}
 use Rattle.effects.specs.Needs.{Needs, Provides}
 use Rattle.race_checker.specs.Scope.{IsScoped}
 use Rattle.race_checker.specs.Calm.{IsCalm}
@@ -15,7 +16,7 @@ use Rattle.task_run.specs.Lists.{Each}
 use Rattle.task_run.specs.OwnRun.{Start, Action, Step, Spawn, EnterFinish, EndFinish, EndTask, Own, result_of}
 use Rattle.task_run.specs.OwnRun.{own_rules, last_action, next_action}
 use Rattle.task_run.specs.Given.{in_truth, IsOwn}
-use Rattle.task_run.specs.Frames.{Frame, Rest, Again, AtEnd, Back, Standing, turn, handed, done_by, done_at, done_in}
+use Rattle.task_run.specs.Frames.{Frame, Rest, Again, Further, AtEnd, Back, Standing, turn, handed, done_by, done_at, done_in}
 use Rattle.task_run.specs.Frames.{Follows}
 use Rattle.task_run.specs.Holds.{MayBegin}
 use Rattle.task_run.specs.Reached.{Reached, turns, leaves}
@@ -59,12 +60,16 @@ module _ (needs : Codes → Needs) where
   done_by_little zero (suc n) (If t b c) st = one_does Step tt
   done_by_little zero (suc n) (While t b) st = one_does Step tt
   done_by_little zero (suc n) (Split s e x y b) st = one_does Step tt
+  done_by_little zero (suc n) (Parts s e q i b) st = one_does Step tt
+  done_by_little zero (suc n) (Begun s m k q i b) st = one_does Step tt
   done_by_little zero (suc n) (Call f es ss) st = one_does Step tt
   done_by_little (suc m) (suc n) (Finish b) st = one_does EnterFinish tt
   done_by_little (suc m) (suc n) (Do s) st = one_does Step tt
   done_by_little (suc m) (suc n) (If t b c) st = one_does Step tt
   done_by_little (suc m) (suc n) (While t b) st = one_does Step tt
   done_by_little (suc m) (suc n) (Split s e x y b) st = one_does Step tt
+  done_by_little (suc m) (suc n) (Parts s e q i b) st = one_does Step tt
+  done_by_little (suc m) (suc n) (Begun s j k q i b) st = one_does Step tt
   done_by_little (suc m) (suc n) (Call f es ss) st = one_does Step tt
 
   done_at_little : (nest : ℕ) (f : Flow) (c : Code) (st : State Own) → DoesLittle (done_at needs nest f c st)
@@ -76,6 +81,11 @@ module _ (needs : Codes → Needs) where
   done_in_little nest (Rest End) st = inl refl
   done_in_little nest (Rest (Then l s rest)) st = done_at_little nest st.flow s st
   done_in_little nest (Again l t b) st = done_at_little nest st.flow (While t b) st
+  done_in_little nest (Further l s n k q i b) st = by (has_piece (window_at st s) n k)
+    where
+      by : (left : Bool) → DoesLittle (if left then done_at needs nest st.flow (Begun s n k q i b) st else [])
+      by true = done_at_little nest st.flow (Begun s n k q i b) st
+      by false = inl refl
   done_in_little nest (AtEnd before) st = inl refl
   done_in_little nest (Back env) st = inl refl
 

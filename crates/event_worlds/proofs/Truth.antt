@@ -6,13 +6,13 @@ use Rattle.std.specs.Prelude.{◌⊎◌, Bool, true, false, map, ok_or, slice_ge
 use Rattle.std.proofs.lemmas.Option.{none-some, same_Some}
 use Rattle.std.proofs.lemmas.Bool.{and_parts}
 use Rattle.shared_lemmas.proofs.Truths.{false_true}
-use Rattle.sections.specs.Place.{sides_of}
-use Rattle.types.specs.declared.fault.FaultKind.TheVariants.{SplitPoint}
-use Rattle.types.specs.Code.{Code, Do, If, While, Split, Call, Async, Finish, Codes, End, Then, Program}
+use Rattle.sections.specs.Place.{has_piece, sides_of}
+use Rattle.types.specs.declared.fault.FaultKind.TheVariants.{SplitPoint, PieceSize}
+use Rattle.types.specs.Code.{Code, Do, If, While, Split, Parts, Begun, Call, Async, Finish, Codes, End, Then, Program}
 use Rattle.types.specs.Value.{Environment, Valued}
-use Rattle.types.specs.Run.{Flow, On, Faulted, Stopped, State, Work, Block, Turn, Rules, stopped, at_flow, go_on}
+use Rattle.types.specs.Run.{Flow, On, Faulted, Stopped, State, Work, Block, Turn, Pieces, Rules, stopped, at_flow, go_on}
 use Rattle.types.specs.Run.{spend, with_step, fault, with_value, choose, number_at, numbers_at, truth_at, window_at}
-use Rattle.types.specs.Run.{entry, with_sides, procedure_of, primitive, counted, act, block, work, within}
+use Rattle.types.specs.Run.{entry, with_sides, in_turn, piece_size, procedure_of, primitive, counted, act, block, work, within}
 use Rattle.types.proofs.Keeps.{primitive_keeps, counted_keeps}
 use Rattle.effects.specs.Needs.{Needs}
 use Rattle.task_run.specs.Apart.{is_stopped}
@@ -217,6 +217,14 @@ module _ (p : Program) (needs : Codes → Needs) (fresh : ℕ) (root s : Start) 
           value_moves l (number_at st e) _ _ st (λ v. value_moves l (ok_or (sides_of (window_at st x) v) SplitPoint) _ _ st (λ ws.
           let inner = record st { environment = with_sides y z ws st.environment } in
           first st inner (block p r1 d1 b inner) (block p r2 d2 b inner) (idle_tells s.nest st inner refl refl refl) (block_moves b inner)))
+      act_moves (Parts x e q i b) l st =
+          value_moves l (number_at st e) _ _ st (λ v. value_moves l (ok_or (piece_size v) PieceSize) _ _ st (λ n.
+          h (Pieces l x n 0 q i b) st))
+      act_moves (Begun x n k q i b) l st =
+          let inner = in_turn x n k q i st in
+          let w : Work = Pieces l x n (k + 1) q i b in
+          first st inner (go_on (d1 w) (block p r1 d1 b inner)) (go_on (d2 w) (block p r2 d2 b inner)) (idle_tells s.nest st inner refl refl refl)
+          (then_moves inner (block p r1 d1 b inner) (block p r2 d2 b inner) (d1 w) (d2 w) (block_moves b inner) (h w))
       act_moves (Call f es ss) l st =
           value_moves l (numbers_at st es) _ _ st (λ vs.
           let inner = record st { environment = entry vs (map (window_at st) ss) } in
@@ -233,6 +241,12 @@ module _ (p : Program) (needs : Codes → Needs) (fresh : ℕ) (root s : Start) 
     work_moves : (w : Work) → Follow (work p r1 d1 w) (work p r2 d2 w)
     work_moves (Block b) st = block_moves b st
     work_moves (Turn l t b) st = step_moves l (While t b) (act_moves (While t b) l) st
+    work_moves (Pieces l x n k q i b) st =
+        let c : Code = Begun x n k q i b in
+        choose_moves (has_piece (window_at st x) n k) (with_step (λ st. act p r1 d1 l c (counted r1 l c st))) (λ s. s)
+        (with_step (λ st. act p r2 d2 l c (counted r2 l c st))) (λ s. s) st
+        (step_moves l c (act_moves c l) st)
+        (idle st st refl refl refl)
 
   within_moves : (k : ℕ) (w : Work) → Follow (within p r1 k w) (within p r2 k w)
   within_moves zero w st = idle st (stopped st) refl refl refl

@@ -2,12 +2,14 @@
 use Rattle.std.specs.Prelude.{ℕ, ◌≡◌, ◌≤◌, ◌<◌, ◌*◌, List, ◌∷◌, Bool, true, false, not, if◌then◌else◌}
 use Rattle.std.specs.Prelude.{Some, None}
 use Rattle.std.specs.HashMap.{get}
-use Rattle.types.specs.Code.{Code, Do, If, While, Split, Call, Async, Finish, Codes, End, Then}
+use Rattle.types.specs.Code.{Code, Do, If, While, Split, Parts, Begun, Call, Async, Finish, Codes, End, Then}
 use Rattle.types.specs.Run.{State}
+use Rattle.types.specs.Value.{Environment}
+use Rattle.sections.specs.Place.{Window, has_piece}
 use Rattle.statement_steps.specs.Standing.{flow as flow_of}
 use Rattle.statement_steps.specs.declared.flow.Flow.{Flow}
 use Rattle.statement_steps.specs.declared.flow.Flow.TheVariants.{On, Faulted, Stopped}
-use Rattle.task_run.specs.Frames.{Frame, Rest, Again, AtEnd, Back}
+use Rattle.task_run.specs.Frames.{Frame, Rest, Again, Further, AtEnd, Back}
 use Rattle.task_run.specs.OwnRun.{Own, Start, Action, Step, Spawn, EnterFinish, EndFinish, last_action}
 use Rattle.task_run.specs.Standings.{Stacked}
 use Rattle.task_run.specs.Stops.{is_none}
@@ -55,11 +57,14 @@ pub record StepsInHand (j : Job) (k : WorldTask) : Type 0 where
   pub hand : hand_of (whereabouts k.place) ≡ Some worker
   pub next : IsNextKind j k.doing ToStep
 
--- a task has reached these frames, the last one on top, with this flow and, if it is on, this number of steps
-pub record IsLeft (j : Job) (c : Course) (frames : List rFrame) (now : Flow) (budget : ℕ) : Type 0 where
+-- a task has reached these frames, the last one on top, with this environment, this flow and, if it is
+-- on, this number of steps
+pub record IsLeft (j : Job) (c : Course) (frames : List rFrame) (env : Environment) (now : Flow)
+    (budget : ℕ) : Type 0 where
   pub left : List (Frame Own)
   pub state : State Own
   pub stacked : Stacked frames left
+  pub environment : state.environment ≡ env
   pub flow : state.flow ≡ flow_of now
   pub steps : now ≡ On → state.steps ≡ budget
   pub come : HasCome j c (record { frames = left; state = state })
@@ -132,6 +137,8 @@ kind_by (Do s) = ToStep
 kind_by (If t b c) = ToStep
 kind_by (While t b) = ToStep
 kind_by (Split s e x y b) = ToStep
+kind_by (Parts s e q i b) = ToStep
+kind_by (Begun s n k q i b) = ToStep
 kind_by (Call f es ss) = ToStep
 
 -- an action of this kind, if a step is left: an async needs a nesting level too
@@ -153,9 +160,19 @@ abbrev pub block_does : (nest steps : ℕ) → Flow → Codes → First
 block_does nest steps flow End = Goes flow
 block_does nest steps flow (Then l s rest) = does nest steps flow (kind_by s)
 
--- the top frame
-abbrev pub top_does : (nest steps : ℕ) → Flow → Frame Own → First
-top_does nest steps flow (Rest b) = block_does nest steps flow b
-top_does nest steps flow (Again l t b) = does nest steps flow ToStep
-top_does nest steps flow (AtEnd before) = Acts ToFinish
-top_does nest steps flow (Back env) = Goes flow
+-- the top frame, where sections have these windows; a `parts` without a turn left does nothing
+abbrev pub top_does : (nest steps : ℕ) → Flow → (windows : ℕ → Window) → Frame Own → First
+top_does nest steps flow w (Rest b) = block_does nest steps flow b
+top_does nest steps flow w (Again l t b) = does nest steps flow ToStep
+top_does nest steps flow w (Further l s n k q i b) =
+    if has_piece (w s) n k then does nest steps flow ToStep else Goes flow
+top_does nest steps flow w (AtEnd before) = Acts ToFinish
+top_does nest steps flow w (Back env) = Goes flow
+
+-- the environment after a frame that does nothing
+abbrev pub after_frame : Frame Own → Environment → Environment
+after_frame (Back env) e = env
+after_frame (Rest b) e = e
+after_frame (Again l t b) e = e
+after_frame (Further l s n k q i b) e = e
+after_frame (AtEnd before) e = e

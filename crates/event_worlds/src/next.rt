@@ -4,19 +4,21 @@ ghost use Rattle.std.specs.Prelude.{◌≡◌};
 ghost use Rattle.task_run.specs.Jobs.{IsJob};
 ghost use Rattle.task_run.specs.declared.job.Job.{Job as AnyJob};
 ghost use Rattle.event_worlds.specs.Courses.{Course, IsRunOf};
-ghost use Rattle.event_worlds.specs.NextKinds.{HasNext, IsLeft, IsNextKind, block_does, does};
+ghost use Rattle.event_worlds.specs.NextKinds.{HasNext, IsLeft, IsNextKind, after_frame, block_does, does};
 ghost use Rattle.event_worlds.specs.NextKinds.{does_nested, kind_by, top_does};
 ghost use Rattle.task_run.specs.Frames.{Frame as Left};
 ghost use Rattle.task_run.specs.OwnRun.{Own};
-ghost use Rattle.task_run.specs.Standings.{ShowsFrame};
-ghost use Rattle.types.specs.Translation.{code as code_of, codes as codes_of};
+ghost use Rattle.task_run.specs.Standings.{ShowsFrame, further};
+ghost use Rattle.types.specs.Translation.{code as code_of, codes as codes_of, environment as environment_of};
 
 use crate::doing::TaskProgress;
 use statement_steps::flow::Flow;
+use statement_steps::turns::TurnsToCome;
 use task_run::frame::TaskFrame;
 use task_run::job::Job;
 use task_run::run::Run;
 use types::code::{Stmt, StmtKind};
+use types::value::Environment;
 
 /// The kind of a task's next action.
 #[derive(Clone, Copy, PartialEq, Eq, Debug)]
@@ -124,15 +126,28 @@ pub(crate) fn kind_of_run(run: &Run) -> NextKind
     ensures { (j : AnyJob) (c : Course) → IsJob j → IsRunOf j c run.now → HasNext j c result }
 {
     let thread = &run.thread;
-    kind_of_frames(&run.frames, thread.flow, thread.steps, thread.nest)
+    kind_of_frames(
+        &run.frames,
+        &thread.environment,
+        thread.flow,
+        thread.steps,
+        thread.nest,
+    )
 }
 
 /// Returns the kind of the next action of a task with these frames. Frames that do nothing are
 /// passed over.
-fn kind_of_frames(frames: &[TaskFrame], flow: Flow, steps: u32, nest: u32) -> NextKind
+fn kind_of_frames(
+    frames: &[TaskFrame],
+    environment: &Environment,
+    flow: Flow,
+    steps: u32,
+    nest: u32,
+) -> NextKind
     ensures { (j : AnyJob) (c : Course) → IsJob j → nest ≡ c.start.nest
-        → IsLeft j c frames.now flow steps → HasNext j c result }
+        → IsLeft j c frames.now (environment_of environment.now) flow steps → HasNext j c result }
 {
+    let mut environment = environment;
     let mut flow = flow;
     let mut left = frames.len();
     'frames: while 0 < left {
@@ -140,23 +155,65 @@ fn kind_of_frames(frames: &[TaskFrame], flow: Flow, steps: u32, nest: u32) -> Ne
         let Some(top) = frames.get(left) else {
             unreachable!()
         };
-        match first_of(top, flow, steps, nest) {
+        match first_of(top, environment, flow, steps, nest) {
             First::Acts(kind) => return kind,
             First::Goes(next) => flow = next,
         }
+        environment = environment_after(top, environment);
     }
     NextKind::End
 }
 
-/// Returns what a frame does at the top.
-fn first_of(frame: &TaskFrame, flow: Flow, steps: u32, nest: u32) -> First
-    ensures { (f : Left Own) → ShowsFrame frame.now f → result ≡ top_does nest steps flow f }
+/// Returns the environment after a frame that does nothing: the end of a call restores the caller's.
+fn environment_after<'a>(frame: &'a TaskFrame, environment: &'a Environment) -> &'a Environment
+    ensures { (f : Left Own) → ShowsFrame frame.entry.now f
+        → environment_of result.now ≡ after_frame f (environment_of environment.entry.now) }
+{
+    match frame {
+        TaskFrame::EndCall {
+            environment: caller,
+        } => caller,
+        TaskFrame::Rest(_)
+        | TaskFrame::Again { .. }
+        | TaskFrame::Turns(_)
+        | TaskFrame::EndFinish(_) => environment,
+    }
+}
+
+/// Returns what a frame does at the top, in this environment.
+fn first_of(
+    frame: &TaskFrame,
+    environment: &Environment,
+    flow: Flow,
+    steps: u32,
+    nest: u32,
+) -> First
+    ensures { (f : Left Own) → ShowsFrame frame.now f
+        → result ≡ top_does nest steps flow (environment_of environment.now).windows f }
 {
     match frame {
         TaskFrame::Rest(block) => first_in(block, flow, steps, nest),
         TaskFrame::Again { .. } => first_by(NextKind::Step, flow, steps, nest),
+        TaskFrame::Turns(turns) => first_turn(*turns, environment, flow, steps, nest),
         TaskFrame::EndFinish(_) => First::Acts(NextKind::Finish),
         TaskFrame::EndCall { .. } => First::Goes(flow),
+    }
+}
+
+/// Returns what the turns to come of a `parts` do, in this environment.
+fn first_turn(
+    turns: TurnsToCome<'_>,
+    environment: &Environment,
+    flow: Flow,
+    steps: u32,
+    nest: u32,
+) -> First
+    ensures { result ≡ top_does nest steps flow (environment_of environment.now).windows
+        (further turns.entry) }
+{
+    match turns.next_piece(environment) {
+        None => First::Goes(flow),
+        Some(_) => first_by(NextKind::Step, flow, steps, nest),
     }
 }
 
@@ -217,6 +274,7 @@ fn kind_of(kind: &StmtKind) -> NextKind
         StmtKind::If { .. } => NextKind::Step,
         StmtKind::While { .. } => NextKind::Step,
         StmtKind::Split { .. } => NextKind::Step,
+        StmtKind::Parts { .. } => NextKind::Step,
         StmtKind::Call { .. } => NextKind::Step,
     }
 }

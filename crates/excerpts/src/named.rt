@@ -15,7 +15,8 @@ pub struct Named<'t> {
 /// The role of a name in its statement.
 #[derive(Clone, Copy, PartialEq, Eq)]
 pub enum Role {
-    /// `x` in `var x = 1;`, `l` and `r` in `split s at 1 as l, r { }`
+    /// `x` in `var x = 1;`, `l` and `r` in `split s at 1 as l, r { }`, `p` and `i` in
+    /// `parts s by 4 as p, i { }`
     Declared,
     /// `f` in `f(a);`
     Called,
@@ -27,7 +28,7 @@ pub enum Role {
     Element,
     /// `a` in `print len(a);`
     Measured,
-    /// `s` in `split s at 1 as l, r { }`
+    /// `s` in `split s at 1 as l, r { }` and in `parts s by 4 as p, i { }`
     Cut,
     /// `x` in `print x;`
     Value,
@@ -70,8 +71,9 @@ pub fn names<'t>(alloc: Global, head: &'t [Spanned]) -> Result<Vec<Named<'t>>, A
 enum Before {
     Nothing,
     Var,
-    Split,
-    /// After the `as` of a split.
+    /// The word `split` or `parts`.
+    Cut,
+    /// After the `as` of a split or of a `parts`.
     As,
     Len,
     LenParen,
@@ -86,7 +88,8 @@ impl Before {
         }
         match token {
             Token::Word(Word::Var) => Before::Var,
-            Token::Word(Word::Split) => Before::Split,
+            Token::Word(Word::Split) => Before::Cut,
+            Token::Word(Word::Parts) => Before::Cut,
             Token::Word(Word::As) => Before::As,
             Token::Word(Word::Len) => Before::Len,
             Token::Mark(Mark::LeftParen) if self == Before::Len => Before::LenParen,
@@ -99,7 +102,7 @@ impl Before {
 fn role_of(before: Before, behind: &[Spanned]) -> Role {
     match before {
         Before::Var | Before::As => Role::Declared,
-        Before::Split => Role::Cut,
+        Before::Cut => Role::Cut,
         Before::LenParen => Role::Measured,
         Before::Nothing => role_at_first(behind),
         Before::Len | Before::Other => {
@@ -140,6 +143,19 @@ pub fn is_name(spanned: &Spanned, name: &str) -> bool {
         Token::Name(found) => found.as_str() == name,
         _ => false,
     }
+}
+
+/// Returns the first name after the word `as`.
+pub fn name_after_as(tokens: &[Spanned]) -> Option<&str> {
+    let mut is_next = false;
+    for spanned in tokens {
+        match &spanned.token {
+            Token::Name(name) if is_next => return Some(name.as_str()),
+            Token::Word(Word::As) => is_next = true,
+            _ => {}
+        }
+    }
+    None
 }
 
 /// Returns whether a token is an arithmetic operator.

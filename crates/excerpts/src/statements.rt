@@ -1,7 +1,7 @@
 //! The statements of a program, by their labels.
 
 use crate::indices::{are_alike, first_index};
-use crate::named::{Named, Role, begins_with, head, is_name, is_operator, names};
+use crate::named::{Named, Role, begins_with, head, is_name, is_operator, name_after_as, names};
 use crate::procedures::procedure_has;
 use crate::sides::is_used;
 use crate::source::{Source, line_of, push_line, push_start};
@@ -96,7 +96,7 @@ impl<'t> PlacedStatements<'t> {
         Ok(None)
     }
 
-    /// Returns the name of the section that a split divides.
+    /// Returns the name of the section that a split or a `parts` divides.
     pub fn cut(&self, label: u32) -> Result<Option<Named<'_>>, AllocError> {
         for named in &names(self.alloc, self.head(label))? {
             if named.role == Role::Cut {
@@ -104,6 +104,15 @@ impl<'t> PlacedStatements<'t> {
             }
         }
         Ok(None)
+    }
+
+    /// Returns the name of the piece of a `parts`, if it divides this section: `p` for `s` in
+    /// `parts s by 4 as p, i { }`.
+    pub fn piece_of(&self, label: u32, section: &str) -> Option<&str> {
+        match self.head(label) {
+            [_, whole, behind @ ..] if is_name(whole, section) => name_after_as(behind),
+            _ => None,
+        }
     }
 
     /// Returns where the operator with this number, from 0, is in a statement's head.

@@ -79,10 +79,10 @@ pub fn use_one_index(
     statements.use_one_index(race.first.label, race.second.label, name)
 }
 
-/// Returns whether a way goes into a procedure, or through a split.
+/// Returns whether a way goes into a procedure, or through a split or a `parts`.
 fn enters(way: &[WayStep]) -> bool {
     for step in way {
-        if matches!(step.rule, Rule::Enter { .. } | Rule::Side) {
+        if matches!(step.rule, Rule::Enter { .. } | Rule::Side | Rule::Piece) {
             return true;
         }
     }
@@ -100,12 +100,18 @@ fn has_one_element(code: &Program, race: Race) -> bool {
     }
 }
 
-/// Returns whether a way goes through a split.
+/// Returns whether a way goes from a section to a side or a piece of it: then an index doesn't count
+/// from the start of the section any more.
 fn has_side(way: &[WayStep]) -> bool {
+    let mut outside = None;
     for step in way {
-        if matches!(step.rule, Rule::Side) {
+        if outside.is_some_and(|number| number != step.section.number) {
             return true;
         }
+        outside = match step.rule {
+            Rule::Side | Rule::Piece => Some(step.section.number),
+            _ => None,
+        };
     }
     false
 }

@@ -284,7 +284,7 @@ fn mend_of_statement_name(name: &str) -> Option<&'static str> {
     match name {
         "cilk_spawn" | "cilk_sync" | "cilk_scope" | "cobegin" => Some(TASKS),
         "parallel_for" | "cilk_for" | "parallel" | "parfor" | "forall" | "coforall" => Some(
-            "there is no parallel loop: halve a section, with a task for each half; see `afx explain parallel_loop`",
+            "write a parallel loop as `parts a by 1 as p, i { async { .. } }`; see `afx explain parallel_loop`",
         ),
         "atomic" | "critical" | "mutex" | "lock" | "synchronized" => Some(
             "there are no locks or atomics: give each task its own result, and read them after the finish; see `afx explain answers`",

@@ -1,10 +1,11 @@
 //! Why two sections overlap, and how to fix the race.
 
 use crate::elements::Elements;
-use crate::names::{other_side, procedure_name, procedure_of, section_name};
-use crate::starts::{are_alike, is_direct, splits_first};
+use crate::names::{is_piece, other_side, part_below, procedure_name, procedure_of, section_name};
+use crate::starts::{Division, are_alike, first_division, is_direct, starts_in_turns};
 use excerpts::statements::PlacedStatements;
 use race_checker::race::Race;
+use sections::id::SectionId;
 use std::alloc::AllocError;
 use types::code::{Procedure, Program};
 use witness::crossing::RunsTogether;
@@ -16,7 +17,14 @@ use witness::witness::Witness;
 pub fn push_unfinished(told: &mut String, witness: &Witness) -> Result<(), AllocError> {
     let begun = begun_label(&witness.pending);
     match witness.meeting {
-        RunsTogether::Turns => write!(told, "  No finish inside the loop encloses {begun}.\n"),
+        RunsTogether::Turns => {
+            let around = if starts_in_turns(witness) {
+                "`parts`"
+            } else {
+                "loop"
+            };
+            write!(told, "  No finish inside the {around} encloses {begun}.\n")
+        }
         RunsTogether::Follows => {
             let second = first_label(&witness.later);
             write!(
@@ -44,9 +52,14 @@ pub fn push_sharing(
         Sharing::SecondIsPart => write!(told, "  {second} is a part of {first}. {WHOLE}"),
         Sharing::OfSplits { section } => {
             let common = section_name(procedure, section);
+            let (origins, known) = if has_piece(procedure, race, section) {
+                ("statements that divide", PIECES)
+            } else {
+                ("splits of", SIDES)
+            };
             write!(
                 told,
-                "  {first} and {second} come from different splits of {common}, so they may overlap. {SIDES}"
+                "  {first} and {second} come from different {origins} {common}, so they may overlap. {known}"
             )
         }
     }
@@ -55,6 +68,20 @@ pub fn push_sharing(
 const WHOLE: &str = "The check compares whole sections and ignores indices.\n";
 
 const SIDES: &str = "Only the two sides of one split are known not to overlap.\n";
+
+const PIECES: &str =
+    "Only the sides of one split, and the pieces of different turns, are known not to overlap.\n";
+
+/// Returns whether one section of a race lies in a piece of this one.
+fn has_piece(procedure: &Procedure, race: Race, section: SectionId) -> bool {
+    is_piece(
+        procedure,
+        part_below(procedure, race.first.section, section),
+    ) || is_piece(
+        procedure,
+        part_below(procedure, race.second.section, section),
+    )
+}
 
 /// Adds that both access one section, or even one element of it.
 fn push_same(told: &mut String, name: &str, elements: Elements) -> Result<(), AllocError> {
@@ -73,7 +100,7 @@ struct Sides {
     right: &'static str,
 }
 
-/// The names that are suggested, the first of which the procedure doesn't use yet.
+/// The names that are suggested for sides, the first of which the procedure doesn't use yet.
 const SIDE_NAMES: [Sides; 4] = [
     Sides {
         left: "l",
@@ -93,6 +120,9 @@ const SIDE_NAMES: [Sides; 4] = [
     },
 ];
 
+/// The names that are suggested for a piece, the first of which the procedure doesn't use yet.
+const PIECE_NAMES: [&'static str; 3] = ["p", "piece", "part"];
+
 /// Returns names for the sides of a new split that the text of a procedure doesn't contain.
 fn free_sides(statements: &PlacedStatements<'_>, procedure: &str) -> Sides {
     for sides in SIDE_NAMES {
@@ -103,6 +133,16 @@ fn free_sides(statements: &PlacedStatements<'_>, procedure: &str) -> Sides {
         }
     }
     SIDE_NAMES[0]
+}
+
+/// Returns a name for the pieces of a new `parts` that the text of a procedure doesn't contain.
+fn free_piece(statements: &PlacedStatements<'_>, procedure: &str) -> &'static str {
+    for piece in PIECE_NAMES {
+        if !statements.has_name(procedure, piece) {
+            return piece;
+        }
+    }
+    PIECE_NAMES[0]
 }
 
 /// How to fix a race in such a way that the accesses still run in parallel.
@@ -116,7 +156,12 @@ enum Advice<'c> {
     Else,
     /// Each task of a loop gets a part that is split off.
     Tiles,
-    /// Each task of a loop, or each half of a recursion, gets a part of this section.
+    /// Each task of a loop gets a piece of this section.
+    Pieces {
+        name: &'c str,
+        piece: &'c str,
+    },
+    /// Each half of a recursion gets a part of this section.
     Halves {
         name: &'c str,
         sides: Sides,
@@ -135,6 +180,13 @@ enum Advice<'c> {
     },
     /// This section is split only once.
     OneSplit(&'c str),
+    /// The block of a `parts` uses its piece instead of another section.
+    Piece {
+        whole: &'c str,
+        piece: &'c str,
+    },
+    /// Sections are divided in the same way, with a task for each part of all of them.
+    Alike,
     /// Each task gets an element of its own for its result.
     Results,
 }
@@ -142,14 +194,25 @@ enum Advice<'c> {
 /// Returns how to fix a race in parallel.
 fn advice_of<'c>(
     code: &'c Program,
-    statements: &PlacedStatements<'_>,
+    statements: &'c PlacedStatements<'_>,
     race: Race,
     witness: &Witness,
     elements: Elements,
 ) -> Advice<'c> {
     let procedure = procedure_of(code, race.procedure);
+    if let Some(advice) = piece_of(procedure, race) {
+        return if starts_in_turns(witness) {
+            advice
+        } else {
+            Advice::Order
+        };
+    }
     if let Sharing::OfSplits { section } = witness.sharing {
-        return Advice::OneSplit(section_name(procedure, section));
+        return if has_piece(procedure, race, section) {
+            Advice::Order
+        } else {
+            Advice::OneSplit(section_name(procedure, section))
+        };
     }
     let name = section_name(procedure, race.first.section);
     let is_alike = are_alike(witness);
@@ -159,8 +222,12 @@ fn advice_of<'c>(
             return Advice::Between { name, index, sides };
         }
     }
+    if starts_in_turns(witness) {
+        return advice_for_turns(statements, witness, name, elements);
+    }
     if matches!(witness.meeting, RunsTogether::Turns) {
-        return advice_for_loop(witness, name, elements, is_alike, sides);
+        let piece = free_piece(statements, procedure_name(code, race.procedure));
+        return advice_for_loop(witness, Advice::Pieces { name, piece }, elements);
     }
     if is_alike || writes_directly(race, witness) {
         if let Some(advice) = other_side_of(procedure, statements, race, witness) {
@@ -176,18 +243,52 @@ fn advice_of<'c>(
     }
 }
 
-/// Returns how to fix a race between iterations of a loop that access a section.
-fn advice_for_loop<'c>(
+/// Returns the advice to use the piece of a `parts`, if one section of the race is a piece. It helps
+/// only if the accesses are in two turns: two accesses to one piece in one turn are a race, too.
+fn piece_of<'c>(procedure: &'c Procedure, race: Race) -> Option<Advice<'c>> {
+    let (first, second) = (race.first.section, race.second.section);
+    if first == second {
+        return None;
+    }
+    let (piece, whole) = if is_piece(procedure, first) {
+        (first, second)
+    } else if is_piece(procedure, second) {
+        (second, first)
+    } else {
+        return None;
+    };
+    Some(Advice::Piece {
+        whole: section_name(procedure, whole),
+        piece: section_name(procedure, piece),
+    })
+}
+
+/// Returns how to fix a race between turns of a `parts` that access a section, which isn't its piece.
+fn advice_for_turns<'c>(
+    statements: &'c PlacedStatements<'_>,
     witness: &Witness,
     name: &'c str,
     elements: Elements,
-    is_alike: bool,
-    sides: Sides,
 ) -> Advice<'c> {
-    match (is_alike, elements.is_one()) {
+    if elements.is_one() {
+        return Advice::Results;
+    }
+    match statements.piece_of(first_label(&witness.pending), name) {
+        Some(piece) => Advice::Piece { whole: name, piece },
+        None => Advice::Alike,
+    }
+}
+
+/// Returns how to fix a race between iterations of a loop that access a section, of which `pieces`
+/// advises to take pieces.
+fn advice_for_loop<'c>(witness: &Witness, pieces: Advice<'c>, elements: Elements) -> Advice<'c> {
+    match (are_alike(witness), elements.is_one()) {
         (true, true) => Advice::Results,
-        (true, false) if splits_first(&witness.pending) => Advice::Tiles,
-        (true, false) => Advice::Halves { name, sides },
+        (true, false) => match first_division(&witness.pending) {
+            Some(Division::Split) => Advice::Tiles,
+            Some(Division::Parts) => Advice::Order,
+            None => pieces,
+        },
         (false, true) => Advice::Order,
         (false, false) => Advice::Rounds,
     }
@@ -263,10 +364,16 @@ fn push_advice(told: &mut String, advice: Advice<'_>) -> Result<(), AllocError> 
         Advice::Rounds => told.push_str(ROUNDS),
         Advice::Else => told.push_str(ELSE),
         Advice::Tiles => told.push_str(TILES),
+        Advice::Alike => told.push_str(ALIKE),
         Advice::Results => told.push_str(RESULTS),
+        Advice::Pieces { name, piece } => push_pieces(told, name, piece),
         Advice::Halves { name, sides } => push_halves(told, name, sides),
         Advice::Between { name, index, sides } => push_between(told, name, index, sides),
         Advice::OtherSide { whole, other, side } => { push_other_side(told, whole, other, side) }
+        Advice::Piece { whole, piece } => write!(
+            told,
+            "help: use {piece} instead of {whole}: each turn has its own piece.\n"
+        ),
         Advice::OneSplit(name) => write!(
             told,
             "help: split {name} only once, and then one of its sides; see `afx explain middle_part`.\n"
@@ -274,12 +381,20 @@ fn push_advice(told: &mut String, advice: Advice<'_>) -> Result<(), AllocError> 
     }
 }
 
+/// Adds a `parts` of a section. Its turn replaces the variable of the loop.
+fn push_pieces(told: &mut String, name: &str, piece: &str) -> Result<(), AllocError> {
+    write!(
+        told,
+        "help: give each task its own piece: `parts {name} by 1 as {piece}, i {{ .. }}`; see `afx explain parallel_loop`.\n"
+    )
+}
+
 /// Adds a split of a section into halves.
 fn push_halves(told: &mut String, name: &str, sides: Sides) -> Result<(), AllocError> {
     let Sides { left, right } = sides;
     write!(
         told,
-        "help: give each task its own part: `split {name} at len({name}) / 2 as {left}, {right} {{ .. }}`; see `afx explain parallel_loop`.\n"
+        "help: give each task its own part: `split {name} at len({name}) / 2 as {left}, {right} {{ .. }}`; see `afx explain split`.\n"
     )
 }
 
@@ -296,10 +411,13 @@ const ELSE: &str =
     "help: write one `if` with an `else`, if only one of the two is meant to run: conditions are not compared.\n";
 
 const ROUNDS: &str =
-    "help: or use split to give each task its own part; see `afx explain parallel_loop`.\n";
+    "help: or use `parts` to give each task its own piece; see `afx explain parallel_loop`.\n";
 
 const TILES: &str =
     "help: let a procedure split off a part, start its task and continue with the rest; see `afx explain tiles`.\n";
+
+const ALIKE: &str =
+    "help: to write parts of several sections in a task, split them in the same way; see `afx explain cut_alike`.\n";
 
 const RESULTS: &str =
     "help: give each task an element of its own, and read them all after the finish; see `afx explain answers`.\n";
@@ -329,6 +447,9 @@ fn push_finish(
     statements: &PlacedStatements<'_>,
     witness: &Witness,
 ) -> Result<(), AllocError> {
+    if starts_in_turns(witness) {
+        return told.push_str(BLOCK);
+    }
     if matches!(witness.meeting, RunsTogether::Turns) {
         return told.push_str(LOOP);
     }
@@ -346,6 +467,9 @@ fn push_finish(
 
 const LOOP: &str =
     "the loop's body inside a finish, so that the iterations run one after another.\n";
+
+const BLOCK: &str =
+    "the block of the `parts` inside a finish, so that the turns run one after another.\n";
 
 /// Returns the label of the first async on a way, or of its first step.
 fn begun_label(way: &[WayStep]) -> u32 {

@@ -25,7 +25,7 @@ pub fn other_side(procedure: &Procedure, side: SectionId) -> Option<SectionId> {
         return None;
     }
     match sections.origin(side) {
-        Origin::Root => None,
+        Origin::Root | Origin::Piece { .. } => None,
         Origin::Left { .. } => Some(SectionId {
             number: side.number.saturating_add(1),
         }),
@@ -51,4 +51,30 @@ pub fn procedure_name(code: &Program, procedure: ProcedureId) -> &str {
 /// Returns what an access does, such as `writes`.
 pub fn kind_word(write: bool) -> &'static str {
     if write { "writes" } else { "reads" }
+}
+
+/// Returns whether a section is the piece of a `parts`.
+pub fn is_piece(procedure: &Procedure, section: SectionId) -> bool {
+    let sections = &procedure.sections;
+    section.number < sections.len() && matches!(sections.origin(section), Origin::Piece { .. })
+}
+
+/// Returns the part of `whole` in which a section lies: a side of a split of it, or a piece.
+pub fn part_below(procedure: &Procedure, section: SectionId, whole: SectionId) -> SectionId {
+    let sections = &procedure.sections;
+    let mut part = section;
+    for _ in 0..sections.len() {
+        if part.number >= sections.len() {
+            break;
+        }
+        let parent = match sections.origin(part) {
+            Origin::Root => break,
+            Origin::Left { parent } | Origin::Right { parent } | Origin::Piece { parent } => parent,
+        };
+        if parent == whole {
+            return part;
+        }
+        part = parent;
+    }
+    section
 }

@@ -38,9 +38,10 @@ const TWO: &str =
 ";
 
 const MEND: &str =
-    "The check compares whole sections and ignores indices; only the two sides of one split are known not to overlap.
-help: put the statements that start the tasks inside a finish that ends before the other access, or use split to give
-each task its own part.
+    "The check compares whole sections and ignores indices; only the two sides of one split, and the pieces of two turns, are
+known not to overlap.
+help: put the statements that start the tasks inside a finish that ends before the other access, or use `parts` or
+`split` to give each task its own part.
 ";
 
 /// Adds the line of the statement that has an access, given as `2 write a`.

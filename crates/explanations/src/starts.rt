@@ -45,16 +45,24 @@ pub fn is_direct(witness: &Witness) -> bool {
     start_of(&witness.later) == Start::Access
 }
 
-/// Returns whether a way goes through a split before its first task or call.
-pub fn splits_first(way: &[WayStep]) -> bool {
+/// A statement that divides a section.
+#[derive(Clone, Copy)]
+pub enum Division {
+    Split,
+    Parts,
+}
+
+/// Returns how a way first divides a section, before its first task or call.
+pub fn first_division(way: &[WayStep]) -> Option<Division> {
     for step in way {
         match step.rule {
-            Rule::Side => return true,
-            Rule::Begin | Rule::Enter { .. } => return false,
+            Rule::Side => return Some(Division::Split),
+            Rule::Piece => return Some(Division::Parts),
+            Rule::Begin | Rule::Enter { .. } => return None,
             _ => {}
         }
     }
-    false
+    None
 }
 
 /// Returns how a way starts. Blocks around its first statement don't count.
@@ -72,7 +80,7 @@ fn work_of(way: &[WayStep]) -> Start {
 fn start_behind(way: &[WayStep], enters_task: bool) -> Start {
     for (number, step) in way.iter().enumerate() {
         match step.rule {
-            Rule::Body | Rule::Other | Rule::Turn | Rule::Side => {}
+            Rule::Body | Rule::Other | Rule::Turn | Rule::Side | Rule::Piece => {}
             Rule::Begin if enters_task => {}
             Rule::Own => return Start::Access,
             Rule::Begin => return Start::Task,
@@ -87,4 +95,10 @@ fn start_behind(way: &[WayStep], enters_task: bool) -> Start {
         }
     }
     Start::Access
+}
+
+/// Returns whether the two ways of a race start at a `parts`, in two of its turns.
+pub fn starts_in_turns(witness: &Witness) -> bool {
+    matches!(witness.meeting, RunsTogether::Turns)
+        && matches!(witness.pending.first(), Some(step) if matches!(step.rule, Rule::Piece))
 }

@@ -5,6 +5,7 @@ use crate::elements::elements_of;
 use crate::lines::push_lines;
 use crate::mends::{push_mend, push_sharing, push_unfinished};
 use crate::names::{kind_word, procedure_name, procedure_of, section_name};
+use crate::starts::starts_in_turns;
 use crate::way::{WayLine, end_of, push_way};
 use effects::access::Access;
 use excerpts::heading::Heading;
@@ -157,7 +158,7 @@ fn push_ways(
     push_lines(told, statements, &lines)
 }
 
-/// Adds the line of the loop, if the two accesses are in different iterations.
+/// Adds the line of the loop or of the `parts`, if the two accesses are in different turns.
 fn push_loop(alloc: Global, witness: &Witness, lines: &mut Vec<WayLine>) -> Result<(), AllocError> {
     if matches!(witness.meeting, RunsTogether::Follows) {
         return Ok(());
@@ -165,9 +166,15 @@ fn push_loop(alloc: Global, witness: &Witness, lines: &mut Vec<WayLine>) -> Resu
     match witness.pending.first() {
         Some(step) => {
             let label = step.label;
-            let words = format!(in alloc;
-                "{label} loops while tasks from earlier iterations may still be running"
-            )?;
+            let words = if starts_in_turns(witness) {
+                format!(in alloc;
+                    "{label} continues while tasks from earlier turns may still be running"
+                )?
+            } else {
+                format!(in alloc;
+                    "{label} loops while tasks from earlier iterations may still be running"
+                )?
+            };
             lines.push(WayLine { label, words })?;
             Ok(())
         }

@@ -36,7 +36,8 @@ pub fn end_of(procedure: ProcedureId, way: &[WayStep]) -> WayEnd {
     end
 }
 
-/// Adds the lines of a way that starts in a procedure: its calls, tasks and splits, and its access.
+/// Adds the lines of a way that starts in a procedure: its calls, tasks, splits and `parts`, and its
+/// access.
 pub fn push_way(
     alloc: Global,
     code: &Program,
@@ -91,7 +92,7 @@ fn words_of(
             let parameter = section_name(procedure_of(code, callee), inside);
             format!(in alloc; "{label} calls {called}, with {name} as {parameter}")
         }
-        Rule::Side => {
+        Rule::Side | Rule::Piece => {
             if inside == step.section {
                 return Ok(String::new(alloc));
             }

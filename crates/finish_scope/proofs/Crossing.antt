@@ -8,6 +8,7 @@ use Rattle.task_run.specs.contracts.run.Run as Run
 use Rattle.task_run.specs.contracts.start.Start as Start
 use Rattle.weighted_task.specs.contracts.task.Task as Task
 use Rattle.task_run.specs.contracts.frame.TaskFrame as TaskFrame
+use Rattle.statement_steps.specs.contracts.turns.TurnsToCome as TurnsToCome
 use Rattle.types.specs.contracts.code.Stmt as CodeStmt
 use Rattle.types.specs.contracts.code.Truth as CodeTruth
 use Rattle.weighted_task.specs.contracts.task.Body as Body
@@ -43,6 +44,7 @@ use Rattle.types.proofs.fault.Fault.TheSendSync as OfFault
 use Rattle.types.proofs.fault.FaultKind.TheSendSync as OfFaultKind
 use Rattle.types.proofs.outcome.Outcome.TheSendSync as OfOutcome
 use Rattle.types.proofs.input.Input.TheSendSync as OfInput
+use Rattle.types.proofs.ids.Slot.TheSendSync as OfSlot
 use Rattle.sections.proofs.id.ArrayId.TheSendSync as OfArrayId
 use Rattle.sections.proofs.id.SectionId.TheSendSync as OfSectionId
 use Rattle.sections.proofs.window.Window.TheSendSync as OfWindow
@@ -172,9 +174,14 @@ child_send κ =
       ),
     )
 
+turns_send : (κ : NamedLft) → IsSend (TurnsToCome.the_row κ)
+turns_send κ =
+    declared_send (TurnsToCome.the_type κ)
+    (search (sendable, crosses, OfSectionId.the_send, OfSlot.the_send, stmt_sync) depth 60 fits 50000)
+
 frame_send : (κ : NamedLft) → IsSend (TaskFrame.the_row κ)
 frame_send κ =
-    search (sendable, crosses, stmt_sync, truth_sync) depth 60 fits 50000
+    search (sendable, crosses, stmt_sync, truth_sync, turns_send) depth 60 fits 50000
 
 pub run_send : (κ : NamedLft) → IsSend (Run.the_row κ)
 run_send κ =

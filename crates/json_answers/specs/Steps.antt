@@ -4,7 +4,7 @@ use Rattle.serde_json.specs.Data.{Data, string}
 use Rattle.syntax.specs.declared.place.TextPlace.{TextPlace}
 use Rattle.types.specs.Code.{Program}
 use Rattle.witness.specs.declared.step.Rule.{Rule}
-use Rattle.witness.specs.declared.step.Rule.TheVariants.{Own, Body, Other, Turn, Side, Enter, Begin, Await}
+use Rattle.witness.specs.declared.step.Rule.TheVariants.{Own, Body, Other, Turn, Side, Piece, Enter, Begin, Await}
 use Rattle.witness.specs.declared.step.WayStep.{WayStep}
 use Rattle.failures.specs.Failures.{kind_of, section_name, told_procedure}
 use Rattle.json_answers.specs.Pieces.{list_by, natural, object_of, or_null}
@@ -17,6 +17,7 @@ step_word write Body = codes "if"
 step_word write Other = codes "else"
 step_word write Turn = codes "while"
 step_word write Side = codes "split"
+step_word write Piece = codes "parts"
 step_word write (Enter f) = codes "call"
 step_word write Begin = codes "async"
 step_word write Await = codes "finish"

@@ -31,7 +31,7 @@ pub(crate) fn fault_value(
     })
 }
 
-/// Returns the code, `F1` to `F6`.
+/// Returns the code, `F1` to `F7`.
 fn code_of(kind: &FaultKind) -> &'static str
     ensures { result.now ≡ fault_code kind.now }
 {
@@ -41,6 +41,7 @@ fn code_of(kind: &FaultKind) -> &'static str
         FaultKind::ZeroDivisor => "F3",
         FaultKind::OutOfElement => "F4",
         FaultKind::SplitPoint => "F5",
+        FaultKind::PieceSize => "F7",
         FaultKind::Raised(_) => "F6",
     }
 }

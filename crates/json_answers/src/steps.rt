@@ -83,6 +83,7 @@ fn word_of(write: bool, rule: Rule) -> &'static str
         Rule::Other => "else",
         Rule::Turn => "while",
         Rule::Side => "split",
+        Rule::Piece => "parts",
         Rule::Enter { .. } => "call",
         Rule::Begin => "async",
         Rule::Await => "finish",

@@ -97,7 +97,7 @@ fn word_of_sharing(sharing: Sharing) -> &'static str
     }
 }
 
-/// Returns the name of the section if both are sides of splits of it.
+/// Returns the name of the section if both are sides or pieces of it.
 fn common_to(procedure: &Procedure, sharing: Sharing) -> Option<&str>
     ensures { option_map (λ name. name.now) result
         ≡ common_section (procedure_of procedure.now) sharing }

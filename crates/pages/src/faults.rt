@@ -7,7 +7,7 @@ pub(crate) fn pages() -> &'static [Page] {
     PAGES
 }
 
-/// `F1` to `F6`, and `stopped`
+/// `F1` to `F7`, and `stopped`
 const PAGES: &[Page] = &[
     page! {
         name: "F1",
@@ -15,7 +15,7 @@ const PAGES: &[Page] = &[
         rule: "Indices run from 0 to the section's length minus 1. In a part of a section they start from 0 again.",
         program: ["main {", "  array a: int[1];", "  a[1] = 7;", "}"],
         tells: "serial program.afx" => "fault 0 at 1: F1",
-        mend: "Keep the index below `len(a)`, and pass along the offset of the part: see `afx explain parallel_loop`.",
+        mend: "Keep the index below `len(a)`, and pass along the offset of the part: see `afx explain turned_names`.",
     },
     page! {
         name: "F2",
@@ -64,6 +64,21 @@ nearest finish in that task; other tasks continue.",
         program: ["main {", "  fault 7;", "}"],
         tells: "serial program.afx" => "fault 0 at 1: F6 7",
         mend: "The program raised it. The line gives the path of the task and the label of the statement.",
+    },
+    page! {
+        name: "F7",
+        about: "pieces of less than one element",
+        rule: "The size of the pieces of a `parts` must be at least 1, even if the section has no elements.",
+        program: [
+            "main {",
+            "  array a: int[2];",
+            "  parts a by 0 as p, i {",
+            "    p[0] = i;",
+            "  }",
+            "}",
+        ],
+        tells: "serial program.afx" => "fault 0 at 1: F7",
+        mend: "Use a size of 1 or more. Nothing is run if the section has no elements.",
     },
     page! {
         name: "stopped",

@@ -13,7 +13,7 @@ const PAGES: &[Page] = &[
         name: "Y1",
         about: "name not in scope",
         rule: "Every name must be in scope where it is used. A variable is in scope from the end of its `var` statement to the end of
-its block, a side of a split in the split's block, and an array in `main`.",
+its block. Sides of a split, and the piece and the turn of a `parts`, are in scope in its block, and an array in `main`.",
         program: ["main {", "  print x;", "}"],
         tells: "check program.afx" => "Y1 at label 1",
         mend: "Declare it first, as in `var x = 0;`. Pass what a procedure needs from `main` as a parameter.",

@@ -7,7 +7,7 @@ pub(crate) fn pages() -> &'static [Page] {
     PAGES
 }
 
-/// `async`, `finish`, `split` and `budget`
+/// `async`, `finish`, `split`, `parts` and `budget`
 const PAGES: &[Page] = &[
     page! {
         name: "async",
@@ -77,7 +77,31 @@ to `len(s)`.",
             "}",
         ],
         tells: "run program.afx" => "7 8 4",
-        mend: "For halves of halves see `afx explain parallel_loop`, for a middle part `afx explain middle_part`.",
+        mend: "For halves of halves see `examples/halves.afx`, for a middle part `afx explain middle_part`.",
+    },
+    page! {
+        name: "parts",
+        others: ["pieces", "chunks"],
+        about: "run a block for each piece of a section",
+        rule: "`parts s by n as p, i { .. }` runs its block once for each piece of n elements of the section `s`, in order. `p` names the
+piece; the last one may be shorter. `i` is the number of the turn, from 0, so `p[k]` is `s[i * n + k]`. The pieces of two
+turns never overlap. If the block is an async, each piece has a task of its own. n is at least 1, and evaluated once. An
+access to `s` itself overlaps each piece.",
+        program: [
+            "main {",
+            "  array squares: int[10];",
+            "  finish {",
+            "    parts squares by 1 as p, i {",
+            "      async {",
+            "        p[0] = i * i;",
+            "      }",
+            "    }",
+            "  }",
+            "  print squares[0], squares[3], squares[9];",
+            "}",
+        ],
+        tells: "run program.afx" => "0 9 81",
+        mend: "For larger pieces, loop over the piece in the async: `while k < len(p) { .. }`.",
     },
     page! {
         name: "budget",

@@ -14,7 +14,7 @@ const PAGES: &[Page] = &[page! {
         rule: "and array as async at by byte else false fault finish if int len main mut
 not or parts print proc read rescue skip split true var while
 
-`parts`, `by` and `rescue` are reserved for future use.",
+`rescue` is reserved for future use.",
         program: ["main {", "  var at = 1;", "}"],
         tells: "check program.afx" => "S2 at 2:7",
         mend: "Use another name, such as `place`.",

@@ -5,7 +5,7 @@ use Rattle.types.proofs.Programs.{two_arrays}
 use Rattle.effects.specs.Effects.{labels}
 use Rattle.effects.specs.Tables.{alls_after, pendings_after}
 use Rattle.parallel_relation.specs.Meetings.{met_in}
-use Rattle.parallel_relation.proofs.Programs.{split_in_loop, call_then_store}
+use Rattle.parallel_relation.proofs.Programs.{split_in_loop, call_then_store, pieces}
 
 -- the label pairs of a procedure, for calls that are nested at most three deep
 abbrev pairs : Program → Procedure → List (ℕ × ℕ)
@@ -25,3 +25,8 @@ split_in_loop_pairs = refl
 -- the callee's async meets what follows the call
 call_then_store_pairs : pairs call_then_store call_then_store.main ≡ (2, 5) ∷ []
 call_then_store_pairs = refl
+
+-- the async of a turn meets the step before each later turn, and all that the turn does
+pieces_pairs : pairs pieces pieces.main
+    ≡ (4, 2) ∷ (4, 3) ∷ (4, 4) ∷ (4, 5) ∷ (5, 2) ∷ (5, 3) ∷ (5, 4) ∷ (5, 5) ∷ []
+pieces_pairs = refl

@@ -7,6 +7,7 @@ pub mod ListLemmas
 pub mod ListingLemmas
 pub mod MeetingLemmas
 pub mod MeetingsExact
+pub mod NothingAdded
 pub mod Ordering
 pub mod PairsLemmas
 pub mod Programs

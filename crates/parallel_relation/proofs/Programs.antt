@@ -3,10 +3,10 @@ use Rattle.std.proofs.Common.{[], ◌∷◌}
 use Rattle.std.specs.Prelude.{codes, true, false}
 use Rattle.syntax_tree.specs.declared.tree.ElementType.TheVariants.{Int}
 use Rattle.syntax_tree.specs.declared.tree.Relation.TheVariants.{Less}
-use Rattle.sections.specs.Origins.{Root, Left, Right}
-use Rattle.types.specs.declared.code.Operator.TheVariants.{Plus}
-use Rattle.types.specs.Code.{Scalar, Element, Chain, Link, Done, Compare, Assign, Store, Print, Do, While, Split}
-use Rattle.types.specs.Code.{Call, Async, Finish, End, Procedure, Program}
+use Rattle.sections.specs.Origins.{Root, Left, Right, Piece}
+use Rattle.types.specs.declared.code.Operator.TheVariants.{Minus, Plus}
+use Rattle.types.specs.Code.{Scalar, Element, Length, Chain, Link, Done, Compare, Assign, Store, Print, Do, While, Split}
+use Rattle.types.specs.Code.{Parts, Call, Async, Finish, Codes, End, Procedure, Program}
 use Rattle.types.proofs.Programs.{◌⨾◌, lit, ints, main_of as program_of, over_ints}
 
 -- async { a[0] = 7; } b[0] = 8; print a[0];
@@ -94,3 +94,15 @@ copying = record {
     body = (2, Split 0 (lit 1) 1 2 ((3, Call 0 [] (1 ∷ 2 ∷ [])) ⨾ End)) ⨾ End;
   };
 }
+
+-- array a: int[2]; finish { parts a by 1 as p, i { .. } }
+abbrev pub in_pieces : Codes → Program
+in_pieces b =
+    program_of (ints 97 2 ∷ []) 2 (Root ∷ Piece 0 ∷ []) ((1, Finish ((2, Parts 0 (lit 1) 1 0 b) ⨾ End)) ⨾ End)
+
+-- async { p[0] = i; p[len(p) - 1] = 2; } in each piece
+abbrev pub pieces : Program
+pieces = in_pieces ((
+  3,
+  Async ((4, Do (Store 1 (lit 0) (Scalar 0))) ⨾ (5, Do (Store 1 (Chain (Length 1) (Link Minus (lit 1) Done)) (lit 2))) ⨾ End),
+) ⨾ End)

@@ -8,7 +8,7 @@ use Rattle.sections.proofs.Members.{any_member, member_any}
 use Rattle.types.specs.Code.{Code, Async, Finish, Codes, Program}
 use Rattle.types.specs.Run.{procedure_of}
 use Rattle.types.specs.Sound.{passed_for}
-use Rattle.effects.specs.Effects.{past_split, Inner, Subject, AllOf, All, PendingOf, Pending}
+use Rattle.effects.specs.Effects.{past_parts, past_split, Inner, Subject, AllOf, All, PendingOf, Pending}
 use Rattle.effects.specs.Tables.{Table, all_inside, all_in, left_by, left_in, alls_after, IsDerivedPending}
 use Rattle.parallel_relation.proofs.LeastNumbers.{Passing, some_passes}
 use Rattle.effects.proofs.Members.{in_left, in_right, in_map}
@@ -35,6 +35,7 @@ module _ (p : Program) (subject : Subject) where
       (k, kept subject (all_in subject (alls k) b ++ all_in subject (alls k) c) x (in_right (all_in subject (alls k) b) h))
   inner_reached (Inner.while {b = b}) x k h = (k, kept subject (all_in subject (alls k) b) x h)
   inner_reached (Inner.split {s = s} {l = l} {r = r}) x k h = (k, in_map (subject.renamed (past_split s l r)) h)
+  inner_reached (Inner.parts {s = s} {q = q}) x k h = (k, in_map (subject.renamed (past_parts s q)) h)
   inner_reached (Inner.call {f = f} {ss = ss}) x k h = (suc k, in_map (subject.renamed (passed_for ss)) h)
 
   mutual
@@ -72,6 +73,7 @@ module _ (p : Program) (subject : Subject) where
       (k, kept subject (one ++ left_in subject (alls k) (pendings k) c) x (in_right one h))
   inner_left (Inner.while {b = b}) x k h = (k, kept subject (left_in subject (alls k) (pendings k) b) x h)
   inner_left (Inner.split {s = s} {l = l} {r = r}) x k h = (k, in_map (subject.renamed (past_split s l r)) h)
+  inner_left (Inner.parts {s = s} {q = q}) x k h = (k, in_map (subject.renamed (past_parts s q)) h)
   inner_left (Inner.call {f = f} {ss = ss}) x k h = (suc k, in_map (subject.renamed (passed_for ss)) h)
 
   mutual

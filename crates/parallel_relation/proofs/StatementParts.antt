@@ -1,10 +1,10 @@
 -- The labels of a statement, and their pairs, are those of its parts.
 use Rattle.std.proofs.Common.{◌≡◌, ◌⊎◌, inl, inr, ℕ, refl, sym, subst, [], ◌∷◌}
 use Rattle.sections.specs.Member.{Member, first}
-use Rattle.types.specs.Code.{Code, Do, If, While, Split, Call, Async, Finish, Codes, End, Then, Program}
+use Rattle.types.specs.Code.{Number, Code, Do, If, While, Split, Parts, Begun, Call, Async, Finish, Codes, End, Then, Program}
 use Rattle.types.specs.Run.{procedure_of}
 use Rattle.effects.specs.Effects.{labels, Inner, AllOf, All, PendingOf, Pending}
-use Rattle.parallel_relation.specs.Together.{Block, Together}
+use Rattle.parallel_relation.specs.Together.{Block, OfTurn, OfTurns, Together}
 use Rattle.parallel_relation.specs.Around.{both, at, one, BlockMeets, CallMeets, InsideMeets}
 use Rattle.effects.proofs.StatementLemmas.{of_one}
 
@@ -15,6 +15,8 @@ module _ (p : Program) where
   Within has (If t b c) x = has b x ⊎ has c x
   Within has (While t b) x = has b x
   Within has (Split s e l r b) x = has b x
+  Within has (Parts s e q i b) x = has b x
+  Within has (Begun s n k q i b) x = ⊥
   Within has (Call f es ss) x = has (procedure_of p f).body x
   Within has (Async b) x = has b x
   Within has (Finish b) x = has b x
@@ -35,6 +37,7 @@ module _ (p : Program) where
   within_inner has (Inner.if_other {c = c}) x y h e = inr (subst (has c) (sym e) h)
   within_inner has (Inner.while {b = b}) x y h e = subst (has b) (sym e) h
   within_inner has (Inner.split {b = b}) x y h e = subst (has b) (sym e) h
+  within_inner has (Inner.parts {b = b}) x y h e = subst (has b) (sym e) h
   within_inner has (Inner.call {f = f}) x y h e = subst (has (procedure_of p f).body) (sym e) h
 
   left_within : {s : Code} {b : Codes} {out : ℕ → ℕ} → Inner p s b out → (x : ℕ) → Within (Pending p labels) s x → Left s x
@@ -42,6 +45,7 @@ module _ (p : Program) where
   left_within Inner.if_other x h = h
   left_within Inner.while x h = h
   left_within Inner.split x h = h
+  left_within Inner.parts x h = h
   left_within Inner.call x h = h
 
   pub done_of : {l : ℕ} {s : Code} {x : ℕ} → AllOf p labels l s x → (x ≡ l) ⊎ Done s x
@@ -59,6 +63,8 @@ module _ (p : Program) where
   of_done l (If t b c) x (inr h) = AllOf.inner Inner.if_other h refl
   of_done l (While t b) x h = AllOf.inner Inner.while h refl
   of_done l (Split s e y z b) x h = AllOf.inner Inner.split h refl
+  of_done l (Parts s e q i b) x h = AllOf.inner Inner.parts h refl
+  of_done l (Begun s n k q i b) x h = absurd h
   of_done l (Call f es ss) x h = AllOf.inner Inner.call h refl
   of_done l (Async b) x h = AllOf.async h
   of_done l (Finish b) x h = AllOf.finish h
@@ -73,6 +79,8 @@ module _ (p : Program) where
   of_left (If t b c) x (inr h) = PendingOf.inner Inner.if_other h refl
   of_left (While t b) x h = PendingOf.inner Inner.while h refl
   of_left (Split s e y z b) x h = PendingOf.inner Inner.split h refl
+  of_left (Parts s e q i b) x h = PendingOf.inner Inner.parts h refl
+  of_left (Begun s n k q i b) x h = absurd h
   of_left (Call f es ss) x h = PendingOf.inner Inner.call h refl
   of_left (Async b) x h = PendingOf.async h
   of_left (Finish b) x h = absurd h
@@ -83,6 +91,8 @@ module _ (p : Program) where
   Met l (If t b c) x y = Together p labels b x y ⊎ Together p labels c x y
   Met l (While t b) x y = (Pending p labels b x × AllOf p labels l (While t b) y) ⊎ Together p labels b x y
   Met l (Split s e z w b) x y = Together p labels b x y
+  Met l (Parts s e q i b) x y = OfTurns p labels l q b x y ⊎ Together p labels b x y
+  Met l (Begun s n k q i b) x y = ⊥
   Met l (Call f es ss) x y = ⊥
   Met l (Async b) x y = Together p labels b x y
   Met l (Finish b) x y = Together p labels b x y
@@ -92,6 +102,7 @@ module _ (p : Program) where
   met_inside Block.if_other l x y h = inr h
   met_inside Block.while l x y h = inr h
   met_inside Block.split l x y h = h
+  met_inside Block.parts l x y h = inr h
   met_inside Block.async l x y h = h
   met_inside Block.finish l x y h = h
 
@@ -102,9 +113,23 @@ module _ (p : Program) where
   of_met l (While t b) rest x y (inl h) = Together.turns (of_left (While t b) x h.0) h.1
   of_met l (While t b) rest x y (inr h) = Together.inside Block.while h
   of_met l (Split s e z w b) rest x y h = Together.inside Block.split h
+  of_met l (Parts s e q i b) rest x y (inl h) = Together.pieces h
+  of_met l (Parts s e q i b) rest x y (inr h) = Together.inside Block.parts h
+  of_met l (Begun s n k q i b) rest x y h = absurd h
   of_met l (Call f es ss) rest x y h = absurd h
   of_met l (Async b) rest x y h = Together.inside Block.async h
   of_met l (Finish b) rest x y h = Together.inside Block.finish h
+
+  -- a turn of a `parts` does what the `parts` does
+  of_turn : (l s : ℕ) (e : Number) (q i : ℕ) (b : Codes) (y : ℕ) → OfTurn p labels l b y → AllOf p labels l (Parts s e q i b) y
+  of_turn l s e q i b y (inl m) = AllOf.own_access m
+  of_turn l s e q i b y (inr h) = AllOf.inner Inner.parts h refl
+
+  to_turn : (l s : ℕ) (e : Number) (q i : ℕ) (b : Codes) (y : ℕ) → AllOf p labels l (Parts s e q i b) y → OfTurn p labels l b y
+  to_turn l s e q i b y h = elim (done_of h) [
+    | inl k ↦ inl (subst (λ z. Member y (z ∷ [])) k first)
+    | inr d ↦ inr d
+  ]
 
   -- the pairs of a list are those of its first statement with the others, those inside it, and
   -- those of the others
@@ -114,6 +139,7 @@ module _ (p : Program) where
   met_of : {l : ℕ} {s : Code} {rest : Codes} {x y : ℕ} → Together p labels (Then l s rest) x y → Splits l s rest x y
   met_of (Together.follows f h) = inl (f, h)
   met_of (Together.turns f h) = inr (inl (inl (left_of f, h)))
+  met_of (Together.pieces h) = inr (inl (inl h))
   met_of (Together.inside {l = l} {x = x} {y = y} i h) = inr (inl (met_inside i l x y h))
   met_of (Together.later h) = inr (inr h)
 
@@ -143,6 +169,8 @@ module _ (p : Program) where
     done_found l (If t b c) x y (inr h) k = inr (BlockMeets.all h k)
     done_found l (While t b) x y h k = BlockMeets.all h k
     done_found l (Split s e z w b) x y h k = BlockMeets.all h k
+    done_found l (Parts s e q i b) x y h k = BlockMeets.all h k
+    done_found l (Begun s n j q i b) x y h k = absurd h
     done_found l (Call f es ss) x y h k = CallMeets.all h k
     done_found l (Async b) x y h k = BlockMeets.all h (inl k)
     done_found l (Finish b) x y h k = BlockMeets.all h k
@@ -153,6 +181,8 @@ module _ (p : Program) where
     left_found l (If t b c) x y (inr h) k = inr (BlockMeets.pending h k)
     left_found l (While t b) x y h k = BlockMeets.pending h (inl k)
     left_found l (Split s e z w b) x y h k = BlockMeets.pending h k
+    left_found l (Parts s e q i b) x y h k = BlockMeets.pending h (inl k)
+    left_found l (Begun s n j q i b) x y h k = absurd h
     left_found l (Call f es ss) x y h k = CallMeets.pending h k
     left_found l (Async b) x y h k = BlockMeets.all h (inr k)
     left_found l (Finish b) x y h k = absurd h
@@ -164,6 +194,9 @@ module _ (p : Program) where
     met_found l (While t b) x y (inl h) = BlockMeets.pending h.0 (inr (All.here h.1))
     met_found l (While t b) x y (inr h) = BlockMeets.within h
     met_found l (Split s e z w b) x y h = BlockMeets.within h
+    met_found l (Parts s e q i b) x y (inl h) = BlockMeets.pending h.pending (inr (All.here (of_turn l s e q i b y h.later)))
+    met_found l (Parts s e q i b) x y (inr h) = BlockMeets.within h
+    met_found l (Begun s n k q i b) x y h = absurd h
     met_found l (Call f es ss) x y h = absurd h
     met_found l (Async b) x y h = BlockMeets.within h
     met_found l (Finish b) x y h = BlockMeets.within h
@@ -205,6 +238,13 @@ module _ (p : Program) where
     inside_one l (While t b) x y (BlockMeets.pending h (inr (All.later k))) = elim k [ ]
     inside_one l (While t b) x y (BlockMeets.within h) = met_in_one l (While t b) x y (inr h)
     inside_one l (Split s e z w b) x y h = from_block l (Split s e z w b) b x y (λ k. k) (λ k. k) (λ k. k) h
+    inside_one l (Parts s e q i b) x y (BlockMeets.all h k) = all_in_one l (Parts s e q i b) x y h k
+    inside_one l (Parts s e q i b) x y (BlockMeets.pending h (inl k)) = left_in_one l (Parts s e q i b) x y h k
+    inside_one l (Parts s e q i b) x y (BlockMeets.pending h (inr (All.here k))) =
+        met_in_one l (Parts s e q i b) x y (inl (record { pending = h; later = to_turn l s e q i b y k; meet = refl }))
+    inside_one l (Parts s e q i b) x y (BlockMeets.pending h (inr (All.later k))) = elim k [ ]
+    inside_one l (Parts s e q i b) x y (BlockMeets.within h) = met_in_one l (Parts s e q i b) x y (inr h)
+    inside_one l (Begun s n k q i b) x y h = absurd h
     inside_one l (Call f es ss) x y (CallMeets.all h k) = all_in_one l (Call f es ss) x y h k
     inside_one l (Call f es ss) x y (CallMeets.pending h k) = left_in_one l (Call f es ss) x y h k
     inside_one l (Async b) x y (BlockMeets.all h (inl k)) = all_in_one l (Async b) x y h k

@@ -1,6 +1,6 @@
 -- The pairs of labels that statements add at their position.
 use Rattle.std.specs.Prelude.{ℕ, ◌≡◌, ◌⊎◌}
-use Rattle.types.specs.Code.{Code, Do, If, While, Split, Call, Async, Finish, Codes, End, Then, Program}
+use Rattle.types.specs.Code.{Code, Do, If, While, Split, Parts, Begun, Call, Async, Finish, Codes, End, Then, Program}
 use Rattle.types.specs.Run.{procedure_of}
 use Rattle.effects.specs.Effects.{labels, All, Pending}
 use Rattle.parallel_relation.specs.Together.{Together}
@@ -61,6 +61,9 @@ module _ (p : Program) (everything later : ℕ → Type 0) where
   InsideMeets l (While t b) x y =
       BlockMeets p everything (both later (All p labels (one l (While t b)))) b x y
   InsideMeets l (Split s e i j b) x y = BlockMeets p everything later b x y
+  InsideMeets l (Parts s e q i b) x y =
+      BlockMeets p everything (both later (All p labels (one l (Parts s e q i b)))) b x y
+  InsideMeets l (Begun s n k q i b) x y = ⊥
   InsideMeets l (Call f es ss) x y = CallMeets p f everything later x y
   InsideMeets l (Async b) x y = BlockMeets p (both everything later) none b x y
   InsideMeets l (Finish b) x y = BlockMeets p everything none b x y

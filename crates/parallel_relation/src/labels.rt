@@ -69,6 +69,7 @@ pub fn add_labels_of(
         }
         StmtKind::While { body, .. }
         | StmtKind::Split { body, .. }
+        | StmtKind::Parts { body, .. }
         | StmtKind::Async { body }
         | StmtKind::Finish { body } => add_labels(code, summaries, body, set),
         StmtKind::Call { procedure, .. } => add_labels_of_call(code, summaries, *procedure, set),

@@ -3,21 +3,23 @@
 ghost use Rattle.std.specs.Prelude.{◌≡◌, ◌++◌, IfOk, OnOk, map};
 ghost use Rattle.types.specs.Typed.{code_of};
 ghost use Rattle.types.specs.Translation.{code as plain_code, codes as codes_of, program};
-ghost use Rattle.effects.specs.Effects.{accesses};
+ghost use Rattle.effects.specs.Effects.{accesses, of_pieces};
 ghost use Rattle.effects.specs.Summarized.{AreSummaries, body_of as plain_body_of};
-ghost use Rattle.effects.specs.Tables.{left_by};
+ghost use Rattle.effects.specs.Tables.{all_in, left_by, left_in};
 ghost use Rattle.effects.specs.Translation.{access as access_of};
 ghost use Rattle.parallel_relation.specs.Listing.{alls_of, pendings_of, is_asked as asks};
 ghost use Rattle.parallel_relation.specs.Meetings.{added, added_in, added_inside, crossed, turned};
+ghost use Rattle.parallel_relation.specs.Meetings.{met_by_turn as met_by_turn_of, met_by_turns as met_by_turns_of};
 ghost use Rattle.parallel_relation.specs.Order.{AreMeetings, meeting_of};
 ghost use Rattle.parallel_relation.specs.Together.{Together, AccessesAddedAt};
 ghost use Rattle.parallel_relation.specs.Translation.{meeting as plain};
 
 use crate::listing::{ListedAccesses, list_procedures};
 use crate::meeting::{Meeting, put_in_order};
-use crate::statements::{add_block, add_left_by, add_own};
+use crate::statements::{add_block, add_left, add_left_by, add_own};
 use effects::access::Access;
 use effects::summaries::Summaries;
+use sections::id::SectionId;
 use std::alloc::{AllocError, Global};
 use types::code::{Label, Program, Stmt, StmtKind};
 use types::ids::ProcedureId;
@@ -126,6 +128,7 @@ fn add_meetings_inside(
         }
         StmtKind::While { body, .. }
         | StmtKind::Split { body, .. }
+        | StmtKind::Parts { body, .. }
         | StmtKind::Async { body }
         | StmtKind::Finish { body } => add_meetings(alloc, lists, label, body, into),
     }
@@ -164,7 +167,7 @@ fn add_pairs(
     add_turned(alloc, lists, statement, &left, into)
 }
 
-/// Adds the pairs of a loop with its next iteration.
+/// Adds the pairs of a loop with its next iteration, and of a `parts` with its later turns.
 fn add_turned(
     alloc: Global,
     lists: &[ListedAccesses],
@@ -188,10 +191,61 @@ fn add_turned(
             add_crossed(left, &turn, into)
         }
         StmtKind::Split { .. } => Ok(()),
+        StmtKind::Parts { pieces, body } => add_of_pieces(alloc, lists, pieces.piece, body, into),
         StmtKind::Call { .. } => Ok(()),
         StmtKind::Async { .. } => Ok(()),
         StmtKind::Finish { .. } => Ok(()),
     }
+}
+
+/// Adds the pairs of two turns of a `parts`: what one leaves pending with all that a later one does,
+/// without the pairs of which both accesses are to the pieces.
+fn add_of_pieces(
+    alloc: Global,
+    lists: &[ListedAccesses],
+    piece: SectionId,
+    body: &[Stmt],
+    into: &mut Vec<Meeting>,
+) -> Result<(), AllocError>
+    ensures { OnOk result (map plain into.new.items ≡ map plain into.old.items ++ map meeting_of
+        (met_by_turns_of accesses piece.number
+        (left_in accesses (alls_of lists.now) (pendings_of lists.now) (codes_of body.now))
+        (all_in accesses (alls_of lists.now) (codes_of body.now)))) }
+{
+    let mut left = Vec::new(alloc);
+    add_left(alloc, lists, body, &mut left)?;
+    let mut turn = Vec::new(alloc);
+    add_block(alloc, lists, body, &mut turn)?;
+    for first in &left {
+        add_unless_apart(*first, &turn, piece, into)?;
+    }
+    Ok(())
+}
+
+/// Adds an access paired with each of these, unless both are to the piece.
+fn add_unless_apart(
+    first: Access,
+    seconds: &[Access],
+    piece: SectionId,
+    into: &mut Vec<Meeting>,
+) -> Result<(), AllocError>
+    ensures { OnOk result (map plain into.new.items ≡ map plain into.old.items ++ map meeting_of
+        (met_by_turn_of accesses piece.number (access_of first) (map access_of seconds.now))) }
+{
+    for second in seconds {
+        if !are_to_pieces(first, *second, piece) {
+            into.push(Meeting::of(first, *second))?;
+        }
+    }
+    Ok(())
+}
+
+/// Returns whether both accesses are to the piece of a `parts`, so that in two turns they share no
+/// place.
+pub fn are_to_pieces(first: Access, second: Access, piece: SectionId) -> bool
+    ensures { result ≡ of_pieces piece.number (access_of first) (access_of second) }
+{
+    first.section.number == piece.number && second.section.number == piece.number
 }
 
 /// Adds each of the first accesses paired with each of the second.

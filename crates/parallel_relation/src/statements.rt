@@ -76,6 +76,11 @@ fn add_inside(
             add_block(alloc, lists, body, &mut inside)?;
             add_around(&inside, sides.section, sides.left, sides.right, into)
         }
+        StmtKind::Parts { pieces, body } => {
+            let mut inside = Vec::new(alloc);
+            add_block(alloc, lists, body, &mut inside)?;
+            add_around(&inside, pieces.section, pieces.piece, pieces.piece, into)
+        }
         StmtKind::Call {
             procedure,
             sections,
@@ -89,7 +94,7 @@ fn add_inside(
 
 /// Adds what the statements of a block leave pending.
 #[cycle(left)]
-fn add_left(
+pub fn add_left(
     alloc: Global,
     lists: &[ListedAccesses],
     block: &[Stmt],
@@ -127,6 +132,11 @@ pub fn add_left_by(
             add_left(alloc, lists, body, &mut inside)?;
             add_around(&inside, sides.section, sides.left, sides.right, into)
         }
+        StmtKind::Parts { pieces, body } => {
+            let mut inside = Vec::new(alloc);
+            add_left(alloc, lists, body, &mut inside)?;
+            add_around(&inside, pieces.section, pieces.piece, pieces.piece, into)
+        }
         StmtKind::Call {
             procedure,
             sections,
@@ -140,7 +150,7 @@ pub fn add_left_by(
     }
 }
 
-/// Adds accesses inside a split, in the names around it.
+/// Adds accesses inside a split, in the names around it. The piece of a `parts` is both sides.
 fn add_around(
     inside: &[Access],
     section: SectionId,

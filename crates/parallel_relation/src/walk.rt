@@ -101,6 +101,11 @@ fn walk_inside(
             walk(guide, everything, &again, body, found)
         }
         StmtKind::Split { body, .. } => walk(guide, everything, later, body, found),
+        StmtKind::Parts { body, .. } => {
+            let mut further = copy_of(guide.alloc, later)?;
+            add_labels_of(guide.code, guide.summaries, statement, &mut further)?;
+            walk(guide, everything, &further, body, found)
+        }
         StmtKind::Call { procedure, .. } => {
             found.add_call(guide.alloc, *procedure, everything, later)
         }

@@ -2,7 +2,7 @@
 use Rattle.std.proofs.Common.{◌≡◌, ◌⊎◌, ℕ, List, refl, inl, inr}
 use Rattle.std.proofs.lemmas.Bool.{and_parts, false≢true, true≢false}
 use Rattle.std.specs.Prelude.{◌↔◌, Bool, true, false, ◌&&◌}
-use Rattle.types.specs.Code.{Code, Do, If, While, Split, Call, Async, Finish, Codes, End, Then, Program}
+use Rattle.types.specs.Code.{Code, Do, If, While, Split, Parts, Begun, Call, Async, Finish, Codes, End, Then, Program}
 use Rattle.types.specs.Run.{procedure_of}
 use Rattle.effects.specs.Statements.{Block, Stands}
 use Rattle.plain_code.specs.Calm.{AreCalm, AreMarked, are_plain_by, calm_at, is_plain_by}
@@ -34,6 +34,7 @@ module _ (calm : List Bool) where
   block_plain (Block.if_other {t} {b} {c}) h = (and_parts (are_plain_by calm b) (are_plain_by calm c) h).1
   block_plain Block.while h = h
   block_plain Block.split h = h
+  block_plain Block.parts h = h
   block_plain Block.async h = absurd (false≢true h)
   block_plain Block.finish h = absurd (false≢true h)
 
@@ -53,6 +54,7 @@ module _ (calm : List Bool) where
     nothing_reached closed (Reaches.async at) h = false≢true (stands_plain at h)
     nothing_reached closed (Reaches.finish at) h = false≢true (stands_plain at h)
     nothing_reached closed (Reaches.call at r) h = nothing_reached closed r (closed _ (stands_plain at h))
+    nothing_reached closed (Reaches.turn at r) h = nothing_reached closed r (stands_plain at h)
 
     -- and what it finds is reached
     module _ (marked : AreMarked p calm) where
@@ -66,6 +68,8 @@ module _ (calm : List Bool) where
             ]
         statement_reaches l (While t b) rest h = reaches_inside p Block.while (block_reaches b h)
         statement_reaches l (Split s e x y b) rest h = reaches_inside p Block.split (block_reaches b h)
+        statement_reaches l (Parts s e q i b) rest h = reaches_inside p Block.parts (block_reaches b h)
+        statement_reaches l (Begun s n k q i b) rest h = Reaches.turn Stands.here (block_reaches b h)
         statement_reaches l (Call f es ss) rest h = Reaches.call Stands.here (marked f h)
         statement_reaches l (Async b) rest h = Reaches.async Stands.here
         statement_reaches l (Finish b) rest h = Reaches.finish Stands.here
@@ -94,6 +98,7 @@ module _ (p : Program) (calm : List Bool) (of : AreCalm p calm) where
   not_reached (Reaches.async at) h = false≢true (stands_plain calm at h)
   not_reached (Reaches.finish at) h = false≢true (stands_plain calm at h)
   not_reached (Reaches.call at r) h = (of.each _).0 (stands_plain calm at h) r
+  not_reached (Reaches.turn at r) h = not_reached r (stands_plain calm at h)
 
   -- what the walk finds plain is plain
   pub plain_block : (b : Codes) → are_plain_by calm b ≡ true → ArePlain p b

@@ -1,15 +1,15 @@
 -- Plain work does under all rules what it does on one thread, and applies `stepped` for each step.
 use Rattle.std.proofs.Common.{◌≡◌, ℕ, zero, suc, ◌+◌, Ok, Err, refl, sym, ap, ◌∙◌, subst, arith}
 use Rattle.std.specs.Prelude.{ℤ, Bool, true, false, map, ok_or}
-use Rattle.sections.specs.Place.{Place, sides_of}
-use Rattle.types.specs.declared.fault.FaultKind.TheVariants.{SplitPoint, Raised}
-use Rattle.types.specs.Code.{Primitive, Skip, Assign, Store, Print, Raise, Code, Do, If, While, Split, Call, Async}
-use Rattle.types.specs.Code.{Finish, Codes, End, Then, Program}
+use Rattle.sections.specs.Place.{Place, has_piece, sides_of}
+use Rattle.types.specs.declared.fault.FaultKind.TheVariants.{SplitPoint, PieceSize, Raised}
+use Rattle.types.specs.Code.{Primitive, Skip, Assign, Store, Print, Raise, Code, Do, If, While, Split, Parts, Begun, Call}
+use Rattle.types.specs.Code.{Async, Finish, Codes, End, Then, Program}
 use Rattle.types.specs.Meaning.{one_rules}
 use Rattle.types.specs.Value.{Environment, Valued, element_of, holds_number}
-use Rattle.types.specs.Run.{Flow, On, Faulted, Stopped, State, Rules, Work, Block, Turn, at_flow, go_on, spend, with_step}
+use Rattle.types.specs.Run.{Flow, On, Faulted, Stopped, State, Rules, Work, Block, Turn, Pieces, at_flow, go_on, spend, with_step}
 use Rattle.types.specs.Run.{stopped, fault, with_value, number_at, numbers_at, truth_at, window_at, assign, print, put, choose}
-use Rattle.types.specs.Run.{entry, with_sides, array_of, procedure_of, primitive, counted, act, block, work}
+use Rattle.types.specs.Run.{entry, with_sides, in_turn, piece_size, array_of, procedure_of, primitive, counted, act, block, work}
 use Rattle.types.specs.Run.{within, run}
 use Rattle.plain_code.specs.Means.{IsAsOnOne, bare, beside, times}
 use Rattle.plain_code.specs.Plain.{ArePlain, IsPlainWork}
@@ -114,6 +114,8 @@ module _ (p : Program) {X : Type 0} (r : Rules X) (once : X → X) (same : (l : 
   told_once l (If t b c) i st = ap (λ x. record st { extra = x }) (same l st.extra)
   told_once l (While t b) i st = ap (λ x. record st { extra = x }) (same l st.extra)
   told_once l (Split s e x y b) i st = ap (λ x. record st { extra = x }) (same l st.extra)
+  told_once l (Parts s e x j b) i st = ap (λ x. record st { extra = x }) (same l st.extra)
+  told_once l (Begun s n k x j b) i st = ap (λ x. record st { extra = x }) (same l st.extra)
   told_once l (Call f es ss) i st = ap (λ x. record st { extra = x }) (same l st.extra)
   told_once l (Async b) i st = absurd i
   told_once l (Finish b) i st = absurd i
@@ -123,6 +125,8 @@ module _ (p : Program) {X : Type 0} (r : Rules X) (once : X → X) (same : (l : 
   untold l (If t b c) u = refl
   untold l (While t b) u = refl
   untold l (Split s e x y b) u = refl
+  untold l (Parts s e x j b) u = refl
+  untold l (Begun s n k x j b) u = refl
   untold l (Call f es ss) u = refl
   untold l (Async b) u = refl
   untold l (Finish b) u = refl
@@ -166,6 +170,15 @@ module _ (p : Program) {X : Type 0} (r : Rules X) (once : X → X) (same : (l : 
           value_alike l (ok_or (sides_of (window_at st s) v) SplitPoint) _ _ st (λ ws.
           let env = with_sides x y ws st.environment in
           moved env st _ _ (block_alike b i (record st { environment = env }))))
+      act_alike (Parts s n x j b) l i st =
+          value_alike l (number_at st n) _ _ st (λ v.
+          value_alike l (ok_or (piece_size v) PieceSize) _ _ st (λ m. deeper (Pieces l s m 0 x j b) i st))
+      act_alike (Begun s n k x j b) l i st =
+          let env = (in_turn s n k x j st).environment in
+          let next : Work = Pieces l s n (k + 1) x j b in
+          then_alike st (block p r d b (in_turn s n k x j st)) (block p q e b (in_turn s n k x j (bare st))) (d next) (e next)
+          (moved env st _ _ (block_alike b i (record st { environment = env })))
+          (deeper next i)
       act_alike (Call f es ss) l i st =
           value_alike l (numbers_at st es) _ _ st (λ vs.
           let env = entry vs (map (window_at st) ss) in
@@ -183,6 +196,12 @@ module _ (p : Program) {X : Type 0} (r : Rules X) (once : X → X) (same : (l : 
     work_alike : (w : Work) → IsPlainWork p w → Alike (work p r d w) (work p q e w)
     work_alike (Block b) plain st = block_alike b plain st
     work_alike (Turn l t b) plain st = step_alike d e l (While t b) plain (act_alike (While t b) l plain) st
+    work_alike (Pieces l s n k x j b) plain st =
+        let c : Code = Begun s n k x j b in
+        choose_alike (has_piece (window_at st s) n k) (with_step (λ st. act p r d l c (counted r l c st))) (λ st. st)
+        (with_step (λ u. act p q e l c (counted q l c u))) (λ u. u) st
+        (step_alike d e l c plain (act_alike c l plain) st)
+        (still st (bare st) refl)
 
   within_alike : (k : ℕ) (w : Work) → IsPlainWork p w → Alike (within p r k w) (within p q k w)
   within_alike zero w plain st = still st (stopped (bare st)) refl

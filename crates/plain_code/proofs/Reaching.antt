@@ -1,6 +1,6 @@
 -- If a block is plain, so are the statements in it.
 use Rattle.std.proofs.Common.{ℕ}
-use Rattle.types.specs.Code.{Code, Do, If, While, Split, Call, Async, Finish, Codes, Then, Program}
+use Rattle.types.specs.Code.{Code, Do, If, While, Split, Parts, Begun, Call, Async, Finish, Codes, Then, Program}
 use Rattle.types.specs.Run.{procedure_of}
 use Rattle.effects.specs.Statements.{Block, Stands}
 use Rattle.plain_code.specs.Plain.{ArePlain, Reaches}
@@ -11,6 +11,7 @@ module _ (p : Program) where
   reaches_more h (Reaches.async at) = Reaches.async (h _ _ at)
   reaches_more h (Reaches.finish at) = Reaches.finish (h _ _ at)
   reaches_more h (Reaches.call at r) = Reaches.call (h _ _ at) r
+  reaches_more h (Reaches.turn at r) = Reaches.turn (h _ _ at) r
 
   pub plain_less : {b c : Codes} → ((l : ℕ) (s : Code) → Stands b l s → Stands c l s) → ArePlain p c → ArePlain p b
   plain_less h plain = λ r. plain (reaches_more h r)
@@ -35,6 +36,8 @@ module _ (p : Program) where
   Inside (If t b c) = ArePlain p b × ArePlain p c
   Inside (While t b) = ArePlain p b
   Inside (Split s e x y b) = ArePlain p b
+  Inside (Parts s e q i b) = ArePlain p b
+  Inside (Begun s n k q i b) = ArePlain p b
   Inside (Call f es ss) = ArePlain p (procedure_of p f).body
   Inside (Async b) = ⊥
   Inside (Finish b) = ⊥
@@ -44,6 +47,8 @@ module _ (p : Program) where
   inside l (If t b c) rest plain = (plain_inside Block.if_body plain, plain_inside Block.if_other plain)
   inside l (While t b) rest plain = plain_inside Block.while plain
   inside l (Split s e x y b) rest plain = plain_inside Block.split plain
+  inside l (Parts s e q i b) rest plain = plain_inside Block.parts plain
+  inside l (Begun s n k q i b) rest plain = λ r. plain (Reaches.turn Stands.here r)
   inside l (Call f es ss) rest plain = λ r. plain (Reaches.call Stands.here r)
   inside l (Async b) rest plain = plain (Reaches.async Stands.here)
   inside l (Finish b) rest plain = plain (Reaches.finish Stands.here)

@@ -2,7 +2,8 @@
 -- calm procedures.
 use Rattle.std.specs.Prelude.{ℕ, ◌+◌, ◌≡◌, ◌↔◌, List, [], ◌∷◌, length, Bool, true, false, ◌&&◌}
 use Rattle.std.specs.Prelude.{slice_index_or}
-use Rattle.types.specs.Code.{Code, Do, If, While, Split, Call, Async, Finish, Codes, End, Then, Program}
+use Rattle.types.specs.Code.{Code, Do, If, While, Split, Parts, Begun, Call, Async, Finish}
+use Rattle.types.specs.Code.{Codes, End, Then, Program}
 use Rattle.types.specs.Run.{procedure_of}
 use Rattle.plain_code.specs.Plain.{ArePlain, Reaches}
 
@@ -19,6 +20,8 @@ module _ (calm : List Bool) where
     is_plain_by (If t b c) = are_plain_by b && are_plain_by c
     is_plain_by (While t b) = are_plain_by b
     is_plain_by (Split s e x y b) = are_plain_by b
+    is_plain_by (Parts s e q i b) = are_plain_by b
+    is_plain_by (Begun s n k q i b) = are_plain_by b
     is_plain_by (Call f es ss) = calm_at calm f
     is_plain_by (Async b) = false
     is_plain_by (Finish b) = false

@@ -1,7 +1,7 @@
 -- Plain code: no async and no finish can be reached from it, directly or by a call.
 use Rattle.std.specs.Prelude.{ℕ, List}
-use Rattle.types.specs.Code.{Number, Code, Call, Async, Finish, Codes, End, Then, Program}
-use Rattle.types.specs.Run.{Work, Block, Turn, procedure_of}
+use Rattle.types.specs.Code.{Number, Code, Begun, Call, Async, Finish, Codes, End, Then, Program}
+use Rattle.types.specs.Run.{Work, Block, Turn, Pieces, procedure_of}
 use Rattle.effects.specs.Statements.{Stands}
 
 -- an async or a finish can be reached from a block
@@ -10,6 +10,9 @@ pub data Reaches (p : Program) : Codes → Type 0 where
   finish : {b : Codes} {l : ℕ} {inner : Codes} → Stands b l (Finish inner) → Reaches p b
   call : {b : Codes} {l f : ℕ} {es : List Number} {ss : List ℕ} → Stands b l (Call f es ss)
       → Reaches p (procedure_of p f).body → Reaches p b
+  -- a turn of a begun `parts` is still to come
+  turn : {b : Codes} {l s n k q i : ℕ} {inner : Codes} → Stands b l (Begun s n k q i inner)
+      → Reaches p inner → Reaches p b
 
 -- none can be reached from a block
 abbrev pub ArePlain : Program → Codes → Type 0
@@ -23,3 +26,4 @@ IsPlain p l c = ArePlain p (Then l c End)
 abbrev pub IsPlainWork : Program → Work → Type 0
 IsPlainWork p (Block b) = ArePlain p b
 IsPlainWork p (Turn l t b) = ArePlain p b
+IsPlainWork p (Pieces l s n k q i b) = ArePlain p b

@@ -65,6 +65,7 @@ pub fn is_plain(calm: &[bool], kind: &StmtKind) -> bool
         StmtKind::If { body, other, .. } => are_plain(calm, body) && are_plain(calm, other),
         StmtKind::While { body, .. } => are_plain(calm, body),
         StmtKind::Split { body, .. } => are_plain(calm, body),
+        StmtKind::Parts { body, .. } => are_plain(calm, body),
         StmtKind::Call { procedure, .. } => match calm.get(procedure.number) {
             Some(is_calm) => *is_calm,
             None => true,

@@ -158,7 +158,7 @@ fn emit_turn<W: Write>(out: &mut W, turn: ChildNumber) -> Result<(), EmitError>
     emit_label(out, turn.get())
 }
 
-/// Writes `F1` to `F5`, or `F6` with its number.
+/// Writes the code of a fault, `F1` to `F7`, and the number of `F6`.
 fn emit_kind<W: Write>(out: &mut W, kind: &FaultKind) -> Result<(), EmitError>
     ensures { Writes (W.contents out.old) (W.contents out.new) result (kind_text kind.now) }
 {
@@ -172,6 +172,7 @@ fn emit_kind<W: Write>(out: &mut W, kind: &FaultKind) -> Result<(), EmitError>
             append(out, b"F6 ")?;
             emit_number(out, number)
         }
+        FaultKind::PieceSize => append(out, b"F7"),
     }
 }
 

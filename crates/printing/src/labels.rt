@@ -64,6 +64,7 @@ fn in_statement(kind: &StmtKind) -> u64
             .saturating_add(1),
         StmtKind::While { body, .. } => in_block(body).saturating_add(1),
         StmtKind::Split { body, .. } => in_block(body).saturating_add(1),
+        StmtKind::Parts { body, .. } => in_block(body).saturating_add(1),
         StmtKind::Call { .. } => 1,
         StmtKind::Async { body } => in_block(body).saturating_add(1),
         StmtKind::Finish { body } => in_block(body).saturating_add(1),

@@ -4,7 +4,7 @@ use Rattle.std.proofs.Common.{true≢false}
 use Rattle.std.specs.Prelude.{true, false, filter, slice_get, Some}
 use Rattle.syntax_tree.specs.declared.tree.ElementType.TheVariants.{Int}
 use Rattle.syntax_tree.specs.declared.tree.Relation.TheVariants.{Equal}
-use Rattle.sections.specs.Origins.{Origin, Root, Left, Right, origin_of, IsNumbered}
+use Rattle.sections.specs.Origins.{Origin, Root, Left, Right, Piece, origin_of, IsNumbered}
 use Rattle.sections.specs.Member.{Member, first, next}
 use Rattle.sections.specs.Overlap.{overlap}
 use Rattle.types.specs.declared.code.Operator.TheVariants.{Times}
@@ -18,7 +18,7 @@ use Rattle.effects.specs.Effects.{accesses}
 use Rattle.effects.specs.Rounds.{summaries, pending_summaries}
 use Rattle.types.specs.Sound.{parameter_at, may_write, parameter_of, is_writable, passed_for, StoresWell, SplitsWell}
 use Rattle.types.specs.Sound.{PassesWell, CallsWell, Follows, IsSoundIn, IsSound}
-use Rattle.effects.proofs.EnvironmentsFit.{root_left, root_right, left_right, one_left, one_right}
+use Rattle.effects.proofs.EnvironmentsFit.{root_left, root_right, root_piece, left_right, left_piece, right_piece, one_left, one_right}
 use Rattle.parallel_relation.specs.Meetings.{met_in}
 use Rattle.parallel_relation.proofs.Programs.{unfinished, two_splits, split_in_loop, spawner, call_then_store}
 use Rattle.parallel_relation.proofs.Programs.{readers_and_writer, copying}
@@ -79,7 +79,13 @@ doubling_clashes = refl
 -- The doubling program is sound
 
 numbered_sides : IsNumbered twice.sections
-numbered_sides = record { left = left_later; right = right_later; right_behind = right_behind; left_before = left_before }
+numbered_sides = record {
+  left = left_later;
+  right = right_later;
+  piece = no_piece;
+  right_behind = right_behind;
+  left_before = left_before;
+}
   where
     left_later : (a s : ℕ) → origin_of twice.sections a ≡ Left s → s < a
     left_later zero s e = root_left refl e
@@ -92,6 +98,12 @@ numbered_sides = record { left = left_later; right = right_later; right_behind =
     right_later (suc zero) s e = left_right refl e
     right_later (suc (suc zero)) s e = let h : 0 ≡ s = one_right refl e in omega arith
     right_later (suc (suc (suc n))) s e = root_right refl e
+
+    no_piece : (a s : ℕ) → origin_of twice.sections a ≡ Piece s → s < a
+    no_piece zero s e = root_piece refl e
+    no_piece (suc zero) s e = left_piece refl e
+    no_piece (suc (suc zero)) s e = right_piece refl e
+    no_piece (suc (suc (suc n))) s e = root_piece refl e
 
     right_behind : (a s : ℕ) → origin_of twice.sections a ≡ Left s → origin_of twice.sections (a + 1) ≡ Right s
     right_behind zero s e = root_left refl e
@@ -202,6 +214,7 @@ missing_sound p = record {
   scalars = omega arith;
   numbered = numbered_roots [] (λ a. refl);
   body = tt;
+  text = tt;
 }
 
 doubling_procedures : (n f : ℕ) → IsSoundIn (doubling n) (procedure_of (doubling n) f)
@@ -210,13 +223,20 @@ doubling_procedures n zero = record {
   scalars = omega arith;
   numbered = numbered_sides;
   body = twice_body n;
+  text = (((((tt, tt), tt), tt), (((tt, tt), (tt, tt)), tt)), tt);
 }
 doubling_procedures n (suc f) = missing_sound (doubling n)
 
 pub doubling_sound : (n : ℕ) → IsSound (doubling n)
 doubling_sound n = record {
   procedures = doubling_procedures n;
-  main = record { first = first_root []; scalars = omega arith; numbered = numbered_roots (Root ∷ []) one_root; body = main_body n };
+  main = record {
+    first = first_root [];
+    scalars = omega arith;
+    numbered = numbered_roots (Root ∷ []) one_root;
+    body = main_body n;
+    text = ((tt, tt), tt);
+  };
   arrays = refl;
   no_scalars = refl;
   labels = refl;
@@ -247,6 +267,7 @@ two_arrays_sound = record {
     scalars = omega arith;
     numbered = numbered_roots (Root ∷ Root ∷ []) two_roots;
     body = two_arrays_body;
+    text = (((tt, tt), (tt, tt)), (tt, tt));
   };
   arrays = refl;
   no_scalars = refl;
@@ -284,7 +305,13 @@ racy = program_of (ints 97 1 ∷ []) 0 (Root ∷ [])
 racy_sound : IsSound racy
 racy_sound = record {
   procedures = λ f. missing_sound racy;
-  main = record { first = first_one; scalars = omega arith; numbered = numbered_roots (Root ∷ []) one_root; body = body };
+  main = record {
+    first = first_one;
+    scalars = omega arith;
+    numbered = numbered_roots (Root ∷ []) one_root;
+    body = body;
+    text = (((tt, tt), (tt, tt)), tt);
+  };
   arrays = refl;
   no_scalars = refl;
   labels = refl;

@@ -1,17 +1,19 @@
 -- What is found of statements is combined from what is found of their parts.
 use Rattle.std.proofs.Common.{◌≡◌, ◌⊎◌, inl, inr, ℕ, zero, suc, ◌<◌, ◌≤◌, List, [], ◌∷◌, ◌++◌, map, length, drop, refl}
 use Rattle.std.proofs.Common.{sym, ap, ◌∙◌, subst, arith, Result, IfOk, All as AllOfList}
-use Rattle.std.specs.Prelude.{Option, None, slice_index_or, ◌-◌}
-use Rattle.sections.proofs.Numbered.{left_is_there, right_is_there}
+use Rattle.std.specs.Prelude.{Option, None, slice_index_or, ◌-◌, Bool, true, false, not, nat_eq, ◌&&◌, if◌then◌else◌}
+use Rattle.sections.proofs.Numbered.{left_is_there, right_is_there, piece_is_there}
+use Rattle.race_checker.proofs.Calming.{and_false_left, and_false_right}
+use Rattle.std.specs.List.{filter}
 use Rattle.rayon.proofs.ListFacts.{IfOk-then}
 use Rattle.sections.specs.Member.{Member, first, next}
 use Rattle.sections.specs.Origins.{Origin}
 use Rattle.types.specs.declared.code.Stmt.{Stmt}
-use Rattle.types.specs.Code.{Number, Truth, Code, Do, If, While, Split, Call, Async, Finish, Codes, End, Then}
+use Rattle.types.specs.Code.{Number, Truth, Code, Do, If, While, Split, Parts, Begun, Call, Async, Finish, Codes, End, Then}
 use Rattle.types.specs.Code.{Primitive, Procedure, Program}
 use Rattle.types.specs.Translation.{code, codes}
 use Rattle.effects.specs.Accesses.{Access, own_accesses}
-use Rattle.effects.specs.Effects.{accesses, past_split, renamed, AllOf, All, PendingOf, Pending}
+use Rattle.effects.specs.Effects.{accesses, past_parts, past_split, renamed, AllOf, All, PendingOf, Pending}
 use Rattle.effects.specs.Firsts.{AreFirsts, kept_in}
 use Rattle.effects.specs.Rows.{AllInside, LeftBy}
 use Rattle.types.specs.Run.{procedure_of}
@@ -25,14 +27,18 @@ use Rattle.effects.proofs.FirstLabels.{firsts_of_none, firsts_same, firsts_of_fi
 use Rattle.effects.proofs.OwnAllowed.{own_allowed}
 use Rattle.effects.proofs.Statements.{codes_before}
 use Rattle.effects.proofs.LeastRows.{all_rows, pending_rows, all_lists, pending_lists}
-use Rattle.parallel_relation.specs.Together.{Block, Together}
-use Rattle.race_checker.specs.Found.{Stands, StandsOf, TogetherInside, TogetherInTurn, IsFoundIn, IsFoundInside}
-use Rattle.race_checker.specs.Found.{IsFoundOf, crossing, IsBoth, IsInFront, IsRenamed, IsWithOwn, IsInTurn}
+use Rattle.parallel_relation.specs.Together.{Block, OfTurns, Together}
+use Rattle.race_checker.specs.Found.{Stands, StandsOf, TogetherInside, TogetherInTurn, IsFound, IsFoundIn, IsFoundInside}
+use Rattle.race_checker.specs.Found.{IsFoundOf, crossing, IsBoth, IsInFront, IsRenamed, IsWithOwn, IsInTurn, IsInTurns, in_piece, elsewhere}
 use Rattle.race_checker.specs.Races.{Race, Clashes, LeastOf}
 use Rattle.race_checker.specs.Search.{each_with, lesser_of}
 use Rattle.race_checker.specs.Translation.{found as race_found}
 use Rattle.race_checker.specs.declared.found.Found.{Found}
 use Rattle.race_checker.proofs.LeastRaces.{least_same, least_of_both, least_among, least_of_firsts}
+
+from_not : (b : Bool) → not b ≡ true → b ≡ false
+from_not true e = cc
+from_not false e = refl
 
 -- Sections in range
 
@@ -107,6 +113,25 @@ module _ (p : Program) (origins : List Origin) where
     pub stands_finish : (b : Codes) → k ≡ Finish b → Stands p origins b
     stands_finish b e = let s = at_kind (Finish b) e in record { around = s.around; follows = s.follows }
 
+    pub stands_parts : (s : ℕ) (e : Number) (q i : ℕ) (b : Codes) → k ≡ Parts s e q i b → Stands p origins b
+    stands_parts s e q i b is = record {
+      around = record {
+        procedure = g.around.procedure;
+        scope = q ∷ g.around.scope;
+        same = g.around.same;
+        numbered = g.around.numbered;
+        below = below;
+      };
+      follows = g.follows.2;
+    }
+      where
+        g : StandsOf p origins l (Parts s e q i b)
+        g = at_kind (Parts s e q i b) is
+
+        below : (z : ℕ) → Member z (q ∷ g.around.scope) → z < length origins
+        below z first = subst (λ n. q < n) (ap length g.around.same) (piece_is_there g.around.procedure.sections q s g.follows.0.piece)
+        below z (next m) = g.around.below z m
+
     pub stands_split : (s : ℕ) (e : Number) (x y : ℕ) (b : Codes) → k ≡ Split s e x y b → Stands p origins b
     stands_split s e x y b is = record {
       around = record {
@@ -129,6 +154,40 @@ module _ (p : Program) (origins : List Origin) where
         below z first = subst (λ n. x < n) long (left_is_there g.around.procedure.sections x s g.follows.0.left)
         below z (next first) = subst (λ n. y < n) long (right_is_there g.around.procedure.sections y s g.follows.0.right)
         below z (next (next m)) = g.around.below z m
+
+-- The first accesses to some sections
+
+module _ (test : Access → Bool) where
+  in_filter : {x : Access} {xs : List Access} → Member x xs → test x ≡ true → Member x (filter test xs)
+  in_filter {x} (first {xs = xs}) e = subst (λ b. Member x (if b then x ∷ filter test xs else filter test xs)) (sym e) first
+  in_filter {x} (next {y = y} {xs = xs} m) e = by (test y) (in_filter m e)
+    where
+      by : (b : Bool) → Member x (filter test xs) → Member x (if b then y ∷ filter test xs else filter test xs)
+      by true k = next k
+      by false k = k
+
+  from_filter : {x : Access} (xs : List Access) → Member x (filter test xs) → Member x xs × (test x ≡ true)
+  from_filter [] m = elim m [ ]
+  from_filter {x} (y ∷ xs) m = by (test y) refl x (λ k. from_filter xs k) m
+    where
+      by : (b : Bool) → test y ≡ b → (z : Access) → (Member z (filter test xs) → Member z xs × (test z ≡ true))
+          → Member z (if b then y ∷ filter test xs else filter test xs) → Member z (y ∷ xs) × (test z ≡ true)
+      by true e z back first = (first, e)
+      by true e z back (next k) = let r = back k in (next r.0, r.1)
+      by false e z back k = let r = back k in (next r.0, r.1)
+
+  firsts_filtered : ((x y : Access) → x.section ≡ y.section → test x ≡ test y) → (those : Access → Type 0) (xs : List Access)
+      → AreFirsts those xs → AreFirsts (λ x. those x × (test x ≡ true)) (filter test xs)
+  firsts_filtered same those xs h = record {
+    among = λ x m. (let r = from_filter xs m in (h.among x r.0, r.1));
+    first = λ x k. (let e = h.first x k.0 in record {
+      item = e.item;
+      stands = in_filter e.stands (same e.item x e.section ∙ k.1);
+      section = e.section;
+      write = e.write;
+      label = e.label;
+    });
+  }
 
 -- Pairs
 
@@ -190,6 +249,8 @@ module _ (p : Program) where
   in_turn_out l (If t c d) b x y h = absurd h
   in_turn_out l (While t c) b x y h = Together.turns h.0 h.1
   in_turn_out l (Split s e a z c) b x y h = absurd h
+  in_turn_out l (Parts s e q i c) b x y h = Together.pieces h
+  in_turn_out l (Begun s n k q i c) b x y h = absurd h
   in_turn_out l (Call g es ss) b x y h = absurd h
   in_turn_out l (Async c) b x y h = absurd h
   in_turn_out l (Finish c) b x y h = absurd h
@@ -199,6 +260,8 @@ module _ (p : Program) where
   inside_out l (If t c d) b x y h = elim h [ inl k ↦ Together.inside Block.if_body k | inr k ↦ Together.inside Block.if_other k ]
   inside_out l (While t c) b x y h = Together.inside Block.while h
   inside_out l (Split s e a z c) b x y h = Together.inside Block.split h
+  inside_out l (Parts s e q i c) b x y h = Together.inside Block.parts h
+  inside_out l (Begun s n k q i c) b x y h = absurd h
   inside_out l (Call g es ss) b x y h = absurd h
   inside_out l (Async c) b x y h = Together.inside Block.async h
   inside_out l (Finish c) b x y h = Together.inside Block.finish h
@@ -208,6 +271,7 @@ module _ (p : Program) where
   inside_in s c x y Block.if_other h = inr h
   inside_in s c x y Block.while h = h
   inside_in s c x y Block.split h = h
+  inside_in s c x y Block.parts h = h
   inside_in s c x y Block.async h = h
   inside_in s c x y Block.finish h = h
 
@@ -226,6 +290,7 @@ module _ (p : Program) where
   pub fronted_in : (l : ℕ) (s : Code) (b : Codes) (x y : Access) → Together p accesses (Then l s b) x y → Fronted l s b x y
   fronted_in l s b x y (Together.follows h k) = inl (h, k)
   fronted_in l s b x y (Together.turns h k) = inr (inl (inl (h, k)))
+  fronted_in l s b x y (Together.pieces h) = inr (inl (inl h))
   fronted_in l s b x y (Together.inside k h) = inr (inl (inr (inside_in s _ x y k h)))
   fronted_in l s b x y (Together.later h) = inr (inr h)
 
@@ -310,6 +375,86 @@ module _ (p : Program) where
           (firsts_renamed p (past_split s l r) (Pending p accesses b) (kept_in inside.pending) h.pending_firsts) k.pending_renamed;
       least_race = subst (LeastOf (Clashes origins f (Together p accesses b))) (sym k.race_stays) h.least_race;
     }
+
+    -- the pairs of two turns: both accesses aren't to the piece
+    turns_out : (l q : ℕ) (b : Codes) (x y : Access)
+        → ((Pending p accesses b x × (nat_eq x.section q ≡ true)) × (All p accesses b y × (not (nat_eq y.section q) ≡ true)))
+        ⊎ ((Pending p accesses b x × (not (nat_eq x.section q) ≡ true)) × All p accesses b y) → OfTurns p accesses l q b x y
+    turns_out l q b x y (inl h) = record {
+      pending = h.0.0;
+      later = inr h.1.0;
+      meet = and_false_right (nat_eq x.section q) (nat_eq y.section q) (from_not (nat_eq y.section q) h.1.1);
+    }
+    turns_out l q b x y (inr h) = record {
+      pending = h.0.0;
+      later = inr h.1;
+      meet = and_false_left (nat_eq x.section q) (nat_eq y.section q) (from_not (nat_eq x.section q) h.0.1);
+    }
+
+    turns_in : (l q : ℕ) (b : Codes) (x y : Access) → OfTurns p accesses l q b x y
+        → ((Pending p accesses b x × (nat_eq x.section q ≡ true)) × (All p accesses b y × (not (nat_eq y.section q) ≡ true)))
+        ⊎ ((Pending p accesses b x × (not (nat_eq x.section q) ≡ true)) × All p accesses b y)
+    turns_in l q b x y h = by (nat_eq x.section q) refl
+      where
+        done : All p accesses b y
+        done = elim h.later [ inl m ↦ elim m [ ] | inr a ↦ a ]
+
+        by : (c : Bool) → nat_eq x.section q ≡ c
+            → ((Pending p accesses b x × (nat_eq x.section q ≡ true)) × (All p accesses b y × (not (nat_eq y.section q) ≡ true)))
+            ⊎ ((Pending p accesses b x × (not (nat_eq x.section q) ≡ true)) × All p accesses b y)
+        by true e = inl ((h.pending, e), (done, ap not (ap (λ c. c && nat_eq y.section q) (sym e) ∙ h.meet)))
+        by false e = inr ((h.pending, ap not e), done)
+
+    -- the result for a turn of a `parts`, in the names of its block
+    pub found_in_turns : (l q : ℕ) (b : Codes) (once turns : Found) → IsFoundIn p origins f b once → IsInTurns origins f q once turns
+        → IsFound origins f (All p accesses b) (Pending p accesses b)
+        (λ x y. OfTurns p accesses l q b x y ⊎ Together p accesses b x y) turns
+    found_in_turns l q b once turns h e = record {
+      all_firsts = subst (AreFirsts (All p accesses b)) (sym e.all_stays) h.all_firsts;
+      pending_firsts = subst (AreFirsts (Pending p accesses b)) (sym e.pending_stays) h.pending_firsts;
+      least_race = subst (LeastOf (Clashes origins f (λ x y. OfTurns p accesses l q b x y ⊎ Together p accesses b x y))) (sym e.race_in_turns)
+          (least_pairs origins f (OfTurns p accesses l q b) (Together p accesses b) _ (race_found once.race)
+          (least_map origins f _ (OfTurns p accesses l q b) _ (turns_out l q b) (turns_in l q b)
+          (least_pairs origins f _ _ _ _
+          (crossing_least origins f _ _ (in_piece q (kept_in once.pending)) (elsewhere q (kept_in once.all))
+          (firsts_filtered (λ x. nat_eq x.section q) (λ x y e. ap (λ s. nat_eq s q) e) (Pending p accesses b) (kept_in once.pending) h.pending_firsts)
+          (firsts_filtered (λ x. not (nat_eq x.section q)) (λ x y e. ap (λ s. not (nat_eq s q)) e) (All p accesses b) (kept_in once.all) h.all_firsts))
+          (crossing_least origins f _ _ (elsewhere q (kept_in once.pending)) (kept_in once.all)
+          (firsts_filtered (λ x. not (nat_eq x.section q)) (λ x y e. ap (λ s. not (nat_eq s q)) e) (Pending p accesses b) (kept_in once.pending) h.pending_firsts)
+          h.all_firsts)))
+          h.least_race);
+    }
+
+    -- a `parts`, from the result for a turn, in the names around it
+    module _ (l s : ℕ) (e : Number) (q i : ℕ) (b : Codes) (turns outside whole : Found)
+        (h : IsFound origins f (All p accesses b) (Pending p accesses b) (λ x y. OfTurns p accesses l q b x y ⊎ Together p accesses b x y) turns)
+        (k : IsRenamed (past_parts s q) turns outside) (o : IsWithOwn (own_accesses l (Parts s e q i b)) outside whole) where
+      inside_all : AreFirsts (AllInside p accesses (Parts s e q i b)) (kept_in outside.all)
+      inside_all = firsts_of_firsts _ (map (renamed (past_parts s q)) (kept_in turns.all)) (kept_in outside.all)
+          (firsts_renamed p (past_parts s q) (All p accesses b) (kept_in turns.all) h.all_firsts) k.all_renamed
+
+      inside_pending : AreFirsts (LeftBy p accesses (Parts s e q i b)) (kept_in outside.pending)
+      inside_pending = firsts_of_firsts _ (map (renamed (past_parts s q)) (kept_in turns.pending)) (kept_in outside.pending)
+          (firsts_renamed p (past_parts s q) (Pending p accesses b) (kept_in turns.pending) h.pending_firsts) k.pending_renamed
+
+      pub found_parts : IsFoundOf p origins f l (Parts s e q i b) whole
+      found_parts = record {
+        all_firsts =
+            firsts_same (λ x. Member x (own_accesses l (Parts s e q i b)) ⊎ AllInside p accesses (Parts s e q i b) x)
+            (AllOf p accesses l (Parts s e q i b)) (kept_in whole.all)
+            (λ x. (all_rows p accesses l (Parts s e q i b) x).1) (λ x. (all_rows p accesses l (Parts s e q i b) x).0)
+            (firsts_of_firsts _ (own_accesses l (Parts s e q i b) ++ kept_in outside.all) (kept_in whole.all)
+            (firsts_both (λ x. Member x (own_accesses l (Parts s e q i b))) (AllInside p accesses (Parts s e q i b))
+            (own_accesses l (Parts s e q i b)) (kept_in outside.all)
+            (record { among = λ x m. m; first = λ x m. as_early_itself x (own_accesses l (Parts s e q i b)) m }) inside_all) o.all_with_own);
+        pending_firsts =
+            firsts_same (LeftBy p accesses (Parts s e q i b)) (PendingOf p accesses (Parts s e q i b)) (kept_in whole.pending)
+            (λ x. (pending_rows p accesses (Parts s e q i b) x).1) (λ x. (pending_rows p accesses (Parts s e q i b) x).0)
+            (subst (AreFirsts (LeftBy p accesses (Parts s e q i b))) (sym o.pending_is_kept) inside_pending);
+        least_race =
+            subst (LeastOf (Clashes origins f (λ x y. OfTurns p accesses l q b x y ⊎ Together p accesses b x y)))
+            (sym (o.race_is_kept ∙ k.race_stays)) h.least_race;
+      }
 
     pub found_inside_async : (b : Codes) (inside outside : Found) → IsFoundIn p origins f b inside → outside.all ≡ inside.all
         → kept_in outside.pending ≡ kept_in inside.all → outside.race ≡ inside.race → IsFoundInside p origins f (Async b) outside

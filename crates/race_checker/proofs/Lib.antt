@@ -6,7 +6,9 @@ pub mod Examples
 pub mod Finding
 pub mod Judging
 pub mod LeastRaces
+pub mod PartsExamples
 pub mod Pieces
+pub mod PieceLists
 pub mod RaceOrder
 pub mod Scoping
 pub mod ToldExamples

@@ -7,7 +7,7 @@ use Rattle.shared_lemmas.proofs.Truths.{false_true}
 use Rattle.sections.specs.Origins.{Root, origin_of}
 use Rattle.sections.specs.Member.{Member, first, next}
 use Rattle.sections.specs.Placed.{Placed}
-use Rattle.types.specs.Code.{Code, Do, If, While, Split, Call, Async, Finish, Codes, End, Then, Array, Parameter}
+use Rattle.types.specs.Code.{Code, Do, If, While, Split, Parts, Begun, Call, Async, Finish, Codes, End, Then, Array, Parameter}
 use Rattle.types.specs.Code.{Procedure, Program}
 use Rattle.types.specs.Value.{Environment}
 use Rattle.types.specs.Run.{procedure_of}
@@ -17,10 +17,10 @@ use Rattle.effects.specs.Sound.{HasArrays, IsSound}
 use Rattle.effects.specs.Fits.{names_in}
 use Rattle.effects.proofs.Members.{numbers_from-member, numbers_from-below}
 use Rattle.effects.proofs.AccessesInScope.{origin_from_get}
-use Rattle.effects.proofs.EnvironmentsFit.{root_left, root_right, placed_inside}
+use Rattle.effects.proofs.EnvironmentsFit.{root_left, root_right, root_piece, placed_inside, placed_in_turn}
 use Rattle.effects.proofs.OwnAllowed.{own_allowed}
 use Rattle.race_checker.specs.Scope.{Scope, Top, InScope, FitsScope, may_writes, arrays_of, Scoped, ScopedOf}
-use Rattle.race_checker.specs.Scope.{IsScoped, Lists, top, inside}
+use Rattle.race_checker.specs.Scope.{IsScoped, Lists, top, inside, at_piece}
 
 pub length_may_writes : (g : Procedure) → length (may_writes g) ≡ length g.parameters
 length_may_writes g = each g.parameters
@@ -44,12 +44,16 @@ module _ (p : Program) (g : Procedure) where
   named (inside {scope = scope} {l = l} {r = r} k deeper) s (inl e) = subst (λ s. Member s (l ∷ r ∷ scope)) (sym e) first
   named (inside {scope = scope} {l = l} {r = r} k deeper) s (inr (inl e)) = subst (λ s. Member s (l ∷ r ∷ scope)) (sym e) (next first)
   named (inside k deeper) s (inr (inr h)) = next (next (named deeper s h))
+  named (at_piece {scope = scope} {q = q} k deeper) s (inl e) = subst (λ s. Member s (q ∷ scope)) (sym e) first
+  named (at_piece k deeper) s (inr h) = next (named deeper s h)
 
   pub in_scope : {sc : Scope} {scope : List ℕ} → Lists g sc scope → (s : ℕ) → Member s scope → InScope sc s
   in_scope top s m = subst (λ n. s < n) (sym (length_may_writes g)) (numbers_from-below (length g.parameters) s m)
   in_scope (inside k deeper) s first = inl refl
   in_scope (inside k deeper) s (next first) = inr (inl refl)
   in_scope (inside k deeper) s (next (next m)) = inr (inr (in_scope deeper s m))
+  in_scope (at_piece k deeper) s first = inl refl
+  in_scope (at_piece k deeper) s (next m) = inr (in_scope deeper s m)
 
   -- ---- what may be written
   pub bits : (xs : List Parameter) (k : ℕ)
@@ -70,9 +74,12 @@ module _ (p : Program) (g : Procedure) where
       apart = λ r s ne m n e f w. fits r s (bits g.parameters r ∙ w) (in_scope top s n) ne;
       left = λ s l m e. root_left (is_root l m) e;
       right = λ s r m e. root_right (is_root r m) e;
+      piece = λ s x m e. root_piece (is_root x m) e;
     }
     fits_placed (inside {s = t} {l = a} {r = b} k deeper) env fits =
         placed_inside g _ env t a b k fits.2.0 fits.2.1 (fits_placed deeper env fits.0)
+    fits_placed (at_piece {s = t} {q = q} {i = i} k deeper) env fits =
+        placed_in_turn g _ env t q i k fits.2.0 fits.2.1 fits.2.2 (fits_placed deeper env fits.0)
 
     -- ---- names in scope
     mutual
@@ -86,6 +93,16 @@ module _ (p : Program) (g : Procedure) where
         (λ h. let lt : y < x = k.0.later y (named ls y h) in let n : y ≡ x + 1 = k.0.next in omega (arith, lt, n)),
         (λ e. let n : y ≡ x + 1 = k.0.next in omega (arith, e, n)),
         scoped (inside k.0 ls) b k.2,
+      )
+      scoped_of ls (Parts s e q i b) k = (
+        in_scope ls s k.0.in_scope,
+        (λ h. let lt : q < q = k.0.later q (named ls q h) in omega (arith, lt)),
+        scoped (at_piece k.0 ls) b k.2,
+      )
+      scoped_of ls (Begun s n j q i b) k = (
+        in_scope ls s k.0.in_scope,
+        (λ h. let lt : q < q = k.0.later q (named ls q h) in omega (arith, lt)),
+        scoped (at_piece k.0 ls) b k.1,
       )
       scoped_of ls (Call f es ss) k =
           λ j lt. in_scope ls (passed_for ss j)
@@ -114,4 +131,6 @@ is_scoped p sound = record {
   main = subst (λ ms. Scoped p (Top ms) p.main.body) (arrays_written p sound.arrays)
       (scoped p p.main sound.main.first top p.main.body sound.main.body);
   procedures = λ f. let g = sound.procedures f in scoped p (procedure_of p f) g.first top (procedure_of p f).body g.body;
+  main_text = sound.main.text;
+  procedure_texts = λ f. (sound.procedures f).text;
 }

@@ -13,17 +13,17 @@ use Rattle.parallel_relation.proofs.Programs.{unfinished, two_splits, split_in_l
 use Rattle.race_checker.specs.Races.{Race, numbered}
 use Rattle.race_checker.specs.Search.{tell, lesser_of}
 
-abbrev reads : ℕ → ℕ → Access
+abbrev pub reads : ℕ → ℕ → Access
 reads l s = record { label = l; section = s; write = false }
 
-abbrev writes : ℕ → ℕ → Access
+abbrev pub writes : ℕ → ℕ → Access
 writes l s = record { label = l; section = s; write = true }
 
-abbrev race : ℕ → Access → Access → Option Race
+abbrev pub race : ℕ → Access → Access → Option Race
 race f x y = Some (record { procedure = f; first = x; second = y })
 
 -- the least clash of a procedure
-abbrev told_in : Program → (f : ℕ) → Option Race
+abbrev pub told_in : Program → (f : ℕ) → Option Race
 told_in p f =
     fold (tell (numbered p f).sections f) None (met_in accesses (summaries p) (pending_summaries p) (numbered p f).body)
 

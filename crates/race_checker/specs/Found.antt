@@ -1,15 +1,16 @@
 -- What is found of statements: what they do and leave pending, by first labels, and their least
 -- race.
-use Rattle.std.specs.Prelude.{ℕ, ◌≡◌, ◌<◌, ◌⊎◌, ◌++◌, List, map, length, fold, Option, None}
+use Rattle.std.specs.Prelude.{ℕ, ◌≡◌, ◌<◌, ◌⊎◌, ◌++◌, List, map, length, fold, nat_eq, not, Option, None}
+use Rattle.std.specs.List.{filter}
 use Rattle.sections.specs.Member.{Member}
 use Rattle.sections.specs.Origins.{Origin, IsNumbered}
-use Rattle.types.specs.Code.{Code, Do, If, While, Split, Call, Async, Finish, Codes, Procedure, Program}
+use Rattle.types.specs.Code.{Code, Do, If, While, Split, Parts, Begun, Call, Async, Finish, Codes, Procedure, Program}
 use Rattle.effects.specs.Accesses.{Access}
 use Rattle.effects.specs.Effects.{accesses, renamed, AllOf, All, PendingOf, Pending}
 use Rattle.effects.specs.Firsts.{AreFirsts, AreFirstsIn, kept_in}
 use Rattle.effects.specs.Rows.{AllInside, LeftBy}
 use Rattle.effects.specs.Sound.{Follows, FollowsOf}
-use Rattle.parallel_relation.specs.Together.{Together}
+use Rattle.parallel_relation.specs.Together.{OfTurns, Together}
 use Rattle.race_checker.specs.Races.{Race, Clashes, LeastOf}
 use Rattle.race_checker.specs.Search.{tell, each_with, lesser_of}
 use Rattle.race_checker.specs.Translation.{found as race_found}
@@ -43,20 +44,23 @@ module _ (origins : List Origin) (f : ℕ) where
     pub least_race : LeastOf (Clashes origins f pairs) (race_found found.race)
 
 module _ (p : Program) where
-  -- the pairs inside a statement, without those of a loop with itself
+  -- the pairs inside a statement, without those of a loop, or of a `parts`, with itself
   abbrev pub TogetherInside : Code → (x y : Access) → Type 0
   TogetherInside (Do s) x y = ⊥
   TogetherInside (If t b c) x y = Together p accesses b x y ⊎ Together p accesses c x y
   TogetherInside (While t b) x y = Together p accesses b x y
   TogetherInside (Split s e l r b) x y = Together p accesses b x y
+  TogetherInside (Parts s e q i b) x y = Together p accesses b x y
+  TogetherInside (Begun s n k q i b) x y = ⊥
   TogetherInside (Call f es ss) x y = ⊥
   TogetherInside (Async b) x y = Together p accesses b x y
   TogetherInside (Finish b) x y = Together p accesses b x y
 
-  -- the pairs of a loop with itself
+  -- the pairs of a loop, or of a `parts`, with itself
   abbrev pub TogetherInTurn : (label : ℕ) → Code → (x y : Access) → Type 0
   TogetherInTurn l (While t b) x y =
       PendingOf p accesses (While t b) x × AllOf p accesses l (While t b) y
+  TogetherInTurn l (Parts s e q i b) x y = OfTurns p accesses l q b x y
   TogetherInTurn l _ x y = ⊥
 
   module _ (origins : List Origin) (f : ℕ) where
@@ -116,4 +120,21 @@ pub record IsInTurn (origins : List Origin) (f : ℕ) (once loop : Found) : Type
   pub pending_stays : kept_in loop.pending ≡ kept_in once.pending
   pub race_in_turn : race_found loop.race
       ≡ lesser_of (crossing origins f (kept_in once.pending) (kept_in once.all))
+      (race_found once.race)
+
+-- the accesses to the piece of a `parts`, and the others
+abbrev pub in_piece : (piece : ℕ) → List Access → List Access
+in_piece q = filter (λ x. nat_eq x.section q)
+
+abbrev pub elsewhere : (piece : ℕ) → List Access → List Access
+elsewhere q = filter (λ x. not (nat_eq x.section q))
+
+-- the result for a turn of a `parts`, after which later turns come; two pieces are apart
+pub record IsInTurns (origins : List Origin) (f piece : ℕ) (once turns : Found) : Type 0 where
+  pub all_stays : kept_in turns.all ≡ kept_in once.all
+  pub pending_stays : kept_in turns.pending ≡ kept_in once.pending
+  pub race_in_turns : race_found turns.race
+      ≡ lesser_of (lesser_of
+      (crossing origins f (in_piece piece (kept_in once.pending)) (elsewhere piece (kept_in once.all)))
+      (crossing origins f (elsewhere piece (kept_in once.pending)) (kept_in once.all)))
       (race_found once.race)

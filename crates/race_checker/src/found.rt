@@ -1,11 +1,13 @@
 //! What the walk finds of statements.
 
-ghost use Rattle.std.specs.Prelude.{◌≡◌, ◌<◌, [], All, IfOk, None, length, map};
+ghost use Rattle.std.specs.Prelude.{◌≡◌, ◌<◌, [], All, IfOk, None, length, map, nat_eq, not};
+ghost use Rattle.std.specs.List.{filter};
 ghost use Rattle.sections.specs.Tree.{origins_of};
-ghost use Rattle.effects.specs.Effects.{past_split};
+ghost use Rattle.effects.specs.Effects.{past_parts, past_split};
 ghost use Rattle.effects.specs.Firsts.{kept_in};
 ghost use Rattle.effects.specs.Translation.{access as access_of};
 ghost use Rattle.race_checker.specs.Found.{IsBoth, IsInFront, IsRenamed, IsWithOwn, IsInTurn};
+ghost use Rattle.race_checker.specs.Found.{IsInTurns};
 ghost use Rattle.race_checker.specs.Translation.{found as race_found};
 
 use crate::race::{Race, lesser};
@@ -92,6 +94,31 @@ impl Found {
         self
     }
 
+    /// Makes a turn of a `parts` of these statements: what one turn leaves pending meets all of a
+    /// later turn, except that the pieces of two turns are apart.
+    pub fn in_turns(
+        mut self,
+        alloc: Global,
+        sections: &SectionTree,
+        procedure: ProcedureId,
+        piece: SectionId,
+    ) -> Result<Found, AllocError>
+        requires pending { All (λ x. x.section.number < length (origins_of sections.now))
+            self.pending.items.items }
+        requires all { All (λ x. x.section.number < length (origins_of sections.now))
+            self.all.items.items }
+        ensures { IfOk result
+            (IsInTurns (origins_of sections.now) procedure.number piece.number self) }
+    {
+        let own = to_piece(alloc, self.pending.items(), piece)?;
+        let later = beside_piece(alloc, self.all.items(), piece)?;
+        let of_piece = least_clash(sections, procedure, &own, &later);
+        let others = beside_piece(alloc, self.pending.items(), piece)?;
+        let of_others = least_clash(sections, procedure, &others, self.all.items());
+        self.race = lesser(lesser(of_piece, of_others), self.race);
+        Ok(self)
+    }
+
     /// Makes a split of these statements, in the names around it.
     pub fn past_split(
         self,
@@ -108,6 +135,18 @@ impl Found {
             pending: self.pending.past_split(alloc, section, left, right)?,
             race: self.race,
         })
+    }
+
+    /// Makes a `parts` of these statements, in the names around it.
+    pub fn past_parts(
+        self,
+        alloc: Global,
+        section: SectionId,
+        piece: SectionId,
+    ) -> Result<Found, AllocError>
+        ensures { IfOk result (IsRenamed (past_parts section.number piece.number) self) }
+    {
+        self.past_split(alloc, section, piece, piece)
     }
 
     /// Makes an async of these statements: everything that they do is left pending.
@@ -129,4 +168,32 @@ impl Found {
         self.pending = Firsts::new(alloc);
         self
     }
+}
+
+/// Returns the accesses to the piece of a `parts`.
+fn to_piece(alloc: Global, accesses: &[Access], piece: SectionId) -> Result<Vec<Access>, AllocError>
+    ensures { IfOk result (λ v. v.items
+        ≡ filter (λ x. nat_eq x.section.number piece.number) accesses.now) }
+{
+    accesses
+        .iter()
+        .filter(|x| x.section.number == piece.number)
+        .copied()
+        .collect(alloc)
+}
+
+/// Returns the accesses to other sections than the piece.
+fn beside_piece(
+    alloc: Global,
+    accesses: &[Access],
+    piece: SectionId,
+) -> Result<Vec<Access>, AllocError>
+    ensures { IfOk result (λ v. v.items
+        ≡ filter (λ x. not (nat_eq x.section.number piece.number)) accesses.now) }
+{
+    accesses
+        .iter()
+        .filter(|x| x.section.number != piece.number)
+        .copied()
+        .collect(alloc)
 }

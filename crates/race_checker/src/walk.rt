@@ -179,6 +179,13 @@ fn found_of<R: Threads + Sync>(
             let outside = found.past_split(alloc, sides.section, sides.left, sides.right)?;
             outside.with_own(&own)
         }
+        StmtKind::Parts { pieces, body } => {
+            let turn = found_in(rt, alloc, code, summaries, procedure, body)?;
+            let sections = &procedure_of(code, procedure).sections;
+            let found = turn.in_turns(alloc, sections, procedure, pieces.piece)?;
+            let outside = found.past_parts(alloc, pieces.section, pieces.piece)?;
+            outside.with_own(&own)
+        }
         StmtKind::Call {
             procedure: callee,
             sections,

@@ -12,18 +12,18 @@ pub struct Declared<'t> {
     pub kind: NameKind,
     /// The number of the first character of the name.
     pub at: usize,
-    /// For a side of a split: the section that is split.
-    pub part_of: Option<SideOrigin<'t>>,
+    /// For a side of a split, or the piece of a `parts`: the section that is cut.
+    pub part_of: Option<PartOrigin<'t>>,
     /// The number of open blocks in which it is in scope.
     level: usize,
 }
 
-/// The origin of a side of a split.
+/// The origin of a side of a split, or of the piece of a `parts`.
 #[derive(Clone, Copy)]
-pub struct SideOrigin<'t> {
-    /// The section that is split.
+pub struct PartOrigin<'t> {
+    /// The section that is cut.
     pub whole: &'t str,
-    /// The number of the first character of its name in the split.
+    /// The number of the first character of its name in that statement.
     pub at: usize,
 }
 
@@ -75,7 +75,8 @@ impl<'t> VisibleNames<'t> {
             Token::Word(Word::Proc) => self.parameters(alloc, behind)?,
             Token::Word(Word::Array) => self.declare(behind, array_kind(behind))?,
             Token::Word(Word::Var) => self.declare(behind, NameKind::Scalar)?,
-            Token::Word(Word::Split) => self.split(behind)?,
+            Token::Word(Word::Split) => self.cut(behind, true)?,
+            Token::Word(Word::Parts) => self.cut(behind, false)?,
             Token::Word(Word::Async) => self.task = Some(first.at),
             Token::Mark(Mark::LeftBrace) => {
                 let task = self.task.take();
@@ -101,9 +102,9 @@ impl<'t> VisibleNames<'t> {
         Ok(())
     }
 
-    /// Declares the sides of a split, with the kind of the section that is split, whose name comes
-    /// first.
-    fn split(&mut self, tokens: &'t [Spanned]) -> Result<(), AllocError> {
+    /// Declares the sides of a split, or the piece and the turn of a `parts`. Sides and pieces have
+    /// the kind of the section that is cut, whose name comes first.
+    fn cut(&mut self, tokens: &'t [Spanned], is_split: bool) -> Result<(), AllocError> {
         let Some((whole, at)) = first_name(tokens) else {
             return Ok(());
         };
@@ -111,36 +112,36 @@ impl<'t> VisibleNames<'t> {
             Some(declared) => declared.kind,
             None => NameKind::Written { bytes: false },
         };
-        let part = SideOrigin { whole, at };
-        let mut is_side = false;
+        let mut next = None;
         let mut left = tokens;
         'tokens: while let [first, behind @ ..] = left {
             match &first.token {
-                Token::Word(Word::As) => is_side = true,
+                Token::Word(Word::As) => next = Some((kind, Some(PartOrigin { whole, at }))),
+                Token::Mark(Mark::Comma) if !is_split => next = Some((NameKind::Scalar, None)),
                 Token::Mark(Mark::LeftBrace) => break,
                 _ => {}
             }
-            if is_side {
-                self.side(left, kind, part)?;
+            if let Some((kind, part_of)) = next {
+                self.declare_inside(left, kind, part_of)?;
             }
             left = behind;
         }
         Ok(())
     }
 
-    /// Declares a side of a split in its block. Its name comes first.
-    fn side(
+    /// Declares the name that comes first, in the block that is opened next.
+    fn declare_inside(
         &mut self,
         tokens: &'t [Spanned],
         kind: NameKind,
-        part: SideOrigin<'t>,
+        part_of: Option<PartOrigin<'t>>,
     ) -> Result<(), AllocError> {
         if let Some((name, at)) = first_name(tokens) {
             self.declared.push(Declared {
                 name,
                 kind,
                 at,
-                part_of: Some(part),
+                part_of,
                 level: self.blocks.len().saturating_add(1),
             })?;
         }
@@ -215,7 +216,7 @@ impl<'t> VisibleNames<'t> {
         false
     }
 
-    /// Returns the section that this one comes from and that is not itself a side of a split.
+    /// Returns the section that this one comes from and that is not itself a side or a piece.
     fn root_of(&self, section: Declared<'t>) -> &'t str {
         let mut root = section;
         for _ in 0..=self.declared.len() {
@@ -227,7 +228,7 @@ impl<'t> VisibleNames<'t> {
         root.name
     }
 
-    /// Returns the section that is split into this one and another.
+    /// Returns the section that this one is a side or a piece of.
     fn whole_of(&self, section: Declared<'t>) -> Option<Declared<'t>> {
         self.find(section.part_of?.whole)
     }

@@ -232,6 +232,7 @@ fn is_no_expression(token: &Token) -> bool {
         Token::Word(word) => match word {
             Word::If | Word::While | Word::Print | Word::Fault => true,
             Word::Var | Word::Split | Word::At | Word::As => true,
+            Word::Parts | Word::By => true,
             _ => false,
         },
         Token::Mark(mark) => *mark == Mark::Comma || *mark == Mark::Becomes,

@@ -234,7 +234,11 @@ impl<'t> Broken<'t> {
         }
         if !is_told {
             self.push_start(told)?;
-            told.push_str("Both sides of the split have the same name.\n")?;
+            told.push_str(if begins_with_word(self.head, Word::Parts) {
+                "The piece and the turn have the same name.\n"
+            } else {
+                "Both sides of the split have the same name.\n"
+            })?;
         }
         told.push_str("help: use another name.\n")
     }
@@ -356,7 +360,7 @@ impl<'t> Broken<'t> {
         if !declared.kind.is_section() {
             told.push_str("expected a section.\n")?;
             return told.push_str(
-                "help: use an array, a side of a split, or a `mut` or `read` parameter.\n",
+                "help: use an array, a side of a split, a piece, or a `mut` or `read` parameter.\n",
             );
         }
         if named.role == Role::Assigned {
@@ -461,7 +465,7 @@ impl<'t> Broken<'t> {
         )?;
         rule_texts::push_parameters(told, &called.parameters)?;
         told.push_str(
-            "help: pass an array, a side of a split or a section parameter with this element type.\n",
+            "help: pass an array, a side of a split, a piece or a section parameter with this element type.\n",
         )
     }
 
@@ -519,7 +523,7 @@ impl<'t> Broken<'t> {
             told.push_str(": it is declared at ")?;
             self.push_place(told, declared)?;
             told.push_str(if declared.part_of.is_some() {
-                ", as a side of a `read` section"
+                ", as a part of a `read` section"
             } else {
                 ", as `read`"
             })?;
@@ -646,6 +650,17 @@ fn push_no_variable(told: &mut String, section: Declared<'_>) -> Result<(), Allo
         told,
         "help: store it in an element, as in `{name}[0] = ..;`, or assign to a variable.\n"
     )
+}
+
+/// Returns whether a head starts with this word.
+fn begins_with_word(head: &[Spanned], word: Word) -> bool {
+    match head.first() {
+        Some(first) => match &first.token {
+            Token::Word(found) => *found == word,
+            _ => false,
+        },
+        None => false,
+    }
 }
 
 /// Returns whether a name with this role must be a section.

@@ -42,6 +42,10 @@ pub enum Cause {
         point: i64,
         length: usize,
     },
+    /// `parts s by 0 as p, i { }`
+    PieceSize {
+        size: i64,
+    },
     /// `fault 3;`
     Raised(i64),
 }
@@ -55,6 +59,7 @@ impl Cause {
             Cause::ZeroDivisor { .. } => FaultKind::ZeroDivisor,
             Cause::OutOfElement { .. } => FaultKind::OutOfElement,
             Cause::SplitPoint { .. } => FaultKind::SplitPoint,
+            Cause::PieceSize { .. } => FaultKind::PieceSize,
             Cause::Raised(number) => FaultKind::Raised(number),
         }
     }

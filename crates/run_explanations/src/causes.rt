@@ -25,7 +25,9 @@ pub fn spot_of<'s>(
 ) -> Result<FaultSpot<'s>, AllocError> {
     match cause {
         Cause::Index { nth, .. } => Ok(named_spot(statements.element(label, nth)?)),
-        Cause::SplitPoint { .. } => Ok(named_spot(statements.cut(label)?)),
+        Cause::SplitPoint { .. } | Cause::PieceSize { .. } => {
+            Ok(named_spot(statements.cut(label)?))
+        }
         Cause::Overflow { nth, .. } | Cause::Negative { nth } | Cause::ZeroDivisor { nth, .. } => {
             Ok(FaultSpot {
                 at: statements.operator(label, nth),
@@ -72,6 +74,10 @@ pub fn push_cause(
         Cause::SplitPoint { point, length } => write!(
             told,
             "Split point {point}, length {length}: `{name}` can be split at 0 to {length}.\n"
+        ),
+        Cause::PieceSize { size } => write!(
+            told,
+            "Size {size}: `{name}` can be cut into pieces of 1 element or more.\n"
         ),
         Cause::Raised(number) => {
             write!(told, "The statement raised this fault with {number}.\n")
@@ -184,6 +190,9 @@ pub fn push_mend(told: &mut String, spot: FaultSpot<'_>, cause: Cause) -> Result
         Cause::SplitPoint { .. } => write!(
             told,
             "split at a number from 0 to the length, such as `len({name}) / 2`.\n"
+        ),
+        Cause::PieceSize { .. } => told.push_str(
+            "test the size first, as in `if n >= 1 { .. }`, or use 1 for a piece per element.\n",
         ),
         Cause::Raised(_) => told.push_str(
             "the program raised this fault on purpose; check how the run got here.\n",

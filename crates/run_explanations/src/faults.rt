@@ -58,6 +58,7 @@ fn word_of(cause: Cause) -> &'static str {
         Cause::OutOfElement { .. } => "F4",
         Cause::SplitPoint { .. } => "F5",
         Cause::Raised(_) => "F6",
+        Cause::PieceSize { .. } => "F7",
     }
 }
 

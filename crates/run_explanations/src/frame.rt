@@ -1,5 +1,6 @@
 //! The work that is left after the current statement.
 
+use statement_steps::turns::TurnsToCome;
 use types::code::{Label, Stmt};
 use types::path::Path;
 use types::value::Environment;
@@ -11,6 +12,8 @@ pub enum RepeatedFrame<'p> {
     Block(&'p [Stmt]),
     /// Another iteration of a loop.
     Again(&'p Stmt),
+    /// The turns of a `parts` that are still to come.
+    Turns(TurnsToCome<'p>),
     /// The end of a call, with the environment of the caller.
     Call { label: Label, caller: Environment },
     /// The end of an async's body, with the task that spawned it.

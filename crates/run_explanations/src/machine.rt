@@ -10,9 +10,10 @@ use sections::window::{Place, Window};
 use statement_steps::flow::Flow;
 use statement_steps::store::Store;
 use statement_steps::thread::{Plan, Thread};
+use statement_steps::turns::TurnsToCome;
 use std::alloc::AllocError;
 use types::child_number::ChildNumber;
-use types::code::{Label, Number, Primitive, Sides, Stmt, StmtKind, Truth};
+use types::code::{Label, Number, Pieces, Primitive, Sides, Stmt, StmtKind, Truth};
 use types::element::holds;
 use types::ids::ProcedureId;
 use types::input::Input;
@@ -82,6 +83,7 @@ impl<'p> RepeatedRun<'p> {
         match frame {
             RepeatedFrame::Block(block) => self.block(block)?,
             RepeatedFrame::Again(stmt) => self.statement(stmt)?,
+            RepeatedFrame::Turns(turns) => self.next_turn(turns)?,
             RepeatedFrame::Call { caller, .. } => self.thread.environment = caller,
             RepeatedFrame::Task(parent) => self.end_task(parent),
             RepeatedFrame::Finish { faults } => self.end_finish(faults),
@@ -141,9 +143,7 @@ impl<'p> RepeatedRun<'p> {
         if !self.thread.takes_step() {
             return self.overrun(label, BudgetPart::Steps);
         }
-        if let Some(steps) = &mut self.steps {
-            steps.add(&self.thread.path, label)?;
-        }
+        self.record(label)?;
         match &stmt.kind {
             StmtKind::Do(primitive) => self.primitive(label, primitive),
             StmtKind::If { guard, body, other } => match self.truth(label, guard)? {
@@ -159,6 +159,7 @@ impl<'p> RepeatedRun<'p> {
                 _ => Ok(()),
             },
             StmtKind::Split { sides, body } => self.split(label, sides, body),
+            StmtKind::Parts { pieces, body } => self.begin_turns(label, pieces, body),
             StmtKind::Call {
                 procedure,
                 values,
@@ -173,6 +174,14 @@ impl<'p> RepeatedRun<'p> {
                 self.left.push(RepeatedFrame::Finish { faults })?;
                 self.enter(body)
             }
+        }
+    }
+
+    /// Adds a step of the current task to the record, if there is one.
+    fn record(&mut self, label: Label) -> Result<(), AllocError> {
+        match &mut self.steps {
+            Some(steps) => steps.add(&self.thread.path, label),
+            None => Ok(()),
         }
     }
 
@@ -229,6 +238,42 @@ impl<'p> RepeatedRun<'p> {
                 self.fault(label, Cause::SplitPoint { point, length })
             }
         }
+    }
+
+    /// Evaluates the size of the pieces of a `parts`. Its turns are next.
+    fn begin_turns(
+        &mut self,
+        label: Label,
+        pieces: &Pieces,
+        body: &'p [Stmt],
+    ) -> Result<(), AllocError> {
+        let Some(size) = self.number(label, &pieces.size)? else {
+            return Ok(());
+        };
+        match self.thread.turns_of(label, pieces, body) {
+            Ok(turns) => {
+                self.left.push(RepeatedFrame::Turns(turns))?;
+                Ok(())
+            }
+            Err(_) => self.fault(label, Cause::PieceSize { size }),
+        }
+    }
+
+    /// Runs the next turn of a `parts`, if one is left and a step is left for it.
+    fn next_turn(&mut self, turns: TurnsToCome<'p>) -> Result<(), AllocError> {
+        if self.thread.flow != Flow::On {
+            return Ok(());
+        }
+        let Some(piece) = turns.next_piece(&self.thread.environment) else {
+            return Ok(());
+        };
+        if !self.thread.takes_step() {
+            return self.overrun(turns.label, BudgetPart::Steps);
+        }
+        self.record(turns.label)?;
+        self.thread.begin_turn(turns, piece)?;
+        self.left.push(RepeatedFrame::Turns(turns.after_next()))?;
+        self.enter(turns.body)
     }
 
     /// Enters a call with these arguments: the body is next.

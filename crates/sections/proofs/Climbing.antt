@@ -3,7 +3,7 @@ use Rattle.std.proofs.Common.{◌≡◌, ℕ, ◌+◌, ◌-◌, ◌<◌, ◌≤�
 use Rattle.std.proofs.lemmas.Bool.{false_from_ne_true, or_left, cases_lt}
 use Rattle.std.proofs.Common.{min, max}
 use Rattle.std.specs.Prelude.{true, false}
-use Rattle.sections.specs.Origins.{Origin, Root, Left, Right, origin_of, IsNumbered, left, right}
+use Rattle.sections.specs.Origins.{Origin, Root, Left, Right, Piece, origin_of, IsNumbered, left, right, piece}
 use Rattle.sections.specs.Overlap.{are_sides, are_opposite, overlap}
 use Rattle.sections.proofs.Overlapping.{opposite_cases, opposite-disjoint, are_sides-from, root-disjoint}
 use Rattle.sections.proofs.Overlapping.{overlap-walks, overlap-sym, overlap-self}
@@ -17,6 +17,14 @@ module _ (origins : List Origin) (numbered : IsNumbered origins) (low high : ℕ
       elim (opposite_cases origins low high h) [
         | inl o ↦ (let f : origin_of origins high ≡ Right o.parent = o.right_of in absurd cc)
         | inr o ↦ (let n : low ≡ high + 1 = o.turn in omega (arith, order, n))
+      ]))
+
+  -- no piece is the side of a split
+  pub above_piece : (s : ℕ) → origin_of origins high ≡ Piece s → overlap origins low high ≡ overlap origins low s
+  above_piece s e = overlap-walks origins numbered low high s order (piece e) (false_from_ne_true (are_opposite origins low high) (λ h.
+      elim (opposite_cases origins low high h) [
+        | inl o ↦ (let f : origin_of origins high ≡ Right o.parent = o.right_of in absurd cc)
+        | inr o ↦ (let f : origin_of origins high ≡ Left o.parent = o.left_of in absurd cc)
       ]))
 
   -- a right side and the section before it

@@ -1,10 +1,10 @@
 -- Worked examples, computed by the definitions.
-use Rattle.std.proofs.Common.{◌≡◌, ℕ, List, [], ◌∷◌, refl}
+use Rattle.std.proofs.Common.{◌≡◌, ℕ, List, [], ◌∷◌, Some, None, refl}
 use Rattle.std.specs.Prelude.{true, false}
 use Rattle.sections.specs.Covers.{is_cover}
-use Rattle.sections.specs.Origins.{Origin, Root, Left, Right}
+use Rattle.sections.specs.Origins.{Origin, Root, Left, Right, Piece}
 use Rattle.sections.specs.Overlap.{overlap}
-use Rattle.sections.specs.Place.{Window}
+use Rattle.sections.specs.Place.{Window, piece_of}
 use Rattle.sections.proofs.Covering.{joined_from}
 use Rattle.sections.proofs.Cutting.{minus}
 
@@ -35,6 +35,56 @@ side_of_a_side_and_another_split = refl
 
 array_and_side_of_a_side : overlap origins 0 7 ≡ true
 array_and_side_of_a_side = refl
+
+-- array 0; `split 0 at .. as 1, 2`; `parts 0 by .. as 3`, and in it `parts 3 by .. as 4`; `parts 0 by .. as 5`;
+-- `parts 1 by .. as 6`
+abbrev cut : List Origin
+cut = Root ∷ (Left 0 ∷ (Right 0 ∷ (Piece 0 ∷ (Piece 3 ∷ (Piece 0 ∷ (Piece 1 ∷ []))))))
+
+piece_and_array : overlap cut 3 0 ≡ true
+piece_and_array = refl
+
+piece_and_itself : overlap cut 3 3 ≡ true
+piece_and_itself = refl
+
+piece_and_side : overlap cut 3 1 ≡ true
+piece_and_side = refl
+
+pieces_of_two_statements : overlap cut 3 5 ≡ true
+pieces_of_two_statements = refl
+
+piece_of_a_piece : overlap cut 4 5 ≡ true
+piece_of_a_piece = refl
+
+piece_of_a_side_and_the_other_side : overlap cut 6 2 ≡ false
+piece_of_a_side_and_the_other_side = refl
+
+-- ten places by 4: two pieces of 4 and one of 2
+first_piece : piece_of (window 0 5 10) 4 0 ≡ Some (window 0 5 4)
+first_piece = refl
+
+short_piece : piece_of (window 0 5 10) 4 2 ≡ Some (window 0 13 2)
+short_piece = refl
+
+no_fourth_piece : piece_of (window 0 5 10) 4 3 ≡ None
+no_fourth_piece = refl
+
+-- eight places by 4: the second piece is the last
+no_piece_behind : piece_of (window 0 0 8) 4 2 ≡ None
+no_piece_behind = refl
+
+larger_than_the_window : piece_of (window 0 0 3) 9223372036854775807 0 ≡ Some (window 0 0 3)
+larger_than_the_window = refl
+
+no_piece_of_nothing : piece_of (window 0 0 0) 1 0 ≡ None
+no_piece_of_nothing = refl
+
+no_size : piece_of (window 0 0 3) 0 0 ≡ None
+no_size = refl
+
+-- the product isn't taken in 64 bits
+large_product : piece_of (window 0 0 3) 9223372036854775808 2 ≡ None
+large_product = refl
 
 -- windows that touch are joined
 touching : joined_from (window 0 0 2) (window 0 2 2 ∷ []) ≡ window 0 0 4 ∷ []

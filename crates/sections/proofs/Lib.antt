@@ -6,6 +6,7 @@ pub mod Lines
 pub mod Members
 pub mod Numbered
 pub mod Overlapping
+pub mod Pieces
 pub mod Sorting
 pub mod Unique
 pub mod Windows

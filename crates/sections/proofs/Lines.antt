@@ -2,26 +2,28 @@
 use Rattle.std.proofs.Common.{◌≡◌, ◌⊎◌, inl, inr, ℕ, zero, suc, ◌<◌, ◌≤◌, List, [], refl, sym, ap, ◌∙◌, subst, arith}
 use Rattle.std.proofs.Common.{le_refl}
 use Rattle.sections.specs.Member.{Member, first, next}
-use Rattle.sections.specs.Origins.{Origin, Root, Left, Right, origin_of, IsNumbered, IsSideOf, left, right}
+use Rattle.sections.specs.Origins.{Origin, Root, Left, Right, Piece, origin_of, IsNumbered, IsChildOf, left, right, piece}
 use Rattle.sections.specs.Overlap.{beyond, line_within, line, root_within, root_of}
 
 module _ (origins : List Origin) where
-  pub root_or_side : (a : ℕ) → (origin_of origins a ≡ Root) ⊎ ((s : ℕ) × IsSideOf origins s a)
+  pub root_or_side : (a : ℕ) → (origin_of origins a ≡ Root) ⊎ ((s : ℕ) × IsChildOf origins s a)
   root_or_side a = go (origin_of origins a) refl
     where
-      go : (o : Origin) → origin_of origins a ≡ o → (origin_of origins a ≡ Root) ⊎ ((s : ℕ) × IsSideOf origins s a)
+      go : (o : Origin) → origin_of origins a ≡ o → (origin_of origins a ≡ Root) ⊎ ((s : ℕ) × IsChildOf origins s a)
       go Root e = inl e
       go (Left s) e = inr (s, left e)
       go (Right s) e = inr (s, right e)
+      go (Piece s) e = inr (s, piece e)
 
-  pub beyond-side : {A : Type 0} (d : A) (go : ℕ → A) (a s : ℕ) → IsSideOf origins s a → beyond d go (origin_of origins a) ≡ go s
+  pub beyond-side : {A : Type 0} (d : A) (go : ℕ → A) (a s : ℕ) → IsChildOf origins s a → beyond d go (origin_of origins a) ≡ go s
   beyond-side d go a s (left e) = ap (beyond d go) e
   beyond-side d go a s (right e) = ap (beyond d go) e
+  beyond-side d go a s (piece e) = ap (beyond d go) e
 
   -- what is in a line after its first section is in the line of the parent
   pub record Behind (n a x : ℕ) : Type 0 where
     pub parent : ℕ
-    pub side : IsSideOf origins parent a
+    pub side : IsChildOf origins parent a
     pub member : Member x (line_within origins n parent)
 
   pub behind : (n a x : ℕ) → Member x (beyond [] (line_within origins n) (origin_of origins a)) → Behind n a x
@@ -34,7 +36,7 @@ module _ (origins : List Origin) where
     }
   ]
 
-  from_parent : (n a s x : ℕ) → IsSideOf origins s a → Member x (line_within origins n s)
+  from_parent : (n a s x : ℕ) → IsChildOf origins s a → Member x (line_within origins n s)
       → Member x (beyond [] (line_within origins n) (origin_of origins a))
   from_parent n a s x side h = subst (Member x) (sym (beyond-side [] (line_within origins n) a s side)) h
 
@@ -46,7 +48,7 @@ module _ (origins : List Origin) where
   root_within-root zero a e = refl
   root_within-root (suc n) a e = ap (beyond a (root_within origins n)) e
 
-  root_within-side : (n a s : ℕ) → IsSideOf origins s a → root_within origins (suc n) a ≡ root_within origins n s
+  root_within-side : (n a s : ℕ) → IsChildOf origins s a → root_within origins (suc n) a ≡ root_within origins n s
   root_within-side n a s side = beyond-side a (root_within origins n) a s side
 
   -- a root is its own root
@@ -63,9 +65,10 @@ module _ (origins : List Origin) where
   ]
 
   module _ (numbered : IsNumbered origins) where
-    pub parent_below : (s a : ℕ) → IsSideOf origins s a → s < a
+    pub parent_below : (s a : ℕ) → IsChildOf origins s a → s < a
     parent_below s a (left e) = numbered.left a s e
     parent_below s a (right e) = numbered.right a s e
+    parent_below s a (piece e) = numbered.piece a s e
 
     -- a line goes down
     pub line-below : (n x a : ℕ) → Member x (line_within origins n a) → x ≤ a
@@ -131,20 +134,20 @@ module _ (origins : List Origin) where
     root-below a = line-below a (root_of origins a) a (root_in_line a a)
 
     -- the line of a side is itself and the line of its parent
-    pub up_line : (a s x : ℕ) → IsSideOf origins s a → Member x (line origins s) → Member x (line origins a)
+    pub up_line : (a s x : ℕ) → IsChildOf origins s a → Member x (line origins s) → Member x (line origins a)
     up_line zero s x side h = let below : s < 0 = parent_below s 0 side in absurd (omega (arith, below))
     up_line (suc a) s x side h =
         let below : s < suc a = parent_below s (suc a) side in
         next (from_parent a (suc a) s x side (line-enough s a x s (omega (arith, below)) h))
 
-    pub line-side : (a s x : ℕ) → IsSideOf origins s a → Member x (line origins a) → (x ≡ a) ⊎ Member x (line origins s)
+    pub line-side : (a s x : ℕ) → IsChildOf origins s a → Member x (line origins a) → (x ≡ a) ⊎ Member x (line origins s)
     line-side zero s x side h = let below : s < 0 = parent_below s 0 side in absurd (omega (arith, below))
     line-side (suc a) s x side first = inl refl
     line-side (suc a) s x side (next h) =
         inr (line-enough a s x s (le_refl s) (subst (Member x) (beyond-side [] (line_within origins a) (suc a) s side) h))
 
     -- a side has the root of its parent
-    pub root_of-side : (a s : ℕ) → IsSideOf origins s a → root_of origins a ≡ root_of origins s
+    pub root_of-side : (a s : ℕ) → IsChildOf origins s a → root_of origins a ≡ root_of origins s
     root_of-side zero s side = let below : s < 0 = parent_below s 0 side in absurd (omega (arith, below))
     root_of-side (suc a) s side =
         let below : s < suc a = parent_below s (suc a) side in
@@ -152,7 +155,7 @@ module _ (origins : List Origin) where
 
     -- two sections of one line, one after the other
     pub line_cases : (n x y a : ℕ) → Member x (line_within origins n a) → Member y (line_within origins n a)
-        → ((t : ℕ) → IsSideOf origins t x → y ≤ t → ⊥) → ((t : ℕ) → IsSideOf origins t y → x ≤ t → ⊥) → x ≡ y
+        → ((t : ℕ) → IsChildOf origins t x → y ≤ t → ⊥) → ((t : ℕ) → IsChildOf origins t y → x ≤ t → ⊥) → x ≡ y
     line_cases zero x y a first first f g = refl
     line_cases zero x y a (next h) k f g = elim h [ ]
     line_cases zero x y a first (next k) f g = elim k [ ]

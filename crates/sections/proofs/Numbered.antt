@@ -5,7 +5,7 @@ use Rattle.std.proofs.Math.ListN.{get_or-append}
 use Rattle.std.proofs.lemmas.Bool.{ltb-true, ltb-false}
 use Rattle.std.proofs.lemmas.List.{get_or-append-add, map-append}
 use Rattle.std.specs.Prelude.{Bool, true, false, nat_lt, map, if◌then◌else◌}
-use Rattle.sections.specs.Origins.{Origin, Root, Left, Right, origin_of, IsNumbered}
+use Rattle.sections.specs.Origins.{Origin, Root, Left, Right, Piece, origin_of, IsNumbered}
 use Rattle.sections.specs.Translation.{origin}
 use Rattle.sections.specs.declared.origin.Origin.{Origin as rOrigin}
 
@@ -20,10 +20,17 @@ right_is_there [] a s e = cc
 right_is_there (o ∷ os) zero s e = omega arith
 right_is_there (o ∷ os) (suc a) s e = let h = right_is_there os a s e in omega (arith, h)
 
+-- a piece exists
+pub piece_is_there : (os : List Origin) (a s : ℕ) → origin_of os a ≡ Piece s → a < length os
+piece_is_there [] a s e = cc
+piece_is_there (o ∷ os) zero s e = omega arith
+piece_is_there (o ∷ os) (suc a) s e = let h = piece_is_there os a s e in omega (arith, h)
+
 -- origins that can come after n numbered ones
 pub record Continues (n : ℕ) (ps : List Origin) : Type 0 where
   pub left : (b s : ℕ) → origin_of ps b ≡ Left s → s < n + b
   pub right : (b s : ℕ) → origin_of ps b ≡ Right s → s < n + b
+  pub piece : (b s : ℕ) → origin_of ps b ≡ Piece s → s < n + b
   pub right_behind : (b s : ℕ) → origin_of ps b ≡ Left s → origin_of ps (b + 1) ≡ Right s
   pub left_before : (b s : ℕ) → origin_of ps b ≡ Right s → (c : ℕ) × (b ≡ c + 1) × (origin_of ps c ≡ Left s)
 
@@ -54,6 +61,12 @@ module _ (os ps : List Origin) (numbered : IsNumbered os) (more : Continues (len
     | inr (b, h) ↦ (let k = more.right b s (sym (behind a b h) ∙ e) in omega (arith, k, h))
   ]
 
+  piece_in : (a s : ℕ) → origin_of (os ++ ps) a ≡ Piece s → s < a
+  piece_in a s e = elim (below_or_behind (length os) a) [
+    | inl h ↦ numbered.piece a s (sym (origin-prefix os ps a h) ∙ e)
+    | inr (b, h) ↦ (let k = more.piece b s (sym (behind a b h) ∙ e) in omega (arith, k, h))
+  ]
+
   right_behind_in : (a s : ℕ) → origin_of (os ++ ps) a ≡ Left s → origin_of (os ++ ps) (a + 1) ≡ Right s
   right_behind_in a s e = elim (below_or_behind (length os) a) [
     | inl h ↦
@@ -76,7 +89,13 @@ module _ (os ps : List Origin) (numbered : IsNumbered os) (more : Continues (len
 
   -- what can come after numbered origins leaves them numbered
   pub continued : IsNumbered (os ++ ps)
-  continued = record { left = left_in; right = right_in; right_behind = right_behind_in; left_before = left_before_in }
+  continued = record {
+    left = left_in;
+    right = right_in;
+    piece = piece_in;
+    right_behind = right_behind_in;
+    left_before = left_before_in;
+  }
 
 no_left_root : (b s : ℕ) → origin_of (Root ∷ []) b ≡ Left s → ⊥
 no_left_root zero s e = cc
@@ -86,16 +105,27 @@ no_right_root : (b s : ℕ) → origin_of (Root ∷ []) b ≡ Right s → ⊥
 no_right_root zero s e = cc
 no_right_root (suc b) s e = cc
 
+no_piece_root : (b s : ℕ) → origin_of (Root ∷ []) b ≡ Piece s → ⊥
+no_piece_root zero s e = cc
+no_piece_root (suc b) s e = cc
+
 pub root_continues : (n : ℕ) → Continues n (Root ∷ [])
 root_continues n = record {
   left = λ b s e. absurd (no_left_root b s e);
   right = λ b s e. absurd (no_right_root b s e);
+  piece = λ b s e. absurd (no_piece_root b s e);
   right_behind = λ b s e. absurd (no_left_root b s e);
   left_before = λ b s e. absurd (no_right_root b s e);
 }
 
 pub sides_continue : (n p : ℕ) → p < n → Continues n (Left p ∷ Right p ∷ [])
-sides_continue n p below = record { left = go_left; right = go_right; right_behind = go_behind; left_before = go_before }
+sides_continue n p below = record {
+  left = go_left;
+  right = go_right;
+  piece = go_piece;
+  right_behind = go_behind;
+  left_before = go_before;
+}
   where
     go_left : (b s : ℕ) → origin_of (Left p ∷ Right p ∷ []) b ≡ Left s → s < n + b
     go_left zero s e = let h : p ≡ s = cc in omega arith
@@ -106,6 +136,11 @@ sides_continue n p below = record { left = go_left; right = go_right; right_behi
     go_right zero s e = absurd cc
     go_right (suc zero) s e = let h : p ≡ s = cc in omega arith
     go_right (suc (suc b)) s e = absurd cc
+
+    go_piece : (b s : ℕ) → origin_of (Left p ∷ Right p ∷ []) b ≡ Piece s → s < n + b
+    go_piece zero s e = absurd cc
+    go_piece (suc zero) s e = absurd cc
+    go_piece (suc (suc b)) s e = absurd cc
 
     go_behind : (b s : ℕ) → origin_of (Left p ∷ Right p ∷ []) b ≡ Left s
         → origin_of (Left p ∷ Right p ∷ []) (b + 1) ≡ Right s
@@ -118,6 +153,27 @@ sides_continue n p below = record { left = go_left; right = go_right; right_behi
     go_before zero s e = absurd cc
     go_before (suc zero) s e = let h : p ≡ s = cc in (0, refl, ap Left h)
     go_before (suc (suc b)) s e = absurd cc
+
+pub piece_continues : (n p : ℕ) → p < n → Continues n (Piece p ∷ [])
+piece_continues n p below = record {
+  left = λ b s e. absurd (no_left b s e);
+  right = λ b s e. absurd (no_right b s e);
+  piece = go;
+  right_behind = λ b s e. absurd (no_left b s e);
+  left_before = λ b s e. absurd (no_right b s e);
+}
+  where
+    no_left : (b s : ℕ) → origin_of (Piece p ∷ []) b ≡ Left s → ⊥
+    no_left zero s e = cc
+    no_left (suc b) s e = cc
+
+    no_right : (b s : ℕ) → origin_of (Piece p ∷ []) b ≡ Right s → ⊥
+    no_right zero s e = cc
+    no_right (suc b) s e = cc
+
+    go : (b s : ℕ) → origin_of (Piece p ∷ []) b ≡ Piece s → s < n + b
+    go zero s e = let h : p ≡ s = cc in omega arith
+    go (suc b) s e = absurd cc
 
 -- a list that gets more items, if there is memory
 pub kept_or_continued : (items more : List rOrigin) (b : Bool) → IsNumbered (map origin items)

@@ -6,7 +6,7 @@ use Rattle.std.proofs.Math.Bool.{or_comm}
 use Rattle.std.specs.Prelude.{Bool, true, false, not, nat_eq}
 use Rattle.std.specs.List.{list_any}
 use Rattle.sections.specs.Member.{Member}
-use Rattle.sections.specs.Origins.{Origin, Root, Left, Right, origin_of, IsNumbered, IsSideOf, left, right}
+use Rattle.sections.specs.Origins.{Origin, Root, Left, Right, Piece, origin_of, IsNumbered, IsChildOf, left, right, piece}
 use Rattle.sections.specs.Overlap.{one_parent, line, root_of, are_sides, are_opposite, under_opposite, are_disjoint, overlap}
 use Rattle.sections.proofs.Members.{any_member, member_any}
 use Rattle.sections.proofs.Lines.{in_own_line, line-below, root_of-root, root-below, parent_below, up_line, line-side}
@@ -105,8 +105,10 @@ module _ (origins : List Origin) where
       record { turn = n; parent = s; left_of = e; right_of = f ∙ ap Right (sym (eqb-true s t h)) }
   sides_by l r Root u e f n h = absurd (false≢true h)
   sides_by l r (Right s) u e f n h = absurd (false≢true h)
+  sides_by l r (Piece s) u e f n h = absurd (false≢true h)
   sides_by l r (Left s) Root e f n h = absurd (false≢true h)
   sides_by l r (Left s) (Left t) e f n h = absurd (false≢true h)
+  sides_by l r (Left s) (Piece t) e f n h = absurd (false≢true h)
 
   pub sides : (l r : ℕ) → are_sides origins l r ≡ true → Sides l r
   sides l r h =
@@ -125,9 +127,10 @@ module _ (origins : List Origin) where
   ]
 
   -- a section has one parent
-  right_parent : (a s t : ℕ) → origin_of origins a ≡ Right s → IsSideOf origins t a → s ≡ t
+  right_parent : (a s t : ℕ) → origin_of origins a ≡ Right s → IsChildOf origins t a → s ≡ t
   right_parent a s t e (left f) = absurd cc
   right_parent a s t e (right f) = cc
+  right_parent a s t e (piece f) = absurd cc
 
   module _ (numbered : IsNumbered origins) where
     -- each side has the other one of its split next to it
@@ -174,7 +177,7 @@ module _ (origins : List Origin) where
       ]
     ])
 
-    under-side : (a s b : ℕ) → IsSideOf origins s a → Under s b → Under a b
+    under-side : (a s b : ℕ) → IsChildOf origins s a → Under s b → Under a b
     under-side a s b side u = record {
       over_a = u.over_a;
       over_b = u.over_b;
@@ -184,7 +187,7 @@ module _ (origins : List Origin) where
     }
 
     -- what is disjoint from a section is disjoint from its sides
-    pub side-disjoint : (a s b : ℕ) → IsSideOf origins s a → overlap origins s b ≡ false → overlap origins a b ≡ false
+    pub side-disjoint : (a s b : ℕ) → IsChildOf origins s a → overlap origins s b ≡ false → overlap origins a b ≡ false
     side-disjoint a s b side h = elim (disjoint_cases s b h) [
       | inl ne ↦ roots-disjoint a b (λ e. ne (sym (root_of-side origins numbered a s side) ∙ e))
       | inr u ↦ under-disjoint a b (under-side a s b side u)
@@ -204,7 +207,7 @@ module _ (origins : List Origin) where
       | inr s ↦ (let n : x ≡ b + 1 = s.turn in absurd (omega (arith, n, h, k)))
     ]
 
-    under_parent : (a b s : ℕ) → a < b → IsSideOf origins s b → are_opposite origins a b ≡ false → Under a b → Under a s
+    under_parent : (a b s : ℕ) → a < b → IsChildOf origins s b → are_opposite origins a b ≡ false → Under a b → Under a s
     under_parent a b s h side o u = elim (line-side origins numbered b s u.over_b side u.b_lies) [
       | inl e ↦
           (let i : are_opposite origins u.over_a b ≡ true = subst (λ y. are_opposite origins u.over_a y ≡ true) e u.opposite in
@@ -219,7 +222,7 @@ module _ (origins : List Origin) where
       }
     ]
 
-    disjoint_parent : (a b s : ℕ) → a < b → IsSideOf origins s b → are_opposite origins a b ≡ false
+    disjoint_parent : (a b s : ℕ) → a < b → IsChildOf origins s b → are_opposite origins a b ≡ false
         → overlap origins a b ≡ false → overlap origins a s ≡ false
     disjoint_parent a b s h side o d = elim (disjoint_cases a b d) [
       | inl ne ↦ roots-disjoint a s (λ e. ne (e ∙ sym (root_of-side origins numbered b s side)))
@@ -227,12 +230,12 @@ module _ (origins : List Origin) where
     ]
 
     -- a side with the larger number overlaps what its parent does, except the other side
-    pub overlap-walks : (a b s : ℕ) → a < b → IsSideOf origins s b → are_opposite origins a b ≡ false
+    pub overlap-walks : (a b s : ℕ) → a < b → IsChildOf origins s b → are_opposite origins a b ≡ false
         → overlap origins a b ≡ overlap origins a s
     overlap-walks a b s h side o = same_overlap a b a s (disjoint_parent a b s h side o) (λ d.
         disjoint-turned b a (side-disjoint b s a side (disjoint-turned a s d)))
 
-    parent_not_opposite : (s a : ℕ) → IsSideOf origins s a → are_opposite origins s a ≡ false
+    parent_not_opposite : (s a : ℕ) → IsChildOf origins s a → are_opposite origins s a ≡ false
     parent_not_opposite s a side = false_from_ne_true (are_opposite origins s a) (λ h.
         (let below : s < a = parent_below origins numbered s a side in
         elim (opposite_cases s a h) [
@@ -244,12 +247,12 @@ module _ (origins : List Origin) where
         ]))
 
     -- a section overlaps its sides
-    pub overlap-side : (s a : ℕ) → IsSideOf origins s a → overlap origins s a ≡ true
+    pub overlap-side : (s a : ℕ) → IsChildOf origins s a → overlap origins s a ≡ true
     overlap-side s a side =
         overlap-walks s a s (parent_below origins numbered s a side) side (parent_not_opposite s a side) ∙ overlap-self s
 
     -- sides of a section overlap if they aren't the sides of one split
-    pub two_splits-overlap : (s a b : ℕ) → IsSideOf origins s a → IsSideOf origins s b → are_opposite origins a b ≡ false
+    pub two_splits-overlap : (s a b : ℕ) → IsChildOf origins s a → IsChildOf origins s b → are_opposite origins a b ≡ false
         → overlap origins a b ≡ true
     two_splits-overlap s a b f g o = elim (cases_order a b) [
       | inl e ↦ ap (overlap origins a) (sym e) ∙ overlap-self a

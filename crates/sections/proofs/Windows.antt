@@ -5,12 +5,13 @@ use Rattle.std.proofs.lemmas.Bool.{leb-true, eqb-true, and_parts}
 use Rattle.std.specs.Prelude.{Bool, true, false, nat_eq, nat_le, if◌then◌else◌}
 use Rattle.std.proofs.lemmas.Option.{same_Some}
 use Rattle.sections.specs.Member.{Member, first, next}
-use Rattle.sections.specs.Origins.{Root, origin_of, IsNumbered, IsSideOf, left, right}
+use Rattle.sections.specs.Origins.{Root, origin_of, IsNumbered, IsChildOf, left, right, piece}
 use Rattle.sections.specs.Overlap.{line_within, line, root_of, are_opposite, overlap}
 use Rattle.sections.specs.Place.{Place, Window, In, first_places, places_behind, same_place, sides_of}
 use Rattle.sections.specs.Placed.{Apart, Names, Placed}
 use Rattle.sections.proofs.Lines.{behind, root_in_line, root_is_root}
 use Rattle.sections.proofs.Overlapping.{Sides, opposite_cases, disjoint_cases}
+use Rattle.sections.proofs.Pieces.{piece_inside}
 
 -- how the sides of a window were cut
 pub record IsCut (w a b : Window) : Type 0 where
@@ -70,7 +71,7 @@ module _ (names : Names) (windows : ℕ → Window) (numbered : IsNumbered names
   above_itself a m = record { in_scope = m; places = λ q h. h }
 
   -- a parent has the places of its sides
-  parent_above : (s a : ℕ) → IsSideOf names.origins s a → Member a names.scope → Above a s
+  parent_above : (s a : ℕ) → IsChildOf names.origins s a → Member a names.scope → Above a s
   parent_above s a (left e) m =
       let sides = placed.left s a m e in
       let cut = sides_of-cut (windows s) (windows a) (windows (a + 1)) sides.at sides.cut in
@@ -83,6 +84,9 @@ module _ (names : Names) (windows : ℕ → Window) (numbered : IsNumbered names
         in_scope = sides.parent;
         places = λ q h. right_inside cut q (subst (λ r. In (windows r) q) l.turn h);
       }
+  parent_above s a (piece e) m =
+      let p = placed.piece s a m e in
+      record { in_scope = p.parent; places = piece_inside (windows s) (windows a) p.size p.turn p.cut }
 
   -- the sections of a line contain all places of its first section
   above : (n x a : ℕ) → Member x (line_within names.origins n a) → Member a names.scope → Above a x

@@ -1,13 +1,14 @@
 -- Which sections of one procedure can share places, by their origins.
 use Rattle.std.specs.Prelude.{ℕ, zero, suc, ◌+◌, List, [], ◌∷◌, Bool, false, ◌&&◌, ◌||◌, not, nat_eq}
 use Rattle.std.specs.List.{list_any}
-use Rattle.sections.specs.Origins.{Origin, Root, Left, Right, origin_of}
+use Rattle.sections.specs.Origins.{Origin, Root, Left, Right, Piece, origin_of}
 
 -- what an origin refers to: nothing, or the parent
 abbrev pub beyond : {A : Type 0} → A → (ℕ → A) → Origin → A
 beyond d go Root = d
 beyond d go (Left p) = go p
 beyond d go (Right p) = go p
+beyond d go (Piece p) = go p
 
 -- two origins are the left and the right side of one section
 abbrev pub one_parent : Origin → Origin → Bool

@@ -1,5 +1,5 @@
 -- Places of arrays, and windows, which are contiguous places of one array.
-use Rattle.std.specs.Prelude.{ℕ, ◌+◌, ◌-◌, ◌<◌, ◌≤◌, ◌≡◌, ℤ, pos, negsuc, Bool, ◌&&◌, nat_eq}
+use Rattle.std.specs.Prelude.{ℕ, ◌+◌, ◌-◌, ◌*◌, ◌<◌, ◌≤◌, ◌≡◌, min, ℤ, pos, negsuc, Bool, ◌&&◌, nat_eq}
 use Rattle.std.specs.Prelude.{nat_lt, nat_le, Option, Some, None, if◌then◌else◌}
 
 -- the element at an index of an array
@@ -46,3 +46,16 @@ abbrev pub sides_of : Window → ℤ → Option (Window × Window)
 sides_of w (negsuc n) = None
 sides_of w (pos n) =
     if nat_le n w.length then Some (first_places n w, places_behind n w) else None
+
+-- whether a window, cut into pieces of `size` places, has a piece with this number, from 0
+abbrev pub has_piece : Window → (size turn : ℕ) → Bool
+has_piece w size turn = nat_lt 0 size && nat_lt (size * turn) w.length
+
+-- the piece: the places after those of the pieces before it, at most `size`
+abbrev pub piece_at : (size turn : ℕ) → Window → Window
+piece_at size turn w =
+    let rest = places_behind (size * turn) w in first_places (min size rest.length) rest
+
+-- the piece with this number, if there is one
+abbrev pub piece_of : Window → (size turn : ℕ) → Option Window
+piece_of w size turn = if has_piece w size turn then Some (piece_at size turn w) else None

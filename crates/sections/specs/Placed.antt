@@ -1,8 +1,8 @@
 -- Windows that agree with the origins of their sections.
 use Rattle.std.specs.Prelude.{ℕ, ◌+◌, ◌≡◌, ◌≢◌, List, Bool, true, ℤ, Some}
 use Rattle.sections.specs.Member.{Member}
-use Rattle.sections.specs.Origins.{Origin, Root, Left, Right, origin_of}
-use Rattle.sections.specs.Place.{Place, Window, In, sides_of}
+use Rattle.sections.specs.Origins.{Origin, Root, Left, Right, Piece, origin_of}
+use Rattle.sections.specs.Place.{Place, Window, In, sides_of, piece_of}
 
 -- two windows share no place
 abbrev pub Apart : Window → Window → Type 0
@@ -30,6 +30,13 @@ pub record HasLeft (names : Names) (s r : ℕ) : Type 0 where
   pub in_scope : Member left names.scope
   pub origin : origin_of names.origins left ≡ Left s
 
+-- p is a piece of s, which is in scope
+pub record IsPieceOf (names : Names) (windows : ℕ → Window) (s p : ℕ) : Type 0 where
+  pub parent : Member s names.scope
+  pub size : ℕ
+  pub turn : ℕ
+  pub cut : piece_of (windows s) size turn ≡ Some (windows p)
+
 -- the windows of the sections in scope agree with the origins of the sections
 pub record Placed (names : Names) (windows : ℕ → Window) : Type 0 where
   -- a root that may be written shares no place with another root
@@ -41,3 +48,6 @@ pub record Placed (names : Names) (windows : ℕ → Window) : Type 0 where
       → AreSidesOf names windows s l
   pub right : (s r : ℕ) → Member r names.scope → origin_of names.origins r ≡ Right s
       → HasLeft names s r
+  -- the window of a piece is a piece of its parent's window
+  pub piece : (s p : ℕ) → Member p names.scope → origin_of names.origins p ≡ Piece s
+      → IsPieceOf names windows s p

@@ -1,11 +1,12 @@
 -- The Rust types as plain values: ids as numbers, origins and windows over numbers.
 use Rattle.std.specs.Prelude.{ℕ}
-use Rattle.sections.specs.Origins.{Origin, Root, Left, Right}
+use Rattle.sections.specs.Origins.{Origin, Root, Left, Right, Piece}
 use Rattle.sections.specs.Place.{Place, Window}
 use Rattle.sections.specs.declared.id.ArrayId.{ArrayId}
 use Rattle.sections.specs.declared.id.SectionId.{SectionId}
 use Rattle.sections.specs.declared.origin.Origin.{Origin as rOrigin}
 use Rattle.sections.specs.declared.origin.Origin.TheVariants.{Root as rRoot, Left as rLeft, Right as rRight}
+use Rattle.sections.specs.declared.origin.Origin.TheVariants.{Piece as rPiece}
 use Rattle.sections.specs.declared.window.Place.{Place as rPlace}
 use Rattle.sections.specs.declared.window.Window.{Window as rWindow}
 
@@ -22,6 +23,7 @@ abbrev pub origin : rOrigin → Origin
 origin rRoot = Root
 origin (rLeft s) = Left (section s)
 origin (rRight s) = Right (section s)
+origin (rPiece s) = Piece (section s)
 
 -- a place
 abbrev pub place : rPlace → Place

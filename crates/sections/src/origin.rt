@@ -11,4 +11,6 @@ pub enum Origin {
     Left { parent: SectionId },
     /// The right side of a split of `parent`: `r` in `split s at 2 as l, r { .. }`.
     Right { parent: SectionId },
+    /// The piece of each turn of a `parts` of `parent`: `p` in `parts s by 4 as p, i { .. }`.
+    Piece { parent: SectionId },
 }

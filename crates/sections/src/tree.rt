@@ -2,7 +2,7 @@
 
 ghost use Rattle.std.specs.Prelude.{◌≡◌, map, [], ◌∷◌, ◌++◌, ◌+◌, ◌<◌, length, IfOk, OnOk, OnErr};
 ghost use Rattle.std.specs.Prelude.{IsNone, IfSome, false};
-ghost use Rattle.sections.specs.Origins.{Root, Left, Right, origin_of, IsNumbered};
+ghost use Rattle.sections.specs.Origins.{Root, Left, Right, Piece, origin_of, IsNumbered};
 ghost use Rattle.sections.specs.Overlap.{overlap as overlap_of};
 ghost use Rattle.sections.specs.Translation.{section, origin as origin_as};
 
@@ -73,6 +73,19 @@ impl SectionTree {
         Ok((left, right))
     }
 
+    /// Adds the piece of a new `parts` of a section. It is one section, whose window differs from turn
+    /// to turn.
+    pub fn part(&mut self, parent: SectionId) -> Result<SectionId, AllocError>
+        requires { parent.number < length (origins_of self.old) }
+        ensures number { IfOk result (λ s. s.number ≡ length (origins_of self.old)) }
+        ensures ok { OnOk result (origins_of self.new ≡ origins_of self.old ++ Piece parent.number ∷ []) }
+        ensures err { OnErr result (origins_of self.new ≡ origins_of self.old) }
+    {
+        let number = self.origins.len();
+        self.origins.push(Origin::Piece { parent })?;
+        Ok(SectionId { number })
+    }
+
     /// Returns whether two sections can share a place. Walks up from the section with the larger
     /// number until both are the same or are obviously disjoint. It allocates nothing.
     pub fn overlap(&self, a: SectionId, b: SectionId) -> bool
@@ -110,6 +123,7 @@ impl SectionTree {
         match self.origin(SectionId { number: high }) {
             Origin::Root => None,
             Origin::Left { parent } => Some(parent.number),
+            Origin::Piece { parent } => Some(parent.number),
             Origin::Right { parent } => {
                 if low + 1 == high {
                     None

@@ -1,6 +1,7 @@
 //! Windows, which are parts of arrays.
 
-ghost use Rattle.std.specs.Prelude.{◌≡◌, ◌≤◌, ◌<◌, ◌↔◌, ◌+◌, ◌-◌, IsNone, IfSome, MatchOption, Some, None};
+ghost use Rattle.std.specs.Prelude.{◌≡◌, ◌≤◌, ◌<◌, ◌↔◌, ◌⊎◌, ◌+◌, ◌-◌, ◌*◌, IsNone, IfSome, MatchOption};
+ghost use Rattle.std.specs.Prelude.{Some, None};
 
 use crate::id::ArrayId;
 
@@ -27,7 +28,7 @@ impl Window {
     ghost use Rattle.sections.specs.Cutting.{ends_no_later as ends_no_later_as};
     ghost use Rattle.sections.specs.Cutting.{before as before_as, behind as behind_as};
     ghost use Rattle.sections.specs.Joining.{end_of, meets as meets_as, joined as joined_as};
-    ghost use Rattle.sections.specs.Place.{place_in};
+    ghost use Rattle.sections.specs.Place.{place_in, piece_of};
     ghost use Rattle.sections.specs.Translation.{place as place_of, window as window_of};
 
     /// Returns the window without places.
@@ -73,6 +74,27 @@ impl Window {
             len: self.len - n,
         };
         Some((left, right))
+    }
+
+    /// Returns the piece with the number `turn`, from 0, if the window is cut into pieces of `size`
+    /// places. The last piece may be shorter. Returns `None` if there is no such piece, also where the
+    /// product of the two numbers has more than 64 bits. It allocates nothing.
+    pub fn piece(self, size: u64, turn: u64) -> Option<Window>
+        ensures piece { MatchOption result (piece_of (window_of self) size turn ≡ None)
+            (λ w. piece_of (window_of self) size turn ≡ Some (window_of w)) }
+        ensures none { IsNone result ↔ ((size ≡ 0) ⊎ (self.len ≤ size * turn)) }
+    {
+        let before = size.checked_mul(turn)?;
+        if size == 0 || before >= self.len as u64 {
+            return None;
+        }
+        let before = before as usize;
+        let left = self.len - before;
+        Some(Window {
+            array: self.array,
+            at: self.at + before,
+            len: size.min(left as u64) as usize,
+        })
     }
 
     /// Returns the place of the element `index`, or `None` if the window has no such element. It

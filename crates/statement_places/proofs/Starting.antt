@@ -6,7 +6,7 @@ use Rattle.syntax.specs.Spelling.{expr_then, more_then, stmt_then, block_then, a
 use Rattle.syntax.specs.Spelling.{more_parameters_then, parameters_then, procedures_then, main_tokens, spelling}
 use Rattle.syntax.specs.Token.{Token, WordToken, MarkToken}
 use Rattle.syntax_tree.specs.Tree.{Stmt, Skip, Var, Assign, Store, Print, Fault, If, IfElse, While}
-use Rattle.syntax_tree.specs.Tree.{Split, Call, Async, Finish, Block, End, Then, Array, Parameter, Written, Read, Scalar}
+use Rattle.syntax_tree.specs.Tree.{Split, Parts, Call, Async, Finish, Block, End, Then, Array, Parameter, Written, Read, Scalar}
 use Rattle.syntax_tree.specs.Tree.{Procedure, Main, Program}
 use Rattle.statement_places.specs.Starts.{inner_starts, block_starts, procedures_starts, main_starts, starts, token_starts}
 use Rattle.statement_places.proofs.ExprStarts.{expr_starts, more_starts, exprs_starts}
@@ -38,6 +38,7 @@ mutual
   inner_by_tokens (While e b) r =
       ap (λ l. stmt_then (While e b) r ∷ l) (expr_starts e (MarkToken LeftBrace ∷ block_then b r) ∙ block_by_tokens b r)
   inner_by_tokens (Split s e x y b) r = ap (λ l. stmt_then (Split s e x y b) r ∷ l) (expr_starts e _ ∙ block_by_tokens b r)
+  inner_by_tokens (Parts s e x i b) r = ap (λ l. stmt_then (Parts s e x i b) r ∷ l) (expr_starts e _ ∙ block_by_tokens b r)
   inner_by_tokens (Call f es) r =
       ap (λ l. stmt_then (Call f es) r ∷ l) (exprs_starts es (MarkToken RightParen ∷ MarkToken Semicolon ∷ r))
   inner_by_tokens (Async b) r = ap (λ l. stmt_then (Async b) r ∷ l) (block_by_tokens b r)

@@ -9,7 +9,7 @@ use Rattle.syntax.specs.Canonical.{begins_statement, is_else}
 use Rattle.syntax.specs.Spelling.{stmt_then, block_then, procedures_then, main_tokens}
 use Rattle.syntax.specs.Token.{Token, NameToken, NumberToken, WordToken, MarkToken}
 use Rattle.syntax_tree.specs.Tree.{Stmt, Skip, Var, Assign, Store, Print, Fault, If, IfElse, While, Split}
-use Rattle.syntax_tree.specs.Tree.{Call, Async, Finish, Block, End, Then, Procedure, Main, Program}
+use Rattle.syntax_tree.specs.Tree.{Parts, Call, Async, Finish, Block, End, Then, Procedure, Main, Program}
 
 unfoldable mutual
   -- the statements inside a statement, with other tokens after it
@@ -25,6 +25,7 @@ unfoldable mutual
       block_starts b (WordToken WordElse ∷ MarkToken LeftBrace ∷ block_then c r) ++ block_starts c r
   inner_starts (While e b) r = block_starts b r
   inner_starts (Split s e x y b) r = block_starts b r
+  inner_starts (Parts s e x i b) r = block_starts b r
   inner_starts (Call f es) r = []
   inner_starts (Async b) r = block_starts b r
   inner_starts (Finish b) r = block_starts b r

@@ -1,13 +1,14 @@
 -- Windows stay in their arrays.
-use Rattle.std.proofs.Common.{◌≡◌, ℕ, zero, suc, ◌+◌, ◌-◌, ◌<◌, ◌≤◌, List, [], ◌∷◌, length, Ok, Err, Some, None, refl, sym, ap, ◌∙◌, subst, arith}
+use Rattle.std.proofs.Common.{◌≡◌, ℕ, zero, suc, ◌+◌, ◌-◌, ◌*◌, min, ◌<◌, ◌≤◌, List, [], ◌∷◌, length, Ok, Err, Some, None, refl, sym, ap, ◌∙◌, subst, arith}
 use Rattle.std.proofs.lemmas.Bool.{leb-true, ltb-true}
 use Rattle.std.specs.Prelude.{ℤ, pos, negsuc, Bool, true, false, map, nat_eq, nat_le, nat_lt, slice_index_or, ok_or, if◌then◌else◌}
 use Rattle.types.specs.declared.fault.FaultKind.TheVariants.{Index, SplitPoint}
 use Rattle.types.specs.Code.{Array, Number, Primitive, Skip, Assign, Store as StoreTo, Print, Raise, Program}
 use Rattle.types.specs.Contents.{FitsArrays, no_more, also}
 use Rattle.types.specs.Outcome.{whole_arrays}
-use Rattle.sections.specs.Place.{Place, Window, nowhere, sides_of}
-use Rattle.types.specs.Run.{State, array_of, no_array, bind, entry, with_sides, number_at}
+use Rattle.sections.specs.Place.{Place, Window, nowhere, piece_of, sides_of}
+use Rattle.sections.proofs.Pieces.{is_piece}
+use Rattle.types.specs.Run.{State, array_of, no_array, bind, entry, with_piece, with_sides, number_at}
 use Rattle.types.specs.Value.{Environment, Valued, then_try, element_of, holds_number}
 use Rattle.statement_steps.specs.declared.store.Store.{Store}
 use Rattle.statement_steps.specs.declared.thread.Thread.{Thread}
@@ -68,6 +69,20 @@ module _ (p : Program) where
       → LiesInArrays p env → LiesInArrays p (with_sides x y ws env)
   with_sides_lies x y ws env sides lies =
       bind_lies x ws.0 (bind y ws.1 env.windows) sides.0 (bind_lies y ws.1 env.windows sides.1 lies)
+
+  -- a piece of a section lies in the array of the section
+  pub piece_lies : (w v : Window) (n k : ℕ) → LiesInArray p w → piece_of w n k ≡ Some v → LiesInArray p v
+  piece_lies w v n k lies h =
+      let piece = is_piece w v n k h in
+      let starts : n * k < w.length = piece.starts in
+      subst (LiesInArray p) (sym piece.is) (λ j lt.
+      let inside : j < min n (w.length - n * k) = lt in
+      omega (arith, lies (n * k + j) (omega (arith, inside, starts))))
+
+  -- an environment that names a piece
+  pub with_piece_lies : (x i : ℕ) (v : Window) (k : ℕ) (env : Environment) → LiesInArray p v → LiesInArrays p env
+      → LiesInArrays p (with_piece x i v k env)
+  with_piece_lies x i v k env here others = bind_lies x v env.windows here others
 
   -- the environment in which a procedure starts, on sections of its caller
   pub entry_lies : (values : List ℤ) (env : Environment) (ss : List ℕ) → LiesInArrays p env

@@ -5,5 +5,6 @@ pub mod Ends
 pub mod BoundsLemmas
 pub mod Stores
 pub mod Pairs
+pub mod Pieces
 pub mod Watching
 pub mod WatchedExamples

@@ -4,3 +4,4 @@ pub mod Primitive
 pub mod Resume
 pub mod Bounds
 pub mod Watched
+pub mod Turns

@@ -10,6 +10,7 @@ use Rattle.sections.specs.Place.{Place, Window, sides_of}
 use Rattle.sections.specs.Translation.{place, window}
 use Rattle.types.specs.Run.{State, number_at, window_at, array_of}
 use Rattle.types.specs.Value.{Valued, then_try, element_of, holds_number}
+use Rattle.statement_steps.specs.declared.turns.TurnsToCome.{TurnsToCome}
 
 -- a place and a number, if the number fits in the element type
 abbrev pub fitting : (fits : Bool) → Place → ℤ → Valued (Place × ℤ)
@@ -47,6 +48,11 @@ CanStore p Writable st (Raise e) = ⊤
 -- both sides of a section, split at the value of an expression
 abbrev pub halves : State (Unit {0}) → (section : ℕ) → Number → Valued (Window × Window)
 halves st s e = then_try (number_at st e) (λ v. ok_or (sides_of (window_at st s) v) SplitPoint)
+
+-- the size of the pieces of a `parts` that the code returns
+abbrev pub turns_size : Result TurnsToCome FaultKind → Valued ℕ
+turns_size (Ok t) = Ok t.size
+turns_size (Err f) = Err f
 
 -- the sides that the code returns
 abbrev pub cut : Result (rWindow × rWindow) FaultKind → Valued (Window × Window)

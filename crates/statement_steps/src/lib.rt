@@ -7,4 +7,5 @@ pub mod memory;
 pub mod quick;
 pub mod store;
 pub mod thread;
+pub mod turns;
 pub mod watch;

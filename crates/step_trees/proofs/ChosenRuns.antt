@@ -9,7 +9,7 @@ use Rattle.types.specs.TreeSteps.{step, first_tree}
 use Rattle.types.specs.TreeRuns.{Runs, here, next, Explored, Ends, Open, NoSuchChoice, tree_ending, goes_on, explored_from, explored}
 use Rattle.effects.specs.Sound.{IsSound}
 use Rattle.race_checker.specs.Clash.{IsAccepted}
-use Rattle.step_trees.specs.Laws.{EndsBy, OpensBy, MissesBy, Chosen}
+use Rattle.step_trees.specs.Laws.{HasLawfulParts, EndsBy, OpensBy, MissesBy, Chosen}
 use Rattle.step_trees.proofs.Steps.{step_from}
 use Rattle.step_trees.proofs.NoDeadlock.{deadlock_free}
 use Rattle.step_trees.proofs.FirstLeaves.{LeftRun}
@@ -162,12 +162,12 @@ module _ (p : Program) where
           let r = f x.0 x.1 e in
           record { tree = r.tree; store = r.store; runs = LeftRun.goes (step_from p t 0 a x.0 x.1 h).1 r.runs; done = r.done; same = r.same }
 
-  -- for every program: if the first leaf always steps, the result is the one-thread outcome
-  pub first_leaves_end : (input : List (List ℤ)) (n : ℕ) (o : Outcome) → explored p input (replicate n 0) ≡ Ends o
+  -- if each `parts` follows the rules and the first leaf always steps, the result is the one-thread outcome
+  pub first_leaves_end : HasLawfulParts p → (input : List (List ℤ)) (n : ℕ) (o : Outcome) → explored p input (replicate n 0) ≡ Ends o
       → (b : Budget) → IsLarger b (record { steps = n; nest = n }) → outcome p input b ≡ o
-  first_leaves_end input n o e b larger =
+  first_leaves_end by_rules input n o e b larger =
       let r = left_ends n 0 (first_tree p) (held_by input) o e in
-      left_run_ends p input n r.tree r.store r.runs r.done b larger ∙ r.same
+      left_run_ends p by_rules input n r.tree r.store r.runs r.done b larger ∙ r.same
 
 -- for an accepted program, the result of any choices is the one-thread outcome
 pub choices_end : (p : Program) → IsSound p → IsAccepted p → (input : List (List ℤ)) (cs : List ℕ) (o : Outcome)

@@ -4,15 +4,16 @@ use Rattle.shared_lemmas.proofs.Truths.{true_false}
 use Rattle.std.specs.Prelude.{ℤ, Bool, true, false, if◌then◌else◌}
 use Rattle.sections.proofs.Windows.{places_same}
 use Rattle.sections.specs.Place.{Place, same_place}
-use Rattle.types.specs.Code.{Program}
+use Rattle.types.specs.Code.{Codes, Program}
 use Rattle.types.specs.Contents.{Contents, write}
+use Rattle.types.specs.Value.{Environment}
 use Rattle.types.specs.Trees.{Caller, Leaf, Tree, Single, AndThen, Beside, all_done, ready, and_then, closed}
 use Rattle.types.specs.TreeRuns.{Runs, here, next}
 use Rattle.effects.specs.Sound.{IsSound}
-use Rattle.effects.proofs.Footprints.{overwrites_touch}
+use Rattle.effects.proofs.Footprints.{overwrites_touch, turns_write_touch}
 use Rattle.race_checker.specs.Clash.{IsAccepted}
 use Rattle.race_checker.proofs.Calming.{is_calm}
-use Rattle.step_trees.specs.Still.{waiting, left_of, still}
+use Rattle.step_trees.specs.Still.{all, waiting, left_of, still}
 use Rattle.step_trees.proofs.Steps.{Step, tree_or, store_or, step_from, step_to, step_below}
 use Rattle.step_trees.proofs.LocalSteps.{Update, updated, Hits, local}
 use Rattle.step_trees.proofs.GoodTrees.{Good, step_kept}
@@ -52,13 +53,17 @@ updates_commute None v a h k f = refl
 updates_commute (Some x) None a h k f = refl
 updates_commute {P = P} (Some x) (Some y) a h k f = writes_commute y.0 x.0 y.1 x.1 a (λ e. f y.0 (subst P (sym e) h) k)
 
+all_touch : (p : Program) (env : Environment) (b : Codes) (q : Place) → (all p env b).writes q → (all p env b).touches q
+all_touch p env b q (inl h) = inl (overwrites_touch _ _ q h)
+all_touch p env b q (inr h) = inr (turns_write_touch p env b q h)
+
 waiting_touch : (p : Program) (fs : List Caller) (q : Place) → (waiting p fs).writes q → (waiting p fs).touches q
 waiting_touch p [] q h = h
-waiting_touch p (f ∷ fs) q (inl h) = inl (overwrites_touch _ _ q h)
+waiting_touch p (f ∷ fs) q (inl h) = inl (all_touch p f.environment f.rest q h)
 waiting_touch p (f ∷ fs) q (inr h) = inr (waiting_touch p fs q h)
 
 left_touch : (p : Program) (k : Leaf) (q : Place) → (left_of p k).writes q → (left_of p k).touches q
-left_touch p k q (inl h) = inl (overwrites_touch _ _ q h)
+left_touch p k q (inl h) = inl (all_touch p k.environment k.rest q h)
 left_touch p k q (inr h) = inr (waiting_touch p k.callers q h)
 
 pub writes_touch : (p : Program) (t : Tree) (q : Place) → (still p t).writes q → (still p t).touches q

@@ -1,34 +1,39 @@
 -- Facts about each reachable tree of an accepted program: environments fit, and sides are separate.
-use Rattle.std.proofs.Common.{◌≡◌, inr, ℕ, List, [], ◌∷◌, ◌++◌, map, Option, Some, None, refl, sym, ap, ◌∙◌, subst}
+use Rattle.std.proofs.Common.{◌≡◌, inl, inr, ℕ, ◌+◌, List, [], ◌∷◌, ◌++◌, map, Option, Some, None, refl, sym, ap, ◌∙◌, subst, arith}
 use Rattle.std.specs.Prelude.{ℤ, Bool, true, false, ok_or, Ok, Err, if◌then◌else◌}
-use Rattle.sections.specs.Place.{Window, sides_of}
+use Rattle.sections.specs.Place.{Window, sides_of, has_piece, piece_at, piece_of}
 use Rattle.sections.specs.Member.{next}
 use Rattle.types.specs.declared.fault.FaultKind.{FaultKind}
 use Rattle.types.specs.declared.fault.FaultKind.TheVariants.{SplitPoint}
-use Rattle.types.specs.Code.{Number, Truth, Code, Do, If, While, Split, Call, Async, Finish, Codes, End, Then, Procedure, Program}
+use Rattle.types.specs.Code.{Number, Truth, Code, Do, If, While, Split, Parts, Begun, Call, Async, Finish, Codes, End, Then, Procedure, Program}
 use Rattle.types.specs.Contents.{Contents, read}
 use Rattle.types.specs.Value.{Environment, Valued, then_try, number, numbers, truth}
-use Rattle.types.specs.Run.{Flow, On, Faulted, Stopped, Fault, State, primitive, procedure_of, entry, with_sides}
+use Rattle.types.specs.Run.{Flow, On, Faulted, Stopped, Fault, State, primitive, procedure_of, entry, with_sides, with_piece}
+use Rattle.types.specs.Sound.{IsText}
 use Rattle.types.specs.Outcome.{whole_arrays}
 use Rattle.types.specs.Trees.{Caller, Leaf, Tree, Single, AndThen, Beside, append, single, done, failed, task_environment, owner_environment, outermost, returned_by, return_to, before_rest, all_done, faults_of, lines_of, rightmost, unless_faulted, closed, and_then, called, child, parent, inside, held_back}
-use Rattle.types.specs.TreeSteps.{on_value, as_state, by_flow, tree_after, first_leaf, first_tree}
+use Rattle.types.specs.TreeSteps.{on_value, as_state, by_flow, size_by, before_turns, in_piece, tree_after, first_leaf, first_tree}
 use Rattle.types.specs.TreeRuns.{Runs, here, next as go_next, Reachable}
-use Rattle.effects.specs.Effects.{Inner, AllOf, PendingOf, accesses}
+use Rattle.effects.specs.Accesses.{Access}
+use Rattle.effects.specs.Effects.{Inner, AllOf, Pending, PendingOf, accesses}
+use Rattle.effects.specs.Footprint.{MayTouch, MayWrite, MayStillTouch, MayStillWrite, InTurnToCome}
 use Rattle.effects.specs.Sound.{Follows, IsSound, parameters_of}
 use Rattle.effects.specs.Kept.{SameWindows}
-use Rattle.effects.proofs.EnvironmentsFit.{fits_at_start, fits_inside_split, fits_in_call, at_other}
-use Rattle.effects.proofs.Footprints.{call-reads, call-writes, call-pending_reads, call-pending_writes, split-reads, split-writes, split-pending_reads, split-pending_writes}
+use Rattle.effects.proofs.EnvironmentsFit.{fits_at_start, fits_inside_split, fits_in_turn, fits_in_call, at_other, at_piece}
+use Rattle.effects.proofs.Footprints.{call-reads, call-writes, call-pending_reads, call-pending_writes, split-reads, split-writes, split-pending_reads, split-pending_writes, turn-reads, turn-writes, turn-pending_reads, turn-pending_writes}
 use Rattle.race_checker.specs.Clash.{IsAccepted}
 use Rattle.race_checker.specs.Calm.{Calm, IsCalm}
-use Rattle.race_checker.specs.Scope.{Top, Inside, Lists, may_writes}
+use Rattle.race_checker.specs.Scope.{Top, Inside, AtPiece, Lists, may_writes}
 use Rattle.race_checker.proofs.Calming.{is_calm}
 use Rattle.race_checker.proofs.Scoping.{arrays_written}
 use Rattle.step_trees.proofs.Deeds.{primitive_windows}
+use Rattle.step_trees.proofs.ComingTurns.{Among}
 use Rattle.step_trees.proofs.Scopes.{fits_scope}
-use Rattle.step_trees.specs.Still.{Footprint, both, foot, Separate, all, waiting, left_of, still}
+use Rattle.step_trees.proofs.Statements.{from_either}
+use Rattle.step_trees.specs.Still.{Footprint, both, Separate, all, waiting, left_of, still}
 use Rattle.step_trees.proofs.Steps.{Step, step_from}
-use Rattle.step_trees.proofs.Footprints.{Within, within_itself, within_trans, first_within, second_within, both_within, beside_within, nothing_within, separate_within, separate_both, separate_nothing, among, append_all, append_pending, statement_all, rest_all, statement_pending, rest_pending, cons_all, separate_from}
-use Rattle.step_trees.proofs.PlacedStatements.{Among, pending, IsPlaced, Focus, focus, keep_below, end_within, end_placed, same_placed, same_all, same_pending, rest_placed, focused, rest_apart, FitsIn, fits_there, prefixed, alone}
+use Rattle.step_trees.proofs.Footprints.{Within, within_itself, within_trans, first_within, second_within, both_within, beside_within, nothing_within, separate_within, separate_both, separate_nothing, separate_alone, pending, does, leaves, append_all, append_pending, statement_all, rest_all, statement_pending, rest_pending, cons_all, cons_pending, text_all, text_pending, text_does, text_leaves, among, separate_from}
+use Rattle.step_trees.proofs.PlacedStatements.{text_written, IsPlaced, Focus, focus, keep_below, apart_end, end_within, end_placed, same_placed, same_all, same_pending, rest_placed, focused, rest_apart, FitsIn, fits_there, prefixed, alone}
 
 module _ (p : Program) where
   -- a leaf's statements with those that wait for its calls; outside of all calls the windows of `keep` stay
@@ -223,8 +228,8 @@ module _ (p : Program) where
         larger : Among scope inner
         same : SameWindows scope env to
         fits : FitsIn p g to inner b
-        all : Within (all p to b) (foot env (AllOf p accesses l s))
-        pending : Within (pending p to b) (foot env (PendingOf p accesses s))
+        all : Within (all p to b) (does p env l s)
+        pending : Within (pending p to b) (leaves p env s)
 
       into : {scope : List ℕ} {env to : Environment} {rest : Codes} {b : Codes}
           → ((keep : List ℕ) (f : Focus p keep env l s rest) → IsBlock f.scope f.procedure env to b)
@@ -306,14 +311,18 @@ module _ (p : Program) where
     again {env = env} {l = l} {t = t} {b = b} {rest = rest} keep k =
         let f = focus p k in
         let whole = focused p f in
-        let pend : Within (pending p env b) (foot env (PendingOf p accesses (While t b))) = among env (λ x h. PendingOf.inner Inner.while h refl) in (
+        let text : IsText b = f.stands.block.written.0 in
+        let pend : Within (pending p env b) (leaves p env (While t b)) =
+        text_leaves p env (While t b) b text (λ x h. PendingOf.inner Inner.while h refl) in (
           f.scope,
           record {
-            placed = prefixed p whole f.scope b (λ x m. m) (fits_there p f f.stands.block.follows.0.1 f.stands.block.calm.0.0)
+            placed = prefixed p whole f.scope b (λ x m. m) (fits_there p f f.stands.block.follows.0.1 f.stands.block.calm.0.0 (text_written b text))
                 (separate_within pend (cons_all p env l (While t b) rest)
-                (separate_both (separate_from (f.stands.block.calm.0.1 env (fits_scope p f.procedure f.is_sound f.stands.block.lists env f.stands.block.fits.placed))) (rest_apart p f)));
+                (separate_both
+                (separate_alone (separate_from (f.stands.block.calm.0.1 env (fits_scope p f.procedure f.is_sound f.stands.block.lists env f.stands.block.fits.placed))))
+                (rest_apart p f)));
             all = within_trans (append_all p env b (Then l (While t b) rest))
-                (both_within (within_trans (among env (λ x h. AllOf.inner Inner.while h refl)) (statement_all p env l (While t b) rest)) (within_itself _));
+                (both_within (within_trans (text_does p env l (While t b) b text (λ x h. AllOf.inner Inner.while h refl)) (statement_all p env l (While t b) rest)) (within_itself _));
             pending = within_trans (append_pending p env b (Then l (While t b) rest))
                 (both_within (within_trans pend (statement_pending p env l (While t b) rest)) (within_itself _));
             same = λ x m. refl;
@@ -323,13 +332,150 @@ module _ (p : Program) where
 
     record Callee (l : ℕ) (s : Code) (g : Procedure) (env to : Environment) (rest : Codes) : Type 0 where
       placed : IsPlaced p [] (parameters_of g) to g.body
-      does : Within (all p to g.body) (foot env (AllOf p accesses l s))
-      leaves : Within (pending p to g.body) (foot env (PendingOf p accesses s))
-      apart : Separate (foot env (PendingOf p accesses s)) (all p env rest)
+      done_inside : Within (all p to g.body) (does p env l s)
+      left_inside : Within (pending p to g.body) (leaves p env s)
+      apart : Separate (leaves p env s) (all p env rest)
 
     record Spawned (env : Environment) (b rest : Codes) (scope : List ℕ) : Type 0 where
+      text : IsText b
       placed : IsPlaced p [] scope env b
-      apart : Separate (foot env (PendingOf p accesses (Async b))) (all p env rest)
+      apart : Separate (leaves p env (Async b)) (all p env rest)
+
+    -- The turns of a `parts`
+
+    -- a begun `parts` has no accesses of its own
+    begun_does : {A : Type 0} {l s n m x i : ℕ} {b : Codes} {y : Access} → AllOf p accesses l (Begun s n m x i b) y → A
+    begun_does (AllOf.own_access h) = elim h [ ]
+    begun_does (AllOf.inner j h e) = elim j [ ]
+
+    begun_leaves : {A : Type 0} {s n m x i : ℕ} {b : Codes} {y : Access} → PendingOf p accesses (Begun s n m x i b) y → A
+    begun_leaves (PendingOf.inner j h e) = elim j [ ]
+
+    cut_at : (w : Window) (n k : ℕ) → has_piece w n k ≡ true → piece_of w n k ≡ Some (piece_at n k w)
+    cut_at w n k left = ap (λ b. if◌then◌else◌ {A = Option Window} b (Some (piece_at n k w)) None) left
+
+    -- all turns together do what the `parts` does
+    turns_do : (env : Environment) (l s : ℕ) (e : Number) (x i : ℕ) (b : Codes) (n : ℕ)
+        → Within (does p env l (Begun s n 0 x i b)) (does p env l (Parts s e x i b))
+    turns_do env l s e x i b n = record {
+      touches = λ q. from_either (λ t. begun_does t.among)
+          (λ t. inl (turn-reads p env s e x i b n t.number (piece_at n t.number (env.windows s)) (cut_at (env.windows s) n t.number t.left) l q t.there));
+      writes = λ q. from_either (λ t. begun_does t.among)
+          (λ t. inl (turn-writes p env s e x i b n t.number (piece_at n t.number (env.windows s)) (cut_at (env.windows s) n t.number t.left) l q t.there));
+    }
+
+    turns_leave : (env : Environment) (l s : ℕ) (e : Number) (x i : ℕ) (b : Codes) (n : ℕ)
+        → Within (leaves p env (Begun s n 0 x i b)) (leaves p env (Parts s e x i b))
+    turns_leave env l s e x i b n = record {
+      touches = λ q. from_either (λ t. begun_leaves t.among)
+          (λ t. inl (turn-pending_reads p env s e x i b n t.number (piece_at n t.number (env.windows s)) (cut_at (env.windows s) n t.number t.left) l q t.there));
+      writes = λ q. from_either (λ t. begun_leaves t.among)
+          (λ t. inl (turn-pending_writes p env s e x i b n t.number (piece_at n t.number (env.windows s)) (cut_at (env.windows s) n t.number t.left) l q t.there));
+    }
+
+    end_pending : (env : Environment) (f : Footprint) → Within (pending p env End) f
+    end_pending env f = record {
+      touches = λ q. from_either (λ t. none_pending t.among) (λ t. absurd t);
+      writes = λ q. from_either (λ t. none_pending t.among) (λ t. absurd t);
+    }
+      where
+        none_pending : {A : Type 0} {y : Access} → Pending p accesses End y → A
+        none_pending h = elim h [ ]
+
+    later_turns : {env : Environment} {s n m x i : ℕ} (holds : Environment → Type 0)
+        → InTurnToCome env s n (m + 1) x i holds → InTurnToCome env s n m x i holds
+    later_turns holds t = record {
+      number = t.number;
+      later = (let h = t.later in omega (arith, h));
+      left = t.left;
+      there = t.there;
+    }
+
+    -- the turns after the next one are turns to come
+    later_do : (env : Environment) (l s n m x i : ℕ) (b : Codes)
+        → Within (does p env l (Begun s n (m + 1) x i b)) (does p env l (Begun s n m x i b))
+    later_do env l s n m x i b = record {
+      touches = λ q. from_either (λ t. begun_does t.among) (λ t. inr (later_turns (λ e. MayTouch p e b q) t));
+      writes = λ q. from_either (λ t. begun_does t.among) (λ t. inr (later_turns (λ e. MayWrite p e b q) t));
+    }
+
+    later_leave : (env : Environment) (s n m x i : ℕ) (b : Codes)
+        → Within (leaves p env (Begun s n (m + 1) x i b)) (leaves p env (Begun s n m x i b))
+    later_leave env s n m x i b = record {
+      touches = λ q. from_either (λ t. begun_leaves t.among) (λ t. inr (later_turns (λ e. MayStillTouch p e b q) t));
+      writes = λ q. from_either (λ t. begun_leaves t.among) (λ t. inr (later_turns (λ e. MayStillWrite p e b q) t));
+    }
+
+    -- the next turn, at the position of its begun `parts`
+    module _ (keep : List ℕ) (env : Environment) (l s n m x i : ℕ) (b rest : Codes) (f : Focus p keep env l (Begun s n m x i b) rest)
+        (left : has_piece (env.windows s) n m ≡ true) where
+      abbrev piece : Window
+      piece = piece_at n m (env.windows s)
+
+      abbrev turned : Environment
+      turned = with_piece x i piece m env
+
+      text_in : IsText b
+      text_in = f.stands.block.written.0
+
+      same_around : SameWindows f.scope env turned
+      same_around = at_piece p f.procedure f.scope env s x i f.stands.block.follows.0.0 piece m
+
+      turn_fits : FitsIn p f.procedure turned (x ∷ f.scope) b
+      turn_fits = record {
+        fits = fits_in_turn p f.procedure f.scope env s x i f.stands.block.follows.0.0 piece m n (cut_at (env.windows s) n m left) f.stands.block.fits;
+        follows = f.stands.block.follows.0.1;
+        names = AtPiece s x f.stands.block.names;
+        lists = Lists.at_piece f.stands.block.follows.0.0 f.stands.block.lists;
+        calm = f.stands.block.calm.0.0;
+        written = text_written b text_in;
+      }
+
+      now : (holds : Environment → Type 0) → holds turned → InTurnToCome env s n m x i holds
+      now holds t = record { number = m; later = omega arith; left = left; there = t }
+
+      turn_does : Within (all p turned b) (does p env l (Begun s n m x i b))
+      turn_does = within_trans (text_all p turned b text_in) (record {
+        touches = λ q t. inr (now (λ e. MayTouch p e b q) t);
+        writes = λ q t. inr (now (λ e. MayWrite p e b q) t);
+      })
+
+      turn_leaves : Within (pending p turned b) (leaves p env (Begun s n m x i b))
+      turn_leaves = within_trans (text_pending p turned b text_in) (record {
+        touches = λ q t. inr (now (λ e. MayStillTouch p e b q) t);
+        writes = λ q t. inr (now (λ e. MayStillWrite p e b q) t);
+      })
+
+      -- what it leaves pending keeps apart from the later turns
+      turn_apart : Separate (pending p turned b) (does p env l (Begun s n (m + 1) x i b))
+      turn_apart =
+          let fits = fits_scope p f.procedure f.is_sound f.stands.block.lists env f.stands.block.fits.placed in
+          let apart = f.stands.block.calm.0.1 in
+          separate_within (text_pending p turned b text_in) (within_itself _) (record {
+            writes_first = λ q w. from_either (λ t. begun_does t.among)
+                (λ t. apart.writes_first env i n m t.number fits (let h = t.later in omega (arith, h)) left t.left q w t.there);
+            writes_second = λ q t. from_either (λ w. begun_does w.among)
+                (λ w. apart.writes_second env i n m w.number fits (let h = w.later in omega (arith, h)) left w.left q t w.there);
+          })
+
+      turn_block : IsBlock l (Begun s n m x i b) f.scope f.procedure env turned b
+      turn_block = record {
+        inner = x ∷ f.scope;
+        larger = λ z h. next h;
+        same = same_around;
+        fits = turn_fits;
+        all = turn_does;
+        pending = turn_leaves;
+      }
+
+      -- the later turns stand before what follows
+      abbrev later_placed : IsPlaced p keep f.scope env (Then l (Begun s n (m + 1) x i b) rest)
+      later_placed = prefixed p (rest_placed p f) f.scope (Then l (Begun s n (m + 1) x i b) End) (λ z h. h)
+          (fits_there p f (f.stands.block.follows.0, tt) (f.stands.block.calm.0, tt, apart_end p f.stands.block.names _) (text_in, tt))
+          (separate_within
+          (within_trans (cons_pending p env l (Begun s n (m + 1) x i b) End)
+          (both_within (later_leave env s n m x i b) (end_pending env _)))
+          (within_itself _) (rest_apart p f))
 
     module _ (calm : IsCalm p) where
       if_kept : (keep scope : List ℕ) (l : ℕ) (t : Truth) (b c : Codes) (k : Leaf) → Before l (If t b c) keep scope k
@@ -342,9 +488,12 @@ module _ (p : Program) where
             same = λ x m. refl;
             fits =
                 fits_there p f (of_branch (λ x. Follows p f.procedure f.scope x) v f.stands.block.follows.0.1 f.stands.block.follows.0.2)
-                (of_branch (λ x. Calm p f.stands.block.names x) v f.stands.block.calm.0.0 f.stands.block.calm.0.1);
-            all = among _ (λ x h. AllOf.inner (branch v) h refl);
-            pending = among _ (λ x h. PendingOf.inner (branch v) h refl);
+                (of_branch (λ x. Calm p f.stands.block.names x) v f.stands.block.calm.0.0 f.stands.block.calm.0.1)
+                (text_written (if v then b else c) (of_branch IsText v f.stands.block.written.0.0 f.stands.block.written.0.1));
+            all = text_does p k.environment l (If t b c) (if v then b else c)
+                (of_branch IsText v f.stands.block.written.0.0 f.stands.block.written.0.1) (λ x h. AllOf.inner (branch v) h refl);
+            pending = text_leaves p k.environment (If t b c) (if v then b else c)
+                (of_branch IsText v f.stands.block.written.0.0 f.stands.block.written.0.1) (λ x h. PendingOf.inner (branch v) h refl);
           }) st
         where
           of_branch : (P : Codes → Type 0) (v : Bool) → P b → P c → P (if v then b else c)
@@ -378,16 +527,96 @@ module _ (p : Program) where
               names = Inside s x y f.stands.block.names;
               lists = Lists.inside f.stands.block.follows.0.0 f.stands.block.lists;
               calm = f.stands.block.calm.0;
+              written = text_written b f.stands.block.written.0;
             };
-            all = record {
+            all = within_trans (text_all p (with_sides x y ws k.environment) b f.stands.block.written.0) (within_trans (record {
               touches = split-reads p k.environment s e x y b v ws cut l;
               writes = split-writes p k.environment s e x y b v ws cut l;
-            };
-            pending = record {
+            }) (first_within _ _));
+            pending = within_trans (text_pending p (with_sides x y ws k.environment) b f.stands.block.written.0) (within_trans (record {
               touches = split-pending_reads p k.environment s e x y b v ws cut l;
               writes = split-pending_writes p k.environment s e x y b v ws cut l;
-            };
+            }) (first_within _ _));
           }) st
+
+      parts_kept : (keep scope : List ℕ) (l s : ℕ) (e : Number) (x i : ℕ) (b : Codes) (k : Leaf)
+          → Before l (Parts s e x i b) keep scope k → (n : ℕ)
+          → After l (Parts s e x i b) keep k (single (before_turns l s n 0 x i b k))
+      parts_kept keep scope l s e x i b k st n = by (has_piece (k.environment.windows s) n 0)
+        where
+          by : (left : Bool)
+              → After l (Parts s e x i b) keep k (single (if left then record k { rest = Then l (Begun s n 0 x i b) k.rest } else k))
+          by true = into_leaf l (Parts s e x i b) keep scope k k.environment (Then l (Begun s n 0 x i b) End) (λ keep f. record {
+            inner = f.scope;
+            larger = λ z m. m;
+            same = λ z m. refl;
+            fits = fits_there p f ((f.stands.block.follows.0.0, f.stands.block.follows.0.2), tt)
+                (f.stands.block.calm.0, tt, apart_end p f.stands.block.names _) (f.stands.block.written.0, tt);
+            all = within_trans (cons_all p k.environment l (Begun s n 0 x i b) End)
+                (both_within (turns_do k.environment l s e x i b n) (end_within p k.environment _));
+            pending = within_trans (cons_pending p k.environment l (Begun s n 0 x i b) End)
+                (both_within (turns_leave k.environment l s e x i b n) (end_pending k.environment _));
+          }) st
+          by false = on_leaf l (Parts s e x i b) keep scope k st
+
+      -- a turn, and the turns after it
+      turn_with_more : {scope : List ℕ} {env : Environment} {l s n m x i : ℕ} {b rest : Codes} → has_piece (env.windows s) n m ≡ true
+          → Moves scope env (Then l (Begun s n m x i b) rest) (with_piece x i (piece_at n m (env.windows s)) m env)
+          (append b (Then l (Begun s n (m + 1) x i b) rest)) (λ x. Unit {0})
+      turn_with_more {env = env} {l = l} {s = s} {n = n} {m = m} {x = x} {i = i} {b = b} {rest = rest} left keep k =
+          let f = focus p k in
+          let to = with_piece x i (piece_at n m (env.windows s)) m env in
+          let now = Begun s n m x i b in
+          let more = Begun s n (m + 1) x i b in
+          let same : SameWindows f.scope env to = same_around keep env l s n m x i b rest f left in
+          let whole = later_placed keep env l s n m x i b rest f left in
+          let there = same_placed p sound {env = env} {other = to} same whole in
+          let all_same = within_trans (same_all p sound {env = env} {other = to} same whole) (cons_all p env l more rest) in
+          let pending_same = within_trans (same_pending p sound {env = env} {other = to} same whole) (cons_pending p env l more rest) in (
+            x ∷ f.scope,
+            record {
+              placed = prefixed p there (x ∷ f.scope) b (λ z h. next h) (turn_fits keep env l s n m x i b rest f left)
+                  (separate_within (within_itself _) all_same
+                  (separate_both (turn_apart keep env l s n m x i b rest f left)
+                  (separate_within (turn_leaves keep env l s n m x i b rest f left) (within_itself _) (rest_apart p f))));
+              all = within_trans (append_all p to b (Then l more rest))
+                  (both_within (within_trans (turn_does keep env l s n m x i b rest f left) (statement_all p env l now rest))
+                  (within_trans all_same
+                  (both_within (within_trans (later_do env l s n m x i b) (statement_all p env l now rest)) (rest_all p env l now rest))));
+              pending = within_trans (append_pending p to b (Then l more rest))
+                  (both_within (within_trans (turn_leaves keep env l s n m x i b rest f left) (statement_pending p env l now rest))
+                  (within_trans pending_same
+                  (both_within (within_trans (later_leave env s n m x i b) (statement_pending p env l now rest)) (rest_pending p env l now rest))));
+              same = λ z h. same z (keep_below p (rest_placed p f) z h);
+            },
+            tt,
+          )
+
+      begun_kept : (keep scope : List ℕ) (l s n m x i : ℕ) (b : Codes) (k : Leaf)
+          → Before l (Begun s n m x i b) keep scope k
+          → After l (Begun s n m x i b) keep k (single (if has_piece (k.environment.windows s) n m
+          then before_rest b (in_piece s n m x i (before_turns l s n (m + 1) x i b k)) else k))
+      begun_kept keep scope l s n m x i b k st = by (has_piece (k.environment.windows s) n m) refl
+        where
+          further : has_piece (k.environment.windows s) n m ≡ true → (more : Bool)
+              → After l (Begun s n m x i b) keep k (single (before_rest b (in_piece s n m x i
+              (if more then record k { rest = Then l (Begun s n (m + 1) x i b) k.rest } else k))))
+          further left true =
+              let c = stack_moved keep scope (λ x. Unit {0}) k.callers (turn_with_more {s = s} {n = n} {m = m} {x = x} {i = i} {b = b} left) st in
+              kept_trans c.same c.within
+              (one_kept keep c.scope (record k {
+                environment = with_piece x i (piece_at n m (k.environment.windows s)) m k.environment;
+                rest = append b (Then l (Begun s n (m + 1) x i b) k.rest);
+              }) c.stack)
+          further left false =
+              into_leaf l (Begun s n m x i b) keep scope k (with_piece x i (piece_at n m (k.environment.windows s)) m k.environment) b
+              (λ keep f. turn_block keep k.environment l s n m x i b k.rest f left) st
+
+          by : (left : Bool) → has_piece (k.environment.windows s) n m ≡ left
+              → After l (Begun s n m x i b) keep k (single (if left
+              then before_rest b (in_piece s n m x i (before_turns l s n (m + 1) x i b k)) else k))
+          by true left = further left (has_piece (k.environment.windows s) n (m + 1))
+          by false left = on_leaf l (Begun s n m x i b) keep scope k st
 
       callee : (l f : ℕ) (es : List Number) (ss : List ℕ) (vs : List ℤ) (env : Environment) (rest : Codes) (keep : List ℕ)
           → Focus p keep env l (Call f es ss) rest → Callee l (Call f es ss) (procedure_of p f) env (entry vs (map env.windows ss)) rest
@@ -402,15 +631,16 @@ module _ (p : Program) where
               names = Top (may_writes g);
               lists = Lists.top;
               calm = calm.procedures f;
+              written = text_written g.body is.text;
             });
-            does = record {
+            done_inside = within_trans (text_all p (entry vs (map env.windows ss)) g.body is.text) (within_trans (record {
               touches = λ q t. (call-reads p sound env l f es ss vs passes.number q).1 (inr t);
               writes = λ q t. (call-writes p sound env l f es ss vs passes.number q).1 t;
-            };
-            leaves = record {
+            }) (first_within _ _));
+            left_inside = within_trans (text_pending p (entry vs (map env.windows ss)) g.body is.text) (within_trans (record {
               touches = λ q t. (call-pending_reads p sound env l f es ss vs passes.number q).1 t;
               writes = λ q t. (call-pending_writes p sound env l f es ss vs passes.number q).1 t;
-            };
+            }) (first_within _ _));
             apart = rest_apart p at;
           }
 
@@ -425,12 +655,12 @@ module _ (p : Program) where
           (past_with (λ x. Callee l s g env (entry vs (map env.windows ss)) k.rest) (callee l f es ss vs env k.rest)) st in
           let inner = m.more in
           kept_trans m.same
-          (both_within (within_trans inner.does (within_trans (statement_all p env l s k.rest) (first_within _ _)))
+          (both_within (within_trans inner.done_inside (within_trans (statement_all p env l s k.rest) (first_within _ _)))
           (beside_within (rest_all p env l s k.rest) (within_itself _)))
           (one_kept keep (parameters_of g) (called g (entry vs (map env.windows ss)) k) (
             inner.placed,
-            separate_both (separate_within inner.leaves (within_itself _) inner.apart)
-                (separate_within (within_trans inner.leaves (statement_pending p env l s k.rest)) (within_itself _) (pending_waiting keep scope env (Then l s k.rest) k.callers st)),
+            separate_both (separate_within inner.left_inside (within_itself _) inner.apart)
+                (separate_within (within_trans inner.left_inside (statement_pending p env l s k.rest)) (within_itself _) (pending_waiting keep scope env (Then l s k.rest) k.callers st)),
             (m.scope, m.stack),
           ))
 
@@ -440,10 +670,13 @@ module _ (p : Program) where
           let s = Async b in
           let env = k.environment in
           let m = stack_moved keep scope (Spawned env b k.rest) k.callers (past_with (Spawned env b k.rest) (λ keep f. record {
-            placed = alone p [] f.scope env f.procedure b f.is_sound (λ x m. elim m [ ]) (fits_there p f f.stands.block.follows.0 f.stands.block.calm.0);
+            text = f.stands.block.written.0;
+            placed = alone p [] f.scope env f.procedure b f.is_sound (λ x m. elim m [ ])
+                (fits_there p f f.stands.block.follows.0 f.stands.block.calm.0 (text_written b f.stands.block.written.0));
             apart = rest_apart p f;
           })) st in
-          let pend : Within (all p env b) (foot env (PendingOf p accesses s)) = among env (λ x h. PendingOf.async h) in
+          let pend : Within (all p env b) (leaves p env s) =
+          within_trans (text_all p env b m.more.text) (within_trans (among env (λ x h. PendingOf.async h)) (first_within _ _)) in
           let left = one_kept [] m.scope (child b k) m.more.placed in
           let right = one_kept keep m.scope (parent k) m.stack in
           record {
@@ -452,7 +685,7 @@ module _ (p : Program) where
                 (separate_both (separate_within pend (within_itself _) m.more.apart)
                 (separate_within (within_trans pend (statement_pending p env l s k.rest)) (within_itself _) (pending_waiting keep scope env (Then l s k.rest) k.callers st))));
             within = both_within
-                (within_trans left.within (both_within (within_trans (among env (λ x h. AllOf.async h)) (within_trans (statement_all p env l s k.rest) (first_within _ _))) (nothing_within _)))
+                (within_trans left.within (both_within (within_trans (text_does p env l s b m.more.text (λ x h. AllOf.async h)) (within_trans (statement_all p env l s k.rest) (first_within _ _))) (nothing_within _)))
                 (within_trans right.within m.within);
             same = λ x h. m.same x h ∙ right.same x h;
           }
@@ -462,12 +695,15 @@ module _ (p : Program) where
       finish_kept keep scope l b k st =
           let s = Finish b in
           let env = k.environment in
-          let m = stack_moved keep scope (λ i. IsPlaced p i i env b) k.callers (past_with (λ i. IsPlaced p i i env b) (λ keep f.
-          alone p f.scope f.scope env f.procedure b f.is_sound (λ x m. m) (fits_there p f f.stands.block.follows.0 f.stands.block.calm.0))) st in
-          let body = one_kept m.scope m.scope (inside b k) m.more in
+          let m = stack_moved keep scope (λ i. IsText b × IsPlaced p i i env b) k.callers (past_with (λ i. IsText b × IsPlaced p i i env b) (λ keep f. (
+            f.stands.block.written.0,
+            alone p f.scope f.scope env f.procedure b f.is_sound (λ x m. m)
+                (fits_there p f f.stands.block.follows.0 f.stands.block.calm.0 (text_written b f.stands.block.written.0)),
+          ))) st in
+          let body = one_kept m.scope m.scope (inside b k) m.more.1 in
           kept_trans m.same
           (both_within
-          (within_trans body.within (both_within (within_trans (among env (λ x h. AllOf.finish h)) (within_trans (statement_all p env l s k.rest) (first_within _ _))) (nothing_within _)))
+          (within_trans body.within (both_within (within_trans (text_does p env l s b m.more.0 (λ x h. AllOf.finish h)) (within_trans (statement_all p env l s k.rest) (first_within _ _))) (nothing_within _)))
           m.within)
           (then_kept keep m.scope (single (inside b k)) (held_back k) m.stack body.good body.same)
 
@@ -484,6 +720,10 @@ module _ (p : Program) where
           value_kept l (Split s e x y b) keep scope k (then_try (number k.environment (read a) e) (λ v. ok_or (sides_of (k.environment.windows s) v) SplitPoint))
           (λ ws. single (before_rest b (record k { environment = with_sides x y ws k.environment }))) st
           (λ ws h. let c = cut_from (number k.environment (read a) e) (k.environment.windows s) ws h in split_kept keep scope l s e x y b k st c.0 ws c.1)
+      after_kept keep scope l (Parts s e x i b) k a st =
+          value_kept l (Parts s e x i b) keep scope k (size_by (number k.environment (read a) e)) (λ n. single (before_turns l s n 0 x i b k)) st
+          (λ n h. parts_kept keep scope l s e x i b k st n)
+      after_kept keep scope l (Begun s n m x i b) k a st = begun_kept keep scope l s n m x i b k st
       after_kept keep scope l (Call f es ss) k a st =
           value_kept l (Call f es ss) keep scope k (numbers k.environment (read a) es) (λ vs. single (called (procedure_of p f) (entry vs (map k.environment.windows ss)) k)) st
           (λ vs h. call_kept keep scope l f es ss vs k st)
@@ -515,6 +755,7 @@ first_good p sound calm = (one_kept p [] (parameters_of p.main) (first_leaf p)
       names = Top (may_writes p.main);
       lists = Lists.top;
       calm = subst (λ ms. Calm p (Top ms) p.main.body) (sym (arrays_written p sound.arrays)) calm.main;
+      written = text_written p.main.body sound.main.text;
     }))).good
 
 module _ (p : Program) (sound : IsSound p) (accepted : IsAccepted p) where

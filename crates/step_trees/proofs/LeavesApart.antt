@@ -17,7 +17,7 @@ use Rattle.step_trees.specs.Still.{Separate, left_of, still}
 use Rattle.step_trees.specs.Laws.{LeafFits, ThenIn, OwnerKeeps}
 use Rattle.step_trees.proofs.Steps.{Step, step_below, step_at}
 use Rattle.step_trees.proofs.Footprints.{Within, within_itself, within_trans, first_within, second_within, separate_within}
-use Rattle.step_trees.proofs.PlacedStatements.{IsPlaced, all_scoped}
+use Rattle.step_trees.proofs.PlacedStatements.{IsPlaced, all_scoped, turns_scoped}
 use Rattle.step_trees.proofs.GoodTrees.{Stack, Good, reachable_good}
 use Rattle.step_trees.proofs.PlacesTouched.{step_touches, step_overwrites}
 
@@ -56,11 +56,13 @@ module _ (p : Program) where
 
   next_touched : (k : Leaf) (a : Contents) (q : Place) → Member q (next_reads k a) ⊎ Member q (next_writes k a)
       → (left_of p k).touches q
-  next_touched k a q (inl h) = inl (first_touches k.environment a q k.rest h)
-  next_touched k a q (inr h) = let t = first_overwrites k.environment a q k.rest h in inl (record { access = t.access; among = t.among; place = t.place })
+  next_touched k a q (inl h) = inl (inl (first_touches k.environment a q k.rest h))
+  next_touched k a q (inr h) =
+      let t = first_overwrites k.environment a q k.rest h in
+      inl (inl (record { access = t.access; among = t.among; place = t.place }))
 
   next_written : (k : Leaf) (a : Contents) (q : Place) → Member q (next_writes k a) → (left_of p k).writes q
-  next_written k a q h = inl (first_overwrites k.environment a q k.rest h)
+  next_written k a q h = inl (inl (first_overwrites k.environment a q k.rest h))
 
   stack_of : {n : ℕ} {k : Leaf} {t u : Tree} {a b : Contents} → Step p n k t a u b → (keep : List ℕ) → Good p keep t
       → (other scope : List ℕ) × Stack p other scope k.environment k.rest k.callers
@@ -78,7 +80,7 @@ module _ (p : Program) (sound : IsSound p) where
   owner_in : {t : Tree} (k : Leaf) {v : Tree} → ThenIn t k v → (keep : List ℕ) → Good p keep v → OwnerKeeps p t k
   owner_in k ThenIn.here keep (Good.is_then scope st g same) =
       let placed = (placed_of p keep scope k.environment k.rest k.callers st).1 in
-      record { scope = scope; in_scope = all_scoped p sound placed; same = same }
+      record { scope = scope; in_scope = all_scoped p sound placed; turns_in_scope = turns_scoped p sound placed; same = same }
   owner_in k (ThenIn.first i) keep (Good.is_then scope st g same) = owner_in k i scope g
   owner_in k (ThenIn.left i) keep (Good.is_beside {other = other} g h apart) = owner_in k i other g
   owner_in k (ThenIn.right i) keep (Good.is_beside g h apart) = owner_in k i keep h
@@ -110,6 +112,7 @@ module _ (p : Program) (sound : IsSound p) (accepted : IsAccepted p) (input : Co
         scope = st.1;
         fits = placed.stands.block.fits;
         in_scope = all_scoped p sound placed;
+        turns_in_scope = turns_scoped p sound placed;
       }
 
   -- the environment with which a `<k>` continues is its own, except for scalars

@@ -1,5 +1,6 @@
 pub mod AlikeTrees
 pub mod ChosenRuns
+pub mod ComingTurns
 pub mod CommutingSteps
 pub mod Deeds
 pub mod Drawing
@@ -11,6 +12,7 @@ pub mod Footprints
 pub mod GoodTrees
 pub mod HeldTrees
 pub mod KnownLabels
+pub mod Lawful
 pub mod LeavesApart
 pub mod LocalSteps
 pub mod LyingTrees

@@ -6,7 +6,7 @@ use Rattle.types.proofs.Bindings.{element_in}
 use Rattle.sections.specs.Place.{Place, sides_of}
 use Rattle.sections.specs.Member.{Member, first, next}
 use Rattle.types.specs.declared.fault.FaultKind.TheVariants.{Raised, SplitPoint}
-use Rattle.types.specs.Code.{Number, Primitive, Skip, Assign, Store, Print, Raise, Code, Do, If, While, Split, Call, Async, Finish, Codes, End, Then, Program}
+use Rattle.types.specs.Code.{Number, Primitive, Skip, Assign, Store, Print, Raise, Code, Do, If, While, Split, Parts, Begun, Call, Async, Finish, Codes, End, Then, Program}
 use Rattle.types.specs.Indexed.{indexed, indexed_truth}
 use Rattle.types.specs.Contents.{Contents, read, write}
 use Rattle.types.specs.Value.{Environment, Valued, then_try, element_of, holds_number, number, numbers}
@@ -14,7 +14,7 @@ use Rattle.types.specs.Run.{State, array_of, primitive, entry, with_sides, proce
 use Rattle.types.specs.Laws.{SameOn}
 use Rattle.types.proofs.Readings.{number_same, truth_same}
 use Rattle.types.specs.Trees.{Leaf, Tree, single, before_rest, called}
-use Rattle.types.specs.TreeSteps.{on_value, as_state, with_state, tree_after, store_after}
+use Rattle.types.specs.TreeSteps.{on_value, as_state, with_state, size_by, before_turns, tree_after, store_after}
 use Rattle.effects.specs.Accesses.{Access, reads, own_accesses, own_primitive}
 use Rattle.effects.specs.Effects.{AllOf, All, accesses}
 use Rattle.effects.specs.Footprint.{Touches, Overwrites}
@@ -187,6 +187,17 @@ module _ (p : Program) where
       refl,
     );
   }
+  local_after l (Parts s e x i b) k a = record {
+    update = None;
+    writes = tt;
+    store = refl;
+    elsewhere = λ c h. (
+      ap (λ v. on_value l k (size_by v) (λ n. single (before_turns l s n 0 x i b k)))
+          (number_same k.environment (read a) (read c) e (same_on k.environment a c l (indexed e) h)),
+      refl,
+    );
+  }
+  local_after l (Begun s n m x i b) k a = record { update = None; writes = tt; store = refl; elsewhere = λ c h. (refl, refl) }
   local_after l (Call f es ss) k a = record {
     update = None;
     writes = tt;
@@ -221,10 +232,10 @@ module _ (p : Program) where
 
   module _ (k : Leaf) (l : ℕ) (s : Code) (rest : Codes) (e : k.rest ≡ Then l s rest) where
     own_touches : (q : Place) → Touches k.environment (λ x. Member x (own_accesses l s)) q → (left_of p k).touches q
-    own_touches q t = inl (record { access = t.access; among = subst (λ c. All p accesses c t.access) (sym e) (All.here (AllOf.own_access t.among)); place = t.place })
+    own_touches q t = inl (inl (record { access = t.access; among = subst (λ c. All p accesses c t.access) (sym e) (All.here (AllOf.own_access t.among)); place = t.place }))
 
     own_writes : (q : Place) → Overwrites k.environment (λ x. Member x (own_accesses l s)) q → (left_of p k).writes q
-    own_writes q t = inl (record { access = t.access; among = subst (λ c. All p accesses c t.access) (sym e) (All.here (AllOf.own_access t.among)); place = t.place; writes = t.writes })
+    own_writes q t = inl (inl (record { access = t.access; among = subst (λ c. All p accesses c t.access) (sym e) (All.here (AllOf.own_access t.among)); place = t.place; writes = t.writes }))
 
   pub local : {n : ℕ} {k : Leaf} {t u : Tree} {a b : Contents} → Step p n k t a u b → Local n k t a u b
   local (Step.here {k = k} {l = l} {s = s} {rest = rest} {a = a} r e f) =

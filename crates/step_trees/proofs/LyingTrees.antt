@@ -1,15 +1,15 @@
 -- Windows of trees stay in their arrays.
-use Rattle.std.proofs.Common.{◌≡◌, ℕ, List, [], ◌∷◌, Ok, Err, Some, refl, sym, subst}
+use Rattle.std.proofs.Common.{◌≡◌, ℕ, ◌+◌, List, [], ◌∷◌, Ok, Err, Option, None, Some, refl, sym, ap, ◌∙◌, subst}
 use Rattle.std.specs.Prelude.{Bool, true, false, map, if◌then◌else◌}
-use Rattle.sections.specs.Place.{Window}
-use Rattle.types.specs.Code.{Code, Do, If, While, Split, Call, Async, Finish, Codes, End, Then, Program}
+use Rattle.sections.specs.Place.{Window, has_piece, piece_at, piece_of}
+use Rattle.types.specs.Code.{Code, Do, If, While, Split, Parts, Begun, Call, Async, Finish, Codes, End, Then, Program}
 use Rattle.types.specs.Contents.{Contents, read, held_by}
 use Rattle.types.specs.Value.{Environment, Valued, number, numbers, truth}
 use Rattle.types.specs.Run.{Flow, On, Faulted, Stopped, Fault, State, primitive, with_sides, entry, procedure_of}
 use Rattle.types.specs.Trees.{Caller, Leaf, Tree, Single, AndThen, Beside, single, returned_by, return_to, done, outermost, rightmost, owner_environment, all_done, faults_of, lines_of, unless_faulted, closed, and_then, before_rest, called, child, parent, inside, held_back}
-use Rattle.types.specs.TreeSteps.{on_value, as_state, by_flow, with_state, sides_at, tree_after, step, first_leaf, first_tree, leaf_at}
+use Rattle.types.specs.TreeSteps.{on_value, as_state, by_flow, with_state, sides_at, size_by, before_turns, in_piece, tree_after, step, first_leaf, first_tree, leaf_at}
 use Rattle.statement_steps.specs.Bounds.{LiesInArray, LiesInArrays}
-use Rattle.statement_steps.proofs.BoundsLemmas.{halves_lie, with_sides_lies, entry_lies, main_lies}
+use Rattle.statement_steps.proofs.BoundsLemmas.{halves_lie, with_sides_lies, piece_lies, with_piece_lies, entry_lies, main_lies}
 use Rattle.step_trees.proofs.Deeds.{primitive_windows}
 use Rattle.step_trees.specs.Windows.{CallersLie, LeafLies, TreeLies}
 use Rattle.step_trees.proofs.Steps.{Step, step_from, step_at}
@@ -89,6 +89,30 @@ module _ (p : Program) where
     faults = st.faults;
   }) (subst (λ (ws : ℕ → Window). (s : ℕ) → LiesInArray p (ws s)) (sym e) h.0, h.1)
 
+  -- with the turns of a `parts` before its other statements
+  before_lies : (l s n m x i : ℕ) (b : Codes) (k : Leaf) → LeafLies p k → LeafLies p (before_turns l s n m x i b k)
+  before_lies l s n m x i b k h = by (has_piece (k.environment.windows s) n m)
+    where
+      by : (left : Bool) → LeafLies p (if left then record k { rest = Then l (Begun s n m x i b) k.rest } else k)
+      by true = h
+      by false = h
+
+  same_environment : (l s n m x i : ℕ) (b : Codes) (k : Leaf) → (before_turns l s n m x i b k).environment ≡ k.environment
+  same_environment l s n m x i b k = by (has_piece (k.environment.windows s) n m)
+    where
+      by : (left : Bool) → (if left then record k { rest = Then l (Begun s n m x i b) k.rest } else k).environment ≡ k.environment
+      by true = refl
+      by false = refl
+
+  -- in a turn
+  piece_in : (s n m x i : ℕ) (k : Leaf) → has_piece (k.environment.windows s) n m ≡ true → LeafLies p k
+      → LeafLies p (in_piece s n m x i k)
+  piece_in s n m x i k left h =
+      let w = k.environment.windows s in
+      let v = piece_at n m w in
+      let is : piece_of w n m ≡ Some v = ap (λ b. if◌then◌else◌ {A = Option Window} b (Some v) None) left in
+      (with_piece_lies p x i v m k.environment (piece_lies p w v n m (h.0 s) is) h.0, h.1)
+
   after_lies : (l : ℕ) (s : Code) (k : Leaf) (a : Contents) → LeafLies p k → TreeLies p (tree_after p l s k a)
   after_lies l (Do s) k a h = state_lies k (primitive p l s (as_state k a)) (primitive_windows p l s (as_state k a)) h
   after_lies l (If t b c) k a h = value_lies l k (truth k.environment (read a) t) (λ v. single (before_rest (if v then b else c) k)) h (λ v e. single_lies (before_rest (if v then b else c) k) h)
@@ -103,6 +127,20 @@ module _ (p : Program) where
       (λ ws. single (before_rest b (record k { environment = with_sides x y ws k.environment }))) h (λ ws is.
       single_lies (before_rest b (record k { environment = with_sides x y ws k.environment }))
       (with_sides_lies p x y ws k.environment (halves_lie p (as_state k a) s e ws h.0 is) h.0, h.1))
+  after_lies l (Parts s e x i b) k a h = value_lies l k (size_by (number k.environment (read a) e))
+      (λ n. single (before_turns l s n 0 x i b k)) h (λ n is. single_lies (before_turns l s n 0 x i b k) (before_lies l s n 0 x i b k h))
+  after_lies l (Begun s n m x i b) k a h = by (has_piece (k.environment.windows s) n m) refl
+    where
+      j : Leaf
+      j = before_turns l s n (m + 1) x i b k
+
+      by : (left : Bool) → has_piece (k.environment.windows s) n m ≡ left
+          → TreeLies p (single (if left then before_rest b (in_piece s n m x i j) else k))
+      by true left =
+          single_lies (before_rest b (in_piece s n m x i j)) (piece_in s n m x i j
+          (ap (λ (env : Environment). has_piece (env.windows s) n m) (same_environment l s n (m + 1) x i b k) ∙ left)
+          (before_lies l s n (m + 1) x i b k h))
+      by false left = single_lies k h
   after_lies l (Call f es ss) k a h = value_lies l k (numbers k.environment (read a) es)
       (λ vs. single (called (procedure_of p f) (entry vs (map k.environment.windows ss)) k)) h (λ vs e.
       single_lies (called (procedure_of p f) (entry vs (map k.environment.windows ss)) k) (entry_lies p vs k.environment ss h.0, (h.0, h.1)))

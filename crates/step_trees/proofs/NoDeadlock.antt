@@ -1,7 +1,7 @@
 -- A reachable tree that hasn't ended has a leaf that may step.
 use Rattle.std.proofs.Common.{◌≡◌, ℕ, ◌+◌, ◌<◌, refl, sym, subst, arith}
 use Rattle.std.specs.Prelude.{Bool, true, false, ◌&&◌, if◌then◌else◌, Ok, Err}
-use Rattle.types.specs.Code.{Code, Do, If, While, Split, Call, Async, Finish, Codes, End, Then, Program}
+use Rattle.types.specs.Code.{Code, Do, If, While, Split, Parts, Begun, Call, Async, Finish, Codes, End, Then, Program}
 use Rattle.types.specs.Contents.{Contents}
 use Rattle.types.specs.Value.{Valued}
 use Rattle.types.specs.Run.{Flow, On, Faulted, Stopped, primitive}
@@ -53,6 +53,8 @@ module _ (p : Program) where
   awake_after l (If t b c) k a = awake_value l k _ _ (λ v. one_is)
   awake_after l (While t b) k a = awake_value l k _ _ (λ v. one_is)
   awake_after l (Split s e x y b) k a = awake_value l k _ _ (λ v. one_is)
+  awake_after l (Parts s e x i b) k a = awake_value l k _ _ (λ v. one_is)
+  awake_after l (Begun s n m x i b) k a = one_is
   awake_after l (Call f es ss) k a = awake_value l k _ _ (λ v. one_is)
   awake_after l (Async b) k a = both_are one_is one_is
   awake_after l (Finish b) k a = awake_then (single (inside b k)) (held_back k) one_is

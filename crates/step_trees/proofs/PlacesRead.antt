@@ -6,12 +6,12 @@ use Rattle.sections.specs.Place.{Place, same_place, sides_of}
 use Rattle.sections.specs.Member.{Member, first}
 use Rattle.types.specs.declared.fault.FaultKind.{FaultKind}
 use Rattle.types.specs.declared.fault.FaultKind.TheVariants.{SplitPoint, Raised}
-use Rattle.types.specs.Code.{Number, Literal, Scalar, Element, Length, Negative, Chain, Links, Done, Link, Truth, Constant, Compare, Not, Both, Either, Truths, NoMore, Also, Primitive, Skip, Assign, Store, Print, Raise, Code, Do, If, While, Split, Call, Async, Finish, Codes, End, Then, Program}
+use Rattle.types.specs.Code.{Number, Literal, Scalar, Element, Length, Negative, Chain, Links, Done, Link, Truth, Constant, Compare, Not, Both, Either, Truths, NoMore, Also, Primitive, Skip, Assign, Store, Print, Raise, Code, Do, If, While, Split, Parts, Begun, Call, Async, Finish, Codes, End, Then, Program}
 use Rattle.types.specs.Contents.{Contents, read}
 use Rattle.types.specs.Value.{Environment, Valued, then_try, within_64_bits, element_of, operate, holds, holds_number, number, links, numbers, truth, all, any}
 use Rattle.types.specs.Run.{State, array_of, entry, with_sides, procedure_of}
 use Rattle.types.specs.Trees.{Leaf, Tree, single, before_rest, called}
-use Rattle.types.specs.TreeSteps.{on_value, as_state, with_state, tree_after, store_after, leaf_step}
+use Rattle.types.specs.TreeSteps.{on_value, as_state, with_state, size_by, before_turns, tree_after, store_after, leaf_step}
 use Rattle.types.specs.TreePlaces.{after, number_reads, links_read, numbers_read, truth_reads, all_read, any_read, primitive_reads, step_reads, primitive_writes, step_writes, first_reads, first_writes, next_reads}
 use Rattle.effects.proofs.Members.{in_left, in_right}
 use Rattle.step_trees.proofs.Turns.{same_pair}
@@ -209,6 +209,14 @@ module _ (p : Program) where
     one_store = refl;
     other_store = refl;
   }
+  alike l (Parts s e x i b) k a c h = record {
+    update = None;
+    writes = tt;
+    tree = ap (λ v. on_value l k (size_by v) (λ n. single (before_turns l s n 0 x i b k))) (number_by k.environment (read a) (read c) e h);
+    one_store = refl;
+    other_store = refl;
+  }
+  alike l (Begun s n m x i b) k a c h = record { update = None; writes = tt; tree = refl; one_store = refl; other_store = refl }
   alike l (Call f es ss) k a c h = record {
     update = None;
     writes = tt;

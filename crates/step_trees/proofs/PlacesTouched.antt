@@ -4,7 +4,8 @@ use Rattle.std.specs.Prelude.{ℤ, Bool, true, false, flat_map}
 use Rattle.types.proofs.Bindings.{element_in}
 use Rattle.sections.specs.Place.{Place, In}
 use Rattle.sections.specs.Member.{Member, first, next}
-use Rattle.types.specs.Code.{Number, Literal, Scalar, Element, Length, Negative, Chain, Links, Done, Link, Truth, Constant, Compare, Not, Both, Either, Truths, NoMore, Also, Primitive, Skip, Assign, Store, Print, Raise, Code, Do, If, While, Split, Call, Async, Finish}
+use Rattle.types.specs.Code.{Number, Literal, Scalar, Element, Length, Negative, Chain, Links, Done, Link, Truth, Constant, Compare, Not, Both, Either, Truths, NoMore, Also, Primitive, Skip, Assign, Store, Print, Raise, Code, Do, If, While, Split, Parts, Begun, Call, Async}
+use Rattle.types.specs.Code.{Finish}
 use Rattle.types.specs.Indexed.{indexed, indexed_links, indexed_truth, indexed_truths}
 use Rattle.types.specs.Value.{Environment, Valued, then_try, element_of, operate, number, truth}
 use Rattle.types.specs.TreePlaces.{after, number_reads, links_read, numbers_read, truth_reads, all_read, any_read, primitive_reads, step_reads, step_writes}
@@ -121,6 +122,8 @@ module _ (env : Environment) (contents : Place → ℤ) (q : Place) where
   step_touches l (If t b c) h = as_reads l (λ x m. m) (truth_in t h)
   step_touches l (While t b) h = as_reads l (λ x m. m) (truth_in t h)
   step_touches l (Split s e x y b) h = as_reads l (λ x m. m) (number_in e h)
+  step_touches l (Parts s e x i b) h = as_reads l (λ x m. m) (number_in e h)
+  step_touches l (Begun s n k x i b) h = none_in h
   step_touches l (Call f es ss) h = as_reads l (λ x m. m) (numbers_in es h)
   step_touches l (Async b) h = none_in h
   step_touches l (Finish b) h = none_in h
@@ -145,6 +148,8 @@ module _ (env : Environment) (contents : Place → ℤ) (q : Place) where
   step_overwrites l (If t b c) h = none_in h
   step_overwrites l (While t b) h = none_in h
   step_overwrites l (Split s e x y b) h = none_in h
+  step_overwrites l (Parts s e x i b) h = none_in h
+  step_overwrites l (Begun s n k x i b) h = none_in h
   step_overwrites l (Call f es ss) h = none_in h
   step_overwrites l (Async b) h = none_in h
   step_overwrites l (Finish b) h = none_in h

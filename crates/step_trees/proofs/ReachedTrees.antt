@@ -16,6 +16,7 @@ use Rattle.step_trees.proofs.Steps.{step_from, step_to, step_leaf}
 use Rattle.step_trees.proofs.GoodTrees.{Good, first_good, reachable_good}
 use Rattle.step_trees.proofs.CommutingSteps.{commute, ends_alike}
 use Rattle.step_trees.proofs.FirstLeaves.{leftmost}
+use Rattle.step_trees.proofs.Lawful.{sound_parts}
 use Rattle.step_trees.proofs.OneThread.{left_run_ends}
 
 apart_in : (p : Program) {t u v : Tree} → ParIn t u v → (keep : List ℕ) → Good p keep v
@@ -58,4 +59,4 @@ module _ (p : Program) (sound : IsSound p) (accepted : IsAccepted p) where
       → Runs p n (first_tree p) (held_by arrays) t a → all_done t ≡ true
       → (b : Budget) → IsLarger b (record { steps = n; nest = n }) → outcome p arrays b ≡ Ended (tree_ending p t a)
   ends_as_one arrays n t a r d =
-      left_run_ends p arrays n t a (leftmost p sound accepted n r d [] (first_good p sound (is_calm p sound accepted))) d
+      left_run_ends p (sound_parts p sound) arrays n t a (leftmost p sound accepted n r d [] (first_good p sound (is_calm p sound accepted))) d

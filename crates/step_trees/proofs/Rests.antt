@@ -5,6 +5,7 @@ use Rattle.types.specs.Code.{Codes, End, Then}
 use Rattle.std.proofs.lemmas.Bool.Decides.{nat_tests}
 use Rattle.types.specs.Trees.{Caller, Leaf, append, is_done, return_to, returned, returned_by}
 use Rattle.step_trees.specs.declared.rest.RestOfBlock.{RestOfBlock}
+use Rattle.step_trees.specs.declared.rest.RestOfBlock.TheVariants.{Block, Turns}
 use Rattle.step_trees.specs.declared.leaf.Caller.{Caller as rCaller}
 use Rattle.step_trees.specs.Translation.{block, blocks, caller, callers}
 
@@ -23,7 +24,8 @@ blocks-push (x ∷ bs) b =
     ap (λ c. append c (block x)) (blocks-push bs b) ∙ append_assoc (block b) (blocks bs) (block x)
 
 done_behind : (c : Codes) (b : RestOfBlock) → is_done (append c (block b)) ≡ false
-done_behind End b = refl
+done_behind End (Block first others) = refl
+done_behind End (Turns t) = refl
 done_behind (Then l s rest) b = refl
 
 -- a caller on top is the innermost

@@ -1,7 +1,9 @@
 -- The result of one step of a leaf.
-use Rattle.std.proofs.Common.{◌≡◌, ℕ, ◌+◌, List, [], ◌∷◌, ◌++◌, refl, sym, ap, ◌∙◌, subst, Option, Some, Result, Ok, Err}
-use Rattle.std.specs.Prelude.{IfOk}
+use Rattle.std.proofs.Common.{◌≡◌, ℕ, ◌+◌, List, [], ◌∷◌, ◌++◌, refl, sym, ap, ◌∙◌, subst, Option, Some, None, Result, Ok, Err}
+use Rattle.std.proofs.lemmas.Option.{same_Some}
+use Rattle.std.specs.Prelude.{IfOk, Bool, true, false, if◌then◌else◌}
 use Rattle.std.specs.declared.alloc.AllocError.{AllocError}
+use Rattle.sections.specs.Place.{Window, has_piece, piece_at, piece_of}
 use Rattle.types.specs.Code.{Code, Codes, Primitive, Procedure, Program, Do, End, Then}
 use Rattle.types.specs.Contents.{Contents, read}
 use Rattle.types.specs.Run.{Flow, On, Faulted, Stopped, State, primitive}
@@ -131,6 +133,28 @@ pub entered_tree : (b : Codes) (k j : Leaf) (path : List ℕ) (n : ℕ) (x a : L
 entered_tree b k j path n x a same path_is n_is x_is a_is =
     let body_is : returned (record (inside b j) { path = path; spawned = n }) ≡ returned (inside b k) = cc in
     ap (λ (i : Leaf). and_then (Single i) a) (x_is ∙ body_is) ∙ ap (and_then (single (inside b k))) (a_is ∙ ap held_back same)
+
+-- whether a turn is left, by its piece
+pub has_none : (w : Window) (n k : ℕ) → piece_of w n k ≡ None → has_piece w n k ≡ false
+has_none w n k h = by (has_piece w n k) h
+  where
+    by : (b : Bool) → if◌then◌else◌ {A = Option Window} b (Some (piece_at n k w)) None ≡ None → b ≡ false
+    by true e = cc
+    by false e = refl
+
+pub has_some : (w : Window) (n k : ℕ) (v : Window) → piece_of w n k ≡ Some v → (has_piece w n k ≡ true) × (v ≡ piece_at n k w)
+has_some w n k v h = by (has_piece w n k) h
+  where
+    by : (b : Bool) → if◌then◌else◌ {A = Option Window} b (Some (piece_at n k w)) None ≡ Some v
+        → (b ≡ true) × (v ≡ piece_at n k w)
+    by true e = (refl, sym (same_Some _ _ e))
+    by false e = cc
+
+-- a leaf with the turns to come of a `parts` before what remains, if one is left
+pub with_turns-leaf : (left : Bool) (k : Leaf) (rest : Codes)
+    → ◌≡◌ {A = Leaf} (record k { rest = if left then rest else k.rest }) (if left then record k { rest = rest } else k)
+with_turns-leaf true k rest = refl
+with_turns-leaf false k rest = refl
 
 -- the result for an equal statement
 pub after_as : (turn : LeafTurn) (l : ℕ) {s d : Code} (r : Result (Becomes × Store) AllocError) → s ≡ d

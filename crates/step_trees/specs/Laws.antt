@@ -1,10 +1,13 @@
 -- The statements of the theorems about step trees.
-use Rattle.std.specs.Prelude.{ℕ, ◌+◌, ◌≡◌, ◌⊎◌, List, length, true, false, Some, None, slice_get}
+use Rattle.std.specs.Prelude.{ℕ, ◌+◌, ◌≡◌, ◌⊎◌, List, ◌∷◌, length, true, false, Some, None, slice_get}
 use Rattle.sections.specs.Place.{Place}
 use Rattle.sections.specs.Member.{Member}
+use Rattle.types.specs.Code.{Code, Do, If, While, Split, Parts, Begun, Call, Async, Finish, Codes, End, Then}
 use Rattle.types.specs.Code.{Procedure, Program}
 use Rattle.types.specs.Contents.{Contents}
 use Rattle.types.specs.Outcome.{Outcome, Ended}
+use Rattle.types.specs.Run.{procedure_of}
+use Rattle.types.specs.Sound.{IsText}
 use Rattle.types.specs.Trees.{Leaf, Tree, AndThen, Beside, owner_environment, all_done, ready}
 use Rattle.types.specs.TreeSteps.{leaf_step, step, leaf_at}
 use Rattle.types.specs.TreeRuns.{Runs, tree_ending, told, explored_from}
@@ -13,6 +16,7 @@ use Rattle.effects.specs.Accesses.{Access}
 use Rattle.effects.specs.Effects.{All, accesses}
 use Rattle.effects.specs.Fits.{Fits}
 use Rattle.effects.specs.Kept.{SameWindows}
+use Rattle.effects.specs.Sound.{CutsWell, Follows}
 
 -- `t par u` is part of a tree
 pub data ParIn (t u : Tree) : Tree → Type 0 where
@@ -54,6 +58,58 @@ pub record GoesOn (p : Program) (m n : ℕ) (u : Tree) (b : Contents) (end : Tre
   pub count : m + more ≡ n
   pub runs : Runs p more u b end z
 
+module _ (p : Program) where
+  -- a begun `parts` is of a section in scope, and its block names only sections in scope and the
+  -- piece
+  abbrev pub TurnIn : (scope : List ℕ) → Code → Type 0
+  TurnIn scope (Begun s n k q i b) =
+      Member s scope × ((x : Access) → All p accesses b x → Member x.section (q ∷ scope))
+  TurnIn scope _ = Unit {0}
+
+  -- so does each begun `parts` of a list
+  abbrev pub TurnsIn : (scope : List ℕ) → Codes → Type 0
+  TurnsIn scope End = Unit {0}
+  TurnsIn scope (Then l s rest) = TurnIn scope s × TurnsIn scope rest
+
+-- no `parts` in the program's text has begun
+pub record AreTexts (p : Program) : Type 0 where
+  pub procedures : (f : ℕ) → IsText (procedure_of p f).body
+  pub main : IsText p.main.body
+
+module _ (p : Program) where
+  -- a `parts` of s with the piece x, the turn in slot i and this block follows the rules in some
+  -- procedure and scope, so its block doesn't give the name s to another window
+  pub record CutsSomewhere (s x i : ℕ) (block : Codes) : Type 0 where
+    pub procedure : Procedure
+    pub scope : List ℕ
+    pub cuts : CutsWell procedure scope s x i
+    pub follows : Follows p procedure (x ∷ scope) block
+
+  abbrev mutual
+    -- each `parts` in a statement follows the rules
+    pub LawfulPartsOf : Code → Type 0
+    LawfulPartsOf (Do s) = Unit {0}
+    LawfulPartsOf (If t b c) = LawfulParts b × LawfulParts c
+    LawfulPartsOf (While t b) = LawfulParts b
+    LawfulPartsOf (Split s e x y b) = LawfulParts b
+    LawfulPartsOf (Parts s e x i b) = CutsSomewhere s x i b
+    LawfulPartsOf (Begun s n k x i b) = CutsSomewhere s x i b
+    LawfulPartsOf (Call f es ss) = Unit {0}
+    LawfulPartsOf (Async b) = LawfulParts b
+    LawfulPartsOf (Finish b) = LawfulParts b
+
+    -- and each one in a list of statements
+    pub LawfulParts : Codes → Type 0
+    LawfulParts End = Unit {0}
+    LawfulParts (Then l s rest) = LawfulPartsOf s × LawfulParts rest
+
+-- each `parts` of the program follows the rules, and none has begun; a program without `parts` needs
+-- to follow no rule
+pub record HasLawfulParts (p : Program) : Type 0 where
+  pub texts : AreTexts p
+  pub procedures : (f : ℕ) → LawfulParts p (procedure_of p f).body
+  pub main : LawfulParts p p.main.body
+
 -- a leaf's environment fits the procedure of its next statement, in a scope with all sections that
 -- the leaf's remaining statements name
 pub record LeafFits (p : Program) (k : Leaf) : Type 0 where
@@ -61,11 +117,13 @@ pub record LeafFits (p : Program) (k : Leaf) : Type 0 where
   pub scope : List ℕ
   pub fits : Fits p procedure scope k.environment
   pub in_scope : (x : Access) → All p accesses k.rest x → Member x.section scope
+  pub turns_in_scope : TurnsIn p scope k.rest
 
 -- the owner of t has not changed the windows of the names in scope at `<k>`
 pub record OwnerKeeps (p : Program) (t : Tree) (k : Leaf) : Type 0 where
   pub scope : List ℕ
   pub in_scope : (x : Access) → All p accesses k.rest x → Member x.section scope
+  pub turns_in_scope : TurnsIn p scope k.rest
   pub same : SameWindows scope k.environment (owner_environment t)
 
 -- the leaf that steps to u over the store a, giving the store b, also steps to u over c. Each place

@@ -6,7 +6,7 @@ use Rattle.types.specs.Value.{Environment}
 use Rattle.types.specs.Trees.{Caller, Leaf, Tree, Single, AndThen, Beside}
 use Rattle.effects.specs.Accesses.{Access}
 use Rattle.effects.specs.Effects.{All, accesses}
-use Rattle.effects.specs.Footprint.{Touches, Overwrites}
+use Rattle.effects.specs.Footprint.{Touches, Overwrites, TurnsTouch, TurnsWrite}
 
 -- the places that something may touch, and those that it may write
 pub record Footprint : Type 1 where
@@ -34,9 +34,13 @@ pub record Separate (f g : Footprint) : Type 0 where
   pub writes_second : (q : Place) → f.touches q → g.writes q → ⊥
 
 module _ (p : Program) where
+  -- the footprint of the turns to come of the begun `parts` of a list
+  abbrev pub turns : Environment → Codes → Footprint
+  turns env b = record { touches = TurnsTouch p env b; writes = TurnsWrite p env b }
+
   -- the footprint of a list of statements
   abbrev pub all : Environment → Codes → Footprint
-  all env b = foot env (All p accesses b)
+  all env b = both (foot env (All p accesses b)) (turns env b)
 
   -- the footprint of what waits for calls to return
   abbrev pub waiting : List Caller → Footprint

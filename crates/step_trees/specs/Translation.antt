@@ -1,17 +1,27 @@
 -- The plain values of the Rust types.
 use Rattle.std.specs.Prelude.{◌≡◌, List, [], ◌∷◌, ◌++◌, map, Option, Some, None}
-use Rattle.std.proofs.Common.{Bor}
-use Rattle.types.specs.declared.code.Stmt.{Stmt}
-use Rattle.types.specs.Code.{Codes, End, Then}
+use Rattle.std.specs.Prelude.{ℕ, if◌then◌else◌}
+use Rattle.sections.specs.Place.{Window, has_piece}
+use Rattle.types.specs.Code.{Code, Codes, End, Then}
 use Rattle.types.specs.Trees.{Caller, Leaf, append}
 use Rattle.types.specs.Translation.{code, codes, environment, fault}
+use Rattle.statement_steps.specs.declared.turns.TurnsToCome.{TurnsToCome}
+use Rattle.statement_steps.specs.Turns.{begun}
+use Rattle.step_trees.specs.declared.rest.NextStep.{NextStep}
+use Rattle.step_trees.specs.declared.rest.NextStep.TheVariants.{Statement, Turn}
 use Rattle.step_trees.specs.declared.rest.RestOfBlock.{RestOfBlock}
+use Rattle.step_trees.specs.declared.rest.RestOfBlock.TheVariants.{Block, Turns}
 use Rattle.step_trees.specs.declared.leaf.Caller.{Caller as rCaller}
 use Rattle.step_trees.specs.declared.leaf.Leaf.{Leaf as rLeaf}
 
--- the statements of a block
+-- the statements of a block, or the turns to come of a `parts`
 abbrev pub block : RestOfBlock → Codes
-block b = Then b.first.now.label (code b.first.now.kind) (codes b.others.now)
+block (Block first others) = Then first.now.label (code first.now.kind) (codes others.now)
+block (Turns t) = Then t.label (begun t) End
+
+-- the turns of a `parts` of a section with this window before other statements, if one is left
+abbrev pub with_turns : TurnsToCome → Window → Codes → Codes
+with_turns t w rest = if has_piece w t.size t.next then Then t.label (begun t) rest else rest
 
 -- the statements of several blocks, the last of which runs first
 abbrev pub blocks : List RestOfBlock → Codes
@@ -39,7 +49,16 @@ leaf_of k = record {
   faults = map fault k.faults.items;
 }
 
--- the first statement is removed, or none is left
-abbrev pub Takes : Option (Bor Stmt) → (old new : Codes) → Type 0
+-- what is next, as a statement and its label
+abbrev pub next_label : NextStep → ℕ
+next_label (Statement s) = s.now.label
+next_label (Turn t) = t.label
+
+abbrev pub next_code : NextStep → Code
+next_code (Statement s) = code s.now.kind
+next_code (Turn t) = begun t
+
+-- what is next is removed, or nothing is left
+abbrev pub Takes : Option NextStep → (old new : Codes) → Type 0
 Takes None old new = (old ≡ End) × (new ≡ End)
-Takes (Some s) old new = old ≡ Then s.now.label (code s.now.kind) new
+Takes (Some s) old new = old ≡ Then (next_label s) (next_code s) new

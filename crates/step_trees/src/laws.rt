@@ -15,8 +15,9 @@ ghost use Rattle.effects.specs.Sound.{IsSound};
 ghost use Rattle.parallel_relation.specs.Together.{LabelsMeet};
 ghost use Rattle.race_checker.specs.Clash.{IsAccepted};
 ghost use Rattle.step_trees.specs.Still.{Separate, still};
-ghost use Rattle.step_trees.specs.Laws.{ParIn, ThenIn, StepsTo, Commutes, GoesOn, LeafFits};
-ghost use Rattle.step_trees.specs.Laws.{OwnerKeeps, SameStep, EndsBy, OpensBy, MissesBy, Chosen};
+ghost use Rattle.step_trees.specs.Laws.{ParIn, ThenIn, StepsTo, Commutes, GoesOn, AreTexts};
+ghost use Rattle.step_trees.specs.Laws.{HasLawfulParts, LeafFits, OwnerKeeps, SameStep, EndsBy};
+ghost use Rattle.step_trees.specs.Laws.{OpensBy, MissesBy, Chosen};
 
 /// States that no tree of any program is ever stuck. If a run reaches a tree that hasn't ended, the
 /// tree has a leaf that may step. So an `Open` result has such a leaf too.
@@ -91,7 +92,12 @@ pub fn runs_end_as_one_thread()
 
 /// States that the result of given choices is the result of a run with as many steps, and that some
 /// choices lead to each run. An `Ended` result is the one-thread outcome, for all choices if the
-/// program is accepted, and for every program if the first leaf always steps.
+/// program is accepted, and for every program with lawful `parts` if the first leaf always steps.
+/// Every sound program has lawful `parts`, and so has every program without a `parts`.
+///
+/// The tree tests whether a turn is left before the block of the turn before it, and the one-thread
+/// meaning tests it after that block. Both find the same if the block doesn't give the name of the
+/// section to another window.
 pub fn choices_tell_of_runs()
     ensures ends { (p : Program) (input : List (List ℤ)) (choices : List ℕ) (o : Outcome)
         → explored p input choices ≡ Ends o
@@ -109,15 +115,19 @@ pub fn choices_tell_of_runs()
         → explored p input choices ≡ Ends o
         → (b : Budget) → IsLarger b (record { steps = length choices; nest = length choices })
         → outcome p input b ≡ o }
-    ensures first { (p : Program) (input : List (List ℤ)) (n : ℕ) (o : Outcome)
+    ensures sound { (p : Program) → IsSound p → HasLawfulParts p }
+    ensures first { (p : Program) → HasLawfulParts p
+        → (input : List (List ℤ)) (n : ℕ) (o : Outcome)
         → explored p input (replicate n 0) ≡ Ends o
         → (b : Budget) → IsLarger b (record { steps = n; nest = n }) → outcome p input b ≡ o }
 {}
 
 /// States that if two leaves of one tree are about to run two labels, these labels may run
-/// together, for every program.
+/// together, for every program in whose text no `parts` has begun. What a begun `parts` may do
+/// isn't among what statements may do, because it is a statement of runs only.
 pub fn labels_of_leaves_meet()
-    ensures { (p : Program) (input : Contents) (t : Tree) (a : Contents) → Reachable p input t a
+    ensures { (p : Program) → AreTexts p
+        → (input : Contents) (t : Tree) (a : Contents) → Reachable p input t a
         → (m n : ℕ) → m ≢ n
         → (j k : Leaf) → leaf_at m t ≡ Some j → leaf_at n t ≡ Some k
         → (x y : ℕ) → StandsBefore j x → StandsBefore k y → LabelsMeet p x y }

@@ -1,19 +1,32 @@
 //! The remaining statements of a leaf: blocks that run one after the other, the next one last.
 
 ghost use Rattle.std.specs.Prelude.{◌≡◌, IfOk, OnOk};
+ghost use Rattle.sections.specs.Translation.{window as window_of};
 ghost use Rattle.types.specs.Code.{Then};
 ghost use Rattle.types.specs.Translation.{code as code_of, codes as codes_of};
 ghost use Rattle.types.specs.Trees.{append};
-ghost use Rattle.step_trees.specs.Translation.{blocks as statements_of, Takes};
+ghost use Rattle.step_trees.specs.Translation.{blocks as statements_of, with_turns, Takes};
 
+use sections::window::Window;
+use statement_steps::turns::TurnsToCome;
 use std::alloc::{AllocError, Global};
 use types::code::Stmt;
 
-/// A block with at least one statement.
+/// Remaining statements, at least one of them.
 #[derive(Clone, Copy)]
-pub struct RestOfBlock<'p> {
-    pub first: &'p Stmt,
-    pub others: &'p [Stmt],
+pub enum RestOfBlock<'p> {
+    /// Those of a block.
+    Block { first: &'p Stmt, others: &'p [Stmt] },
+    /// The turns to come of a `parts`, of which at least one is left.
+    Turns(TurnsToCome<'p>),
+}
+
+/// What a leaf does next.
+#[derive(Clone, Copy)]
+pub enum NextStep<'p> {
+    Statement(&'p Stmt),
+    /// A turn of a `parts`.
+    Turn(TurnsToCome<'p>),
 }
 
 /// Returns the list of one block, or an empty list if the block is empty.
@@ -31,7 +44,7 @@ pub fn enter<'p>(rest: &mut Vec<RestOfBlock<'p>>, block: &'p [Stmt]) -> Result<(
         ≡ append (codes_of block.entry.now) (statements_of rest.old.items)) }
 {
     if let Some((first, others)) = block.split_first() {
-        rest.push(RestOfBlock { first, others })?;
+        rest.push(RestOfBlock::Block { first, others })?;
     }
     Ok(())
 }
@@ -41,23 +54,44 @@ pub fn begin<'p>(rest: &mut Vec<RestOfBlock<'p>>, stmt: &'p Stmt) -> Result<(), 
     ensures { OnOk result (statements_of rest.new.items
         ≡ Then stmt.entry.now.label (code_of stmt.entry.now.kind) (statements_of rest.old.items)) }
 {
-    rest.push(RestOfBlock {
+    rest.push(RestOfBlock::Block {
         first: stmt,
         others: &[],
     })?;
     Ok(())
 }
 
-/// Removes the next statement and returns it.
-pub fn next<'p>(rest: &mut Vec<RestOfBlock<'p>>) -> Result<Option<&'p Stmt>, AllocError>
-    ensures { IfOk result (λ stmt. Takes stmt (statements_of rest.old.items)
+/// Adds the turns of a `parts` of a section with this window, which run first, if one is left.
+pub fn begin_turns<'p>(
+    rest: &mut Vec<RestOfBlock<'p>>,
+    turns: TurnsToCome<'p>,
+    window: Window,
+) -> Result<(), AllocError>
+    ensures { OnOk result (statements_of rest.new.items
+        ≡ with_turns turns.entry (window_of window) (statements_of rest.old.items)) }
+{
+    match window.piece(turns.size, turns.next) {
+        None => Ok(()),
+        Some(_) => {
+            rest.push(RestOfBlock::Turns(turns))?;
+            Ok(())
+        }
+    }
+}
+
+/// Removes what is next and returns it.
+pub fn next<'p>(rest: &mut Vec<RestOfBlock<'p>>) -> Result<Option<NextStep<'p>>, AllocError>
+    ensures { IfOk result (λ step. Takes step (statements_of rest.old.items)
         (statements_of rest.new.items)) }
 {
-    match rest.pop() {
-        None => Ok(None),
-        Some(RestOfBlock { first, others }) => {
+    let Some(top) = rest.pop() else {
+        return Ok(None);
+    };
+    match top {
+        RestOfBlock::Block { first, others } => {
             enter(rest, others)?;
-            Ok(Some(first))
+            Ok(Some(NextStep::Statement(first)))
         }
+        RestOfBlock::Turns(turns) => Ok(Some(NextStep::Turn(turns))),
     }
 }

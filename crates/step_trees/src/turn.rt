@@ -2,24 +2,26 @@
 
 ghost use Rattle.std.specs.Prelude.{◌≡◌, map, false, IfOk, OnOk};
 ghost use Rattle.sections.specs.Translation.{section as section_of};
-ghost use Rattle.types.specs.Code.{Async, Call, Do, Finish, If, Split, While};
+ghost use Rattle.types.specs.Code.{Async, Call, Do, Finish, If, Parts, Split, While};
 ghost use Rattle.types.specs.Translation.{code as code_of, codes as codes_of, number as number_of};
 ghost use Rattle.types.specs.Translation.{primitive as primitive_of, truth as truth_of};
 ghost use Rattle.types.specs.Trees.{before_rest, done as done_leaf, failed as failed_leaf};
 ghost use Rattle.types.specs.Trees.{held_back, inside as inside_leaf, is_done};
 ghost use Rattle.types.specs.Trees.{returned as returned_leaf, single, Single};
-ghost use Rattle.step_trees.specs.Translation.{leaf_of};
+ghost use Rattle.statement_steps.specs.Turns.{begun};
+ghost use Rattle.step_trees.specs.Translation.{leaf_of, next_label, next_code};
 ghost use Rattle.step_trees.specs.Turns.{leaf_in, store_in, Comes, After, IsReady, Steps, MayTurn};
 
 use crate::leaf::{Caller, Leaf, done, returned};
-use crate::rest::{RestOfBlock, begin, block_alone, enter, next};
+use crate::rest::{NextStep, RestOfBlock, begin, begin_turns, block_alone, enter, next};
 use sections::id::SectionId;
 use statement_steps::flow::Flow;
 use statement_steps::store::Store;
 use statement_steps::thread::{Plan, Thread};
+use statement_steps::turns::TurnsToCome;
 use std::alloc::{AllocError, Global};
 use types::child_number::ChildNumber;
-use types::code::{Label, Number, Primitive, Stmt, StmtKind, Truth};
+use types::code::{Label, Number, Pieces, Primitive, Stmt, StmtKind, Truth};
 use types::fault::FaultKind;
 use types::ids::ProcedureId;
 use types::path::Path;
@@ -76,7 +78,18 @@ pub fn step<'p>(
     };
     match first {
         None => Ok(going(turn)),
-        Some(stmt) => statement(turn, stmt),
+        Some(step) => perform(turn, step),
+    }
+}
+
+/// Executes what is next.
+fn perform<'p>(turn: LeafTurn<'p>, step: NextStep<'p>) -> Result<(Becomes<'p>, Store), AllocError>
+    requires { IsReady turn }
+    ensures { IfOk result (After turn.entry (next_label step.entry) (next_code step.entry)) }
+{
+    match step {
+        NextStep::Statement(stmt) => statement(turn, stmt),
+        NextStep::Turn(turns) => next_turn(turn, turns),
     }
 }
 
@@ -94,6 +107,7 @@ fn statement<'p>(turn: LeafTurn<'p>, stmt: &'p Stmt) -> Result<(Becomes<'p>, Sto
             let both = (sides.left, sides.right);
             split(turn, label, sides.section, &sides.at, both, body)
         }
+        StmtKind::Parts { pieces, body } => parts(turn, label, pieces, body),
         StmtKind::Call {
             procedure,
             values,
@@ -180,6 +194,47 @@ fn split<'p>(
             turn.thread.environment.name_window(names.1, right)?;
             turn.thread.environment.name_window(names.0, left)?;
             enters(turn, body)
+        }
+    }
+}
+
+/// Evaluates the size of the pieces of a `parts`, whose turns run first.
+fn parts<'p>(
+    mut turn: LeafTurn<'p>,
+    label: Label,
+    pieces: &Pieces,
+    body: &'p [Stmt],
+) -> Result<(Becomes<'p>, Store), AllocError>
+    requires { IsReady turn }
+    ensures { IfOk result (After turn.entry label (Parts pieces.now.section.number
+        (number_of pieces.now.size) pieces.now.piece.number pieces.now.turn.number
+        (codes_of body.entry.now))) }
+{
+    match turn.thread.turns_of(label, pieces, body) {
+        Err(kind) => failed(turn, label, kind),
+        Ok(turns) => {
+            let window = turn.thread.environment.window(turns.section);
+            begin_turns(&mut turn.rest, turns, window)?;
+            Ok(going(turn))
+        }
+    }
+}
+
+/// Enters the block of a turn of a `parts`, with its piece. The later turns come after it.
+fn next_turn<'p>(
+    mut turn: LeafTurn<'p>,
+    turns: TurnsToCome<'p>,
+) -> Result<(Becomes<'p>, Store), AllocError>
+    requires { IsReady turn }
+    ensures { IfOk result (After turn.entry turns.entry.label (begun turns.entry)) }
+{
+    match turns.next_piece(&turn.thread.environment) {
+        None => Ok(going(turn)),
+        Some(piece) => {
+            let window = turn.thread.environment.window(turns.section);
+            begin_turns(&mut turn.rest, turns.after_next(), window)?;
+            turn.thread.begin_turn(turns, piece)?;
+            enters(turn, turns.body)
         }
     }
 }

@@ -3,8 +3,9 @@ use Rattle.std.proofs.Common.{◌≡◌, List, [], ◌∷◌, ◌++◌, Some, No
 use Rattle.std.specs.String.{string_bytes}
 use Rattle.syntax_tree.specs.declared.tree.Expr.{Expr as rExpr}
 use Rattle.syntax_tree.specs.declared.tree.Stmt.{Stmt as rStmt}
-use Rattle.syntax_tree.specs.declared.tree.Stmt.TheVariants.{If as rIf, While as rWhile, Split as rSplit, Async as rAsync, Finish as rFinish}
-use Rattle.syntax.specs.declared.token.Word.TheVariants.{As as WordAs, Async as WordAsync, At as WordAt}
+use Rattle.syntax_tree.specs.declared.tree.Stmt.TheVariants.{If as rIf, While as rWhile, Split as rSplit, Parts as rParts}
+use Rattle.syntax_tree.specs.declared.tree.Stmt.TheVariants.{Async as rAsync, Finish as rFinish}
+use Rattle.syntax.specs.declared.token.Word.TheVariants.{As as WordAs, Async as WordAsync, At as WordAt, By as WordBy, Parts as WordParts}
 use Rattle.syntax.specs.declared.token.Word.TheVariants.{Else as WordElse, Finish as WordFinish, If as WordIf}
 use Rattle.syntax.specs.declared.token.Word.TheVariants.{Split as WordSplit, While as WordWhile}
 use Rattle.syntax.specs.declared.token.Mark.TheVariants.{LeftBrace, RightBrace, Comma}
@@ -12,7 +13,7 @@ use Rattle.syntax.specs.Token.{Token, NameToken, WordToken, MarkToken}
 use Rattle.syntax_tree.specs.Tree.{expr, stmt, block}
 use Rattle.syntax.specs.Spelling.{expr_then, stmt_then, block_then}
 use Rattle.syntax.proofs.ChainLemmas.{read_more}
-use Rattle.syntax_tree.proofs.RowLemmas.{stmt_While, stmt_Async, stmt_Finish, stmt_Split, stmt_If, stmt_IfElse}
+use Rattle.syntax_tree.proofs.RowLemmas.{stmt_While, stmt_Async, stmt_Finish, stmt_Split, stmt_Parts, stmt_If, stmt_IfElse}
 
 -- statements without the brace that closes their block
 unfoldable pub stmts_then : List rStmt → List Token → List Token
@@ -59,6 +60,13 @@ pub stmt_then_Split : (x : String Global) (e : rExpr) (y z : String Global) (v :
     ∷ block_then (block v.items) r) ≡ stmt_then (stmt (rSplit x e y z v)) r
 unfolding stmt_then
 stmt_then_Split x e y z v r = ap (λ s. stmt_then s r) (sym (stmt_Split x e y z v))
+
+pub stmt_then_Parts : (x : String Global) (e : rExpr) (y z : String Global) (v : Vec rStmt Global) (r : List Token)
+    → WordToken WordParts ∷ NameToken (string_bytes x) ∷ WordToken WordBy ∷ expr_then (expr e)
+    (WordToken WordAs ∷ NameToken (string_bytes y) ∷ MarkToken Comma ∷ NameToken (string_bytes z) ∷ MarkToken LeftBrace
+    ∷ block_then (block v.items) r) ≡ stmt_then (stmt (rParts x e y z v)) r
+unfolding stmt_then
+stmt_then_Parts x e y z v r = ap (λ s. stmt_then s r) (sym (stmt_Parts x e y z v))
 
 pub stmt_then_Async : (v : Vec rStmt Global) (r : List Token)
     → WordToken WordAsync ∷ MarkToken LeftBrace ∷ block_then (block v.items) r ≡ stmt_then (stmt (rAsync v)) r

@@ -11,7 +11,7 @@ use Rattle.syntax.specs.declared.canonical.Lines.{Lines}
 use Rattle.syntax_tree.specs.declared.tree.ElementType.{ElementType}
 use Rattle.syntax_tree.specs.declared.tree.ElementType.TheVariants.{Int as IntElement, Byte as ByteElement}
 use Rattle.syntax_tree.specs.declared.tree.Parameter.{Parameter as rParameter}
-use Rattle.syntax.specs.declared.token.Word.TheVariants.{Array as WordArray, As as WordAs, At as WordAt}
+use Rattle.syntax.specs.declared.token.Word.TheVariants.{Array as WordArray, As as WordAs, At as WordAt, By as WordBy, Parts as WordParts}
 use Rattle.syntax.specs.declared.token.Word.TheVariants.{Else as WordElse, Main as WordMain, Print as WordPrint, Proc as WordProc}
 use Rattle.syntax.specs.declared.token.Word.TheVariants.{Split as WordSplit}
 use Rattle.syntax.specs.declared.token.Mark.TheVariants.{LeftParen, RightParen, LeftBrace, RightBrace, LeftBracket}
@@ -24,7 +24,7 @@ use Rattle.syntax.specs.Lexical.{word_text}
 use Rattle.syntax.specs.Spelling.{expr_then, more_then, exprs_then, stmt_then, block_then, arrays_then, parameter_then}
 use Rattle.syntax.specs.Spelling.{parameters_then, more_parameters_then, procedures_then, main_tokens, element_word}
 use Rattle.syntax.specs.Token.{Token, NameToken, NumberToken, WordToken, MarkToken}
-use Rattle.syntax_tree.specs.Tree.{Expr, Stmt, Skip, Var, Assign, Store, Print, Fault, If, IfElse, While, Split, Call, Async}
+use Rattle.syntax_tree.specs.Tree.{Expr, Stmt, Skip, Var, Assign, Store, Print, Fault, If, IfElse, While, Split, Parts, Call, Async}
 use Rattle.syntax_tree.specs.Tree.{Finish, Block, End, Then, Array, Parameter, Written, Read, Scalar, Procedure, Main}
 use Rattle.syntax_tree.specs.Tree.{parameter}
 use Rattle.syntax.specs.Writing.{place, with_rest, Adds, IsCounted}
@@ -84,6 +84,7 @@ stmt_begins d n (If e b) r = refl
 stmt_begins d n (IfElse e b c) r = refl
 stmt_begins d n (While e b) r = refl
 stmt_begins d n (Split s e x y b) r = refl
+stmt_begins d n (Parts s e x i b) r = refl
 stmt_begins d n (Call f es) r = refl
 stmt_begins d n (Async b) r = refl
 stmt_begins d n (Finish b) r = refl
@@ -105,6 +106,7 @@ stmt_is_line (If e b) r d n = refl
 stmt_is_line (IfElse e b c) r d n = refl
 stmt_is_line (While e b) r d n = refl
 stmt_is_line (Split s e x y b) r d n = refl
+stmt_is_line (Parts s e x i b) r d n = refl
 stmt_is_line (Call f es) r d n = refl
 stmt_is_line (Async b) r d n = refl
 stmt_is_line (Finish b) r d n = refl
@@ -206,6 +208,29 @@ split_text s e x y =
     let sides = WordToken WordAs ∷ NameToken x ∷ MarkToken Comma ∷ NameToken y ∷ [] in
     ap (λ l. 115 ∷ 112 ∷ 108 ∷ 105 ∷ 116 ∷ 32 ∷ (s ++ (32 ∷ 97 ∷ 116 ∷ l)))
     (expr_apart line e sides ∙ ap (λ l. 32 ∷ l) (expr_laid line e sides refl
+    ∙ ap (λ l. in_line (expr_then e []) ++ (32 ∷ 97 ∷ 115 ∷ 32 ∷ (x ++ (44 ∷ 32 ∷ l)))) (append-nil y)))
+
+-- `parts s by e as x, y`
+abbrev pub parts_then : List ℕ → Expr → List ℕ → List ℕ → List Token → List Token
+parts_then s e x y r = WordToken WordParts ∷ NameToken s ∷ WordToken WordBy ∷ expr_then e
+    (WordToken WordAs ∷ NameToken x ∷ MarkToken Comma ∷ NameToken y ∷ r)
+
+pub laid_Parts : (at : Place) (s : List ℕ) (e : Expr) (x y : List ℕ) (b : Block) (r : List Token)
+    → laid (at_left at Opening) (stmt_then (Parts s e x y b) r)
+    ≡ in_line (parts_then s e x y []) ++ laid (at_left at Other) (MarkToken LeftBrace ∷ block_then b r)
+unfolding laid stmt_then
+laid_Parts at s e x y b r =
+    let names = ap (λ l. 32 ∷ 97 ∷ 115 ∷ 32 ∷ l) (append_under x _ _ _ (ap (λ l. 44 ∷ 32 ∷ l) (before_nil y (laid (at_left at Other)
+    (MarkToken LeftBrace ∷ block_then b r))))) in
+    ap (λ l. 112 ∷ 97 ∷ 114 ∷ 116 ∷ 115 ∷ 32 ∷ l) (append_under s _ _ _ (ap (λ l. 32 ∷ 98 ∷ 121 ∷ l) (expr_behind at e _ _ _ refl refl names)))
+
+pub parts_text : (s : List ℕ) (e : Expr) (x y : List ℕ) → in_line (parts_then s e x y [])
+    ≡ codes "parts " ++ (s ++ (codes " by " ++ (in_line (expr_then e []) ++ (codes " as " ++ (x ++ (codes ", " ++ y))))))
+unfolding laid
+parts_text s e x y =
+    let names = WordToken WordAs ∷ NameToken x ∷ MarkToken Comma ∷ NameToken y ∷ [] in
+    ap (λ l. 112 ∷ 97 ∷ 114 ∷ 116 ∷ 115 ∷ 32 ∷ (s ++ (32 ∷ 98 ∷ 121 ∷ l)))
+    (expr_apart line e names ∙ ap (λ l. 32 ∷ l) (expr_laid line e names refl
     ∙ ap (λ l. in_line (expr_then e []) ++ (32 ∷ 97 ∷ 115 ∷ 32 ∷ (x ++ (44 ∷ 32 ∷ l)))) (append-nil y)))
 
 -- statements without a block

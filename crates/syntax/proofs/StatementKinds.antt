@@ -5,11 +5,11 @@ use Rattle.std.specs.String.{string_bytes}
 use Rattle.syntax_tree.specs.declared.tree.Expr.{Expr as rExpr}
 use Rattle.syntax_tree.specs.declared.tree.Stmt.{Stmt as rStmt, Skip as rSkip, Var as rVar, Assign as rAssign, Store as rStore}
 use Rattle.syntax_tree.specs.declared.tree.Stmt.{Print as rPrint, Fault as rFault, Call as rCall}
-use Rattle.syntax_tree.specs.declared.tree.Stmt.TheVariants.{If as rIf, While as rWhile, Split as rSplit, Async as rAsync}
-use Rattle.syntax_tree.specs.declared.tree.Stmt.TheVariants.{Finish as rFinish}
+use Rattle.syntax_tree.specs.declared.tree.Stmt.TheVariants.{If as rIf, While as rWhile, Split as rSplit, Parts as rParts}
+use Rattle.syntax_tree.specs.declared.tree.Stmt.TheVariants.{Async as rAsync, Finish as rFinish}
 use Rattle.syntax_tree.specs.Tree.{Skip, Var, Assign, Store, Print, Fault, Call, expr, exprs, stmt}
 use Rattle.syntax.specs.Writing.{is_simple}
-use Rattle.syntax_tree.proofs.RowLemmas.{stmt_If, stmt_IfElse, stmt_While, stmt_Split, stmt_Async, stmt_Finish}
+use Rattle.syntax_tree.proofs.RowLemmas.{stmt_If, stmt_IfElse, stmt_While, stmt_Split, stmt_Parts, stmt_Async, stmt_Finish}
 
 pub stmt_Skip : stmt rSkip ≡ Skip
 unfolding stmt
@@ -69,10 +69,13 @@ pub is_simple-false : (s : rStmt)
     → ((e : rExpr) × (v : Vec rStmt Global) × (o : Option (Vec rStmt Global)) × (s ≡ rIf e v o))
     ⊎ (((e : rExpr) × (v : Vec rStmt Global) × (s ≡ rWhile e v))
     ⊎ (((x : String Global) × (e : rExpr) × (y : String Global) × (z : String Global) × (v : Vec rStmt Global) × (s ≡ rSplit x e y z v))
-    ⊎ (((v : Vec rStmt Global) × (s ≡ rAsync v)) ⊎ ((v : Vec rStmt Global) × (s ≡ rFinish v)))))
+    ⊎ (((x : String Global) × (e : rExpr) × (y : String Global) × (z : String Global) × (v : Vec rStmt Global) × (s ≡ rParts x e y z v))
+    ⊎ (((v : Vec rStmt Global) × (s ≡ rAsync v)) ⊎ ((v : Vec rStmt Global) × (s ≡ rFinish v))))))
     → is_simple (stmt s) ≡ false
 is_simple-false s (inl (e, v, o, is)) = ap (λ t. is_simple (stmt t)) is ∙ conditional_is_not_simple e v o
 is_simple-false s (inr (inl (e, v, is))) = ap (λ t. is_simple (stmt t)) is ∙ ap is_simple (stmt_While e v)
 is_simple-false s (inr (inr (inl (x, e, y, z, v, is)))) = ap (λ t. is_simple (stmt t)) is ∙ ap is_simple (stmt_Split x e y z v)
-is_simple-false s (inr (inr (inr (inl (v, is))))) = ap (λ t. is_simple (stmt t)) is ∙ ap is_simple (stmt_Async v)
-is_simple-false s (inr (inr (inr (inr (v, is))))) = ap (λ t. is_simple (stmt t)) is ∙ ap is_simple (stmt_Finish v)
+is_simple-false s (inr (inr (inr (inl (x, e, y, z, v, is))))) =
+    ap (λ t. is_simple (stmt t)) is ∙ ap is_simple (stmt_Parts x e y z v)
+is_simple-false s (inr (inr (inr (inr (inl (v, is)))))) = ap (λ t. is_simple (stmt t)) is ∙ ap is_simple (stmt_Async v)
+is_simple-false s (inr (inr (inr (inr (inr (v, is)))))) = ap (λ t. is_simple (stmt t)) is ∙ ap is_simple (stmt_Finish v)

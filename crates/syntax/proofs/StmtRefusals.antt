@@ -4,14 +4,14 @@ use Rattle.std.proofs.Common.{◌≡◌, ◌≢◌, ◌<◌, ◌⊎◌, inl, inr
 use Rattle.std.proofs.lemmas.Bool.{eqb-false}
 use Rattle.syntax.specs.declared.cursor.Stuck.{Stuck}
 use Rattle.syntax.specs.declared.token.Word.{Word}
-use Rattle.syntax.specs.declared.token.Word.TheVariants.{As as WordAs, Async as WordAsync, At as WordAt}
+use Rattle.syntax.specs.declared.token.Word.TheVariants.{As as WordAs, Async as WordAsync, At as WordAt, By as WordBy, Parts as WordParts}
 use Rattle.syntax.specs.declared.token.Word.TheVariants.{Else as WordElse, Fault as WordFault, Finish as WordFinish}
 use Rattle.syntax.specs.declared.token.Word.TheVariants.{If as WordIf, Print as WordPrint, Skip as WordSkip}
 use Rattle.syntax.specs.declared.token.Word.TheVariants.{Split as WordSplit, Var as WordVar, While as WordWhile}
 use Rattle.syntax.specs.declared.token.Mark.TheVariants.{LeftParen, RightParen, LeftBrace, RightBrace, LeftBracket}
 use Rattle.syntax.specs.declared.token.Mark.TheVariants.{RightBracket, Comma, Semicolon, Becomes}
 use Rattle.syntax.specs.Token.{Token, NameToken, WordToken, MarkToken}
-use Rattle.syntax_tree.specs.Tree.{Expr, Stmt, Skip, Var, Assign, Store, Print, Fault, If, IfElse, While, Split, Call, Async}
+use Rattle.syntax_tree.specs.Tree.{Expr, Stmt, Skip, Var, Assign, Store, Print, Fault, If, IfElse, While, Split, Parts, Call, Async}
 use Rattle.syntax_tree.specs.Tree.{Finish, Block, End, Then}
 use Rattle.syntax.specs.Spelling.{expr_then, more_then, exprs_then, stmt_then, block_then}
 use Rattle.syntax.specs.Reading.{binds, list_level, or_level, else_level, IsRead, IsReadClosed, Refuses, RefusesClosed}
@@ -100,6 +100,33 @@ split_opened (Split x e y z b) ts r same = record {
   sided = refl;
 }
 split_opened _ ts r same = absurd (eqb-false _ _ refl (ap kind same))
+
+-- what comes after the first word of a `parts`
+pub record Cutting (ts r : List Token) : Type 0 where
+  pub section : List ℕ
+  pub size : Expr
+  pub names : List Token
+  pub piece : List ℕ
+  pub turn : List ℕ
+  pub body : Block
+  pub spelled : ts ≡ NameToken section ∷ WordToken WordBy ∷ expr_then size names
+  pub ends : binds names < or_level
+  pub named : names ≡ WordToken WordAs ∷ NameToken piece ∷ MarkToken Comma ∷ NameToken turn ∷ MarkToken LeftBrace ∷ block_then body r
+
+pub parts_opened : (s : Stmt) (ts r : List Token) → WordToken WordParts ∷ ts ≡ stmt_then s r → Cutting ts r
+unfolding stmt_then
+parts_opened (Parts x e y z b) ts r same = record {
+  section = x;
+  size = e;
+  names = WordToken WordAs ∷ NameToken y ∷ MarkToken Comma ∷ NameToken z ∷ MarkToken LeftBrace ∷ block_then b r;
+  piece = y;
+  turn = z;
+  body = b;
+  spelled = same_rest same;
+  ends = omega arith;
+  named = refl;
+}
+parts_opened _ ts r same = absurd (eqb-false _ _ refl (ap kind same))
 
 -- a block with its braces
 abbrev pub braced : Block → List Token → List Token
@@ -212,6 +239,7 @@ no_statement ts word name (If e b) r same = word _ _ same
 no_statement ts word name (IfElse e b c) r same = word _ _ same
 no_statement ts word name (While e b) r same = word _ _ same
 no_statement ts word name (Split x e y z b) r same = word _ _ same
+no_statement ts word name (Parts x e y z b) r same = word _ _ same
 no_statement ts word name (Call f es) r same = name _ _ same
 no_statement ts word name (Async b) r same = word _ _ same
 no_statement ts word name (Finish b) r same = word _ _ same
@@ -224,6 +252,7 @@ pub record BeginsNoStatement (ts : List Token) : Type 0 where
   pub is_if : word ≢ WordIf
   pub is_while : word ≢ WordWhile
   pub is_split : word ≢ WordSplit
+  pub is_parts : word ≢ WordParts
   pub is_async : word ≢ WordAsync
   pub is_finish : word ≢ WordFinish
   pub skip : (k : List Token) → ts ≢ WordToken WordSkip ∷ k
@@ -241,6 +270,7 @@ no_simple ts none (If e b) r same = none.is_if (cc (none.first))
 no_simple ts none (IfElse e b c) r same = none.is_if (cc (none.first))
 no_simple ts none (While e b) r same = none.is_while (cc (none.first))
 no_simple ts none (Split x e y z b) r same = none.is_split (cc (none.first))
+no_simple ts none (Parts x e y z b) r same = none.is_parts (cc (none.first))
 no_simple ts none (Async b) r same = none.is_async (cc (none.first))
 no_simple ts none (Finish b) r same = none.is_finish (cc (none.first))
 no_simple ts none _ r same = cc (none.first)

@@ -2,7 +2,7 @@
 use Rattle.std.proofs.Common.{◌≡◌, ◌≢◌, ◌<◌, ℕ, List, [], ◌∷◌, refl, ap, sym, arith}
 use Rattle.std.proofs.lemmas.Bool.{eqb-false}
 use Rattle.syntax.specs.declared.token.Word.{Word}
-use Rattle.syntax.specs.declared.token.Word.TheVariants.{As as WordAs, Async as WordAsync, Else as WordElse}
+use Rattle.syntax.specs.declared.token.Word.TheVariants.{As as WordAs, Async as WordAsync, Else as WordElse, Parts as WordParts}
 use Rattle.syntax.specs.declared.token.Word.TheVariants.{Fault as WordFault, Finish as WordFinish, If as WordIf}
 use Rattle.syntax.specs.declared.token.Word.TheVariants.{Print as WordPrint, Skip as WordSkip, Split as WordSplit}
 use Rattle.syntax.specs.declared.token.Word.TheVariants.{Var as WordVar, While as WordWhile}
@@ -10,7 +10,7 @@ use Rattle.syntax.specs.declared.token.Mark.{Mark}
 use Rattle.syntax.specs.declared.token.Mark.TheVariants.{LeftParen, RightParen, LeftBrace, RightBrace, LeftBracket}
 use Rattle.syntax.specs.declared.token.Mark.TheVariants.{RightBracket, Comma, Semicolon, Becomes}
 use Rattle.syntax.specs.Token.{Token, NameToken, WordToken, MarkToken}
-use Rattle.syntax_tree.specs.Tree.{Expr, Stmt, Skip, Var, Assign, Store, Print, Fault, If, IfElse, While, Split, Call, Async}
+use Rattle.syntax_tree.specs.Tree.{Expr, Stmt, Skip, Var, Assign, Store, Print, Fault, If, IfElse, While, Split, Parts, Call, Async}
 use Rattle.syntax_tree.specs.Tree.{Finish, Block, End, Then}
 use Rattle.syntax.specs.Spelling.{expr_then, more_then, exprs_then, stmt_then, block_then}
 use Rattle.syntax.specs.Reading.{binds, mark_binds, list_level, or_level, else_level}
@@ -79,6 +79,7 @@ word_kind WordWhile = 6
 word_kind WordSplit = 7
 word_kind WordAsync = 8
 word_kind WordFinish = 9
+word_kind WordParts = 13
 word_kind _ = 0
 
 abbrev pub mark_kind : Mark → ℕ
@@ -149,6 +150,13 @@ mutual
       let sides = at.1 in
       let body = block_one b c r s (cc) in
       (cc (at.0, body.0), body.1)
+  stmt_one (Parts x e y z b) (Parts u f v w c) r s ends other same =
+      let size = expr_one e f (WordToken WordAs ∷ NameToken y ∷ MarkToken Comma ∷ NameToken z ∷ MarkToken LeftBrace
+      ∷ block_then b r) (WordToken WordAs ∷ NameToken v ∷ MarkToken Comma ∷ NameToken w ∷ MarkToken LeftBrace
+      ∷ block_then c s) (omega arith) (omega arith) (cc) in
+      let names = size.1 in
+      let body = block_one b c r s (cc) in
+      (cc (size.0, body.0), body.1)
   stmt_one (Call x es) (Call y fs) r s ends other same =
       let arguments = exprs_one es fs (MarkToken RightParen ∷ MarkToken Semicolon ∷ r)
       (MarkToken RightParen ∷ MarkToken Semicolon ∷ s) (omega arith) (omega arith) (omega arith) (omega arith)

@@ -12,7 +12,8 @@ use Rattle.syntax_tree.specs.declared.tree.Operator.{Operator}
 use Rattle.syntax_tree.specs.declared.tree.Operator.TheVariants.{Times, Over, Modulo}
 use Rattle.syntax.specs.declared.token.Word.{Word}
 use Rattle.syntax.specs.declared.token.Word.TheVariants.{And as WordAnd, Array as WordArray, As as WordAs}
-use Rattle.syntax.specs.declared.token.Word.TheVariants.{Async as WordAsync, At as WordAt, Byte as WordByte}
+use Rattle.syntax.specs.declared.token.Word.TheVariants.{Async as WordAsync, At as WordAt, By as WordBy}
+use Rattle.syntax.specs.declared.token.Word.TheVariants.{Byte as WordByte, Parts as WordParts}
 use Rattle.syntax.specs.declared.token.Word.TheVariants.{Else as WordElse, False as WordFalse}
 use Rattle.syntax.specs.declared.token.Word.TheVariants.{Fault as WordFault, Finish as WordFinish}
 use Rattle.syntax.specs.declared.token.Word.TheVariants.{If as WordIf, Int as WordInt, Len as WordLen}
@@ -31,9 +32,9 @@ use Rattle.syntax_tree.specs.Tree.{Expr, Or, Conjs, NoConj, OrConj, Conj, And, N
 use Rattle.syntax_tree.specs.Tree.{Plainly, Not, Cmp, Alone, Compare, Sum, Add, Terms, NoTerm, AddTerm, Prod}
 use Rattle.syntax_tree.specs.Tree.{Multiply, Factors, NoFactor, MultiplyFactor, Unary, Positive, Negative}
 use Rattle.syntax_tree.specs.Tree.{Atom, Number, True, False, Name, Element, Length, Parens, Stmt, Skip, Var}
-use Rattle.syntax_tree.specs.Tree.{Assign, Store, Print, Fault, If, IfElse, While, Split, Call, Async, Finish}
-use Rattle.syntax_tree.specs.Tree.{Block, End, Then, Array, Parameter, Written, Read, Scalar, Procedure, Main}
-use Rattle.syntax_tree.specs.Tree.{Program}
+use Rattle.syntax_tree.specs.Tree.{Assign, Store, Print, Fault, If, IfElse, While, Split, Parts, Call, Async}
+use Rattle.syntax_tree.specs.Tree.{Finish, Block, End, Then, Array, Parameter, Written, Read, Scalar, Procedure}
+use Rattle.syntax_tree.specs.Tree.{Main, Program}
 
 abbrev pub relation_mark : Relation → Mark
 relation_mark IsLess = Less
@@ -156,6 +157,11 @@ unfoldable mutual
   stmt_then (Split s e x y b) r =
       WordToken WordSplit ∷ NameToken s ∷ WordToken WordAt
       ∷ expr_then e (WordToken WordAs ∷ NameToken x ∷ MarkToken Comma ∷ NameToken y
+      ∷ MarkToken LeftBrace ∷ block_then b r)
+  -- | "parts" name "by" expr "as" name "," name block
+  stmt_then (Parts s e x i b) r =
+      WordToken WordParts ∷ NameToken s ∷ WordToken WordBy
+      ∷ expr_then e (WordToken WordAs ∷ NameToken x ∷ MarkToken Comma ∷ NameToken i
       ∷ MarkToken LeftBrace ∷ block_then b r)
   -- | name "(" [ expr { "," expr } ] ")" ";"
   stmt_then (Call f es) r =

@@ -21,7 +21,7 @@ ghost use Rattle.syntax_tree.specs.Tree.{program as program_tree};
 ghost use Rattle.syntax.specs.Writing.{with_rest, Adds, IsCounted, is_simple};
 ghost use Rattle.syntax.specs.declared.token.Mark.TheVariants.{Becomes, Comma, LeftBrace, LeftBracket};
 ghost use Rattle.syntax.specs.declared.token.Mark.TheVariants.{RightBrace, RightBracket, Semicolon};
-ghost use Rattle.syntax.specs.declared.token.Word.TheVariants.{As, At, Print, Split};
+ghost use Rattle.syntax.specs.declared.token.Word.TheVariants.{As, At, By, Parts, Print, Split};
 
 use crate::expression_text as expressions;
 use std::alloc::{AllocError, Global};
@@ -305,6 +305,16 @@ fn line(statement: &Stmt, lines: &mut Lines) -> Result<(), AllocError>
             split(section, at, left, right, &mut lines.text)?;
             block(body, lines)
         }
+        Stmt::Parts {
+            section,
+            size,
+            piece,
+            turn,
+            body,
+        } => {
+            parts(section, size, piece, turn, &mut lines.text)?;
+            block(body, lines)
+        }
         Stmt::Async { body } => {
             lines.text.push_str("async")?;
             block(body, lines)
@@ -382,6 +392,28 @@ fn split(
     out.push_str(right.as_str())
 }
 
+fn parts(
+    section: &String,
+    size: &Expr,
+    piece: &String,
+    turn: &String,
+    out: &mut String,
+) -> Result<(), AllocError>
+    ensures { OnOk result (string_bytes out.new ≡ string_bytes out.old
+        ++ in_line (WordToken Parts ∷ NameToken (string_bytes section.now) ∷ WordToken By
+        ∷ expr_then (expr_tree size.now) (WordToken As ∷ NameToken (string_bytes piece.now)
+        ∷ MarkToken Comma ∷ NameToken (string_bytes turn.now) ∷ []))) }
+{
+    out.push_str("parts ")?;
+    out.push_str(section.as_str())?;
+    out.push_str(" by ")?;
+    expressions::expr(size, out)?;
+    out.push_str(" as ")?;
+    out.push_str(piece.as_str())?;
+    out.push_str(", ")?;
+    out.push_str(turn.as_str())
+}
+
 /// Writes a statement without a block, up to its semicolon.
 fn simple(statement: &Stmt, lines: &mut Lines) -> Result<(), AllocError>
     requires simple { IsTrue (is_simple (stmt_tree statement.now)) }
@@ -422,6 +454,7 @@ fn simple(statement: &Stmt, lines: &mut Lines) -> Result<(), AllocError>
         Stmt::If { .. }
         | Stmt::While { .. }
         | Stmt::Split { .. }
+        | Stmt::Parts { .. }
         | Stmt::Async { .. }
         | Stmt::Finish { .. } => Ok(()),
     }

@@ -66,6 +66,7 @@ fn statement(alloc: Global, tokens: &[Spanned]) -> Result<(Stmt, &[Spanned]), St
         Word::If => conditional(alloc, rest),
         Word::While => repeated(alloc, rest),
         Word::Split => split(alloc, rest),
+        Word::Parts => parts(alloc, rest),
         Word::Async => {
             // stmt = "async" block
             let (body, left) = block(alloc, rest)?;
@@ -160,6 +161,36 @@ fn split(alloc: Global, tokens: &[Spanned]) -> Result<(Stmt, &[Spanned]), Stuck>
     ))
 }
 
+#[inline(never)]
+#[cycle(stmt)]
+fn parts(alloc: Global, tokens: &[Spanned]) -> Result<(Stmt, &[Spanned]), Stuck>
+    ensures shorter { IfOk result (λ read. length read.1.now < length tokens.now) }
+    ensures read { IfOk result
+        (ReadsAs stmt stmt_then else_level (WordToken Word.Parts ∷ plain tokens.now)) }
+    ensures refused { IfErr result
+        (Refuses stmt_then else_level (WordToken Word.Parts ∷ plain tokens.now)) }
+{
+    // "parts" name "by" expr "as" name "," name block, its first word read
+    let (section, rest) = cursor::name(tokens)?;
+    let rest = cursor::word(rest, Word::By)?;
+    let (size, rest) = expressions::expr(alloc, rest)?;
+    let rest = cursor::word(rest, Word::As)?;
+    let (piece, rest) = cursor::name(rest)?;
+    let rest = cursor::mark(rest, Mark::Comma)?;
+    let (turn, rest) = cursor::name(rest)?;
+    let (body, rest) = block(alloc, rest)?;
+    Ok((
+        Stmt::Parts {
+            section,
+            size,
+            piece,
+            turn,
+            body,
+        },
+        rest,
+    ))
+}
+
 /// Reads a statement without a block that starts with a word.
 #[inline(never)]
 fn simple(alloc: Global, tokens: &[Spanned]) -> Result<(Stmt, &[Spanned]), Stuck>
@@ -167,7 +198,7 @@ fn simple(alloc: Global, tokens: &[Spanned]) -> Result<(Stmt, &[Spanned]), Stuck
     ensures read { IfOk result (ReadsAs stmt stmt_then else_level (plain tokens.now)) }
     ensures refused { IfErr result (λ stuck. stuck ≢ Stuck.OutOfMemory
         → (word : AnyWord) (rest : List PlainToken) → plain tokens.now ≡ WordToken word ∷ rest
-        → word ≢ Word.If → word ≢ Word.While → word ≢ Word.Split
+        → word ≢ Word.If → word ≢ Word.While → word ≢ Word.Split → word ≢ Word.Parts
         → word ≢ Word.Async → word ≢ Word.Finish
         → SpellsNone stmt_then else_level (plain tokens.now)) }
 {

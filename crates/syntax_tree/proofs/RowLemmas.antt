@@ -3,7 +3,7 @@ use Rattle.std.proofs.Common.{◌≡◌, Some, None, Bool, Box, Vec, String, Glo
 use Rattle.std.specs.String.{string_bytes}
 use mathlib.Core.Former.{Count}
 use Rattle.syntax_tree.specs.Tree.{Or, And, Add, Terms, Multiply, OrConj, AndNeg, AddTerm, MultiplyFactor, Alone, Compare}
-use Rattle.syntax_tree.specs.Tree.{Then, If, IfElse, While, Split, Async, Finish, expr, conj, neg, cmp, compared}
+use Rattle.syntax_tree.specs.Tree.{Then, If, IfElse, While, Split, Parts, Async, Finish, expr, conj, neg, cmp, compared}
 use Rattle.syntax_tree.specs.Tree.{compared_to, sum, term, prod, unary, atom, negated, negative, conjs, row_conjs, negs}
 use Rattle.syntax_tree.specs.Tree.{row_negs, terms, row_terms, factors, row_factors, stmt, conditional, block, row_block}
 use Rattle.syntax_tree.specs.declared.tree.Relation.{Relation}
@@ -24,9 +24,10 @@ use Rattle.syntax_tree.specs.declared.tree.Factor.{Factor as rFactor}
 use Rattle.syntax_tree.specs.declared.tree.Unary.{Unary as rUnary}
 use Rattle.syntax_tree.specs.declared.tree.Stmt.{Stmt as rStmt, Row_of-Stmt, end_of-Stmt, more_of-Stmt, items-the_row-Stmt}
 use Rattle.syntax_tree.specs.declared.tree.Stmt.{items_hidden-the_row-Stmt-0, Some' as some_else, If' as rIf'}
-use Rattle.syntax_tree.specs.declared.tree.Stmt.{While' as rWhile', Split' as rSplit', Async' as rAsync'}
+use Rattle.syntax_tree.specs.declared.tree.Stmt.{While' as rWhile', Split' as rSplit', Parts' as rParts', Async' as rAsync'}
 use Rattle.syntax_tree.specs.declared.tree.Stmt.{Finish' as rFinish'}
-use Rattle.syntax_tree.specs.declared.tree.Stmt.TheVariants.{If as rIf, While as rWhile, Split as rSplit, Async as rAsync, Finish as rFinish}
+use Rattle.syntax_tree.specs.declared.tree.Stmt.TheVariants.{If as rIf, While as rWhile, Split as rSplit, Parts as rParts}
+use Rattle.syntax_tree.specs.declared.tree.Stmt.TheVariants.{Async as rAsync, Finish as rFinish}
 
 conjs_are : (n : Count) (row : Row_of-Conj n) → row_conjs row ≡ conjs (items-the_row-Conj n row)
 unfolding row_conjs
@@ -113,6 +114,7 @@ abbrev block_in : rStmt → (n : Count) × Row_of-Stmt n
 block_in (rIf' _ _ b _) = (_, b)
 block_in (rWhile' _ _ b) = (_, b)
 block_in (rSplit' _ _ _ _ _ b) = (_, b)
+block_in (rParts' _ _ _ _ _ b) = (_, b)
 block_in (rAsync' _ b) = (_, b)
 block_in (rFinish' _ b) = (_, b)
 block_in _ = (_, end_of-Stmt)
@@ -139,6 +141,14 @@ unfolding stmt
 stmt_Split s e x y v =
     let r = block_in (rSplit s e x y v) in
     ap (Split (string_bytes s) (expr e) (string_bytes x) (string_bytes y))
+    (block_is r.0 r.1 ∙ ap block (items_hidden-the_row-Stmt-0 v))
+
+pub stmt_Parts : (s : String Global) (e : rExpr) (x y : String Global) (v : Vec rStmt Global)
+    → stmt (rParts s e x y v) ≡ Parts (string_bytes s) (expr e) (string_bytes x) (string_bytes y) (block v.items)
+unfolding stmt
+stmt_Parts s e x y v =
+    let r = block_in (rParts s e x y v) in
+    ap (Parts (string_bytes s) (expr e) (string_bytes x) (string_bytes y))
     (block_is r.0 r.1 ∙ ap block (items_hidden-the_row-Stmt-0 v))
 
 pub stmt_If : (e : rExpr) (v : Vec rStmt Global) → stmt (rIf e v None) ≡ If (expr e) (block v.items)

@@ -29,7 +29,7 @@ use Rattle.syntax_tree.specs.declared.tree.Stmt.{Held-Stmt-If-2, None' as no_els
 use Rattle.syntax_tree.specs.declared.tree.Stmt.{Skip as rSkip, Var as rVar, Assign as rAssign}
 use Rattle.syntax_tree.specs.declared.tree.Stmt.{Store as rStore, Print as rPrint, Fault as rFault}
 use Rattle.syntax_tree.specs.declared.tree.Stmt.{If' as rIf, While' as rWhile, Split' as rSplit}
-use Rattle.syntax_tree.specs.declared.tree.Stmt.{Call as rCall, Async' as rAsync, Finish' as rFinish}
+use Rattle.syntax_tree.specs.declared.tree.Stmt.{Parts' as rParts, Call as rCall, Async' as rAsync, Finish' as rFinish}
 use Rattle.syntax_tree.specs.declared.tree.Array.{Array as rArray}
 use Rattle.syntax_tree.specs.declared.tree.Parameter.{Parameter as rParameter}
 use Rattle.syntax_tree.specs.declared.tree.Parameter.TheVariants.{Written as rWritten, Read as rRead}
@@ -105,6 +105,7 @@ mutual
     IfElse : Expr → Block → Block → Stmt
     While : Expr → Block → Stmt
     Split : (section : List ℕ) → (at : Expr) → (left right : List ℕ) → Block → Stmt
+    Parts : (section : List ℕ) → (size : Expr) → (piece turn : List ℕ) → Block → Stmt
     Call : List ℕ → List Expr → Stmt
     Async : Block → Stmt
     Finish : Block → Stmt
@@ -238,6 +239,7 @@ unfoldable mutual
   stmt (rIf e _ b other) = conditional (expr e) (row_block b) other
   stmt (rWhile e _ b) = While (expr e) (row_block b)
   stmt (rSplit s e l r _ b) = Split (string_bytes s) (expr e) (string_bytes l) (string_bytes r) (row_block b)
+  stmt (rParts s e p i _ b) = Parts (string_bytes s) (expr e) (string_bytes p) (string_bytes i) (row_block b)
   stmt (rCall f es) = Call (string_bytes f) (exprs es.items)
   stmt (rAsync _ b) = Async (row_block b)
   stmt (rFinish _ b) = Finish (row_block b)

@@ -100,6 +100,14 @@ pub enum Stmt {
         right: String,
         body: Vec<Stmt>,
     },
+    /// `parts s by 4 as p, i { p[0] = i; }`
+    Parts {
+        section: String,
+        size: Expr,
+        piece: String,
+        turn: String,
+        body: Vec<Stmt>,
+    },
     /// `f(a, 1);`
     Call {
         procedure: String,

@@ -8,10 +8,10 @@ use Rattle.types.specs.Code.{Code, Codes, End, Then, Program}
 use Rattle.types.specs.Value.{Environment}
 use Rattle.types.specs.Run.{procedure_of}
 use Rattle.effects.specs.Accesses.{Access, reads, own_accesses}
-use Rattle.effects.specs.Effects.{past_split, if_body, if_other, while, split, call, AllOf, All, PendingOf, Pending}
-use Rattle.effects.specs.Effects.{accesses, renamed}
+use Rattle.effects.specs.Effects.{past_parts, past_split, if_body, if_other, while, split, parts, call, AllOf, All}
+use Rattle.effects.specs.Effects.{PendingOf, Pending, accesses, renamed}
 use Rattle.effects.specs.Footprint.{Touches, Overwrites}
-use Rattle.race_checker.specs.Scope.{Scope, Top, Inside, InScope, may_writes, ScopedOf, Scoped}
+use Rattle.race_checker.specs.Scope.{Scope, Top, Inside, AtPiece, InScope, may_writes, ScopedOf, Scoped}
 use Rattle.race_checker.proofs.Scoping.{length_may_writes}
 
 module _ (p : Program) where
@@ -36,6 +36,13 @@ module _ (p : Program) where
         | inr k ↦ elim k as (λ _. InScope sc z) [ inl m ↦ absurd (eqb-false y z f (sym m)) | inr m ↦ m ]
       ]
 
+  out_of_parts : (sc : Scope) (s q z : ℕ) → InScope sc s → InScope (AtPiece s q sc) z → InScope sc (past_parts s q z)
+  out_of_parts sc s q z is h = by_test (nat_eq q z) refl
+    where
+      by_test : (b : Bool) → nat_eq q z ≡ b → InScope sc (if b || b then s else z)
+      by_test true e = is
+      by_test false e = elim h as (λ _. InScope sc z) [ inl k ↦ absurd (eqb-false q z e (sym k)) | inr k ↦ k ]
+
   module _ (procedures : (f : ℕ) → Scoped p (Top (may_writes (procedure_of p f))) (procedure_of p f).body) where
     mutual
       named_of : (sc : Scope) (l : ℕ) (s : Code) (y : Access) → ((y : Access) → Member y (own_accesses l s) → InScope sc y.section)
@@ -49,6 +56,9 @@ module _ (p : Program) where
       named_of sc l s y names scoped (AllOf.inner {x = x} (split {s = t} {l = left} {r = right}) h e) =
           subst (λ z. InScope sc z.section) (sym e)
           (out_of_split sc t left right x.section scoped.0 (named_all (Inside t left right sc) _ x scoped.4 h))
+      named_of sc l s y names scoped (AllOf.inner {x = x} (parts {s = t} {q = piece}) h e) =
+          subst (λ z. InScope sc z.section) (sym e)
+          (out_of_parts sc t piece x.section scoped.0 (named_all (AtPiece t piece sc) _ x scoped.2 h))
       named_of sc l s y names scoped (AllOf.inner {x = x} (call {f = f}) h e) =
           subst (λ z. InScope sc z.section) (sym e)
           (scoped x.section (subst (λ n. x.section < n) (length_may_writes (procedure_of p f))

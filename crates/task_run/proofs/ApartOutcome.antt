@@ -67,8 +67,8 @@ module _ (p : Program) (needs : Codes → Needs) (is_scoped : IsScoped p) (is_ca
       (finish_agrees p needs around none none 0 p.main.body ready o a both one_end apart_end
       (within_sim p needs is_scoped is_calm provides (begin_one p b.steps b.nest) (begin_apart p needs b.steps b.nest)
       (begin_marks p needs b.steps b.nest)
-      (begins p needs is_scoped is_calm provides b.steps b.nest) (b.steps + 1) (Block p.main.body) _ none
-      (Overwrites around.env (Pending p accesses p.main.body)) (finish_ready p needs around none none 0 p.main.body ready o a both) o a
+      (begins p needs is_scoped is_calm provides b.steps b.nest) (b.steps + 1) (Block p.main.body) is_scoped.main_text _ none
+      (Overwrites around.env (Pending p accesses p.main.body)) (finish_ready p needs around none none 0 p.main.body ready o a both is_scoped.main_text) o a
       (enter_same p needs around none none 0 p.main.body ready o a both)))
     where
       none : Place → Type 0
@@ -114,6 +114,10 @@ module _ (p : Program) (needs : Codes → Needs) (is_scoped : IsScoped p) (is_ca
         wrote = λ q t. tt;
         kept = λ q n. n;
         added = λ q t. none_pending t.among;
+        turns_free = λ q t. absurd t;
+        turns_held = λ q t. absurd t;
+        turns_wrote = λ q t. absurd t;
+        turns_added = λ q t. absurd t;
       }
         where
           none_pending : {y : Access} → PendingOf p accesses (Finish p.main.body) y → ⊥

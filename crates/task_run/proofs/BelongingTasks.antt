@@ -6,14 +6,16 @@ use Rattle.std.specs.Prelude.{ℤ, ◌||◌, true, nat_eq}
 use Rattle.std.specs.Cmp.Lexicographic.{pointwise}
 use Rattle.sections.specs.Covers.{has}
 use Rattle.sections.specs.Place.{Place}
-use Rattle.types.specs.Code.{Do, If, While, Split, Call, Async, Finish, Codes, End, Then, Program}
+use Rattle.types.specs.Code.{Code, Do, If, While, Split, Parts, Begun, Call, Async, Finish, Codes, End, Then, Program}
 use Rattle.types.specs.Contents.{FitsArrays}
 use Rattle.types.specs.Outcome.{Budget}
 use Rattle.types.specs.Run.{State}
 use Rattle.effects.specs.Needs.{Needs, Provides}
 use Rattle.effects.specs.Rounds.{needs_of}
 use Rattle.effects.specs.Sound.{IsSound}
+use Rattle.types.specs.Sound.{IsTextOf}
 use Rattle.effects.specs.Statements.{HasStatement, Stands, IsPartOf}
+use Rattle.effects.proofs.StatementLemmas.{statement_text}
 use Rattle.race_checker.specs.Calm.{IsCalm}
 use Rattle.race_checker.specs.Clash.{IsAccepted}
 use Rattle.race_checker.specs.Scope.{IsScoped}
@@ -21,7 +23,7 @@ use Rattle.race_checker.proofs.Calming.{is_calm}
 use Rattle.race_checker.proofs.Scoping.{is_scoped}
 use Rattle.task_run.specs.OwnRun.{Start, Child, Own, back_from}
 use Rattle.task_run.specs.Given.{given, in_truth, root_of}
-use Rattle.task_run.specs.Frames.{Frame, Rest, Again, AtEnd, Back, Standing, IsGivenChild}
+use Rattle.task_run.specs.Frames.{Frame, Rest, Again, Further, AtEnd, Back, Standing, IsGivenChild}
 use Rattle.task_run.specs.Holds.{MayBegin}
 use Rattle.task_run.specs.Lists.{Each}
 use Rattle.task_run.specs.Reached.{Reached, root_begins, child_begins, turns, leaves}
@@ -52,14 +54,18 @@ module _ (p : Program) where
   knows_first (Rest (Then l (If t b c) rest) ∷ fs) k = tt
   knows_first (Rest (Then l (While t b) rest) ∷ fs) k = tt
   knows_first (Rest (Then l (Split s e x y b) rest) ∷ fs) k = tt
+  knows_first (Rest (Then l (Parts s e q i b) rest) ∷ fs) k = tt
+  knows_first (Rest (Then l (Begun s n j q i b) rest) ∷ fs) k = tt
   knows_first (Rest (Then l (Call f es ss) rest) ∷ fs) k = tt
   knows_first (Rest (Then l (Finish b) rest) ∷ fs) k = tt
   knows_first (Again l t b ∷ fs) k = tt
+  knows_first (Further l s n j q i b ∷ fs) k = tt
   knows_first (AtEnd before ∷ fs) k = tt
   knows_first (Back env ∷ fs) k = tt
 
 module _ (p : Program) (needs : Codes → Needs) (scoped : IsScoped p) (calm : IsCalm p) (provided : Provides p needs) (fresh : ℕ)
-    (root : Start) (named : root.path ≡ []) (may_begin : MayBegin p needs root) (body : IsPartOf p root.body) where
+    (root : Start) (named : root.path ≡ []) (may_begin : MayBegin p needs root) (body : IsPartOf p root.body)
+    (texts : (l : ℕ) (c : Code) → HasStatement p l c → IsTextOf c) where
   abbrev IsOfStart : Start → Standing Own → Type 0
   IsOfStart s t = IsOf p s.owned t.frames t.state.extra.owned t.state.extra.pending
 
@@ -69,7 +75,7 @@ module _ (p : Program) (needs : Codes → Needs) (scoped : IsScoped p) (calm : I
       let of = each_member (Belongs p) c t.state.extra.pending (belongs r).children m in
       begun_kept p c.start.owned c.start.body of.body
   belongs (turns {s = s} {f = f} {fs = fs} {st = st} r) =
-      turn_kept p needs s.nest (in_truth p needs fresh) s.owned f fs st
+      turn_kept p texts needs s.nest (in_truth p needs fresh) s.owned f fs st
       (has_next p needs scoped calm provided fresh root named may_begin s (record { frames = f ∷ fs; state = st }) r) (belongs r)
   belongs (leaves {s = s} {before = before} {fs = fs} {st = st} {x = x} rs r all e) =
       handed_kept p s.owned before x fs st (belongs r)
@@ -117,7 +123,7 @@ module _ (p : Program) (sound : IsSound p) (accepted : IsAccepted p) (input : Li
     next = next_has p sound accepted input b fits m.start (record { frames = m.frames; state = with_own m.own (state_of r.thread) }) m.stands;
     known = knows_first p m.frames
         (belongs p (needs_of p) (is_scoped p sound) (is_calm p sound accepted) (provides_needs p sound) b.steps (root_of p input b.nest)
-        refl begins_root main_part m.stands).frames;
+        refl begins_root main_part (statement_text p sound) m.stands).frames;
   }
 
   -- its next statement belongs to the program
@@ -126,6 +132,7 @@ module _ (p : Program) (sound : IsSound p) (accepted : IsAccepted p) (input : Li
   first_is_of (Rest End ∷ fs) k = tt
   first_is_of (Rest (Then l c rest) ∷ fs) k = k.0 l c Stands.here
   first_is_of (Again l t b ∷ fs) k = tt
+  first_is_of (Further l s n j q i b ∷ fs) k = tt
   first_is_of (AtEnd before ∷ fs) k = tt
   first_is_of (Back env ∷ fs) k = tt
 
@@ -136,7 +143,7 @@ module _ (p : Program) (sound : IsSound p) (accepted : IsAccepted p) (input : Li
     shows = m.shows;
     next = first_is_of m.frames
         (belongs p (needs_of p) (is_scoped p sound) (is_calm p sound accepted) (provides_needs p sound) b.steps (root_of p input b.nest)
-        refl begins_root main_part m.stands).frames;
+        refl begins_root main_part (statement_text p sound) m.stands).frames;
   }
 
   pub children_give_back : (s : Start) (t : Standing Own) → MayStand p input b s t → Each (IsGivenBack p input b) t.state.extra.pending
@@ -144,8 +151,8 @@ module _ (p : Program) (sound : IsSound p) (accepted : IsAccepted p) (input : Li
       each_both (Belongs p) (IsGivenChild p (needs_of p) b.steps (root_of p input b.nest)) (IsGivenBack p input b)
       t.state.extra.pending
       (λ c of is r k e q. given_back p (needs_of p) (is_scoped p sound) (is_calm p sound accepted) (provides_needs p sound) b.steps
-      (root_of p input b.nest) refl begins_root main_part k.ended c of is e q)
+      (root_of p input b.nest) refl begins_root main_part (statement_text p sound) k.ended c of is e q)
       (belongs p (needs_of p) (is_scoped p sound) (is_calm p sound accepted) (provides_needs p sound) b.steps
-      (root_of p input b.nest) refl begins_root main_part stands).children
+      (root_of p input b.nest) refl begins_root main_part (statement_text p sound) stands).children
       (children_given p (needs_of p) (is_scoped p sound) (is_calm p sound accepted) (provides_needs p sound) b.steps
-      (root_of p input b.nest) refl begins_root main_part stands)
+      (root_of p input b.nest) refl begins_root main_part (statement_text p sound) stands)

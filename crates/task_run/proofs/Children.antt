@@ -1,12 +1,13 @@
 -- A turn that spawned a task lists it.
 use Rattle.std.proofs.Common.{◌≡◌, ℕ, zero, suc, List, [], ◌∷◌}
-use Rattle.std.specs.Prelude.{Option}
+use Rattle.std.specs.Prelude.{Bool, true, false, Option, if◌then◌else◌}
 use Rattle.sections.specs.Member.{Member, first}
-use Rattle.types.specs.Code.{Code, Codes, Do, If, While, Split, Call, Async, Finish, End, Then, Program}
-use Rattle.types.specs.Run.{Flow, On, Faulted, Stopped, State, counted}
+use Rattle.sections.specs.Place.{has_piece}
+use Rattle.types.specs.Code.{Code, Codes, Do, If, While, Split, Parts, Begun, Call, Async, Finish, End, Then, Program}
+use Rattle.types.specs.Run.{Flow, On, Faulted, Stopped, State, counted, window_at}
 use Rattle.effects.specs.Needs.{Needs}
 use Rattle.effects.proofs.Members.{in_right}
-use Rattle.task_run.specs.Frames.{Frame, Rest, Again, AtEnd, Back, acted, by_flow, done_at, done_by, done_in, paid, turn}
+use Rattle.task_run.specs.Frames.{Frame, Rest, Again, Further, AtEnd, Back, Standing, acted, by_flow, done_at, done_by, done_in, paid, turn}
 use Rattle.task_run.specs.OwnRun.{Action, Child, Own, Spawn, Start, own_rules}
 use Rattle.task_run.specs.Results.{Settled}
 
@@ -35,12 +36,16 @@ module _ (p : Program) (needs : Codes → Needs) (close : State Own → Option S
   by_code zero m l (If t b c) fs st e = absurd (let bad : ⊥ = cc in bad)
   by_code zero m l (While t b) fs st e = absurd (let bad : ⊥ = cc in bad)
   by_code zero m l (Split x i y z b) fs st e = absurd (let bad : ⊥ = cc in bad)
+  by_code zero m l (Parts x i y z b) fs st e = absurd (let bad : ⊥ = cc in bad)
+  by_code zero m l (Begun x j k y z b) fs st e = absurd (let bad : ⊥ = cc in bad)
   by_code zero m l (Call f es ss) fs st e = absurd (let bad : ⊥ = cc in bad)
   by_code zero m l (Finish b) fs st e = absurd (let bad : ⊥ = cc in bad)
   by_code (suc n) m l (Do x) fs st e = absurd (let bad : ⊥ = cc in bad)
   by_code (suc n) m l (If t b c) fs st e = absurd (let bad : ⊥ = cc in bad)
   by_code (suc n) m l (While t b) fs st e = absurd (let bad : ⊥ = cc in bad)
   by_code (suc n) m l (Split x i y z b) fs st e = absurd (let bad : ⊥ = cc in bad)
+  by_code (suc n) m l (Parts x i y z b) fs st e = absurd (let bad : ⊥ = cc in bad)
+  by_code (suc n) m l (Begun x j k y z b) fs st e = absurd (let bad : ⊥ = cc in bad)
   by_code (suc n) m l (Call f es ss) fs st e = absurd (let bad : ⊥ = cc in bad)
   by_code (suc n) m l (Finish b) fs st e = absurd (let bad : ⊥ = cc in bad)
 
@@ -60,5 +65,15 @@ module _ (p : Program) (needs : Codes → Needs) (close : State Own → Option S
   turn_lists n (Rest End) fs st e = absurd (none_spawned e)
   turn_lists n (Rest (Then l c rest)) fs st e = on_flow n st.flow l c (Rest rest ∷ fs) fs st e
   turn_lists n (Again l t b) fs st e = on_flow n st.flow l (While t b) fs fs st e
+  turn_lists n (Further l x j k y z b) fs st e = by (has_piece (window_at st x) j k) e
+    where
+      c : Code
+      c = Begun x j k y z b
+
+      by : (left : Bool) → Began (if left then done_at needs n st.flow c st else [])
+          → Lists (if◌then◌else◌ {A = Standing Own} left (by_flow p (own_rules needs n close) st.flow l c fs fs st)
+          (record { frames = fs; state = st })).state s
+      by true e = on_flow n st.flow l c fs fs st e
+      by false e = absurd (none_spawned e)
   turn_lists n (AtEnd before) fs st e = absurd (none_spawned e)
   turn_lists n (Back env) fs st e = absurd (none_spawned e)

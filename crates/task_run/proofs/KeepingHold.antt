@@ -1,40 +1,43 @@
 -- After each turn a task still has all that it touches, and so it has after the end of a finish.
-use Rattle.std.proofs.Common.{◌≡◌, ℕ, zero, suc, ◌<◌, List, [], ◌∷◌, ◌++◌, Option, Some, None, Ok, Err, refl, sym, ap}
+use Rattle.std.proofs.Common.{◌≡◌, ℕ, zero, suc, ◌+◌, ◌<◌, List, [], ◌∷◌, ◌++◌, Option, Some, None, Ok, Err, refl, sym, ap}
 use Rattle.std.proofs.Common.{◌∙◌, subst, inl, inr}
 use Rattle.std.proofs.lemmas.Bool.{or_left, or_right, or_from, or_parts, false_from_ne_true, and_parts, or_cases}
 use Rattle.std.specs.Prelude.{ℤ, ◌⊎◌, Bool, true, false, not, ◌&&◌, ◌||◌, map, ok_or, if◌then◌else◌}
 use Rattle.shared_lemmas.proofs.Truths.{false_true}
 use Rattle.sections.specs.Covers.{has}
-use Rattle.sections.specs.Place.{Window, Place, In, sides_of, same_place}
+use Rattle.sections.specs.Place.{Window, Place, In, has_piece, piece_at, sides_of, same_place}
 use Rattle.types.specs.declared.fault.FaultKind.{FaultKind}
-use Rattle.types.specs.declared.fault.FaultKind.TheVariants.{SplitPoint, Raised}
+use Rattle.types.specs.declared.fault.FaultKind.TheVariants.{PieceSize, SplitPoint, Raised}
 use Rattle.types.specs.Code.{Number, Truth, Primitive, Skip, Assign, Store, Print, Raise, Code, Do, If, While, Split}
-use Rattle.types.specs.Code.{Call, Async, Finish, Codes, End, Then, Program}
+use Rattle.types.specs.Code.{Parts, Begun, Call, Async, Finish, Codes, End, Then, Program}
 use Rattle.types.specs.Contents.{Contents, IsThere, Extends}
 use Rattle.types.specs.Value.{Environment, Valued, element_of, holds_number}
 use Rattle.types.specs.Run.{State, Rules, stopped, fault, with_value, assign, print, put, number_at, numbers_at}
-use Rattle.types.specs.Run.{truth_at, window_at, entry, with_sides, array_of, procedure_of, primitive}
+use Rattle.types.specs.Run.{truth_at, window_at, entry, with_sides, with_piece, piece_size, in_turn, array_of, procedure_of}
+use Rattle.types.specs.Run.{primitive}
 use Rattle.types.proofs.Keeps.{still_there}
 use Rattle.effects.specs.Accesses.{Access}
-use Rattle.types.specs.Sound.{passed_for}
+use Rattle.types.specs.Sound.{IsText, IsTextOf, passed_for}
 use Rattle.effects.specs.Effects.{if_body, if_other, while, AllOf, All, PendingOf, Pending, accesses}
-use Rattle.effects.specs.Footprint.{Touches, Overwrites}
+use Rattle.effects.specs.Footprint.{Touches, Overwrites, TurnsStillWrite}
 use Rattle.effects.specs.Needs.{Needs, AreNeeds, Provides, ProvidesIn}
-use Rattle.race_checker.specs.Scope.{Scope, Top, Inside, InScope, FitsScope, may_writes, Scoped, IsScoped}
+use Rattle.race_checker.specs.Scope.{Scope, Top, Inside, AtPiece, InScope, FitsScope, may_writes, Scoped, IsScoped}
 use Rattle.race_checker.specs.Calm.{Calm, IsCalm}
 use Rattle.race_checker.proofs.Scoping.{length_may_writes}
 use Rattle.task_run.specs.Places.{Places, written, touched}
 use Rattle.task_run.specs.Ready.{Around, Ready}
 use Rattle.task_run.specs.Results.{Listed, Settled}
 use Rattle.task_run.specs.OwnRun.{Child, Own, child_of, list_child, begin_own, back_from, own_rules}
-use Rattle.task_run.specs.Frames.{Frame, Rest, Again, AtEnd, Back, Standing, by_value, chosen, acted}
-use Rattle.task_run.specs.Holds.{having, locked_after, Remains, Stack, Carries, Comes, Returns, Holds}
+use Rattle.task_run.specs.Frames.{Frame, Rest, Again, Further, AtEnd, Back, Standing, by_value, chosen, acted}
+use Rattle.task_run.specs.Holds.{having, locked_after, HasText, Remains, Stack, Carries, Comes, Returns, Holds}
 use Rattle.task_run.specs.Lists.{Each}
 use Rattle.task_run.specs.Settling.{Parted}
 use Rattle.task_run.proofs.Lists.{each_last}
 use Rattle.task_run.proofs.Windows.{named_some, some_named, passed_same, sides_some, around_split, split_agree}
+use Rattle.task_run.proofs.Windows.{around_turn, turn_agree}
 use Rattle.task_run.proofs.AccessNames.{named_all, touches_more, overwrites_more}
-use Rattle.task_run.proofs.Simulation.{behind, part_ready, again_ready, split_ready, call_ready, unlocked_ready, ReadyOf}
+use Rattle.task_run.proofs.Simulation.{behind, part_ready, again_ready, split_ready, parts_ready, turn_ready, next_ready}
+use Rattle.task_run.proofs.Simulation.{after_turn, call_ready, unlocked_ready, none_left, ReadyOf}
 use Rattle.task_run.proofs.Stacks.{anywhere, restack, anchor, unlock, unlock_ready}
 use Rattle.task_run.proofs.ComesBack.{written_touched, only_there}
 
@@ -126,6 +129,7 @@ module _ (p : Program) (needs : Codes → Needs) where
   returns_move st to m [] h = tt
   returns_move st to m (Rest b ∷ gs) h = returns_move st to m gs h
   returns_move st to m (Again l t b ∷ gs) h = returns_move st to m gs h
+  returns_move st to m (Further l s n j q i b ∷ gs) h = returns_move st to m gs h
   returns_move st to m (AtEnd before ∷ gs) h = (comes_move st to before m h.0, h.1, h.2, h.3)
   returns_move st to m (Back env ∷ gs) h = returns_move st to m gs h
 
@@ -136,15 +140,16 @@ module _ (p : Program) (needs : Codes → Needs) where
       returns_move st (record st { environment = env }) (record { there = λ q. inl; owned = λ q. inl; back = λ q. inr; no_more = λ q i. i })
 
   -- a block has all that it touches if nothing is locked
-  remains_alone : (f : ℕ → Window) (c : Contents) (o : Places) (b : Codes) (sc : Scope) (env : Environment)
+  remains_alone : (f : ℕ → Window) (c : Contents) (o : Places) (b : Codes) → IsText b → (sc : Scope) (env : Environment)
       → ((s : ℕ) → InScope sc s → f s ≡ env.windows s) → FitsScope sc env → Scoped p sc b → Calm p sc b → ProvidesIn p needs b
       → ((q : Place) → Touches env (All p accesses b) q → IsThere (c q))
       → ((q : Place) → Overwrites env (All p accesses b) q → o q ≡ true)
       → Remains p needs f anywhere c o none b sc env
-  remains_alone f c o b sc env known fits scoped calm provided held wrote = record {
+  remains_alone f c o b text sc env known fits scoped calm provided held wrote = record {
     inside = λ z i. tt;
     known = known;
-    ready = unlocked_ready p needs (having sc env c o) (locked_after p needs env none b) b fits scoped calm provided held wrote (λ q. inr);
+    ready = unlocked_ready p needs (having sc env c o) (locked_after p needs env none b) b text fits scoped calm provided held wrote
+        (λ q t. inr (inl t));
   }
 
   -- ---- a state in which only written places differ
@@ -203,6 +208,7 @@ module _ (p : Program) (needs : Codes → Needs) where
           (behind p needs (having sc env st.store st.extra.owned) none s) l s
       pub lower : Stack p needs st.environment.windows (InScope sc) st.store st.extra.owned
           (behind p needs (having sc env st.store st.extra.owned) none s) gs
+      pub texts : Each HasText gs
       pub carried : Each (Carries p needs) st.extra.pending
       pub parted : Parted st.extra.owned (lists st.extra.pending)
       pub returns : Returns p needs st gs
@@ -227,6 +233,7 @@ module _ (p : Program) (needs : Codes → Needs) where
               fewer_locks =
                   λ q n. absurd n;
             }) h.lower);
+        texts = h.texts;
         carried = subst (Each (Carries p needs)) (sym a.pending) h.carried;
         parted = subst (λ o. Parted o (lists to.extra.pending)) (sym a.owned)
             (subst (λ cs. Parted st.extra.owned (lists cs)) (sym a.pending) h.parted);
@@ -237,13 +244,18 @@ module _ (p : Program) (needs : Codes → Needs) where
       abbrev after : Environment → Codes → Place → Type 0
       after env b = locked_after p needs env none b
 
-      fewer : (e : Environment) (b : Codes) → ((q : Place) → Overwrites e (Pending p accesses b) q → mid q) → (q : Place) → after e b q
-          → mid q
-      fewer e b f q m = elim m as (λ _. mid q) [ inl n ↦ absurd n | inr k ↦ f q k ]
+      fewer : (e : Environment) (b : Codes) → ((q : Place) → Overwrites e (Pending p accesses b) q → mid q)
+          → ((q : Place) → TurnsStillWrite p e b q → mid q) → (q : Place) → after e b q → mid q
+      fewer e b f g q m = elim m as (λ _. mid q) [
+        | inl n ↦ absurd n
+        | inr k ↦ elim k as (λ _. mid q) [ inl i ↦ f q i | inr i ↦ g q i ]
+      ]
 
       lower_for : (e : Environment) (b : Codes) → ((q : Place) → Overwrites e (Pending p accesses b) q → mid q)
+          → ((q : Place) → TurnsStillWrite p e b q → mid q)
           → Stack p needs st.environment.windows (InScope sc) st.store st.extra.owned (after e b) gs
-      lower_for e b f = unlock p needs st.environment.windows (InScope sc) st.store st.extra.owned mid (after e b) gs (fewer e b f) h.lower
+      lower_for e b f g =
+          unlock p needs st.environment.windows (InScope sc) st.store st.extra.owned mid (after e b) gs (fewer e b f g) h.lower
 
       left_of : (limit : ℕ → Type 0) (b : Codes) → ((z : ℕ) → InScope sc z → limit z) → Ready p needs x none mid b
           → Remains p needs st.environment.windows limit st.store st.extra.owned none b sc env
@@ -254,10 +266,11 @@ module _ (p : Program) (needs : Codes → Needs) where
       }
 
       -- a block of it, in the same scope
-      block_holds : (b : Codes) → Ready p needs x none mid b → Holds p needs (record { frames = Rest b ∷ gs; state = st })
-      block_holds b k =
+      block_holds : (b : Codes) → IsText b → Ready p needs x none mid b → Holds p needs (record { frames = Rest b ∷ gs; state = st })
+      block_holds b text k =
           record {
-            stack = (sc, env, left_of anywhere b (λ z i. tt) k, lower_for env b k.added);
+            stack = (sc, env, left_of anywhere b (λ z i. tt) k, lower_for env b k.added k.turns_added);
+            texts = (text, h.texts);
             carried = h.carried;
             parted =
                 h.parted;
@@ -311,20 +324,20 @@ module _ (p : Program) (needs : Codes → Needs) where
     chosen_holds false fs gs st h k = k
 
     -- an iteration of a loop
-    loop_holds : (sc : Scope) (env : Environment) (l : ℕ) (t : Truth) (b : Codes) (gs : List (Frame Own)) (st : State Own)
+    loop_holds : (sc : Scope) (env : Environment) (l : ℕ) (t : Truth) (b : Codes) (gs : List (Frame Own)) (st : State Own) → IsText b
         → Before sc env l (While t b) gs st
         → Holds p needs (record { frames = Rest b ∷ Again l t b ∷ gs; state = st })
-    loop_holds sc env l t b gs st h =
+    loop_holds sc env l t b gs st text h =
         let s = While t b in
         let here = x sc env l s gs st h in
         let m = mid sc env l s gs st h in
         let body =
-        part_ready p needs here none m l s b (λ y i. AllOf.inner while i refl)
+        part_ready p needs here none m l s b text (λ y i. AllOf.inner while i refl)
         (λ y i. PendingOf.inner while i refl) h.ready.scoped h.ready.calm.0 h.ready.provided h.ready in
         let again = again_ready p needs here none m l t b h.ready in
         let turn : Codes = Then l s End in
         let lock = after sc env l s gs st h env b in
-        let down : (q : Place) → lock q → m q = fewer sc env l s gs st h env b body.added in
+        let down : (q : Place) → lock q → m q = fewer sc env l s gs st h env b body.added body.turns_added in
         record {
           stack = (
             sc,
@@ -339,9 +352,13 @@ module _ (p : Program) (needs : Codes → Needs) where
                 ready = unlock_ready p needs st.store st.extra.owned sc env m lock m turn down again;
               },
               unlock p needs st.environment.windows (InScope sc) st.store st.extra.owned m (locked_after p needs env lock turn) gs
-                  (λ q k. elim k as (λ _. m q) [ inl j ↦ down q j | inr j ↦ again.added q j ]) h.lower,
+                  (λ q k. elim k as (λ _. m q) [
+                    | inl j ↦ down q j
+                    | inr j ↦ elim j as (λ _. m q) [ inl z ↦ again.added q z | inr z ↦ again.turns_added q z ]
+                  ]) h.lower,
             ),
           );
+          texts = (text, (text, h.texts));
           carried = h.carried;
           parted = h.parted;
           returns = h.returns;
@@ -349,15 +366,15 @@ module _ (p : Program) (needs : Codes → Needs) where
 
     -- the body of a split
     split_holds : (sc : Scope) (env : Environment) (l : ℕ) (s : ℕ) (e : Number) (u v : ℕ) (b : Codes) (gs : List (Frame Own))
-        (st : State Own) → Before sc env l (Split s e u v b) gs st
+        (st : State Own) → IsText b → Before sc env l (Split s e u v b) gs st
         → (at : ℤ) (ws : Window × Window) → sides_of (st.environment.windows s) at ≡ Some ws
         → Holds p needs (record { frames = Rest b ∷ gs; state = record st { environment = with_sides u v ws st.environment } })
-    split_holds sc env l s e u v b gs st h at ws is =
+    split_holds sc env l s e u v b gs st text h at ws is =
         let c = Split s e u v b in
         let here = x sc env l c gs st h in
         let m = mid sc env l c gs st h in
         let cut = ap (λ w. sides_of w at) (sym (h.known s h.ready.scoped.0)) ∙ is in
-        let body = split_ready p needs here none m l s e u v b h.ready at ws cut in
+        let body = split_ready p needs here none m l s e u v b h.ready at ws cut text in
         let new = with_sides u v ws env in
         let to = with_sides u v ws st.environment in
         record {
@@ -372,8 +389,9 @@ module _ (p : Program) (needs : Codes → Needs) where
             restack p needs st.environment.windows to.windows (InScope sc) (InScope (Inside s u v sc)) st.store st.extra.owned
                 (after sc env l c gs st h new b) gs
                 (λ z i. inr (inr i)) (λ z i. around_split sc u v ws st.environment h.ready.scoped.1 h.ready.scoped.2 z i)
-                (lower_for sc env l c gs st h new b body.added),
+                (lower_for sc env l c gs st h new b body.added body.turns_added),
           );
+          texts = (text, h.texts);
           carried = h.carried;
           parted = h.parted;
           returns = returns_in st to gs h.returns;
@@ -383,6 +401,88 @@ module _ (p : Program) (needs : Codes → Needs) where
         in_scope z (inl i) = inl i
         in_scope z (inr (inl i)) = inr (inl i)
         in_scope z (inr (inr i)) = inr (inr (h.known z i))
+
+    -- the turns of a `parts`
+    parts_holds : (sc : Scope) (env : Environment) (l s : ℕ) (e : Number) (q i : ℕ) (b : Codes) (gs : List (Frame Own)) (st : State Own)
+        → IsText b → Before sc env l (Parts s e q i b) gs st → (n : ℕ)
+        → Holds p needs (record { frames = Further l s n 0 q i b ∷ gs; state = st })
+    parts_holds sc env l s e q i b gs st text h n =
+        let c = Parts s e q i b in
+        let here = x sc env l c gs st h in
+        let m = mid sc env l c gs st h in
+        let turns : Codes = Then l (Begun s n 0 q i b) End in
+        let ready = parts_ready p needs here none m l s e q i b h.ready n in
+        record {
+          stack = (
+            sc,
+            env,
+            left_of sc env l c gs st h anywhere turns (λ z i. tt) ready,
+            lower_for sc env l c gs st h env turns ready.added ready.turns_added,
+          );
+          texts = (text, h.texts);
+          carried = h.carried;
+          parted = h.parted;
+          returns = h.returns;
+        }
+
+    -- the block of a turn
+    pub begun_holds : (sc : Scope) (env : Environment) (l s n j q i : ℕ) (b : Codes) (gs : List (Frame Own)) (st : State Own)
+        → IsText b → Before sc env l (Begun s n j q i b) gs st → has_piece (st.environment.windows s) n j ≡ true
+        → Holds p needs (record { frames = Rest b ∷ Further l s n (j + 1) q i b ∷ gs; state = in_turn s n j q i st })
+    begun_holds sc env l s n j q i b gs st text h left =
+        let c = Begun s n j q i b in
+        let here = x sc env l c gs st h in
+        let m = mid sc env l c gs st h in
+        let is : has_piece (env.windows s) n j ≡ true = ap (λ w. has_piece w n j) (sym (h.known s h.ready.scoped.0)) ∙ left in
+        let body = turn_ready p needs here none m l s n j q i b h.ready is text in
+        let next = next_ready p needs here none m l s n j q i b h.ready is in
+        let between : Place → Type 0 = after_turn p needs here none m l s n j q i b h.ready is in
+        let new = with_piece q i (piece_at n j (env.windows s)) j env in
+        let to = with_piece q i (piece_at n j (st.environment.windows s)) j st.environment in
+        let turns : Codes = Then l (Begun s n (j + 1) q i b) End in
+        let lock = after sc env l c gs st h new b in
+        let down : (z : Place) → lock z → between z = λ z k. elim k as (λ _. between z) [
+          | inl n ↦ inl n
+          | inr o ↦ elim o as (λ _. between z) [ inl o ↦ inr o | inr o ↦ none_left p needs b text new z o ]
+        ] in
+        record {
+          stack = (
+            AtPiece s q sc,
+            new,
+            record {
+              inside = λ z i. tt;
+              known = λ z i. turn_agree q (piece_at n j (st.environment.windows s)) (piece_at n j (env.windows s)) st.environment.windows
+                  env.windows z (ap (piece_at n j) (h.known s h.ready.scoped.0)) (in_scope z i);
+              ready = unlock_ready p needs st.store st.extra.owned (AtPiece s q sc) new none none between b (λ q j. j) body;
+            },
+            (
+              sc,
+              env,
+              record {
+                inside = λ z i. inr i;
+                known = λ z k. around_turn sc q i (piece_at n j (st.environment.windows s)) j st.environment h.ready.scoped.1 z k
+                    ∙ h.known z k;
+                ready = unlock_ready p needs st.store st.extra.owned sc env between lock m turns down next;
+              },
+              restack p needs st.environment.windows to.windows (InScope sc) (InScope sc) st.store st.extra.owned
+                  (locked_after p needs env lock turns) gs (λ z i. i)
+                  (around_turn sc q i (piece_at n j (st.environment.windows s)) j st.environment h.ready.scoped.1)
+                  (unlock p needs st.environment.windows (InScope sc) st.store st.extra.owned m (locked_after p needs env lock turns) gs
+                  (λ z k. elim k as (λ _. m z) [
+                    | inl o ↦ next.kept z (down z o)
+                    | inr o ↦ elim o as (λ _. m z) [ inl o ↦ next.added z o | inr o ↦ next.turns_added z o ]
+                  ]) h.lower),
+            ),
+          );
+          texts = (text, (text, h.texts));
+          carried = h.carried;
+          parted = h.parted;
+          returns = returns_in st to gs h.returns;
+        }
+      where
+        in_scope : (z : ℕ) → InScope (AtPiece s q sc) z → (z ≡ q) ⊎ (st.environment.windows z ≡ env.windows z)
+        in_scope z (inl i) = inl i
+        in_scope z (inr i) = inr (h.known z i)
 
     -- the body of a call
     call_holds : (sc : Scope) (env : Environment) (l f : ℕ) (es : List Number) (ss : List ℕ) (gs : List (Frame Own)) (st : State Own)
@@ -402,7 +502,7 @@ module _ (p : Program) (needs : Codes → Needs) where
         let new = entry [] (map env.windows ss) in
         let to = entry vs (map (window_at st) ss) in
         let body =
-        call_ready p needs here none m l f es ss h.ready (is_scoped.procedures f) (is_calm.procedures f) (provides.procedures f) in
+        call_ready p needs here none m l f es ss h.ready (is_scoped.procedure_texts f) (is_scoped.procedures f) (is_calm.procedures f) (provides.procedures f) in
         record {
           stack = (
             top,
@@ -414,29 +514,31 @@ module _ (p : Program) (needs : Codes → Needs) where
               ready = unlock_ready p needs st.store st.extra.owned top new none none m b (λ q j. j) body;
             },
             relimit st.environment.windows (InScope sc) st.store st.extra.owned (after sc env l c gs st h new b) gs
-                (lower_for sc env l c gs st h new b body.added),
+                (lower_for sc env l c gs st h new b body.added body.turns_added),
           );
+          texts = (is_scoped.procedure_texts f, (tt, h.texts));
           carried = h.carried;
           parted = h.parted;
           returns = returns_in st to gs h.returns;
         }
 
     -- the body of a finish
-    finish_holds : (sc : Scope) (env : Environment) (l : ℕ) (b : Codes) (gs : List (Frame Own)) (st : State Own)
+    finish_holds : (sc : Scope) (env : Environment) (l : ℕ) (b : Codes) (gs : List (Frame Own)) (st : State Own) → IsText b
         → Before sc env l (Finish b) gs st
         → Holds p needs (record { frames = Rest b ∷ AtEnd st ∷ gs; state = r.enter l st })
-    finish_holds sc env l b gs st h =
+    finish_holds sc env l b gs st text h =
         let c = Finish b in
         let m = mid sc env l c gs st h in
         record {
           stack = (
             sc,
             env,
-            remains_alone _ _ _ b sc env h.known h.ready.fits h.ready.scoped h.ready.calm h.ready.provided
+            remains_alone _ _ _ b text sc env h.known h.ready.fits h.ready.scoped h.ready.calm h.ready.provided
                 (λ q t. h.ready.held q (touches_more env _ _ q (λ y i. AllOf.finish i) t))
                 (λ q t. h.ready.wrote q (overwrites_more env _ _ q (λ y i. AllOf.finish i) t)),
             unlock p needs st.environment.windows (InScope sc) st.store st.extra.owned m none gs (λ q n. absurd n) h.lower,
           );
+          texts = (text, (tt, h.texts));
           carried = tt;
           parted = tt;
           returns = (
@@ -453,12 +555,12 @@ module _ (p : Program) (needs : Codes → Needs) where
         }
 
     -- after an async
-    async_holds : (n : ℕ) (sc : Scope) (env : Environment) (l : ℕ) (b : Codes) (gs : List (Frame Own)) (st : State Own)
+    async_holds : (n : ℕ) (sc : Scope) (env : Environment) (l : ℕ) (b : Codes) (gs : List (Frame Own)) (st : State Own) → IsText b
         → Before sc env l (Async b) gs st
         → Holds p needs (record { frames = gs; state = begin_own needs n b st })
-    async_holds zero sc env l b gs st h =
+    async_holds zero sc env l b gs st text h =
         plain sc env l (Async b) gs st h (stopped st) (record { windows = λ s. refl; stores = λ q k. k; owned = refl; pending = refl })
-    async_holds (suc n) sc env l b gs st h =
+    async_holds (suc n) sc env l b gs st text h =
         let s = Async b in
         let a = h.ready.provided.0 in
         let m = mid sc env l s gs st h in
@@ -468,7 +570,7 @@ module _ (p : Program) (needs : Codes → Needs) where
         let writes = written_overwrites sc env l s gs st h b a h.ready.scoped in
         let mine : (q : Place) → w q ≡ true
         → st.extra.owned q ≡ true = λ q k. h.ready.wrote q (overwrites_more env _ _ q (λ y i. AllOf.async i) (writes q k)) in
-        let locks : (q : Place) → w q ≡ true → m q = λ q k. inr (overwrites_more env _ _ q (λ y i. PendingOf.async i) (writes q k)) in
+        let locks : (q : Place) → w q ≡ true → m q = λ q k. inr (inl (overwrites_more env _ _ q (λ y i. PendingOf.async i) (writes q k))) in
         record {
           stack = relimit st.environment.windows (InScope sc) to.store to.extra.owned none gs
               (anchor p needs st.store to.store st.extra.owned to.extra.owned st.environment.windows (InScope sc) m none gs
@@ -477,19 +579,23 @@ module _ (p : Program) (needs : Codes → Needs) where
                 owned = λ q free e. owned_without (st.extra.owned q) (w q) (λ k. free (locks q k)) e;
                 fewer_locks = λ q k. absurd k;
               }) h.lower);
+          texts = h.texts;
           carried = each_last (Carries p needs) st.extra.pending c h.carried (record {
             there = λ q k. only_there (touched st.environment (needs b) q) (st.store q) (written_touched st.environment (needs b) q k)
                 (h.ready.held q (touches_more env _ _ q (λ y i. AllOf.async i) (touch env q (writes q k))));
-            begins = (
-              sc,
-              env,
-              remains_alone _ _ _ b sc env h.known h.ready.fits h.ready.scoped h.ready.calm h.ready.provided.1
-                  (λ q t. only_there (touched st.environment (needs b) q) (st.store q)
-                  (touches_touched sc env l s gs st h b a h.ready.scoped q t)
-                  (h.ready.held q (touches_more env _ _ q (λ y i. AllOf.async i) t)))
-                  (λ q t. overwrites_written sc env l s gs st h b a h.ready.scoped q t),
-              tt,
-            );
+            begins = record {
+              text = text;
+              stack = (
+                sc,
+                env,
+                remains_alone _ _ _ b text sc env h.known h.ready.fits h.ready.scoped h.ready.calm h.ready.provided.1
+                    (λ q t. only_there (touched st.environment (needs b) q) (st.store q)
+                    (touches_touched sc env l s gs st h b a h.ready.scoped q t)
+                    (h.ready.held q (touches_more env _ _ q (λ y i. AllOf.async i) t)))
+                    (λ q t. overwrites_written sc env l s gs st h b a h.ready.scoped q t),
+                tt,
+              );
+            };
           });
           parted =
               parted_last to.extra.owned st.extra.pending c
@@ -541,25 +647,30 @@ module _ (p : Program) (needs : Codes → Needs) where
         owned_or_back true false b f e = inl refl
         owned_or_back false false b f e = absurd (false_true e)
 
-    pub acted_holds : (s : Code) (sc : Scope) (env : Environment) (l : ℕ) (gs : List (Frame Own)) (st : State Own) → Before sc env l s gs st
-        → Holds p needs (acted p r l s gs st)
-    acted_holds (Do s) sc env l gs st h = plain sc env l (Do s) gs st h (primitive p l s st) (primitive_alike l s st)
-    acted_holds (If t b c) sc env l gs st h =
+    pub acted_holds : (s : Code) → IsTextOf s → (sc : Scope) (env : Environment) (l : ℕ) (gs : List (Frame Own)) (st : State Own)
+        → Before sc env l s gs st → Holds p needs (acted p r l s gs st)
+    acted_holds (Do s) text sc env l gs st h = plain sc env l (Do s) gs st h (primitive p l s st) (primitive_alike l s st)
+    acted_holds (If t b c) text sc env l gs st h =
         value_holds sc env l (If t b c) gs st h (truth_at st t) _ (λ v _. chosen_holds v (Rest b ∷ gs) (Rest c ∷ gs) st
-        (block_holds sc env l (If t b c) gs st h b
-        (part_ready p needs _ none _ l _ b (λ y i. AllOf.inner if_body i refl)
+        (block_holds sc env l (If t b c) gs st h b text.0
+        (part_ready p needs _ none _ l _ b text.0 (λ y i. AllOf.inner if_body i refl)
         (λ y i. PendingOf.inner if_body i refl) h.ready.scoped.0 h.ready.calm.0 h.ready.provided.0 h.ready))
-        (block_holds sc env l (If t b c) gs st h c
-        (part_ready p needs _ none _ l _ c (λ y i. AllOf.inner if_other i refl)
+        (block_holds sc env l (If t b c) gs st h c text.1
+        (part_ready p needs _ none _ l _ c text.1 (λ y i. AllOf.inner if_other i refl)
         (λ y i. PendingOf.inner if_other i refl) h.ready.scoped.1 h.ready.calm.1 h.ready.provided.1 h.ready)))
-    acted_holds (While t b) sc env l gs st h =
+    acted_holds (While t b) text sc env l gs st h =
         value_holds sc env l (While t b) gs st h (truth_at st t) _ (λ v _. chosen_holds v (Rest b ∷ Again l t b ∷ gs) gs st
-        (loop_holds sc env l t b gs st h) (plain sc env l (While t b) gs st h st (same_alike st)))
-    acted_holds (Split s e u v b) sc env l gs st h =
+        (loop_holds sc env l t b gs st text h) (plain sc env l (While t b) gs st h st (same_alike st)))
+    acted_holds (Split s e u v b) text sc env l gs st h =
         value_holds sc env l (Split s e u v b) gs st h (number_at st e) _ (λ at _.
         value_holds sc env l (Split s e u v b) gs st h (ok_or (sides_of (window_at st s) at) SplitPoint) _ (λ ws is.
-        split_holds sc env l s e u v b gs st h at ws (sides_some (sides_of (window_at st s) at) ws is)))
-    acted_holds (Call f es ss) sc env l gs st h =
+        split_holds sc env l s e u v b gs st text h at ws (sides_some (sides_of (window_at st s) at) ws is)))
+    acted_holds (Parts s e q i b) text sc env l gs st h =
+        value_holds sc env l (Parts s e q i b) gs st h (number_at st e) _ (λ v _.
+        value_holds sc env l (Parts s e q i b) gs st h (ok_or (piece_size v) PieceSize) _ (λ n _.
+        parts_holds sc env l s e q i b gs st text h n))
+    acted_holds (Begun s n j q i b) text sc env l gs st h = absurd text
+    acted_holds (Call f es ss) text sc env l gs st h =
         value_holds sc env l (Call f es ss) gs st h (numbers_at st es) _ (λ vs _. call_holds sc env l f es ss gs st h vs)
-    acted_holds (Async b) sc env l gs st h = async_holds nest sc env l b gs st h
-    acted_holds (Finish b) sc env l gs st h = finish_holds sc env l b gs st h
+    acted_holds (Async b) text sc env l gs st h = async_holds nest sc env l b gs st text h
+    acted_holds (Finish b) text sc env l gs st h = finish_holds sc env l b gs st text h

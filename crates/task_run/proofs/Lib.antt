@@ -33,6 +33,7 @@ pub mod StartsWorth
 pub mod StaysStopped
 pub mod StepsInPlace
 pub mod Stopping
+pub mod TakenTurns
 pub mod TaskRuns
 pub mod TaskTurns
 pub mod TasksEnd
@@ -40,4 +41,5 @@ pub mod TurnActions
 pub mod TurnsLeft
 pub mod TurnsBelong
 pub mod TurnsResume
+pub mod TurnsToCome
 pub mod Windows

@@ -1,18 +1,18 @@
 -- The actions of a turn determine how the lists of a task's children change.
 use Rattle.std.proofs.Common.{◌≡◌, ℕ, zero, suc, List, [], ◌∷◌, Option, Ok, Err, refl, ap, subst}
-use Rattle.std.specs.Prelude.{Bool, true, false, ok_or}
+use Rattle.std.specs.Prelude.{Bool, true, false, ◌&&◌, ok_or, if◌then◌else◌}
 use Rattle.shared_lemmas.proofs.Truths.{false_true}
-use Rattle.sections.specs.Place.{sides_of}
-use Rattle.types.specs.declared.fault.FaultKind.TheVariants.{SplitPoint}
-use Rattle.types.specs.Code.{Code, Do, If, While, Split, Call, Async, Finish, Codes, End, Then, Program, Number}
+use Rattle.sections.specs.Place.{has_piece, sides_of}
+use Rattle.types.specs.declared.fault.FaultKind.TheVariants.{SplitPoint, PieceSize}
+use Rattle.types.specs.Code.{Code, Do, If, While, Split, Parts, Begun, Call, Async, Finish, Codes, End, Then, Program, Number}
 use Rattle.types.specs.Code.{Primitive, Truth}
 use Rattle.types.specs.Value.{Valued}
-use Rattle.types.specs.Run.{Flow, On, Faulted, Stopped, State, number_at, numbers_at, truth_at, window_at, Rules}
+use Rattle.types.specs.Run.{Flow, On, Faulted, Stopped, State, piece_size, number_at, numbers_at, truth_at, window_at, Rules}
 use Rattle.types.proofs.Keeps.{primitive_keeps}
 use Rattle.effects.specs.Needs.{Needs}
 use Rattle.task_run.specs.Results.{Settled}
 use Rattle.task_run.specs.OwnRun.{Child, Step, Own, notes, own_rules, child_of}
-use Rattle.task_run.specs.Frames.{Frame, Rest, Again, AtEnd, Back, Standing, by_value, chosen, paid, by_flow, turn}
+use Rattle.task_run.specs.Frames.{Frame, Rest, Again, Further, AtEnd, Back, Standing, by_value, chosen, paid, by_flow, turn}
 use Rattle.task_run.specs.Frames.{done_by, done_at, done_in}
 use Rattle.task_run.specs.Stops.{is_over, is_next_over, stops}
 use Rattle.task_run.specs.Worth.{Lists, around, lists, ListsAs}
@@ -32,6 +32,8 @@ over_by needs nest (suc n) (Do s) st e = absurd (false_true e)
 over_by needs nest (suc n) (If t b c) st e = absurd (false_true e)
 over_by needs nest (suc n) (While t b) st e = absurd (false_true e)
 over_by needs nest (suc n) (Split s x y z b) st e = absurd (false_true e)
+over_by needs nest (suc n) (Parts s x y z b) st e = absurd (false_true e)
+over_by needs nest (suc n) (Begun s m k y z b) st e = absurd (false_true e)
 over_by needs nest (suc n) (Call f es ss) st e = absurd (false_true e)
 
 over_at : (needs : Codes → Needs) (nest : ℕ) (g : Flow) (s : Code) (st : State Own) → is_next_over nest g st.steps s ≡ true
@@ -45,6 +47,15 @@ pub over_does_nothing : (needs : Codes → Needs) (nest : ℕ) (f : Frame Own) (
 over_does_nothing needs nest (Rest End) st e = refl
 over_does_nothing needs nest (Rest (Then l s rest)) st e = over_at needs nest st.flow s st e
 over_does_nothing needs nest (Again l t b) st e = over_at needs nest st.flow (While t b) st e
+over_does_nothing needs nest (Further l s n k q i b) st e = by (has_piece (window_at st s) n k) e
+  where
+    c : Code
+    c = Begun s n k q i b
+
+    by : (left : Bool) → (left && is_next_over nest st.flow st.steps c) ≡ true
+        → (if left then done_at needs nest st.flow c st else []) ≡ []
+    by true e = over_at needs nest st.flow c st e
+    by false e = refl
 over_does_nothing needs nest (AtEnd before) st e = refl
 over_does_nothing needs nest (Back env) st e = refl
 
@@ -87,6 +98,11 @@ module _ (p : Program) (needs : Codes → Needs) (close : State Own → Option S
         value_lists l (number_at st e) _ fs after _ refl (λ v.
         value_lists l (ok_or (sides_of (window_at st s) v) SplitPoint) _ fs after _ refl (λ ws. refl))
 
+    parts_lists : (l s q i : ℕ) (e : Number) (b : Codes) → lists (paid p (r nest) (suc n) l (Parts s e q i b) fs st) ≡ old
+    parts_lists l s q i e b =
+        value_lists l (number_at st e) _ fs after _ refl (λ v.
+        value_lists l (ok_or (piece_size v) PieceSize) _ fs after _ refl (λ m. refl))
+
     call_lists : (l f : ℕ) (es : List Number) (ss : List ℕ) → lists (paid p (r nest) (suc n) l (Call f es ss) fs st) ≡ old
     call_lists l f es ss = value_lists l (numbers_at st es) _ fs after _ refl (λ vs. refl)
 
@@ -98,8 +114,9 @@ module _ (p : Program) (needs : Codes → Needs) (close : State Own → Option S
   paid_lists nest (suc n) l (If t b c) fs st = if_lists nest n fs st l t b c
   paid_lists nest (suc n) l (While t b) fs st = while_lists nest n fs st l t b
   paid_lists nest (suc n) l (Split s e x y b) fs st = split_lists nest n fs st l s x y e b
+  paid_lists nest (suc n) l (Parts s e q i b) fs st = parts_lists nest n fs st l s q i e b
   paid_lists nest (suc n) l (Call f es ss) fs st = call_lists nest n fs st l f es ss
-  -- a finish spawns no task, and neither does a statement that is over the budget
+  -- a finish and a turn of a `parts` spawn no task, and neither does a statement that is over the budget
   paid_lists nest n l s fs st = refl
 
   flow_lists : (nest : ℕ) (g : Flow) (l : ℕ) (s : Code) (fs below : List (Frame Own)) (st : State Own) → around fs ≡ around below
@@ -116,5 +133,16 @@ module _ (p : Program) (needs : Codes → Needs) (close : State Own → Option S
   turn_lists nest (Rest End) fs st = refl
   turn_lists nest (Rest (Then l s rest)) fs st = flow_lists nest st.flow l s (Rest rest ∷ fs) fs st refl
   turn_lists nest (Again l t b) fs st = flow_lists nest st.flow l (While t b) fs fs st refl
+  turn_lists nest (Further l s n k q i b) fs st = by (has_piece (window_at st s) n k)
+    where
+      c : Code
+      c = Begun s n k q i b
+
+      by : (left : Bool)
+          → ListsAs (if left then done_at needs nest st.flow c st else [])
+          (lists (record { frames = Further l s n k q i b ∷ fs; state = st }))
+          (lists (if◌then◌else◌ {A = Standing Own} left (by_flow p (r nest) st.flow l c fs fs st) (record { frames = fs; state = st })))
+      by true = flow_lists nest st.flow l c fs fs st refl
+      by false = refl
   turn_lists nest (AtEnd before) fs st = refl
   turn_lists nest (Back env) fs st = refl

@@ -3,13 +3,13 @@
 use Rattle.std.proofs.Common.{◌≡◌, ℕ, zero, suc, ◌+◌, ◌<◌, ◌≤◌, List, [], ◌∷◌, length, Some, Ok, Err, refl, sym, ap}
 use Rattle.std.proofs.Common.{◌∙◌, subst, arith, inl, inr, le_refl}
 use Rattle.std.proofs.lemmas.List.{append-nil}
-use Rattle.std.specs.Prelude.{◌⊎◌, Bool, true, false, map, flat_map, ok_or}
-use Rattle.sections.specs.Place.{sides_of}
-use Rattle.types.specs.declared.fault.FaultKind.TheVariants.{SplitPoint}
-use Rattle.types.specs.Code.{Code, Do, If, While, Split, Call, Async, Finish, Codes, End, Then, Program}
+use Rattle.std.specs.Prelude.{◌⊎◌, Bool, true, false, map, flat_map, ok_or, if◌then◌else◌}
+use Rattle.sections.specs.Place.{has_piece, sides_of}
+use Rattle.types.specs.declared.fault.FaultKind.TheVariants.{SplitPoint, PieceSize}
+use Rattle.types.specs.Code.{Code, Do, If, While, Split, Parts, Begun, Call, Async, Finish, Codes, End, Then, Program}
 use Rattle.types.specs.Value.{Valued}
 use Rattle.types.specs.Run.{Flow, On, Faulted, Stopped, State, Rules, number_at, numbers_at, truth_at, window_at}
-use Rattle.types.specs.Run.{counted}
+use Rattle.types.specs.Run.{piece_size, counted}
 use Rattle.types.proofs.Keeps.{primitive_keeps, counted_keeps}
 use Rattle.effects.specs.Needs.{Needs, Provides}
 use Rattle.race_checker.specs.Scope.{IsScoped}
@@ -17,7 +17,7 @@ use Rattle.race_checker.specs.Calm.{IsCalm}
 use Rattle.task_run.specs.Results.{TaskResult, Settled, none_yet, complete, and_then}
 use Rattle.task_run.specs.OwnRun.{Start, Child, Own, result_of, own_rules}
 use Rattle.task_run.specs.Given.{filled, in_truth, own, given, below, IsOfOwnRun}
-use Rattle.task_run.specs.Frames.{Frame, Rest, Again, AtEnd, Back, Standing, by_value, chosen, acted, paid, by_flow}
+use Rattle.task_run.specs.Frames.{Frame, Rest, Again, Further, AtEnd, Back, Standing, by_value, chosen, acted, paid, by_flow}
 use Rattle.task_run.specs.Frames.{turn, handed, IsBegun, HasBegun, IsTask, IsGivenChild}
 use Rattle.task_run.specs.Holds.{MayBegin, Holds}
 use Rattle.task_run.specs.Reached.{Reached, root_begins, child_begins, turns, leaves, CanSettle, CanEnd}
@@ -29,7 +29,7 @@ use Rattle.task_run.proofs.CompleteResults.{Stands, fill_complete, settle_comple
 use Rattle.task_run.proofs.TaskRuns.{lists_given, each_if_given}
 use Rattle.task_run.proofs.OnePath.{Once, Names, names, From, own_path, all_once, below_once, shuffled_each}
 use Rattle.task_run.proofs.SettledResults.{lists_true}
-use Rattle.task_run.proofs.TasksEnd.{own_ends, each_below, below_parted, weight, Falls, spends, sheds, flow_falls}
+use Rattle.task_run.proofs.TasksEnd.{own_ends, each_below, below_parted, weight, Falls, spends, sheds, flow_falls, turn_falls}
 use Rattle.task_run.proofs.ReachedTasks.{goes}
 
 -- ---- children have different paths, here and at each finish around
@@ -37,6 +37,7 @@ abbrev pub OnceBelow : List (Frame Own) → Type 0
 OnceBelow [] = Unit {0}
 OnceBelow (Rest b ∷ fs) = OnceBelow fs
 OnceBelow (Again l t b ∷ fs) = OnceBelow fs
+OnceBelow (Further l s n k q i b ∷ fs) = OnceBelow fs
 OnceBelow (AtEnd before ∷ fs) = Once before.extra.pending × OnceBelow fs
 OnceBelow (Back env ∷ fs) = OnceBelow fs
 
@@ -85,6 +86,10 @@ module _ (p : Program) (needs : Codes → Needs) (fresh : ℕ) where
     acted_distinct (Split z e x y c) l fs st f o b =
         value_distinct l (number_at st e) _ fs st o b
         (λ v. value_distinct l (ok_or (sides_of (window_at st z) v) SplitPoint) _ fs st o b (λ ws. both o b))
+    acted_distinct (Parts z e q i c) l fs st f o b =
+        value_distinct l (number_at st e) _ fs st o b
+        (λ v. value_distinct l (ok_or (piece_size v) PieceSize) _ fs st o b (λ n. both o b))
+    acted_distinct (Begun z n k q i c) l fs st f o b = both o b
     acted_distinct (Call g es ss) l fs st f o b = value_distinct l (numbers_at st es) _ fs st o b (λ vs. both o b)
     acted_distinct (Async c) l fs st f o b = both (((names nest needs (in_truth p needs fresh)).begin l c st).once f o) b
     acted_distinct (Finish c) l fs st f o b = both tt (o, b)
@@ -110,6 +115,12 @@ module _ (p : Program) (needs : Codes → Needs) (fresh : ℕ) where
     turn_distinct (Rest End) fs st f d = both d.ours d.around
     turn_distinct (Rest (Then l c rest)) fs st f d = flow_distinct st.flow l c (Rest rest ∷ fs) fs st f d.ours d.around d.around
     turn_distinct (Again l t c) fs st f d = flow_distinct st.flow l (While t c) fs fs st f d.ours d.around d.around
+    turn_distinct (Further l z n k q i c) fs st f d = by (has_piece (window_at st z) n k)
+      where
+        by : (left : Bool)
+            → Distinct (if◌then◌else◌ {A = Standing Own} left (by_flow p r st.flow l (Begun z n k q i c) fs fs st) (record { frames = fs; state = st }))
+        by true = flow_distinct st.flow l (Begun z n k q i c) fs fs st f d.ours d.around d.around
+        by false = both d.ours d.around
     turn_distinct (AtEnd before) fs st f d = d
     turn_distinct (Back env) fs st f d = both d.ours d.around
 
@@ -265,6 +276,9 @@ module _ (p : Program) (needs : Codes → Needs) (scoped : IsScoped p) (calm : I
       within n (suc w) deeper (Again l t b ∷ fs) st le lt a =
           after_turn n w deeper (within n w deeper) (Again l t b) fs st le a
           (falls st.flow l (While t b) fs fs st w (omega (arith, lt)) (omega (arith, lt)))
+      within n (suc w) deeper (Further l z j k q i b ∷ fs) st le lt a =
+          after_turn n w deeper (within n w deeper) (Further l z j k q i b) fs st le a
+          (turn_falls p needs scoped calm provided fresh root s l z j k q i b fs st w (omega (arith, lt)))
       within n (suc w) deeper (Back env ∷ fs) st le lt a =
           after_turn n w deeper (within n w deeper) (Back env) fs st le a (sheds (le_refl st.steps) (omega (arith, lt)))
       within n (suc w) deeper (AtEnd before ∷ fs) st le lt a =

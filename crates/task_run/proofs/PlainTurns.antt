@@ -1,21 +1,21 @@
 -- Turn by turn, frames get past a plain statement, or to its fault or stop, as its meaning
 -- specifies. Each turn does at most a step.
-use Rattle.std.proofs.Common.{◌≡◌, ℕ, zero, suc, ◌<◌, ◌≤◌, List, ◌∷◌, Option, Ok, Err, refl, sym, ap, ◌∙◌, subst, inl, inr, arith}
-use Rattle.std.specs.Prelude.{Bool, true, false, map, ok_or}
-use Rattle.sections.specs.Place.{sides_of}
-use Rattle.types.specs.declared.fault.FaultKind.TheVariants.{SplitPoint}
-use Rattle.types.specs.Code.{Code, Do, If, While, Split, Call, Async, Finish, Codes, End, Then, Program}
+use Rattle.std.proofs.Common.{◌≡◌, ℕ, zero, suc, ◌<◌, ◌≤◌, List, [], ◌∷◌, Option, Ok, Err, refl, sym, ap, ◌∙◌, subst, inl, inr, arith}
+use Rattle.std.specs.Prelude.{◌+◌, Bool, true, false, map, ok_or, if◌then◌else◌}
+use Rattle.sections.specs.Place.{has_piece, sides_of}
+use Rattle.types.specs.declared.fault.FaultKind.TheVariants.{SplitPoint, PieceSize}
+use Rattle.types.specs.Code.{Code, Do, If, While, Split, Parts, Begun, Call, Async, Finish, Codes, End, Then, Program}
 use Rattle.types.specs.Value.{Valued}
-use Rattle.types.specs.Run.{Flow, On, Faulted, Stopped, State, Rules, Work, Block, Turn, at_flow, go_on, spend, with_step}
+use Rattle.types.specs.Run.{Flow, On, Faulted, Stopped, State, Rules, Work, Block, Turn, Pieces, at_flow, go_on, spend, with_step}
 use Rattle.types.specs.Run.{with_value, choose, number_at, numbers_at, truth_at, window_at, entry, with_sides, procedure_of}
-use Rattle.types.specs.Run.{counted, act, block, run}
+use Rattle.types.specs.Run.{in_turn, piece_size, counted, act, block, run}
 use Rattle.types.proofs.Solutions.{run_less, solves}
 use Rattle.effects.specs.Needs.{Needs}
 use Rattle.plain_code.specs.Plain.{ArePlain, IsPlain, IsPlainWork}
 use Rattle.plain_code.proofs.Reaching.{Inside, inside, plain_behind}
 use Rattle.task_run.specs.Results.{Settled}
 use Rattle.task_run.specs.OwnRun.{Own, own_rules}
-use Rattle.task_run.specs.Frames.{Frame, Rest, Again, Back, Standing, acted, by_flow, by_value, chosen, done_at, done_by, paid, turn}
+use Rattle.task_run.specs.Frames.{Frame, Rest, Again, Further, Back, Standing, acted, by_flow, by_value, chosen, done_at, done_by, paid, turn}
 use Rattle.task_run.specs.Quiet.{IsLittle, Quietly, here, further}
 use Rattle.types.proofs.Counted.{counted_flow, counted_steps}
 use Rattle.task_run.proofs.TaskTurns.{own_thrifty}
@@ -24,6 +24,7 @@ use Rattle.task_run.proofs.TaskTurns.{own_thrifty}
 abbrev pub frame_of : Work → Frame Own
 frame_of (Block b) = Rest b
 frame_of (Turn l t b) = Again l t b
+frame_of (Pieces l s n k q i b) = Further l s n k q i b
 
 module _ (p : Program) (needs : Codes → Needs) (nest : ℕ) (close : State Own → Option Settled) where
   abbrev r : Rules Own
@@ -53,6 +54,10 @@ module _ (p : Program) (needs : Codes → Needs) (nest : ℕ) (close : State Own
   little_by (suc n) (suc k) (While t b) i st = inr refl
   little_by zero (suc k) (Split s e x y b) i st = inr refl
   little_by (suc n) (suc k) (Split s e x y b) i st = inr refl
+  little_by zero (suc k) (Parts s e q j b) i st = inr refl
+  little_by (suc n) (suc k) (Parts s e q j b) i st = inr refl
+  little_by zero (suc k) (Begun s m z q j b) i st = inr refl
+  little_by (suc n) (suc k) (Begun s m z q j b) i st = inr refl
   little_by zero (suc k) (Call f es ss) i st = inr refl
   little_by (suc n) (suc k) (Call f es ss) i st = inr refl
   little_by n (suc k) (Async b) i st = absurd i
@@ -159,6 +164,16 @@ module _ (p : Program) (needs : Codes → Needs) (nest : ℕ) (close : State Own
           value_passes l (ok_or (sides_of (window_at st s) v) SplitPoint) _ _ gs st (λ ws.
           let to = record st { environment = with_sides x y ws st.environment } in
           on_passes b gs to on (block_passes b i gs to (omega (arith, lt)))))
+      acted_passes (Parts s e q j b) l i gs st on lt =
+          value_passes l (number_at st e) _ _ gs st (λ v.
+          value_passes l (ok_or (piece_size v) PieceSize) _ _ gs st (λ n.
+          let w : Work = Pieces l s n 0 q j b in
+          subst (λ (o : State Own). Q (at (frame_of w ∷ gs) st) (at gs o)) (ap (λ (f : Flow). at_flow f st (m w)) on) (deeper w i gs st lt)))
+      acted_passes (Begun s n z q j b) l i gs st on lt =
+          let to = in_turn s n z q j st in
+          let w : Work = Pieces l s n (z + 1) q j b in
+          quietly_more (on_passes b (frame_of w ∷ gs) to on (block_passes b i (frame_of w ∷ gs) to (omega (arith, lt))))
+          (deeper w i gs (block p r m b to) (let less = block_less b to in omega (arith, less, lt)))
       acted_passes (Call f es ss) l i gs st on lt =
           value_passes l (numbers_at st es) _ _ gs st (λ vs.
           let body = (procedure_of p f).body in
@@ -187,6 +202,39 @@ module _ (p : Program) (needs : Codes → Needs) (nest : ℕ) (close : State Own
           (λ s flow lt. acted_passes c l i (Rest rest ∷ fs) s flow (omega (arith, lt, le))) on)
           (block_passes rest (plain_behind p l c rest plain) fs out (let less = step_less l c st in omega (arith, less, le))))))
 
+    -- the turns to come of a `parts`
+    pieces_pass : (l s n z q j : ℕ) (b : Codes) → IsPlainWork p (Pieces l s n z q j b) → (fs : List (Frame Own)) (st : State Own)
+        → st.steps ≤ k → Q (at (Further l s n z q j b ∷ fs) st) (at fs (go_on (m (Pieces l s n z q j b)) st))
+    pieces_pass l s n z q j b plain fs st le =
+        further (little (has_piece (window_at st s) n z)) (by (has_piece (window_at st s) n z) refl)
+      where
+        c : Code
+        c = Begun s n z q j b
+
+        w : Work
+        w = Pieces l s n z q j b
+
+        little : (left : Bool) → IsLittle (if left then done_at needs nest st.flow c st else [])
+        little true = little_at st.flow c plain st
+        little false = inl refl
+
+        by_piece : (left : Bool) → has_piece (window_at st s) n z ≡ left → m w st ≡ choose (stepped l c) (λ s. s) left st
+        by_piece left e = solves p r (own_thrifty p needs nest close) w st ∙ ap (λ b. choose (stepped l c) (λ s. s) b st) e
+
+        nothing : has_piece (window_at st s) n z ≡ false → (f : Flow) → at_flow f st (m w) ≡ st
+        nothing e On = by_piece false e
+        nothing e Faulted = refl
+        nothing e Stopped = refl
+
+        by : (left : Bool) → has_piece (window_at st s) n z ≡ left
+            → Q (if◌then◌else◌ {A = Standing Own} left (by_flow p r st.flow l c fs fs st) (at fs st)) (at fs (go_on (m w) st))
+        by true e =
+            flow_passes st.flow l c fs fs st (m w) refl (λ on.
+            subst (λ (o : State Own). Q (paid p r st.steps l c fs st) (at fs o)) (sym (by_piece true e))
+            (paid_passes st.steps l c fs st
+            (λ s flow less. acted_passes c l plain fs s flow (omega (arith, less, le))) on))
+        by false e = subst (λ (o : State Own). Q (at fs st) (at fs o)) (sym (nothing e st.flow)) here
+
   passes_below : (k : ℕ) → Passes k
   passes_below zero w plain fs st lt = absurd (omega (arith, lt))
   passes_below (suc k) (Block b) plain fs st lt = block_passes k (passes_below k) b plain fs st (omega (arith, lt))
@@ -197,6 +245,8 @@ module _ (p : Program) (needs : Codes → Needs) (nest : ℕ) (close : State Own
       (sym (solves p r (own_thrifty p needs nest close) (Turn l t b) st))
       (paid_passes st.steps l (While t b) fs st
       (λ s flow less. acted_passes k (passes_below k) (While t b) l plain fs s flow (omega (arith, less, lt))) on)))
+  passes_below (suc k) (Pieces l s n z q j b) plain fs st lt =
+      pieces_pass k (passes_below k) l s n z q j b plain fs st (omega (arith, lt))
 
   -- a plain statement that is next, if the flow is on: after its first turn
   pub statement_after : (l : ℕ) (c : Code) (rest : Codes) → IsPlain p l c → (fs : List (Frame Own)) (st : State Own)

@@ -1,7 +1,7 @@
 -- In a sound and accepted program each reachable task is its own run, and has all that it touches.
 use Rattle.std.proofs.Common.{◌≡◌, ℕ, List, [], ◌∷◌, Some, sym, ap, ◌∙◌, subst}
 use Rattle.sections.specs.Member.{Member, first, next}
-use Rattle.types.specs.Code.{Code, Do, If, While, Split, Call, Async, Finish, Codes, End, Then, Program}
+use Rattle.types.specs.Code.{Code, Do, If, While, Split, Parts, Begun, Call, Async, Finish, Codes, End, Then, Program}
 use Rattle.types.specs.Run.{State}
 use Rattle.effects.specs.Needs.{Needs, Provides}
 use Rattle.race_checker.specs.Scope.{IsScoped}
@@ -9,7 +9,7 @@ use Rattle.race_checker.specs.Calm.{IsCalm}
 use Rattle.task_run.specs.Results.{TaskResult}
 use Rattle.task_run.specs.OwnRun.{Start, Own, result_of}
 use Rattle.task_run.specs.Given.{own, given, in_truth, IsOfOwnRun, IsOwn}
-use Rattle.task_run.specs.Frames.{Frame, Rest, Again, AtEnd, Back, Standing, IsTask, IsGivenChild}
+use Rattle.task_run.specs.Frames.{Frame, Rest, Again, Further, AtEnd, Back, Standing, IsTask, IsGivenChild}
 use Rattle.task_run.specs.Holds.{MayBegin, Carries, Holds}
 use Rattle.task_run.specs.Reached.{Reached, root_begins, child_begins, turns, leaves, IsResult, HasNeedsOf, HasNext}
 use Rattle.task_run.specs.Lists.{Each}
@@ -68,6 +68,8 @@ module _ (p : Program) (needs : Codes → Needs) (scoped : IsScoped p) (calm : I
     needs_of_next s (If t b c) l rest fs st h = tt
     needs_of_next s (While t b) l rest fs st h = tt
     needs_of_next s (Split z e x y b) l rest fs st h = tt
+    needs_of_next s (Parts z e q i b) l rest fs st h = tt
+    needs_of_next s (Begun z n k q i b) l rest fs st h = tt
     needs_of_next s (Call f es ss) l rest fs st h = tt
     needs_of_next s (Async b) l rest fs st h = async_has p needs scoped calm provided s.nest (in_truth p needs fresh) l b rest fs st h
     needs_of_next s (Finish b) l rest fs st h = tt
@@ -79,6 +81,7 @@ module _ (p : Program) (needs : Codes → Needs) (scoped : IsScoped p) (calm : I
     next_has s (Rest (Then l c rest) ∷ fs) st h =
         (first_has p needs scoped calm provided s.nest (in_truth p needs fresh) l c rest fs st h, needs_of_next s c l rest fs st h)
     next_has s (Again l t b ∷ fs) st h = again_has p needs scoped calm provided s.nest (in_truth p needs fresh) l t b fs st h
+    next_has s (Further l z n k q i b ∷ fs) st h = tt
     next_has s (AtEnd before ∷ fs) st h = tt
     next_has s (Back env ∷ fs) st h = tt
 

@@ -3,7 +3,7 @@ use Rattle.std.proofs.Common.{◌≡◌, ◌≢◌, ℕ, zero, suc, ◌+◌, ◌
 use Rattle.std.specs.Prelude.{ℤ, Bool, true, false, Option, Result, OnOk}
 use Rattle.sections.specs.Place.{Place}
 use Rattle.types.specs.declared.fault.FaultKind.{FaultKind}
-use Rattle.types.specs.Code.{Code, Codes, Number, Truth, Program, Primitive, Skip, Assign, Store, Print, Raise, Do, If, While, Split, Call, Async, Finish}
+use Rattle.types.specs.Code.{Code, Codes, Number, Truth, Program, Primitive, Skip, Assign, Store, Print, Raise, Do, If, While, Split, Parts, Begun, Call, Async, Finish}
 use Rattle.types.specs.Run.{State, Rules, Flow, On, fault, primitive, number_at, numbers_at, window_at, with_value, put, array_of, counted}
 use Rattle.types.specs.Translation.{program}
 use Rattle.types.specs.Value.{Valued, element_of, holds_number, then_try}
@@ -161,6 +161,14 @@ module _ (needs : Codes → Needs) (l : ℕ) (old new : Run) where
   done_Split zero s x y e b st = refl
   done_Split (suc n) s x y e b st = refl
 
+  done_Parts : (nest : ℕ) (s q i : ℕ) (e : Number) (b : Codes) (st : State Own) → done_by needs nest 1 (Parts s e q i b) st ≡ Step ∷ []
+  done_Parts zero s q i e b st = refl
+  done_Parts (suc n) s q i e b st = refl
+
+  done_Begun : (nest : ℕ) (s n k q i : ℕ) (b : Codes) (st : State Own) → done_by needs nest 1 (Begun s n k q i b) st ≡ Step ∷ []
+  done_Begun zero s n k q i b st = refl
+  done_Begun (suc m) s n k q i b st = refl
+
   done_Call : (nest : ℕ) (f : ℕ) (es : List Number) (ss : List ℕ) (st : State Own) → done_by needs nest 1 (Call f es ss) st ≡ Step ∷ []
   done_Call zero f es ss st = refl
   done_Call (suc n) f es ss st = refl
@@ -177,6 +185,14 @@ module _ (needs : Codes → Needs) (l : ℕ) (old new : Run) where
   pub did_Split : (s x y : ℕ) (e : Number) (b : Codes) → Acts l (Split s e x y b) old new → DidAct needs l (Split s e x y b) old Gone new
   did_Split s x y e b = noted (Split s e x y b) (λ close st. refl)
       (λ z. (refl, inr (done_Split old.thread.nest s x y e b (with_own z (state_of old.thread)))))
+
+  pub did_Parts : (s q i : ℕ) (e : Number) (b : Codes) → Acts l (Parts s e q i b) old new → DidAct needs l (Parts s e q i b) old Gone new
+  did_Parts s q i e b = noted (Parts s e q i b) (λ close st. refl)
+      (λ z. (refl, inr (done_Parts old.thread.nest s q i e b (with_own z (state_of old.thread)))))
+
+  pub did_Begun : (s n k q i : ℕ) (b : Codes) → Acts l (Begun s n k q i b) old new → DidAct needs l (Begun s n k q i b) old Gone new
+  did_Begun s n k q i b = noted (Begun s n k q i b) (λ close st. refl)
+      (λ z. (refl, inr (done_Begun old.thread.nest s n k q i b (with_own z (state_of old.thread)))))
 
   pub did_Call : (f : ℕ) (es : List Number) (ss : List ℕ) → Acts l (Call f es ss) old new → DidAct needs l (Call f es ss) old Gone new
   did_Call f es ss = noted (Call f es ss) (λ close st. refl)
@@ -230,6 +246,8 @@ module _ (needs : Codes → Needs) where
   done_any zero n m (If t b c) st = refl
   done_any zero n m (While t b) st = refl
   done_any zero n m (Split s e x y b) st = refl
+  done_any zero n m (Parts s e q i b) st = refl
+  done_any zero n m (Begun s j k q i b) st = refl
   done_any zero n m (Call f es ss) st = refl
   done_any zero n m (Async b) st = refl
   done_any zero n m (Finish b) st = refl
@@ -237,6 +255,8 @@ module _ (needs : Codes → Needs) where
   done_any (suc k) n m (If t b c) st = refl
   done_any (suc k) n m (While t b) st = refl
   done_any (suc k) n m (Split s e x y b) st = refl
+  done_any (suc k) n m (Parts s e q i b) st = refl
+  done_any (suc k) n m (Begun s j h q i b) st = refl
   done_any (suc k) n m (Call f es ss) st = refl
   done_any (suc k) n m (Async b) st = refl
   done_any (suc k) n m (Finish b) st = refl
@@ -307,6 +327,8 @@ module _ (needs : Codes → Needs) (IsAsync : ℕ → Codes → Type 0) (old : R
   can_on (If t b c) h = h
   can_on (While t b) h = h
   can_on (Split s e x y b) h = h
+  can_on (Parts s e q i b) h = h
+  can_on (Begun s n k q i b) h = h
   can_on (Call f es ss) h = h
   can_on (Async b) h = (record { there = h.0.there; owned = h.0.owned }, h.1)
   can_on (Finish b) h = h

@@ -8,7 +8,7 @@ use Rattle.std.specs.Vec.{with_item}
 use Rattle.types.proofs.Bindings.{element_in}
 use Rattle.sections.specs.Member.{first}
 use Rattle.sections.specs.Place.{Place, In}
-use Rattle.types.specs.Code.{Code, Codes, Then, Number, Program, Primitive, Skip, Assign, Store, Print, Raise, Do, If, While, Split, Call, Async, Finish}
+use Rattle.types.specs.Code.{Code, Codes, Then, Number, Program, Primitive, Skip, Assign, Store, Print, Raise, Do, If, While, Split, Parts, Begun, Call, Async, Finish}
 use Rattle.types.specs.Run.{State}
 use Rattle.types.specs.Translation.{program}
 use Rattle.effects.specs.Needs.{Needs}
@@ -112,6 +112,8 @@ module _ (needs : Codes → Needs) (IsAsync : ℕ → Codes → Type 0) (r : Run
   can_first (If t b c) h known = tt
   can_first (While t b) h known = tt
   can_first (Split s e x y b) h known = tt
+  can_first (Parts s e q i b) h known = tt
+  can_first (Begun s n k q i b) h known = tt
   can_first (Call f es ss) h known = tt
   can_first (Async b) h known = (
     record {

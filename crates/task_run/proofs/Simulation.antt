@@ -1,45 +1,48 @@
 -- A calm program that is run apart and gathered does what it does on one thread.
 use Rattle.std.proofs.lemmas.Option.{none-some}
-use Rattle.std.proofs.Common.{◌≡◌, ℕ, zero, suc, ◌+◌, ◌<◌, List, [], ◌∷◌, ◌++◌, Option, Some, None, refl, sym, ap}
-use Rattle.std.proofs.Common.{◌∙◌, subst, inl, inr}
+use Rattle.std.proofs.Common.{◌≡◌, ℕ, zero, suc, ◌+◌, ◌<◌, ◌≤◌, List, [], ◌∷◌, ◌++◌, Option, Some, None, refl, sym, ap}
+use Rattle.std.proofs.Common.{◌∙◌, subst, inl, inr, arith, le_refl}
 use Rattle.std.proofs.lemmas.Bool.{or_left, or_right, or_from}
 use Rattle.std.proofs.lemmas.List.Elements.{Contains-append_left, Contains-append_right}
 use Rattle.std.specs.Prelude.{ℤ, ◌⊎◌, Bool, true, false, Contains, flat_map, map, ok_or, if◌then◌else◌}
 use Rattle.shared_lemmas.proofs.Truths.{false_true}
 use Rattle.types.proofs.Bindings.{element_in}
-use Rattle.sections.specs.Place.{Window, Place, In, sides_of}
+use Rattle.sections.specs.Place.{Window, Place, In, has_piece, piece_at, sides_of}
 use Rattle.sections.specs.Member.{Member, first, next}
-use Rattle.types.specs.declared.fault.FaultKind.TheVariants.{SplitPoint, Raised}
+use Rattle.types.specs.declared.fault.FaultKind.TheVariants.{PieceSize, SplitPoint, Raised}
 use Rattle.types.specs.Code.{Number, Truth, Primitive, Skip, Assign, Store, Print, Raise, Code, Do, If, While, Split}
-use Rattle.types.specs.Code.{Call, Async, Finish, Codes, End, Then, Program}
+use Rattle.types.specs.Code.{Parts, Begun, Call, Async, Finish, Codes, End, Then, Program}
 use Rattle.types.specs.Contents.{Contents}
-use Rattle.types.specs.Value.{element_of, holds_number}
+use Rattle.types.specs.Value.{Environment, element_of, holds_number}
 use Rattle.types.specs.Indexed.{indexed, indexed_truth}
-use Rattle.types.specs.Run.{Flow, On, Faulted, Stopped, Work, Block, Turn, Rules, window_at, entry, with_sides}
-use Rattle.types.specs.Run.{array_of, procedure_of, counted, act, block, work, within}
+use Rattle.types.specs.Run.{Flow, On, Faulted, Stopped, Work, Block, Turn, Pieces, Rules, window_at, entry, with_sides}
+use Rattle.types.specs.Run.{with_step, array_of, choose, procedure_of, counted, in_turn, piece_size, with_piece, act, block, work, within}
 use Rattle.types.specs.Meaning.{hushed, joined, child, after_async, after_body, after_finish, one_rules_by, begin_one}
 use Rattle.effects.specs.Accesses.{Access, own_accesses}
-use Rattle.types.specs.Sound.{passed_for}
+use Rattle.types.specs.Sound.{IsText, IsTextOf, passed_for}
 use Rattle.effects.specs.Effects.{past_split, if_body, if_other, while, split, call, AllOf, All}
 use Rattle.effects.specs.Effects.{PendingOf, Pending, accesses}
-use Rattle.effects.specs.Footprint.{Touches, Overwrites}
+use Rattle.effects.specs.Footprint.{InTurnToCome, Touches, Overwrites, TurnsTouch, TurnsWrite, TurnsStillWrite}
 use Rattle.effects.specs.Needs.{Needs, ProvidesIn, ProvidesOf, Provides}
-use Rattle.race_checker.specs.Scope.{Top, Inside, InScope, FitsScope, may_writes, Scoped, ScopedOf, IsScoped}
+use Rattle.race_checker.specs.Scope.{Top, Inside, AtPiece, InScope, FitsScope, may_writes, Scoped, ScopedOf, IsScoped}
 use Rattle.race_checker.specs.Calm.{Calm, CalmOf, IsCalm}
 use Rattle.race_checker.proofs.Scoping.{length_may_writes}
-use Rattle.effects.proofs.Footprints.{overwrites_touch}
+use Rattle.effects.proofs.Footprints.{overwrites_touch, turn-reads, turn-writes, turn-pending_writes}
 use Rattle.task_run.specs.Places.{written, touched, first_of}
 use Rattle.task_run.specs.Apart.{Aside, nothing, is_stopped, stops_anywhere, merged, child_apart, set_aside, gather}
 use Rattle.task_run.specs.Apart.{apart_rules_by, begin_apart}
 use Rattle.task_run.specs.Ready.{Around, Ready}
 use Rattle.task_run.proofs.Windows.{named_some, some_named, sides_some, sides_in, split_in, call_in}
 use Rattle.task_run.proofs.Windows.{passed_same, fits_split, around_split, split_agree}
+use Rattle.task_run.proofs.Windows.{piece_cut, around_turn, fits_turn, turn_agree}
 use Rattle.task_run.proofs.AccessNames.{all_alone, pending_alone, named_all, touches_more, overwrites_more}
 use Rattle.task_run.proofs.AccessNames.{overwrites_renamed, read_listed, touches_renamed}
 use Rattle.task_run.proofs.SideBySide.{S, A, Set, Same, Agree, same, both_stop, widen, then_same, step_same}
 use Rattle.task_run.proofs.SideBySide.{fault_same, value_same, choose_same, reads_same, stand, Readable, number_alike}
 use Rattle.task_run.proofs.SideBySide.{truth_alike, numbers_alike, assign_same, print_same, put_same}
 use Rattle.task_run.proofs.StaysStopped.{Marks, dies, within_marks, block_marks, begin_marks}
+use Rattle.task_run.proofs.TurnsToCome.{single, touching, writing, still_writing, turn_earlier, turns_here}
+use Rattle.task_run.proofs.TurnsToCome.{text_turns, code_turns}
 
 abbrev pub nowhere : Set
 nowhere q = ⊥
@@ -58,11 +61,27 @@ module _ (p : Program) (needs : Codes → Needs) where
     pub wrote : (q : Place) → Overwrites x.env (AllOf p accesses l s) q → x.wrote q
     pub kept : (q : Place) → locked q → final q
     pub added : (q : Place) → Overwrites x.env (PendingOf p accesses s) q → final q
+    -- the same for the turns to come of a begun `parts`
+    pub turns_free : (q : Place) → TurnsTouch p x.env (single s) q → locked q → ⊥
+    pub turns_held : (q : Place) → TurnsTouch p x.env (single s) q → x.held q
+    pub turns_wrote : (q : Place) → TurnsWrite p x.env (single s) q → x.wrote q
+    pub turns_added : (q : Place) → TurnsStillWrite p x.env (single s) q → final q
 
 module _ (p : Program) (needs : Codes → Needs) where
+  -- a text has no turns to come
+  none_touch : {A : Type 0} (b : Codes) → IsText b → (env : Environment) (q : Place) → TurnsTouch p env b q → A
+  none_touch b text env q t = absurd (text_turns env (touching p q) b text t)
+
+  none_write : {A : Type 0} (b : Codes) → IsText b → (env : Environment) (q : Place) → TurnsWrite p env b q → A
+  none_write b text env q t = absurd (text_turns env (writing p q) b text t)
+
+  pub none_left : {A : Type 0} (b : Codes) → IsText b → (env : Environment) (q : Place) → TurnsStillWrite p env b q → A
+  none_left b text env q t = absurd (text_turns env (still_writing p q) b text t)
+
   -- what a statement leaves locked
   abbrev pub behind : Around → Set → Code → Set
-  behind x locked s q = locked q ⊎ Overwrites x.env (PendingOf p accesses s) q
+  behind x locked s q =
+      locked q ⊎ Overwrites x.env (PendingOf p accesses s) q ⊎ TurnsStillWrite p x.env (single s) q
 
   module _ (x : Around) (locked final : Set) (l : ℕ) (s : Code) where
     -- after itself it leaves locked what it leaves pending
@@ -77,10 +96,14 @@ module _ (p : Program) (needs : Codes → Needs) where
       held = r.held;
       wrote = r.wrote;
       kept = λ q. inl;
-      added = λ q. inr;
+      added = λ q t. inr (inl t);
+      turns_free = r.turns_free;
+      turns_held = r.turns_held;
+      turns_wrote = r.turns_wrote;
+      turns_added = λ q t. inr (inr t);
     }
 
-    here_ready : (rest : Codes) → Ready p needs x locked final (Then l s rest) → ReadyOf p needs x locked final l s
+    pub here_ready : (rest : Codes) → Ready p needs x locked final (Then l s rest) → ReadyOf p needs x locked final l s
     here_ready rest r = record {
       fits = r.fits;
       names = r.scoped.0;
@@ -92,35 +115,50 @@ module _ (p : Program) (needs : Codes → Needs) where
       wrote = λ q t. r.wrote q (overwrites_more x.env _ _ q (λ y h. All.here h) t);
       kept = r.kept;
       added = λ q t. r.added q (overwrites_more x.env _ _ q (λ y h. Pending.here h) t);
+      turns_free = λ q t. r.turns_free q (turns_here x.env (touching p q) l s rest t);
+      turns_held = λ q t. r.turns_held q (turns_here x.env (touching p q) l s rest t);
+      turns_wrote = λ q t. r.turns_wrote q (turns_here x.env (writing p q) l s rest t);
+      turns_added = λ q t. r.turns_added q (turns_here x.env (still_writing p q) l s rest t);
     }
 
     pub first_ready : (rest : Codes) → Ready p needs x locked final (Then l s rest) → ReadyOf p needs x locked (behind x locked s) l s
     first_ready rest r = relock (here_ready rest r)
 
-    pub rest_ready : (rest : Codes) → Ready p needs x locked final (Then l s rest) → Ready p needs x (behind x locked s) final rest
-    rest_ready rest r = record {
+    pub rest_ready : (rest : Codes) → IsText (Then l s rest) → Ready p needs x locked final (Then l s rest)
+        → Ready p needs x (behind x locked s) final rest
+    rest_ready rest text r = record {
       fits = r.fits;
       scoped = r.scoped.2;
       calm = r.calm.1;
       provided = r.provided.1;
       free = λ q t n. elim n as (λ _. ⊥) [
         | inl m ↦ r.free q (touches_more x.env _ _ q (λ y h. All.later h) t) m
-        | inr m ↦ (r.calm.2 x.env r.fits).writes_first q m t
+        | inr m ↦ elim m as (λ _. ⊥) [
+          | inl k ↦ (r.calm.2 x.env r.fits).writes_first q k t
+          | inr k ↦ code_turns x.env (still_writing p q) s text.0 k
+        ]
       ];
       held = λ q t. r.held q (touches_more x.env _ _ q (λ y h. All.later h) t);
       wrote = λ q t. r.wrote q (overwrites_more x.env _ _ q (λ y h. All.later h) t);
       kept = λ q n. elim n as (λ _. final q) [
         | inl m ↦ r.kept q m
-        | inr m ↦ r.added q (overwrites_more x.env _ _ q (λ y h. Pending.here h) m)
+        | inr m ↦ elim m as (λ _. final q) [
+          | inl k ↦ r.added q (overwrites_more x.env _ _ q (λ y h. Pending.here h) k)
+          | inr k ↦ absurd (code_turns x.env (still_writing p q) s text.0 k)
+        ]
       ];
       added = λ q t. r.added q (overwrites_more x.env _ _ q (λ y h. Pending.later h) t);
+      turns_free = λ q. none_touch rest text.1 x.env q;
+      turns_held = λ q. none_touch rest text.1 x.env q;
+      turns_wrote = λ q. none_write rest text.1 x.env q;
+      turns_added = λ q. none_left rest text.1 x.env q;
     }
 
     -- a block of a statement, in the same scope
-    pub part_ready : (b : Codes) → ((y : Access) → All p accesses b y → AllOf p accesses l s y)
+    pub part_ready : (b : Codes) → IsText b → ((y : Access) → All p accesses b y → AllOf p accesses l s y)
         → ((y : Access) → Pending p accesses b y → PendingOf p accesses s y)
         → Scoped p x.scope b → Calm p x.scope b → ProvidesIn p needs b → ReadyOf p needs x locked final l s → Ready p needs x locked final b
-    part_ready b all pending scoped calm provided r = record {
+    part_ready b text all pending scoped calm provided r = record {
       fits = r.fits;
       scoped = scoped;
       calm = calm;
@@ -130,6 +168,10 @@ module _ (p : Program) (needs : Codes → Needs) where
       wrote = λ q t. r.wrote q (overwrites_more x.env _ _ q all t);
       kept = r.kept;
       added = λ q t. r.added q (overwrites_more x.env _ _ q pending t);
+      turns_free = λ q. none_touch b text x.env q;
+      turns_held = λ q. none_touch b text x.env q;
+      turns_wrote = λ q. none_write b text x.env q;
+      turns_added = λ q. none_left b text x.env q;
     }
 
     -- the sections that a statement's own expressions index
@@ -155,12 +197,19 @@ module _ (p : Program) (needs : Codes → Needs) where
     provided = (r.provided, tt);
     free = λ q t n. let at = touches_more x.env _ _ q (all_alone p l _) t in elim n as (λ _. ⊥) [
       | inl m ↦ r.free q at m
-      | inr m ↦ (r.calm.1 x.env r.fits).writes_first q m at
+      | inr m ↦ elim m as (λ _. ⊥) [ inl k ↦ (r.calm.1 x.env r.fits).writes_first q k at | inr k ↦ k ]
     ];
     held = λ q t. r.held q (touches_more x.env _ _ q (all_alone p l _) t);
     wrote = λ q t. r.wrote q (overwrites_more x.env _ _ q (all_alone p l _) t);
-    kept = λ q n. elim n as (λ _. final q) [ inl m ↦ r.kept q m | inr m ↦ r.added q m ];
+    kept = λ q n. elim n as (λ _. final q) [
+      | inl m ↦ r.kept q m
+      | inr m ↦ elim m as (λ _. final q) [ inl k ↦ r.added q k | inr k ↦ r.turns_added q k ]
+    ];
     added = λ q t. r.added q (overwrites_more x.env _ _ q (pending_alone p l _) t);
+    turns_free = λ q t. absurd t;
+    turns_held = λ q t. absurd t;
+    turns_wrote = λ q t. absurd t;
+    turns_added = λ q t. absurd t;
   }
 
   -- ---- a split
@@ -176,8 +225,8 @@ module _ (p : Program) (needs : Codes → Needs) where
     touches_outward : (q : Place) → Touches within_split.env (All p accesses b) q → Touches x.env (AllOf p accesses l (Split s e u v b)) q
     touches_outward q = touches_renamed x.env within_split.env (past_split s u v) _ _ q (outward q) (λ y i. AllOf.inner split i refl)
 
-    pub split_ready : Ready p needs within_split locked final b
-    split_ready = record {
+    pub split_ready : IsText b → Ready p needs within_split locked final b
+    split_ready text = record {
       fits = fits_split x.scope s u v at ws x.env r.scoped.0 r.scoped.1 r.scoped.2 r.scoped.3 cut r.fits;
       scoped = r.scoped.4;
       calm = r.calm;
@@ -189,6 +238,10 @@ module _ (p : Program) (needs : Codes → Needs) where
       kept = r.kept;
       added = λ q t. r.added q
           (overwrites_renamed x.env within_split.env (past_split s u v) _ _ q (outward q) (λ y i. PendingOf.inner split i refl) t);
+      turns_free = λ q. none_touch b text within_split.env q;
+      turns_held = λ q. none_touch b text within_split.env q;
+      turns_wrote = λ q. none_write b text within_split.env q;
+      turns_added = λ q. none_left b text within_split.env q;
     }
 
     enter_split : (o : S) (a : A) → Same x locked o a
@@ -212,16 +265,140 @@ module _ (p : Program) (needs : Codes → Needs) where
     leave_split_agree o a (same k) = same (leave_split o a k)
     leave_split_agree o a (both_stop e y) = both_stop e y
 
+  -- ---- a `parts`, and a turn of it
+  begun_does_nothing : (l s n j q i : ℕ) (b : Codes) (y : Access) → All p accesses (Then l (Begun s n j q i b) End) y → ⊥
+  begun_does_nothing l s n j q i b y (All.here (AllOf.own_access m)) = elim m [ ]
+  begun_does_nothing l s n j q i b y (All.here (AllOf.inner m h e)) = elim m [ ]
+  begun_does_nothing l s n j q i b y (All.later h) = elim h [ ]
+
+  begun_leaves_nothing : (l s n j q i : ℕ) (b : Codes) (y : Access) → Pending p accesses (Then l (Begun s n j q i b) End) y → ⊥
+  begun_leaves_nothing l s n j q i b y (Pending.here (PendingOf.inner m h e)) = elim m [ ]
+  begun_leaves_nothing l s n j q i b y (Pending.later h) = elim h [ ]
+
+  -- a turn to come does what the `parts` does
+  module _ (env : Environment) (l s : ℕ) (e : Number) (n q i : ℕ) (b : Codes) (at : Place) where
+    turns_do : TurnsTouch p env (Then l (Begun s n 0 q i b) End) at → Touches env (AllOf p accesses l (Parts s e q i b)) at
+    turns_do (inl t) =
+        turn-reads p env s e q i b n t.number (piece_at n t.number (env.windows s))
+        (piece_cut (env.windows s) n t.number t.left) l at t.there
+    turns_do (inr t) = absurd t
+
+    turns_write : TurnsWrite p env (Then l (Begun s n 0 q i b) End) at → Overwrites env (AllOf p accesses l (Parts s e q i b)) at
+    turns_write (inl t) =
+        turn-writes p env s e q i b n t.number (piece_at n t.number (env.windows s))
+        (piece_cut (env.windows s) n t.number t.left) l at t.there
+    turns_write (inr t) = absurd t
+
+    turns_leave : TurnsStillWrite p env (Then l (Begun s n 0 q i b) End) at → Overwrites env (PendingOf p accesses (Parts s e q i b)) at
+    turns_leave (inl t) =
+        turn-pending_writes p env s e q i b n t.number (piece_at n t.number (env.windows s))
+        (piece_cut (env.windows s) n t.number t.left) l at t.there
+    turns_leave (inr t) = absurd t
+
+  pub parts_ready : (x : Around) (locked final : Set) (l s : ℕ) (e : Number) (q i : ℕ) (b : Codes)
+      → ReadyOf p needs x locked final l (Parts s e q i b) → (n : ℕ)
+      → Ready p needs x locked final (Then l (Begun s n 0 q i b) End)
+  parts_ready x locked final l s e q i b r n = record {
+    fits = r.fits;
+    scoped = ((λ y m. elim m [ ]), r.scoped, tt);
+    calm = (r.calm, tt, λ env f. record { writes_first = λ at o t. elim t.among [ ]; writes_second = λ at t o. elim o.among [ ] });
+    provided = (r.provided, tt);
+    free = λ at t. absurd (begun_does_nothing l s n 0 q i b t.access t.among);
+    held = λ at t. absurd (begun_does_nothing l s n 0 q i b t.access t.among);
+    wrote = λ at t. absurd (begun_does_nothing l s n 0 q i b t.access t.among);
+    kept = r.kept;
+    added = λ at t. absurd (begun_leaves_nothing l s n 0 q i b t.access t.among);
+    turns_free = λ at t. r.free at (turns_do x.env l s e n q i b at t);
+    turns_held = λ at t. r.held at (turns_do x.env l s e n q i b at t);
+    turns_wrote = λ at t. r.wrote at (turns_write x.env l s e n q i b at t);
+    turns_added = λ at t. r.added at (turns_leave x.env l s e n q i b at t);
+  }
+
+  module _ (x : Around) (locked final : Set) (l s n j q i : ℕ) (b : Codes)
+      (r : ReadyOf p needs x locked final l (Begun s n j q i b)) (left : has_piece (x.env.windows s) n j ≡ true) where
+    abbrev pub within_turn : Around
+    within_turn = record x {
+      scope = AtPiece s q x.scope;
+      env = with_piece q i (piece_at n j (x.env.windows s)) j x.env;
+    }
+
+    -- what is locked after the turn
+    abbrev pub after_turn : Set
+    after_turn at = locked at ⊎ Overwrites within_turn.env (Pending p accesses b) at
+
+    this_turn : {holds : Environment → Type 0} → holds within_turn.env → InTurnToCome x.env s n j q i holds
+    this_turn h = record { number = j; later = le_refl j; left = left; there = h }
+
+    pub turn_ready : IsText b → Ready p needs within_turn locked after_turn b
+    turn_ready text = record {
+      fits = fits_turn x.scope s q i n j x.env r.scoped.0 r.scoped.1 left r.fits;
+      scoped = r.scoped.2;
+      calm = r.calm.0;
+      provided = r.provided;
+      free = λ at t. r.turns_free at (inl (this_turn t));
+      held = λ at t. r.turns_held at (inl (this_turn t));
+      wrote = λ at t. r.turns_wrote at (inl (this_turn t));
+      kept = λ at. inl;
+      added = λ at. inr;
+      turns_free = λ at. none_touch b text within_turn.env at;
+      turns_held = λ at. none_touch b text within_turn.env at;
+      turns_wrote = λ at. none_write b text within_turn.env at;
+      turns_added = λ at. none_left b text within_turn.env at;
+    }
+
+    later_free : (at : Place) → TurnsTouch p x.env (Then l (Begun s n (j + 1) q i b) End) at → after_turn at → ⊥
+    later_free at (inl t) (inl m) = r.turns_free at (inl (turn_earlier t)) m
+    later_free at (inl t) (inr m) =
+        r.calm.1.writes_first x.env i n j t.number r.fits (let h : j + 1 ≤ t.number = t.later in omega (arith, h)) left t.left at m t.there
+    later_free at (inr t) m = absurd t
+
+    pub next_ready : Ready p needs x after_turn final (Then l (Begun s n (j + 1) q i b) End)
+    next_ready = record {
+      fits = r.fits;
+      scoped = ((λ y m. elim m [ ]), r.scoped, tt);
+      calm = (r.calm, tt, λ env f. record { writes_first = λ at o t. elim t.among [ ]; writes_second = λ at t o. elim o.among [ ] });
+      provided = (r.provided, tt);
+      free = λ at t. absurd (begun_does_nothing l s n (j + 1) q i b t.access t.among);
+      held = λ at t. absurd (begun_does_nothing l s n (j + 1) q i b t.access t.among);
+      wrote = λ at t. absurd (begun_does_nothing l s n (j + 1) q i b t.access t.among);
+      kept = λ at m. elim m as (λ _. final at) [ inl k ↦ r.kept at k | inr k ↦ r.turns_added at (inl (this_turn k)) ];
+      added = λ at t. absurd (begun_leaves_nothing l s n (j + 1) q i b t.access t.among);
+      turns_free = later_free;
+      turns_held = λ at t. elim t as (λ _. x.held at) [ inl k ↦ r.turns_held at (inl (turn_earlier k)) | inr k ↦ absurd k ];
+      turns_wrote = λ at t. elim t as (λ _. x.wrote at) [ inl k ↦ r.turns_wrote at (inl (turn_earlier k)) | inr k ↦ absurd k ];
+      turns_added = λ at t. elim t as (λ _. final at) [ inl k ↦ r.turns_added at (inl (turn_earlier k)) | inr k ↦ absurd k ];
+    }
+
+    enter_turn : (o : S) (a : A) → Same x locked o a → Same within_turn locked (in_turn s n j q i o) (in_turn s n j q i a)
+    enter_turn o a k =
+        stand x within_turn.scope within_turn.env locked o a
+        (ap (λ env. with_piece q i (piece_at n j (env.windows s)) j env) k.environment)
+        (λ z h. turn_agree q (piece_at n j (window_at o s)) (piece_at n j (x.env.windows s)) o.environment.windows x.env.windows z
+        (ap (piece_at n j) (k.windows s r.scoped.0)) (in_scope z h)) k
+      where
+        in_scope : (z : ℕ) → InScope (AtPiece s q x.scope) z → (z ≡ q) ⊎ (o.environment.windows z ≡ x.env.windows z)
+        in_scope z (inl e) = inl e
+        in_scope z (inr h) = inr (k.windows z h)
+
+    leave_turn : (o : S) (a : A) → Same within_turn after_turn o a → Same x after_turn o a
+    leave_turn o a k =
+        stand within_turn x.scope x.env after_turn o a k.environment
+        (λ z h. k.windows z (inr h) ∙ around_turn x.scope q i (piece_at n j (x.env.windows s)) j x.env r.scoped.1 z h) k
+
+    leave_turn_agree : (o : S) (a : A) → Agree within_turn after_turn o a → Agree x after_turn o a
+    leave_turn_agree o a (same k) = same (leave_turn o a k)
+    leave_turn_agree o a (both_stop e y) = both_stop e y
+
   -- ---- a call
   module _ (x : Around) (locked final : Set) (l f : ℕ) (es : List Number) (ss : List ℕ)
       (r : ReadyOf p needs x locked final l (Call f es ss)) where
     abbrev pub within_call : Around
     within_call = record x { scope = Top (may_writes (procedure_of p f)); env = entry [] (map x.env.windows ss) }
 
-    pub call_ready : Scoped p (Top (may_writes (procedure_of p f))) (procedure_of p f).body
+    pub call_ready : IsText (procedure_of p f).body → Scoped p (Top (may_writes (procedure_of p f))) (procedure_of p f).body
         → Calm p (Top (may_writes (procedure_of p f))) (procedure_of p f).body
         → ProvidesIn p needs (procedure_of p f).body → Ready p needs within_call locked final (procedure_of p f).body
-    call_ready scoped calm provided = record {
+    call_ready text scoped calm provided = record {
       fits = r.calm x.env r.fits;
       scoped = scoped;
       calm = calm;
@@ -233,6 +410,10 @@ module _ (p : Program) (needs : Codes → Needs) where
       kept = r.kept;
       added = λ q t. r.added q
           (overwrites_renamed x.env within_call.env (passed_for ss) _ _ q (call_in x.env.windows q ss) (λ y i. PendingOf.inner call i refl) t);
+      turns_free = λ q. none_touch (procedure_of p f).body text within_call.env q;
+      turns_held = λ q. none_touch (procedure_of p f).body text within_call.env q;
+      turns_wrote = λ q. none_write (procedure_of p f).body text within_call.env q;
+      turns_added = λ q. none_left (procedure_of p f).body text within_call.env q;
     }
       where
         around : (q : Place) → Touches within_call.env (All p accesses (procedure_of p f).body) q
@@ -257,11 +438,11 @@ module _ (p : Program) (needs : Codes → Needs) where
   alone x base held b = record x { base = base; wrote = Overwrites x.env (All p accesses b); held = held }
 
   -- it is ready if nothing is locked
-  pub unlocked_ready : (x : Around) (final : Set) (b : Codes) → FitsScope x.scope x.env → Scoped p x.scope b → Calm p x.scope b
+  pub unlocked_ready : (x : Around) (final : Set) (b : Codes) → IsText b → FitsScope x.scope x.env → Scoped p x.scope b → Calm p x.scope b
       → ProvidesIn p needs b → ((q : Place) → Touches x.env (All p accesses b) q → x.held q)
       → ((q : Place) → Overwrites x.env (All p accesses b) q → x.wrote q)
       → ((q : Place) → Overwrites x.env (Pending p accesses b) q → final q) → Ready p needs x nowhere final b
-  unlocked_ready x final b fits scoped calm provided held wrote added = record {
+  unlocked_ready x final b text fits scoped calm provided held wrote added = record {
     fits = fits;
     scoped = scoped;
     calm = calm;
@@ -271,13 +452,17 @@ module _ (p : Program) (needs : Codes → Needs) where
     wrote = wrote;
     kept = λ q n. absurd n;
     added = added;
+    turns_free = λ q. none_touch b text x.env q;
+    turns_held = λ q. none_touch b text x.env q;
+    turns_wrote = λ q. none_write b text x.env q;
+    turns_added = λ q. none_left b text x.env q;
   }
 
-  pub lone_ready : (x : Around) (base : Contents) (held : Set) (b : Codes) → FitsScope x.scope x.env → Scoped p x.scope b → Calm p x.scope b
+  pub lone_ready : (x : Around) (base : Contents) (held : Set) (b : Codes) → IsText b → FitsScope x.scope x.env → Scoped p x.scope b → Calm p x.scope b
       → ProvidesIn p needs b → ((q : Place) → Touches x.env (All p accesses b) q → held q)
       → Ready p needs (alone x base held b) nowhere (Overwrites x.env (Pending p accesses b)) b
-  lone_ready x base held b fits scoped calm provided h =
-      unlocked_ready (alone x base held b) (Overwrites x.env (Pending p accesses b)) b fits scoped calm provided h (λ q t. t) (λ q t. t)
+  lone_ready x base held b text fits scoped calm provided h =
+      unlocked_ready (alone x base held b) (Overwrites x.env (Pending p accesses b)) b text fits scoped calm provided h (λ q t. t) (λ q t. t)
 
   not_stopped : (f g : Flow) → f ≡ g → is_stopped f ≡ false → is_stopped g ≡ false
   not_stopped f g e h = ap is_stopped (sym e) ∙ h
@@ -346,8 +531,8 @@ module _ (p : Program) (needs : Codes → Needs) where
       out = λ q m. refl;
     }
 
-    async_ready : Ready p needs within_async nowhere (Overwrites x.env (Pending p accesses b)) b
-    async_ready = lone_ready x o.store (Touches x.env (All p accesses b)) b r.fits r.scoped r.calm r.provided.1 (λ q t. t)
+    async_ready : IsText b → Ready p needs within_async nowhere (Overwrites x.env (Pending p accesses b)) b
+    async_ready text = lone_ready x o.store (Touches x.env (All p accesses b)) b text r.fits r.scoped r.calm r.provided.1 (λ q t. t)
 
     -- what the body wrote is set aside, and everything else stays
     aside_at : (w : Bool) (new old c mine : Option ℤ) → (w ≡ true → new ≡ c) → (w ≡ true → old ≡ None)
@@ -413,9 +598,9 @@ module _ (p : Program) (needs : Codes → Needs) where
     of_finish : (q : Place) → Touches x.env (All p accesses b) q → Touches x.env (AllOf p accesses l (Finish b)) q
     of_finish q t = touches_more x.env _ _ q (λ y h. AllOf.finish h) t
 
-    pub finish_ready : Ready p needs within_finish nowhere (Overwrites x.env (Pending p accesses b)) b
-    finish_ready =
-        lone_ready x o.store vacant b r.fits r.scoped r.calm r.provided
+    pub finish_ready : IsText b → Ready p needs within_finish nowhere (Overwrites x.env (Pending p accesses b)) b
+    finish_ready text =
+        lone_ready x o.store vacant b text r.fits r.scoped r.calm r.provided
         (λ q t. (k.out q (r.free q (of_finish q t)), r.held q (of_finish q t)))
 
     pub enter_same : Same within_finish nowhere (hushed o) (record (hushed a) { extra = nothing })
@@ -494,10 +679,26 @@ module _ (p : Program) (needs : Codes → Needs) where
   abbrev work_code : Work → Codes
   work_code (Block b) = b
   work_code (Turn l t b) = Then l (While t b) End
+  work_code (Pieces l s n k q i b) = Then l (Begun s n k q i b) End
+
+  -- its block is as in a text
+  abbrev WorkText : Work → Type 0
+  WorkText (Block b) = IsText b
+  WorkText (Turn l t b) = IsText b
+  WorkText (Pieces l s n k q i b) = IsText b
+
+  turns_choice : (x : Around) (final : Set) (o : S) (a : A) (u v : Bool) → u ≡ v → (go rest : S → S) (to last : A → A)
+      → (u ≡ true → Agree x final (go o) (to a)) → Agree x final (rest o) (last a)
+      → Agree x final (choose go rest u o) (choose to last v a)
+  turns_choice x final o a true true e go rest to last h k = h refl
+  turns_choice x final o a false false e go rest to last h k = k
+  turns_choice x final o a true false e go rest to last h k = absurd (false_true (sym e))
+  turns_choice x final o a false true e go rest to last h k = absurd (false_true e)
 
   module _ (is_scoped : IsScoped p) (is_calm : IsCalm p) (provides : Provides p needs) (begin : Codes → S → S) (start : Codes → A → A)
       (marks : (b : Codes) → Marks (start b))
-      (begin_sim : (b : Codes) (l : ℕ) (x : Around) (locked final : Set) → ReadyOf p needs x locked final l (Async b) → (o : S) (a : A)
+      (begin_sim : (b : Codes) → IsText b → (l : ℕ) (x : Around) (locked final : Set) → ReadyOf p needs x locked final l (Async b)
+      → (o : S) (a : A)
       → Same x locked o a
       → Agree x final (begin b o) (start b a)) where
     abbrev r1 : Rules (Unit {0})
@@ -507,7 +708,7 @@ module _ (p : Program) (needs : Codes → Needs) where
     r2 = apart_rules_by start
 
     abbrev Sim : (Work → S → S) → (Work → A → A) → Type 1
-    Sim d e = (w : Work) (x : Around) (locked final : Set) → Ready p needs x locked final (work_code w) → (o : S) (a : A) → Same x locked o a
+    Sim d e = (w : Work) → WorkText w → (x : Around) (locked final : Set) → Ready p needs x locked final (work_code w) → (o : S) (a : A) → Same x locked o a
         → Agree x final (d w o) (e w a)
 
     module _ (d : Work → S → S) (e : Work → A → A) (e_marks : (w : Work) → Marks (e w)) (sim : Sim d e) where
@@ -554,20 +755,20 @@ module _ (p : Program) (needs : Codes → Needs) where
           (widen x locked final o a r.kept k) (λ y _. same (widen x locked final _ _ r.kept (fault_same x locked o a l (Raised y) k)))
 
       mutual
-        act_sim : (s : Code) (l : ℕ) → ActSim l s
-        act_sim (Do s) l x locked final r o a k = primitive_sim l s x locked final r o a k
-        act_sim (If t b c) l x locked final r o a k =
+        act_sim : (s : Code) (l : ℕ) → IsTextOf s → ActSim l s
+        act_sim (Do s) l text x locked final r o a k = primitive_sim l s x locked final r o a k
+        act_sim (If t b c) l text x locked final r o a k =
             value_same x final o a l _ _ _ _
             (truth_alike x locked o a k t (readable x locked final l _ (indexed_truth t) r (λ u m. read_listed l u _ m)))
             (widen x locked final o a r.kept k) (λ v _.
             choose_same x final o a v _ _ _ _
-            (block_sim b x locked final
-            (part_ready x locked final l _ b (λ y h. AllOf.inner if_body h refl)
+            (block_sim b text.0 x locked final
+            (part_ready x locked final l _ b text.0 (λ y h. AllOf.inner if_body h refl)
             (λ y h. PendingOf.inner if_body h refl) r.scoped.0 r.calm.0 r.provided.0 r) o a k)
-            (block_sim c x locked final
-            (part_ready x locked final l _ c (λ y h. AllOf.inner if_other h refl)
+            (block_sim c text.1 x locked final
+            (part_ready x locked final l _ c text.1 (λ y h. AllOf.inner if_other h refl)
             (λ y h. PendingOf.inner if_other h refl) r.scoped.1 r.calm.1 r.provided.1 r) o a k))
-        act_sim (While t b) l x locked final r o a k =
+        act_sim (While t b) l text x locked final r o a k =
             let mid = behind x locked (While t b) in
             value_same x final o a l _ _ _ _
             (truth_alike x locked o a k t (readable x locked final l _ (indexed_truth t) r (λ u m. read_listed l u _ m)))
@@ -575,13 +776,13 @@ module _ (p : Program) (needs : Codes → Needs) where
             choose_same x final o a v _ _ _ _
             (then_same x mid final (block p r1 d b o) (block p r2 e b a) (d (Turn l t b)) (e (Turn l t b))
             (dies (e (Turn l t b)) (e_marks (Turn l t b)))
-            (λ q m. elim m as (λ _. final q) [ inl h ↦ r.kept q h | inr h ↦ r.added q h ])
-            (block_sim b x locked mid
-            (part_ready x locked mid l _ b (λ y h. AllOf.inner while h refl)
+            (again_ready x locked final l t b r).kept
+            (block_sim b text x locked mid
+            (part_ready x locked mid l _ b text (λ y h. AllOf.inner while h refl)
             (λ y h. PendingOf.inner while h refl) r.scoped r.calm.0 r.provided (relock x locked final l _ r)) o a k)
-            (λ h. sim (Turn l t b) x mid final (again_ready x locked final l t b r) (block p r1 d b o) (block p r2 e b a) h))
+            (λ h. sim (Turn l t b) text x mid final (again_ready x locked final l t b r) (block p r1 d b o) (block p r2 e b a) h))
             (same (widen x locked final o a r.kept k)))
-        act_sim (Split s n u v b) l x locked final r o a k =
+        act_sim (Split s n u v b) l text x locked final r o a k =
             value_same x final o a l _ _ _ _
             (number_alike x locked o a k n (readable x locked final l _ (indexed n) r (λ t c. read_listed l t _ c)))
             (widen x locked final o a r.kept k) (λ at _.
@@ -589,54 +790,91 @@ module _ (p : Program) (needs : Codes → Needs) where
             (widen x locked final o a r.kept k) (λ ws is.
             let cut = ap (λ w. sides_of w at) (sym (k.windows s r.scoped.0)) ∙ sides_some (sides_of (window_at o s) at) ws is in
             leave_split_agree x locked final l s n u v b r at ws cut _ _
-            (block_sim b (within_split x locked final l s n u v b r at ws cut) locked final
-            (split_ready x locked final l s n u v b r at ws cut) _ _
+            (block_sim b text (within_split x locked final l s n u v b r at ws cut) locked final
+            (split_ready x locked final l s n u v b r at ws cut text) _ _
             (enter_split x locked final l s n u v b r at ws cut o a k))))
-        act_sim (Call f es ss) l x locked final r o a k =
+        act_sim (Parts s m q i b) l text x locked final r o a k =
+            value_same x final o a l _ _ _ _
+            (number_alike x locked o a k m (readable x locked final l _ (indexed m) r (λ t c. read_listed l t _ c)))
+            (widen x locked final o a r.kept k) (λ v _.
+            value_same x final o a l (ok_or (piece_size v) PieceSize) (ok_or (piece_size v) PieceSize) (λ n. d (Pieces l s n 0 q i b))
+            (λ n. e (Pieces l s n 0 q i b)) refl (widen x locked final o a r.kept k) (λ n _.
+            sim (Pieces l s n 0 q i b) text x locked final (parts_ready x locked final l s m q i b r n) o a k))
+        act_sim (Begun s n j q i b) l text x locked final r o a k = absurd text
+        act_sim (Call f es ss) l text x locked final r o a k =
             value_same x final o a l _ _ _ _
             (numbers_alike x locked o a k es (readable x locked final l _ (flat_map indexed es) r (λ t c. read_listed l t _ c)))
             (widen x locked final o a r.kept k) (λ vs _.
             leave_call x locked final l f es ss r o _ a _ k
-            (sim (Block (procedure_of p f).body) (within_call x locked final l f es ss r) locked final
-            (call_ready x locked final l f es ss r (is_scoped.procedures f) (is_calm.procedures f) (provides.procedures f)) _ _
+            (sim (Block (procedure_of p f).body) (is_scoped.procedure_texts f) (within_call x locked final l f es ss r) locked final
+            (call_ready x locked final l f es ss r (is_scoped.procedure_texts f) (is_scoped.procedures f) (is_calm.procedures f) (provides.procedures f)) _ _
             (enter_call x locked final l f es ss r vs o a k)))
-        act_sim (Async b) l x locked final r o a k = begin_sim b l x locked final r o a k
-        act_sim (Finish b) l x locked final r o a k =
+        act_sim (Async b) l text x locked final r o a k = begin_sim b text l x locked final r o a k
+        act_sim (Finish b) l text x locked final r o a k =
             finish_agrees x locked final l b r o a k _ _
-            (block_sim b (within_finish x locked final l b r o a k) nowhere (Overwrites x.env (Pending p accesses b))
-            (finish_ready x locked final l b r o a k) _ _
+            (block_sim b text (within_finish x locked final l b r o a k) nowhere (Overwrites x.env (Pending p accesses b))
+            (finish_ready x locked final l b r o a k text) _ _
             (enter_same x locked final l b r o a k))
 
-        block_sim : (b : Codes) (x : Around) (locked final : Set) → Ready p needs x locked final b → (o : S) (a : A) → Same x locked o a
+        block_sim : (b : Codes) → IsText b → (x : Around) (locked final : Set) → Ready p needs x locked final b → (o : S) (a : A) → Same x locked o a
             → Agree x final (block p r1 d b o) (block p r2 e b a)
-        block_sim End x locked final r o a k = same (widen x locked final o a r.kept k)
-        block_sim (Then l s rest) x locked final r o a k =
+        block_sim End text x locked final r o a k = same (widen x locked final o a r.kept k)
+        block_sim (Then l s rest) text x locked final r o a k =
             let mid = behind x locked s in
             then_same x mid final _ _ (block p r1 d rest) (block p r2 e rest) (dies _ (block_marks start marks p e e_marks rest))
-            (rest_ready x locked final l s rest r).kept
-            (step_same x locked mid o a _ _ k (λ u v h. act_sim s l x locked mid (first_ready x locked final l s rest r) u v h))
-            (λ h. block_sim rest x mid final (rest_ready x locked final l s rest r) _ _ h)
+            (rest_ready x locked final l s rest text r).kept
+            (step_same x locked mid o a _ _ k (λ u v h. act_sim s l text.0 x locked mid (first_ready x locked final l s rest r) u v h))
+            (λ h. block_sim rest text.1 x mid final (rest_ready x locked final l s rest text r) _ _ h)
+
+      -- a turn of a `parts`, and then the later turns
+      turn_sim : (l s n j q i : ℕ) (b : Codes) → IsText b → (x : Around) (locked final : Set)
+          → ReadyOf p needs x locked final l (Begun s n j q i b) → has_piece (x.env.windows s) n j ≡ true → (o : S) (a : A)
+          → Same x locked o a
+          → Agree x final (act p r1 d l (Begun s n j q i b) o) (act p r2 e l (Begun s n j q i b) a)
+      turn_sim l s n j q i b text x locked final r left o a k =
+          let mid = after_turn x locked final l s n j q i b r left in
+          let later = next_ready x locked final l s n j q i b r left in
+          let w = Pieces l s n (j + 1) q i b in
+          let from = block p r1 d b (in_turn s n j q i o) in
+          let to = block p r2 e b (in_turn s n j q i a) in
+          then_same x mid final from to (d w) (e w) (dies (e w) (e_marks w)) later.kept
+          (leave_turn_agree x locked final l s n j q i b r left from to
+          (block_sim b text (within_turn x locked final l s n j q i b r left) locked mid
+          (turn_ready x locked final l s n j q i b r left text) (in_turn s n j q i o) (in_turn s n j q i a)
+          (enter_turn x locked final l s n j q i b r left o a k)))
+          (λ h. sim w text x mid final later from to h)
 
       work_sim : Sim (work p r1 d) (work p r2 e)
-      work_sim (Block b) x locked final r o a k = block_sim b x locked final r o a k
-      work_sim (Turn l t b) x locked final r o a k =
+      work_sim (Block b) text x locked final r o a k = block_sim b text x locked final r o a k
+      work_sim (Turn l t b) text x locked final r o a k =
           step_same x locked final o a _ _ k
-          (λ u v h. act_sim (While t b) l x locked final (here_ready x locked final l (While t b) End r) u v h)
+          (λ u v h. act_sim (While t b) l text x locked final (here_ready x locked final l (While t b) End r) u v h)
+      work_sim (Pieces l s n j q i b) text x locked final r o a k =
+          let c = Begun s n j q i b in
+          let here = here_ready x locked final l c End r in
+          let one : S → S = λ u. act p r1 d l c (counted r1 l c u) in
+          let apart : A → A = λ v. act p r2 e l c (counted r2 l c v) in
+          turns_choice x final o a (has_piece (window_at o s) n j) (has_piece (window_at a s) n j)
+          (ap (λ env. has_piece (env.windows s) n j) k.environment) (with_step one) (λ u. u) (with_step apart) (λ v. v)
+          (λ left. step_same x locked final o a one apart k
+          (λ u v h. turn_sim l s n j q i b text x locked final here
+          (ap (λ w. has_piece w n j) (sym (k.windows s here.scoped.0)) ∙ left) u v h))
+          (same (widen x locked final o a r.kept k))
 
     pub within_sim : (k : ℕ) → Sim (within p r1 k) (within p r2 k)
-    within_sim zero w x locked final r o a k = both_stop refl refl
-    within_sim (suc n) w x locked final r o a k =
-        work_sim (within p r1 n) (within p r2 n) (within_marks start marks p n) (within_sim n) w x locked final r o a k
+    within_sim zero w text x locked final r o a k = both_stop refl refl
+    within_sim (suc n) w text x locked final r o a k =
+        work_sim (within p r1 n) (within p r2 n) (within_marks start marks p n) (within_sim n) w text x locked final r o a k
 
   module _ (is_scoped : IsScoped p) (is_calm : IsCalm p) (provides : Provides p needs) (fresh : ℕ) where
-    pub begins : (nest : ℕ) (b : Codes) (l : ℕ) (x : Around) (locked final : Set) → ReadyOf p needs x locked final l (Async b)
+    pub begins : (nest : ℕ) (b : Codes) → IsText b → (l : ℕ) (x : Around) (locked final : Set) → ReadyOf p needs x locked final l (Async b)
         → (o : S) (a : A) → Same x locked o a
         → Agree x final (begin_one p fresh nest b o) (begin_apart p needs fresh nest b a)
-    begins zero b l x locked final r o a k = both_stop refl refl
-    begins (suc n) b l x locked final r o a k =
+    begins zero b text l x locked final r o a k = both_stop refl refl
+    begins (suc n) b text l x locked final r o a k =
         async_agrees is_scoped.procedures fresh x locked final l b r o a k _ _
         (within_sim is_scoped is_calm provides (begin_one p fresh n) (begin_apart p needs fresh n) (begin_marks p needs fresh n) (begins n)
-        (fresh + 1) (Block b)
+        (fresh + 1) (Block b) text
         (within_async is_scoped.procedures fresh x locked final l b r o a k) nowhere (Overwrites x.env (Pending p accesses b))
-        (async_ready is_scoped.procedures fresh x locked final l b r o a k) _ _
+        (async_ready is_scoped.procedures fresh x locked final l b r o a k text) _ _
         (child_same is_scoped.procedures fresh x locked final l b r o a k))

@@ -2,19 +2,19 @@
 use Rattle.std.proofs.Common.{◌≡◌, ℕ, List, [], ◌∷◌, ◌∙◌, inl, inr}
 use Rattle.std.specs.Prelude.{◌⊎◌, true}
 use Rattle.sections.specs.Place.{Window, Place}
-use Rattle.types.specs.Code.{While, Codes, End, Then, Program}
+use Rattle.types.specs.Code.{While, Begun, Codes, End, Then, Program}
 use Rattle.types.specs.Contents.{Contents, IsThere}
 use Rattle.types.specs.Value.{Environment}
 use Rattle.effects.specs.Effects.{All, Pending, accesses}
-use Rattle.effects.specs.Footprint.{Overwrites}
+use Rattle.effects.specs.Footprint.{Overwrites, TurnsStillWrite}
 use Rattle.effects.specs.Needs.{Needs}
 use Rattle.race_checker.specs.Scope.{Scope, InScope}
 use Rattle.task_run.specs.Places.{Places}
 use Rattle.task_run.specs.Ready.{Ready}
 use Rattle.task_run.specs.OwnRun.{Own}
-use Rattle.task_run.specs.Frames.{Frame, Rest, Again, AtEnd, Back}
+use Rattle.task_run.specs.Frames.{Frame, Rest, Again, Further, AtEnd, Back}
 use Rattle.task_run.specs.Holds.{having, locked_after, Stack}
-use Rattle.effects.proofs.Footprints.{overwrites_touch}
+use Rattle.effects.proofs.Footprints.{overwrites_touch, turns_write_touch}
 
 abbrev pub anywhere : ℕ → Type 0
 anywhere s = Unit {0}
@@ -36,6 +36,13 @@ module _ (p : Program) (needs : Codes → Needs) where
     env,
     record { inside = λ s i. h s (left.inside s i); known = λ s i. e s (left.inside s i) ∙ left.known s i; ready = left.ready },
     restack f g (InScope sc) (InScope sc) c o (locked_after p needs env locked (Then l (While t b) End)) fs (λ s i. i)
+        (λ s i. e s (left.inside s i)) below,
+  )
+  restack f g limit wide c o locked (Further l s n j q i b ∷ fs) h e (sc, env, left, below) = (
+    sc,
+    env,
+    record { inside = λ s i. h s (left.inside s i); known = λ s i. e s (left.inside s i) ∙ left.known s i; ready = left.ready },
+    restack f g (InScope sc) (InScope sc) c o (locked_after p needs env locked (Then l (Begun s n j q i b) End)) fs (λ s i. i)
         (λ s i. e s (left.inside s i)) below,
   )
   restack f g limit wide c o locked (AtEnd before ∷ fs) h e k = restack f g limit wide before.store before.extra.owned (λ q. ⊥) fs h e k
@@ -66,7 +73,11 @@ module _ (p : Program) (needs : Codes → Needs) where
       held = λ q t. k.there q (r.free q t) (r.held q t);
       wrote = λ q t. k.owned q (r.free q (overwrites_touch env (All p accesses b) q t)) (r.wrote q t);
       kept = λ q. inl;
-      added = λ q. inr;
+      added = λ q h. inr (inl h);
+      turns_free = λ q t l. r.turns_free q t (k.fewer_locks q l);
+      turns_held = λ q t. k.there q (r.turns_free q t) (r.turns_held q t);
+      turns_wrote = λ q t. k.owned q (r.turns_free q (turns_write_touch p env b q t)) (r.turns_wrote q t);
+      turns_added = λ q h. inr (inr h);
     }
 
     pub anchor : (f : ℕ → Window) (limit : ℕ → Type 0) (locked fewer : Place → Type 0) (fs : List (Frame Own)) → Keeps locked fewer
@@ -81,7 +92,7 @@ module _ (p : Program) (needs : Codes → Needs) where
         ready = anchor_ready sc env locked fewer _ b k left.ready;
       },
       anchor f (InScope sc) (locked_after p needs env locked b) (locked_after p needs env fewer b) fs
-          (keeps_on locked fewer (Overwrites env (Pending p accesses b)) k) below,
+          (keeps_on locked fewer (λ q. Overwrites env (Pending p accesses b) q ⊎ TurnsStillWrite p env b q) k) below,
     )
     anchor f limit locked fewer (Again l t b ∷ fs) k (sc, env, left, below) = (
       sc,
@@ -93,7 +104,22 @@ module _ (p : Program) (needs : Codes → Needs) where
       },
       anchor f (InScope sc) (locked_after p needs env locked (Then l (While t b) End))
           (locked_after p needs env fewer (Then l (While t b) End)) fs
-          (keeps_on locked fewer (Overwrites env (Pending p accesses (Then l (While t b) End))) k) below,
+          (keeps_on locked fewer
+          (λ q. Overwrites env (Pending p accesses (Then l (While t b) End)) q ⊎ TurnsStillWrite p env (Then l (While t b) End) q) k) below,
+    )
+    anchor f limit locked fewer (Further l s n j q i b ∷ fs) k (sc, env, left, below) = (
+      sc,
+      env,
+      record {
+        inside = left.inside;
+        known = left.known;
+        ready = anchor_ready sc env locked fewer _ (Then l (Begun s n j q i b) End) k left.ready;
+      },
+      anchor f (InScope sc) (locked_after p needs env locked (Then l (Begun s n j q i b) End))
+          (locked_after p needs env fewer (Then l (Begun s n j q i b) End)) fs
+          (keeps_on locked fewer
+          (λ x. Overwrites env (Pending p accesses (Then l (Begun s n j q i b) End)) x ⊎ TurnsStillWrite p env (Then l (Begun s n j q i b) End) x) k)
+          below,
     )
     anchor f limit locked fewer (AtEnd before ∷ fs) k h = h
     anchor f limit locked fewer (Back env ∷ fs) k h = anchor env.windows anywhere locked fewer fs k h

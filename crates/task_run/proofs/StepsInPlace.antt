@@ -10,13 +10,15 @@ use Rattle.types.specs.declared.value.Environment.{Environment as rEnvironment}
 use Rattle.types.specs.Code.{Codes, End, Then, While}
 use Rattle.types.specs.Translation.{code, codes, environment, program, truth}
 use Rattle.effects.specs.Needs.{Needs}
+use Rattle.statement_steps.specs.declared.turns.TurnsToCome.{TurnsToCome}
 use Rattle.task_run.specs.Frames.{Frame, Rest, Again, Back, Standing, done_in, turn}
 use Rattle.task_run.specs.OwnRun.{Action, Own, own_rules}
-use Rattle.task_run.specs.RunTurns.{DidNext, DoneAs, GoesAs, GoesTo, Going_on, IsTurn, TurnOf, Turns, below_top, taken_off, turn_of}
-use Rattle.task_run.specs.Standings.{Shows, Stacked, state_of, with_own}
+use Rattle.task_run.specs.RunTurns.{DidNext, DidTurn, DoneAs, GoesAs, GoesTo, Going_on, IsTurn, TurnOf, Turns, below_top, taken_off, turn_of}
+use Rattle.task_run.specs.Standings.{Shows, Stacked, further, state_of, with_own}
 use Rattle.task_run.specs.Stops.{stops}
 use Rattle.task_run.specs.declared.frame.TaskFrame.{TaskFrame as rFrame}
-use Rattle.task_run.specs.declared.frame.TaskFrame.TheVariants.{Rest as rRest, Again as rAgain, EndCall as rEndCall}
+use Rattle.task_run.specs.declared.frame.TaskFrame.TheVariants.{Rest as rRest, Again as rAgain, Turns as rTurns}
+use Rattle.task_run.specs.declared.frame.TaskFrame.TheVariants.{EndCall as rEndCall}
 use Rattle.task_run.specs.declared.run.Run.{Run}
 use Rattle.task_run.specs.declared.turn.Done.{Done}
 use Rattle.task_run.specs.declared.turn.Done.TheVariants.{Gone, Spawned, Entered, Exceeded}
@@ -89,6 +91,23 @@ module _ (needs : Codes → Needs) (old : Run) (hs : List rFrame) where
       let st = with_own x (state_of old.thread) in
       let next = did close in
       on_this old.frames.items hs (rAgain l guard body) (rAgain l guard body) f fs top refl (λ f shows. shows)
+      shows.frames (λ (fs : List (Frame Own)). TurnOf needs close old fs st (turn_of new d))
+      (λ below stacked.
+      goes_as old (turn (program old.plan.program.now) (own_rules needs old.thread.nest close) f below st)
+      (done_in needs old.thread.nest f st) (stops old.thread.nest f st) d new
+      (moved popped new below x next.turns (subst (λ (gs : List rFrame). Stacked gs below) (sym is_popped) stacked) shows)
+      (next.noted x))
+
+  -- it is the turns to come of a `parts`, and was taken off
+  pub turns_is_turn : (turns : TurnsToCome) (popped : Vec rFrame Global) (d : Done) (new : Run)
+      → old.frames.items ≡ hs ++ rTurns turns ∷ [] → popped.items ≡ hs
+      → DidTurn needs (further turns) (record old { frames = popped }) d new
+      → IsTurn needs old (turn_of new d)
+  turns_is_turn turns popped d new top is_popped did = λ close fs x shows.
+      let f = further turns in
+      let st = with_own x (state_of old.thread) in
+      let next = did close in
+      on_this old.frames.items hs (rTurns turns) (rTurns turns) f fs top refl (λ f shows. shows)
       shows.frames (λ (fs : List (Frame Own)). TurnOf needs close old fs st (turn_of new d))
       (λ below stacked.
       goes_as old (turn (program old.plan.program.now) (own_rules needs old.thread.nest close) f below st)

@@ -3,24 +3,24 @@
 use Rattle.std.proofs.lemmas.Option.{none-some, same_Some}
 use Rattle.std.proofs.Common.{◌≡◌, ℕ, zero, suc, ◌+◌, List, [], ◌∷◌, length, Option, Some, None, Ok, Err, refl, sym}
 use Rattle.std.proofs.Common.{ap, ◌∙◌, subst}
-use Rattle.std.specs.Prelude.{Bool, true, false, nat_eq, ◌||◌, ok_or, if◌then◌else◌}
+use Rattle.std.specs.Prelude.{Bool, true, false, nat_eq, ◌&&◌, ◌||◌, ok_or, if◌then◌else◌}
 use Rattle.std.proofs.Math.Bool.{or-false, or_assoc}
 use Rattle.shared_lemmas.proofs.Truths.{or_swap}
 use Rattle.sections.specs.Covers.{has}
-use Rattle.sections.specs.Place.{Place, sides_of}
-use Rattle.types.specs.declared.fault.FaultKind.TheVariants.{SplitPoint}
-use Rattle.types.specs.Code.{Primitive, Skip, Assign, Store, Print, Raise, Code, Do, If, While, Split, Call, Async}
-use Rattle.types.specs.Code.{Finish, Codes, End, Then, Program}
+use Rattle.sections.specs.Place.{Place, has_piece, sides_of}
+use Rattle.types.specs.declared.fault.FaultKind.TheVariants.{SplitPoint, PieceSize}
+use Rattle.types.specs.Code.{Primitive, Skip, Assign, Store, Print, Raise, Code, Do, If, While, Split, Parts, Begun, Call}
+use Rattle.types.specs.Code.{Async, Finish, Codes, End, Then, Program}
 use Rattle.types.specs.Value.{Valued, element_of, holds_number}
 use Rattle.types.specs.Run.{Flow, On, Faulted, Stopped, Fault, State, Rules, with_value, put, print, assign}
-use Rattle.types.specs.Run.{primitive, number_at, numbers_at, truth_at, window_at, array_of}
+use Rattle.types.specs.Run.{primitive, piece_size, number_at, numbers_at, truth_at, window_at, array_of}
 use Rattle.types.specs.Meaning.{after_finish}
 use Rattle.effects.specs.Needs.{Needs}
 use Rattle.task_run.specs.Places.{Places, meets}
 use Rattle.task_run.specs.Apart.{is_stopped}
 use Rattle.task_run.specs.Results.{Listed, TaskResult, Settled, none_yet, fill, complete}
 use Rattle.task_run.specs.OwnRun.{Own, own_rules, begin_own, result_of}
-use Rattle.task_run.specs.Frames.{Frame, Rest, Again, AtEnd, Back, Standing, by_value, chosen, paid, by_flow, turn}
+use Rattle.task_run.specs.Frames.{Frame, Rest, Again, Further, AtEnd, Back, Standing, by_value, chosen, paid, by_flow, turn}
 use Rattle.task_run.specs.Frames.{handed}
 use Rattle.task_run.specs.Stops.{is_none, is_over, is_next_over, stops, some_stopped}
 use Rattle.std.specs.Cmp.Lexicographic.{pointwise}
@@ -78,6 +78,10 @@ module _ (p : Program) (needs : Codes → Needs) (nest : ℕ) (close : State Own
   paid_stops (suc n) l (Split s e x y b) fs st on =
       by_value_goes l (number_at st e) _ fs _ (λ v.
       by_value_goes l (ok_or (sides_of (window_at st s) v) SplitPoint) _ fs _ (λ ws. on))
+  paid_stops (suc n) l (Parts s e q i b) fs st on =
+      by_value_goes l (number_at st e) _ fs _ (λ v.
+      by_value_goes l (ok_or (piece_size v) PieceSize) _ fs _ (λ m. on))
+  paid_stops (suc n) l (Begun s m k q i b) fs st on = on
   paid_stops (suc n) l (Call f es ss) fs st on = by_value_goes l (numbers_at st es) _ fs _ (λ vs. on)
   paid_stops (suc n) l (Async b) fs st on = begin_stops nest b (record st { steps = n })
   paid_stops (suc n) l (Finish b) fs st on = on
@@ -94,6 +98,16 @@ module _ (p : Program) (needs : Codes → Needs) (nest : ℕ) (close : State Own
   turn_stops (Rest End) fs st = sym (or-false (is_stopped st.flow))
   turn_stops (Rest (Then l s rest)) fs st = flow_stops st.flow l s (Rest rest ∷ fs) fs st refl
   turn_stops (Again l t b) fs st = flow_stops st.flow l (While t b) fs fs st refl
+  turn_stops (Further l s n k q i b) fs st = by (has_piece (window_at st s) n k)
+    where
+      c : Code
+      c = Begun s n k q i b
+
+      by : (left : Bool)
+          → is_stopped (if◌then◌else◌ {A = Standing Own} left (by_flow p r st.flow l c fs fs st) (record { frames = fs; state = st })).state.flow
+          ≡ (is_stopped st.flow || (left && is_next_over nest st.flow st.steps c))
+      by true = flow_stops st.flow l c fs fs st refl
+      by false = sym (or-false (is_stopped st.flow))
   turn_stops (AtEnd before) fs st = sym (or-false (is_stopped st.flow))
   turn_stops (Back env) fs st = sym (or-false (is_stopped st.flow))
 

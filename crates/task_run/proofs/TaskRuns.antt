@@ -3,17 +3,18 @@
 use Rattle.std.proofs.lemmas.Option.{same_Some}
 use Rattle.std.proofs.Common.{◌≡◌, ℕ, zero, suc, ◌+◌, List, [], ◌∷◌, ◌++◌, length, Option, Some, refl, sym, ap, ◌∙◌}
 use Rattle.std.proofs.Common.{arith, append_assoc}
-use Rattle.std.specs.Prelude.{false, slice_get, if◌then◌else◌}
+use Rattle.std.specs.Prelude.{Bool, true, false, slice_get, if◌then◌else◌}
+use Rattle.sections.specs.Place.{has_piece}
 use Rattle.std.proofs.lemmas.Bool.{and_right}
-use Rattle.types.specs.Code.{Code, Do, If, While, Split, Call, Async, Finish, Codes, End, Then, Program}
-use Rattle.types.specs.Run.{Flow, On, Faulted, Stopped, State, Rules}
+use Rattle.types.specs.Code.{Code, Do, If, While, Split, Parts, Begun, Call, Async, Finish, Codes, End, Then, Program}
+use Rattle.types.specs.Run.{Flow, On, Faulted, Stopped, State, Rules, window_at}
 use Rattle.effects.specs.Needs.{Needs}
 use Rattle.task_run.specs.Apart.{is_stopped}
 use Rattle.task_run.specs.Results.{TaskResult, Settled, none_yet, complete, and_then}
 use Rattle.task_run.specs.OwnRun.{Start, Action, Own, EndFinish, at_first, notes, result_of, leave_with, own_rules}
 use Rattle.task_run.specs.OwnRun.{begun_by, beginning, from_receipts, run_by}
 use Rattle.task_run.specs.Given.{filled, in_truth, own, given, IsOfOwnRun, IsOwn}
-use Rattle.task_run.specs.Frames.{Frame, Rest, Again, AtEnd, Back, Standing, resume, paid, by_flow, turn, handed}
+use Rattle.task_run.specs.Frames.{Frame, Rest, Again, Further, AtEnd, Back, Standing, resume, paid, by_flow, turn, handed}
 use Rattle.task_run.specs.Frames.{IsBegun, HasBegun, HasBegunBelow, IsGivenChild, IsTask, Follows}
 use Rattle.task_run.specs.Settling.{settle}
 use Rattle.task_run.specs.Lists.{Each}
@@ -123,6 +124,7 @@ module _ (p : Program) (needs : Codes → Needs) (fresh : ℕ) (root : Start) wh
         below_still [] k = tt
         below_still (Rest b ∷ fs) k = below_still fs k
         below_still (Again l t b ∷ fs) k = below_still fs k
+        below_still (Further l s n j q i b ∷ fs) k = below_still fs k
         below_still (AtEnd mid ∷ fs) k = (
           each_more (IsBegun s.nest st) (IsBegun s.nest (handed before x st)) mid.extra.pending
               (λ c. still_begun s.nest st (handed before x st) c refl (EndFinish ∷ []) refl) k.0,
@@ -166,6 +168,8 @@ module _ (p : Program) (needs : Codes → Needs) (fresh : ℕ) (root : Start) wh
       paid_alike (suc n) l (If t b e) fs st = refl
       paid_alike (suc n) l (While t b) fs st = refl
       paid_alike (suc n) l (Split t e x y b) fs st = refl
+      paid_alike (suc n) l (Parts t e x i b) fs st = refl
+      paid_alike (suc n) l (Begun t m k x i b) fs st = refl
       paid_alike (suc n) l (Call f es ss) fs st = refl
       paid_alike (suc n) l (Async b) fs st = refl
       paid_alike (suc n) l (Finish b) fs st = refl
@@ -181,6 +185,15 @@ module _ (p : Program) (needs : Codes → Needs) (fresh : ℕ) (root : Start) wh
       turn_alike (Rest End) fs st = refl
       turn_alike (Rest (Then l t rest)) fs st = flow_alike st.flow l t (Rest rest ∷ fs) fs st
       turn_alike (Again l t b) fs st = flow_alike st.flow l (While t b) fs fs st
+      turn_alike (Further l x n k q i b) fs st = by (has_piece (window_at st x) n k)
+        where
+          by : (left : Bool)
+              → if◌then◌else◌ {A = Standing Own} left (by_flow p (own_rules needs s.nest c) st.flow l (Begun x n k q i b) fs fs st)
+              (record { frames = fs; state = st })
+              ≡ if◌then◌else◌ {A = Standing Own} left (by_flow p (own_rules needs s.nest d) st.flow l (Begun x n k q i b) fs fs st)
+              (record { frames = fs; state = st })
+          by true = flow_alike st.flow l (Begun x n k q i b) fs fs st
+          by false = refl
       turn_alike (AtEnd before) fs st = refl
       turn_alike (Back env) fs st = refl
 

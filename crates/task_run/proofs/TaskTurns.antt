@@ -2,21 +2,21 @@
 use Rattle.std.proofs.Common.{◌≡◌, ℕ, zero, suc, ◌≤◌, List, [], ◌∷◌, ◌++◌, Option, Some, None, Ok, Err, refl, sym, ap}
 use Rattle.std.proofs.Common.{◌∙◌, le_refl, append_assoc}
 use Rattle.std.proofs.lemmas.List.{append-nil}
-use Rattle.std.specs.Prelude.{Bool, true, false, map, ok_or, if◌then◌else◌}
-use Rattle.sections.specs.Place.{sides_of}
-use Rattle.types.specs.declared.fault.FaultKind.TheVariants.{SplitPoint}
-use Rattle.types.specs.Code.{Code, Do, If, While, Split, Call, Async, Finish, Codes, End, Then, Program}
+use Rattle.std.specs.Prelude.{Bool, true, false, ◌+◌, map, ok_or, if◌then◌else◌}
+use Rattle.sections.specs.Place.{has_piece, sides_of}
+use Rattle.types.specs.declared.fault.FaultKind.TheVariants.{SplitPoint, PieceSize}
+use Rattle.types.specs.Code.{Code, Do, If, While, Split, Parts, Begun, Call, Async, Finish, Codes, End, Then, Program}
 use Rattle.types.specs.Value.{Valued}
-use Rattle.types.specs.Run.{Flow, On, Faulted, Stopped, State, Rules, Work, Block, Turn, stopped, at_flow, fault}
-use Rattle.types.specs.Run.{number_at, numbers_at, truth_at, window_at, entry, with_sides, procedure_of, primitive}
-use Rattle.types.specs.Run.{counted, run}
+use Rattle.types.specs.Run.{Flow, On, Faulted, Stopped, State, Rules, Work, Block, Turn, Pieces, stopped, at_flow, fault}
+use Rattle.types.specs.Run.{number_at, numbers_at, truth_at, window_at, entry, with_sides, in_turn, piece_size, procedure_of}
+use Rattle.types.specs.Run.{primitive, counted, run}
 use Rattle.types.specs.Laws.{IsThrifty, IsKept}
 use Rattle.types.proofs.Keeps.{primitive_keeps, counted_keeps}
 use Rattle.effects.specs.Needs.{Needs}
 use Rattle.task_run.specs.Results.{Settled}
 use Rattle.task_run.specs.OwnRun.{Action, Own, EndFinish, notes, is_waiting, begin_own, leave_with, leave_own}
 use Rattle.task_run.specs.OwnRun.{own_rules}
-use Rattle.task_run.specs.Frames.{Frame, Rest, Again, AtEnd, Back, Standing, frame, resume, by_value, chosen, acted}
+use Rattle.task_run.specs.Frames.{Frame, Rest, Again, Further, AtEnd, Back, Standing, frame, resume, by_value, chosen, acted}
 use Rattle.task_run.specs.Frames.{paid, by_flow, turn, IsBegun, HasBegun, HasBegunBelow}
 use Rattle.types.proofs.Counted.{counted_is}
 use Rattle.task_run.proofs.Lists.{each_more}
@@ -80,6 +80,7 @@ module _ (p : Program) (needs : Codes → Needs) (nest : ℕ) (close : State Own
   frame_grows : (f : Frame Own) (st : State Own) → Grows st (frame p r f st)
   frame_grows (Rest b) st = flow_grows st.flow (Block b) st
   frame_grows (Again l t b) st = flow_grows st.flow (Turn l t b) st
+  frame_grows (Further l s n k q i b) st = flow_grows st.flow (Pieces l s n k q i b) st
   frame_grows (AtEnd before) st = leave_grows before st
   frame_grows (Back env) st = record { path = refl; done = []; more = sym (append-nil st.extra.actions) }
 
@@ -97,6 +98,7 @@ module _ (p : Program) (needs : Codes → Needs) (nest : ℕ) (close : State Own
   below_still st to path done more [] h = tt
   below_still st to path done more (Rest b ∷ fs) h = below_still st to path done more fs h
   below_still st to path done more (Again l t b ∷ fs) h = below_still st to path done more fs h
+  below_still st to path done more (Further l s n k q i b ∷ fs) h = below_still st to path done more fs h
   below_still st to path done more (AtEnd before ∷ fs) h = (
     each_more (IsBegun nest st) (IsBegun nest to) before.extra.pending (λ c. still_begun nest st to c path done more) h.0,
     below_still st to path done more fs h.1,
@@ -168,6 +170,12 @@ module _ (p : Program) (needs : Codes → Needs) (nest : ℕ) (close : State Own
   acted_kept (Split s e x y c) l fs st f b =
       value_kept l (number_at st e) _ fs st b (λ v. value_kept l (ok_or (sides_of (window_at st s) v) SplitPoint) _ fs st b (λ ws.
       let to = record st { environment = with_sides x y ws st.environment } in kept_by st to (Rest c ∷ fs) (idle st to refl refl refl) b))
+  acted_kept (Parts s e x i c) l fs st f b =
+      value_kept l (number_at st e) _ fs st b (λ v. value_kept l (ok_or (piece_size v) PieceSize) _ fs st b (λ n.
+      kept_by st st (Further l s n 0 x i c ∷ fs) (idle st st refl refl refl) b))
+  acted_kept (Begun s n k x i c) l fs st f b =
+      let to = in_turn s n k x i st in
+      kept_by st to (Rest c ∷ Further l s n (k + 1) x i c ∷ fs) (idle st to refl refl refl) b
   acted_kept (Call g es ss) l fs st f b =
       value_kept l (numbers_at st es) _ fs st b (λ vs.
       let to = record st { environment = entry vs (map (window_at st) ss) } in
@@ -219,6 +227,12 @@ module _ (p : Program) (needs : Codes → Needs) (nest : ℕ) (close : State Own
   turn_kept (Rest End) fs st f b = kept_by st st fs (idle st st refl refl refl) b
   turn_kept (Rest (Then l s rest)) fs st f b = flow_kept st.flow l s (Rest rest ∷ fs) fs st f b b
   turn_kept (Again l t c) fs st f b = flow_kept st.flow l (While t c) fs fs st f b b
+  turn_kept (Further l s n k x i c) fs st f b = by (has_piece (window_at st s) n k)
+    where
+      by : (left : Bool)
+          → Kept st (if◌then◌else◌ {A = Standing Own} left (by_flow p r st.flow l (Begun s n k x i c) fs fs st) (record { frames = fs; state = st }))
+      by true = flow_kept st.flow l (Begun s n k x i c) fs fs st f b b
+      by false = kept_by st st fs (idle st st refl refl refl) b
   turn_kept (AtEnd before) fs st f b = kept_by st st (AtEnd before ∷ fs) (idle st st refl refl refl) b
   turn_kept (Back env) fs st f b =
       kept_by st (record st { environment = env }) fs (idle st (record st { environment = env }) refl refl refl) b

@@ -2,21 +2,21 @@
 -- the results of all tasks settle.
 use Rattle.std.proofs.Common.{◌≡◌, ℕ, zero, suc, ◌+◌, ◌<◌, ◌≤◌, List, [], ◌∷◌, Option, Some, Ok, Err, refl}
 use Rattle.std.proofs.Common.{subst, arith, le_refl}
-use Rattle.std.specs.Prelude.{Bool, true, false, flat_map, ok_or}
-use Rattle.sections.specs.Place.{sides_of}
-use Rattle.types.specs.declared.fault.FaultKind.TheVariants.{SplitPoint}
-use Rattle.types.specs.Code.{Code, Do, If, While, Split, Call, Async}
+use Rattle.std.specs.Prelude.{Bool, true, false, flat_map, ok_or, if◌then◌else◌}
+use Rattle.sections.specs.Place.{has_piece, sides_of}
+use Rattle.types.specs.declared.fault.FaultKind.TheVariants.{SplitPoint, PieceSize}
+use Rattle.types.specs.Code.{Code, Do, If, While, Split, Parts, Begun, Call, Async}
 use Rattle.types.specs.Code.{Finish, Codes, End, Then, Program}
 use Rattle.types.specs.Value.{Valued}
 use Rattle.types.specs.Run.{Flow, On, Faulted, Stopped, State, Rules, number_at, numbers_at}
-use Rattle.types.specs.Run.{truth_at, window_at, counted}
+use Rattle.types.specs.Run.{truth_at, window_at, piece_size, counted}
 use Rattle.effects.specs.Needs.{Needs, Provides}
 use Rattle.race_checker.specs.Scope.{IsScoped}
 use Rattle.race_checker.specs.Calm.{IsCalm}
 use Rattle.task_run.specs.Results.{Settled, TaskResult, none_yet, complete}
 use Rattle.task_run.specs.OwnRun.{Start, Child, Own, result_of, begin_own, own_rules}
 use Rattle.task_run.specs.Given.{comes_to, filled, in_truth, own, given, below}
-use Rattle.task_run.specs.Frames.{Frame, Rest, Again, AtEnd, Back, Standing, by_value, chosen, acted, paid, by_flow}
+use Rattle.task_run.specs.Frames.{Frame, Rest, Again, Further, AtEnd, Back, Standing, by_value, chosen, acted, paid, by_flow}
 use Rattle.task_run.specs.Frames.{turn, handed, IsTask, IsGivenChild}
 use Rattle.task_run.specs.Holds.{MayBegin, Carries, Holds}
 use Rattle.task_run.specs.Settling.{settle, IsParted}
@@ -38,6 +38,7 @@ size (Then l s rest) = suc (size rest)
 abbrev pub weight_of : Frame Own → ℕ
 weight_of (Rest b) = suc (size b)
 weight_of (Again l t b) = 1
+weight_of (Further l s n k q i b) = 1
 weight_of (AtEnd before) = 1
 weight_of (Back env) = 1
 
@@ -74,6 +75,10 @@ module _ (p : Program) (needs : Codes → Needs) (nest : ℕ) (close : State Own
   acted_less (Split z e x y b) l fs st =
       stand_less l (number_at st e) _ fs st
       (λ v. stand_less l (ok_or (sides_of (window_at st z) v) SplitPoint) _ fs st (λ ws. le_refl st.steps))
+  acted_less (Parts z e q i b) l fs st =
+      stand_less l (number_at st e) _ fs st
+      (λ v. stand_less l (ok_or (piece_size v) PieceSize) _ fs st (λ n. le_refl st.steps))
+  acted_less (Begun z n k q i b) l fs st = le_refl st.steps
   acted_less (Call f es ss) l fs st = stand_less l (numbers_at st es) _ fs st (λ vs. le_refl st.steps)
   acted_less (Async b) l fs st = begin_less needs nest b st
   acted_less (Finish b) l fs st = le_refl st.steps
@@ -98,6 +103,18 @@ module _ (p : Program) (needs : Codes → Needs) (scoped : IsScoped p) (calm : I
     flow_falls On l c fs below st w lt k = paid_falls st.steps l c fs st w refl lt
     flow_falls Faulted l c fs below st w lt k = sheds (le_refl st.steps) k
     flow_falls Stopped l c fs below st w lt k = sheds (le_refl st.steps) k
+
+    -- a turn of a `parts`, or its end
+    pub turn_falls : (l z n k q i : ℕ) (b : Codes) (fs : List (Frame Own)) (st : State Own) (w : ℕ) → weight fs < w
+        → Falls st w (turn p r (Further l z n k q i b) fs st)
+    turn_falls l z n k q i b fs st w lt = by (has_piece (window_at st z) n k)
+      where
+        c : Code
+        c = Begun z n k q i b
+
+        by : (left : Bool) → Falls st w (if◌then◌else◌ {A = Standing Own} left (by_flow p r st.flow l c fs fs st) (record { frames = fs; state = st }))
+        by true = flow_falls st.flow l c fs fs st w lt lt
+        by false = sheds (le_refl st.steps) lt
 
     -- ---- up to the end
     abbrev Ended : Type 0
@@ -133,6 +150,9 @@ module _ (p : Program) (needs : Codes → Needs) (scoped : IsScoped p) (calm : I
     within n (suc w) deeper (Again l t b ∷ fs) st le lt task holds =
         after_turn n w deeper (within n w deeper) (Again l t b) fs st le task holds
         (flow_falls st.flow l (While t b) fs fs st w (omega (arith, lt)) (omega (arith, lt)))
+    within n (suc w) deeper (Further l z j k q i b ∷ fs) st le lt task holds =
+        after_turn n w deeper (within n w deeper) (Further l z j k q i b) fs st le task holds
+        (turn_falls l z j k q i b fs st w (omega (arith, lt)))
     within n (suc w) deeper (Back env ∷ fs) st le lt task holds =
         after_turn n w deeper (within n w deeper) (Back env) fs st le task holds (sheds (le_refl st.steps) (omega (arith, lt)))
     within n (suc w) deeper (AtEnd before ∷ fs) st le lt task holds =

@@ -5,12 +5,12 @@ use Rattle.std.proofs.lemmas.List.{append-nil}
 use Rattle.std.specs.Prelude.{Bool, true, false, ok_or, slice_get, if◌then◌else◌}
 use Rattle.std.proofs.lemmas.Bool.{and_parts, and_right}
 use Rattle.shared_lemmas.proofs.Truths.{false_true}
-use Rattle.sections.specs.Place.{sides_of}
-use Rattle.types.specs.declared.fault.FaultKind.TheVariants.{SplitPoint}
-use Rattle.types.specs.Code.{Code, Do, If, While, Split, Call, Async, Finish, Codes, End, Then, Program}
+use Rattle.sections.specs.Place.{has_piece, sides_of}
+use Rattle.types.specs.declared.fault.FaultKind.TheVariants.{SplitPoint, PieceSize}
+use Rattle.types.specs.Code.{Code, Do, If, While, Split, Parts, Begun, Call, Async, Finish, Codes, End, Then, Program}
 use Rattle.types.specs.Value.{Valued}
-use Rattle.types.specs.Run.{Flow, On, Faulted, Stopped, State, Rules, Block, Turn, number_at, numbers_at, truth_at}
-use Rattle.types.specs.Run.{window_at, at_flow, run}
+use Rattle.types.specs.Run.{Flow, On, Faulted, Stopped, State, Rules, Block, Turn, Pieces, number_at, numbers_at, truth_at}
+use Rattle.types.specs.Run.{piece_size, window_at, at_flow, run}
 use Rattle.types.specs.Laws.{IsKept}
 use Rattle.types.proofs.Keeps.{primitive_keeps}
 use Rattle.effects.specs.Needs.{Needs}
@@ -18,7 +18,7 @@ use Rattle.task_run.specs.Apart.{is_stopped}
 use Rattle.task_run.specs.Results.{TaskResult, Settled, and_then}
 use Rattle.task_run.specs.OwnRun.{Start, Action, Step, EnterFinish, Own, EndFinish, notes, is_waiting, result_of}
 use Rattle.task_run.specs.OwnRun.{leave_with, leave_own, own_rules, begin_own, from_receipts, run_by}
-use Rattle.task_run.specs.Frames.{Frame, Rest, Again, AtEnd, Back, Standing, frame, resume, by_value, chosen, paid}
+use Rattle.task_run.specs.Frames.{Frame, Rest, Again, Further, AtEnd, Back, Standing, frame, resume, by_value, chosen, paid}
 use Rattle.task_run.specs.Frames.{by_flow, turn, done_by, done_at, done_in, Follows}
 use Rattle.task_run.specs.Settling.{settle}
 
@@ -70,6 +70,10 @@ module _ (p : Program) (needs : Codes → Needs) (nest : ℕ) (close : State Own
       value_does l (number_at st e) _ fs (record st { steps = n; extra = notes Step st.extra }) (λ v.
       value_does l (ok_or (sides_of (window_at st s) v) SplitPoint) _ fs (record st { steps = n; extra = notes Step st.extra })
       (λ ws. refl))
+  paid_does (suc n) l (Parts s e q i b) fs st =
+      value_does l (number_at st e) _ fs (record st { steps = n; extra = notes Step st.extra }) (λ v.
+      value_does l (ok_or (piece_size v) PieceSize) _ fs (record st { steps = n; extra = notes Step st.extra }) (λ m. refl))
+  paid_does (suc n) l (Begun s m k q i b) fs st = refl
   paid_does (suc n) l (Call f es ss) fs st =
       value_does l (numbers_at st es) _ fs (record st { steps = n; extra = notes Step st.extra }) (λ vs. refl)
   paid_does (suc n) l (Async b) fs st = begin_does nest n n b st
@@ -91,6 +95,16 @@ module _ (p : Program) (needs : Codes → Needs) (nest : ℕ) (close : State Own
   turn_does (Rest End) fs st = sym (append-nil st.extra.actions)
   turn_does (Rest (Then l s rest)) fs st = flow_does st.flow l s (Rest rest ∷ fs) fs st
   turn_does (Again l t b) fs st = flow_does st.flow l (While t b) fs fs st
+  turn_does (Further l s n k q i b) fs st = by (has_piece (window_at st s) n k)
+    where
+      c : Code
+      c = Begun s n k q i b
+
+      by : (left : Bool)
+          → acts (if◌then◌else◌ {A = Standing Own} left (by_flow p r st.flow l c fs fs st) (record { frames = fs; state = st })).state
+          ≡ acts st ++ (if left then done_at needs nest st.flow c st else [])
+      by true = flow_does st.flow l c fs fs st
+      by false = sym (append-nil st.extra.actions)
   turn_does (AtEnd before) fs st = sym (append-nil st.extra.actions)
   turn_does (Back env) fs st = sym (append-nil st.extra.actions)
 
@@ -113,6 +127,7 @@ module _ (p : Program) (needs : Codes → Needs) (nest : ℕ) (close : State Own
   frame_waits : (f : Frame Own) (st : State Own) → is_waiting st ≡ true → StillWaits st (frame p r f st)
   frame_waits (Rest b) st w = flow_waits st.flow st (run p r (Block b)) refl w
   frame_waits (Again l t b) st w = flow_waits st.flow st (run p r (Turn l t b)) refl w
+  frame_waits (Further l s n k q i b) st w = flow_waits st.flow st (run p r (Pieces l s n k q i b)) refl w
   frame_waits (AtEnd before) st w = leave_waits before st w
   frame_waits (Back env) st w = record { waits = w; actions = refl }
 

@@ -2,21 +2,22 @@
 -- with those that come back.
 use Rattle.std.proofs.Common.{◌≡◌, ℕ, zero, suc, List, [], ◌∷◌, ◌++◌, Ok, Err, refl, sym, ap, ◌∙◌, subst}
 use Rattle.std.proofs.Math.Bool.{or-false, or_assoc}
-use Rattle.std.specs.Prelude.{Bool, true, false, not, ◌&&◌, ◌||◌, Option, ok_or}
+use Rattle.std.specs.Prelude.{Bool, true, false, not, ◌+◌, ◌&&◌, ◌||◌, Option, ok_or, if◌then◌else◌}
 use Rattle.sections.specs.Covers.{has}
-use Rattle.sections.specs.Place.{Place, sides_of}
-use Rattle.types.specs.declared.fault.FaultKind.TheVariants.{SplitPoint}
-use Rattle.types.specs.Code.{Primitive, Skip, Assign, Store, Print, Raise, Code, Do, If, While, Split, Call, Async}
-use Rattle.types.specs.Code.{Finish, Codes, End, Then, Program}
+use Rattle.sections.specs.Place.{Place, has_piece, sides_of}
+use Rattle.types.specs.declared.fault.FaultKind.TheVariants.{SplitPoint, PieceSize}
+use Rattle.types.specs.Code.{Primitive, Skip, Assign, Store, Print, Raise, Code, Do, If, While, Split, Parts, Begun, Call}
+use Rattle.types.specs.Code.{Async, Finish, Codes, End, Then, Program}
 use Rattle.types.specs.Value.{Valued, element_of, holds_number}
 use Rattle.types.specs.Run.{Flow, On, Faulted, Stopped, State, Rules, with_value, put, print, assign, counted}
-use Rattle.types.specs.Run.{primitive, number_at, numbers_at, truth_at, window_at, array_of, with_sides}
+use Rattle.types.specs.Run.{primitive, piece_size, number_at, numbers_at, truth_at, window_at, array_of, with_sides}
+use Rattle.types.specs.Sound.{IsTextOf}
 use Rattle.effects.specs.Needs.{Needs}
 use Rattle.effects.specs.Statements.{Block, Stands, HasStatement, IsPartOf}
 use Rattle.task_run.specs.Places.{Places, written}
 use Rattle.task_run.specs.Results.{Settled}
 use Rattle.task_run.specs.OwnRun.{Child, Own, back_from, begin_own, child_of, own_rules}
-use Rattle.task_run.specs.Frames.{Frame, Rest, Again, AtEnd, Back, Standing, by_value, chosen, acted, paid, by_flow, turn, handed}
+use Rattle.task_run.specs.Frames.{Frame, Rest, Again, Further, AtEnd, Back, Standing, by_value, chosen, acted, paid, by_flow, turn, handed}
 use Rattle.task_run.specs.Lists.{Each}
 use Rattle.task_run.specs.Reached.{HasNeedsOf, HasNext}
 use Rattle.task_run.proofs.Lists.{each_last}
@@ -27,6 +28,7 @@ abbrev pub back_around : List (Frame Own) → Places
 back_around [] q = false
 back_around (Rest b ∷ fs) q = back_around fs q
 back_around (Again l t b ∷ fs) q = back_around fs q
+back_around (Further l s n k x i b ∷ fs) q = back_around fs q
 back_around (AtEnd before ∷ fs) q = back_from before.extra.pending q || back_around fs q
 back_around (Back env ∷ fs) q = back_around fs q
 
@@ -66,8 +68,9 @@ got_back false false false r = refl
 
 -- ---- what a turn keeps
 module _ (p : Program) where
-  -- the blocks inside a statement belong to the program
+  -- the blocks inside a statement belong to the program, and so does the block of a begun `parts`
   abbrev pub IsInner : Code → Type 0
+  IsInner (Begun s n k q i b) = IsPartOf p b
   IsInner c = (b : Codes) → Block c b → IsPartOf p b
 
   -- so does a child's body, and what the child owns is what comes back from it
@@ -80,6 +83,7 @@ module _ (p : Program) where
   AllBelong [] = Unit {0}
   AllBelong (Rest b ∷ fs) = IsPartOf p b × AllBelong fs
   AllBelong (Again l t b ∷ fs) = IsInner (While t b) × AllBelong fs
+  AllBelong (Further l s n k q i b ∷ fs) = IsPartOf p b × AllBelong fs
   AllBelong (AtEnd before ∷ fs) = Each Belongs before.extra.pending × AllBelong fs
   AllBelong (Back env ∷ fs) = AllBelong fs
 
@@ -112,7 +116,8 @@ module _ (p : Program) where
   primitive_same l (Raise e) st = value_same l (number_at st e) _ st (λ v. refl)
 
   -- ---- a statement
-  module _ (needs : Codes → Needs) (nest : ℕ) (close : State Own → Option Settled) (all : Places) where
+  module _ (texts : (l : ℕ) (c : Code) → HasStatement p l c → IsTextOf c) (needs : Codes → Needs) (nest : ℕ)
+      (close : State Own → Option Settled) (all : Places) where
     abbrev r : Rules Own
     r = own_rules needs nest close
 
@@ -129,6 +134,8 @@ module _ (p : Program) where
     Owns st (If t b c) = Unit {0}
     Owns st (While t b) = Unit {0}
     Owns st (Split s e x y b) = Unit {0}
+    Owns st (Parts s e q i b) = Unit {0}
+    Owns st (Begun s n k q i b) = Unit {0}
     Owns st (Call f es ss) = Unit {0}
     Owns st (Finish b) = Unit {0}
 
@@ -138,6 +145,8 @@ module _ (p : Program) where
     owns_next (If t b c) st h = tt
     owns_next (While t b) st h = tt
     owns_next (Split s e x y b) st h = tt
+    owns_next (Parts s e q i b) st h = tt
+    owns_next (Begun s n k q i b) st h = tt
     owns_next (Call f es ss) st h = tt
     owns_next (Finish b) st h = tt
 
@@ -184,6 +193,12 @@ module _ (p : Program) where
         value_kept l (number_at st e) _ fs st (λ v.
         value_kept l (ok_or (sides_of (window_at st s) v) SplitPoint) _ fs st
         (λ ws. above b fs (record st { environment = with_sides x y ws st.environment }) (i b Block.split) k) k) k
+    acted_kept l (Parts s e q j b) fs st i h k =
+        value_kept l (number_at st e) _ fs st (λ v.
+        value_kept l (ok_or (piece_size v) PieceSize) _ fs st (λ n.
+        record { frames = (i b Block.parts, k.frames); children = k.children; places = k.places }) k) k
+    acted_kept l (Begun s n m q j b) fs st i h k =
+        record { frames = (i, (i, k.frames)); children = k.children; places = k.places }
     acted_kept l (Call f es ss) fs st i h k =
         value_kept l (numbers_at st es) _ fs st (λ vs.
         record {
@@ -206,6 +221,10 @@ module _ (p : Program) where
     paid_kept (suc n) l (While t b) fs st i h k = acted_kept l (While t b) fs (counted r l (While t b) (record st { steps = n })) i h k
     paid_kept (suc n) l (Split s e x y b) fs st i h k =
         acted_kept l (Split s e x y b) fs (counted r l (Split s e x y b) (record st { steps = n })) i h k
+    paid_kept (suc n) l (Parts s e q j b) fs st i h k =
+        acted_kept l (Parts s e q j b) fs (counted r l (Parts s e q j b) (record st { steps = n })) i h k
+    paid_kept (suc n) l (Begun s z m q j b) fs st i h k =
+        acted_kept l (Begun s z m q j b) fs (counted r l (Begun s z m q j b) (record st { steps = n })) i h k
     paid_kept (suc n) l (Call f es ss) fs st i h k =
         acted_kept l (Call f es ss) fs (counted r l (Call f es ss) (record st { steps = n })) i h k
     paid_kept (suc n) l (Async b) fs st i h k = acted_kept l (Async b) fs (counted r l (Async b) (record st { steps = n })) i h k
@@ -217,6 +236,18 @@ module _ (p : Program) where
     flow_kept Faulted l c fs below st i h k d = d
     flow_kept Stopped l c fs below st i h k d = d
 
+    -- the statements of a program are texts, so none is a `parts` that has begun
+    inner_of : (l : ℕ) (c : Code) (rest : Codes) → IsPartOf p (Then l c rest) → IsInner c
+    inner_of l (Do s) rest part = λ b inner m t j. part m t (Stands.inside inner j)
+    inner_of l (If g c d) rest part = λ b inner m t j. part m t (Stands.inside inner j)
+    inner_of l (While g c) rest part = λ b inner m t j. part m t (Stands.inside inner j)
+    inner_of l (Split s e x y c) rest part = λ b inner m t j. part m t (Stands.inside inner j)
+    inner_of l (Parts s e q i c) rest part = λ b inner m t j. part m t (Stands.inside inner j)
+    inner_of l (Begun s n k q i c) rest part = absurd (texts l (Begun s n k q i c) (part l (Begun s n k q i c) Stands.here))
+    inner_of l (Call f es ss) rest part = λ b inner m t j. part m t (Stands.inside inner j)
+    inner_of l (Async c) rest part = λ b inner m t j. part m t (Stands.inside inner j)
+    inner_of l (Finish c) rest part = λ b inner m t j. part m t (Stands.inside inner j)
+
     -- ---- a turn
     pub turn_kept : (f : Frame Own) (fs : List (Frame Own)) (st : State Own) → HasNext needs st (f ∷ fs)
         → IsOf all (f ∷ fs) st.extra.owned st.extra.pending
@@ -224,11 +255,20 @@ module _ (p : Program) where
     turn_kept (Rest End) fs st h k = record { frames = k.frames.1; children = k.children; places = k.places }
     turn_kept (Rest (Then l c rest)) fs st h k =
         let below : Kept fs st = record { frames = k.frames.1; children = k.children; places = k.places } in
-        flow_kept st.flow l c (Rest rest ∷ fs) fs st (λ b inner m s j. k.frames.0 m s (Stands.inside inner j)) (owns_next c st h.1)
+        flow_kept st.flow l c (Rest rest ∷ fs) fs st (inner_of l c rest k.frames.0) (owns_next c st h.1)
         (above rest fs st (λ m s j. k.frames.0 m s (Stands.later j)) below) below
     turn_kept (Again l t b) fs st h k =
         let below : Kept fs st = record { frames = k.frames.1; children = k.children; places = k.places } in
         flow_kept st.flow l (While t b) fs fs st k.frames.0 tt below below
+    turn_kept (Further l s n m q i b) fs st h k = by (has_piece (window_at st s) n m)
+      where
+        below : Kept fs st
+        below = record { frames = k.frames.1; children = k.children; places = k.places }
+
+        by : (left : Bool)
+            → KeptAt (if◌then◌else◌ {A = Standing Own} left (by_flow p r st.flow l (Begun s n m q i b) fs fs st) (record { frames = fs; state = st }))
+        by true = flow_kept st.flow l (Begun s n m q i b) fs fs st k.frames.0 tt below below
+        by false = below
     turn_kept (AtEnd before) fs st h k = k
     turn_kept (Back env) fs st h k = record { frames = k.frames; children = k.children; places = k.places }
 

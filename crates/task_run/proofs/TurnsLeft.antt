@@ -1,15 +1,15 @@
 -- A turn leaves fewer turns.
 use Rattle.std.proofs.Common.{◌≡◌, ℕ, zero, suc, ◌+◌, ◌*◌, ◌<◌, ◌≤◌, List, [], ◌∷◌, ◌++◌, Option, None, Ok, Err, refl, sym, ap}
 use Rattle.std.proofs.Common.{◌∙◌, subst, arith, le_refl}
-use Rattle.std.specs.Prelude.{Bool, true, false, ok_or}
-use Rattle.sections.specs.Place.{sides_of}
+use Rattle.std.specs.Prelude.{Bool, true, false, ok_or, if◌then◌else◌}
+use Rattle.sections.specs.Place.{has_piece, sides_of}
 use Rattle.types.specs.declared.code.Stmt.{Stmt}
-use Rattle.types.specs.declared.fault.FaultKind.TheVariants.{SplitPoint}
-use Rattle.types.specs.Code.{Truth, Code, Do, If, While, Split, Call, Async, Finish, Codes, End, Then, Program}
+use Rattle.types.specs.declared.fault.FaultKind.TheVariants.{PieceSize, SplitPoint}
+use Rattle.types.specs.Code.{Truth, Code, Do, If, While, Split, Parts, Begun, Call, Async, Finish, Codes, End, Then, Program}
 use Rattle.types.specs.Translation.{codes, program}
 use Rattle.types.specs.Value.{Valued}
 use Rattle.types.specs.Run.{Flow, On, Faulted, Stopped, State, Rules, number_at, numbers_at, truth_at, window_at, counted}
-use Rattle.types.specs.Run.{procedure_of}
+use Rattle.types.specs.Run.{piece_size, procedure_of}
 use Rattle.effects.specs.Needs.{Needs}
 use Rattle.statement_steps.specs.Standing.{flow}
 use Rattle.statement_steps.specs.declared.flow.Flow.{Flow as rFlow}
@@ -17,7 +17,7 @@ use Rattle.statement_steps.specs.declared.thread.Plan.{Plan}
 use Rattle.statement_steps.specs.declared.flow.Flow.TheVariants.{On as rOn, Faulted as rFaulted, Stopped as rStopped}
 use Rattle.task_run.specs.Results.{Settled}
 use Rattle.task_run.specs.OwnRun.{Action, Step, Spawn, EnterFinish, EndFinish, EndTask, Own, Start, own_rules}
-use Rattle.task_run.specs.Frames.{Frame, Rest, Again, AtEnd, Back, Standing, by_value, chosen, acted, paid, by_flow, turn}
+use Rattle.task_run.specs.Frames.{Frame, Rest, Again, Further, AtEnd, Back, Standing, by_value, chosen, acted, paid, by_flow, turn}
 use Rattle.task_run.specs.Frames.{done_by, done_at, done_in, handed}
 use Rattle.task_run.specs.Quiet.{Quietly, here, further}
 use Rattle.task_run.specs.Reached.{begun}
@@ -27,8 +27,8 @@ use Rattle.task_run.specs.RunTurns.{GoesAs, GoesTo, IsTurn, TurnOf, EndsAs, Wait
 use Rattle.task_run.specs.Standings.{IsAt, Shows, ShowsFrame, Stacked, state_of, with_own}
 use Rattle.task_run.specs.Translation.{start}
 use Rattle.task_run.specs.declared.frame.TaskFrame.{TaskFrame as rFrame}
-use Rattle.task_run.specs.declared.frame.TaskFrame.TheVariants.{Rest as rRest, Again as rAgain, EndFinish as rEndFinish}
-use Rattle.task_run.specs.declared.frame.TaskFrame.TheVariants.{EndCall as rEndCall}
+use Rattle.task_run.specs.declared.frame.TaskFrame.TheVariants.{Rest as rRest, Again as rAgain, Turns as rTurns}
+use Rattle.task_run.specs.declared.frame.TaskFrame.TheVariants.{EndFinish as rEndFinish, EndCall as rEndCall}
 use Rattle.task_run.specs.declared.run.Run.{Run}
 use Rattle.task_run.specs.declared.turn.Paused.{Paused}
 use Rattle.task_run.specs.declared.turn.Turn.{Turn}
@@ -46,6 +46,7 @@ abbrev cost : Frame Own → ℕ
 cost (Rest End) = 1
 cost (Rest (Then l s rest)) = 2
 cost (Again l t b) = 1
+cost (Further l s n k q i b) = 1
 cost (AtEnd before) = 8
 cost (Back env) = 1
 
@@ -153,6 +154,15 @@ module _ (fresh : ℕ) (p : Program) (needs : Codes → Needs) (close : State Ow
       by_adds n 2 m l (Split s e x y b) fs st mid (omega arith) none refl
       (value_adds 2 l (number_at mid e) _ fs mid (λ v.
       value_adds 2 l (ok_or (sides_of (window_at mid s) v) SplitPoint) _ fs mid (λ ws. blocks_add b fs mid _ refl)))
+  plain_pays n m l (Parts s e q i b) fs st other none =
+      let mid = counted (rules n) l (Parts s e q i b) (record st { steps = m }) in
+      by_adds n 1 m l (Parts s e q i b) fs st mid (omega arith) none refl
+      (value_adds 1 l (number_at mid e) _ fs mid (λ v.
+      value_adds 1 l (ok_or (piece_size v) PieceSize) _ fs mid (λ k. record { steps = le_refl mid.steps; frames = omega arith })))
+  plain_pays n m l (Begun s k j q i b) fs st other none =
+      let mid = counted (rules n) l (Begun s k j q i b) (record st { steps = m }) in
+      by_adds n 3 m l (Begun s k j q i b) fs st mid (omega arith) none refl
+      (record { steps = le_refl mid.steps; frames = let h = block_costs b in omega (arith, h) })
   plain_pays n m l (Call f es ss) fs st other none =
       let mid = counted (rules n) l (Call f es ss) (record st { steps = m }) in
       by_adds n 3 m l (Call f es ss) fs st mid (omega arith) none refl
@@ -179,7 +189,11 @@ module _ (fresh : ℕ) (p : Program) (needs : Codes → Needs) (close : State Ow
   pays (suc n) m l (While t b) fs st = plain_pays (suc n) m l (While t b) fs st (no_async tt) refl
   pays zero m l (Split s e x y b) fs st = plain_pays zero m l (Split s e x y b) fs st (no_async tt) refl
   pays (suc n) m l (Split s e x y b) fs st = plain_pays (suc n) m l (Split s e x y b) fs st (no_async tt) refl
+  pays zero m l (Parts s e q i b) fs st = plain_pays zero m l (Parts s e q i b) fs st (no_async tt) refl
+  pays zero m l (Begun s k j q i b) fs st = plain_pays zero m l (Begun s k j q i b) fs st (no_async tt) refl
   pays zero m l (Call f es ss) fs st = plain_pays zero m l (Call f es ss) fs st (no_async tt) refl
+  pays (suc n) m l (Parts s e q i b) fs st = plain_pays (suc n) m l (Parts s e q i b) fs st (no_async tt) refl
+  pays (suc n) m l (Begun s k j q i b) fs st = plain_pays (suc n) m l (Begun s k j q i b) fs st (no_async tt) refl
   pays (suc n) m l (Call f es ss) fs st = plain_pays (suc n) m l (Call f es ss) fs st (no_async tt) refl
   pays zero m l (Finish b) fs st = plain_pays zero m l (Finish b) fs st (no_async tt) refl
   pays (suc n) m l (Finish b) fs st = plain_pays (suc n) m l (Finish b) fs st (no_async tt) refl
@@ -218,11 +232,25 @@ module _ (fresh : ℕ) (p : Program) (needs : Codes → Needs) (close : State Ow
   again_leaves n l t b fs st =
       let h = flow_left n st.flow l (While t b) fs fs st (1 + costs fs) refl (omega arith) (omega arith) in omega (arith, h)
 
+  further_leaves : (n l s k j q i : ℕ) (b : Codes) (fs : List (Frame Own)) (st : State Own) → Leaves n (Further l s k j q i b) fs st
+  further_leaves n l s k j q i b fs st = by (has_piece (window_at st s) k j)
+    where
+      c : Code
+      c = Begun s k j q i b
+
+      by : (more : Bool)
+          → left fresh n (if◌then◌else◌ {A = Standing Own} more (by_flow p (rules n) st.flow l c fs fs st) (record { frames = fs; state = st }))
+          + begun_left fresh (if◌then◌else◌ {A = List Action} more (done_at needs n st.flow c st) [])
+          < left fresh n (record { frames = Further l s k j q i b ∷ fs; state = st })
+      by true = let h = flow_left n st.flow l c fs fs st (1 + costs fs) refl (omega arith) (omega arith) in omega (arith, h)
+      by false = omega arith
+
   -- quiet turns leave no more; at the end of a finish there is no turn
   turn_no_more : (n : ℕ) (f : Frame Own) (fs : List (Frame Own)) (st : State Own)
       → left fresh n (turn p (rules n) f fs st) ≤ left fresh n (record { frames = f ∷ fs; state = st })
   turn_no_more n (Rest b) fs st = let h = rest_leaves n b fs st in omega (arith, h)
   turn_no_more n (Again l t b) fs st = let h = again_leaves n l t b fs st in omega (arith, h)
+  turn_no_more n (Further l s k j q i b) fs st = let h = further_leaves n l s k j q i b fs st in omega (arith, h)
   turn_no_more n (AtEnd before) fs st = omega arith
   turn_no_more n (Back env) fs st = omega arith
 
@@ -256,6 +284,7 @@ block_same (s ∷ rest) = refl
 frame_same : (g : rFrame) (f : Frame Own) → ShowsFrame g f → cost_of g ≡ cost f
 frame_same (rRest b) f e = block_same b.now ∙ ap cost (sym e)
 frame_same (rAgain l t b) f e = ap cost (sym e)
+frame_same (rTurns t) f e = ap cost (sym e)
 frame_same (rEndFinish o) f (before, e, h) = ap cost (sym e)
 frame_same (rEndCall env) f e = ap cost (sym e)
 
@@ -338,6 +367,9 @@ module _ (needs : Codes → Needs) (old : Run) where
       by_turn t _ _ _ (at (Rest b ∷ fs) st) (rest_leaves fresh (program old.plan.program.now) needs close n b fs st) h
   turn_leaves t (Again l g b ∷ fs) st h =
       by_turn t _ _ _ (at (Again l g b ∷ fs) st) (again_leaves fresh (program old.plan.program.now) needs close n l g b fs st) h
+  turn_leaves t (Further l s k j q i b ∷ fs) st h =
+      by_turn t _ _ _ (at (Further l s k j q i b ∷ fs) st)
+      (further_leaves fresh (program old.plan.program.now) needs close n l s k j q i b fs st) h
   turn_leaves t (Back env ∷ fs) st h = by_turn t _ _ _ (at (Back env ∷ fs) st) (omega arith) h
 
   -- a turn leaves fewer

@@ -1,16 +1,16 @@
 -- A turn keeps the effect of the remaining work.
 use Rattle.std.proofs.Common.{◌≡◌, ℕ, zero, suc, List, ◌∷◌, Ok, Err, refl, sym, ap, ◌∙◌}
-use Rattle.std.specs.Prelude.{Bool, true, false, map, ok_or}
-use Rattle.sections.specs.Place.{sides_of}
-use Rattle.types.specs.declared.fault.FaultKind.TheVariants.{SplitPoint}
-use Rattle.types.specs.Code.{Truth, Code, Do, If, While, Split, Call, Async, Finish, Codes, End, Then, Program}
+use Rattle.std.specs.Prelude.{Bool, true, false, ◌+◌, map, ok_or, if◌then◌else◌}
+use Rattle.sections.specs.Place.{has_piece, sides_of}
+use Rattle.types.specs.declared.fault.FaultKind.TheVariants.{SplitPoint, PieceSize}
+use Rattle.types.specs.Code.{Truth, Code, Do, If, While, Split, Parts, Begun, Call, Async, Finish, Codes, End, Then, Program}
 use Rattle.types.specs.Value.{Valued}
-use Rattle.types.specs.Run.{Flow, On, Faulted, Stopped, State, Rules, Work, Block, Turn, at_flow, go_on, spend}
+use Rattle.types.specs.Run.{Flow, On, Faulted, Stopped, State, Rules, Work, Block, Turn, Pieces, at_flow, go_on, spend}
 use Rattle.types.specs.Run.{with_step, with_value, choose, number_at, numbers_at, truth_at, window_at, entry}
-use Rattle.types.specs.Run.{with_sides, procedure_of, counted, act, block, run}
+use Rattle.types.specs.Run.{with_sides, in_turn, piece_size, procedure_of, counted, act, block, run}
 use Rattle.types.specs.Laws.{IsThrifty}
 use Rattle.types.proofs.Solutions.{solves}
-use Rattle.task_run.specs.Frames.{Frame, Rest, Again, AtEnd, Back, Standing, resume, by_value, chosen, acted, paid}
+use Rattle.task_run.specs.Frames.{Frame, Rest, Again, Further, AtEnd, Back, Standing, resume, by_value, chosen, acted, paid}
 use Rattle.task_run.specs.Frames.{by_flow, turn}
 use Rattle.types.proofs.Counted.{counted_flow}
 
@@ -60,6 +60,12 @@ module _ (p : Program) {X : Type 0} (r : Rules X) (thrifty : IsThrifty r) (enter
       value_keeps l (number_at st e) _ _ fs st (λ v.
       value_keeps l (ok_or (sides_of (window_at st s) v) SplitPoint) _ _ fs st (λ ws.
       on_block b fs (record st { environment = with_sides x y ws st.environment }) on))
+  acted_keeps (Parts s e q i b) l fs st on =
+      value_keeps l (number_at st e) _ _ fs st (λ v.
+      value_keeps l (ok_or (piece_size v) PieceSize) _ _ fs st (λ n.
+      ap (λ f. over fs (at_flow f st (m (Pieces l s n 0 q i b)))) on))
+  acted_keeps (Begun s n k q i b) l fs st on =
+      on_block b (Further l s n (k + 1) q i b ∷ fs) (in_turn s n k q i st) on
   acted_keeps (Call f es ss) l fs st on =
       value_keeps l (numbers_at st es) _ _ fs st (λ vs.
       let inner = record st { environment = entry vs (map (window_at st) ss) } in
@@ -95,5 +101,29 @@ module _ (p : Program) {X : Type 0} (r : Rules X) (thrifty : IsThrifty r) (enter
       (after_block rest (with_step (λ st. act p r m l s (counted r l s st)) st) ∙ sym (solves p r thrifty (Block (Then l s rest)) st)))
   turn_keeps (Again l t b) fs st =
       flow_keeps st.flow l (While t b) fs fs st (m (Turn l t b)) refl (ap (over fs) (sym (solves p r thrifty (Turn l t b) st)))
+  turn_keeps (Further l s n k q i b) fs st = by (has_piece (window_at st s) n k) refl
+    where
+      c : Code
+      c = Begun s n k q i b
+
+      w : Work
+      w = Pieces l s n k q i b
+
+      by_piece : (left : Bool) → has_piece (window_at st s) n k ≡ left
+          → m w st ≡ choose (with_step (λ st. act p r m l c (counted r l c st))) (λ st. st) left st
+      by_piece left e =
+          solves p r thrifty w st
+          ∙ ap (λ b. choose (with_step (λ st. act p r m l c (counted r l c st))) (λ st. st) b st) e
+
+      nothing : has_piece (window_at st s) n k ≡ false → (f : Flow) → at_flow f st (m w) ≡ st
+      nothing e On = by_piece false e
+      nothing e Faulted = refl
+      nothing e Stopped = refl
+
+      by : (left : Bool) → has_piece (window_at st s) n k ≡ left
+          → of (if◌then◌else◌ {A = Standing X} left (by_flow p r st.flow l c fs fs st) (record { frames = fs; state = st }))
+          ≡ over fs (go_on (m w) st)
+      by true e = flow_keeps st.flow l c fs fs st (m w) refl (ap (over fs) (sym (by_piece true e)))
+      by false e = ap (over fs) (sym (nothing e st.flow))
   turn_keeps (AtEnd before) fs st = refl
   turn_keeps (Back env) fs st = refl

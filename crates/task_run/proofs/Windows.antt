@@ -9,15 +9,15 @@ use Rattle.shared_lemmas.proofs.Truths.{false_true}
 use Rattle.sections.specs.Covers.{is_in}
 use Rattle.sections.proofs.Covering.{in_window, is_in-from}
 use Rattle.types.proofs.Bindings.{bind_here}
-use Rattle.sections.specs.Place.{Place, Window, In, nowhere, sides_of}
+use Rattle.sections.specs.Place.{Place, Window, In, nowhere, sides_of, has_piece, piece_at, piece_of}
 use Rattle.sections.specs.Member.{Member, first, next}
 use Rattle.types.specs.declared.fault.FaultKind.{FaultKind}
 use Rattle.types.specs.declared.fault.FaultKind.TheVariants.{SplitPoint}
 use Rattle.types.specs.Value.{Environment, Valued}
-use Rattle.types.specs.Run.{bind, with_sides}
+use Rattle.types.specs.Run.{bind, with_piece, with_sides}
 use Rattle.types.specs.Sound.{passed_for}
 use Rattle.effects.specs.Effects.{past_split}
-use Rattle.race_checker.specs.Scope.{Scope, Top, Inside, InScope, FitsScope, FitsTop}
+use Rattle.race_checker.specs.Scope.{Scope, Top, Inside, AtPiece, InScope, FitsScope, FitsTop}
 use Rattle.task_run.specs.Places.{named}
 use Rattle.race_checker.proofs.Scoping.{bit_inside}
 
@@ -137,6 +137,15 @@ fits_same (Inside s x y around) env new e h = (
         ∙ ap (λ w. Some (new.windows x, w)) (sym (e y (inr (inl refl)))),
   ),
 )
+fits_same (AtPiece s q around) env new e h = (
+  fits_same around env new (λ z i. e z (inr i)) h.0,
+  h.1,
+  (
+    h.2.0,
+    h.2.1,
+    ap (λ w. piece_of w h.2.0 h.2.1) (e s (inr h.1)) ∙ h.2.2 ∙ ap (λ w. Some w) (sym (e q (inl refl))),
+  ),
+)
 
 -- outside of a split's body its sides are out of scope
 pub around_split : (sc : Scope) (x y : ℕ) (ws : Window × Window) (env : Environment) → (InScope sc x → ⊥) → (InScope sc y → ⊥)
@@ -176,3 +185,37 @@ split_agree x y ws f g z h = by_tests (nat_eq x z) (nat_eq y z) refl refl
       | inl m ↦ absurd (eqb-false x z e (sym m))
       | inr n ↦ elim n as (λ _. f z ≡ g z) [ inl m ↦ absurd (eqb-false y z k (sym m)) | inr m ↦ m ]
     ]
+
+-- ---- a turn of a `parts`
+pub piece_cut : (w : Window) (n k : ℕ) → has_piece w n k ≡ true → piece_of w n k ≡ Some (piece_at n k w)
+piece_cut w n k left = ap (λ b. if◌then◌else◌ {A = Option Window} b (Some (piece_at n k w)) None) left
+
+-- in a turn, the sections around have the same windows
+pub around_turn : (sc : Scope) (q i : ℕ) (w : Window) (k : ℕ) (env : Environment) → (InScope sc q → ⊥) → (z : ℕ) → InScope sc z
+    → (with_piece q i w k env).windows z ≡ env.windows z
+around_turn sc q i w k env new z h = bind_other q w env.windows z (λ e. new (subst (InScope sc) e h))
+
+-- what fits outside also fits within a turn
+pub fits_turn : (sc : Scope) (s q i n k : ℕ) (env : Environment) → InScope sc s → (InScope sc q → ⊥)
+    → has_piece (env.windows s) n k ≡ true → FitsScope sc env
+    → FitsScope (AtPiece s q sc) (with_piece q i (piece_at n k (env.windows s)) k env)
+fits_turn sc s q i n k env is nq left h =
+    let w = piece_at n k (env.windows s) in
+    let new = with_piece q i w k env in (
+      fits_same sc env new (around_turn sc q i w k env nq) h,
+      is,
+      (
+        n,
+        k,
+        ap (λ v. piece_of v n k) (around_turn sc q i w k env nq s is) ∙ piece_cut (env.windows s) n k left
+            ∙ ap (λ v. Some v) (sym (bind_here q w env.windows)),
+      ),
+    )
+
+-- two environments that agree on a section agree on it within a turn too, and also on the piece
+pub turn_agree : (q : ℕ) (v w : Window) (f g : ℕ → Window) (z : ℕ) → v ≡ w → (z ≡ q) ⊎ (f z ≡ g z) → bind q v f z ≡ bind q w g z
+turn_agree q v w f g z same h = by_test (nat_eq q z) refl
+  where
+    by_test : (b : Bool) → nat_eq q z ≡ b → (if b then v else f z) ≡ (if b then w else g z)
+    by_test true e = same
+    by_test false e = elim h as (λ _. f z ≡ g z) [ inl m ↦ absurd (eqb-false q z e (sym m)) | inr m ↦ m ]

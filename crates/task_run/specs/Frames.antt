@@ -1,13 +1,13 @@
 -- A task in progress: its frames, the top one first, and its state; and a turn of the top frame.
-use Rattle.std.specs.Prelude.{ℕ, zero, suc, ◌≡◌, List, [], ◌∷◌, ◌++◌, length, map, Bool, true}
-use Rattle.std.specs.Prelude.{false, Some, Ok, Err, ok_or, slice_get}
-use Rattle.sections.specs.Place.{sides_of}
-use Rattle.types.specs.declared.fault.FaultKind.TheVariants.{SplitPoint}
-use Rattle.types.specs.Code.{Truth, Code, Do, If, While, Split, Call, Async, Finish, Codes, End}
+use Rattle.std.specs.Prelude.{ℕ, zero, suc, ◌+◌, ◌≡◌, List, [], ◌∷◌, ◌++◌, length, map, Bool, true}
+use Rattle.std.specs.Prelude.{false, Some, Ok, Err, ok_or, slice_get, if◌then◌else◌}
+use Rattle.sections.specs.Place.{sides_of, has_piece}
+use Rattle.types.specs.declared.fault.FaultKind.TheVariants.{SplitPoint, PieceSize}
+use Rattle.types.specs.Code.{Truth, Code, Do, If, While, Split, Parts, Begun, Call, Async, Finish, Codes, End}
 use Rattle.types.specs.Code.{Then, Program}
 use Rattle.types.specs.Value.{Environment, Valued}
-use Rattle.types.specs.Run.{Flow, On, Faulted, Stopped, State, Rules, Block, Turn, stopped, go_on}
-use Rattle.types.specs.Run.{fault, number_at, numbers_at, truth_at, window_at, entry, with_sides}
+use Rattle.types.specs.Run.{Flow, On, Faulted, Stopped, State, Rules, Block, Turn, Pieces, stopped, go_on}
+use Rattle.types.specs.Run.{fault, number_at, numbers_at, truth_at, window_at, entry, with_sides, in_turn, piece_size}
 use Rattle.types.specs.Run.{procedure_of, primitive, counted, run}
 use Rattle.effects.specs.Needs.{Needs}
 use Rattle.task_run.specs.Results.{TaskResult, Settled}
@@ -22,6 +22,8 @@ pub data Frame (X : Type 0) : Type 0 where
   Rest : Codes → Frame X
   -- the next iteration of a loop
   Again : (label : ℕ) → (guard : Truth) → (body : Codes) → Frame X
+  -- the turns of a `parts` from the one with the number `next` on
+  Further : (label section size next piece turn : ℕ) → (body : Codes) → Frame X
   -- the end of a finish that began at this state
   AtEnd : (before : State X) → Frame X
   -- the end of a call, which restores this environment
@@ -49,6 +51,7 @@ module _ (p : Program) {X : Type 0} (r : Rules X) where
   abbrev pub frame : Frame X → State X → State X
   frame (Rest b) st = go_on (run p r (Block b)) st
   frame (Again l t b) st = go_on (run p r (Turn l t b)) st
+  frame (Further l s n k q i b) st = go_on (run p r (Pieces l s n k q i b)) st
   frame (AtEnd before) st = r.leave before st
   frame (Back env) st = record st { environment = env }
 
@@ -71,6 +74,14 @@ module _ (p : Program) {X : Type 0} (r : Rules X) where
         frames = Rest b ∷ fs;
         state = record st { environment = with_sides x y ws st.environment };
       }) fs st) fs st
+  acted l (Parts s e q i b) fs st =
+      by_value l (number_at st e) (λ v.
+      by_value l (ok_or (piece_size v) PieceSize) (λ n.
+      record { frames = Further l s n 0 q i b ∷ fs; state = st }) fs st) fs st
+  acted l (Begun s n k q i b) fs st = record {
+    frames = Rest b ∷ Further l s n (k + 1) q i b ∷ fs;
+    state = in_turn s n k q i st;
+  }
   acted l (Call f es ss) fs st =
       by_value l (numbers_at st es) (λ vs.
       record {
@@ -97,6 +108,9 @@ module _ (p : Program) {X : Type 0} (r : Rules X) where
   turn (Rest End) fs st = record { frames = fs; state = st }
   turn (Rest (Then l s rest)) fs st = by_flow st.flow l s (Rest rest ∷ fs) fs st
   turn (Again l t b) fs st = by_flow st.flow l (While t b) fs fs st
+  turn (Further l s n k q i b) fs st =
+      if has_piece (window_at st s) n k then by_flow st.flow l (Begun s n k q i b) fs fs st
+      else record { frames = fs; state = st }
   turn (AtEnd before) fs st = record { frames = AtEnd before ∷ fs; state = st }
   turn (Back env) fs st = record { frames = fs; state = record st { environment = env } }
 
@@ -122,6 +136,7 @@ abbrev pub HasBegunBelow : (nest : ℕ) → State Own → List (Frame Own) → T
 HasBegunBelow nest st [] = Unit {0}
 HasBegunBelow nest st (Rest b ∷ fs) = HasBegunBelow nest st fs
 HasBegunBelow nest st (Again l t b ∷ fs) = HasBegunBelow nest st fs
+HasBegunBelow nest st (Further l s n k q i b ∷ fs) = HasBegunBelow nest st fs
 HasBegunBelow nest st (AtEnd before ∷ fs) =
     Each (IsBegun nest st) before.extra.pending × HasBegunBelow nest st fs
 HasBegunBelow nest st (Back env ∷ fs) = HasBegunBelow nest st fs
@@ -158,6 +173,8 @@ done_by needs nest (suc n) (Do s) st = Step ∷ []
 done_by needs nest (suc n) (If t b c) st = Step ∷ []
 done_by needs nest (suc n) (While t b) st = Step ∷ []
 done_by needs nest (suc n) (Split s e x y b) st = Step ∷ []
+done_by needs nest (suc n) (Parts s e q i b) st = Step ∷ []
+done_by needs nest (suc n) (Begun s m k q i b) st = Step ∷ []
 done_by needs nest (suc n) (Call f es ss) st = Step ∷ []
 
 -- the actions of a statement, by the flow
@@ -171,5 +188,7 @@ abbrev pub done_in : (needs : Codes → Needs) → (nest : ℕ) → Frame Own �
 done_in needs nest (Rest End) st = []
 done_in needs nest (Rest (Then l s rest)) st = done_at needs nest st.flow s st
 done_in needs nest (Again l t b) st = done_at needs nest st.flow (While t b) st
+done_in needs nest (Further l s n k q i b) st =
+    if has_piece (window_at st s) n k then done_at needs nest st.flow (Begun s n k q i b) st else []
 done_in needs nest (AtEnd before) st = []
 done_in needs nest (Back env) st = []

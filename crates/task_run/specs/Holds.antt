@@ -4,19 +4,20 @@ use Rattle.std.specs.Prelude.{ℕ, ◌≡◌, ◌⊎◌, List, [], ◌∷◌, ma
 use Rattle.sections.specs.Covers.{has}
 use Rattle.sections.specs.Place.{Window, Place, In}
 use Rattle.sections.specs.Member.{Member}
-use Rattle.types.specs.Code.{Code, While, Codes, End, Then, Program}
+use Rattle.types.specs.Code.{Code, While, Begun, Codes, End, Then, Program}
 use Rattle.types.specs.Contents.{Contents, IsThere}
+use Rattle.types.specs.Sound.{IsText}
 use Rattle.types.specs.Value.{Environment}
 use Rattle.types.specs.Run.{State}
 use Rattle.effects.specs.Accesses.{Access, own_accesses}
 use Rattle.effects.specs.Effects.{Pending, accesses}
-use Rattle.effects.specs.Footprint.{Overwrites}
+use Rattle.effects.specs.Footprint.{Overwrites, TurnsStillWrite}
 use Rattle.effects.specs.Needs.{Needs}
 use Rattle.race_checker.specs.Scope.{Scope, InScope}
 use Rattle.task_run.specs.Places.{Places, empty, written, touched}
 use Rattle.task_run.specs.Ready.{Around, Ready}
 use Rattle.task_run.specs.OwnRun.{Start, Child, Own, back_from}
-use Rattle.task_run.specs.Frames.{Frame, Rest, Again, AtEnd, Back, Standing}
+use Rattle.task_run.specs.Frames.{Frame, Rest, Again, Further, AtEnd, Back, Standing}
 use Rattle.task_run.specs.Lists.{Each}
 use Rattle.task_run.specs.Settling.{Parted}
 
@@ -31,6 +32,14 @@ having sc env c o =
       held = λ q. IsThere (c q);
     }
 
+-- the block of a frame is as in a text: no `parts` has begun in it
+abbrev pub HasText : Frame Own → Type 0
+HasText (Rest b) = IsText b
+HasText (Again l t b) = IsText b
+HasText (Further l s n k q i b) = IsText b
+HasText (AtEnd before) = Unit {0}
+HasText (Back env) = Unit {0}
+
 -- what was there or owned when a finish began is still so, or comes back from a child
 pub record Comes (st before : State Own) : Type 0 where
   pub there : (q : Place) → IsThere (before.store q)
@@ -44,7 +53,8 @@ pub record Comes (st before : State Own) : Type 0 where
 module _ (p : Program) (needs : Codes → Needs) where
   -- what is locked once a block has ended
   abbrev pub locked_after : Environment → (locked : Place → Type 0) → Codes → Place → Type 0
-  locked_after env locked b q = locked q ⊎ Overwrites env (Pending p accesses b) q
+  locked_after env locked b q =
+      locked q ⊎ Overwrites env (Pending p accesses b) q ⊎ TurnsStillWrite p env b q
 
   -- a block that is left: its scope is within `limit`, with the windows of `env`, and it touches
   -- nothing that is locked
@@ -67,14 +77,19 @@ module _ (p : Program) (needs : Codes → Needs) where
       (sc : Scope) × (env : Environment)
       × Remains f limit c o locked (Then l (While t b) End) sc env
       × Stack f (InScope sc) c o (locked_after env locked (Then l (While t b) End)) fs
+  Stack f limit c o locked (Further l s n k q i b ∷ fs) =
+      (sc : Scope) × (env : Environment)
+      × Remains f limit c o locked (Then l (Begun s n k q i b) End) sc env
+      × Stack f (InScope sc) c o (locked_after env locked (Then l (Begun s n k q i b) End)) fs
   Stack f limit c o locked (AtEnd before ∷ fs) =
       Stack f limit before.store before.extra.owned (λ q. ⊥) fs
   Stack f limit c o locked (Back env ∷ fs) = Stack env.windows (λ s. Unit {0}) c o locked fs
 
   -- a task can start
-  abbrev pub MayBegin : Start → Type 0
-  MayBegin s =
-      Stack s.environment.windows (λ s. Unit {0}) s.contents s.owned (λ q. ⊥) (Rest s.body ∷ [])
+  pub record MayBegin (s : Start) : Type 0 where
+    pub stack : Stack s.environment.windows (λ s. Unit {0}) s.contents s.owned (λ q. ⊥)
+        (Rest s.body ∷ [])
+    pub text : IsText s.body
 
   -- a child has all places that come back from it, and can start
   pub record Carries (c : Child) : Type 0 where
@@ -86,6 +101,7 @@ module _ (p : Program) (needs : Codes → Needs) where
   Returns st [] = Unit {0}
   Returns st (Rest b ∷ fs) = Returns st fs
   Returns st (Again l t b ∷ fs) = Returns st fs
+  Returns st (Further l s n k q i b ∷ fs) = Returns st fs
   Returns st (AtEnd before ∷ fs) =
       Comes st before × Each Carries before.extra.pending
       × Parted before.extra.owned (map (λ c. c.listed) before.extra.pending)
@@ -96,6 +112,7 @@ module _ (p : Program) (needs : Codes → Needs) where
   pub record Holds (t : Standing Own) : Type 0 where
     pub stack : Stack t.state.environment.windows (λ s. Unit {0}) t.state.store t.state.extra.owned
         (λ q. ⊥) t.frames
+    pub texts : Each HasText t.frames
     pub carried : Each Carries t.state.extra.pending
     pub parted : Parted t.state.extra.owned (map (λ c. c.listed) t.state.extra.pending)
     pub returns : Returns t.state t.frames

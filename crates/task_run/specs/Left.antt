@@ -5,7 +5,7 @@ use Rattle.types.specs.declared.code.Stmt.{Stmt}
 use Rattle.statement_steps.specs.declared.flow.Flow.{Flow}
 use Rattle.statement_steps.specs.declared.flow.Flow.TheVariants.{On, Faulted, Stopped}
 use Rattle.task_run.specs.declared.frame.TaskFrame.{TaskFrame}
-use Rattle.task_run.specs.declared.frame.TaskFrame.TheVariants.{Rest, Again, EndFinish, EndCall}
+use Rattle.task_run.specs.declared.frame.TaskFrame.TheVariants.{Rest, Again, Turns, EndFinish, EndCall}
 use Rattle.task_run.specs.declared.run.Run.{Run}
 use Rattle.task_run.specs.declared.turn.Paused.{Paused}
 use Rattle.task_run.specs.declared.turn.Turn.{Turn}
@@ -26,6 +26,7 @@ block_cost (s ∷ rest) = 2
 abbrev pub cost : TaskFrame → ℕ
 cost (Rest b) = block_cost b.now
 cost (Again l t b) = 1
+cost (Turns t) = 1
 cost (EndFinish outer) = 8
 cost (EndCall env) = 1
 

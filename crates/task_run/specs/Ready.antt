@@ -4,7 +4,7 @@ use Rattle.types.specs.Code.{Codes, Program}
 use Rattle.types.specs.Contents.{Contents}
 use Rattle.types.specs.Value.{Environment}
 use Rattle.effects.specs.Effects.{All, Pending, accesses}
-use Rattle.effects.specs.Footprint.{Touches, Overwrites}
+use Rattle.effects.specs.Footprint.{Touches, Overwrites, TurnsTouch, TurnsWrite, TurnsStillWrite}
 use Rattle.effects.specs.Needs.{Needs, ProvidesIn}
 use Rattle.race_checker.specs.Scope.{Scope, FitsScope, Scoped}
 use Rattle.race_checker.specs.Calm.{Calm}
@@ -33,3 +33,8 @@ module _ (p : Program) (needs : Codes → Needs) where
     pub wrote : (q : Place) → Overwrites x.env (All p accesses b) q → x.wrote q
     pub kept : (q : Place) → locked q → final q
     pub added : (q : Place) → Overwrites x.env (Pending p accesses b) q → final q
+    -- the same for the turns to come of a begun `parts`
+    pub turns_free : (q : Place) → TurnsTouch p x.env b q → locked q → ⊥
+    pub turns_held : (q : Place) → TurnsTouch p x.env b q → x.held q
+    pub turns_wrote : (q : Place) → TurnsWrite p x.env b q → x.wrote q
+    pub turns_added : (q : Place) → TurnsStillWrite p x.env b q → final q

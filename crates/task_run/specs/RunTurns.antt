@@ -2,7 +2,7 @@
 use Rattle.std.specs.Prelude.{ℕ, ◌≡◌, ◌+◌, ◌<◌, ◌≤◌, ◌⊎◌, ⊤, List, [], ◌∷◌, ◌++◌, Option, ◌||◌, Bool, true}
 use Rattle.std.specs.Prelude.{false}
 use Rattle.sections.specs.Place.{Place}
-use Rattle.types.specs.Code.{Code, Do, If, While, Split, Call, Async, Finish, Codes, Then, Program}
+use Rattle.types.specs.Code.{Code, Do, If, While, Split, Parts, Begun, Call, Async, Finish, Codes, Then, Program}
 use Rattle.types.specs.Contents.{IsThere}
 use Rattle.types.specs.Run.{State, counted}
 use Rattle.types.specs.Translation.{environment, program}
@@ -13,7 +13,7 @@ use Rattle.statement_steps.specs.declared.flow.Flow.TheVariants.{On as rOn}
 use Rattle.task_run.specs.Places.{written, touched}
 use Rattle.task_run.specs.Results.{Settled}
 use Rattle.task_run.specs.OwnRun.{Own, Action, Spawn, EnterFinish, own_rules, result_of, back_from}
-use Rattle.task_run.specs.Frames.{Frame, Rest, Again, AtEnd, Back, Standing, acted, by_flow, turn, done_by}
+use Rattle.task_run.specs.Frames.{Frame, Rest, Again, Further, AtEnd, Back, Standing, acted, by_flow, turn, done_by}
 use Rattle.task_run.specs.Frames.{done_at, done_in}
 use Rattle.task_run.specs.Quiet.{IsLittle, Quietly}
 use Rattle.task_run.specs.Reached.{HasNext}
@@ -86,6 +86,8 @@ module _ (needs : Codes → Needs) (IsAsync : ℕ → Codes → Type 0) where
   CanAct l (If t b c) r = ⊤
   CanAct l (While t b) r = ⊤
   CanAct l (Split s e x y b) r = ⊤
+  CanAct l (Parts s e q i b) r = ⊤
+  CanAct l (Begun s n k q i b) r = ⊤
   CanAct l (Call f es ss) r = ⊤
   CanAct l (Finish b) r = ⊤
 
@@ -114,6 +116,13 @@ module _ (needs : Codes → Needs) where
       (λ st. done_at needs old.thread.nest st.flow c st)
       (λ st. is_next_over old.thread.nest st.flow st.steps c) old done new
 
+  -- the turn of a frame that was taken off
+  abbrev pub DidTurn : Frame Own → (old : Run) → Done → (new : Run) → Type 0
+  DidTurn f old done new =
+      (close : State Own → Option Settled) →
+      Did (turn (program old.plan.program.now) (own_rules needs old.thread.nest close) f)
+      (done_in needs old.thread.nest f) (stops old.thread.nest f) old done new
+
 -- the frames below the top one
 abbrev pub below_top : List (Frame Own) → List (Frame Own)
 below_top [] = []
@@ -124,6 +133,7 @@ abbrev pub taken_off : Going_on
 taken_off [] st = record { frames = []; state = st }
 taken_off (Rest b ∷ fs) st = record { frames = fs; state = st }
 taken_off (Again l t b ∷ fs) st = record { frames = fs; state = st }
+taken_off (Further l s n k q i b ∷ fs) st = record { frames = fs; state = st }
 taken_off (AtEnd before ∷ fs) st = record { frames = fs; state = st }
 taken_off (Back env ∷ fs) st = record { frames = fs; state = record st { environment = env } }
 
@@ -182,6 +192,7 @@ module _ (needs : Codes → Needs) (close : State Own → Option Settled) (old :
   TurnOf (AtEnd before ∷ fs) st = WaitsAs old fs before st
   TurnOf (Rest b ∷ fs) st = GoesFrom (Rest b) fs st
   TurnOf (Again l t b ∷ fs) st = GoesFrom (Again l t b) fs st
+  TurnOf (Further l s n k q i b ∷ fs) st = GoesFrom (Further l s n k q i b) fs st
   TurnOf (Back env ∷ fs) st = GoesFrom (Back env) fs st
 
 -- for each task that the run represents, this is the task's turn

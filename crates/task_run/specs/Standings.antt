@@ -5,12 +5,13 @@ use Rattle.types.specs.Translation.{codes, truth, environment, fault}
 use Rattle.plain_code.specs.Means.{beside}
 use Rattle.statement_steps.specs.Standing.{state_by}
 use Rattle.statement_steps.specs.declared.thread.Thread.{Thread}
+use Rattle.statement_steps.specs.declared.turns.TurnsToCome.{TurnsToCome}
 use Rattle.task_run.specs.OwnRun.{Own}
-use Rattle.task_run.specs.Frames.{Frame, Rest, Again, AtEnd, Back, Standing}
+use Rattle.task_run.specs.Frames.{Frame, Rest, Again, Further, AtEnd, Back, Standing}
 use Rattle.task_run.specs.Translation.{contents_of, owned_by, listed}
 use Rattle.task_run.specs.declared.frame.TaskFrame.{TaskFrame as rFrame}
 use Rattle.task_run.specs.declared.frame.Outer.{Outer}
-use Rattle.task_run.specs.declared.frame.TaskFrame.TheVariants.{Rest as rRest, Again as rAgain}
+use Rattle.task_run.specs.declared.frame.TaskFrame.TheVariants.{Rest as rRest, Again as rAgain, Turns as rTurns}
 use Rattle.task_run.specs.declared.frame.TaskFrame.TheVariants.{EndFinish as rEndFinish, EndCall as rEndCall}
 use Rattle.task_run.specs.declared.memory.TaskMemory.{TaskMemory}
 use Rattle.task_run.specs.declared.run.Run.{Run}
@@ -29,10 +30,15 @@ pub record IsEnd (o : Outer) (before : State Own) : Type 0 where
   pub faults : before.faults ≡ map fault o.faults.items
   pub pending : map (λ c. c.listed) before.extra.pending ≡ map listed o.pending.items
 
+-- the turns of a `parts` that are still to come
+abbrev pub further : TurnsToCome → Frame Own
+further t = Further t.label t.section.number t.size t.next t.piece.number t.turn.number (codes t.body.now)
+
 -- a frame in Rust represents this frame
 abbrev pub ShowsFrame : rFrame → Frame Own → Type 0
 ShowsFrame (rRest b) f = f ≡ Rest (codes b.now)
 ShowsFrame (rAgain l t b) f = f ≡ Again l (truth t.now) (codes b.now)
+ShowsFrame (rTurns t) f = f ≡ further t
 ShowsFrame (rEndFinish o) f = (before : State Own) × (f ≡ AtEnd before) × IsEnd o before
 ShowsFrame (rEndCall env) f = f ≡ Back (environment env)
 

@@ -1,11 +1,12 @@
 -- The conditions under which a task is stopped.
 use Rattle.std.specs.Prelude.{ℕ, zero, suc, List, Bool, true, false, ◌&&◌, ◌||◌}
 use Rattle.std.specs.List.{list_any}
-use Rattle.types.specs.Code.{Code, Do, If, While, Split, Call, Async, Finish, End, Then}
-use Rattle.types.specs.Run.{Flow, On, Faulted, Stopped, State}
+use Rattle.sections.specs.Place.{has_piece}
+use Rattle.types.specs.Code.{Code, Do, If, While, Split, Parts, Begun, Call, Async, Finish, End, Then}
+use Rattle.types.specs.Run.{Flow, On, Faulted, Stopped, State, window_at}
 use Rattle.task_run.specs.Results.{TaskResult}
 use Rattle.task_run.specs.OwnRun.{Own}
-use Rattle.task_run.specs.Frames.{Frame, Rest, Again, AtEnd, Back}
+use Rattle.task_run.specs.Frames.{Frame, Rest, Again, Further, AtEnd, Back}
 
 -- whether a statement is an async
 abbrev pub is_async : Code → Bool
@@ -14,6 +15,8 @@ is_async (Do s) = false
 is_async (If t b c) = false
 is_async (While t b) = false
 is_async (Split s e x y b) = false
+is_async (Parts s e q i b) = false
+is_async (Begun s n k q i b) = false
 is_async (Call f es ss) = false
 is_async (Finish b) = false
 
@@ -38,6 +41,8 @@ abbrev pub stops : (nest : ℕ) → Frame Own → State Own → Bool
 stops nest (Rest End) st = false
 stops nest (Rest (Then l s rest)) st = is_next_over nest st.flow st.steps s
 stops nest (Again l t b) st = is_next_over nest st.flow st.steps (While t b)
+stops nest (Further l s n k q i b) st =
+    has_piece (window_at st s) n k && is_next_over nest st.flow st.steps (Begun s n k q i b)
 stops nest (AtEnd before) st = false
 stops nest (Back env) st = false
 

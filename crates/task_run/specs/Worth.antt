@@ -8,7 +8,7 @@ use Rattle.effects.specs.Rounds.{needs_of}
 use Rattle.task_run.specs.Results.{TaskResult}
 use Rattle.task_run.specs.OwnRun.{Start, Child, Action, Step, Spawn, EnterFinish, Own, result_of}
 use Rattle.task_run.specs.Given.{own, below}
-use Rattle.task_run.specs.Frames.{Frame, Rest, Again, AtEnd, Back, Standing}
+use Rattle.task_run.specs.Frames.{Frame, Rest, Again, Further, AtEnd, Back, Standing}
 
 -- the sum of a measure over results
 abbrev pub measured : (TaskResult → ℕ) → List TaskResult → ℕ
@@ -40,6 +40,7 @@ abbrev pub around : List (Frame Own) → List (List Child)
 around [] = []
 around (Rest b ∷ fs) = around fs
 around (Again l t b ∷ fs) = around fs
+around (Further l s n k q i b ∷ fs) = around fs
 around (AtEnd before ∷ fs) = before.extra.pending ∷ around fs
 around (Back env ∷ fs) = around fs
 

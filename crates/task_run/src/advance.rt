@@ -1,20 +1,23 @@
 //! The turns of a run.
 
-ghost use Rattle.std.specs.Prelude.{◌≡◌, ◌+◌, ◌≤◌, IfOk, IfErr, List, if◌then◌else◌, map};
+ghost use Rattle.std.specs.Prelude.{◌≡◌, ◌+◌, ◌<◌, ◌≤◌, IfOk, IfErr, List, Some, if◌then◌else◌, map};
+ghost use Rattle.sections.specs.Place.{piece_of};
+ghost use Rattle.sections.specs.Translation.{window as window_of};
 ghost use Rattle.types.specs.Code.{Async, Codes, While};
 ghost use Rattle.types.specs.Meaning.{after_finish};
 ghost use Rattle.types.specs.Run.{State, On, Stopped};
 ghost use Rattle.types.specs.Translation.{program as program_of, truth as truth_of, code as code_of};
-ghost use Rattle.types.specs.Translation.{codes as codes_of, fault as fault_of};
+ghost use Rattle.types.specs.Translation.{codes as codes_of, environment as environment_of, fault as fault_of};
 ghost use Rattle.effects.specs.Needs.{Needs};
 ghost use Rattle.holdings.specs.declared.error.HoldError.TheVariants.{OutOfMemory};
 ghost use Rattle.plain_code.specs.Pieces.{IsCodeOfProgram};
 ghost use Rattle.statement_steps.specs.Standing.{flow as flow_of};
+ghost use Rattle.statement_steps.specs.declared.flow.Flow.TheVariants.{On as FlowOn};
 ghost use Rattle.task_run.specs.Apart.{is_stopped as stops_all};
 ghost use Rattle.task_run.specs.Frames.{Frame as Left, handed};
 ghost use Rattle.task_run.specs.OwnRun.{Own, result_of};
 ghost use Rattle.task_run.specs.RunTurns.{ComesBack, Waits, WaitsAs, turn_of};
-ghost use Rattle.task_run.specs.Standings.{IsAt, IsEnd, Shows, state_of, with_own};
+ghost use Rattle.task_run.specs.Standings.{IsAt, IsEnd, Shows, further, state_of, with_own};
 ghost use Rattle.task_run.specs.Translation.{settled as settled_of, task_result};
 ghost use Rattle.task_run.specs.declared.turn.Turn.TheVariants.{EndsFinish};
 
@@ -26,16 +29,18 @@ use crate::run::Run;
 use crate::turn::{Done, Paused, Step, Turn};
 use holdings::error::HoldError;
 use plain_code::pieces::ProgramCode;
+use sections::window::Window;
 use statement_steps::flow::Flow;
 use statement_steps::thread::Thread;
+use statement_steps::turns::TurnsToCome;
 use std::alloc::AllocError;
 use types::child_number::ChildNumber;
 use types::code::{Label, Stmt, StmtKind, Truth};
 use types::fault::Fault;
 
 impl<'p> Run<'p> {
-    ghost use Rattle.task_run.specs.RunTurns.{CanAct, CanTurn, DidAct, DidNext, GoesOn, HasRoom, IsAtEnd};
-    ghost use Rattle.task_run.specs.RunTurns.{IsEnding, IsStep, IsTurn, NextIsOf, StepsUpTo, below_top};
+    ghost use Rattle.task_run.specs.RunTurns.{CanAct, CanTurn, DidAct, DidNext, DidTurn, GoesOn, HasRoom};
+    ghost use Rattle.task_run.specs.RunTurns.{IsAtEnd, IsEnding, IsStep, IsTurn, NextIsOf, StepsUpTo, below_top};
     ghost use Rattle.task_run.specs.declared.run.Run.{Run as AnyRun};
 
     /// Runs on in place up to the first visible turn, and takes this turn. A turn is visible if it
@@ -109,6 +114,12 @@ impl<'p> Run<'p> {
                     let done = self.again(label, guard, body)?;
                     Ok(Step::Did(done))
                 }
+                TaskFrame::Turns(turns) => {
+                    let turns = *turns;
+                    self.frames.pop();
+                    let done = self.next_turn(turns)?;
+                    Ok(Step::Did(done))
+                }
                 TaskFrame::EndFinish(_) => Ok(Step::AtEnd),
                 TaskFrame::EndCall { .. } => {
                     self.take_off()?;
@@ -160,6 +171,37 @@ impl<'p> Run<'p> {
         }
     }
 
+    /// Starts the next turn of a `parts`, if one is left, the flow is on and a step is left.
+    fn next_turn(&mut self, turns: TurnsToCome<'p>) -> Result<Done<'p>, AllocError>
+        ensures { IfOk result (λ d. (needs : Codes → Needs)
+            → DidTurn needs (further turns.entry) self.old d self.new) }
+    {
+        match self.thread.flow {
+            Flow::Faulted | Flow::Stopped => Ok(Done::Gone),
+            Flow::On => match turns.next_piece(&self.thread.environment) {
+                None => Ok(Done::Gone),
+                Some(piece) => self.take_turn(turns, piece),
+            },
+        }
+    }
+
+    /// Starts the next turn of a `parts`, which has this piece, if a step is left.
+    fn take_turn(&mut self, turns: TurnsToCome<'p>, piece: Window) -> Result<Done<'p>, AllocError>
+        requires on { self.old.thread.flow ≡ FlowOn }
+        requires few { turns.next < 4194304 }
+        requires piece { piece_of ((environment_of self.old.thread.environment).windows turns.section.number)
+            turns.size turns.next ≡ Some (window_of piece) }
+        ensures { IfOk result (λ d. (needs : Codes → Needs)
+            → DidTurn needs (further turns.entry) self.old d self.new) }
+    {
+        if self.thread.takes_step() {
+            self.enter_turn(turns, piece)?;
+            Ok(Done::Gone)
+        } else {
+            Ok(Done::Exceeded)
+        }
+    }
+
     /// Runs a statement whose step has been taken.
     fn act<N: Needed>(&mut self, needed: &N, stmt: &'p Stmt) -> Result<Done<'p>, HoldError>
         requires room { HasRoom self.old }
@@ -186,6 +228,10 @@ impl<'p> Run<'p> {
             StmtKind::Split { sides, body } => {
                 let both = (sides.left, sides.right);
                 self.split(label, sides.section, &sides.at, both, body)?;
+                Ok(Done::Gone)
+            }
+            StmtKind::Parts { pieces, body } => {
+                self.begin_turns(label, pieces, body)?;
                 Ok(Done::Gone)
             }
             StmtKind::Call {
@@ -256,8 +302,10 @@ impl<'p> Run<'p> {
                     let (paused, result) = run.pause(outer)?;
                     Ok(Turn::EndsFinish(paused, result))
                 }
-                TaskFrame::Rest(_) | TaskFrame::Again { .. } | TaskFrame::EndCall { .. } =>
-                    unreachable!(),
+                TaskFrame::Rest(_)
+                | TaskFrame::Again { .. }
+                | TaskFrame::Turns(_)
+                | TaskFrame::EndCall { .. } => unreachable!(),
             },
         }
     }

@@ -111,6 +111,7 @@ impl<'p> TaskFrame<'p> {
                 guard: *guard,
                 body: *body,
             }),
+            TaskFrame::Turns(turns) => Ok(TaskFrame::Turns(*turns)),
             TaskFrame::EndFinish(outer) => Ok(TaskFrame::EndFinish(outer.clone(alloc)?)),
             TaskFrame::EndCall { environment } => {
                 let environment = environment.copied(alloc)?;

@@ -1,6 +1,7 @@
 //! The frames of a task: the work that is left.
 
 use crate::result::Listed;
+use statement_steps::turns::TurnsToCome;
 use types::code::{Label, Stmt, Truth};
 use types::fault::Fault;
 use types::value::Environment;
@@ -16,6 +17,8 @@ pub enum TaskFrame<'p> {
         guard: &'p Truth,
         body: &'p [Stmt],
     },
+    /// The turns of a `parts` that are still to come.
+    Turns(TurnsToCome<'p>),
     /// The end of a finish.
     EndFinish(Outer),
     /// The return from a call to the caller's environment.

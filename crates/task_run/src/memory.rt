@@ -92,6 +92,8 @@ impl Arrays for TaskMemory {
     ghost none_lies = { λ p. tt };
 
     ghost sides_lie = { λ p w v ws lies is. (tt, tt) };
+
+    ghost piece_lies = { λ p w v n k lies is. tt };
 }
 
 impl TaskMemory {

@@ -1,11 +1,13 @@
 //! A task between two turns, and the effect of its statements.
 
-ghost use Rattle.std.specs.Prelude.{ℕ, ◌≡◌, ◌+◌, ◌-◌, ◌<◌, ◌++◌, [], ◌∷◌, IfOk, OnOk, map};
-ghost use Rattle.sections.specs.Translation.{section as section_of};
-ghost use Rattle.types.specs.Code.{Call, Finish, If, Split, While};
+ghost use Rattle.std.specs.Prelude.{ℕ, ◌≡◌, ◌+◌, ◌-◌, ◌<◌, ◌++◌, [], ◌∷◌, IfOk, OnOk, Some, map};
+ghost use Rattle.sections.specs.Place.{piece_of};
+ghost use Rattle.sections.specs.Translation.{section as section_of, window as window_of};
+ghost use Rattle.types.specs.Code.{Call, Finish, If, Parts, Split, While};
 ghost use Rattle.types.specs.Run.{procedure_of as numbered};
 ghost use Rattle.types.specs.Translation.{program as program_of, truth as truth_of, number as number_of};
 ghost use Rattle.types.specs.Translation.{codes as codes_of, environment as environment_of};
+ghost use Rattle.statement_steps.specs.Turns.{begun as begun_turns};
 ghost use Rattle.task_run.specs.Reached.{begun};
 ghost use Rattle.task_run.specs.Standings.{IsAt};
 ghost use Rattle.task_run.specs.Translation.{contents_of, owned_by, start as start_of};
@@ -16,11 +18,13 @@ use crate::result::Listed;
 use crate::start::Start;
 use holdings::holdings::Holdings;
 use sections::id::SectionId;
+use sections::window::Window;
 use statement_steps::flow::Flow;
 use statement_steps::thread::{Plan, Thread, room};
+use statement_steps::turns::TurnsToCome;
 use std::alloc::AllocError;
 use types::child_number::ChildNumber;
-use types::code::{Label, Number, Procedure, Stmt, Truth};
+use types::code::{Label, Number, Pieces, Procedure, Stmt, Truth};
 use types::ids::ProcedureId;
 use types::value::Environment;
 
@@ -80,7 +84,10 @@ impl<'p> Run<'p> {
                     self.thread.spare.push(callee)?;
                     Ok(())
                 }
-                TaskFrame::Rest(_) | TaskFrame::Again { .. } | TaskFrame::EndFinish(_) => Ok(()),
+                TaskFrame::Rest(_)
+                | TaskFrame::Again { .. }
+                | TaskFrame::Turns(_)
+                | TaskFrame::EndFinish(_) => Ok(()),
             },
         }
     }
@@ -152,6 +159,44 @@ impl<'p> Run<'p> {
                 Ok(())
             }
         }
+    }
+
+    /// Evaluates the size of the pieces of a `parts`. Its turns are next.
+    pub(crate) fn begin_turns(
+        &mut self,
+        label: Label,
+        pieces: &Pieces,
+        body: &'p [Stmt],
+    ) -> Result<(), AllocError>
+        ensures { OnOk result (Acts label (Parts pieces.now.section.number
+            (number_of pieces.now.size) pieces.now.piece.number pieces.now.turn.number
+            (codes_of body.entry.now)) self.old self.new) }
+    {
+        match self.thread.turns_of(label, pieces, body) {
+            Err(kind) => self.thread.fault(self.plan, label, kind),
+            Ok(turns) => {
+                self.frames.push(TaskFrame::Turns(turns))?;
+                Ok(())
+            }
+        }
+    }
+
+    /// Enters the block of a turn, whose step has been taken, with its piece. The later turns are
+    /// after it.
+    pub(crate) fn enter_turn(
+        &mut self,
+        turns: TurnsToCome<'p>,
+        piece: Window,
+    ) -> Result<(), AllocError>
+        requires few { turns.next < 4194304 }
+        requires piece { piece_of ((environment_of self.old.thread.environment).windows turns.section.number)
+            turns.size turns.next ≡ Some (window_of piece) }
+        ensures { OnOk result (Acts turns.entry.label (begun_turns turns.entry) self.old self.new) }
+    {
+        self.thread.begin_turn(turns, piece)?;
+        self.frames.push(TaskFrame::Turns(turns.after_next()))?;
+        self.frames.push(TaskFrame::Rest(turns.body))?;
+        Ok(())
     }
 
     /// Evaluates the scalar arguments from left to right. Then it enters the body with the windows

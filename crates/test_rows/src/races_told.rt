@@ -27,7 +27,9 @@ pub fn is_explained(alloc: Global, race: &Value, explained: &str) -> Result<bool
             is_way = true;
         }
     }
-    Ok(wanted.next().is_none() && explained.contains(reason.as_str()))
+    let common = common_section(alloc, race)?;
+    let has_reason = explained.contains(reason.as_str()) && explained.contains(common.as_str());
+    Ok(wanted.next().is_none() && has_reason)
 }
 
 /// Returns the expected text of the lines of a race's paths, each after two spaces: the path to the
@@ -50,10 +52,17 @@ fn lines_of(alloc: Global, race: &Value) -> Result<String, AllocError> {
     if text_in(witness, "meeting") == "turns" {
         if let Some(step) = way.first() {
             let label = number_in(step, "label").unwrap_or(0);
-            write!(
-                lines,
-                "  {label} loops while tasks from earlier iterations may still be running\n"
-            )?;
+            if text_in(step, "kind") == "parts" {
+                write!(
+                    lines,
+                    "  {label} continues while tasks from earlier turns may still be running\n"
+                )?;
+            } else {
+                write!(
+                    lines,
+                    "  {label} loops while tasks from earlier iterations may still be running\n"
+                )?;
+            }
         }
     }
     push_way(&mut lines, way)?;
@@ -92,7 +101,7 @@ fn push_step(lines: &mut String, step: &Value, inside: &str) -> Result<(), Alloc
                 "  {label} calls {called}, with {section} as {inside}\n"
             )
         }
-        "split" if inside != section => {
+        "split" | "parts" if inside != section => {
             write!(lines, "  {label} names {inside}, a part of {section}\n")
         }
         _ => Ok(()),
@@ -113,10 +122,22 @@ fn reason_of(alloc: Global, race: &Value) -> Result<String, AllocError> {
         "same" => format!(in alloc; "  Both access the section {first}. "),
         "first_is_part" => format!(in alloc; "  {first} is a part of {second}. "),
         "second_is_part" => format!(in alloc; "  {second} is a part of {first}. "),
-        _ => {
+        _ => { format!(in alloc; "  {first} and {second} come from different ") }
+    }
+}
+
+/// Returns the end of the reason why two sections of which neither is part of the other share places:
+/// it names the section of which both are parts. For other reasons it is empty.
+fn common_section(alloc: Global, race: &Value) -> Result<String, AllocError> {
+    let sharing = race
+        .get("witness")
+        .and_then(|witness| witness.get("sharing"));
+    match sharing {
+        Some(sharing) if text_in(sharing, "kind") == "of_splits" => {
             let common = text_in(sharing, "section");
-            format!(in alloc; "  {first} and {second} come from different splits of {common}, so ")
+            format!(in alloc; " {common}, so they may overlap. ")
         }
+        _ => Ok(String::new(alloc)),
     }
 }
 

@@ -1,15 +1,17 @@
 -- The code of a statement consists of the code of its blocks.
 use Rattle.std.proofs.Common.{◌≡◌, List, [], ◌∷◌, ◌++◌, Vec, Global, refl, ap, ◌∙◌}
 use mathlib.Core.Former.{Count}
-use Rattle.types.specs.Code.{If, While, Split, Async, Finish, Codes, End, Then}
+use Rattle.types.specs.Code.{If, While, Split, Parts, Async, Finish, Codes, End, Then}
 use Rattle.types.specs.Translation.{number, truth, code, row_codes, codes}
+use Rattle.types.specs.declared.code.Pieces.{Pieces}
 use Rattle.types.specs.declared.code.Sides.{Sides}
 use Rattle.types.specs.declared.code.Truth.{Truth}
 use Rattle.types.specs.declared.code.Stmt.{Stmt}
 use Rattle.types.specs.declared.code.StmtKind.{StmtKind, Row_of-Stmt, end_of-Stmt, more_of-Stmt, items-the_row-Stmt}
 use Rattle.types.specs.declared.code.StmtKind.{items_hidden-the_row-Stmt-0}
 use Rattle.types.specs.declared.code.StmtKind.TheVariants.{If as rIf, If' as rIf', While as rWhile, While' as rWhile'}
-use Rattle.types.specs.declared.code.StmtKind.TheVariants.{Split as rSplit, Split' as rSplit', Async as rAsync}
+use Rattle.types.specs.declared.code.StmtKind.TheVariants.{Split as rSplit, Split' as rSplit', Parts as rParts}
+use Rattle.types.specs.declared.code.StmtKind.TheVariants.{Parts' as rParts', Async as rAsync}
 use Rattle.types.specs.declared.code.StmtKind.TheVariants.{Async' as rAsync', Finish as rFinish, Finish' as rFinish'}
 
 row_codes_are : (n : Count) (row : Row_of-Stmt n) → row_codes row ≡ codes (items-the_row-Stmt n row)
@@ -20,6 +22,7 @@ abbrev block_in : StmtKind → (n : Count) × Row_of-Stmt n
 block_in (rIf' _ _ b _ _) = (_, b)
 block_in (rWhile' _ _ b) = (_, b)
 block_in (rSplit' _ _ b) = (_, b)
+block_in (rParts' _ _ b) = (_, b)
 block_in (rAsync' _ b) = (_, b)
 block_in (rFinish' _ b) = (_, b)
 block_in _ = (_, end_of-Stmt)
@@ -42,6 +45,13 @@ pub code_Split : (s : Sides) (v : Vec Stmt Global)
 code_Split s v =
     let b = block_in (rSplit s v) in
     ap (Split s.section.number (number s.at) s.left.number s.right.number) (row_codes_are b.0 b.1 ∙ ap codes (items_hidden-the_row-Stmt-0 v))
+
+pub code_Parts : (x : Pieces) (v : Vec Stmt Global)
+    → code (rParts x v) ≡ Parts x.section.number (number x.size) x.piece.number x.turn.number (codes v.items)
+code_Parts x v =
+    let b = block_in (rParts x v) in
+    ap (Parts x.section.number (number x.size) x.piece.number x.turn.number)
+    (row_codes_are b.0 b.1 ∙ ap codes (items_hidden-the_row-Stmt-0 v))
 
 pub code_If : (t : Truth) (v w : Vec Stmt Global) → code (rIf t v w) ≡ If (truth t) (codes v.items) (codes w.items)
 code_If t v w =

@@ -1,7 +1,7 @@
 -- A property that holds for a state, whether or not its rules were informed of a statement's step,
 -- holds after `counted`.
 use Rattle.std.proofs.Common.{◌≡◌, ℕ, refl}
-use Rattle.types.specs.Code.{Code, Do, If, While, Split, Call, Async, Finish}
+use Rattle.types.specs.Code.{Code, Do, If, While, Split, Parts, Begun, Call, Async, Finish}
 use Rattle.types.specs.Run.{State, Rules, counted}
 
 module _ {X : Type 0} (r : Rules X) (l : ℕ) (st : State X) where
@@ -11,6 +11,8 @@ module _ {X : Type 0} (r : Rules X) (l : ℕ) (st : State X) where
   counted_is P untold told (If t b c) = told
   counted_is P untold told (While t b) = told
   counted_is P untold told (Split s e x y b) = told
+  counted_is P untold told (Parts s e x i b) = told
+  counted_is P untold told (Begun s n k x i b) = told
   counted_is P untold told (Call f es ss) = told
   counted_is P untold told (Async b) = untold
   counted_is P untold told (Finish b) = untold

@@ -1,10 +1,10 @@
 -- Along a text sections and slots are only added.
 use Rattle.std.proofs.Common.{◌≡◌, ℕ, ◌+◌, ◌≤◌, List, [], ◌∷◌, ◌++◌, length, refl, sym, ap, ◌∙◌, arith, append_assoc, append-nil}
 use Rattle.std.proofs.lemmas.List.{length-append}
-use Rattle.syntax_tree.specs.Tree.{Stmt, Skip, Var, Assign, Store, Print, Fault, If, IfElse, While, Split, Call, Async, Finish}
-use Rattle.syntax_tree.specs.Tree.{Block, End, Then}
-use Rattle.sections.specs.Origins.{Origin, Left, Right}
-use Rattle.types.specs.Scope.{Scope, section_of, next, inside_async, with_sides, out_of, behind, after}
+use Rattle.syntax_tree.specs.Tree.{Stmt, Skip, Var, Assign, Store, Print, Fault, If, IfElse, While, Split, Parts, Call, Async}
+use Rattle.syntax_tree.specs.Tree.{Finish, Block, End, Then}
+use Rattle.sections.specs.Origins.{Origin, Left, Right, Piece}
+use Rattle.types.specs.Scope.{Scope, section_of, next, inside_async, with_sides, with_turn, out_of, behind, after}
 
 -- sections and the number of slots, and later ones
 pub record Grows (os : List Origin) (n : ℕ) (qs : List Origin) (m : ℕ) : Type 0 where
@@ -35,6 +35,9 @@ grows_longer os n qs m g =
 grows_sides : (s : ℕ) (l r : List ℕ) (here : Scope) → GrowsTo here (with_sides s l r here)
 grows_sides s l r here = record { more = Left s ∷ Right s ∷ []; sections = refl; slots = omega arith }
 
+grows_turn : (s : ℕ) (x i : List ℕ) (here : Scope) → GrowsTo here (with_turn s x i here)
+grows_turn s x i here = record { more = Piece s ∷ []; sections = refl; slots = omega arith }
+
 mutual
   pub grows_behind : (s : Stmt) (here : Scope) → GrowsTo here (behind s here)
   grows_behind Skip here = grows_none here.sections here.slot here.slot (omega arith)
@@ -51,6 +54,9 @@ mutual
   grows_behind (Split s e l r b) here =
       let inside = with_sides (section_of here.names s) l r (next here) in
       grows_both here inside (after b inside) (grows_sides (section_of here.names s) l r (next here)) (grows_after b inside)
+  grows_behind (Parts s e x i b) here =
+      let inside = with_turn (section_of here.names s) x i (next here) in
+      grows_both here inside (after b inside) (grows_turn (section_of here.names s) x i (next here)) (grows_after b inside)
   grows_behind (Call f es) here = grows_none here.sections here.slot here.slot (omega arith)
   grows_behind (Async b) here = grows_after b (inside_async (next here))
   grows_behind (Finish b) here = grows_after b (next here)

@@ -1,15 +1,15 @@
 -- A run keeps what each of its operations keeps.
 use Rattle.std.proofs.Common.{ℕ, zero, suc, ◌+◌, Option, Some, Ok, Err, refl}
 use Rattle.std.specs.Prelude.{ℤ, Bool, true, false, map, ok_or, if◌then◌else◌}
-use Rattle.sections.specs.Place.{Place, sides_of, same_place}
+use Rattle.sections.specs.Place.{Place, sides_of, same_place, has_piece}
 use Rattle.types.specs.declared.fault.FaultKind.{FaultKind}
-use Rattle.types.specs.declared.fault.FaultKind.TheVariants.{SplitPoint, Raised}
-use Rattle.types.specs.Code.{Primitive, Skip, Assign, Store, Print, Raise, Code, Do, If, While, Split, Call, Async}
-use Rattle.types.specs.Code.{Finish, Codes, End, Then, Program}
+use Rattle.types.specs.declared.fault.FaultKind.TheVariants.{SplitPoint, PieceSize, Raised}
+use Rattle.types.specs.Code.{Primitive, Skip, Assign, Store, Print, Raise, Code, Do, If, While, Split, Parts, Begun}
+use Rattle.types.specs.Code.{Call, Async, Finish, Codes, End, Then, Program}
 use Rattle.types.specs.Contents.{IsThere}
 use Rattle.types.specs.Value.{Valued, element_of, holds_number}
-use Rattle.types.specs.Run.{Flow, On, Faulted, Stopped, State, Work, Block, Turn, Rules, stopped, at_flow, go_on, spend}
-use Rattle.types.specs.Run.{with_step, fault, with_value, assign, print, put, choose, number_at, numbers_at, truth_at}
+use Rattle.types.specs.Run.{Flow, On, Faulted, Stopped, State, Work, Block, Turn, Pieces, Rules, stopped, at_flow, go_on}
+use Rattle.types.specs.Run.{spend, in_turn, piece_size, with_step, fault, with_value, assign, print, put, choose, number_at, numbers_at, truth_at}
 use Rattle.types.specs.Run.{window_at, entry, with_sides, array_of, procedure_of, primitive, counted, act, block, work}
 use Rattle.types.specs.Run.{within, run}
 use Rattle.types.specs.Laws.{IsKept, Keeps}
@@ -69,6 +69,8 @@ module _ (p : Program) {X : Type 0} (r : Rules X) (R : State X → State X → T
   counted_keeps l (If t b c) st = kept.stepped l st
   counted_keeps l (While t b) st = kept.stepped l st
   counted_keeps l (Split s e x y b) st = kept.stepped l st
+  counted_keeps l (Parts s e x i b) st = kept.stepped l st
+  counted_keeps l (Begun s n k x i b) st = kept.stepped l st
   counted_keeps l (Call f es ss) st = kept.stepped l st
   counted_keeps l (Async b) st = stays st
   counted_keeps l (Finish b) st = stays st
@@ -92,6 +94,14 @@ module _ (p : Program) {X : Type 0} (r : Rules X) (R : State X → State X → T
           value_keeps l (number_at st e) _ st (λ v. value_keeps l (ok_or (sides_of (window_at st s) v) SplitPoint) _ st (λ ws.
           let inner = record st { environment = with_sides x y ws st.environment } in
           kept.further st inner (block p r d b inner) (kept.idle st inner refl refl refl (λ q h. h)) (block_keeps b inner)))
+      act_keeps (Parts s e x i b) l st =
+          value_keeps l (number_at st e) _ st (λ v. value_keeps l (ok_or (piece_size v) PieceSize) _ st (λ n.
+          h (Pieces l s n 0 x i b) st))
+      act_keeps (Begun s n k x i b) l st =
+          let inner = in_turn s n k x i st in
+          kept.further st inner (go_on (d (Pieces l s n (k + 1) x i b)) (block p r d b inner))
+          (kept.idle st inner refl refl refl (λ q h. h))
+          (then_keeps (block p r d b) (d (Pieces l s n (k + 1) x i b)) inner (block_keeps b inner) (h (Pieces l s n (k + 1) x i b)))
       act_keeps (Call f es ss) l st =
           value_keeps l (numbers_at st es) _ st (λ vs.
           let inner = record st { environment = entry vs (map (window_at st) ss) } in
@@ -110,6 +120,10 @@ module _ (p : Program) {X : Type 0} (r : Rules X) (R : State X → State X → T
     work_keeps : (w : Work) → Kept (work p r d w)
     work_keeps (Block b) st = block_keeps b st
     work_keeps (Turn l t b) st = step_keeps l (While t b) (act_keeps (While t b) l) st
+    work_keeps (Pieces l s n k x i b) st =
+        let c = Begun s n k x i b in
+        choose_keeps (has_piece (window_at st s) n k) (with_step (λ st. act p r d l c (counted r l c st))) (λ st. st) st
+        (step_keeps l c (act_keeps c l) st) (stays st)
 
   within_keeps : (k : ℕ) (w : Work) → Kept (within p r k w)
   within_keeps zero w st = kept.idle st (stopped st) refl refl refl (λ q h. h)

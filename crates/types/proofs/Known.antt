@@ -8,17 +8,17 @@ use Rattle.std.proofs.lemmas.List.{length-append, get_or-append-add}
 use Rattle.std.specs.Prelude.{nat_eq, slice_index_or}
 use Rattle.std.specs.Cmp.Lexicographic.{pointwise}
 use Rattle.sections.specs.Member.{Member, first, next as further}
-use Rattle.sections.specs.Origins.{Origin, Left, Right, origin_of, IsNumbered, IsSideOf, left, right}
+use Rattle.sections.specs.Origins.{Origin, Left, Right, Piece, origin_of, IsNumbered, IsChildOf, left, right, piece}
 use Rattle.sections.specs.Overlap.{root_of}
 use Rattle.sections.proofs.Lines.{root_of-side}
-use Rattle.sections.proofs.Numbered.{continued, sides_continue}
-use Rattle.syntax_tree.specs.Tree.{Stmt, Skip, Var, Assign, Store, Print, Fault, If, IfElse, While, Split, Call, Async, Finish}
-use Rattle.syntax_tree.specs.Tree.{Block, End, Then, Procedure as Declared}
+use Rattle.sections.proofs.Numbered.{continued, sides_continue, piece_continues}
+use Rattle.syntax_tree.specs.Tree.{Stmt, Skip, Var, Assign, Store, Print, Fault, If, IfElse, While, Split, Parts, Call, Async}
+use Rattle.syntax_tree.specs.Tree.{Finish, Block, End, Then, Procedure as Declared}
 use Rattle.types.specs.Code.{Parameter}
 use Rattle.types.specs.NameErrors.{naming_section}
 use Rattle.types.specs.Rules.{limit, own_errors, errors_in, errors}
 use Rattle.types.specs.Scope.{Meant, ASection, AScalar, Names, meant, section_or_0, section_of, Scope, no_section, next}
-use Rattle.types.specs.Scope.{inside_async, with_sides, out_of, behind, after}
+use Rattle.types.specs.Scope.{inside_async, with_sides, with_turn, out_of, behind, after}
 use Rattle.types.specs.Sound.{parameter_at}
 use Rattle.types.proofs.Growth.{GrowsTo, grows_both, grows_longer, grows_behind, grows_after}
 use Rattle.types.proofs.Prefixes.{root-prefix}
@@ -39,7 +39,7 @@ module _ (ps : List Parameter) (os : List Origin) (ks : List Parameter) (known :
   numbered : IsNumbered (os ++ Left s ∷ Right s ∷ [])
   numbered = continued os (Left s ∷ Right s ∷ []) known.numbered (sides_continue (length os) s there)
 
-  kind_of_side : (a : ℕ) → IsSideOf (os ++ Left s ∷ Right s ∷ []) s a
+  kind_of_side : (a : ℕ) → IsChildOf (os ++ Left s ∷ Right s ∷ []) s a
       → slice_index_or (ks ++ kind ∷ kind ∷ []) a no_section ≡ kind
       → slice_index_or (ks ++ kind ∷ kind ∷ []) a no_section ≡ parameter_at ps (root_of (os ++ Left s ∷ Right s ∷ []) a)
   kind_of_side a side is =
@@ -85,6 +85,52 @@ module _ (ps : List Parameter) (os : List Origin) (ks : List Parameter) (known :
         let kinds = length-append ks (kind ∷ kind ∷ []) in
         omega arith;
     kind = kind_at;
+  }
+
+-- the piece of a `parts` has the kind of the section that is cut
+module _ (ps : List Parameter) (os : List Origin) (ks : List Parameter) (known : HasKinds ps os ks) (s : ℕ) (there : s < length os) where
+  abbrev kind_cut : Parameter
+  kind_cut = slice_index_or ks s no_section
+
+  still_numbered : IsNumbered (os ++ Piece s ∷ [])
+  still_numbered = continued os (Piece s ∷ []) known.numbered (piece_continues (length os) s there)
+
+  kind_of_piece : (a : ℕ) → a ≡ length os
+      → slice_index_or (ks ++ kind_cut ∷ []) a no_section ≡ parameter_at ps (root_of (os ++ Piece s ∷ []) a)
+  kind_of_piece a at =
+      let count = known.count in
+      let same : a ≡ length ks + 0 = omega arith in
+      let last : a ≡ length os + 0 = omega arith in
+      let child : IsChildOf (os ++ Piece s ∷ []) s a =
+      piece (ap (origin_of (os ++ Piece s ∷ [])) last ∙ get_or-append-add os (Piece s ∷ []) 0 _) in
+      ap (λ n. slice_index_or (ks ++ kind_cut ∷ []) n no_section) same
+      ∙ get_or-append-add ks (kind_cut ∷ []) 0 no_section
+      ∙ known.kind s there
+      ∙ ap (parameter_at ps) (sym (root-prefix os (Piece s ∷ []) known.numbered s there))
+      ∙ ap (parameter_at ps) (sym (root_of-side (os ++ Piece s ∷ []) still_numbered a s child))
+
+  kind_of_each : (a : ℕ) → a < length (os ++ Piece s ∷ [])
+      → slice_index_or (ks ++ kind_cut ∷ []) a no_section ≡ parameter_at ps (root_of (os ++ Piece s ∷ []) a)
+  kind_of_each a h =
+      let count = known.count in
+      let all : length (os ++ Piece s ∷ []) ≡ length os + 1 = length-append os (Piece s ∷ []) in
+      elim (cases_lt a (length os)) [
+        | inl k ↦
+            (let inside : a < length ks = omega arith in
+            get_or-append ks (kind_cut ∷ []) no_section a inside ∙ known.kind a k
+            ∙ ap (parameter_at ps) (sym (root-prefix os (Piece s ∷ []) known.numbered a k)))
+        | inr k ↦ kind_of_piece a (omega arith)
+      ]
+
+  pub kinds_of_piece : HasKinds ps (os ++ Piece s ∷ []) (ks ++ kind_cut ∷ [])
+  kinds_of_piece = record {
+    numbered = still_numbered;
+    count =
+        let count = known.count in
+        let more = length-append os (Piece s ∷ []) in
+        let kinds = length-append ks (kind_cut ∷ []) in
+        omega arith;
+    kind = kind_of_each;
   }
 
 -- the names at a position mean sections of the scope and slots that exist
@@ -148,6 +194,27 @@ known_sides ps scope here s l r there known =
       kinds = kinds_of_sides ps here.sections here.kinds known.kinds s (known.below s there);
     }
 
+below_piece : (scope : List ℕ) (n s : ℕ) → ((t : ℕ) → Member t scope → t < n) → Member s (n ∷ scope) → s < n + 1
+below_piece scope n s h first = omega arith
+below_piece scope n s h (further m) = let lt : s < n = h s m in omega arith
+
+known_turn : (ps : List Parameter) (scope : List ℕ) (here : Scope) (s : ℕ) (x i : List ℕ) → Member s scope
+    → KnownAt ps scope here → KnownAt ps (length here.sections ∷ scope) (with_turn s x i here)
+known_turn ps scope here s x i there known =
+    let n = length here.sections in
+    let m = here.slot in
+    record {
+      sections = λ y t h. side_or_later (pointwise nat_eq y x) n t (meant y ((i, AScalar m) ∷ here.names)) scope
+          (λ k. known.sections y t (section_or_later (pointwise nat_eq y i) m t (meant y here.names) k)) h;
+      scalars = λ y k h. scalar_or_later (pointwise nat_eq y i) m k (meant y here.names) (known.scalars y k)
+          (past_section (pointwise nat_eq y x) n k (meant y ((i, AScalar m) ∷ here.names)) h);
+      below = λ t q.
+          (let lt : t < n + 1 = below_piece scope n t known.below q in
+          let all = length-append here.sections (Piece s ∷ []) in
+          omega arith);
+      kinds = kinds_of_piece ps here.sections here.kinds known.kinds s (known.below s there);
+    }
+
 -- after a block
 known_out : (ps : List Parameter) (scope : List ℕ) (here there : Scope) → KnownAt ps scope here → GrowsTo here there
     → HasKinds ps there.sections there.kinds → KnownAt ps scope (out_of here there)
@@ -172,6 +239,13 @@ module _ (ps : List Parameter) (fs : List Declared) where
   pub split_is_there : (here : Scope) (scope : List ℕ) → KnownAt ps scope here → (s l r : List ℕ) (e : _) (b : Block)
       → own_errors fs here (Split s e l r b) ≡ [] → Member (section_of here.names s) scope
   split_is_there here scope known s l r e b none =
+      named_is_there here.label scope (meant s here.names) (known.sections s)
+      (none_left (naming_section here.label (meant s here.names)) _ none)
+
+  -- and so is the section that is cut
+  pub cut_is_there : (here : Scope) (scope : List ℕ) → KnownAt ps scope here → (s x i : List ℕ) (e : _) (b : Block)
+      → own_errors fs here (Parts s e x i b) ≡ [] → Member (section_of here.names s) scope
+  cut_is_there here scope known s x i e b none =
       named_is_there here.label scope (meant s here.names) (known.sections s)
       (none_left (naming_section here.label (meant s here.names)) _ none)
 
@@ -207,6 +281,14 @@ module _ (ps : List Parameter) (fs : List Declared) where
         (known_after b inside (length here.sections ∷ (length here.sections + 1) ∷ scope)
         (known_sides ps scope (next here) n l r there known)
         (none_right (own_errors fs here (Split s e l r b)) _ none)).kinds
+    known_behind (Parts s e x i b) here scope known none =
+        let n = section_of here.names s in
+        let inside = with_turn n x i (next here) in
+        let own = none_left (own_errors fs here (Parts s e x i b)) _ none in
+        let there = cut_is_there here scope known s x i e b own in
+        known_out ps scope here (after b inside) known (grows_behind (Parts s e x i b) here)
+        (known_after b inside (length here.sections ∷ scope) (known_turn ps scope (next here) n x i there known)
+        (none_right (own_errors fs here (Parts s e x i b)) _ none)).kinds
     known_behind (Call f es) here scope known none = known
     known_behind (Async b) here scope known none =
         known_out ps scope here (after b (inside_async (next here))) known (grows_after b (inside_async (next here)))
@@ -230,3 +312,10 @@ module _ (ps : List Parameter) (fs : List Declared) where
       → KnownAt ps (length here.sections ∷ (length here.sections + 1) ∷ scope) (with_sides (section_of here.names s) l r (next here))
   known_in_split here scope known s l r e b none =
       known_sides ps scope (next here) (section_of here.names s) l r (split_is_there here scope known s l r e b none) known
+
+  -- and in the block of a `parts`
+  pub known_in_turn : (here : Scope) (scope : List ℕ) → KnownAt ps scope here → (s x i : List ℕ) (e : _) (b : Block)
+      → own_errors fs here (Parts s e x i b) ≡ []
+      → KnownAt ps (length here.sections ∷ scope) (with_turn (section_of here.names s) x i (next here))
+  known_in_turn here scope known s x i e b none =
+      known_turn ps scope (next here) (section_of here.names s) x i (cut_is_there here scope known s x i e b none) known

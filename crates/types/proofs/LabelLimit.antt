@@ -2,10 +2,10 @@
 use Rattle.std.proofs.Common.{◌≡◌, ℕ, ◌≤◌, Bool, true, false, List, [], ◌∷◌, ◌++◌, refl, arith, if◌then◌else◌}
 use Rattle.std.specs.Prelude.{nat_lt}
 use Rattle.std.proofs.lemmas.Bool.Decides.{nat_tests}
-use Rattle.syntax_tree.specs.Tree.{Stmt, Skip, Var, Assign, Store, Print, Fault, If, IfElse, While, Split, Call, Async, Finish}
-use Rattle.syntax_tree.specs.Tree.{Block, End, Then, Procedure}
+use Rattle.syntax_tree.specs.Tree.{Stmt, Skip, Var, Assign, Store, Print, Fault, If, IfElse, While, Split, Parts, Call, Async}
+use Rattle.syntax_tree.specs.Tree.{Finish, Block, End, Then, Procedure}
 use Rattle.types.specs.Rules.{limit, own_errors, inner_errors, errors}
-use Rattle.types.specs.Scope.{Scope, section_of, next, inside_async, with_sides, out_of, behind, after}
+use Rattle.types.specs.Scope.{Scope, section_of, next, inside_async, with_sides, with_turn, out_of, behind, after}
 use Rattle.types.specs.declared.error.TypeError.{TypeError}
 use Rattle.types.specs.declared.error.TypeError.TheVariants.{OverLimit}
 
@@ -40,6 +40,7 @@ module _ (fs : List Procedure) where
         (none_right (errors fs (next here) b) (errors fs there c) none)
     label_behind (While e b) here h none = label_after b (next here) (omega arith) none
     label_behind (Split s e l r b) here h none = label_after b (with_sides (section_of here.names s) l r (next here)) (omega arith) none
+    label_behind (Parts s e x i b) here h none = label_after b (with_turn (section_of here.names s) x i (next here)) (omega arith) none
     label_behind (Call f es) here h none = omega arith
     label_behind (Async b) here h none = label_after b (inside_async (next here)) (omega arith) none
     label_behind (Finish b) here h none = label_after b (next here) (omega arith) none

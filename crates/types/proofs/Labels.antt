@@ -4,13 +4,13 @@ use Rattle.std.proofs.Common.{refl, sym, ap, ◌∙◌, subst, arith}
 use Rattle.std.proofs.lemmas.Option.{none-some, same_Some}
 use Rattle.std.proofs.lemmas.List.{length-append}
 use Rattle.std.specs.List.{range_with_len}
-use Rattle.syntax_tree.specs.Tree.{Stmt, Skip, Var, Assign, Store, Print, Fault, If, IfElse, While, Split, Call, Async}
+use Rattle.syntax_tree.specs.Tree.{Stmt, Skip, Var, Assign, Store, Print, Fault, If, IfElse, While, Split, Parts, Call, Async}
 use Rattle.syntax_tree.specs.Tree.{Finish, Block, End, Then, Expr, Parameter, Procedure, Main, Program}
 use Rattle.types.proofs.Scopes.{label_with_parameters, label_with_arrays}
 use Rattle.types.specs.Code as resolved
 use Rattle.types.specs.Labels.{labels_inside, labels_of, labels_of_procedures, labels_of_program}
 use Rattle.types.specs.Resolution.{call, code, codes, label_behind, label_behind_all, procedure_of, procedures, with_main, resolution}
-use Rattle.types.specs.Scope.{Names, Scope, section_of, next, inside_async, with_sides, out_of, behind, after}
+use Rattle.types.specs.Scope.{Names, Scope, section_of, next, inside_async, with_sides, with_turn, out_of, behind, after}
 use Rattle.types.specs.Scope.{empty_scope, in_procedure, in_main}
 
 -- m numbers and the next n are m + n numbers
@@ -78,6 +78,7 @@ module _ (all : List Procedure) where
         (joined _ _ _ (labels_of (codes all (next here) b)) (labels_of (codes all there c)) (counts_codes b (next here)) (counts_codes c there))
     counts_code (While e b) here = first _ _ _ (counts_codes b (next here))
     counts_code (Split x e l r b) here = first _ _ _ (counts_codes b (with_sides (section_of here.names x) l r (next here)))
+    counts_code (Parts s e x i b) here = first _ _ _ (counts_codes b (with_turn (section_of here.names s) x i (next here)))
     counts_code (Call f es) here =
         subst (λ ls. Counts here.label (here.label + 1) (here.label ∷ ls))
         (sym (nothing_in_call here.names (procedure_of 0 f all) es)) (alone here.label)

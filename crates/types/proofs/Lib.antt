@@ -1,6 +1,7 @@
 pub mod Programs
 pub mod Examples
 pub mod TreeExamples
+pub mod PartsExamples
 pub mod Counted
 pub mod Solutions
 pub mod Views
@@ -31,5 +32,6 @@ pub mod ExpressionsFollow
 pub mod CallsFollow
 pub mod StatementsFollow
 pub mod NumbersFrom
+pub mod Texts
 pub mod ProgramsSound
 pub mod Bindings

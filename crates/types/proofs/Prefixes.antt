@@ -3,17 +3,19 @@ use Rattle.std.proofs.Common.{◌≡◌, ℕ, zero, suc, ◌+◌, ◌<◌, ◌�
 use Rattle.std.specs.Prelude.{Bool, ◌&&◌, ◌||◌, not, nat_eq}
 use Rattle.std.specs.List.{list_any}
 use Rattle.sections.specs.Member.{Member, first, next}
-use Rattle.sections.specs.Origins.{Origin, Root, Left, Right, origin_of, IsNumbered}
+use Rattle.sections.specs.Origins.{Origin, Root, Left, Right, Piece, origin_of, IsNumbered}
 use Rattle.sections.specs.Overlap.{beyond, one_parent, line_within, line, root_within, root_of, are_sides, are_opposite}
 use Rattle.sections.specs.Overlap.{under_opposite, overlap}
 use Rattle.sections.proofs.Numbered.{origin-prefix}
 use Rattle.sections.proofs.Lines.{line-below}
 
 beyond-same : {A : Type 0} (d : A) (f g : ℕ → A) (o : Origin) (n : ℕ) → ((s : ℕ) → o ≡ Left s → s < n)
-    → ((s : ℕ) → o ≡ Right s → s < n) → ((s : ℕ) → s < n → f s ≡ g s) → beyond d f o ≡ beyond d g o
-beyond-same d f g Root n l r h = refl
-beyond-same d f g (Left s) n l r h = h s (l s refl)
-beyond-same d f g (Right s) n l r h = h s (r s refl)
+    → ((s : ℕ) → o ≡ Right s → s < n) → ((s : ℕ) → o ≡ Piece s → s < n) → ((s : ℕ) → s < n → f s ≡ g s)
+    → beyond d f o ≡ beyond d g o
+beyond-same d f g Root n l r p h = refl
+beyond-same d f g (Left s) n l r p h = h s (l s refl)
+beyond-same d f g (Right s) n l r p h = h s (r s refl)
+beyond-same d f g (Piece s) n l r p h = h s (p s refl)
 
 any-same : (f g : ℕ → Bool) (xs : List ℕ) → ((x : ℕ) → Member x xs → f x ≡ g x) → list_any f xs ≡ list_any g xs
 any-same f g [] h = refl
@@ -26,14 +28,14 @@ module _ (os ps : List Origin) (numbered : IsNumbered os) where
   root_within-prefix (suc n) a h =
       ap (beyond a (root_within (os ++ ps) n)) (origin-prefix os ps a h)
       ∙ beyond-same a (root_within (os ++ ps) n) (root_within os n) (origin_of os a) a (numbered.left a) (numbered.right a)
-      (λ s k. root_within-prefix n s (let below : s < a = k in omega arith))
+      (numbered.piece a) (λ s k. root_within-prefix n s (let below : s < a = k in omega arith))
 
   line_within-prefix : (n a : ℕ) → a < length os → line_within (os ++ ps) n a ≡ line_within os n a
   line_within-prefix zero a h = refl
   line_within-prefix (suc n) a h =
       ap (λ o. a ∷ beyond [] (line_within (os ++ ps) n) o) (origin-prefix os ps a h)
       ∙ ap (λ l. a ∷ l) (beyond-same [] (line_within (os ++ ps) n) (line_within os n) (origin_of os a) a (numbered.left a)
-      (numbered.right a) (λ s k. line_within-prefix n s (let below : s < a = k in omega arith)))
+      (numbered.right a) (numbered.piece a) (λ s k. line_within-prefix n s (let below : s < a = k in omega arith)))
 
   pub root-prefix : (a : ℕ) → a < length os → root_of (os ++ ps) a ≡ root_of os a
   root-prefix a h = root_within-prefix a a h

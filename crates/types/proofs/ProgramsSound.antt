@@ -6,7 +6,7 @@ use Rattle.std.proofs.lemmas.List.{length-append, length-replicate}
 use Rattle.std.proofs.lemmas.Option.{none-some, same_Some}
 use Rattle.std.specs.Prelude.{nat_eq, slice_get, slice_index_or}
 use Rattle.std.specs.Cmp.Lexicographic.{pointwise}
-use Rattle.sections.specs.Origins.{Origin, Root, Left, Right, origin_of, IsNumbered}
+use Rattle.sections.specs.Origins.{Origin, Root, Left, Right, Piece, origin_of, IsNumbered}
 use Rattle.sections.proofs.Lines.{root_of-root}
 use Rattle.syntax_tree.specs.Tree.{Block, Array as DeclaredArray, Parameter as Declared, Written, Read, Scalar}
 use Rattle.syntax_tree.specs.Tree.{Procedure as DeclaredProcedure, Main, Program as Text}
@@ -27,6 +27,7 @@ use Rattle.types.proofs.Growth.{grows_none, grows_after}
 use Rattle.types.proofs.Known.{KnownAt, known_after, past_section, section_or_later}
 use Rattle.types.proofs.LabelLimit.{none_left, none_right, label_after}
 use Rattle.types.proofs.StatementsFollow.{follows}
+use Rattle.types.proofs.Texts.{codes_text}
 
 -- ---- where a procedure starts
 -- its sections are its parameters, and only these are in scope
@@ -89,6 +90,7 @@ pub numbered_roots : (os : List Origin) → ((a : ℕ) → origin_of os a ≡ Ro
 numbered_roots os h = record {
   left = λ a s e. absurd (no_left (origin_of os a) s (h a) e);
   right = λ a s e. absurd (no_right (origin_of os a) s (h a) e);
+  piece = λ a s e. absurd (no_piece (origin_of os a) s (h a) e);
   right_behind = λ a s e. absurd (no_left (origin_of os a) s (h a) e);
   left_before = λ a s e. absurd (no_right (origin_of os a) s (h a) e);
 }
@@ -98,6 +100,9 @@ numbered_roots os h = record {
 
     no_right : (o : Origin) (s : ℕ) → o ≡ Root → o ≡ Right s → ⊥
     no_right o s e f = cc
+
+    no_piece : (o : Origin) (s : ℕ) → o ≡ Root → o ≡ Piece s → ⊥
+    no_piece o s e f = cc
 
 default_root : (n a : ℕ) → origin_of (replicate n Root) a ≡ Root
 default_root zero a = refl
@@ -143,6 +148,7 @@ module _ (all : List DeclaredProcedure) (p : Program)
         numbered = (known_after here.kinds all b here (numbers_from 0 (length here.kinds)) known none).kinds.numbered;
         body = follows p g all callable b here (numbers_from 0 (length here.kinds)) known none
             (grows_none (after b here).sections (after b here).slot (after b here).slot (omega arith));
+        text = codes_text all here b;
       }
 
   missing_sound : IsSoundIn p no_procedure
@@ -151,6 +157,7 @@ module _ (all : List DeclaredProcedure) (p : Program)
     scalars = omega arith;
     numbered = numbered_roots [] (λ a. refl);
     body = tt;
+    text = tt;
   }
 
   procedures_sound : (label : ℕ) (fs : List DeclaredProcedure) → procedures_errors all label fs ≡ []

@@ -4,12 +4,12 @@ use Rattle.std.proofs.Common.{refl, sym, ap, ◌∙◌, arith, if◌then◌else�
 use Rattle.std.specs.Prelude.{nat_eq}
 use Rattle.std.specs.Cmp.Lexicographic.{pointwise}
 use Rattle.std.proofs.lemmas.List.{length-append}
-use Rattle.sections.specs.Origins.{Root, Left, Right}
-use Rattle.syntax_tree.specs.Tree.{Stmt, Skip, Var, Assign, Store, Print, Fault, If, IfElse, While, Split, Call, Async, Finish}
-use Rattle.syntax_tree.specs.Tree.{Block, End, Then, Parameter as Declared, Written, Read, Scalar, Array}
+use Rattle.sections.specs.Origins.{Root, Left, Right, Piece}
+use Rattle.syntax_tree.specs.Tree.{Stmt, Skip, Var, Assign, Store, Print, Fault, If, IfElse, While, Split, Parts, Call, Async}
+use Rattle.syntax_tree.specs.Tree.{Finish, Block, End, Then, Parameter as Declared, Written, Read, Scalar, Array}
 use Rattle.types.specs.Code.{Parameter}
 use Rattle.types.specs.Scope.{Meant, ASection, AScalar, Names, meant, section_of, Scope, kind_of, with_scalar, with_root}
-use Rattle.types.specs.Scope.{with_sides, next, inside_async, out_of, behind, after, with_parameter, with_parameters, with_array}
+use Rattle.types.specs.Scope.{with_sides, with_turn, next, inside_async, out_of, behind, after, with_parameter, with_parameters, with_array}
 use Rattle.types.specs.Scope.{with_arrays, empty_scope}
 use Rattle.types.specs.Resolving.{left, IsWellScoped}
 use Rattle.std.proofs.lemmas.List.{drop_at}
@@ -44,6 +44,7 @@ grown_behind (If e b) here = grown_none here.names
 grown_behind (IfElse e b c) here = grown_none here.names
 grown_behind (While e b) here = grown_none here.names
 grown_behind (Split s e l r b) here = grown_none here.names
+grown_behind (Parts s e x i b) here = grown_none here.names
 grown_behind (Call f es) here = grown_none here.names
 grown_behind (Async b) here = grown_none here.names
 grown_behind (Finish b) here = grown_none here.names
@@ -90,6 +91,13 @@ left_sides here s l r b = left_is_out here (with_sides s l r (next here)) b (rec
   is = refl;
 })
 
+pub left_turn : (here : Scope) (s : ℕ) (x i : List ℕ) (b : Block)
+    → left (length here.names) here.outside (after b (with_turn s x i (next here))) ≡ out_of here (after b (with_turn s x i (next here)))
+left_turn here s x i b = left_is_out here (with_turn s x i (next here)) b (record {
+  more = (x, ASection (length here.sections)) ∷ (i, AScalar here.slot) ∷ [];
+  is = refl;
+})
+
 -- ---- what is known about a scope
 abbrev IsKnown : Names → ℕ → Type 0
 IsKnown ns n = (x : List ℕ) (s : ℕ) → meant x ns ≡ Some (ASection s) → s < n
@@ -132,6 +140,19 @@ scoped_sides s l r here w =
       slots = w.slots;
     }
 
+pub scoped_turn : (s : ℕ) (x i : List ℕ) (here : Scope) → IsWellScoped here → IsWellScoped (with_turn s x i (next here))
+scoped_turn s x i here w =
+    let n = length here.sections in
+    let m = length (here.sections ++ Piece s ∷ []) in
+    let count : m ≡ n + 1 = omega (arith, length-append here.sections (Piece s ∷ [])) in
+    record {
+      known = known_one x (ASection n) ((i, AScalar here.slot) ∷ here.names) m (λ k h. let e : n ≡ k = cc in omega arith)
+          (known_one i (AScalar here.slot) here.names m (λ k h. absurd (cc))
+          (known_later here.names n m (omega arith) w.known));
+      kinds = let k : length here.kinds ≡ n = w.kinds in omega (arith, length-append here.kinds (kind_of here s ∷ []));
+      slots = let h : here.slot ≤ 16 + here.label = w.slots in omega arith;
+    }
+
 -- sections are never removed
 mutual
   more_behind : (s : Stmt) (here : Scope) → length here.sections ≤ length (behind s here).sections
@@ -151,6 +172,10 @@ mutual
       let n = section_of here.names s in
       let inner = more_after b (with_sides n l r (next here)) in
       omega (arith, length-append here.sections (Left n ∷ Right n ∷ []))
+  more_behind (Parts s e x i b) here =
+      let n = section_of here.names s in
+      let inner = more_after b (with_turn n x i (next here)) in
+      omega (arith, length-append here.sections (Piece n ∷ []))
   more_behind (Call f es) here = omega arith
   more_behind (Async b) here = more_after b (inside_async (next here))
   more_behind (Finish b) here = more_after b (next here)
@@ -195,6 +220,12 @@ mutual
       let inner = more_after b inside in
       scoped_out here (after b inside) w (scoped_after b inside (scoped_sides n l r (next here) (scoped_next here w)))
       (omega (arith, length-append here.sections (Left n ∷ Right n ∷ [])))
+  scoped_behind (Parts s e x i b) here w =
+      let n = section_of here.names s in
+      let inside = with_turn n x i (next here) in
+      let inner = more_after b inside in
+      scoped_out here (after b inside) w (scoped_after b inside (scoped_turn n x i here w))
+      (omega (arith, length-append here.sections (Piece n ∷ [])))
   scoped_behind (Call f es) here w = scoped_next here w
   scoped_behind (Async b) here w =
       let inside = inside_async (next here) in

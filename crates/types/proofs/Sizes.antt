@@ -1,7 +1,7 @@
 -- The size of a statement, so the recursion into it terminates.
 use Rattle.std.proofs.Common.{ℕ, ◌+◌}
-use Rattle.syntax_tree.specs.Tree.{Stmt, Skip, Var, Assign, Store, Print, Fault, If, IfElse, While, Split, Call, Async, Finish}
-use Rattle.syntax_tree.specs.Tree.{Block, End, Then}
+use Rattle.syntax_tree.specs.Tree.{Stmt, Skip, Var, Assign, Store, Print, Fault, If, IfElse, While, Split, Parts, Call, Async}
+use Rattle.syntax_tree.specs.Tree.{Finish, Block, End, Then}
 
 abbrev mutual
   pub size_in : Stmt → ℕ
@@ -15,6 +15,7 @@ abbrev mutual
   size_in (IfElse e b c) = 1 + size b + size c
   size_in (While e b) = 1 + size b
   size_in (Split s e l r b) = 1 + size b
+  size_in (Parts s e x i b) = 1 + size b
   size_in (Call f es) = 0
   size_in (Async b) = 1 + size b
   size_in (Finish b) = 1 + size b

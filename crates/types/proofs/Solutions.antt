@@ -1,12 +1,13 @@
 -- A run solves its equation, and no other function does.
 use Rattle.std.proofs.Common.{◌≡◌, ℕ, zero, suc, ◌+◌, ◌<◌, ◌≤◌, Ok, Err, refl, sym, ap, ◌∙◌, arith, le_refl}
 use Rattle.std.specs.Prelude.{ℤ, Bool, true, false, map, ok_or}
-use Rattle.types.specs.declared.fault.FaultKind.TheVariants.{SplitPoint}
-use Rattle.types.specs.Code.{Primitive, Skip, Assign, Store, Print, Raise, Code, Do, If, While, Split, Call, Async}
-use Rattle.types.specs.Code.{Finish, Codes, End, Then, Program}
-use Rattle.sections.specs.Place.{Place, sides_of}
+use Rattle.types.specs.declared.fault.FaultKind.TheVariants.{SplitPoint, PieceSize}
+use Rattle.types.specs.Code.{Primitive, Skip, Assign, Store, Print, Raise, Code, Do, If, While, Split, Parts, Begun}
+use Rattle.types.specs.Code.{Call, Async, Finish, Codes, End, Then, Program}
+use Rattle.sections.specs.Place.{Place, sides_of, has_piece}
 use Rattle.types.specs.Value.{Valued, element_of, holds_number, then_try}
-use Rattle.types.specs.Run.{Flow, On, Faulted, Stopped, State, Work, Block, Turn, at_flow, go_on, spend, with_step}
+use Rattle.types.specs.Run.{Flow, On, Faulted, Stopped, State, Work, Block, Turn, Pieces, at_flow, go_on, spend}
+use Rattle.types.specs.Run.{with_step, in_turn, piece_size}
 use Rattle.types.specs.Run.{with_value, number_at, numbers_at, truth_at, window_at, assign, print, put, choose, entry}
 use Rattle.types.specs.Run.{with_sides, array_of, procedure_of, Rules, primitive, counted, act, block, work, within}
 use Rattle.types.specs.Run.{run}
@@ -113,6 +114,10 @@ module _ (p : Program) {X : Type 0} (r : Rules X) (thrifty : IsThrifty r) where
       act_less (Split s e x y b) l st =
           value_less l (number_at st e) _ st (λ v. value_less l (ok_or (sides_of (window_at st s) v) SplitPoint) _ st (λ ws.
           block_less b (record st { environment = with_sides x y ws st.environment })))
+      act_less (Parts s e x i b) l st =
+          value_less l (number_at st e) _ st (λ v. value_less l (ok_or (piece_size v) PieceSize) _ st (λ n. h (Pieces l s n 0 x i b) st))
+      act_less (Begun s n k x i b) l st =
+          again_less (block p r d b) (d (Pieces l s n (k + 1) x i b)) (block_less b) (h (Pieces l s n (k + 1) x i b)) (in_turn s n k x i st)
       act_less (Call f es ss) l st =
           value_less l (numbers_at st es) _ st
           (λ vs. h (Block (procedure_of p f).body) (record st { environment = entry vs (map (window_at st) ss) }))
@@ -134,6 +139,11 @@ module _ (p : Program) {X : Type 0} (r : Rules X) (thrifty : IsThrifty r) where
     work_less (Turn l t b) st =
         spend_less st.steps st (λ st. act p r d l (While t b) (counted r l (While t b) st)) refl
         (counted_act_less p r d l (While t b) (act_less (While t b) l))
+    work_less (Pieces l s n k x i b) st =
+        let c = Begun s n k x i b in
+        choose_less (has_piece (window_at st s) n k) (with_step (λ st. act p r d l c (counted r l c st))) (λ st. st)
+        (λ st. spend_less st.steps st (λ st. act p r d l c (counted r l c st)) refl (counted_act_less p r d l c (act_less c l)))
+        (λ st. le_refl st.steps) st
 
   within_less : (k : ℕ) → LessIn (within p r k)
   within_less zero w st = le_refl st.steps
@@ -166,6 +176,15 @@ module _ (p : Program) {X : Type 0} (r : Rules X) (thrifty : IsThrifty r) where
       act_agree (Split s x left right b) l st lt =
           value_agree l (number_at st x) _ _ st (λ v. value_agree l (ok_or (sides_of (window_at st s) v) SplitPoint) _ _ st (λ ws.
           block_agree b (record st { environment = with_sides left right ws st.environment }) (omega (arith, lt))))
+      act_agree (Parts s y x i b) l st lt =
+          value_agree l (number_at st y) _ _ st (λ v. value_agree l (ok_or (piece_size v) PieceSize) _ _ st (λ n.
+          agree (Pieces l s n 0 x i b) st lt))
+      act_agree (Begun s n k x i b) l st lt =
+          let inner = in_turn s n k x i st in
+          let out = block p r d b inner in
+          let fewer : out.steps ≤ st.steps = block_less d less b inner in
+          then_agree out (block p r e b inner) (d (Pieces l s n (k + 1) x i b)) (e (Pieces l s n (k + 1) x i b))
+          (block_agree b inner (omega (arith, lt))) (agree (Pieces l s n (k + 1) x i b) out (omega (arith, fewer, lt)))
       act_agree (Call f es ss) l st lt =
           value_agree l (numbers_at st es) _ _ st (λ vs.
           ap {A = State X} (λ out. record out { environment = st.environment })
@@ -185,6 +204,11 @@ module _ (p : Program) {X : Type 0} (r : Rules X) (thrifty : IsThrifty r) where
     work_agree : (w : Work) (st : State X) → st.steps ≤ m → work p r d w st ≡ work p r e w st
     work_agree (Block b) st le = block_agree b st le
     work_agree (Turn l t b) st le = step_agree p r m d e l (While t b) (act_agree (While t b) l) st le
+    work_agree (Pieces l s n k x i b) st le =
+        let c = Begun s n k x i b in
+        choose_agree (has_piece (window_at st s) n k) (with_step (λ st. act p r d l c (counted r l c st)))
+        (with_step (λ st. act p r e l c (counted r l c st))) (λ st. st) st (λ st. st)
+        (step_agree p r m d e l c (act_agree c l) st le) refl
 
   enough : (j k : ℕ) (w : Work) (st : State X) → st.steps < j → st.steps < k → within p r j w st ≡ within p r k w st
   enough zero k w st a b = absurd (omega (arith, a))

@@ -1,8 +1,8 @@
 -- What a statement resolves to, by what its parts resolve to; and an error of a part is an error of
 -- the statement.
 use Rattle.std.proofs.Common.{◌≡◌, ℕ, ◌+◌, List, [], ◌∷◌, ◌++◌, map, length, Vec, Global, Some, refl, sym, ap, ◌∙◌, subst}
-use Rattle.syntax_tree.specs.Tree.{Stmt, Skip, Var, Assign, Store, Print, Fault, If, IfElse, While, Split, Call, Async, Finish}
-use Rattle.syntax_tree.specs.Tree.{Expr, Block, Procedure}
+use Rattle.syntax_tree.specs.Tree.{Stmt, Skip, Var, Assign, Store, Print, Fault, If, IfElse, While, Split, Parts, Call, Async}
+use Rattle.syntax_tree.specs.Tree.{Finish, Expr, Block, Procedure}
 use Rattle.std.proofs.Common.{String}
 use Rattle.std.specs.String.{string_bytes}
 use Rattle.syntax_tree.specs.Tree as tree
@@ -11,10 +11,12 @@ use Rattle.syntax_tree.specs.declared.tree.Stmt.TheVariants.{Skip as tree_Skip, 
 use Rattle.syntax_tree.specs.declared.tree.Stmt.TheVariants.{Print as tree_Print, Fault as tree_Fault, Call as tree_Call}
 use Rattle.types.specs.Code as code
 use Rattle.types.specs.declared.code.Primitive.TheVariants.{Skip as rSkip}
+use Rattle.types.specs.declared.code.Pieces.{Pieces}
 use Rattle.types.specs.declared.code.Sides.{Sides}
 use Rattle.types.specs.declared.code.Stmt.{Stmt as rStmt}
 use Rattle.types.specs.declared.code.StmtKind.{StmtKind}
-use Rattle.types.specs.declared.code.StmtKind.TheVariants.{Do as rDo, If as rIf, While as rWhile, Split as rSplit, Async as rAsync, Finish as rFinish}
+use Rattle.types.specs.declared.code.StmtKind.TheVariants.{Do as rDo, If as rIf, While as rWhile, Split as rSplit, Parts as rParts}
+use Rattle.types.specs.declared.code.StmtKind.TheVariants.{Async as rAsync, Finish as rFinish}
 use Rattle.types.specs.declared.code.Truth.{Truth}
 use Rattle.types.specs.declared.error.TypeError.{TypeError}
 use Rattle.types.specs.NameErrors.{declaring, naming_section}
@@ -22,11 +24,11 @@ use Rattle.types.specs.ExpressionErrors.{number as number_errors, truth as truth
 use Rattle.types.specs.Resolution as resolution
 use Rattle.types.specs.Resolving.{left, Resolves}
 use Rattle.types.specs.Rules.{errors}
-use Rattle.types.specs.Scope.{Scope, ASection, meant, section_of, section_or_0, next, inside_async, with_sides}
-use Rattle.types.specs.Scope.{out_of, behind, after}
+use Rattle.types.specs.Scope.{Scope, ASection, AScalar, meant, section_of, section_or_0, next, inside_async, with_sides}
+use Rattle.types.specs.Scope.{with_turn, out_of, behind, after}
 use Rattle.types.specs.Translation.{number, truth, codes}
-use Rattle.types.proofs.Blocks.{code_If, code_While, code_Split, code_Async, code_Finish}
-use Rattle.types.proofs.Scopes.{left_next, left_else, left_async, left_sides}
+use Rattle.types.proofs.Blocks.{code_If, code_While, code_Split, code_Parts, code_Async, code_Finish}
+use Rattle.types.proofs.Scopes.{left_next, left_else, left_async, left_sides, left_turn}
 use Rattle.types.proofs.Telling.{none_both}
 
 module _ (fs : List Procedure) (here there : Scope) where
@@ -130,6 +132,30 @@ module _ (fs : List Procedure) (here there : Scope) where
             ∙ ap (code.Split s.section.number (number s.at) s.left.number s.right.number) i.code
             ∙ sym (code_Split s v);
         place = out_by from there b n k m (left_sides here (section_of here.names x) l r b) i.place;
+      }
+
+  pub resolves_Parts : (s : List ℕ) (e : Expr) (x i : List ℕ) (b : Block) (p : Pieces) (v : Vec rStmt Global)
+      (mid : Scope) (n k : ℕ) → Marks n k → mid ≡ with_turn p.section.number x i (next here)
+      → naming_section here.label (meant s here.names) ≡ [] → meant s here.names ≡ Some (ASection p.section.number)
+      → number_errors here.label here.names e ≡ [] → resolution.number here.names e ≡ number p.size
+      → declaring (Some here.label) (meant i here.names)
+      ++ declaring (Some here.label) (meant x ((i, AScalar here.slot) ∷ here.names)) ≡ []
+      → p.piece.number ≡ length here.sections → p.turn.number ≡ here.slot
+      → Inside mid b v n k there → Resolves fs here (Parts s e x i b) (rParts p v) there
+  resolves_Parts s e x i b p v mid n k m is named known right_size same declared x_is i_is inside =
+      let section : section_of here.names s ≡ p.section.number = ap section_or_0 known in
+      let from = with_turn (section_of here.names s) x i (next here) in
+      let j = moved_inside mid from b v n k there (is ∙ ap (λ z. with_turn z x i (next here)) (sym section)) inside in
+      let body = resolution.codes fs from b in
+      record {
+        right = none_both _ _ (none_both _ _ named (none_both _ _ right_size declared)) j.right;
+        kind = ap (λ z. code.Parts z (resolution.number here.names e) (length here.sections) here.slot body) section
+            ∙ ap (λ z. code.Parts p.section.number z (length here.sections) here.slot body) same
+            ∙ ap (λ z. code.Parts p.section.number (number p.size) z here.slot body) (sym x_is)
+            ∙ ap (λ z. code.Parts p.section.number (number p.size) p.piece.number z body) (sym i_is)
+            ∙ ap (code.Parts p.section.number (number p.size) p.piece.number p.turn.number) j.code
+            ∙ sym (code_Parts p v);
+        place = out_by from there b n k m (left_turn here (section_of here.names s) x i b) j.place;
       }
 
   -- ---- statements of one step

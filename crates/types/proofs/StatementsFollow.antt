@@ -3,9 +3,9 @@ use Rattle.std.proofs.Common.{◌≡◌, ℕ, ◌+◌, ◌<◌, ◌≤◌, List,
 use Rattle.std.proofs.Math.ListN.{get_or-append}
 use Rattle.std.proofs.lemmas.List.{length-append, get_or-append-add}
 use Rattle.sections.specs.Member.{Member}
-use Rattle.sections.specs.Origins.{Root, Left, Right, origin_of}
-use Rattle.syntax_tree.specs.Tree.{Stmt, Skip, Var, Assign, Store, Print, Fault, If, IfElse, While, Split, Call, Async, Finish}
-use Rattle.syntax_tree.specs.Tree.{Block, End, Then, Procedure as DeclaredProcedure, Parameter as Declared}
+use Rattle.sections.specs.Origins.{Root, Left, Right, Piece, origin_of}
+use Rattle.syntax_tree.specs.Tree.{Stmt, Skip, Var, Assign, Store, Print, Fault, If, IfElse, While, Split, Parts, Call, Async}
+use Rattle.syntax_tree.specs.Tree.{Finish, Block, End, Then, Procedure as DeclaredProcedure, Parameter as Declared}
 use Rattle.types.specs.Code.{Procedure, Program}
 use Rattle.types.specs.ExpressionErrors as errors
 use Rattle.types.specs.NameErrors.{naming_section, naming_written, naming_assigned}
@@ -13,12 +13,12 @@ use Rattle.types.specs.Resolution.{code, codes, procedure_of}
 use Rattle.types.specs.Rules.{limit, own_errors, errors_in}
 use Rattle.types.specs.Rules as rules
 use Rattle.types.specs.Scope.{Meant, ASection, AScalar, meant, section_or_0, slot_or_0, section_of, Scope, next}
-use Rattle.types.specs.Scope.{kind_of, inside_async, with_sides, out_of, behind, after}
-use Rattle.types.specs.Sound.{SplitsWell, Follows, FollowsOf}
+use Rattle.types.specs.Scope.{kind_of, inside_async, with_sides, with_turn, out_of, behind, after}
+use Rattle.types.specs.Sound.{SplitsWell, CutsWell, Follows, FollowsOf}
 use Rattle.types.proofs.CallsFollow.{Callable, kind_is, knows, call_follows}
 use Rattle.types.proofs.ExpressionsFollow.{number_follows, truth_follows, numbers_follow}
 use Rattle.types.proofs.Growth.{Grows, grows_both, grows_behind, grows_after}
-use Rattle.types.proofs.Known.{KnownAt, known_behind, known_in_split, split_is_there}
+use Rattle.types.proofs.Known.{KnownAt, known_behind, known_in_split, known_in_turn, split_is_there, cut_is_there}
 use Rattle.types.proofs.Telling.{none_both}
 use Rattle.types.proofs.LabelLimit.{none_left, none_right}
 use Rattle.types.proofs.Refused.{refused, test_passed}
@@ -95,6 +95,26 @@ module _ (p : Program) (g : Procedure) (fs : List DeclaredProcedure)
         later = known.below;
       }
 
+  cut_is : (here : Scope) (scope : List ℕ) (known : KnownAt g.parameters scope here) (s x i : List ℕ) (e : _) (b : Block)
+      → Within (with_turn (section_of here.names s) x i (next here)) → own_errors fs here (Parts s e x i b) ≡ []
+      → CutsWell g scope (section_of here.names s) (length here.sections) here.slot
+  cut_is here scope known s x i e b w none =
+      let n = section_of here.names s in
+      let os = here.sections in
+      let all : length (os ++ Piece n ∷ []) ≡ length os + 1 = length-append os (Piece n ∷ []) in
+      let same : length os ≡ length os + 0 = omega arith in
+      let slots : here.slot + 1 ≤ g.slots = w.slots in
+      record {
+        in_scope = cut_is_there g.parameters fs here scope known s x i e b none;
+        piece =
+            ap (λ qs. origin_of qs (length os)) w.sections
+            ∙ get_or-append (os ++ Piece n ∷ []) w.more Root (length os) (omega arith)
+            ∙ ap (origin_of (os ++ Piece n ∷ [])) same
+            ∙ get_or-append-add os (Piece n ∷ []) 0 Root;
+        later = known.below;
+        slot = omega arith;
+      }
+
   -- the first of two blocks, as if it were the only one
   no_errors_if : (here : Scope) (e : _) (b : Block) → errors.truth here.label here.names e ≡ []
       → rules.errors fs (next here) b ≡ []
@@ -157,6 +177,16 @@ module _ (p : Program) (g : Procedure) (fs : List DeclaredProcedure)
           follows b inside (length here.sections ∷ (length here.sections + 1) ∷ scope)
               (known_in_split g.parameters fs here scope known s l r e b own)
               (none_right (own_errors fs here (Split s e l r b)) _ none) w,
+        )
+    follows_of (Parts s e x i b) here scope known none w =
+        let inside = with_turn (section_of here.names s) x i (next here) in
+        let own = none_left (own_errors fs here (Parts s e x i b)) _ none in
+        let named = naming_section here.label (meant s here.names) in (
+          cut_is here scope known s x i e b (before_block b inside w) own,
+          number_follows g scope here.label here.names (knows g scope here known (before (Parts s e x i b) here w)) e
+              (none_left (errors.number here.label here.names e) _ (none_right named _ own)),
+          follows b inside (length here.sections ∷ scope) (known_in_turn g.parameters fs here scope known s x i e b own)
+              (none_right (own_errors fs here (Parts s e x i b)) _ none) w,
         )
     follows_of (Call f es) here scope known none w =
         call_follows g scope here known w here.label p fs (procedure_of 0 f fs) es (callable f)

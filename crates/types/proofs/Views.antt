@@ -1,15 +1,15 @@
 -- Two runs in parallel: if each state of the second is a view of a state of the first, the second
 -- follows the first.
-use Rattle.std.proofs.Common.{◌≡◌, ℕ, zero, suc, List, [], ◌∷◌, ◌++◌, Ok, Err, refl, sym, ap, ◌∙◌, inl, inr, append_assoc}
+use Rattle.std.proofs.Common.{◌≡◌, ℕ, zero, suc, ◌+◌, List, [], ◌∷◌, ◌++◌, Ok, Err, refl, sym, ap, ◌∙◌, inl, inr, append_assoc}
 use Rattle.std.specs.Prelude.{ℤ, ◌⊎◌, Bool, true, false, map, ok_or}
 use Rattle.types.specs.declared.fault.FaultKind.{FaultKind}
-use Rattle.types.specs.declared.fault.FaultKind.TheVariants.{SplitPoint, Raised}
-use Rattle.types.specs.Code.{Primitive, Skip, Assign, Store, Print, Raise, Code, Do, If, While, Split, Call, Async}
-use Rattle.types.specs.Code.{Finish, Codes, End, Then, Program}
-use Rattle.sections.specs.Place.{Place, sides_of}
+use Rattle.types.specs.declared.fault.FaultKind.TheVariants.{SplitPoint, PieceSize, Raised}
+use Rattle.types.specs.Code.{Primitive, Skip, Assign, Store, Print, Raise, Code, Do, If, While, Split, Parts, Begun}
+use Rattle.types.specs.Code.{Call, Async, Finish, Codes, End, Then, Program}
+use Rattle.sections.specs.Place.{Place, sides_of, has_piece}
 use Rattle.types.specs.Value.{Environment, Valued, element_of, holds_number}
-use Rattle.types.specs.Run.{Flow, On, Faulted, Stopped, Fault, State, Work, Block, Turn, stopped, at_flow, go_on, spend, with_step}
-use Rattle.types.specs.Run.{fault, with_value, number_at, numbers_at, truth_at, window_at, assign, print, put, choose}
+use Rattle.types.specs.Run.{Flow, On, Faulted, Stopped, Fault, State, Work, Block, Turn, Pieces, stopped, at_flow, go_on}
+use Rattle.types.specs.Run.{spend, with_step, in_turn, piece_size, fault, with_value, number_at, numbers_at, truth_at, window_at, assign, print, put, choose}
 use Rattle.types.specs.Run.{in_environment, entry, with_sides, array_of, procedure_of, Rules, primitive, counted}
 use Rattle.types.specs.Run.{act, block, work, within}
 
@@ -191,6 +191,13 @@ module _ (p : Program) {I X Y : Type 0} (r : Rules X) (s : Rules Y) (v : View I 
           value_follows i l (number_at st n) _ _ st (λ k.
           value_follows i l (ok_or (sides_of (window_at st sec) k) SplitPoint) _ _ st (λ ws.
           block_follows b i (record st { environment = with_sides x y ws st.environment })))
+      act_follows (Parts sec n x y b) l i st =
+          value_follows i l (number_at st n) _ _ st (λ k.
+          value_follows i l (ok_or (piece_size k) PieceSize) _ _ st (λ m. deeper (Pieces l sec m 0 x y b) i st))
+      act_follows (Begun sec n k x y b) l i st =
+          let inner = in_turn sec n k x y st in
+          after_follows i (block p r d b) (d (Pieces l sec n (k + 1) x y b)) (block p s e b) (e (Pieces l sec n (k + 1) x y b))
+          inner (block_follows b i inner) (deeper (Pieces l sec n (k + 1) x y b))
       act_follows (Call f es ss) l i st =
           value_follows i l (numbers_at st es) _ _ st (λ vs.
           environment_follows (entry vs (map (window_at st) ss)) (d (Block (procedure_of p f).body))
@@ -209,6 +216,10 @@ module _ (p : Program) {I X Y : Type 0} (r : Rules X) (s : Rules Y) (v : View I 
     pub work_follows : (w : Work) → Follows v Lost (work p r d w) (work p s e w)
     work_follows (Block b) i st = block_follows b i st
     work_follows (Turn l t b) i st = step_follows d e l (While t b) (act_follows (While t b) l) i st
+    work_follows (Pieces l sec n k x y b) i st =
+        let c = Begun sec n k x y b in
+        choose_follows i (has_piece (window_at st sec) n k) (with_step (λ st. act p r d l c (counted r l c st))) (λ st. st)
+        (with_step (λ st. act p s e l c (counted s l c st))) (λ st. st) st (step_follows d e l c (act_follows c l) i st) (inr refl)
 
   pub within_follows : (k : ℕ) (w : Work) → Follows v Lost (within p r k w) (within p s k w)
   within_follows zero w i st = inr refl

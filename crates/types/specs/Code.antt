@@ -53,6 +53,10 @@ mutual
     If : (guard : Truth) → (body other : Codes) → Code
     While : (guard : Truth) → (body : Codes) → Code
     Split : (section : ℕ) → (at : Number) → (left right : ℕ) → (body : Codes) → Code
+    Parts : (section : ℕ) → (size : Number) → (piece turn : ℕ) → (body : Codes) → Code
+    -- a `parts` that has begun: its turns from the one with the number `next` on, each with at most
+    -- `size` places; it is in no text, and it remains only as long as a turn is left
+    Begun : (section : ℕ) → (size next : ℕ) → (piece turn : ℕ) → (body : Codes) → Code
     Call : (procedure : ℕ) → (values : List Number) → (sections : List ℕ) → Code
     Async : (body : Codes) → Code
     Finish : (body : Codes) → Code

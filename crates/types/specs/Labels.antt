@@ -1,6 +1,6 @@
 -- The labels of a program's code.
 use Rattle.std.specs.Prelude.{ℕ, List, [], ◌∷◌, ◌++◌}
-use Rattle.types.specs.Code.{Code, Do, If, While, Split, Call, Async, Finish, Codes, End, Then}
+use Rattle.types.specs.Code.{Code, Do, If, While, Split, Parts, Begun, Call, Async, Finish, Codes, End, Then}
 use Rattle.types.specs.Code.{Procedure, Program}
 
 abbrev mutual
@@ -10,6 +10,8 @@ abbrev mutual
   labels_inside (If t b c) = labels_of b ++ labels_of c
   labels_inside (While t b) = labels_of b
   labels_inside (Split s e l r b) = labels_of b
+  labels_inside (Parts s e x i b) = labels_of b
+  labels_inside (Begun s n k x i b) = labels_of b
   labels_inside (Call f es ss) = []
   labels_inside (Async b) = labels_of b
   labels_inside (Finish b) = labels_of b

@@ -4,7 +4,7 @@ use Rattle.std.specs.List.{flat_map}
 use Rattle.std.specs.Fmt.{decimal, signed_decimal}
 use Rattle.types.specs.declared.fault.FaultKind.{FaultKind}
 use Rattle.types.specs.declared.fault.FaultKind.TheVariants.{Index, Overflow, ZeroDivisor, OutOfElement}
-use Rattle.types.specs.declared.fault.FaultKind.TheVariants.{SplitPoint, Raised}
+use Rattle.types.specs.declared.fault.FaultKind.TheVariants.{SplitPoint, PieceSize, Raised}
 use Rattle.types.specs.Run.{Fault}
 
 -- `0`, and the number of each child on the way to the task, each after a dot
@@ -23,6 +23,7 @@ kind_text ZeroDivisor = codes "F3"
 kind_text OutOfElement = codes "F4"
 kind_text SplitPoint = codes "F5"
 kind_text (Raised n) = codes "F6 " ++ signed_decimal n
+kind_text PieceSize = codes "F7"
 
 -- `fault 0.1 at 3: F1`: the task, the statement and the code
 abbrev pub fault_text : Fault → List ℕ

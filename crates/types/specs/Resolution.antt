@@ -13,7 +13,7 @@ use Rattle.syntax_tree.specs.Tree.{NoTerm, AddTerm, Prod, Multiply, Factors, NoF
 use Rattle.syntax_tree.specs.Tree.{Positive, Negative as Minus_of, Atom, Number as Numeral, True, False, Name}
 use Rattle.syntax_tree.specs.Tree.{Element as Element_of, Length as Length_of, Parens, Stmt, Skip as Skips}
 use Rattle.syntax_tree.specs.Tree.{Var, Assign as Assigns, Store as Stores, Print as Prints, Fault as Faults}
-use Rattle.syntax_tree.specs.Tree.{If as Ifs, IfElse, While as Whiles, Split as Splits, Call as Calls}
+use Rattle.syntax_tree.specs.Tree.{If as Ifs, IfElse, While as Whiles, Split as Splits, Parts as Cuts, Call as Calls}
 use Rattle.syntax_tree.specs.Tree.{Async as Asyncs, Finish as Finishes, Block, End as Ends, Then as Thens}
 use Rattle.syntax_tree.specs.Tree.{Array as DeclaredArray, Parameter as DeclaredParameter}
 use Rattle.syntax_tree.specs.Tree.{Scalar as ScalarParameter, Procedure as DeclaredProcedure, Main}
@@ -22,9 +22,9 @@ use Rattle.types.specs.declared.code.Operator.{Operator}
 use Rattle.types.specs.declared.code.Operator.TheVariants.{Plus, Minus, Times, Over, Modulo}
 use Rattle.types.specs.Code.{Number, Literal, Scalar, Element, Length, Negative, Chain, Links, Done, Link}
 use Rattle.types.specs.Code.{Truth, Constant, Compare, Not, Both, Either, Truths, NoMore, Also, Skip, Assign}
-use Rattle.types.specs.Code.{Store, Print, Raise, Code, Do, If, While, Split, Call, Async, Finish, Codes, End}
-use Rattle.types.specs.Code.{Then, Array, Procedure, Program}
-use Rattle.types.specs.Scope.{Names, Scope, section_of, slot_of, with_sides, next, inside_async, out_of}
+use Rattle.types.specs.Code.{Store, Print, Raise, Code, Do, If, While, Split, Parts, Call, Async, Finish, Codes}
+use Rattle.types.specs.Code.{End, Then, Array, Procedure, Program}
+use Rattle.types.specs.Scope.{Names, Scope, section_of, slot_of, with_sides, with_turn, next, inside_async, out_of}
 use Rattle.types.specs.Scope.{behind, after, in_procedure, in_main}
 
 abbrev pub sign : Sign → Operator
@@ -190,6 +190,9 @@ module _ (procedures : List DeclaredProcedure) where
         Split (section_of here.names s) (number here.names e) (length here.sections)
         (length here.sections + 1)
         (codes (with_sides (section_of here.names s) l r (next here)) b)
+    code here (Cuts s e x i b) =
+        Parts (section_of here.names s) (number here.names e) (length here.sections) here.slot
+        (codes (with_turn (section_of here.names s) x i (next here)) b)
     code here (Calls f es) = call here.names (procedure_of 0 f procedures) es
     code here (Asyncs b) = Async (codes (inside_async (next here)) b)
     code here (Finishes b) = Finish (codes (next here) b)

@@ -5,7 +5,7 @@ use Rattle.std.specs.Prelude.{nat_eq, nat_lt, if◌then◌else◌}
 use Rattle.std.specs.List.{list_any}
 use Rattle.std.specs.Cmp.Lexicographic.{pointwise}
 use Rattle.syntax_tree.specs.Tree.{Stmt, Skip, Var, Assign, Store, Print, Fault, If, IfElse, While, Split}
-use Rattle.syntax_tree.specs.Tree.{Call, Async, Finish, Block, End, Then, Array, Parameter, Written, Read}
+use Rattle.syntax_tree.specs.Tree.{Parts, Call, Async, Finish, Block, End, Then, Array, Parameter, Written, Read}
 use Rattle.syntax_tree.specs.Tree.{Scalar, Procedure, Main, Program}
 use Rattle.types.specs.declared.error.TypeError.{TypeError}
 use Rattle.types.specs.declared.error.TypeError.TheVariants.{DeclaredTwice, NoMain, OverLimit}
@@ -13,8 +13,8 @@ use Rattle.types.specs.CallErrors.{calling}
 use Rattle.types.specs.ExpressionErrors.{number, numbers, truth}
 use Rattle.types.specs.NameErrors.{declaring, naming_section, naming_written, naming_assigned}
 use Rattle.types.specs.Resolution.{procedure_of, label_behind, label_behind_all}
-use Rattle.types.specs.Scope.{ASection, meant, section_of, Scope, empty_scope, next, inside_async, with_sides}
-use Rattle.types.specs.Scope.{out_of, behind, after, with_parameter, with_array, in_procedure, in_main}
+use Rattle.types.specs.Scope.{ASection, AScalar, meant, section_of, Scope, empty_scope, next, inside_async}
+use Rattle.types.specs.Scope.{with_sides, with_turn, out_of, behind, after, with_parameter, with_array, in_procedure, in_main}
 
 -- Y9: there are more than `most`
 abbrev pub limit : (most count : ℕ) → List TypeError
@@ -40,6 +40,10 @@ module _ (procedures : List Procedure) where
       naming_section here.label (meant s here.names) ++ (number here.label here.names e
       ++ (declaring (Some here.label) (meant r here.names)
       ++ declaring (Some here.label) (meant l ((r, ASection (length here.sections + 1)) ∷ here.names))))
+  own_errors here (Parts s e x i b) =
+      naming_section here.label (meant s here.names) ++ (number here.label here.names e
+      ++ (declaring (Some here.label) (meant i here.names)
+      ++ declaring (Some here.label) (meant x ((i, AScalar here.slot) ∷ here.names))))
   own_errors here (Call f es) = calling here.label here (procedure_of 0 f procedures) es
   own_errors here (Async b) = []
   own_errors here (Finish b) = []
@@ -57,6 +61,7 @@ module _ (procedures : List Procedure) where
     inner_errors here (IfElse e b c) = errors (next here) b ++ errors (out_of here (after b (next here))) c
     inner_errors here (While e b) = errors (next here) b
     inner_errors here (Split s e l r b) = errors (with_sides (section_of here.names s) l r (next here)) b
+    inner_errors here (Parts s e x i b) = errors (with_turn (section_of here.names s) x i (next here)) b
     inner_errors here (Call f es) = []
     inner_errors here (Async b) = errors (inside_async (next here)) b
     inner_errors here (Finish b) = errors (next here) b

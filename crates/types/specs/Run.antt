@@ -1,12 +1,13 @@
 -- What a task does: one recursion over statements, given rules for async and finish.
-use Rattle.std.specs.Prelude.{ℕ, zero, suc, ◌+◌, List, [], ◌∷◌, ◌++◌, map, Bool, true, false, ℤ, pos, Ok, Err}
-use Rattle.std.specs.Prelude.{ok_or, nat_eq, slice_index_or, if◌then◌else◌}
+use Rattle.std.specs.Prelude.{ℕ, zero, suc, ◌+◌, List, [], ◌∷◌, ◌++◌, map, Bool, true, false, ℤ, pos, negsuc, Ok}
+use Rattle.std.specs.Prelude.{Err, Option, Some, None, ok_or, nat_eq, slice_index_or, if◌then◌else◌}
 use Rattle.syntax_tree.specs.declared.tree.ElementType.TheVariants.{Int}
 use Rattle.types.specs.declared.fault.FaultKind.{FaultKind}
-use Rattle.types.specs.declared.fault.FaultKind.TheVariants.{OutOfElement, SplitPoint, Raised}
+use Rattle.types.specs.declared.fault.FaultKind.TheVariants.{OutOfElement, SplitPoint, PieceSize, Raised}
 use Rattle.types.specs.Code.{Number, Truth, Primitive, Skip, Assign, Store, Print, Raise, Code, Do, If, While}
-use Rattle.types.specs.Code.{Split, Call, Async, Finish, Codes, End, Then, Array, Procedure, Program}
-use Rattle.sections.specs.Place.{Window, Place, nowhere, sides_of}
+use Rattle.types.specs.Code.{Split, Parts, Begun, Call, Async, Finish, Codes, End, Then, Array, Procedure}
+use Rattle.types.specs.Code.{Program}
+use Rattle.sections.specs.Place.{Window, Place, nowhere, sides_of, has_piece, piece_at}
 use Rattle.types.specs.Contents.{Contents, read, write}
 use Rattle.types.specs.Value.{Environment, Valued, element_of, holds_number, number, numbers, truth}
 
@@ -73,6 +74,17 @@ entry values windows = record {
 abbrev pub with_sides : (left right : ℕ) → Window × Window → Environment → Environment
 with_sides left right ws env = record env { windows = bind left ws.0 (bind right ws.1 env.windows) }
 
+-- an environment in which a piece and the number of its turn have names
+abbrev pub with_piece : (piece turn : ℕ) → Window → (number : ℕ) → Environment → Environment
+with_piece piece turn w number env =
+    record { scalars = bind turn (pos number) env.scalars; windows = bind piece w env.windows }
+
+-- the number of places of a piece, which has at least one
+abbrev pub piece_size : ℤ → Option ℕ
+piece_size (pos zero) = None
+piece_size (pos (suc n)) = Some (suc n)
+piece_size (negsuc n) = None
+
 -- an array and a procedure that replace those that a program doesn't have
 abbrev pub no_array : Array
 no_array = record { name = []; element = Int; length = 0 }
@@ -95,10 +107,12 @@ array_of p a = slice_index_or p.arrays a no_array
 abbrev pub procedure_of : Program → ℕ → Procedure
 procedure_of p f = slice_index_or p.procedures f no_procedure
 
--- what remains to be done: a block, or the next iteration of a loop
+-- what remains to be done: a block, the next iteration of a loop, or the turns of a `parts` from the
+-- one with the number `next` on
 pub data Work : Type 0 where
   Block : Codes → Work
   Turn : (label : ℕ) → (guard : Truth) → (body : Codes) → Work
+  Pieces : (label section size next piece turn : ℕ) → (body : Codes) → Work
 
 module _ {X : Type 0} where
   -- the budget is exceeded
@@ -169,6 +183,12 @@ module _ {X : Type 0} where
   choose body other true st = body st
   choose body other false st = other st
 
+  -- at the start of a turn of a `parts` of s
+  abbrev pub in_turn : (section size number piece turn : ℕ) → State X → State X
+  in_turn s n k x i st = record st {
+    environment = with_piece x i (piece_at n k (window_at st s)) k st.environment;
+  }
+
   -- continues in another environment, and then restores its own
   abbrev pub in_environment : Environment → (State X → State X) → State X → State X
   in_environment env go st =
@@ -209,8 +229,8 @@ module _ {X : Type 0} (r : Rules X) where
 
 module _ (p : Program) {X : Type 0} (r : Rules X) where
   abbrev mutual
-    -- a statement whose step was already taken; `deeper` executes calls and further iterations of a
-    -- loop
+    -- a statement whose step was already taken; `deeper` executes calls, further iterations of a loop
+    -- and further turns of a `parts`
     pub act : (deeper : Work → State X → State X) → (label : ℕ) → Code → State X → State X
     act deeper l (Do s) st = primitive p l s st
     act deeper l (If t b c) st =
@@ -222,6 +242,12 @@ module _ (p : Program) {X : Type 0} (r : Rules X) where
         with_value l (number_at st e) (λ v.
         with_value l (ok_or (sides_of (window_at st s) v) SplitPoint) (λ ws.
         λ st. block deeper b (record st { environment = with_sides x y ws st.environment }))) st
+    act deeper l (Parts s e x i b) st =
+        with_value l (number_at st e) (λ v.
+        with_value l (ok_or (piece_size v) PieceSize) (λ n. deeper (Pieces l s n 0 x i b))) st
+    act deeper l (Begun s n k x i b) st =
+        go_on (deeper (Pieces l s n (k + 1) x i b))
+        (block deeper b (in_turn s n k x i st))
     act deeper l (Call f es ss) st =
         with_value l (numbers_at st es) (λ vs.
         in_environment (entry vs (map (window_at st) ss))
@@ -240,12 +266,15 @@ module _ (p : Program) {X : Type 0} (r : Rules X) where
   work deeper (Block b) st = block deeper b st
   work deeper (Turn l t b) st =
       with_step (λ st. act deeper l (While t b) (counted r l (While t b) st)) st
+  work deeper (Pieces l s n k x i b) st =
+      choose (with_step (λ st. act deeper l (Begun s n k x i b) (counted r l (Begun s n k x i b) st)))
+      (λ st. st) (has_piece (window_at st s) n k) st
 
-  -- at most k nested calls and iterations
+  -- at most k nested calls, iterations and turns
   abbrev pub within : ℕ → Work → State X → State X
   within zero w st = stopped st
   within (suc k) w st = work (within k) w st
 
-  -- each call and each iteration takes a step
+  -- each call, each iteration and each turn takes a step
   abbrev pub run : Work → State X → State X
   run w st = within (st.steps + 1) w st

@@ -4,9 +4,9 @@ use Rattle.std.specs.Prelude.{if◌then◌else◌, slice_index_or}
 use Rattle.std.specs.Cmp.Lexicographic.{pointwise}
 use Rattle.syntax_tree.specs.declared.tree.ElementType.TheVariants.{Int}
 use Rattle.syntax_tree.specs.Tree.{Stmt, Skip, Var, Assign, Store, Print, Fault, If, IfElse, While, Split}
-use Rattle.syntax_tree.specs.Tree.{Call, Async, Finish, Block, End, Then, Array, Parameter as Declared}
+use Rattle.syntax_tree.specs.Tree.{Parts, Call, Async, Finish, Block, End, Then, Array, Parameter as Declared}
 use Rattle.syntax_tree.specs.Tree.{Written, Read, Scalar}
-use Rattle.sections.specs.Origins.{Origin, Root, Left, Right}
+use Rattle.sections.specs.Origins.{Origin, Root, Left, Right, Piece}
 use Rattle.types.specs.Code.{Parameter}
 
 -- the meaning of a name
@@ -96,6 +96,19 @@ with_sides s l r here = record here {
   kinds = here.kinds ++ kind_of here s ∷ kind_of here s ∷ [];
 }
 
+-- after the declaration of a piece of s, which may be written if s may, and has the element type of s
+abbrev pub with_piece : (s : ℕ) → List ℕ → Scope → Scope
+with_piece s x here = record here {
+  names = (x, ASection (length here.sections)) ∷ here.names;
+  sections = here.sections ++ Piece s ∷ [];
+  section_names = here.section_names ++ x ∷ [];
+  kinds = here.kinds ++ kind_of here s ∷ [];
+}
+
+-- in the block of a `parts` of s with the piece x and the turn i
+abbrev pub with_turn : (s : ℕ) → (x i : List ℕ) → Scope → Scope
+with_turn s x i here = with_piece s x (with_scalar i here)
+
 -- after the label of a statement
 abbrev pub next : Scope → Scope
 next here = record here { label = here.label + 1 }
@@ -121,6 +134,7 @@ abbrev mutual
   behind (IfElse e b c) here = out_of here (after c (out_of here (after b (next here))))
   behind (While e b) here = out_of here (after b (next here))
   behind (Split s e l r b) here = out_of here (after b (with_sides (section_of here.names s) l r (next here)))
+  behind (Parts s e x i b) here = out_of here (after b (with_turn (section_of here.names s) x i (next here)))
   behind (Call f es) here = next here
   behind (Async b) here = out_of here (after b (inside_async (next here)))
   behind (Finish b) here = out_of here (after b (next here))

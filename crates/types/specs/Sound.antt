@@ -5,12 +5,12 @@ use Rattle.std.specs.Prelude.{true, false, ℤ, pos, negsuc, slice_get, slice_in
 use Rattle.std.specs.List.{AllByRecursion, range_with_len}
 use Rattle.syntax_tree.specs.declared.tree.ElementType.TheVariants.{Int}
 use Rattle.sections.specs.Member.{Member}
-use Rattle.sections.specs.Origins.{Root, Left, Right, origin_of, IsNumbered}
+use Rattle.sections.specs.Origins.{Root, Left, Right, Piece, origin_of, IsNumbered}
 use Rattle.sections.specs.Overlap.{root_of, overlap}
 use Rattle.types.specs.Code.{Number, Literal, Scalar, Element, Length, Negative, Chain, Links, Done, Link}
 use Rattle.types.specs.Code.{Truth, Constant, Compare, Not, Both, Either, Truths, NoMore, Also, Primitive}
-use Rattle.types.specs.Code.{Skip, Assign, Store, Print, Raise, Code, Do, If, While, Split, Call, Async}
-use Rattle.types.specs.Code.{Finish, Codes, End, Then, Array, Parameter, Procedure, Program}
+use Rattle.types.specs.Code.{Skip, Assign, Store, Print, Raise, Code, Do, If, While, Split, Parts, Begun}
+use Rattle.types.specs.Code.{Call, Async, Finish, Codes, End, Then, Array, Parameter, Procedure, Program}
 use Rattle.types.specs.Labels.{labels_of_program}
 use Rattle.types.specs.Run.{procedure_of}
 
@@ -111,6 +111,15 @@ module _ (g : Procedure) (scope : List ℕ) where
     pub next : r ≡ l + 1
     pub later : (x : ℕ) → Member x scope → x < l
 
+  -- a `parts` of s with the piece x, the turn in slot i
+  pub record CutsWell (s x i : ℕ) : Type 0 where
+    -- Y1, Y3
+    pub in_scope : Member s scope
+    -- resolution: the piece comes from s, and its number is after everything in scope
+    pub piece : origin_of g.sections x ≡ Piece s
+    pub later : (y : ℕ) → Member y scope → y < x
+    pub slot : i < g.slots
+
   -- section arguments ss for these parameters
   pub record PassesWell (parameters : List Parameter) (ss : List ℕ) : Type 0 where
     -- Y4: there are as many arguments as parameters, and each has the element type of its parameter
@@ -144,6 +153,9 @@ module _ (p : Program) (g : Procedure) where
     FollowsOf scope (While t b) = TruthFollows g scope t × Follows scope b
     FollowsOf scope (Split s e l r b) =
         SplitsWell g scope s l r × NumberFollows g scope e × Follows (l ∷ r ∷ scope) b
+    FollowsOf scope (Parts s e x i b) =
+        CutsWell g scope s x i × NumberFollows g scope e × Follows (x ∷ scope) b
+    FollowsOf scope (Begun s n k x i b) = CutsWell g scope s x i × Follows (x ∷ scope) b
     FollowsOf scope (Call f es ss) = CallsWell scope f es ss
     FollowsOf scope (Async b) = Follows scope b
     FollowsOf scope (Finish b) = Follows scope b
@@ -153,15 +165,33 @@ module _ (p : Program) (g : Procedure) where
     Follows scope End = Unit {0}
     Follows scope (Then l s rest) = FollowsOf scope s × Follows scope rest
 
+abbrev mutual
+  -- a statement, and a list of statements, as in a text: no `parts` has begun
+  pub IsTextOf : Code → Type 0
+  IsTextOf (Do s) = Unit {0}
+  IsTextOf (If t b c) = IsText b × IsText c
+  IsTextOf (While t b) = IsText b
+  IsTextOf (Split s e l r b) = IsText b
+  IsTextOf (Parts s e x i b) = IsText b
+  IsTextOf (Begun s n k x i b) = ⊥
+  IsTextOf (Call f es ss) = Unit {0}
+  IsTextOf (Async b) = IsText b
+  IsTextOf (Finish b) = IsText b
+
+  pub IsText : Codes → Type 0
+  IsText End = Unit {0}
+  IsText (Then l s rest) = IsTextOf s × IsText rest
+
 -- a procedure follows the rules
 pub record IsSoundIn (p : Program) (g : Procedure) : Type 0 where
   -- resolution: its first sections are its parameters, and its first slots are its scalar
   -- parameters
   pub first : (k : ℕ) → k < length g.parameters → slice_get g.sections k ≡ Some Root
   pub scalars : g.scalars ≤ g.slots
-  -- resolution: a side has a larger number than the section that it is a side of
+  -- resolution: a side or a piece has a larger number than the section that it comes from
   pub numbered : IsNumbered g.sections
   pub body : Follows p g (parameters_of g) g.body
+  pub text : IsText g.body
 
 -- resolution: the section parameters of `main` are the arrays
 abbrev pub HasArrays : Program → Type 0

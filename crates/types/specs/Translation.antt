@@ -7,7 +7,7 @@ use Rattle.sections.specs.Translation.{section, window}
 use Rattle.sections.specs.Tree.{origins_of}
 use Rattle.types.specs.Code.{Number, Literal, Scalar, Element, Length, Negative, Chain, Links, Done, Link}
 use Rattle.types.specs.Code.{Truth, Constant, Compare, Not, Both, Either, Truths, NoMore, Also, Primitive}
-use Rattle.types.specs.Code.{Skip, Assign, Store, Print, Raise, Code, Do, If, While, Split, Call, Async}
+use Rattle.types.specs.Code.{Skip, Assign, Store, Print, Raise, Code, Do, If, While, Split, Parts, Call, Async}
 use Rattle.types.specs.Code.{Finish, Codes, End, Then, Array, Parameter, Procedure, Program}
 use Rattle.types.specs.Value.{Environment}
 use Rattle.types.specs.Run.{Fault, by_number}
@@ -25,8 +25,8 @@ use Rattle.types.specs.declared.code.Primitive.TheVariants.{Print as rPrint, Fau
 use Rattle.types.specs.declared.code.Stmt.{Stmt}
 use Rattle.types.specs.declared.code.StmtKind.{StmtKind, Row_of-Stmt, end_of-Stmt, more_of-Stmt}
 use Rattle.types.specs.declared.code.StmtKind.TheVariants.{Do as rDo, If' as rIf, While' as rWhile}
-use Rattle.types.specs.declared.code.StmtKind.TheVariants.{Split' as rSplit, Call as rCall, Async' as rAsync}
-use Rattle.types.specs.declared.code.StmtKind.TheVariants.{Finish' as rFinish}
+use Rattle.types.specs.declared.code.StmtKind.TheVariants.{Split' as rSplit, Parts' as rParts, Call as rCall}
+use Rattle.types.specs.declared.code.StmtKind.TheVariants.{Async' as rAsync, Finish' as rFinish}
 use Rattle.types.specs.declared.code.Array.{Array as rArray}
 use Rattle.types.specs.declared.code.SectionParameter.{SectionParameter}
 use Rattle.types.specs.declared.code.Procedure.{Procedure as rProcedure}
@@ -82,6 +82,8 @@ abbrev mutual
   code (rWhile t p b) = While (truth t) (row_codes b)
   code (rSplit s p b) =
       Split s.section.number (number s.at) s.left.number s.right.number (row_codes b)
+  code (rParts x p b) =
+      Parts x.section.number (number x.size) x.piece.number x.turn.number (row_codes b)
   code (rCall f es ss) = Call f.number (map number es.items) (map section ss.items)
   code (rAsync p b) = Async (row_codes b)
   code (rFinish p b) = Finish (row_codes b)

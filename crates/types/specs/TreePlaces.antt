@@ -4,7 +4,7 @@ use Rattle.sections.specs.Place.{Place}
 use Rattle.types.specs.Code.{Number, Literal, Scalar, Element, Length, Negative, Chain, Links}
 use Rattle.types.specs.Code.{Done, Link, Truth, Constant, Compare, Not, Both, Either, Truths}
 use Rattle.types.specs.Code.{NoMore, Also, Primitive, Skip, Assign, Store, Print, Raise, Code, Do}
-use Rattle.types.specs.Code.{If, While, Split, Call, Async, Finish, Codes, End, Then}
+use Rattle.types.specs.Code.{If, While, Split, Parts, Begun, Call, Async, Finish, Codes, End, Then}
 use Rattle.types.specs.Contents.{Contents, read}
 use Rattle.types.specs.Value.{Environment, Valued, then_try, element_of, operate, number, truth}
 use Rattle.types.specs.Trees.{Leaf}
@@ -84,6 +84,8 @@ module _ (env : Environment) (contents : Place → ℤ) where
   step_reads (If t b c) = truth_reads t
   step_reads (While t b) = truth_reads t
   step_reads (Split s e l r b) = number_reads e
+  step_reads (Parts s e x i b) = number_reads e
+  step_reads (Begun s n k x i b) = []
   step_reads (Call f es ss) = numbers_read es
   step_reads (Async b) = []
   step_reads (Finish b) = []
@@ -105,6 +107,8 @@ module _ (env : Environment) (contents : Place → ℤ) where
   step_writes (If t b c) = []
   step_writes (While t b) = []
   step_writes (Split s e l r b) = []
+  step_writes (Parts s e x i b) = []
+  step_writes (Begun s n k x i b) = []
   step_writes (Call f es ss) = []
   step_writes (Async b) = []
   step_writes (Finish b) = []

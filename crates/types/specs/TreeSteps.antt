@@ -1,12 +1,14 @@
 -- One step of a step tree: one step of one of its leaves.
-use Rattle.std.specs.Prelude.{ℕ, ◌-◌, [], map, ℤ, Ok, Err, ok_or, nat_eq, nat_lt}
+use Rattle.std.specs.Prelude.{ℕ, ◌+◌, ◌-◌, [], map, ℤ, Ok, Err, ok_or, nat_eq, nat_lt}
 use Rattle.std.specs.Prelude.{Option, Some, None, if◌then◌else◌}
-use Rattle.sections.specs.Place.{Window, sides_of}
-use Rattle.types.specs.declared.fault.FaultKind.TheVariants.{SplitPoint}
-use Rattle.types.specs.Code.{Code, Do, If, While, Split, Call, Async, Finish, Codes, End, Then, Program}
+use Rattle.sections.specs.Place.{Window, sides_of, has_piece, piece_at}
+use Rattle.types.specs.declared.fault.FaultKind.TheVariants.{SplitPoint, PieceSize}
+use Rattle.types.specs.Code.{Code, Do, If, While, Split, Parts, Begun, Call, Async, Finish, Codes, End, Then}
+use Rattle.types.specs.Code.{Program}
 use Rattle.types.specs.Contents.{Contents, read}
 use Rattle.types.specs.Value.{Valued, then_try, number, numbers, truth}
-use Rattle.types.specs.Run.{Flow, On, Faulted, Stopped, State, entry, with_sides, procedure_of, primitive}
+use Rattle.types.specs.Run.{Flow, On, Faulted, Stopped, State, entry, with_sides, with_piece, piece_size}
+use Rattle.types.specs.Run.{procedure_of, primitive}
 use Rattle.types.specs.Outcome.{whole_arrays}
 use Rattle.types.specs.Trees.{Leaf, Tree, Single, AndThen, Beside, single, done, failed}
 use Rattle.types.specs.Trees.{before_rest, called, child, parent, inside, held_back, and_then, ready}
@@ -48,6 +50,24 @@ with_state k st = by_flow st.flow (record k {
 abbrev pub sides_at : Leaf → ℕ → Valued ℤ → Valued (Window × Window)
 sides_at k s r = then_try r (λ v. ok_or (sides_of (k.environment.windows s) v) SplitPoint)
 
+-- the number of places of each piece
+abbrev pub size_by : Valued ℤ → Valued ℕ
+size_by r = then_try r (λ v. ok_or (piece_size v) PieceSize)
+
+-- a leaf that first does the turns of a `parts` from the one with the number `next` on; if none is
+-- left, nothing remains of the `parts`
+abbrev pub before_turns : (label section size next piece turn : ℕ) → Codes → Leaf → Leaf
+before_turns l s n k x i b leaf =
+    if has_piece (leaf.environment.windows s) n k
+    then record leaf { rest = Then l (Begun s n k x i b) leaf.rest } else leaf
+
+-- a leaf in a turn of a `parts`
+abbrev pub in_piece : (section size number piece turn : ℕ) → Leaf → Leaf
+in_piece s n k x i leaf = record leaf {
+  environment =
+      with_piece x i (piece_at n k (leaf.environment.windows s)) k leaf.environment;
+}
+
 module _ (p : Program) where
   -- what a leaf becomes in one step of a statement; the statements after it remain in `k`
   abbrev pub tree_after : (label : ℕ) → Code → Leaf → Contents → Tree
@@ -61,6 +81,12 @@ module _ (p : Program) where
   tree_after l (Split s e x y b) k a =
       on_value l k (sides_at k s (number k.environment (read a) e)) (λ ws.
       single (before_rest b (record k { environment = with_sides x y ws k.environment })))
+  tree_after l (Parts s e x i b) k a =
+      on_value l k (size_by (number k.environment (read a) e)) (λ n.
+      single (before_turns l s n 0 x i b k))
+  tree_after l (Begun s n m x i b) k a =
+      single (if has_piece (k.environment.windows s) n m
+      then before_rest b (in_piece s n m x i (before_turns l s n (m + 1) x i b k)) else k)
   tree_after l (Call f es ss) k a =
       on_value l k (numbers k.environment (read a) es) (λ vs.
       single (called (procedure_of p f) (entry vs (map k.environment.windows ss)) k))
@@ -73,6 +99,8 @@ module _ (p : Program) where
   store_after l (If t b c) k a = a
   store_after l (While t b) k a = a
   store_after l (Split s e x y b) k a = a
+  store_after l (Parts s e x i b) k a = a
+  store_after l (Begun s n m x i b) k a = a
   store_after l (Call f es ss) k a = a
   store_after l (Async b) k a = a
   store_after l (Finish b) k a = a

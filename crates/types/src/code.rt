@@ -85,6 +85,11 @@ pub enum StmtKind {
         sides: Sides,
         body: Vec<Stmt>,
     },
+    /// `parts s by 4 as p, i { .. }`
+    Parts {
+        pieces: Pieces,
+        body: Vec<Stmt>,
+    },
     /// `f(a, 1);`
     Call {
         procedure: ProcedureId,
@@ -108,6 +113,16 @@ pub struct Sides {
     pub at: Number,
     pub left: SectionId,
     pub right: SectionId,
+}
+
+/// `s by 4 as p, i`: the section that is cut into pieces, the size of a piece, and what the block
+/// sees in each turn: the piece, and the number of the turn from 0.
+#[derive(Drop)]
+pub struct Pieces {
+    pub section: SectionId,
+    pub size: Number,
+    pub piece: SectionId,
+    pub turn: Slot,
 }
 
 /// A statement that runs in one step.

@@ -36,6 +36,9 @@ pub enum FaultKind {
     SplitPoint,
     /// F6: `fault n`, with the value of `n`: `main { fault 1; }`.
     Raised(i64),
+    /// F7: pieces of less than one element:
+    /// `main { array a: int[1]; parts a by 0 as p, i { skip; } }`.
+    PieceSize,
 }
 
 impl fmt::Display for FaultKind {
@@ -49,6 +52,7 @@ impl fmt::Display for FaultKind {
             FaultKind::OutOfElement => write!(f, "F4"),
             FaultKind::SplitPoint => write!(f, "F5"),
             FaultKind::Raised(number) => write!(f, "F6 {number}"),
+            FaultKind::PieceSize => write!(f, "F7"),
         }
     }
 }

@@ -1,17 +1,17 @@
 -- How a turn changes the open finishes and the steps that are left.
 use Rattle.std.proofs.Common.{◌≡◌, ℕ, zero, suc, ◌+◌, ◌≤◌, List, [], ◌∷◌, Option, None, Ok, Err, refl, sym, ap}
 use Rattle.std.proofs.Common.{◌∙◌, arith, inl, inr, le_refl}
-use Rattle.std.specs.Prelude.{Bool, true, false, ok_or}
-use Rattle.sections.specs.Place.{sides_of}
-use Rattle.types.specs.declared.fault.FaultKind.TheVariants.{SplitPoint}
-use Rattle.types.specs.Code.{Truth, Code, Do, If, While, Split, Call, Async, Finish, Codes, End, Then, Program}
+use Rattle.std.specs.Prelude.{Bool, true, false, ok_or, if◌then◌else◌}
+use Rattle.sections.specs.Place.{has_piece, sides_of}
+use Rattle.types.specs.declared.fault.FaultKind.TheVariants.{SplitPoint, PieceSize}
+use Rattle.types.specs.Code.{Truth, Code, Do, If, While, Split, Parts, Begun, Call, Async, Finish, Codes, End, Then, Program}
 use Rattle.types.specs.Translation.{program}
 use Rattle.types.specs.Value.{Valued}
-use Rattle.types.specs.Run.{Flow, On, Faulted, Stopped, State, Rules, number_at, numbers_at, truth_at, window_at, counted}
+use Rattle.types.specs.Run.{Flow, On, Faulted, Stopped, State, Rules, number_at, numbers_at, truth_at, window_at, piece_size, counted}
 use Rattle.effects.specs.Needs.{Needs}
 use Rattle.task_run.specs.Results.{Settled}
 use Rattle.task_run.specs.OwnRun.{Action, Step, Spawn, EnterFinish, EndFinish, EndTask, Own, own_rules}
-use Rattle.task_run.specs.Frames.{Frame, Rest, Again, AtEnd, Back, Standing, by_value, chosen, acted, paid, by_flow, turn}
+use Rattle.task_run.specs.Frames.{Frame, Rest, Again, Further, AtEnd, Back, Standing, by_value, chosen, acted, paid, by_flow, turn}
 use Rattle.task_run.specs.Frames.{done_by, done_at, done_in}
 use Rattle.task_run.specs.Left.{total}
 use Rattle.task_run.specs.Quiet.{IsLittle, Quietly, here, further}
@@ -19,8 +19,8 @@ use Rattle.task_run.specs.RunTurns.{GoesAs, GoesOn, GoesTo, IsTurn, TurnOf, Ends
 use Rattle.task_run.specs.Standings.{Shows, ShowsFrame, Stacked, state_of, with_own}
 use Rattle.task_run.specs.Stops.{stops}
 use Rattle.task_run.specs.declared.frame.TaskFrame.{TaskFrame as rFrame}
-use Rattle.task_run.specs.declared.frame.TaskFrame.TheVariants.{Rest as rRest, Again as rAgain, EndFinish as rEndFinish}
-use Rattle.task_run.specs.declared.frame.TaskFrame.TheVariants.{EndCall as rEndCall}
+use Rattle.task_run.specs.declared.frame.TaskFrame.TheVariants.{Rest as rRest, Again as rAgain, Turns as rTurns}
+use Rattle.task_run.specs.declared.frame.TaskFrame.TheVariants.{EndFinish as rEndFinish, EndCall as rEndCall}
 use Rattle.task_run.specs.declared.run.Run.{Run}
 use Rattle.task_run.specs.declared.turn.Paused.{Paused}
 use Rattle.task_run.specs.declared.turn.Turn.{Turn}
@@ -34,6 +34,7 @@ use Rattle.types.proofs.Solutions.{primitive_less}
 abbrev ends : Frame Own → ℕ
 ends (Rest b) = 0
 ends (Again l t b) = 0
+ends (Further l s n k q i b) = 0
 ends (AtEnd before) = 1
 ends (Back env) = 0
 
@@ -56,6 +57,8 @@ enters (Do s) = 0
 enters (If t b c) = 0
 enters (While t b) = 0
 enters (Split s e x y b) = 0
+enters (Parts s e q i b) = 0
+enters (Begun s n k q i b) = 0
 enters (Call f es ss) = 0
 
 entered_by : (needs : Codes → Needs) (n m : ℕ) (c : Code) (st : State Own) → entered (done_by needs n (suc m) c st) ≡ enters c
@@ -71,6 +74,10 @@ entered_by needs zero m (While t b) st = refl
 entered_by needs (suc n) m (While t b) st = refl
 entered_by needs zero m (Split s e x y b) st = refl
 entered_by needs (suc n) m (Split s e x y b) st = refl
+entered_by needs zero m (Parts s e q i b) st = refl
+entered_by needs (suc n) m (Parts s e q i b) st = refl
+entered_by needs zero m (Begun s j k q i b) st = refl
+entered_by needs (suc n) m (Begun s j k q i b) st = refl
 entered_by needs zero m (Call f es ss) st = refl
 entered_by needs (suc n) m (Call f es ss) st = refl
 
@@ -121,6 +128,14 @@ module _ (p : Program) (needs : Codes → Needs) (close : State Own → Option S
       value_adds l (ok_or (sides_of (window_at mid s) v) SplitPoint) _ fs mid (λ ws.
       record { steps = le_refl mid.steps; finishes = omega arith })) in
       record { steps = a.steps; finishes = a.finishes }
+  acted_adds n l (Parts s e q i b) fs st =
+      let mid = counted (rules n) l (Parts s e q i b) st in
+      let a =
+      value_adds l (number_at mid e) _ fs mid (λ v.
+      value_adds l (ok_or (piece_size v) PieceSize) _ fs mid (λ size.
+      record { steps = le_refl mid.steps; finishes = omega arith })) in
+      record { steps = a.steps; finishes = a.finishes }
+  acted_adds n l (Begun s size k q i b) fs st = record { steps = le_refl st.steps; finishes = omega arith }
   acted_adds n l (Call f es ss) fs st =
       let mid = counted (rules n) l (Call f es ss) st in
       let a = value_adds l (numbers_at mid es) _ fs mid (λ vs. record { steps = le_refl mid.steps; finishes = omega arith }) in
@@ -148,6 +163,8 @@ module _ (p : Program) (needs : Codes → Needs) (close : State Own → Option S
       at_most (If t b c) = omega arith
       at_most (While t b) = omega arith
       at_most (Split s e x y b) = omega arith
+      at_most (Parts s e q i b) = omega arith
+      at_most (Begun s n k q i b) = omega arith
       at_most (Call f es ss) = omega arith
 
   paid_counts : (n m l : ℕ) (c : Code) (fs : List (Frame Own)) (st : State Own) → m ≡ st.steps
@@ -173,6 +190,18 @@ module _ (p : Program) (needs : Codes → Needs) (close : State Own → Option S
       let a = flow_counts n st.flow l (While t b) fs fs st refl in
       let f = a.finishes in
       record { steps = a.steps; finishes = omega (arith, f) }
+  turn_counts n (Further l s size k q i b) fs st = by (has_piece (window_at st s) size k)
+    where
+      c : Code
+      c = Begun s size k q i b
+
+      by : (left : Bool) → Counts (if left then done_at needs n st.flow c st else []) (Further l s size k q i b ∷ fs) st
+          (if◌then◌else◌ {A = Standing Own} left (by_flow p (rules n) st.flow l c fs fs st) (record { frames = fs; state = st }))
+      by true =
+          let a = flow_counts n st.flow l c fs fs st refl in
+          let f = a.finishes in
+          record { steps = a.steps; finishes = omega (arith, f) }
+      by false = record { steps = omega arith; finishes = omega arith }
   turn_counts n (AtEnd before) fs st = record { steps = omega arith; finishes = omega arith }
   turn_counts n (Back env) fs st = record { steps = omega arith; finishes = omega arith }
 
@@ -201,6 +230,7 @@ module _ (p : Program) (needs : Codes → Needs) (close : State Own → Option S
 frame_same : (g : rFrame) (f : Frame Own) → ShowsFrame g f → ends_finish g ≡ ends f
 frame_same (rRest b) f e = ap ends (sym e)
 frame_same (rAgain l t b) f e = ap ends (sym e)
+frame_same (rTurns t) f e = ap ends (sym e)
 frame_same (rEndFinish o) f (before, e, h) = ap ends (sym e)
 frame_same (rEndCall env) f e = ap ends (sym e)
 
@@ -305,6 +335,7 @@ module _ (old : Run) where
     by_frames t (AtEnd before ∷ fs) st same shows h = wait_changes t fs before st same shows h
     by_frames t (Rest b ∷ fs) st same shows h = by_turn t (Rest b) fs st same shows h
     by_frames t (Again l g b ∷ fs) st same shows h = by_turn t (Again l g b) fs st same shows h
+    by_frames t (Further l s n k q i b ∷ fs) st same shows h = by_turn t (Further l s n k q i b) fs st same shows h
     by_frames t (Back env ∷ fs) st same shows h = by_turn t (Back env) fs st same shows h
 
     -- a turn changes the open finishes and the steps left in this way

@@ -2,12 +2,13 @@
 use Rattle.std.specs.Prelude.{ℕ, List}
 use Rattle.task_run.specs.Left.{total}
 use Rattle.task_run.specs.declared.frame.TaskFrame.{TaskFrame}
-use Rattle.task_run.specs.declared.frame.TaskFrame.TheVariants.{Rest, Again, EndFinish, EndCall}
+use Rattle.task_run.specs.declared.frame.TaskFrame.TheVariants.{Rest, Again, Turns, EndFinish, EndCall}
 
 -- 1 if a frame is the end of a finish, else 0
 abbrev pub ends_finish : TaskFrame → ℕ
 ends_finish (Rest b) = 0
 ends_finish (Again l t b) = 0
+ends_finish (Turns t) = 0
 ends_finish (EndFinish outer) = 1
 ends_finish (EndCall env) = 0
 

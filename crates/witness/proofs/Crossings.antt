@@ -1,16 +1,20 @@
 -- The shortest two ways that meet, from the shortest of their parts.
-use Rattle.std.proofs.Common.{◌≡◌, ◌⊎◌, inl, inr, ℕ, List, length, refl, sym, subst, arith}
-use Rattle.std.specs.Prelude.{true, false, Option, None, Some, IfSome}
-use Rattle.types.specs.Code.{Number, Truth, Code, Do, If, While, Split, Call, Async, Finish, Codes, End, Then, Program}
+use Rattle.std.proofs.Common.{◌≡◌, ◌⊎◌, inl, inr, ℕ, ◌≤◌, List, ◌∷◌, length, refl, sym, ◌∙◌, subst, true≢false, arith}
+use Rattle.std.specs.Prelude.{Bool, true, false, Option, None, Some, IfSome, option_map}
+use Rattle.types.specs.Code.{Number, Truth, Code, Do, If, While, Split, Parts, Begun, Call, Async, Finish, Codes, End, Then, Program}
 use Rattle.effects.specs.Accesses.{Access}
+use Rattle.effects.specs.Effects.{of_pieces, past_parts}
 use Rattle.effects.specs.Statements.{Block}
-use Rattle.witness.specs.Crossed.{Crossed, IsAcross, IsInTurn, MeetAt, MeetIn, both}
+use Rattle.witness.specs.Crossed.{Crossed, IsAcross, IsInTurn, IsInTurns, MeetAt, MeetIn, both}
 use Rattle.witness.specs.Least.{AtMost, IsLesserOf, IsLeast, all_covered}
-use Rattle.witness.specs.Ways.{Way, WayOf}
-use Rattle.witness.specs.Meets.{Meets, MeetsAt}
+use Rattle.witness.specs.Searched.{IsLed}
+use Rattle.witness.specs.Ways.{Way, WayOf, step}
+use Rattle.witness.specs.Meets.{Meets, MeetsAt, WayInto}
 use Rattle.witness.specs.declared.crossing.RunsTogether.{RunsTogether}
-use Rattle.witness.specs.declared.crossing.RunsTogether.TheVariants.{Follows}
+use Rattle.witness.specs.declared.crossing.RunsTogether.TheVariants.{Follows, Turns}
+use Rattle.witness.specs.declared.step.Rule.TheVariants.{Piece}
 use Rattle.witness.specs.declared.step.WayStep.{WayStep}
+use Rattle.witness.proofs.Found.{stepped, behind_led}
 use Rattle.witness.proofs.Leasts.{least_none, least_same, least_either, at_most_more}
 
 abbrev crossing : RunsTogether → List WayStep → List WayStep → Crossed
@@ -47,13 +51,14 @@ module _ (p : Program) (x y : Access) where
           at_most_more both found (both (crossing Follows c.pending way)) (both c) (omega (arith, fewer))
           (k.least (crossing Follows c.pending way) (record { meeting = refl; pending = f.pending; later = e }) tt)
 
-  abbrev Parts : (l : ℕ) (s : Code) (rest : Codes) → Crossed → Type 0
-  Parts l s rest c = IsFollowing l s rest c ⊎ (MeetAt p l s x y c ⊎ MeetIn p rest x y c)
+  abbrev Here : (l : ℕ) (s : Code) (rest : Codes) → Crossed → Type 0
+  Here l s rest c = IsFollowing l s rest c ⊎ (MeetAt p l s x y c ⊎ MeetIn p rest x y c)
 
   meets_cases : {l : ℕ} {s : Code} {rest : Codes} {kind : RunsTogether} {one other : List WayStep} → Meets p (Then l s rest) kind one other x y
-      → Parts l s rest (crossing kind one other)
+      → Here l s rest (crossing kind one other)
   meets_cases (Meets.follows w v) = inl (record { meeting = refl; pending = w; later = v })
   meets_cases (Meets.turns w v) = inr (inl (MeetsAt.turns w v))
+  meets_cases (Meets.pieces m) = inr (inl (MeetsAt.pieces m))
   meets_cases (Meets.inside k m) = inr (inl (MeetsAt.inside k m))
   meets_cases (Meets.later m) = inr (inr m)
 
@@ -64,6 +69,7 @@ module _ (p : Program) (x y : Access) where
   at_meet : {l : ℕ} {s : Code} {kind : RunsTogether} {one other : List WayStep} → MeetsAt p l s kind one other x y → (rest : Codes)
       → Meets p (Then l s rest) kind one other x y
   at_meet (MeetsAt.turns w v) rest = Meets.turns w v
+  at_meet (MeetsAt.pieces m) rest = Meets.pieces m
   at_meet (MeetsAt.inside k m) rest = Meets.inside k m
 
   pub crossing_end : IsLeast both all_covered (MeetIn p End x y) None
@@ -122,12 +128,32 @@ module _ (p : Program) (x y : Access) where
         cases (MeetsAt.turns w v) = inl (record { meeting = refl; pending = w; later = v })
         cases (MeetsAt.inside k m) = inr (block k m)
 
+    pub at_parts : (s : ℕ) (a : Number) (q i : ℕ) (b : Codes) (one other found : Option Crossed) → IsLesserOf both one other found
+        → IsLeast both all_covered (IsInTurns p l s q b x y) one → IsLeast both all_covered (MeetIn p b x y) other
+        → IsLeast both all_covered (MeetAt p l (Parts s a q i b) x y) found
+    at_parts s a q i b one other found lesser h k =
+        least_either both all_covered (IsInTurns p l s q b x y) (MeetIn p b x y) (MeetAt p l (Parts s a q i b) x y) one other found lesser
+        (λ c t. subst (λ (k : RunsTogether). MeetsAt p l (Parts s a q i b) k c.pending c.later x y) (sym t.meeting)
+        (MeetsAt.pieces {i = i} {e = a} t.meets))
+        (λ c m. MeetsAt.inside Block.parts m) (λ c m. cases m) h k
+      where
+        block : {e : Codes} → Block (Parts s a q i b) e → {kind : RunsTogether} {one other : List WayStep} → Meets p e kind one other x y
+            → Meets p b kind one other x y
+        block Block.parts m = m
+
+        cases : {kind : RunsTogether} {one other : List WayStep} → MeetsAt p l (Parts s a q i b) kind one other x y
+            → IsInTurns p l s q b x y (crossing kind one other) ⊎ Meets p b kind one other x y
+        cases (MeetsAt.pieces m) = inl (record { meeting = refl; meets = m })
+        cases (MeetsAt.inside k m) = inr (block k m)
+
     -- a statement that has only this block, and none of whose iterations meet
     abbrev HasOnly : Code → Codes → Type 0
     HasOnly (Do a) b = ⊥
     HasOnly (If t d e) b = ⊥
     HasOnly (While t d) b = ⊥
     HasOnly (Split s a i r d) b = d ≡ b
+    HasOnly (Parts s a q i d) b = ⊥
+    HasOnly (Begun s n k q i d) b = ⊥
     HasOnly (Call f es ss) b = ⊥
     HasOnly (Async d) b = d ≡ b
     HasOnly (Finish d) b = d ≡ b
@@ -144,12 +170,14 @@ module _ (p : Program) (x y : Access) where
         block only Block.if_other m = absurd only
         block only Block.while m = absurd only
         block only Block.split {kind} {one} {other} m = subst (λ d. Meets p d kind one other x y) only m
+        block only Block.parts m = absurd only
         block only Block.async {kind} {one} {other} m = subst (λ d. Meets p d kind one other x y) only m
         block only Block.finish {kind} {one} {other} m = subst (λ d. Meets p d kind one other x y) only m
 
         cases : {u : Code} {kind : RunsTogether} {one other : List WayStep} → HasOnly u b
             → MeetsAt p l u kind one other x y → Meets p b kind one other x y
         cases only (MeetsAt.turns w v) = absurd only
+        cases only (MeetsAt.pieces m) = absurd only
         cases only (MeetsAt.inside k m) = block only k m
 
     pub at_split : (s : ℕ) (a : Number) (i r : ℕ) (b : Codes) (found : Option Crossed)
@@ -168,3 +196,41 @@ module _ (p : Program) (x y : Access) where
   pub at_statement : (l : ℕ) (k s : Code) (found : Option Crossed) → k ≡ s → IsLeast both all_covered (MeetAt p l s x y) found
       → IsLeast both all_covered (MeetAt p l k x y) found
   at_statement l k s found e h = subst (λ (z : Code). IsLeast both all_covered (MeetAt p l z x y) found) (sym e) h
+
+-- ---- two turns of a `parts`
+module _ (p : Program) (l s q : ℕ) (b : Codes) where
+  -- a way into the block is one behind the step at the `parts`
+  pub into_least : (m : Bool) (z : Access) (first : WayStep) (found led : Option (List WayStep)) → first ≡ step l Piece (past_parts s q z.section)
+      → led ≡ option_map (λ way. first ∷ way) found → IsLeast length all_covered (λ way. Way p m b way z) found
+      → IsLeast length all_covered (λ way. WayInto p m l s q b way z) led
+  into_least m z first found led e f h =
+      least_same length all_covered (IsLed (step l Piece (past_parts s q z.section)) (λ behind. Way p m b behind z))
+      (λ way. WayInto p m l s q b way z) led
+      (λ way k. record { behind = k.behind; is = k.is; leads = k.leads }) (λ way k. record { behind = k.behind; is = k.is; leads = k.leads })
+      (stepped all_covered first (step l Piece (past_parts s q z.section)) (λ behind. Way p m b behind z) led e
+      (behind_led all_covered first (λ behind. Way p m b behind z) found led f (λ n c. tt) h))
+
+  module _ (x y : Access) where
+    -- accesses to two pieces don't meet
+    pub apart_in_turns : of_pieces q x y ≡ true → IsLeast both all_covered (IsInTurns p l s q b x y) None
+    apart_in_turns e = least_none both all_covered (IsInTurns p l s q b x y) (λ c t. true≢false (sym e ∙ t.meets.meet))
+
+    pub none_pending : IsLeast length all_covered (λ way. WayInto p true l s q b way x) None
+        → IsLeast both all_covered (IsInTurns p l s q b x y) None
+    none_pending h = least_none both all_covered (IsInTurns p l s q b x y) (λ c t. h.least c.pending t.meets.pending tt)
+
+    pub none_later : IsLeast length all_covered (λ way. WayInto p false l s q b way y) None
+        → IsLeast both all_covered (IsInTurns p l s q b x y) None
+    none_later h = least_none both all_covered (IsInTurns p l s q b x y) (λ c t. h.least c.later t.meets.later tt)
+
+    pub in_two_turns : (one other : List WayStep) → of_pieces q x y ≡ false
+        → IsLeast length all_covered (λ way. WayInto p true l s q b way x) (Some one)
+        → IsLeast length all_covered (λ way. WayInto p false l s q b way y) (Some other)
+        → IsLeast both all_covered (IsInTurns p l s q b x y) (Some (crossing Turns one other))
+    in_two_turns one other e h k = record {
+      among = record { meeting = refl; meets = record { pending = h.among; later = k.among; meet = e } };
+      least = λ c t n.
+          let first : length one ≤ length c.pending = h.least c.pending t.meets.pending tt in
+          let second : length other ≤ length c.later = k.least c.later t.meets.later tt in
+          omega (arith, first, second);
+    }

@@ -4,7 +4,7 @@ use Rattle.std.proofs.lemmas.Bool.{cases_eq}
 use Rattle.std.specs.Prelude.{if◌then◌else◌, Bool, true, false}
 use Rattle.std.specs.Prelude.{Option, None, Some, IfSome, MatchOption, option_map, slice_get}
 use Rattle.sections.specs.declared.id.SectionId.{SectionId}
-use Rattle.types.specs.Code.{Number, Truth, Code, If, While, Split, Call, Async, Finish, Codes, End, Then, Program}
+use Rattle.types.specs.Code.{Number, Truth, Code, If, While, Split, Parts, Call, Async, Finish, Codes, End, Then, Program}
 use Rattle.types.specs.Run.{procedure_of}
 use Rattle.types.specs.Translation.{codes}
 use Rattle.types.specs.declared.code.Stmt.{Stmt}
@@ -20,7 +20,7 @@ use Rattle.witness.specs.Ways.{Goes, Way, WayOf, step}
 use Rattle.witness.specs.declared.known.Known.{Known}
 use Rattle.witness.specs.declared.search.Sought.{Sought}
 use Rattle.witness.specs.declared.step.Rule.{Rule}
-use Rattle.witness.specs.declared.step.Rule.TheVariants.{Own, Body, Other, Turn, Side, Enter, Begin, Await}
+use Rattle.witness.specs.declared.step.Rule.TheVariants.{Own, Body, Other, Turn, Side, Piece, Enter, Begin, Await}
 use Rattle.witness.specs.declared.step.WayStep.{WayStep}
 use Rattle.witness.proofs.Leasts.{least_none, least_same, least_either, least_led_at, at_most_more}
 
@@ -120,18 +120,22 @@ module _ (p : Program) where
       → (l : ℕ) (x : Access) (way : List WayStep) → outer ≡ x.section → Led k l rule d x inner way → (m ≡ false) × Led false l Await b x x.section way
   finish_cases (Goes.await {s = s}) l x way e h = (refl, same_name s e h)
 
-  -- inside a split a section has one of three names
-  pub record BySide (m : Bool) (l : ℕ) (s i r : ℕ) (b : Codes) (x : Access) (inner : ℕ) (way : List WayStep) : Type 0 where
+  -- inside a split a section has one of three names; the piece of a `parts` is both sides
+  pub record BySide (rule : Rule) (m : Bool) (l : ℕ) (s i r : ℕ) (b : Codes) (x : Access) (inner : ℕ) (way : List WayStep) : Type 0 where
     pub names : past_split s i r inner ≡ x.section
-    pub led : Led m l Side b x inner way
+    pub led : Led m l rule b x inner way
 
-  record BySome (m : Bool) (l : ℕ) (s i r : ℕ) (b : Codes) (x : Access) (way : List WayStep) : Type 0 where
+  record BySome (rule : Rule) (m : Bool) (l : ℕ) (s i r : ℕ) (b : Codes) (x : Access) (way : List WayStep) : Type 0 where
     inner : ℕ
-    by : BySide m l s i r b x inner way
+    by : BySide rule m l s i r b x inner way
 
   split_cases : {m k : Bool} {s : ℕ} {a : Number} {i r : ℕ} {b d : Codes} {rule : Rule} {outer inner : ℕ} → Goes p m (Split s a i r b) rule k d outer inner
-      → (l : ℕ) (x : Access) (way : List WayStep) → outer ≡ x.section → Led k l rule d x inner way → BySome m l s i r b x way
+      → (l : ℕ) (x : Access) (way : List WayStep) → outer ≡ x.section → Led k l rule d x inner way → BySome Side m l s i r b x way
   split_cases (Goes.side {x = y}) l x way e h = record { inner = y; by = record { names = e; led = h } }
+
+  parts_cases : {m k : Bool} {s : ℕ} {a : Number} {q i : ℕ} {b d : Codes} {rule : Rule} {outer inner : ℕ} → Goes p m (Parts s a q i b) rule k d outer inner
+      → (l : ℕ) (x : Access) (way : List WayStep) → outer ≡ x.section → Led k l rule d x inner way → BySome Piece m l s q q b x way
+  parts_cases (Goes.piece {x = y}) l x way e h = record { inner = y; by = record { names = e; led = h } }
 
   three_names : (s i r inner z : ℕ) → past_split s i r inner ≡ z → (inner ≡ i) ⊎ ((inner ≡ r) ⊎ (inner ≡ z))
   three_names s i r inner z e = elim (cases_eq i inner) [
@@ -180,21 +184,21 @@ module _ (p : Program) where
         least_none length covered (GoesOn p m l (Finish b) x)
         (λ way g. let f = finish_cases g.by.goes l x way refl g.by.led in true≢false (sym e ∙ f.0))
 
-    -- one of the names inside a split
-    abbrev Side_by : (s i r : ℕ) (b : Codes) → (inner : ℕ) → List WayStep → Type 0
-    Side_by s i r b inner = BySide m l s i r b x inner
-
-    pub least_side : (s i r : ℕ) (b : Codes) (inner : ℕ) (found : Option (List WayStep)) → past_split s i r inner ≡ x.section
-        → IsLeast length covered (Led m l Side b x inner) found → IsLeast length covered (Side_by s i r b inner) found
-    least_side s i r b inner found names h =
-        least_same length covered (Led m l Side b x inner) (Side_by s i r b inner) found
+    pub least_side : (rule : Rule) (s i r : ℕ) (b : Codes) (inner : ℕ) (found : Option (List WayStep)) → past_split s i r inner ≡ x.section
+        → IsLeast length covered (Led m l rule b x inner) found → IsLeast length covered (BySide rule m l s i r b x inner) found
+    least_side rule s i r b inner found names h =
+        least_same length covered (Led m l rule b x inner) (BySide rule m l s i r b x inner) found
         (λ way led. record { names = names; led = led }) (λ way by. by.led) h
 
-    pub least_no_side : (s i r : ℕ) (b : Codes) (inner : ℕ) (found : Option (List WayStep)) → found ≡ None → (past_split s i r inner ≡ x.section → ⊥)
-        → IsLeast length covered (Side_by s i r b inner) found
-    least_no_side s i r b inner found e none =
-        subst (IsLeast length covered (Side_by s i r b inner)) (sym e)
-        (least_none length covered (Side_by s i r b inner) (λ way by. none by.names))
+    pub least_no_side : (rule : Rule) (s i r : ℕ) (b : Codes) (inner : ℕ) (found : Option (List WayStep)) → found ≡ None
+        → (past_split s i r inner ≡ x.section → ⊥) → IsLeast length covered (BySide rule m l s i r b x inner) found
+    least_no_side rule s i r b inner found e none =
+        subst (IsLeast length covered (BySide rule m l s i r b x inner)) (sym e)
+        (least_none length covered (BySide rule m l s i r b x inner) (λ way by. none by.names))
+
+    -- one of the names inside a split
+    abbrev Side_by : (s i r : ℕ) (b : Codes) → (inner : ℕ) → List WayStep → Type 0
+    Side_by s i r b inner = BySide Side m l s i r b x inner
 
     pub least_split : (s : ℕ) (a : Number) (i r : ℕ) (b : Codes) (left right itself two found : Option (List WayStep))
         → IsLesserOf length right itself two → IsLesserOf length left two found → IsLeast length covered (Side_by s i r b i) left
@@ -215,12 +219,37 @@ module _ (p : Program) where
             led_on m m l (Split s a i r b) x Side b inner
             (subst (λ (o : ℕ). Goes p m (Split s a i r b) Side m b o inner) by.names Goes.side) way by.led
 
-        three : (way : List WayStep) → BySome m l s i r b x way → Side_by s i r b i way ⊎ Others way
+        three : (way : List WayStep) → BySome Side m l s i r b x way → Side_by s i r b i way ⊎ Others way
         three way some = elim (three_names s i r some.inner x.section some.by.names) [
           | inl e ↦ inl (subst (λ (z : ℕ). Side_by s i r b z way) e some.by)
           | inr q ↦ elim q [
             | inl e ↦ inr (inl (subst (λ (z : ℕ). Side_by s i r b z way) e some.by))
             | inr e ↦ inr (inr (subst (λ (z : ℕ). Side_by s i r b z way) e some.by))
+          ]
+        ]
+
+    -- one of the names inside a `parts`
+    abbrev Piece_by : (s q : ℕ) (b : Codes) → (inner : ℕ) → List WayStep → Type 0
+    Piece_by s q b inner = BySide Piece m l s q q b x inner
+
+    pub least_parts : (s : ℕ) (a : Number) (q i : ℕ) (b : Codes) (piece itself found : Option (List WayStep))
+        → IsLesserOf length piece itself found → IsLeast length covered (Piece_by s q b q) piece
+        → IsLeast length covered (Piece_by s q b x.section) itself → IsLeast length covered (GoesOn p m l (Parts s a q i b) x) found
+    least_parts s a q i b piece itself found lesser h k =
+        least_either length covered (Piece_by s q b q) (Piece_by s q b x.section) (GoesOn p m l (Parts s a q i b) x) piece itself found lesser
+        (λ way by. on q way by) (λ way by. on x.section way by) (λ way g. two way (parts_cases g.by.goes l x way refl g.by.led)) h k
+      where
+        on : (inner : ℕ) (way : List WayStep) → Piece_by s q b inner way → GoesOn p m l (Parts s a q i b) x way
+        on inner way by =
+            led_on m m l (Parts s a q i b) x Piece b inner
+            (subst (λ (o : ℕ). Goes p m (Parts s a q i b) Piece m b o inner) by.names Goes.piece) way by.led
+
+        two : (way : List WayStep) → BySome Piece m l s q q b x way → Piece_by s q b q way ⊎ Piece_by s q b x.section way
+        two way some = elim (three_names s q q some.inner x.section some.by.names) [
+          | inl e ↦ inl (subst (λ (z : ℕ). Piece_by s q b z way) e some.by)
+          | inr o ↦ elim o [
+            | inl e ↦ inl (subst (λ (z : ℕ). Piece_by s q b z way) e some.by)
+            | inr e ↦ inr (subst (λ (z : ℕ). Piece_by s q b z way) e some.by)
           ]
         ]
 
@@ -341,32 +370,32 @@ module _ (p : Program) (known : Known) (sought : Sought) where
           b found e (stepped (AreShortest p (access sought.access) known) _ _ _ _ at h)
 
   -- what is found by one of the names inside
-  side_found : (l s i r : ℕ) (b : Codes) (inner : SectionId) (first : WayStep) (aim : Option Sought) (found : Option (List WayStep))
+  side_found : (rule : Rule) (l s i r : ℕ) (b : Codes) (inner : SectionId) (first : WayStep) (aim : Option Sought) (found : Option (List WayStep))
       → MatchOption aim (past_split s i r inner.number ≡ sought.access.section.number → ⊥) (IsInside sought s i r inner)
-      → first ≡ step l Side sought.access.section.number
+      → first ≡ step l rule sought.access.section.number
       → MatchOption aim (found ≡ None) (λ a. IsLeast length (AreShortest p (access a.access) known)
       (IsLed first (λ way. Way p a.pending b way (access a.access))) found)
-      → IsLeast length (AreShortest p (access sought.access) known) (BySide p sought.pending l s i r b (access sought.access) inner.number) found
-  side_found l s i r b inner first None found is e none =
-      least_no_side p (AreShortest p (access sought.access) known) sought.pending l (access sought.access) s i r b inner.number found none is
-  side_found l s i r b inner first (Some a) found is e h =
-      least_side p (AreShortest p (access sought.access) known) sought.pending l (access sought.access) s i r b inner.number found is.names
-      (stepped (AreShortest p (access sought.access) known) first (step l Side sought.access.section.number)
+      → IsLeast length (AreShortest p (access sought.access) known) (BySide p rule sought.pending l s i r b (access sought.access) inner.number) found
+  side_found rule l s i r b inner first None found is e none =
+      least_no_side p (AreShortest p (access sought.access) known) sought.pending l (access sought.access) rule s i r b inner.number found none is
+  side_found rule l s i r b inner first (Some a) found is e h =
+      least_side p (AreShortest p (access sought.access) known) sought.pending l (access sought.access) rule s i r b inner.number found is.names
+      (stepped (AreShortest p (access sought.access) known) first (step l rule sought.access.section.number)
       (λ way. Way p sought.pending b way (record (access sought.access) { section = inner.number })) found e
       (subst (λ (m : Bool). IsLeast length (AreShortest p (access sought.access) known)
       (IsLed first (λ way. Way p m b way (record (access sought.access) { section = inner.number }))) found) is.pending
       (subst (λ (y : rAccess). IsLeast length (AreShortest p (access y) known) (IsLed first (λ way. Way p a.pending b way (access y))) found)
       is.access h)))
 
-  -- the same fact, for the list of a split
-  pub side_found_in : (l s i r : ℕ) (ys zs : List Stmt) (inner : SectionId) (first : WayStep) (aim : Option Sought) (found : Option (List WayStep)) → ys ≡ zs
+  -- the same fact, for the list of a split or a `parts`
+  pub side_found_in : (rule : Rule) (l s i r : ℕ) (ys zs : List Stmt) (inner : SectionId) (first : WayStep) (aim : Option Sought) (found : Option (List WayStep)) → ys ≡ zs
       → MatchOption aim (past_split s i r inner.number ≡ sought.access.section.number → ⊥) (IsInside sought s i r inner)
-      → first ≡ step l Side sought.access.section.number
+      → first ≡ step l rule sought.access.section.number
       → MatchOption aim (found ≡ None) (λ a. IsLeast length (AreShortest p (access a.access) known)
       (IsLed first (λ way. Way p a.pending (codes ys) way (access a.access))) found)
       → IsLeast length (AreShortest p (access sought.access) known)
-      (BySide p sought.pending l s i r (codes zs) (access sought.access) inner.number) found
-  side_found_in l s i r ys zs inner first aim found e is at h =
+      (BySide p rule sought.pending l s i r (codes zs) (access sought.access) inner.number) found
+  side_found_in rule l s i r ys zs inner first aim found e is at h =
       subst (λ (b : List Stmt). IsLeast length (AreShortest p (access sought.access) known)
-      (BySide p sought.pending l s i r (codes b) (access sought.access) inner.number) found) e
-      (side_found l s i r (codes ys) inner first aim found is at h)
+      (BySide p rule sought.pending l s i r (codes b) (access sought.access) inner.number) found) e
+      (side_found rule l s i r (codes ys) inner first aim found is at h)

@@ -2,7 +2,7 @@
 use Rattle.std.proofs.Common.{◌≡◌, ℕ, zero, suc, ◌<◌, List, [], ◌∷◌, length, refl, sym, ◌∙◌, subst, arith}
 use Rattle.std.specs.Prelude.{Bool, true, false, None, Some, slice_get}
 use Rattle.std.proofs.lemmas.Option.{slice_get-get_or}
-use Rattle.types.specs.Code.{Code, If, While, Split, Call, Async, Codes, Then, Procedure, Program}
+use Rattle.types.specs.Code.{Code, If, While, Split, Parts, Call, Async, Codes, Then, Procedure, Program}
 use Rattle.types.specs.Run.{procedure_of}
 use Rattle.effects.specs.Accesses.{Access}
 use Rattle.types.specs.Sound.{passed_for}
@@ -57,6 +57,8 @@ module _ (p : Program) where
     within Inner.while m x h g scope k = record { rule = _; goes = Goes.turn; around = g; scope = scope; follows = k.1 }
     within (Inner.split {s} {e} {l} {r} {b}) m x h g scope k =
         record { rule = _; goes = Goes.side; around = g; scope = l ∷ r ∷ scope; follows = k.2 }
+    within (Inner.parts {q = q}) m x h g scope k =
+        record { rule = _; goes = Goes.piece; around = g; scope = q ∷ scope; follows = k.2 }
     within (Inner.call {f} {es} {ss}) m x h g scope k =
         let below = below_parameters f x h in
         record {
@@ -119,6 +121,8 @@ module _ (p : Program) where
   ruled (Goes.turn {m} {t} {b} {s}) l x e h = subst (λ z. DoesOf m l (While t b) (record x { section = z })) (sym e) (inner_of m l (record x { section = s }) Inner.while h)
   ruled (Goes.side {m = m} {s = s} {e = a} {l = i} {r = r} {b = b} {x = y}) l x e h =
       subst (λ z. DoesOf m l (Split s a i r b) (record x { section = z })) (sym e) (inner_of m l (record x { section = y }) Inner.split h)
+  ruled (Goes.piece {m = m} {s = s} {e = a} {q = q} {i = i} {b = b} {x = y}) l x e h =
+      subst (λ z. DoesOf m l (Parts s a q i b) (record x { section = z })) (sym e) (inner_of m l (record x { section = y }) Inner.parts h)
   ruled (Goes.enter {m} {f} {es} {ss} {s} {k} there below) l x e h =
       subst (λ z. DoesOf m l (Call f es ss) (record x { section = z })) (passed ss k s there ∙ sym e) (inner_of m l (record x { section = k }) Inner.call h)
     where

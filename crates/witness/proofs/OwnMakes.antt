@@ -6,7 +6,7 @@ use Rattle.std.specs.Prelude.{Bool, true, false, flat_map, ◌++◌, ◌||◌}
 use Rattle.effects.proofs.Stability.{is_listed}
 use Rattle.sections.specs.Member.{Member, first, next}
 use Rattle.types.specs.Code.{Primitive, Skip, Assign, Store, Print, Raise}
-use Rattle.types.specs.Code.{Code, Do, If, While, Split, Call, Async, Finish}
+use Rattle.types.specs.Code.{Code, Do, If, While, Split, Parts, Begun, Call, Async, Finish}
 use Rattle.types.specs.Indexed.{indexed, indexed_truth}
 use Rattle.effects.specs.Accesses.{Access, reads, own_primitive, own_accesses}
 use Rattle.effects.specs.Translation.{access}
@@ -32,6 +32,8 @@ own_label l (Do s) x m = primitive_label l s x m
 own_label l (If t b c) x m = reads_label l (indexed_truth t) x m
 own_label l (While t b) x m = reads_label l (indexed_truth t) x m
 own_label l (Split s e i r b) x m = reads_label l (indexed e) x m
+own_label l (Parts s e q i b) x m = reads_label l (indexed e) x m
+own_label l (Begun s n k q i b) x m = elim m [ ]
 own_label l (Call f es ss) x m = reads_label l (flat_map indexed es) x m
 own_label l (Async b) x m = elim m [ ]
 own_label l (Finish b) x m = elim m [ ]

@@ -1,11 +1,11 @@
--- Parts of sections, through the sections whose sides they are.
+-- Parts of sections, through the sections whose sides or pieces they are.
 use Rattle.std.proofs.Common.{◌≡◌, ◌⊎◌, inl, inr, ℕ, ◌+◌, ◌<◌, ◌≤◌, List, length, refl, sym, ◌∙◌, subst, true≢false, arith}
 use Rattle.std.proofs.lemmas.Bool.{cases_lt, cases_eq}
 use Rattle.std.proofs.lemmas.List.{get_or_past}
 use Rattle.std.specs.Prelude.{◌↔◌, Bool, IsTrue, true, false}
-use Rattle.sections.specs.Origins.{Origin, Root, Left, Right, origin_of, IsNumbered, IsSideOf}
+use Rattle.sections.specs.Origins.{Origin, Root, Left, Right, Piece, origin_of, IsNumbered, IsChildOf}
 use Rattle.sections.specs.Overlap.{overlap}
-use Rattle.sections.proofs.Climbing.{above_root, above_left, above_beside, above_right}
+use Rattle.sections.proofs.Climbing.{above_root, above_left, above_piece, above_beside, above_right}
 use Rattle.sections.proofs.Overlapping.{overlap-sym, root-disjoint}
 use Rattle.witness.specs.Sharing.{LiesIn}
 
@@ -13,20 +13,27 @@ module _ (origins : List Origin) where
   -- a part is a side of something that lies there
   pub record SideThere (a b : ℕ) : Type 0 where
     pub parent : ℕ
-    pub is_side : IsSideOf origins parent a
+    pub is_side : IsChildOf origins parent a
     pub lies : LiesIn origins parent b
 
   pub lies_cases : {a b : ℕ} → LiesIn origins a b → (a ≡ b) ⊎ SideThere a b
   lies_cases LiesIn.itself = inl refl
   lies_cases (LiesIn.side {a} {s} {b} i h) = inr (record { parent = s; is_side = i; lies = h })
 
-  same_left : {a s p : ℕ} → origin_of origins a ≡ Left p → IsSideOf origins s a → s ≡ p
-  same_left {a} {s} {p} o (IsSideOf.left e) = let k : Left s ≡ Left p = sym e ∙ o in cc
-  same_left {a} {s} {p} o (IsSideOf.right e) = let k : Right s ≡ Left p = sym e ∙ o in absurd cc
+  same_left : {a s p : ℕ} → origin_of origins a ≡ Left p → IsChildOf origins s a → s ≡ p
+  same_left {a} {s} {p} o (IsChildOf.left e) = let k : Left s ≡ Left p = sym e ∙ o in cc
+  same_left {a} {s} {p} o (IsChildOf.right e) = let k : Right s ≡ Left p = sym e ∙ o in absurd cc
+  same_left {a} {s} {p} o (IsChildOf.piece e) = let k : Piece s ≡ Left p = sym e ∙ o in absurd cc
 
-  same_right : {a s p : ℕ} → origin_of origins a ≡ Right p → IsSideOf origins s a → s ≡ p
-  same_right {a} {s} {p} o (IsSideOf.left e) = let k : Left s ≡ Right p = sym e ∙ o in absurd cc
-  same_right {a} {s} {p} o (IsSideOf.right e) = let k : Right s ≡ Right p = sym e ∙ o in cc
+  same_right : {a s p : ℕ} → origin_of origins a ≡ Right p → IsChildOf origins s a → s ≡ p
+  same_right {a} {s} {p} o (IsChildOf.left e) = let k : Left s ≡ Right p = sym e ∙ o in absurd cc
+  same_right {a} {s} {p} o (IsChildOf.right e) = let k : Right s ≡ Right p = sym e ∙ o in cc
+  same_right {a} {s} {p} o (IsChildOf.piece e) = let k : Piece s ≡ Right p = sym e ∙ o in absurd cc
+
+  same_piece : {a s p : ℕ} → origin_of origins a ≡ Piece p → IsChildOf origins s a → s ≡ p
+  same_piece {a} {s} {p} o (IsChildOf.left e) = let k : Left s ≡ Piece p = sym e ∙ o in absurd cc
+  same_piece {a} {s} {p} o (IsChildOf.right e) = let k : Right s ≡ Piece p = sym e ∙ o in absurd cc
+  same_piece {a} {s} {p} o (IsChildOf.piece e) = let k : Piece s ≡ Piece p = sym e ∙ o in cc
 
   pub itself_lies : (a b : ℕ) → a ≡ b → LiesIn origins a b
   itself_lies a b e = subst (LiesIn origins a) e LiesIn.itself
@@ -34,14 +41,20 @@ module _ (origins : List Origin) where
   -- a side is a part of another section if the section that was split is one
   pub by_left : (a b p : ℕ) (t : Bool) → origin_of origins a ≡ Left p → (a ≡ b → ⊥) → (IsTrue t ↔ LiesIn origins p b) → IsTrue t ↔ LiesIn origins a b
   by_left a b p t o apart h = (
-    λ k. LiesIn.side (IsSideOf.left o) (h.0 k),
+    λ k. LiesIn.side (IsChildOf.left o) (h.0 k),
     λ k. elim (lies_cases k) [ inl e ↦ absurd (apart e) | inr s ↦ h.1 (subst (λ q. LiesIn origins q b) (same_left o s.is_side) s.lies) ],
   )
 
   pub by_right : (a b p : ℕ) (t : Bool) → origin_of origins a ≡ Right p → (a ≡ b → ⊥) → (IsTrue t ↔ LiesIn origins p b) → IsTrue t ↔ LiesIn origins a b
   by_right a b p t o apart h = (
-    λ k. LiesIn.side (IsSideOf.right o) (h.0 k),
+    λ k. LiesIn.side (IsChildOf.right o) (h.0 k),
     λ k. elim (lies_cases k) [ inl e ↦ absurd (apart e) | inr s ↦ h.1 (subst (λ q. LiesIn origins q b) (same_right o s.is_side) s.lies) ],
+  )
+
+  pub by_piece : (a b p : ℕ) (t : Bool) → origin_of origins a ≡ Piece p → (a ≡ b → ⊥) → (IsTrue t ↔ LiesIn origins p b) → IsTrue t ↔ LiesIn origins a b
+  by_piece a b p t o apart h = (
+    λ k. LiesIn.side (IsChildOf.piece o) (h.0 k),
+    λ k. elim (lies_cases k) [ inl e ↦ absurd (apart e) | inr s ↦ h.1 (subst (λ q. LiesIn origins q b) (same_piece o s.is_side) s.lies) ],
   )
 
 pub false_is_not : (b : Bool) → b ≡ false → IsTrue b → ⊥
@@ -79,7 +92,11 @@ module _ (origins : List Origin) (numbered : IsNumbered origins) where
       | inr apart ↦ overlap-sym origins s low ∙ sym (above_right origins numbered low high order s e apart) ∙ h
     ]
 
-    pub side_overlap : (s : ℕ) → IsSideOf origins s high → overlap origins low high ≡ true
+    piece_overlap : (s : ℕ) → origin_of origins high ≡ Piece s → overlap origins low high ≡ true → overlap origins s low ≡ true
+    piece_overlap s e h = overlap-sym origins s low ∙ sym (above_piece origins numbered low high order s e) ∙ h
+
+    pub side_overlap : (s : ℕ) → IsChildOf origins s high → overlap origins low high ≡ true
         → overlap origins s low ≡ true
-    side_overlap s (IsSideOf.left e) h = left_overlap s e h
-    side_overlap s (IsSideOf.right e) h = right_overlap s e h
+    side_overlap s (IsChildOf.left e) h = left_overlap s e h
+    side_overlap s (IsChildOf.right e) h = right_overlap s e h
+    side_overlap s (IsChildOf.piece e) h = piece_overlap s e h

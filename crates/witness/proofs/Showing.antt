@@ -1,19 +1,22 @@
 -- Two ways that meet show each race.
-use Rattle.std.proofs.Common.{inl, inr, ℕ, List, ◌∷◌}
+use Rattle.std.proofs.Common.{inl, inr, ℕ, List, ◌∷◌, refl}
 use Rattle.std.specs.Prelude.{true, false}
 use Rattle.types.specs.Code.{Code, Codes, Procedure, Program}
 use Rattle.effects.specs.Accesses.{Access}
-use Rattle.effects.specs.Effects.{accesses}
+use Rattle.effects.specs.Effects.{accesses, past_parts, All}
 use Rattle.effects.specs.Sound.{IsSound, Follows, FollowsOf}
 use Rattle.effects.specs.Statements.{Block}
-use Rattle.parallel_relation.specs.Together.{Together}
+use Rattle.parallel_relation.specs.Together.{OfTurn, Together}
 use Rattle.race_checker.specs.Races.{Race, IsRace}
 use Rattle.race_checker.proofs.Judging.{numbered_stands}
 use Rattle.witness.specs.Meets.{Meets}
+use Rattle.witness.specs.Ways.{step}
 use Rattle.witness.specs.Witness.{IsShown}
 use Rattle.witness.specs.declared.crossing.RunsTogether.{RunsTogether}
+use Rattle.witness.specs.declared.crossing.RunsTogether.TheVariants.{Turns}
+use Rattle.witness.specs.declared.step.Rule.TheVariants.{Piece}
 use Rattle.witness.specs.declared.step.WayStep.{WayStep}
-use Rattle.witness.proofs.HasWays.{done, done_of, left_of, leads_of, leads_in}
+use Rattle.witness.proofs.HasWays.{done, done_of, left, left_of, leads_of, leads_in}
 
 module _ (p : Program) (sound : IsSound p) where
   -- two ways meet in a list
@@ -33,8 +36,14 @@ module _ (p : Program) (sound : IsSound p) where
   block_follows Block.if_other g scope h = record { scope = scope; follows = h.2 }
   block_follows Block.while g scope h = record { scope = scope; follows = h.1 }
   block_follows (Block.split {s} {e} {l} {r} {b}) g scope h = record { scope = l ∷ r ∷ scope; follows = h.2 }
+  block_follows (Block.parts {q = q}) g scope h = record { scope = q ∷ scope; follows = h.2 }
   block_follows Block.async g scope h = record { scope = scope; follows = h }
   block_follows Block.finish g scope h = record { scope = scope; follows = h }
+
+  -- the step before a turn makes no access
+  of_block : (l : ℕ) {b : Codes} {y : Access} → OfTurn p accesses l b y → All p accesses b y
+  of_block l (inl h) = elim h [ ]
+  of_block l (inr h) = h
 
   met : {b : Codes} {x y : Access} → Together p accesses b x y → (g : Procedure) (scope : List ℕ) → Follows p g scope b → HaveMet b x y
   met (Together.follows h k) g scope f =
@@ -45,6 +54,19 @@ module _ (p : Program) (sound : IsSound p) where
       let w = left_of p sound h g scope f.0 in
       let v = done_of p sound k g scope f.0 in
       record { kind = _; one = w.steps; other = v.steps; meets = Meets.turns w.leads v.leads }
+  met (Together.pieces {l = l} {s = s} {q = q} {x = x} {y = y} h) g scope f =
+      let w = left p sound h.pending g (q ∷ scope) f.0.2 in
+      let v = done p sound (of_block l h.later) g (q ∷ scope) f.0.2 in
+      record {
+        kind = Turns;
+        one = step l Piece (past_parts s q x.section) ∷ w.steps;
+        other = step l Piece (past_parts s q y.section) ∷ v.steps;
+        meets = Meets.pieces (record {
+          pending = record { behind = w.steps; is = refl; leads = w.leads };
+          later = record { behind = v.steps; is = refl; leads = v.leads };
+          meet = h.meet;
+        });
+      }
   met (Together.inside blk h) g scope f =
       let r = block_follows blk g scope f.0 in
       let m = met h g r.scope r.follows in
@@ -68,5 +90,7 @@ pub together : (p : Program) {b : Codes} {kind : RunsTogether} {one other : List
     → Together p accesses b x y
 together p (Meets.follows w v) = Together.follows (leads_of p w) (leads_in p v)
 together p (Meets.turns w v) = Together.turns (leads_of p w) (leads_of p v)
+together p (Meets.pieces m) =
+    Together.pieces (record { pending = leads_in p m.pending.leads; later = inr (leads_in p m.later.leads); meet = m.meet })
 together p (Meets.inside blk m) = Together.inside blk (together p m)
 together p (Meets.later m) = Together.later (together p m)

@@ -5,7 +5,7 @@ use Rattle.std.proofs.Math.Bool.{or_comm}
 use Rattle.std.proofs.lemmas.Bool.{cases_eq, cases_order, false_from_ne_true, true_from_ne_false}
 use Rattle.std.specs.Prelude.{true}
 use Rattle.sections.specs.Member.{Member, first, next}
-use Rattle.sections.specs.Origins.{Origin, Left, Right, IsNumbered, IsSideOf, left, right}
+use Rattle.sections.specs.Origins.{Origin, Left, Right, Piece, IsNumbered, IsChildOf, left, right, piece}
 use Rattle.sections.specs.Overlap.{line, line_within, root_of, are_sides, are_opposite, overlap}
 use Rattle.sections.specs.declared.id.SectionId.{SectionId}
 use Rattle.sections.proofs.Lines.{behind, in_own_line, parent_below, root_of-side, root_or_side, up_line}
@@ -21,22 +21,27 @@ module _ (origins : List Origin) where
   parts_of_parts (LiesIn.side i h) k = LiesIn.side i (parts_of_parts h k)
 
   -- a section has one parent
-  pub one_parent : {a s t : ℕ} → IsSideOf origins s a → IsSideOf origins t a → s ≡ t
+  pub one_parent : {a s t : ℕ} → IsChildOf origins s a → IsChildOf origins t a → s ≡ t
   one_parent (left e) (left f) = let k : Left _ ≡ Left _ = sym e ∙ f in cc
   one_parent (left e) (right f) = let k : Left _ ≡ Right _ = sym e ∙ f in absurd cc
+  one_parent (left e) (piece f) = let k : Left _ ≡ Piece _ = sym e ∙ f in absurd cc
   one_parent (right e) (left f) = let k : Right _ ≡ Left _ = sym e ∙ f in absurd cc
   one_parent (right e) (right f) = let k : Right _ ≡ Right _ = sym e ∙ f in cc
+  one_parent (right e) (piece f) = let k : Right _ ≡ Piece _ = sym e ∙ f in absurd cc
+  one_parent (piece e) (left f) = let k : Piece _ ≡ Left _ = sym e ∙ f in absurd cc
+  one_parent (piece e) (right f) = let k : Piece _ ≡ Right _ = sym e ∙ f in absurd cc
+  one_parent (piece e) (piece f) = let k : Piece _ ≡ Piece _ = sym e ∙ f in cc
 
   -- the side of s in which a part of s lies
   pub record SideAbove (s a : ℕ) : Type 0 where
     pub at : ℕ
-    pub is_side : IsSideOf origins s at
+    pub is_side : IsChildOf origins s at
     pub lies : LiesIn origins a at
 
   pub side_above : {a s : ℕ} → LiesIn origins a s → a ≢ s → SideAbove s a
   side_above LiesIn.itself apart = absurd (apart refl)
   side_above (LiesIn.side {a} {s} {b} i h) apart = elim (cases_eq s b) [
-    | inl e ↦ record { at = a; is_side = subst (λ q. IsSideOf origins q a) e i; lies = LiesIn.itself }
+    | inl e ↦ record { at = a; is_side = subst (λ q. IsChildOf origins q a) e i; lies = LiesIn.itself }
     | inr other ↦ (let up = side_above h other in record { at = up.at; is_side = up.is_side; lies = LiesIn.side i up.lies })
   ]
 
@@ -77,10 +82,10 @@ module _ (origins : List Origin) where
     one_root (LiesIn.side {a} {s} {b} i h) = root_of-side origins numbered a s i ∙ one_root h
 
     -- no section lies in two sides of one section
-    pub one_side : {a s x y : ℕ} → IsSideOf origins s x → IsSideOf origins s y → LiesIn origins a x → LiesIn origins a y → x ≡ y
+    pub one_side : {a s x y : ℕ} → IsChildOf origins s x → IsChildOf origins s y → LiesIn origins a x → LiesIn origins a y → x ≡ y
     one_side {a} {s} {x} {y} i j h k = elim (part_of_both h k) [ inl m ↦ inner x y i j m | inr m ↦ sym (inner y x j i m) ]
       where
-        inner : (u v : ℕ) → IsSideOf origins s u → IsSideOf origins s v → LiesIn origins u v → u ≡ v
+        inner : (u v : ℕ) → IsChildOf origins s u → IsChildOf origins s v → LiesIn origins u v → u ≡ v
         inner u v f g m = elim (lies_cases origins m) [
           | inl e ↦ e
           | inr r ↦
@@ -91,7 +96,7 @@ module _ (origins : List Origin) where
         ]
 
     -- one step of the walk up, from the section with the larger number
-    pub nearest-above : (low high p s : ℕ) → low < high → IsSideOf origins p high → IsNearest origins p low s
+    pub nearest-above : (low high p s : ℕ) → low < high → IsChildOf origins p high → IsNearest origins p low s
         → IsNearest origins low high s
     nearest-above low high p s order i h = record {
       first = h.second;
@@ -182,11 +187,11 @@ module _ (origins : List Origin) where
 
     -- two sections don't lie in sides of different splits, and in both sides of one
     one_split : (a b s x y p u v : ℕ) → AreOfTwoSplits origins s x y → LiesIn origins a x → LiesIn origins b y
-        → IsSideOf origins p u → IsSideOf origins p v → LiesIn origins a u → LiesIn origins b v → are_opposite origins u v ≡ true → ⊥
+        → IsChildOf origins p u → IsChildOf origins p v → LiesIn origins a u → LiesIn origins b v → are_opposite origins u v ≡ true → ⊥
     one_split a b s x y p u v two h k i j m n o = elim (cases_eq s p) [
       | inl e ↦
-          (let first : x ≡ u = one_side two.first (subst (λ q. IsSideOf origins q u) (sym e) i) h m in
-          let second : y ≡ v = one_side two.second (subst (λ q. IsSideOf origins q v) (sym e) j) k n in
+          (let first : x ≡ u = one_side two.first (subst (λ q. IsChildOf origins q u) (sym e) i) h m in
+          let second : y ≡ v = one_side two.second (subst (λ q. IsChildOf origins q v) (sym e) j) k n in
           true≢false (sym o ∙ sym (ap (λ q. are_opposite origins q v) first) ∙ sym (ap (are_opposite origins x) second) ∙ two.other_split))
       | inr other ↦
           (let near = splits_are_nearest a b s x y two h k in

@@ -7,7 +7,7 @@ use Rattle.witness.specs.Least.{IsLeast, all_covered}
 use Rattle.types.specs.Translation.{program}
 use Rattle.witness.specs.Settled.{IsAim}
 use Rattle.witness.specs.Ways.{WayOf}
-use Rattle.witness.specs.Meets.{Meets, MeetsAt}
+use Rattle.witness.specs.Meets.{Meets, MeetsAt, MeetsInTurns}
 use Rattle.witness.specs.declared.crossing.Crossing.{Crossing}
 use Rattle.witness.specs.declared.crossing.Pairing.{Pairing}
 use Rattle.witness.specs.declared.crossing.RunsTogether.{RunsTogether}
@@ -48,6 +48,11 @@ pub record IsInTurn (p : Program) (l : ℕ) (s : Code) (x y : Access) (c : Cross
   pub meeting : c.meeting ≡ Turns
   pub pending : WayOf p true l s c.pending x
   pub later : WayOf p false l s c.later y
+
+-- both ways start at this `parts`
+pub record IsInTurns (p : Program) (l s q : ℕ) (b : Codes) (x y : Access) (c : Crossed) : Type 0 where
+  pub meeting : c.meeting ≡ Turns
+  pub meets : MeetsInTurns p l s q b c.pending c.later x y
 
 -- the shortest two ways that meet as described, found if there are any
 abbrev pub IsShortestOf : Pairing → (Program → (x y : Access) → Crossed → Type 0) → Option Crossing → Type 0

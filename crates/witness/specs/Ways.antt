@@ -1,12 +1,12 @@
 -- Ways: from statements down to an access that they may do, or leave pending, step by step.
 use Rattle.std.specs.Prelude.{ℕ, ◌≡◌, ◌<◌, Bool, false, List, [], ◌∷◌, length, Some, slice_get}
 use Rattle.sections.specs.Member.{Member}
-use Rattle.types.specs.Code.{Number, Truth, Code, If, While, Split, Call, Async, Finish, Codes, Then, Program}
+use Rattle.types.specs.Code.{Number, Truth, Code, If, While, Split, Parts, Call, Async, Finish, Codes, Then, Program}
 use Rattle.types.specs.Run.{procedure_of}
 use Rattle.effects.specs.Accesses.{Access, own_accesses}
-use Rattle.effects.specs.Effects.{past_split}
+use Rattle.effects.specs.Effects.{past_parts, past_split}
 use Rattle.witness.specs.declared.step.Rule.{Rule}
-use Rattle.witness.specs.declared.step.Rule.TheVariants.{Own, Body, Other, Turn, Side, Enter, Begin, Await}
+use Rattle.witness.specs.declared.step.Rule.TheVariants.{Own, Body, Other, Turn, Side, Piece, Enter, Begin, Await}
 use Rattle.witness.specs.declared.step.WayStep.{WayStep}
 
 -- the step at the statement with this label, if the section has this name
@@ -24,6 +24,9 @@ module _ (p : Program) where
     -- both sides of a split belong to the section that was split
     side : {m : Bool} {s : ℕ} {e : Number} {l r : ℕ} {b : Codes} {x : ℕ}
         → Goes m (Split s e l r b) Side m b (past_split s l r x) x
+    -- the piece of a `parts` belongs to its section
+    piece : {m : Bool} {s : ℕ} {e : Number} {q i : ℕ} {b : Codes} {x : ℕ}
+        → Goes m (Parts s e q i b) Piece m b (past_parts s q x) x
     -- parameter k is the section that is passed for it
     enter : {m : Bool} {f : ℕ} {es : List Number} {ss : List ℕ} {s k : ℕ}
         → slice_get ss k ≡ Some s → k < length (procedure_of p f).parameters

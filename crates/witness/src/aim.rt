@@ -1,15 +1,15 @@
 //! An access of a race, and the ways to it.
 
 ghost use Rattle.std.specs.Prelude.{◌≡◌, IfOk, length};
-ghost use Rattle.types.specs.Translation.{code as plain_code, program as program_of};
+ghost use Rattle.types.specs.Translation.{code as plain_code, codes as codes_of, program as program_of};
 ghost use Rattle.effects.specs.Translation.{access as access_of};
 ghost use Rattle.witness.specs.Known.{steps};
 ghost use Rattle.witness.specs.Least.{IsLeast, all_covered};
 ghost use Rattle.witness.specs.Settled.{IsAim};
-ghost use Rattle.witness.specs.Ways.{WayOf};
+ghost use Rattle.witness.specs.Ways.{Way, WayOf};
 
 use crate::known::Known;
-use crate::search::{Sought, way_of};
+use crate::search::{Sought, way_in, way_of};
 use crate::settling::settled;
 use crate::step::WayStep;
 use effects::access::Access;
@@ -51,5 +51,25 @@ impl Aim {
             pending,
         };
         way_of(alloc, code, &self.known, sought, statement)
+    }
+
+    /// Returns the shortest way from a list of statements.
+    pub fn way_in(
+        &self,
+        alloc: Global,
+        code: &Program,
+        pending: bool,
+        list: &[Stmt],
+    ) -> Result<Option<Vec<WayStep>>, AllocError>
+        requires aim { IsAim (program_of code.now) self.now }
+        ensures { IfOk result (λ found. IsLeast length all_covered (λ way.
+            Way (program_of code.now) pending (codes_of list.now) way
+            (access_of self.now.access)) (steps found)) }
+    {
+        let sought = Sought {
+            access: self.access,
+            pending,
+        };
+        way_in(alloc, code, &self.known, sought, list)
     }
 }

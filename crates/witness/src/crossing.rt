@@ -1,24 +1,32 @@
 //! Where what a statement leaves pending meets what is done after it.
 
-ghost use Rattle.std.specs.Prelude.{◌≡◌, ◌+◌, IfOk, Some, length};
+ghost use Rattle.std.specs.Prelude.{◌≡◌, ◌+◌, IfOk, length};
 ghost use Rattle.types.specs.Translation.{code as plain_code, codes as codes_of, program as program_of};
+ghost use Rattle.effects.specs.Effects.{past_parts};
 ghost use Rattle.effects.specs.Translation.{access as access_of};
-ghost use Rattle.witness.specs.Crossed.{ArePaired, IsAcross, IsInTurn, IsShortestOf, MeetAt};
+ghost use Rattle.witness.specs.Crossed.{ArePaired, IsAcross, IsInTurn, IsInTurns, IsShortestOf, MeetAt};
 ghost use Rattle.witness.specs.Crossed.{MeetIn, both, crossed};
 ghost use Rattle.witness.specs.Known.{steps};
 ghost use Rattle.witness.specs.Least.{IsLeast, IsLesserOf, all_covered};
+ghost use Rattle.witness.specs.Meets.{WayInto};
+ghost use Rattle.witness.specs.Settled.{IsAim};
+ghost use Rattle.witness.specs.Ways.{step as step_of};
 
 use crate::aim::Aim;
-use crate::step::{WayStep, shorter};
+use crate::step::{Rule, WayStep, led_on, shorter};
+use effects::access::Access;
+use effects::firsts::around;
+use parallel_relation::meetings::are_to_pieces;
 use std::alloc::{AllocError, Global};
-use types::code::{Program, Stmt, StmtKind};
+use types::code::{Label, Pieces, Program, Stmt, StmtKind};
 
 /// How two accesses can run together.
 #[derive(Clone, Copy, PartialEq, Eq, Debug)]
 pub enum RunsTogether {
     /// A statement leaves one pending, and a later statement of its list does the other.
     Follows,
-    /// A loop leaves one pending, and does the other in a later iteration.
+    /// A loop leaves one pending, and does the other in a later iteration; or a `parts`, in a later
+    /// turn.
     Turns,
 }
 
@@ -152,6 +160,11 @@ fn crossing_of(pairing: &Pairing<'_>, statement: &Stmt) -> Result<Option<Crossin
             let inside = crossing_in(pairing, body)?;
             Ok(shorter_crossing(turn, inside))
         }
+        StmtKind::Parts { pieces, body } => {
+            let turns = in_turns(pairing, statement.label, pieces, body)?;
+            let inside = crossing_in(pairing, body)?;
+            Ok(shorter_crossing(turns, inside))
+        }
         StmtKind::Split { body, .. } | StmtKind::Async { body } | StmtKind::Finish { body } => {
             crossing_in(pairing, body)
         }
@@ -182,4 +195,65 @@ fn in_turn(pairing: &Pairing<'_>, statement: &Stmt) -> Result<Option<Crossing>, 
         pending,
         later,
     }))
+}
+
+/// Finds the ways from a `parts`, in two of its turns. Two accesses to the pieces never meet.
+#[tactic(auto, using(crate::proofs::Crossings::apart_in_turns, crate::proofs::Crossings::in_two_turns))]
+fn in_turns(
+    pairing: &Pairing<'_>,
+    label: Label,
+    pieces: &Pieces,
+    body: &[Stmt],
+) -> Result<Option<Crossing>, AllocError>
+    requires { ArePaired pairing.now }
+    ensures { IfOk result (IsShortestOf pairing.now (λ p. IsInTurns p label
+        pieces.now.section.number pieces.now.piece.number (codes_of body.now))) }
+{
+    let first = pairing.first;
+    let second = pairing.second;
+    if are_to_pieces(first.access, second.access, pieces.piece) {
+        return Ok(None);
+    }
+    let Some(pending) = way_into(pairing, first, true, label, pieces, body)? else {
+        return Ok(None);
+    };
+    let Some(later) = way_into(pairing, second, false, label, pieces, body)? else {
+        return Ok(None);
+    };
+    Ok(Some(Crossing {
+        meeting: RunsTogether::Turns,
+        pending,
+        later,
+    }))
+}
+
+/// Returns the shortest way into the block of a `parts`, to an access in the names of the block.
+fn way_into(
+    pairing: &Pairing<'_>,
+    aim: &Aim,
+    pending: bool,
+    label: Label,
+    pieces: &Pieces,
+    body: &[Stmt],
+) -> Result<Option<Vec<WayStep>>, AllocError>
+    requires aim { IsAim (program_of pairing.now.code.now) aim.now }
+    ensures { IfOk result (λ found. IsLeast length all_covered (λ way.
+        WayInto (program_of pairing.now.code.now) pending label pieces.now.section.number
+        pieces.now.piece.number (codes_of body.now) way (access_of aim.now.access)) (steps found)) }
+{
+    let way = aim.way_in(pairing.alloc, pairing.code, pending, body)?;
+    led_on(pairing.alloc, step_into(label, pieces, aim.access), way)
+}
+
+/// Returns the step into the block of a `parts`, to an access with this section in the block.
+fn step_into(label: Label, pieces: &Pieces, access: Access) -> WayStep
+    ensures { result ≡ step_of label Rule.Piece
+        (past_parts pieces.now.section.number pieces.now.piece.number access.section.number) }
+{
+    let outside = around(access, pieces.section, pieces.piece, pieces.piece);
+    WayStep {
+        label,
+        rule: Rule::Piece,
+        section: outside.section,
+    }
 }

@@ -49,8 +49,8 @@ pub fn each_way_is_shortest()
 {}
 
 /// States that two sections share places for one of the reasons exactly if they overlap. They lie in
-/// sides of different splits of a third exactly if, too, neither is a part of the other. The third
-/// is then the nearest section of which both are parts.
+/// sides or pieces of a third exactly if, too, neither is a part of the other. The third is then the
+/// nearest section of which both are parts.
 pub fn reasons_to_share_places()
     ensures shared { (origins : List Origin) → IsNumbered origins → (a b : ℕ)
         → ((why : TheSharing) × Shares origins a b why) ↔ (overlap origins a b ≡ true) }

@@ -189,6 +189,15 @@ fn way_inside(
             let by_itself = way_behind(alloc, code, known, aim, step, body)?;
             Ok(shorter(by_left, shorter(by_right, by_itself)))
         }
+        StmtKind::Parts { pieces, body } => {
+            let step = sought.step(statement, Rule::Piece);
+            let aim = sought.inside(pieces.section, pieces.piece, pieces.piece, pieces.piece);
+            let by_piece = way_behind(alloc, code, known, aim, step, body)?;
+            let itself = sought.access.section;
+            let aim = sought.inside(pieces.section, pieces.piece, pieces.piece, itself);
+            let by_itself = way_behind(alloc, code, known, aim, step, body)?;
+            Ok(shorter(by_piece, by_itself))
+        }
         StmtKind::Call {
             procedure,
             sections,

@@ -18,8 +18,8 @@ pub enum Sharing {
     FirstIsPart,
     /// The second is a part of the first.
     SecondIsPart,
-    /// They lie in sides of different splits of this section, the nearest one of which both are
-    /// parts.
+    /// They lie in sides or pieces of this section, but not in the two sides of one split. It is the
+    /// nearest section of which both are parts.
     OfSplits { section: SectionId },
 }
 
@@ -61,6 +61,7 @@ fn lies_in(sections: &SectionTree, inner: SectionId, outer: SectionId) -> bool
         Origin::Root => false,
         Origin::Left { parent } => lies_in(sections, parent, outer),
         Origin::Right { parent } => lies_in(sections, parent, outer),
+        Origin::Piece { parent } => lies_in(sections, parent, outer),
     }
 }
 
@@ -93,5 +94,6 @@ fn nearest_above(sections: &SectionTree, low: SectionId, high: SectionId) -> Sec
         Origin::Root => high,
         Origin::Left { parent } => nearest(sections, parent, low),
         Origin::Right { parent } => nearest(sections, parent, low),
+        Origin::Piece { parent } => nearest(sections, parent, low),
     }
 }

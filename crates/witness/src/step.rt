@@ -22,6 +22,8 @@ pub enum Rule {
     Turn,
     /// `split s at 2 as l, r { HERE }`
     Side,
+    /// `parts s by 2 as p, i { HERE }`
+    Piece,
     /// `f(a);`: the body of that procedure.
     Enter { procedure: ProcedureId },
     /// `async { HERE }`

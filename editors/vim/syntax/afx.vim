@@ -16,14 +16,14 @@ syn match   afxComment   "//.*$" contains=@Spell
 syn keyword afxStatement skip print fault
 syn keyword afxTask      async finish
 syn keyword afxFlow      if else while
-syn keyword afxDeclare   main proc array var split as at
+syn keyword afxDeclare   main proc array var split as at parts by
 syn keyword afxParameter mut read
 syn keyword afxType      int byte
 syn keyword afxLogic     and or not
 syn keyword afxLength    len
 syn keyword afxTruth     true false
-" These stand in no statement yet.
-syn keyword afxReserved  parts by rescue
+" This stands in no statement yet.
+syn keyword afxReserved  rescue
 
 hi def link afxUnread    Error
 hi def link afxNumber    Number

@@ -56,6 +56,7 @@ const KINDS: &[FaultKind] = &[
     FaultKind::OutOfElement,
     FaultKind::SplitPoint,
     FaultKind::Raised(-3),
+    FaultKind::PieceSize,
 ];
 
 /// Returns faults of these kinds.
@@ -108,6 +109,7 @@ fault 0.1.12 at 65535: F3
 fault 0.1.12 at 65535: F4
 fault 0.1.12 at 65535: F5
 fault 0.1.12 at 65535: F6 -3
+fault 0.1.12 at 65535: F7
 ";
 
 /// The lines of its arrays, which follow.

@@ -54,6 +54,11 @@ const VERDICTS: &[(&str, &str)] = &[
     ("main { while 1 }", "S2 at 1:16"),
     ("main { split s as l, r { } }", "S2 at 1:16"),
     ("main { split s at 1 as l { } }", "S2 at 1:26"),
+    ("main { parts s by k as p, i { async { } } }", RIGHT),
+    ("main { parts s as p, i { } }", "S2 at 1:16"),
+    ("main { parts s at 1 as p, i { } }", "S2 at 1:16"),
+    ("main { parts s by 1 as p { } }", "S2 at 1:26"),
+    ("main { parts s by 1 as p, i; }", "S2 at 1:28"),
     ("main { async skip; }", "S2 at 1:14"),
     ("main { else { } }", "S2 at 1:8"),
     ("main { x = - - 1; }", "S2 at 1:14"),
@@ -66,7 +71,9 @@ const VERDICTS: &[(&str, &str)] = &[
     ("proc f(mut a: int) skip;", "S2 at 1:20"),
     ("main { x = 1 < 2 < 3; }", "S2 at 1:18"),
     ("main { x = rescue; }", "S2 at 1:12"),
-    ("main { parts = 1; }", "S2 at 1:8"),
+    ("main { parts = 1; }", "S2 at 1:14"),
+    ("main { x = parts; }", "S2 at 1:12"),
+    ("main { by = 1; }", "S2 at 1:8"),
     // ---- which error comes first
     ("main { x = 1 &&", "S1 at 1:14"),
     ("main } } } { ( !", "S1 at 1:16"),
@@ -142,6 +149,12 @@ const CANONICAL: &[&str] = &[
     l[0] = 1 <= 2;
   }
   g();
+}
+",
+    "main {
+  parts s by len(s) / 2 as p, i {
+    p[0] = i;
+  }
 }
 ",
     "main {

@@ -80,6 +80,74 @@ fn sections_that_overlap(rt: HostRuntime) {
     assert!(rt; tree.origin(SectionId { number: 7 }) == Origin::Right { parent });
 }
 
+/// Returns the tree with a piece of the array 0, a piece of the side 2, and a piece of that.
+fn tree_with_pieces(rt: &impl Abort, alloc: Global) -> SectionTree {
+    let mut tree = tree(rt, alloc);
+    for (number, want) in [(0, 8), (2, 9), (9, 10)] {
+        assert!(rt; number < tree.len());
+        let piece = tree.part(SectionId { number }).expect(rt, "memory");
+        assert!(rt; piece.number == want, "piece of {number}");
+    }
+    tree
+}
+
+/// Two sections of that tree, and whether they overlap.
+const PIECES: &[(usize, usize, bool)] = &[
+    (8, 8, true),
+    (8, 0, true),
+    (8, 1, false),
+    (8, 3, true),
+    (8, 9, true),
+    (9, 2, true),
+    (9, 3, false),
+    (9, 5, true),
+    (9, 7, true),
+    (10, 9, true),
+    (10, 3, false),
+    (10, 8, true),
+];
+
+#[test]
+fn pieces_that_overlap(rt: HostRuntime) {
+    let tree = tree_with_pieces(&rt, rt.alloc());
+    assert!(rt; tree.len() == 11);
+    for (a, b, want) in PIECES {
+        assert!(rt; *a < tree.len() && *b < tree.len(), "{a} and {b}");
+        let first = SectionId { number: *a };
+        let second = SectionId { number: *b };
+        assert!(rt; tree.overlap(first, second) == *want, "{a} and {b}");
+        assert!(rt; tree.overlap(second, first) == *want, "{b} and {a}");
+    }
+}
+
+/// A window, the size of its pieces, the number of a piece, and where that piece starts and how long
+/// it is.
+const CUTS: &[(WindowNumbers, u64, u64, Option<(usize, usize)>)] = &[
+    ((0, 5, 10), 4, 0, Some((5, 4))),
+    ((0, 5, 10), 4, 1, Some((9, 4))),
+    ((0, 5, 10), 4, 2, Some((13, 2))),
+    ((0, 5, 10), 4, 3, None),
+    ((0, 0, 8), 4, 1, Some((4, 4))),
+    ((0, 0, 8), 4, 2, None),
+    ((0, 0, 3), 3, 0, Some((0, 3))),
+    ((0, 2, 3), u64::MAX, 0, Some((2, 3))),
+    ((0, 0, 0), 1, 0, None),
+    ((0, 0, 3), 0, 0, None),
+    // ---- a product over 64 bits
+    ((0, 0, 3), 9_223_372_036_854_775_808, 2, None),
+    ((0, 0, 3), 4_294_967_296, 4_294_967_296, None),
+    ((0, 0, 3), u64::MAX, u64::MAX, None),
+];
+
+#[test]
+fn pieces_of_windows(rt: HostRuntime) {
+    for (whole, size, turn, want) in CUTS {
+        let found = window(&rt, *whole).piece(*size, *turn);
+        let numbers = found.map(|piece| (piece.at, piece.len));
+        assert!(rt; numbers == *want, "piece {turn} of {size} in {whole:?}");
+    }
+}
+
 /// A window: its array, its first place and its length.
 pub type WindowNumbers = (usize, usize, usize);
 

@@ -30,7 +30,28 @@ const SCOPE: &[Verdict] = &[
     ("main { array a: int[1]; f(a); }", "Y1 at label 1"),
     ("main { f(); }", "Y1 at label 1"),
     ("proc f(mut s: int) { } main { f(a); }", "Y1 at label 1"),
+    (
+        "main { array a: int[2]; parts a by 1 as p, i { p[0] = i; a[0] = len(p); i = 2; } }",
+        RIGHT,
+    ),
     ("main { split a at 0 as l, r { } }", "Y1 at label 1"),
+    ("main { parts a by 1 as p, i { } }", "Y1 at label 1"),
+    (
+        "main { array a: int[1]; parts a by i as p, i { } }",
+        "Y1 at label 1",
+    ),
+    (
+        "main { array a: int[1]; parts a by len(p) as p, i { } }",
+        "Y1 at label 1",
+    ),
+    (
+        "main { array a: int[1]; parts a by 1 as p, i { } print i; }",
+        "Y1 at label 2",
+    ),
+    (
+        "main { array a: int[1]; parts a by 1 as p, i { } p[0] = 1; }",
+        "Y1 at label 2",
+    ),
     ("main { print len(a); }", "Y1 at label 1"),
     ("proc f(n: int) { } main { print n; }", "Y1 at label 1"),
     ("main { array a: int[1]; } ", RIGHT),
@@ -89,6 +110,18 @@ const DECLARED: &[Verdict] = &[
     ("proc f() { } proc f() { } main { }", "Y2"),
     ("proc f(n: int) { var n = 1; } main { }", "Y2 at label 1"),
     (
+        "main { array a: int[1]; parts a by 1 as p, p { } }",
+        "Y2 at label 1",
+    ),
+    (
+        "main { array a: int[1]; parts a by 1 as a, i { } }",
+        "Y2 at label 1",
+    ),
+    (
+        "main { array a: int[1]; var i = 0; parts a by 1 as p, i { } }",
+        "Y2 at label 2",
+    ),
+    (
         "main { array a: int[1]; split a at 0 as l, l { } }",
         "Y2 at label 1",
     ),
@@ -136,6 +169,14 @@ const KINDS: &[Verdict] = &[
     ("main { array a: int[1]; a = 1; }", "Y3 at label 1"),
     ("main { var x = 1; x[0] = 1; }", "Y3 at label 2"),
     ("main { var x = 1; print len(x); }", "Y3 at label 2"),
+    (
+        "main { var x = 1; parts x by 1 as p, i { } }",
+        "Y3 at label 2",
+    ),
+    (
+        "main { array a: int[1]; parts a by true as p, i { } }",
+        "Y3 at label 1",
+    ),
     (
         "main { var x = 1; split x at 0 as l, r { } }",
         "Y3 at label 2",
@@ -219,6 +260,10 @@ const ASSIGNED: &[Verdict] = &[
         "Y5 at label 4",
     ),
     (
+        "main { array a: int[1]; parts a by 1 as p, i { async { i = 1; } } }",
+        "Y5 at label 3",
+    ),
+    (
         "main { array a: int[1]; var x = 1; async { split a at 0 as l, r { x = 2; } } }",
         "Y5 at label 4",
     ),
@@ -239,6 +284,10 @@ const WRITTEN: &[Verdict] = &[
     (
         "proc f(read s: int) { s[0] = 1; } main { }",
         "Y6 at label 1",
+    ),
+    (
+        "proc f(read s: int) { parts s by 1 as p, i { p[0] = 1; } } main { }",
+        "Y6 at label 2",
     ),
     (
         "proc f(read s: int) { split s at 0 as l, r { l[0] = 1; } } main { }",
@@ -303,6 +352,21 @@ const OVERLAP: &[Verdict] = &[
         "proc f(mut s: int, read t: int) { skip; } main { array a: int[2];
         split a at 1 as l, r { split a at 1 as m, n { f(l, n); } } }",
         "Y7 at label 4",
+    ),
+    (
+        "proc f(mut s: int, read t: int) { skip; }
+        main { array a: int[2]; parts a by 1 as p, i { f(p, a); } }",
+        "Y7 at label 3",
+    ),
+    (
+        "proc f(mut s: int, read t: int) { skip; } main { array a: int[2];
+        split a at 1 as l, r { parts a by 1 as p, i { f(l, p); } } }",
+        "Y7 at label 4",
+    ),
+    (
+        "proc f(mut s: int, read t: int) { skip; } main { array a: int[2];
+        split a at 1 as l, r { parts l by 1 as p, i { f(p, r); } } }",
+        RIGHT,
     ),
 ];
 

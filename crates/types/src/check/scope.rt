@@ -6,8 +6,8 @@ ghost use Rattle.std.specs.Prelude.{◌≡◌, ◌∷◌, ◌++◌, [], ◌-◌,
 ghost use Rattle.std.specs.String.{string_bytes};
 ghost use Rattle.types.specs.NameErrors.{declaring};
 ghost use Rattle.types.specs.Resolving.{scope_of, left as left_by};
-ghost use Rattle.types.specs.Scope.{ASection, meant, empty_scope, with_scalar, with_root, with_sides};
-ghost use Rattle.types.specs.Scope.{next as next_place, inside_async as in_async_body, kind_of};
+ghost use Rattle.types.specs.Scope.{ASection, AScalar, meant, empty_scope, with_scalar, with_root};
+ghost use Rattle.types.specs.Scope.{with_sides, with_piece, with_turn, next as next_place, inside_async as in_async_body, kind_of};
 ghost use Rattle.types.specs.Told.{Told};
 ghost use Rattle.types.specs.Translation.{parameter};
 
@@ -126,6 +126,62 @@ impl NameScope {
         self.kinds.push(kind)?;
         self.kinds.push(kind)?;
         Ok(sides)
+    }
+
+    /// Declares the piece and the turn of a `parts` in the statement with the label.
+    pub fn turn(
+        &mut self,
+        label: Label,
+        section: SectionId,
+        piece: &String,
+        turn: &String,
+    ) -> Result<(SectionId, Slot), TypeError>
+        requires section { section.number < length (scope_of self.old).sections }
+        requires slots { self.old.slots ≤ 16 + self.old.label }
+        ensures place { OnOk result (scope_of self.new ≡ with_turn section.number
+            (string_bytes piece.now) (string_bytes turn.now) (scope_of self.old)) }
+        ensures numbers { IfOk result (λ r. (r.0.number ≡ length (scope_of self.old).sections)
+            × (r.1.number ≡ (scope_of self.old).slot)) }
+        ensures right { OnOk result (declaring (Some label)
+            (meant (string_bytes turn.now) (scope_of self.old).names)
+            ++ declaring (Some label) (meant (string_bytes piece.now)
+            ((string_bytes turn.now, AScalar (scope_of self.old).slot)
+            ∷ (scope_of self.old).names)) ≡ []) }
+        ensures error { IfErr result (Told (declaring (Some label)
+            (meant (string_bytes turn.now) (scope_of self.old).names)
+            ++ declaring (Some label) (meant (string_bytes piece.now)
+            ((string_bytes turn.now, AScalar (scope_of self.old).slot)
+            ∷ (scope_of self.old).names)))) }
+    {
+        let slot = Slot { number: self.slots };
+        self.scalar(Some(label), turn)?;
+        let piece = self.piece(label, section, piece)?;
+        Ok((piece, slot))
+    }
+
+    /// Declares the piece of a `parts` in the statement with the label.
+    fn piece(
+        &mut self,
+        label: Label,
+        section: SectionId,
+        name: &String,
+    ) -> Result<SectionId, TypeError>
+        requires { section.number < length (scope_of self.old).sections }
+        ensures place { OnOk result (scope_of self.new
+            ≡ with_piece section.number (string_bytes name.now) (scope_of self.old)) }
+        ensures number { IfOk result (λ s. s.number ≡ length (scope_of self.old).sections) }
+        ensures right { OnOk result (declaring (Some label)
+            (meant (string_bytes name.now) (scope_of self.old).names) ≡ []) }
+        ensures error { IfErr result (Told (declaring (Some label)
+            (meant (string_bytes name.now) (scope_of self.old).names))) }
+    {
+        let kind = self.kind(section);
+        let piece = self.sections.part(section)?;
+        self.names
+            .declare(Some(label), name, Meaning::Section(piece))?;
+        self.section_names.push(name.clone()?)?;
+        self.kinds.push(kind)?;
+        Ok(piece)
     }
 
     /// Returns whether a section may be written, and its element type.

@@ -5,7 +5,8 @@
 ghost use Rattle.std.specs.Prelude.{◌≡◌, [], ◌∷◌, ◌++◌, ◌≤◌, map, OnOk, IfOk, IfErr, Some};
 ghost use Rattle.std.specs.String.{string_bytes};
 ghost use Rattle.syntax_tree.specs.Tree.{block as block_of, stmt as stmt_of, expr as expr_of, Var, Assign};
-ghost use Rattle.syntax_tree.specs.Tree.{Store, Print, Fault, If, IfElse, While, Split, Call, Async, Finish};
+ghost use Rattle.syntax_tree.specs.Tree.{Store, Print, Fault, If, IfElse, While, Split, Parts, Call, Async};
+ghost use Rattle.syntax_tree.specs.Tree.{Finish};
 ghost use Rattle.types.specs.Resolution.{code as code_at, codes as codes_at, number as number_at};
 ghost use Rattle.types.specs.Resolution.{truth as truth_at};
 ghost use Rattle.types.specs.ExpressionErrors.{number as number_errors, numbers as numbers_errors};
@@ -24,7 +25,7 @@ use crate::check::limits::MOST_LABELS;
 use crate::check::names::Meaning;
 use crate::check::procedures::Procedures;
 use crate::check::scope::{BlockMark, NameScope};
-use crate::code::{Number, Primitive, Sides, Stmt, StmtKind, Truth};
+use crate::code::{Number, Pieces, Primitive, Sides, Stmt, StmtKind, Truth};
 use crate::error::TypeError;
 use crate::ids::Slot;
 use sections::id::SectionId;
@@ -144,6 +145,13 @@ impl Statements<'_> {
                 right,
                 body,
             } => self.split(scope, section, at, left, right, body),
+            tree::Stmt::Parts {
+                section,
+                size,
+                piece,
+                turn,
+                body,
+            } => self.parts(scope, section, size, piece, turn, body),
             tree::Stmt::Call {
                 procedure,
                 arguments,
@@ -261,6 +269,45 @@ impl Statements<'_> {
                 at,
                 left,
                 right,
+            },
+            body,
+        })
+    }
+
+    /// Resolves `parts s by 4 as p, i { .. }`.
+    #[cycle(statement)]
+    fn parts(
+        &self,
+        scope: &mut NameScope,
+        section: &String,
+        size: &Expr,
+        piece: &String,
+        turn: &String,
+        body: &[tree::Stmt],
+    ) -> Result<StmtKind, TypeError>
+        requires scoped { IsWellScoped (scope_of scope.old) }
+        requires label { scope.old.label ≤ 65535 }
+        ensures ok { IfOk result (λ k. Resolves (procedures_of self.now.procedures)
+            (scope_of scope.old) (Parts (string_bytes section.now) (expr_of size.now)
+            (string_bytes piece.now) (string_bytes turn.now) (block_of body.now)) k
+            (scope_of scope.new)) }
+        ensures error { IfErr result (Told (errors_in (procedures_of self.now.procedures)
+            (scope_of scope.old) (Parts (string_bytes section.now) (expr_of size.now)
+            (string_bytes piece.now) (string_bytes turn.now) (block_of body.now)))) }
+    {
+        let label = scope.label;
+        let mark = scope.mark();
+        let section = self.section(scope, section)?;
+        let size = self.number(scope, size)?;
+        scope.step();
+        let (piece, turn) = scope.turn(label, section, piece, turn)?;
+        let body = self.inside(scope, mark, body)?;
+        Ok(StmtKind::Parts {
+            pieces: Pieces {
+                section,
+                size,
+                piece,
+                turn,
             },
             body,
         })

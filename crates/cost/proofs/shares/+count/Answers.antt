@@ -2,7 +2,7 @@ use Rattle.std.proofs.Common.{◌≡◌, ℕ, List, min, sym, ap, ◌∙◌, ari
 use Rattle.types.specs.Code.{Code}
 use Rattle.types.specs.Translation.{codes, code as plain_code}
 use Rattle.types.specs.declared.code.Stmt.{Stmt}
-use Rattle.types.proofs.Blocks.{code_If, code_While, code_Split, code_Async, code_Finish}
+use Rattle.types.proofs.Blocks.{code_If, code_While, code_Split, code_Parts, code_Async, code_Finish}
 use Rattle.cost.specs.Shares.{share_inside, share_of}
 use Rattle.cost.proofs.shares.+count.Goals as goal
 
@@ -30,6 +30,12 @@ in_statement-returns-in-Split t c =
     let s = c.in-Split in
     let all = ap plain_code s.is ∙ code_Split s.sides s.body in
     one_block c.args.table.now _ _ _ _ c.in_block-in-Split.ensures c.deref-in-Split.ensures.value (ap (share_inside c.args.table.now) all)
+
+pub in_statement-returns-in-Parts : goal.in_statement-returns-in-Parts
+in_statement-returns-in-Parts t c =
+    let s = c.in-Parts in
+    let all = ap plain_code s.is ∙ code_Parts s.pieces s.body in
+    one_block c.args.table.now _ _ _ _ c.in_block-in-Parts.ensures c.deref-in-Parts.ensures.value (ap (share_inside c.args.table.now) all)
 
 pub in_statement-returns-in-Async : goal.in_statement-returns-in-Async
 in_statement-returns-in-Async t c =

@@ -6,7 +6,7 @@ use Rattle.types.specs.Code.{Code, Codes}
 use Rattle.types.specs.Run.{procedure_of}
 use Rattle.types.specs.Translation.{program, code, codes}
 use Rattle.types.specs.Sound.{passed_for}
-use Rattle.effects.specs.Effects.{accesses, past_split, renamed, All}
+use Rattle.effects.specs.Effects.{accesses, past_parts, past_split, renamed, All}
 use Rattle.effects.specs.Firsts.{AddsFirsts, AreFirsts, AreFirstsIn, kept_in}
 use Rattle.effects.specs.Rows.{AllInside, Renamed}
 use Rattle.effects.specs.Statements.{Block}
@@ -15,7 +15,7 @@ use Rattle.effects.proofs.DoingLemmas.{adds_end, adds_firsts, adds_front, adds_t
 use Rattle.effects.proofs.FirstLabels.{firsts_of_firsts, firsts_renamed}
 use Rattle.effects.proofs.OneList.{of_same}
 use Rattle.effects.proofs.StatementLemmas.{is_call, is_inside, part_at}
-use Rattle.effects.proofs.Statements.{codes_before, smaller, size-drop, is_If, is_Split}
+use Rattle.effects.proofs.Statements.{codes_before, smaller, size-drop, is_If, is_Split, is_Parts}
 use Rattle.effects.proofs.doings.+doings.Goals as goal
 
 pub add_block-loop-place-init : goal.add_block-loop-place-init
@@ -87,6 +87,12 @@ add_inside-add_block-requires-in-Split t c =
     let inside = is_inside (program c.args.code.now) c.args.statement.now.label (code c.args.statement.now.kind) _ _ c.requires.there is Block.split in
     (omega (arith, inside.small), (c.requires.sound, (c.requires.summaries, inside.part)))
 
+pub add_inside-add_block-requires-in-Parts : goal.add_inside-add_block-requires-in-Parts
+add_inside-add_block-requires-in-Parts t c =
+    let is = is_Parts _ c.in-Parts.pieces c.in-Parts.body c.deref-in-Parts.result.now c.in-Parts.is c.deref-in-Parts.ensures.value in
+    let inside = is_inside (program c.args.code.now) c.args.statement.now.label (code c.args.statement.now.kind) _ _ c.requires.there is Block.parts in
+    (omega (arith, inside.small), (c.requires.sound, (c.requires.summaries, inside.part)))
+
 pub add_inside-returns-in-While : goal.add_inside-returns-in-While
 add_inside-returns-in-While t c =
     let old = kept_in c.args.into.now in
@@ -124,6 +130,25 @@ add_inside-returns-in_ok-outside-in-Split t c =
     (adds_firsts (Renamed p accesses out (All p accesses b)) outside (kept_in c.args.into.now) (kept_in c.add_all.new.self) renamed_firsts
     (subst (λ xs. AreFirstsIn (map access xs ++ kept_in c.args.into.now) (kept_in c.add_all.new.self)) c.items.ensures h)))
     c.add_all.ensures
+
+pub add_inside-returns-in_ok-outside-in-Parts : goal.add_inside-returns-in_ok-outside-in-Parts
+add_inside-returns-in_ok-outside-in-Parts t c =
+    let p = program c.args.code.now in
+    let out = past_parts c.in-Parts.pieces.section.number c.in-Parts.pieces.piece.number in
+    let b = codes c.deref-in-Parts.result.now in
+    let is = is_Parts _ c.in-Parts.pieces c.in-Parts.body c.deref-in-Parts.result.now c.in-Parts.is c.deref-in-Parts.ensures.value in
+    let inside = kept_in c.add_block-in-Parts.new.into in
+    let outside = kept_in c.in_ok-outside-in-Parts.outside in
+    let renamed_firsts : AreFirsts (Renamed p accesses out (All p accesses b)) outside =
+    firsts_of_firsts (Renamed p accesses out (All p accesses b)) (map (renamed out) inside) outside
+    (firsts_renamed p out (All p accesses b) inside
+    (firsts_added (All p accesses b) (kept_in c.new-inside-in-Parts.result) inside c.new-inside-in-Parts.ensures c.in_ok-add_block-in-Parts.ensures))
+    c.in_ok-outside-in-Parts.ensures in
+    on_ok_weaker c.add_all-in-Parts.result
+    (λ h. subst (λ (k : Code). AddsFirsts (AllInside p accesses k) (kept_in c.args.into.now) (kept_in c.add_all-in-Parts.new.self)) (sym is)
+    (adds_firsts (Renamed p accesses out (All p accesses b)) outside (kept_in c.args.into.now) (kept_in c.add_all-in-Parts.new.self) renamed_firsts
+    (subst (λ xs. AreFirstsIn (map access xs ++ kept_in c.args.into.now) (kept_in c.add_all-in-Parts.new.self)) c.items-in-Parts.ensures h)))
+    c.add_all-in-Parts.ensures
 
 pub add_inside-add_call-requires-clause-there : goal.add_inside-add_call-requires-clause-there
 add_inside-add_call-requires-clause-there t c =

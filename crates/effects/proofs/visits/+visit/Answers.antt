@@ -1,7 +1,7 @@
 use Rattle.std.proofs.Common.{◌≡◌, List, ◌++◌, map, ap, sym, ◌∙◌}
 use Rattle.types.specs.Code.{Code}
 use Rattle.types.specs.Translation.{codes, code}
-use Rattle.types.proofs.Blocks.{code_If, code_While, code_Split, code_Async, code_Finish}
+use Rattle.types.proofs.Blocks.{code_If, code_While, code_Split, code_Parts, code_Async, code_Finish}
 use Rattle.effects.specs.declared.visits.Standing.{Standing}
 use Rattle.effects.specs.Visits.{Visit, visits_in, visits_inside, visit}
 use Rattle.effects.proofs.Appending.{in_two_steps}
@@ -35,6 +35,14 @@ visit_inside-returns-in_ok-visit_block-in-Split t c =
     ∙ ap (λ b. before ++ visits_in c.args.standing (codes b)) c.deref-in-Split.ensures.value
     ∙ inside_of before c.args.standing
     (ap code c.in-Split.is ∙ code_Split c.in-Split.sides c.in-Split.body)
+
+pub visit_inside-returns-in_ok-visit_block-in-Parts : goal.visit_inside-returns-in_ok-visit_block-in-Parts
+visit_inside-returns-in_ok-visit_block-in-Parts t c =
+    let before = map visit c.args.into.now.items in
+    c.in_ok-visit_block-in-Parts.ensures
+    ∙ ap (λ b. before ++ visits_in c.args.standing (codes b)) c.deref-in-Parts.ensures.value
+    ∙ inside_of before c.args.standing
+    (ap code c.in-Parts.is ∙ code_Parts c.in-Parts.pieces c.in-Parts.body)
 
 pub visit_inside-returns-in_ok-visit_block-in-Async : goal.visit_inside-returns-in_ok-visit_block-in-Async
 visit_inside-returns-in_ok-visit_block-in-Async t c =

@@ -80,5 +80,5 @@ add_labels_of-returns-in-While t c =
     let k = c.args.statement.now.kind in
     on_ok_weaker c.add_labels-in-While.result (λ g. gains_statement p c.args.statement.now.label {t = code k} refl c.in_ok-insert.ensures
     (of_list k c.in-While.body (λ j. Gains (HasLabel c.insert.new.self) (Done p j) (HasLabel c.add_labels-in-While.new.set))
-    c.deref-in-While.result.now c.deref-in-While.ensures.value c.in-While.is (λ t. g) (λ s n i r. g) g g))
+    c.deref-in-While.result.now c.deref-in-While.ensures.value c.in-While.is (λ t. g) (λ s n i r. g) (λ s n q i. g) g g))
     c.add_labels-in-While.ensures

@@ -43,7 +43,7 @@ add_meetings_inside-returns-in-While t c =
     let out = c.add_meetings-in-While in
     of_list c.args.kind.now c.in-While.body
     (λ j. OnOk out.result (map meeting out.new.into.items ≡ map meeting c.args.into.now.items ++ map meeting_of (added j)))
-    c.deref-in-While.result.now c.deref-in-While.ensures.value c.in-While.is (λ t. out.ensures) (λ s n l r. out.ensures) out.ensures out.ensures
+    c.deref-in-While.result.now c.deref-in-While.ensures.value c.in-While.is (λ t. out.ensures) (λ s n l r. out.ensures) (λ s n q i. out.ensures) out.ensures out.ensures
 
 pub add_meetings_inside-returns-in_ok-add_meetings-in-If : goal.add_meetings_inside-returns-in_ok-add_meetings-in-If
 add_meetings_inside-returns-in_ok-add_meetings-in-If t c =

@@ -8,7 +8,7 @@ use Rattle.effects.specs.Tables.{left_in}
 use Rattle.effects.specs.Translation.{access}
 use Rattle.effects.proofs.Appending.{in_two_steps}
 use Rattle.effects.proofs.ClosingLemmas.{got}
-use Rattle.effects.proofs.Statements.{is_If, is_While, is_Split, is_Async}
+use Rattle.effects.proofs.Statements.{is_If, is_While, is_Split, is_Parts, is_Async}
 use Rattle.parallel_relation.specs.Listing.{alls_of, pendings_of}
 use Rattle.parallel_relation.proofs.statements.+left.Goals as goal
 
@@ -31,6 +31,13 @@ add_left_by-returns-in_ok-add_left-in-Split t c =
     let inside : map access c.deref-in-Split-2.result.now ≡ left_in accesses (alls_of c.args.lists.now) (pendings_of c.args.lists.now) (codes c.deref-in-Split.result.now) =
     rw (c.deref-in-Split-2.ensures.value, c.in_ok-add_left-in-Split.ensures, c.new-inside.ensures.items) refl in
     rw (is_Split _ s.sides s.body c.deref-in-Split.result.now s.is c.deref-in-Split.ensures.value, ← inside) c.add_around.ensures
+
+pub add_left_by-returns-in_ok-add_left-in-Parts : goal.add_left_by-returns-in_ok-add_left-in-Parts
+add_left_by-returns-in_ok-add_left-in-Parts t c =
+    let s = c.in-Parts in
+    let inside : map access c.deref-in-Parts-2.result.now ≡ left_in accesses (alls_of c.args.lists.now) (pendings_of c.args.lists.now) (codes c.deref-in-Parts.result.now) =
+    rw (c.deref-in-Parts-2.ensures.value, c.in_ok-add_left-in-Parts.ensures, c.new-inside-in-Parts.ensures.items) refl in
+    rw (is_Parts _ s.pieces s.body c.deref-in-Parts.result.now s.is c.deref-in-Parts.ensures.value, ← inside) c.add_around-in-Parts.ensures
 
 pub add_left_by-returns-in-Some : goal.add_left_by-returns-in-Some
 add_left_by-returns-in-Some t c =

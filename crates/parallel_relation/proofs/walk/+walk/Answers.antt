@@ -9,7 +9,7 @@ use Rattle.effects.specs.LabelSets.{HasLabel}
 use Rattle.parallel_relation.specs.Around.{Adds, Gains, BlockMeets}
 use Rattle.parallel_relation.specs.Found.{FoundMeets}
 use Rattle.parallel_relation.proofs.LabelsLemmas.{nothing_behind, one_more}
-use Rattle.effects.proofs.Statements.{size_in, codes_before, smaller, size-drop, is_If, is_While, is_Split, is_Async, is_Finish}
+use Rattle.effects.proofs.Statements.{size_in, codes_before, smaller, size-drop, is_If, is_While, is_Split, is_Parts, is_Async, is_Finish}
 use Rattle.parallel_relation.proofs.Sums.{adds_nothing, adds_joined}
 use Rattle.parallel_relation.proofs.WalkLemmas.{gains_copied, no_block, adds_later, adds_async, adds_finish, adds_statement, adds_before}
 use Rattle.parallel_relation.proofs.walk.+walk.Goals as goal
@@ -107,6 +107,19 @@ pub walk_inside-returns-in-Split : goal.walk_inside-returns-in-Split
 walk_inside-returns-in-Split t c =
     let s = c.in-Split in
     rw (is_Split _ s.sides s.body c.deref-in-Split.result.now s.is c.deref-in-Split.ensures.value) c.walk-in-Split.ensures
+
+pub walk_inside-walk-requires-in-Parts : goal.walk_inside-walk-requires-in-Parts
+walk_inside-walk-requires-in-Parts t c =
+    let is = is_Parts _ c.in-Parts.pieces c.in-Parts.body c.deref-in-Parts.result.now c.in-Parts.is c.deref-in-Parts.ensures.value in
+    (omega (arith, ap size_in is), c.requires)
+
+pub walk_inside-returns-in_ok-add_labels_of-in-Parts : goal.walk_inside-returns-in_ok-add_labels_of-in-Parts
+walk_inside-returns-in_ok-add_labels_of-in-Parts t c =
+    let p = program c.args.guide.code.now in
+    let is = is_Parts _ c.in-Parts.pieces c.in-Parts.body c.deref-in-Parts.result.now c.in-Parts.is c.deref-in-Parts.ensures.value in
+    let copied = gains_copied c.in_ok-further-in-Parts.ensures c.in_ok-add_labels_of-in-Parts.ensures in
+    let again = rw is at copied in
+    rw is (on_ok_weaker c.walk-in-Parts.result (adds_later p (HasLabel c.args.everything.now) (codes c.deref-in-Parts.result.now) again) c.walk-in-Parts.ensures)
 
 pub walk_inside-walk-requires-in-Async : goal.walk_inside-walk-requires-in-Async
 walk_inside-walk-requires-in-Async t c =

@@ -1,6 +1,6 @@
 use Rattle.std.proofs.Common.{refl, ap, sym, ◌∙◌}
 use Rattle.types.specs.Translation.{codes}
-use Rattle.effects.proofs.Statements.{is_If, is_Split, is_While}
+use Rattle.effects.proofs.Statements.{is_If, is_Parts, is_Split, is_While}
 use Rattle.plain_code.specs.Calm.{are_plain_by, is_plain_by}
 use Rattle.plain_code.proofs.Calming.{fails_first, holds_first}
 use Rattle.plain_code.proofs.calm.+plain.Goals as goal
@@ -38,3 +38,10 @@ is_plain-returns-in-Split t c =
     ∙ sym (ap (is_plain_by c.args.calm.now)
     (is_Split _ c.in-Split.sides c.in-Split.body c.deref-in-Split.result.now c.in-Split.is
     c.deref-in-Split.ensures.value))
+
+pub is_plain-returns-in-Parts : goal.is_plain-returns-in-Parts
+is_plain-returns-in-Parts t c =
+    c.are_plain-in-Parts.ensures
+    ∙ sym (ap (is_plain_by c.args.calm.now)
+    (is_Parts _ c.in-Parts.pieces c.in-Parts.body c.deref-in-Parts.result.now c.in-Parts.is
+    c.deref-in-Parts.ensures.value))

@@ -1,7 +1,7 @@
 use Rattle.std.proofs.Common.{min, ap, ◌∙◌, arith}
 use Rattle.types.specs.Statements.{statements, statements_in}
 use Rattle.types.specs.Translation.{codes, code as plain_code}
-use Rattle.types.proofs.Blocks.{code_If, code_While, code_Split, code_Async, code_Finish}
+use Rattle.types.proofs.Blocks.{code_If, code_While, code_Split, code_Parts, code_Async, code_Finish}
 use Rattle.printing.proofs.labels.+count.Goals as goal
 
 pub in_statement-returns-in-If : goal.in_statement-returns-in-If
@@ -23,6 +23,13 @@ in_statement-returns-in-Split t c =
     let s = c.in-Split in
     let all = ap statements_in (ap plain_code s.is ∙ code_Split s.sides s.body) in
     omega (arith, c.saturating_add-in-Split.ensures, body, all)
+
+pub in_statement-returns-in-Parts : goal.in_statement-returns-in-Parts
+in_statement-returns-in-Parts t c =
+    let body = c.in_block-in-Parts.ensures ∙ ap (λ b. min (statements (codes b)) 18446744073709551615) c.deref-in-Parts.ensures.value in
+    let s = c.in-Parts in
+    let all = ap statements_in (ap plain_code s.is ∙ code_Parts s.pieces s.body) in
+    omega (arith, c.saturating_add-in-Parts.ensures, body, all)
 
 pub in_statement-returns-in-Async : goal.in_statement-returns-in-Async
 in_statement-returns-in-Async t c =

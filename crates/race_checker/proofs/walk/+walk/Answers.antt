@@ -9,14 +9,17 @@ use Rattle.effects.specs.Effects.{accesses, All, Pending}
 use Rattle.effects.specs.Firsts.{AreFirsts, kept_in}
 use Rattle.effects.specs.Rows.{Renamed}
 use Rattle.effects.specs.Translation.{access}
-use Rattle.effects.proofs.Statements.{size, size_in, size-drop, smaller, codes_before, is_If, is_While, is_Split, is_Async, is_Finish}
-use Rattle.race_checker.specs.Found.{IsFoundIn, IsInFront}
+use Rattle.effects.proofs.Statements.{size, size_in, size-drop, smaller, codes_before, is_If, is_While, is_Split, is_Parts, is_Async, is_Finish}
+use Rattle.effects.specs.Accesses.{own_accesses}
+use Rattle.effects.proofs.AccessesInScope.{pending_all}
+use Rattle.rayon.proofs.ListFacts.{IfOk-then}
+use Rattle.race_checker.specs.Found.{IsFoundIn, IsFoundOf, IsInFront, IsInTurns, IsWithOwn}
 use Rattle.race_checker.specs.Races.{numbered}
 use Rattle.race_checker.specs.Translation.{found as race_found}
 use Rattle.race_checker.proofs.Finding.{in_range, in_these, below_all, below_of, below_pending, stands_at, stands_behind}
-use Rattle.race_checker.proofs.Finding.{stands_if_body, stands_if_other, stands_while, stands_split, stands_async, stands_finish}
+use Rattle.race_checker.proofs.Finding.{stands_if_body, stands_if_other, stands_while, stands_split, stands_parts, stands_async, stands_finish}
 use Rattle.race_checker.proofs.Finding.{found_in_front, found_in_none, found_inside_nothing, found_inside_if, found_inside_split}
-use Rattle.race_checker.proofs.Finding.{found_inside_async, found_inside_finish, found_of_arm, found_of_loop, all_of_turn}
+use Rattle.race_checker.proofs.Finding.{found_inside_async, found_inside_finish, found_of_arm, found_of_loop, all_of_turn, found_in_turns, found_parts}
 use Rattle.race_checker.proofs.Finding.{pending_of_turn, none_behind, least_none}
 use Rattle.std.proofs.Crossing.{crosses}
 use denote.Param.Send.{sendable}
@@ -185,6 +188,44 @@ found_of-returns-in-Split g t c =
     found_of_arm _ _ _ _ _ _ is (λ x y h. h) _ (ap (map access) c.deref-in-Split-2.ensures.value ∙ c.in_ok-own.ensures) _
     (found_inside_split _ _ _ s.sides.section.number (number s.sides.at) s.sides.left.number s.sides.right.number _ _ _ c.in_ok-found-in-Split.ensures c.in_ok-outside-in-Split.ensures) _
     c.with_own-in-Split.ensures
+
+pub found_of-found_in-requires-in-Parts : goal.found_of-found_in-requires-in-Parts
+found_of-found_in-requires-in-Parts g t c κs within =
+    let s = c.in-Parts in
+    let is = is_Parts _ s.pieces s.body c.deref-in-Parts.result.now s.is c.deref-in-Parts.ensures.value in
+    let stands = stands_parts _ _ _ _ c.requires.stands _ _ _ _ _ is in
+    (omega (arith, ap size_in is), (within, (search (sendable, crosses) depth 40, (c.requires.sound, (c.requires.summaries, (c.requires.procedure, stands))))))
+
+pub found_of-in_turns-requires : goal.found_of-in_turns-requires
+found_of-in_turns-requires g t c =
+    let s = c.in-Parts in
+    let is = is_Parts _ s.pieces s.body c.deref-in-Parts.result.now s.is c.deref-in-Parts.ensures.value in
+    let stands = stands_parts _ _ _ _ c.requires.stands _ _ _ _ _ is in
+    let turn = c.in_ok-turn-in-Parts in
+    record {
+      pending = in_these _ c.procedure_of-in-Parts.ensures
+          (in_range _ turn.turn.pending _ turn.ensures.pending_firsts (λ x h. below_all _ c.requires.sound _ _ stands x (pending_all _ h)));
+      all = in_these _ c.procedure_of-in-Parts.ensures
+          (in_range _ turn.turn.all _ turn.ensures.all_firsts (below_all _ c.requires.sound _ _ stands));
+    }
+
+pub found_of-returns-in-Parts : goal.found_of-returns-in-Parts
+found_of-returns-in-Parts g t c =
+    let s = c.in-Parts in
+    let p = program c.args.code.now in
+    let n = c.args.procedure.number in
+    let os = (numbered p n).sections in
+    let l = c.args.statement.now.label in
+    let is = is_Parts _ s.pieces s.body c.deref-in-Parts.result.now s.is c.deref-in-Parts.ensures.value in
+    let own = ap (map access) c.deref-in-Parts-2.ensures.value ∙ c.in_ok-own.ensures in
+    let turns = found_in_turns p os n l s.pieces.piece.number (codes c.deref-in-Parts.result.now) c.in_ok-turn-in-Parts.turn c.in_ok-found-in-Parts.found
+    c.in_ok-turn-in-Parts.ensures
+    (subst (λ (h : Procedure). IsInTurns h.sections n s.pieces.piece.number c.in_ok-turn-in-Parts.turn c.in_ok-found-in-Parts.found)
+    c.procedure_of-in-Parts.ensures c.in_ok-found-in-Parts.ensures) in
+    subst (λ k. IfOk c.with_own-in-Parts.result (IsFoundOf p os n l k)) (sym is)
+    (IfOk-then c.with_own-in-Parts.result _ _ c.with_own-in-Parts.ensures
+    (λ whole o. found_parts p os n l s.pieces.section.number (number s.pieces.size) s.pieces.piece.number s.pieces.turn.number _ _ _ whole turns
+    c.in_ok-outside-in-Parts.ensures (subst (λ xs. IsWithOwn xs c.in_ok-outside-in-Parts.outside whole) (own ∙ ap (own_accesses l) is) o)))
 
 pub found_of-returns-in-Call : goal.found_of-returns-in-Call
 found_of-returns-in-Call g t c =

@@ -1,6 +1,6 @@
 use Rattle.std.proofs.Common.{sym, ap}
 use Rattle.types.specs.Translation.{code}
-use Rattle.effects.proofs.Statements.{is_If, is_While, is_Split, is_Async, is_Finish}
+use Rattle.effects.proofs.Statements.{is_If, is_While, is_Split, is_Parts, is_Async, is_Finish}
 use Rattle.step_trees.proofs.Turns.{after_as}
 use Rattle.step_trees.proofs.turn.statement.Goals as goal
 
@@ -23,6 +23,12 @@ returns-in-Split c =
     let s = c.in-Split in
     let same = is_Split _ s.sides s.body _ s.is c.deref-in-Split.ensures.value in
     after_as c.args.turn c.args.stmt.now.label c.split.result (sym same) c.split.ensures
+
+pub returns-in-Parts : goal.returns-in-Parts
+returns-in-Parts c =
+    let s = c.in-Parts in
+    let same = is_Parts _ s.pieces s.body _ s.is c.deref-in-Parts.ensures.value in
+    after_as c.args.turn c.args.stmt.now.label c.parts.result (sym same) c.parts.ensures
 
 pub returns-in-Async : goal.returns-in-Async
 returns-in-Async c =

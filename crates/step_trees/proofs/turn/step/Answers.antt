@@ -2,15 +2,15 @@ use Rattle.std.proofs.Common.{◌≡◌, ap, ◌∙◌, sym, refl, subst}
 use Rattle.std.proofs.lemmas.Result.{IfOk-weaker}
 use Rattle.std.specs.Prelude.{true, false}
 use Rattle.types.specs.Code.{Then}
-use Rattle.types.specs.Translation.{program, code}
+use Rattle.types.specs.Translation.{program}
 use Rattle.types.specs.Trees.{is_done}
 use Rattle.statement_steps.specs.Lists.{contents_of}
-use Rattle.step_trees.specs.Translation.{blocks, leaf_of, Takes}
+use Rattle.step_trees.specs.Translation.{blocks, leaf_of, next_label, next_code, Takes}
 use Rattle.step_trees.proofs.Turns.{step_here, same_pair}
 use Rattle.step_trees.proofs.turn.step.Goals as goal
 
-pub statement-requires : goal.statement-requires
-statement-requires c = record {
+pub perform-requires : goal.perform-requires
+perform-requires c = record {
   on = refl;
   uncounted = refl;
   bounds = record { store = c.requires.bounds.store; windows = c.requires.bounds.windows };
@@ -25,11 +25,11 @@ returns-in-None c =
 pub returns-in-Some : goal.returns-in-Some
 returns-in-Some c =
     let p = program c.args.plan.program.now in let k = leaf_of c.args.leaf in
-    let x = c.in-Some.stmt.now in
-    let is : k.rest ≡ Then x.label (code x.kind) (blocks c.next.new.rest.items)
+    let x = c.in-Some.step in
+    let is : k.rest ≡ Then (next_label x) (next_code x) (blocks c.next.new.rest.items)
     = subst (λ o. Takes o (blocks c.args.leaf.rest.items) (blocks c.next.new.rest.items)) c.in-Some.is c.in_ok-first.ensures in
-    IfOk-weaker c.statement.result _ _
+    IfOk-weaker c.perform.result _ _
     (λ r h. record {
       step = step_here p k.rest k (contents_of c.args.store) is ∙ same_pair (sym h.tree) (sym h.store);
       lengths = h.lengths;
-    }) c.statement.ensures
+    }) c.perform.ensures

@@ -12,13 +12,13 @@ use Rattle.syntax.specs.Spelling.{stmt_then, block_then}
 use Rattle.syntax.specs.Token.{Token, WordToken, MarkToken}
 use Rattle.syntax.specs.declared.canonical.Lines.{Lines}
 use Rattle.syntax.specs.Canonical.{laid}
-use Rattle.syntax_tree.specs.Tree.{Stmt, If, IfElse, While, Split, Async, Finish, Block, Then, expr, stmt, block}
+use Rattle.syntax_tree.specs.Tree.{Stmt, If, IfElse, While, Split, Parts, Async, Finish, Block, Then, expr, stmt, block}
 use Rattle.syntax.specs.Writing.{place, with_rest}
 use Rattle.syntax.proofs.ExpressionText.{ok_map3, pushed}
 use Rattle.syntax.proofs.LineText.{wrote, wrote_adds, wrote_text, counted_by, stmt_begins, block_is_line, laid-opening_brace}
-use Rattle.syntax.proofs.LineText.{laid-closing_brace, laid_If, laid_IfElse, laid_Else, laid_While, laid_Split, laid_Async}
+use Rattle.syntax.proofs.LineText.{laid-closing_brace, laid_If, laid_IfElse, laid_Else, laid_While, laid_Split, laid_Parts, laid_Async}
 use Rattle.syntax.proofs.LineText.{laid_Finish, laid_end}
-use Rattle.syntax_tree.proofs.RowLemmas.{stmt_If, stmt_IfElse, stmt_While, stmt_Split, stmt_Async, stmt_Finish}
+use Rattle.syntax_tree.proofs.RowLemmas.{stmt_If, stmt_IfElse, stmt_While, stmt_Split, stmt_Parts, stmt_Async, stmt_Finish}
 use Rattle.syntax.proofs.StatementKinds.{is_simple-true}
 use Rattle.syntax.proofs.canonical.+stmt.Goals as goal
 
@@ -83,6 +83,21 @@ line-returns-in_ok-split-in-Split-clause-written t c =
     ok_then c.block-in-Split.result c.block-in-Split.ensures.written (λ written r.
     ap (λ z. with_rest old Opening (stmt_then z r)) is
     ∙ wrote_text old c.split.new.out Opening Other _ _ _ c.in_ok-split-in-Split.ensures (laid_Split (place old Opening) s e x y body r)
+    ∙ written r)
+
+pub line-returns-in_ok-parts-in-Parts-clause-written : goal.line-returns-in_ok-parts-in-Parts-clause-written
+line-returns-in_ok-parts-in-Parts-clause-written t c =
+    let old = c.args.lines.now in
+    let s = string_bytes c.in-Parts.section in
+    let e = expr c.in-Parts.size in
+    let x = string_bytes c.in-Parts.piece in
+    let y = string_bytes c.in-Parts.turn in
+    let body = block c.deref-in-Parts.result.now in
+    let is = ap stmt c.in-Parts.is ∙ stmt_Parts c.in-Parts.section c.in-Parts.size c.in-Parts.piece c.in-Parts.turn c.in-Parts.body
+    ∙ ap (λ v. Parts s e x y (block v)) (sym c.deref-in-Parts.ensures.value) in
+    ok_then c.block-in-Parts.result c.block-in-Parts.ensures.written (λ written r.
+    ap (λ z. with_rest old Opening (stmt_then z r)) is
+    ∙ wrote_text old c.parts.new.out Opening Other _ _ _ c.in_ok-parts-in-Parts.ensures (laid_Parts (place old Opening) s e x y body r)
     ∙ written r)
 
 pub line-returns-in_ok-push_str-in-Async-clause-written : goal.line-returns-in_ok-push_str-in-Async-clause-written

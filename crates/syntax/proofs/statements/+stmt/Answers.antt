@@ -5,10 +5,10 @@ use Rattle.syntax.specs.Token.{MarkToken, plain}
 use Rattle.syntax_tree.specs.Tree.{expr, block}
 use Rattle.syntax.proofs.ChainLemmas.{behind}
 use Rattle.syntax.proofs.BlockLemmas.{stmts_then, stmts_read, block_then-block, stmt_then_If, stmt_then_IfElse}
-use Rattle.syntax.proofs.BlockLemmas.{stmt_then_While, stmt_then_Split, stmt_then_Async, stmt_then_Finish}
+use Rattle.syntax.proofs.BlockLemmas.{stmt_then_While, stmt_then_Split, stmt_then_Parts, stmt_then_Async, stmt_then_Finish}
 use Rattle.syntax.proofs.RefusalLemmas.{passed_on, same_rest}
 use Rattle.syntax.proofs.StmtRefusals.{block_closed, block_opened, if_opened, if_alone, if_otherwise, while_opened}
-use Rattle.syntax.proofs.StmtRefusals.{split_opened, async_opened, finish_opened, block_read, block_refused}
+use Rattle.syntax.proofs.StmtRefusals.{split_opened, parts_opened, async_opened, finish_opened, block_read, block_refused}
 use Rattle.syntax.proofs.StmtSpellings.{block_binds}
 use Rattle.syntax.proofs.statements.+stmt.Goals as goal
 
@@ -61,6 +61,24 @@ split-returns-clause-read t c = record {
       let comma = same_rest (sym c.in_ok-left.ensures.found ∙ left) in
       let right = same_rest (sym c.in_ok-rest-3.ensures.found ∙ comma) in
       let body = same_rest (sym c.in_ok-right.ensures.found ∙ right) in
+      c.in_ok-body.ensures.read.whole parts.body r body;
+}
+
+pub parts-returns-clause-read : goal.parts-returns-clause-read
+parts-returns-clause-read t c = record {
+  spelled = let body = c.in_ok-turn.ensures.found ∙ behind c.in_ok-body.ensures.read.spelled in
+      let names = c.in_ok-rest-2.ensures.found ∙ behind (c.in_ok-piece.ensures.found ∙ behind (c.in_ok-rest-3.ensures.found ∙ behind body)) in
+      let size = c.in_ok-size.ensures.read.spelled ∙ ap (expr_then (expr c.in_ok-size.size)) names in
+      behind (c.in_ok-section.ensures.found ∙ behind (c.in_ok-rest.ensures.found ∙ behind size)) ∙ stmt_then_Parts _ _ _ _ _ _;
+  whole = λ s r ends spelled.
+      let parts = parts_opened s _ r spelled in
+      let by_word = same_rest (sym c.in_ok-section.ensures.found ∙ parts.spelled) in
+      let place = same_rest (sym c.in_ok-rest.ensures.found ∙ by_word) in
+      let as_word = c.in_ok-size.ensures.read.whole parts.size parts.names parts.ends place ∙ parts.named in
+      let piece = same_rest (sym c.in_ok-rest-2.ensures.found ∙ as_word) in
+      let comma = same_rest (sym c.in_ok-piece.ensures.found ∙ piece) in
+      let turn = same_rest (sym c.in_ok-rest-3.ensures.found ∙ comma) in
+      let body = same_rest (sym c.in_ok-turn.ensures.found ∙ turn) in
       c.in_ok-body.ensures.read.whole parts.body r body;
 }
 
@@ -153,12 +171,25 @@ split-returns-in_err-section-clause-refused t c =
     let parts = split_opened s _ r spelled in
     c.in_err-section.ensures.refused room _ _ parts.spelled)
 
+pub parts-returns-in_err-section-clause-refused : goal.parts-returns-in_err-section-clause-refused
+parts-returns-in_err-section-clause-refused t c =
+    passed_on _ _ c.from_residual.ensures.1 (λ room s r ends spelled.
+    let parts = parts_opened s _ r spelled in
+    c.in_err-section.ensures.refused room _ _ parts.spelled)
+
 pub split-returns-in_err-rest-clause-refused : goal.split-returns-in_err-rest-clause-refused
 split-returns-in_err-rest-clause-refused t c =
     passed_on _ _ c.from_residual-in_err-rest.ensures.1 (λ room s r ends spelled.
     let parts = split_opened s _ r spelled in
     let at_word = same_rest (sym c.in_ok-section.ensures.found ∙ parts.spelled) in
     c.in_err-rest.ensures.refused _ at_word)
+
+pub parts-returns-in_err-rest-clause-refused : goal.parts-returns-in_err-rest-clause-refused
+parts-returns-in_err-rest-clause-refused t c =
+    passed_on _ _ c.from_residual-in_err-rest.ensures.1 (λ room s r ends spelled.
+    let parts = parts_opened s _ r spelled in
+    let by_word = same_rest (sym c.in_ok-section.ensures.found ∙ parts.spelled) in
+    c.in_err-rest.ensures.refused _ by_word)
 
 pub split-returns-in_err-at-clause-refused : goal.split-returns-in_err-at-clause-refused
 split-returns-in_err-at-clause-refused t c =
@@ -168,6 +199,14 @@ split-returns-in_err-at-clause-refused t c =
     let place = same_rest (sym c.in_ok-rest.ensures.found ∙ at_word) in
     c.in_err-at.ensures.refused room parts.at parts.sides parts.ends place)
 
+pub parts-returns-in_err-size-clause-refused : goal.parts-returns-in_err-size-clause-refused
+parts-returns-in_err-size-clause-refused t c =
+    passed_on _ _ c.from_residual-in_err-size.ensures.1 (λ room s r ends spelled.
+    let parts = parts_opened s _ r spelled in
+    let by_word = same_rest (sym c.in_ok-section.ensures.found ∙ parts.spelled) in
+    let place = same_rest (sym c.in_ok-rest.ensures.found ∙ by_word) in
+    c.in_err-size.ensures.refused room parts.size parts.names parts.ends place)
+
 pub split-returns-in_err-rest-2-clause-refused : goal.split-returns-in_err-rest-2-clause-refused
 split-returns-in_err-rest-2-clause-refused t c =
     passed_on _ _ c.from_residual-in_err-rest-2.ensures.1 (λ room s r ends spelled.
@@ -175,6 +214,15 @@ split-returns-in_err-rest-2-clause-refused t c =
     let at_word = same_rest (sym c.in_ok-section.ensures.found ∙ parts.spelled) in
     let place = same_rest (sym c.in_ok-rest.ensures.found ∙ at_word) in
     let as_word = c.in_ok-at.ensures.read.whole parts.at parts.sides parts.ends place ∙ parts.sided in
+    c.in_err-rest-2.ensures.refused _ as_word)
+
+pub parts-returns-in_err-rest-2-clause-refused : goal.parts-returns-in_err-rest-2-clause-refused
+parts-returns-in_err-rest-2-clause-refused t c =
+    passed_on _ _ c.from_residual-in_err-rest-2.ensures.1 (λ room s r ends spelled.
+    let parts = parts_opened s _ r spelled in
+    let by_word = same_rest (sym c.in_ok-section.ensures.found ∙ parts.spelled) in
+    let place = same_rest (sym c.in_ok-rest.ensures.found ∙ by_word) in
+    let as_word = c.in_ok-size.ensures.read.whole parts.size parts.names parts.ends place ∙ parts.named in
     c.in_err-rest-2.ensures.refused _ as_word)
 
 pub split-returns-in_err-left-clause-refused : goal.split-returns-in_err-left-clause-refused
@@ -187,6 +235,16 @@ split-returns-in_err-left-clause-refused t c =
     let left = same_rest (sym c.in_ok-rest-2.ensures.found ∙ as_word) in
     c.in_err-left.ensures.refused room _ _ left)
 
+pub parts-returns-in_err-piece-clause-refused : goal.parts-returns-in_err-piece-clause-refused
+parts-returns-in_err-piece-clause-refused t c =
+    passed_on _ _ c.from_residual-in_err-piece.ensures.1 (λ room s r ends spelled.
+    let parts = parts_opened s _ r spelled in
+    let by_word = same_rest (sym c.in_ok-section.ensures.found ∙ parts.spelled) in
+    let place = same_rest (sym c.in_ok-rest.ensures.found ∙ by_word) in
+    let as_word = c.in_ok-size.ensures.read.whole parts.size parts.names parts.ends place ∙ parts.named in
+    let piece = same_rest (sym c.in_ok-rest-2.ensures.found ∙ as_word) in
+    c.in_err-piece.ensures.refused room _ _ piece)
+
 pub split-returns-in_err-rest-3-clause-refused : goal.split-returns-in_err-rest-3-clause-refused
 split-returns-in_err-rest-3-clause-refused t c =
     passed_on _ _ c.from_residual-in_err-rest-3.ensures.1 (λ room s r ends spelled.
@@ -196,6 +254,17 @@ split-returns-in_err-rest-3-clause-refused t c =
     let as_word = c.in_ok-at.ensures.read.whole parts.at parts.sides parts.ends place ∙ parts.sided in
     let left = same_rest (sym c.in_ok-rest-2.ensures.found ∙ as_word) in
     let comma = same_rest (sym c.in_ok-left.ensures.found ∙ left) in
+    c.in_err-rest-3.ensures.refused _ comma)
+
+pub parts-returns-in_err-rest-3-clause-refused : goal.parts-returns-in_err-rest-3-clause-refused
+parts-returns-in_err-rest-3-clause-refused t c =
+    passed_on _ _ c.from_residual-in_err-rest-3.ensures.1 (λ room s r ends spelled.
+    let parts = parts_opened s _ r spelled in
+    let by_word = same_rest (sym c.in_ok-section.ensures.found ∙ parts.spelled) in
+    let place = same_rest (sym c.in_ok-rest.ensures.found ∙ by_word) in
+    let as_word = c.in_ok-size.ensures.read.whole parts.size parts.names parts.ends place ∙ parts.named in
+    let piece = same_rest (sym c.in_ok-rest-2.ensures.found ∙ as_word) in
+    let comma = same_rest (sym c.in_ok-piece.ensures.found ∙ piece) in
     c.in_err-rest-3.ensures.refused _ comma)
 
 pub split-returns-in_err-right-clause-refused : goal.split-returns-in_err-right-clause-refused
@@ -210,6 +279,18 @@ split-returns-in_err-right-clause-refused t c =
     let right = same_rest (sym c.in_ok-rest-3.ensures.found ∙ comma) in
     c.in_err-right.ensures.refused room _ _ right)
 
+pub parts-returns-in_err-turn-clause-refused : goal.parts-returns-in_err-turn-clause-refused
+parts-returns-in_err-turn-clause-refused t c =
+    passed_on _ _ c.from_residual-in_err-turn.ensures.1 (λ room s r ends spelled.
+    let parts = parts_opened s _ r spelled in
+    let by_word = same_rest (sym c.in_ok-section.ensures.found ∙ parts.spelled) in
+    let place = same_rest (sym c.in_ok-rest.ensures.found ∙ by_word) in
+    let as_word = c.in_ok-size.ensures.read.whole parts.size parts.names parts.ends place ∙ parts.named in
+    let piece = same_rest (sym c.in_ok-rest-2.ensures.found ∙ as_word) in
+    let comma = same_rest (sym c.in_ok-piece.ensures.found ∙ piece) in
+    let turn = same_rest (sym c.in_ok-rest-3.ensures.found ∙ comma) in
+    c.in_err-turn.ensures.refused room _ _ turn)
+
 pub split-returns-in_err-body-clause-refused : goal.split-returns-in_err-body-clause-refused
 split-returns-in_err-body-clause-refused t c =
     passed_on _ _ c.from_residual-in_err-body.ensures.1 (λ room s r ends spelled.
@@ -221,6 +302,19 @@ split-returns-in_err-body-clause-refused t c =
     let comma = same_rest (sym c.in_ok-left.ensures.found ∙ left) in
     let right = same_rest (sym c.in_ok-rest-3.ensures.found ∙ comma) in
     let body = same_rest (sym c.in_ok-right.ensures.found ∙ right) in
+    c.in_err-body.ensures.refused room parts.body r body)
+
+pub parts-returns-in_err-body-clause-refused : goal.parts-returns-in_err-body-clause-refused
+parts-returns-in_err-body-clause-refused t c =
+    passed_on _ _ c.from_residual-in_err-body.ensures.1 (λ room s r ends spelled.
+    let parts = parts_opened s _ r spelled in
+    let by_word = same_rest (sym c.in_ok-section.ensures.found ∙ parts.spelled) in
+    let place = same_rest (sym c.in_ok-rest.ensures.found ∙ by_word) in
+    let as_word = c.in_ok-size.ensures.read.whole parts.size parts.names parts.ends place ∙ parts.named in
+    let piece = same_rest (sym c.in_ok-rest-2.ensures.found ∙ as_word) in
+    let comma = same_rest (sym c.in_ok-piece.ensures.found ∙ piece) in
+    let turn = same_rest (sym c.in_ok-rest-3.ensures.found ∙ comma) in
+    let body = same_rest (sym c.in_ok-turn.ensures.found ∙ turn) in
     c.in_err-body.ensures.refused room parts.body r body)
 
 pub statement-returns-in_err-body-in-Async-clause-refused : goal.statement-returns-in_err-body-in-Async-clause-refused

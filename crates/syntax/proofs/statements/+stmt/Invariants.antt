@@ -17,6 +17,9 @@ decreases-repeated l = 2 * length l.tokens.now
 abbrev pub decreases-split : goal.decreases-split
 decreases-split l = 2 * length l.tokens.now
 
+abbrev pub decreases-parts : goal.decreases-parts
+decreases-parts l = 2 * length l.tokens.now
+
 abbrev pub decreases-statement : goal.decreases-statement
 decreases-statement l = 2 * length l.tokens.now
 

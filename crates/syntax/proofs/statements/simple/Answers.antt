@@ -27,13 +27,13 @@ returns-clause-read c = record {
 
 pub returns-in_err-rest-clause-refused : goal.returns-in_err-rest-clause-refused
 returns-in_err-rest-clause-refused c =
-    passed_on _ _ c.from_residual.ensures.1 (λ room word rest is is_if is_while is_split is_async is_finish s r ends spelled.
+    passed_on _ _ c.from_residual.ensures.1 (λ room word rest is is_if is_while is_split is_parts is_async is_finish s r ends spelled.
     let mark = skip_opened s _ r (sym c.in-Some.ensures.found ∙ spelled) in
     c.in_err-rest.ensures.refused _ mark)
 
 pub returns-in_err-rest-2-clause-refused : goal.returns-in_err-rest-2-clause-refused
 returns-in_err-rest-2-clause-refused c =
-    passed_on _ _ c.from_residual-in_err-rest-2.ensures.1 (λ room word rest is is_if is_while is_split is_async is_finish s r ends.
+    passed_on _ _ c.from_residual-in_err-rest-2.ensures.1 (λ room word rest is is_if is_while is_split is_parts is_async is_finish s r ends.
     let none : BeginsNoStatement (plain c.args.tokens.now) = record {
       word = word;
       rest = rest;
@@ -41,6 +41,7 @@ returns-in_err-rest-2-clause-refused c =
       is_if = is_if;
       is_while = is_while;
       is_split = is_split;
+      is_parts = is_parts;
       is_async = is_async;
       is_finish = is_finish;
       skip = c.in_default.ensures.absent;
@@ -52,6 +53,6 @@ returns-in_err-rest-2-clause-refused c =
 
 pub returns-in_err-value-clause-refused : goal.returns-in_err-value-clause-refused
 returns-in_err-value-clause-refused c =
-    passed_on _ _ c.from_residual-in_err-value.ensures.1 (λ room word rest is is_if is_while is_split is_async is_finish s r ends spelled.
+    passed_on _ _ c.from_residual-in_err-value.ensures.1 (λ room word rest is is_if is_while is_split is_parts is_async is_finish s r ends spelled.
     let value = fault_opened s _ r (sym c.in_ok-rest-2.ensures.found ∙ spelled) in
     c.in_err-value.ensures.refused room value.0 r value.1)

@@ -6,7 +6,7 @@ pub returns-clause-root : goal.returns-clause-root
 returns-clause-root c p needs input nest scoped calm provides f = root_begins p needs scoped calm provides input nest f
 
 pub returns-clause-begins : goal.returns-clause-begins
-returns-clause-begins c p needs fresh s h = record { stack = h; carried = tt; parted = tt; returns = tt }
+returns-clause-begins c p needs fresh s h = record { stack = h.stack; texts = (h.text, tt); carried = tt; parted = tt; returns = tt }
 
 pub returns-clause-turns : goal.returns-clause-turns
 returns-clause-turns c p needs fresh s scoped calm provides f fs st h =

@@ -1,4 +1,4 @@
-use Rattle.std.proofs.Common.{◌-◌, inr, List, drop, length, refl, sym, ap, subst, arith, rules}
+use Rattle.std.proofs.Common.{◌-◌, List, drop, length, refl, sym, ap, subst, arith, rules}
 use Rattle.std.proofs.lemmas.List.{drop_all}
 use Rattle.std.proofs.lemmas.Result.{IfOk-weaker}
 use Rattle.std.specs.Prelude.{false, None}
@@ -6,13 +6,13 @@ use Rattle.types.specs.Code.{Code, Codes}
 use Rattle.types.specs.Translation.{code, codes, program}
 use Rattle.types.specs.declared.code.Stmt.{Stmt}
 use Rattle.effects.specs.Translation.{access}
-use Rattle.effects.proofs.Statements.{size_in, size-drop, smaller, codes_before, is_If, is_While}
-use Rattle.effects.proofs.OneList.{of_block, size_of_list}
-use Rattle.witness.specs.Crossed.{IsInTurn, MeetAt, MeetIn, both, crossed}
+use Rattle.effects.proofs.Statements.{size_in, size-drop, smaller, codes_before, is_If, is_While, is_Parts}
+use Rattle.effects.proofs.OneList.{of_block, size_of_block}
+use Rattle.witness.specs.Crossed.{IsInTurn, IsInTurns, MeetAt, MeetIn, both, crossed}
 use Rattle.witness.specs.Known.{steps}
 use Rattle.witness.specs.Least.{IsLeast, all_covered}
 use Rattle.witness.specs.Ways.{Way}
-use Rattle.witness.proofs.Crossings.{crossing_end, crossing_front, at_if, at_while, at_split, at_async, at_finish, at_statement}
+use Rattle.witness.proofs.Crossings.{crossing_end, crossing_front, at_if, at_while, at_parts, at_split, at_async, at_finish, at_statement}
 use Rattle.witness.proofs.Found.{least_end, least_front}
 use Rattle.witness.proofs.crossing.+crossing.Goals as goal
 
@@ -62,9 +62,13 @@ pub crossing_of-crossing_in-requires-in-While : goal.crossing_of-crossing_in-req
 crossing_of-crossing_in-requires-in-While t c =
     (omega (arith, ap size_in (is_While _ c.in-While.guard c.in-While.body _ c.in-While.is c.deref-in-While.ensures.value)), c.requires)
 
+pub crossing_of-crossing_in-requires-in-Parts : goal.crossing_of-crossing_in-requires-in-Parts
+crossing_of-crossing_in-requires-in-Parts t c =
+    (omega (arith, ap size_in (is_Parts _ c.in-Parts.pieces c.in-Parts.body _ c.in-Parts.is c.deref-in-Parts-2.ensures.value)), c.requires)
+
 pub crossing_of-crossing_in-requires-in-Split : goal.crossing_of-crossing_in-requires-in-Split
 crossing_of-crossing_in-requires-in-Split t c =
-    let small = size_of_list c.args.statement.now.kind c.in-Split.body c.deref-in-Split.result.now c.deref-in-Split.ensures.value (inr c.in-Split.is) in
+    let small = size_of_block c.args.statement.now.kind c.in-Split.body c.deref-in-Split.result.now c.deref-in-Split.ensures.value c.in-Split.is in
     (omega (arith, small), c.requires)
 
 pub crossing_of-returns-in_ok-next-in-If : goal.crossing_of-returns-in_ok-next-in-If
@@ -82,6 +86,22 @@ crossing_of-returns-in_ok-inside-in-While t c =
     at_statement p x y l _ _ _ is
     (at_while p x y l _ _ _ _ _ c.shorter_crossing-in-While.ensures
     (subst (λ (k : Code). IsLeast both all_covered (IsInTurn p l k x y) (crossed c.in_ok-turn-in-While.turn)) is c.in_ok-turn-in-While.ensures) c.in_ok-inside-in-While.ensures)
+
+pub crossing_of-returns-in_ok-inside-in-Parts : goal.crossing_of-returns-in_ok-inside-in-Parts
+crossing_of-returns-in_ok-inside-in-Parts t c =
+    let p = program c.args.pairing.now.code.now in
+    let x = access c.args.pairing.now.first.now.access in let y = access c.args.pairing.now.second.now.access in
+    let l = c.args.statement.now.label in
+    let b = c.in-Parts in
+    let s = b.pieces.section.number in
+    let q = b.pieces.piece.number in
+    let is = is_Parts _ b.pieces b.body b.body.items b.is refl in
+    at_statement p x y l _ _ _ is
+    (at_parts p x y l s _ q _ (codes b.body.items) _ _ _ c.shorter_crossing-in-Parts.ensures
+    (subst (λ (ys : List Stmt). IsLeast both all_covered (IsInTurns p l s q (codes ys) x y) (crossed c.in_ok-turns-in-Parts.turns))
+    c.deref-in-Parts.ensures.value c.in_ok-turns-in-Parts.ensures)
+    (subst (λ (ys : List Stmt). IsLeast both all_covered (MeetIn p (codes ys) x y) (crossed c.in_ok-inside-in-Parts.inside))
+    c.deref-in-Parts-2.ensures.value c.in_ok-inside-in-Parts.ensures))
 
 pub crossing_of-returns-in-Split : goal.crossing_of-returns-in-Split
 crossing_of-returns-in-Split t c =

@@ -7,15 +7,16 @@ use Rattle.types.specs.Code.{Codes}
 use Rattle.types.specs.Translation.{code, codes, number, program}
 use Rattle.types.specs.declared.code.Stmt.{Stmt}
 use Rattle.effects.specs.Translation.{access}
-use Rattle.effects.proofs.Statements.{size_in, size-drop, smaller, codes_before, is_If, is_While, is_Split, is_Async, is_Finish}
+use Rattle.effects.proofs.Statements.{size_in, size-drop, smaller, codes_before, is_If, is_While, is_Split, is_Parts, is_Async, is_Finish}
 use Rattle.witness.specs.Known.{AreShortest, AreWays, IsFound, steps}
 use Rattle.witness.specs.Least.{IsLeast, all_covered}
 use Rattle.witness.specs.Searched.{GoesIn, IsLed}
 use Rattle.witness.specs.Ways.{Way}
+use Rattle.witness.specs.declared.step.Rule.TheVariants.{Side, Piece}
 use Rattle.witness.specs.declared.search.Sought.{Sought}
 use Rattle.witness.specs.declared.step.WayStep.{WayStep}
 use Rattle.witness.proofs.Found.{covered_less, least_end, least_front, least_own, least_on, least_if}
-use Rattle.witness.proofs.Found.{least_while, least_async, least_split, least_call, stepped, at_code, behind_led}
+use Rattle.witness.proofs.Found.{least_while, least_async, least_split, least_parts, least_call, stepped, at_code, behind_led}
 use Rattle.witness.proofs.Found.{inside_ways, awaited_ways, side_found_in, finish_found}
 use Rattle.witness.proofs.search.+search.Goals as goal
 
@@ -105,6 +106,22 @@ way_inside-way_behind-requires-in-Split-3 t c =
           c.args.sought.access.section c.inside-aim-in-Split-2.result c.inside-aim-in-Split-2.ensures c.requires.ways,
     )
 
+pub way_inside-way_behind-requires-in-Parts : goal.way_inside-way_behind-requires-in-Parts
+way_inside-way_behind-requires-in-Parts t c =
+    let is = is_Parts _ c.in-Parts.pieces c.in-Parts.body c.deref-in-Parts.result.now c.in-Parts.is c.deref-in-Parts.ensures.value in (
+      omega (arith, ap size_in is),
+      inside_ways (program c.args.code.now) c.args.known.now c.args.sought c.in-Parts.pieces.section.number c.in-Parts.pieces.piece.number c.in-Parts.pieces.piece.number
+          c.in-Parts.pieces.piece c.inside-aim-in-Parts.result c.inside-aim-in-Parts.ensures c.requires.ways,
+    )
+
+pub way_inside-way_behind-requires-in-Parts-2 : goal.way_inside-way_behind-requires-in-Parts-2
+way_inside-way_behind-requires-in-Parts-2 t c =
+    let is = is_Parts _ c.in-Parts.pieces c.in-Parts.body c.deref-in-Parts-2.result.now c.in-Parts.is c.deref-in-Parts-2.ensures.value in (
+      omega (arith, ap size_in is),
+      inside_ways (program c.args.code.now) c.args.known.now c.args.sought c.in-Parts.pieces.section.number c.in-Parts.pieces.piece.number c.in-Parts.pieces.piece.number
+          c.args.sought.access.section c.inside-aim-in-Parts-2.result c.inside-aim-in-Parts-2.ensures c.requires.ways,
+    )
+
 pub way_inside-way_behind-requires-in-Async : goal.way_inside-way_behind-requires-in-Async
 way_inside-way_behind-requires-in-Async t c =
     let is = is_Async _ c.in-Async.body c.deref-in-Async.result.now c.in-Async.is
@@ -152,12 +169,29 @@ way_inside-returns-in_ok-by_itself-in-Split t c =
     let ys = b.body.items in
     at_code _ _ _ _ _ _ _ _ (is_Split _ b.sides b.body ys b.is refl)
     (least_split _ _ _ _ _ s _ i r (codes ys) _ _ _ _ _ c.shorter-in-Split.ensures c.shorter-in-Split-2.ensures
-    (side_found_in p k sought l s i r c.deref-in-Split.result.now ys b.sides.left _ c.inside-aim.result _
+    (side_found_in p k sought Side l s i r c.deref-in-Split.result.now ys b.sides.left _ c.inside-aim.result _
     c.deref-in-Split.ensures.value c.inside-aim.ensures c.step-step-in-Split.ensures c.in_ok-by_left-in-Split.ensures)
-    (side_found_in p k sought l s i r c.deref-in-Split-2.result.now ys b.sides.right _ c.inside-aim-in-Split.result _
+    (side_found_in p k sought Side l s i r c.deref-in-Split-2.result.now ys b.sides.right _ c.inside-aim-in-Split.result _
     c.deref-in-Split-2.ensures.value c.inside-aim-in-Split.ensures c.step-step-in-Split.ensures c.in_ok-by_right-in-Split.ensures)
-    (side_found_in p k sought l s i r c.deref-in-Split-3.result.now ys sought.access.section _ c.inside-aim-in-Split-2.result _
+    (side_found_in p k sought Side l s i r c.deref-in-Split-3.result.now ys sought.access.section _ c.inside-aim-in-Split-2.result _
     c.deref-in-Split-3.ensures.value c.inside-aim-in-Split-2.ensures c.step-step-in-Split.ensures c.in_ok-by_itself-in-Split.ensures))
+
+pub way_inside-returns-in_ok-by_itself-in-Parts : goal.way_inside-returns-in_ok-by_itself-in-Parts
+way_inside-returns-in_ok-by_itself-in-Parts t c =
+    let p = program c.args.code.now in
+    let k = c.args.known.now in
+    let sought = c.args.sought in
+    let l = c.args.statement.now.label in
+    let b = c.in-Parts in
+    let s = b.pieces.section.number in
+    let q = b.pieces.piece.number in
+    let ys = b.body.items in
+    at_code _ _ _ _ _ _ _ _ (is_Parts _ b.pieces b.body ys b.is refl)
+    (least_parts _ _ _ _ _ s _ q _ (codes ys) _ _ _ c.shorter-in-Parts.ensures
+    (side_found_in p k sought Piece l s q q c.deref-in-Parts.result.now ys b.pieces.piece _ c.inside-aim-in-Parts.result _
+    c.deref-in-Parts.ensures.value c.inside-aim-in-Parts.ensures c.step-step-in-Parts.ensures c.in_ok-by_piece-in-Parts.ensures)
+    (side_found_in p k sought Piece l s q q c.deref-in-Parts-2.result.now ys sought.access.section _ c.inside-aim-in-Parts-2.result _
+    c.deref-in-Parts-2.ensures.value c.inside-aim-in-Parts-2.ensures c.step-step-in-Parts.ensures c.in_ok-by_itself-in-Parts.ensures))
 
 pub way_inside-returns-in-Call : goal.way_inside-returns-in-Call
 way_inside-returns-in-Call t c =

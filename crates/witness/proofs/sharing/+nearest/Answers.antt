@@ -1,5 +1,5 @@
 use Rattle.std.proofs.Common.{◌∙◌, sym}
-use Rattle.sections.specs.Origins.{IsSideOf}
+use Rattle.sections.specs.Origins.{IsChildOf}
 use Rattle.sections.specs.Tree.{origins_of}
 use Rattle.sections.proofs.Overlapping.{overlap-sym}
 use Rattle.witness.proofs.Parts.{met_root, side_overlap}
@@ -20,12 +20,18 @@ nearest_above-returns-in-Root t c = λ h.
 
 pub nearest_above-returns-in-Left : goal.nearest_above-returns-in-Left
 nearest_above-returns-in-Left t c = λ h.
-    let side = IsSideOf.left (sym c.in-Left.ensures) in
+    let side = IsChildOf.left (sym c.in-Left.ensures) in
     nearest-above (origins_of c.args.sections.now) c.args.sections.now.numbered c.args.low.number c.args.high.number c.in-Left.parent.number _ c.requires.order side
     (c.nearest.ensures (side_overlap (origins_of c.args.sections.now) c.args.sections.now.numbered c.args.low.number c.args.high.number c.requires.order c.in-Left.parent.number side h))
 
 pub nearest_above-returns-in-Right : goal.nearest_above-returns-in-Right
 nearest_above-returns-in-Right t c = λ h.
-    let side = IsSideOf.right (sym c.in-Right.ensures) in
+    let side = IsChildOf.right (sym c.in-Right.ensures) in
     nearest-above (origins_of c.args.sections.now) c.args.sections.now.numbered c.args.low.number c.args.high.number c.in-Right.parent.number _ c.requires.order side
     (c.nearest-in-Right.ensures (side_overlap (origins_of c.args.sections.now) c.args.sections.now.numbered c.args.low.number c.args.high.number c.requires.order c.in-Right.parent.number side h))
+
+pub nearest_above-returns-in-Piece : goal.nearest_above-returns-in-Piece
+nearest_above-returns-in-Piece t c = λ h.
+    let side = IsChildOf.piece (sym c.in-Piece.ensures) in
+    nearest-above (origins_of c.args.sections.now) c.args.sections.now.numbered c.args.low.number c.args.high.number c.in-Piece.parent.number _ c.requires.order side
+    (c.nearest-in-Piece.ensures (side_overlap (origins_of c.args.sections.now) c.args.sections.now.numbered c.args.low.number c.args.high.number c.requires.order c.in-Piece.parent.number side h))

@@ -1,6 +1,6 @@
 use Rattle.std.proofs.Common.{sym}
 use Rattle.sections.specs.Tree.{origins_of}
-use Rattle.sections.proofs.Climbing.{above_root, above_left, above_beside, above_right}
+use Rattle.sections.proofs.Climbing.{above_root, above_left, above_piece, above_beside, above_right}
 use Rattle.sections.proofs.tree.SectionTree.above.Goals as goal
 
 pub returns-in-Root-clause-none : goal.returns-in-Root-clause-none
@@ -14,6 +14,14 @@ pub returns-in-Left-clause-same : goal.returns-in-Left-clause-same
 returns-in-Left-clause-same c =
     above_left (origins_of c.args.self.now) c.args.self.now.numbered c.args.low c.args.high c.requires.order
     c.in-Left.parent.number (sym c.in-Left.ensures)
+
+pub returns-in-Piece-clause-smaller : goal.returns-in-Piece-clause-smaller
+returns-in-Piece-clause-smaller c = c.args.self.now.numbered.piece c.args.high c.in-Piece.parent.number (sym c.in-Piece.ensures)
+
+pub returns-in-Piece-clause-same : goal.returns-in-Piece-clause-same
+returns-in-Piece-clause-same c =
+    above_piece (origins_of c.args.self.now) c.args.self.now.numbered c.args.low c.args.high c.requires.order
+    c.in-Piece.parent.number (sym c.in-Piece.ensures)
 
 pub returns-then-low-high-clause-none : goal.returns-then-low-high-clause-none
 returns-then-low-high-clause-none c _ =

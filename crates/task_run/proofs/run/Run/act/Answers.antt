@@ -1,12 +1,12 @@
 use Rattle.std.proofs.Common.{◌≡◌, ap, ◌∙◌, sym, subst, map}
 use Rattle.std.specs.Prelude.{IfOk}
 use Rattle.sections.specs.Translation.{section}
-use Rattle.types.specs.Code.{Code, Do, If, While, Split, Call, Async, Finish}
+use Rattle.types.specs.Code.{Code, Do, If, While, Split, Parts, Call, Async, Finish}
 use Rattle.types.specs.Translation.{primitive, truth, number, code, codes}
-use Rattle.types.proofs.Blocks.{code_If, code_While, code_Split, code_Async, code_Finish}
+use Rattle.types.proofs.Blocks.{code_If, code_While, code_Split, code_Parts, code_Async, code_Finish}
 use Rattle.task_run.specs.RunTurns.{CanAct, DidAct}
 use Rattle.task_run.specs.declared.turn.Done.TheVariants.{Gone, Entered}
-use Rattle.task_run.proofs.RunSteps.{acts_primitive, did_Call, did_Do, did_Finish, did_If, did_same, did_Split, did_While}
+use Rattle.task_run.proofs.RunSteps.{acts_primitive, did_Call, did_Do, did_Finish, did_If, did_Parts, did_same, did_Split, did_While}
 use Rattle.task_run.proofs.run.Run.act.Goals as goal
 
 pub spawn-requires-clause-can : goal.spawn-requires-clause-can
@@ -61,6 +61,18 @@ returns-in_ok-split-in-Split-clause-did g c =
     ∙ sym (ap code c.in-Split.is ∙ code_Split c.in-Split.sides c.in-Split.body) in
     did_same needs x.label (Split s at left right body) (code x.kind) m Gone _ is
     (did_Split needs x.label m _ s left right at body c.in_ok-split-in-Split.ensures)
+
+pub returns-in_ok-begin_turns-in-Parts-clause-did : goal.returns-in_ok-begin_turns-in-Parts-clause-did
+returns-in_ok-begin_turns-in-Parts-clause-did g c =
+    let needs = g.N.Needed.needs c.args.needed.now in
+    let m = c.args.self.now in let x = c.args.stmt.now in
+    let s = c.in-Parts.pieces.section.number in let q = c.in-Parts.pieces.piece.number in let i = c.in-Parts.pieces.turn.number in
+    let size = number c.in-Parts.pieces.size in let body = codes c.deref-in-Parts.result.now in
+    let is : Parts s size q i body ≡ code x.kind
+    = ap (λ l. Parts s size q i (codes l)) c.deref-in-Parts.ensures.value
+    ∙ sym (ap code c.in-Parts.is ∙ code_Parts c.in-Parts.pieces c.in-Parts.body) in
+    did_same needs x.label (Parts s size q i body) (code x.kind) m Gone _ is
+    (did_Parts needs x.label m _ s q i size body c.in_ok-begin_turns-in-Parts.ensures)
 
 pub returns-in_ok-call-in-Call-clause-did : goal.returns-in_ok-call-in-Call-clause-did
 returns-in_ok-call-in-Call-clause-did g c =

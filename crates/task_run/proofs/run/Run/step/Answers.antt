@@ -10,9 +10,9 @@ use Rattle.task_run.specs.Reached.{HasNext}
 use Rattle.task_run.specs.RunTurns.{CanAct, KnowsFirst, Turns, taken_off}
 use Rattle.task_run.specs.Standings.{state_of, with_own}
 use Rattle.task_run.specs.declared.frame.TaskFrame.{TaskFrame as rFrame}
-use Rattle.task_run.specs.declared.frame.TaskFrame.TheVariants.{Rest as rRest, Again as rAgain}
+use Rattle.task_run.specs.declared.frame.TaskFrame.TheVariants.{Rest as rRest, Again as rAgain, Turns as rTurns}
 use Rattle.task_run.proofs.RunTops.{can_first, on_this}
-use Rattle.task_run.proofs.StepsInPlace.{again_is_turn, back_is_turn, below, end_is_turn, first_is_turn, is_above, is_kept, is_put}
+use Rattle.task_run.proofs.StepsInPlace.{again_is_turn, back_is_turn, below, end_is_turn, first_is_turn, is_above, is_kept, is_put, turns_is_turn}
 use Rattle.task_run.proofs.run.Run.step.Goals as goal
 
 pub first-requires-clause-can : goal.first-requires-clause-can
@@ -67,6 +67,19 @@ returns-in_ok-done-in-Again-clause-step g c =
     (is_above m.frames top some read)
     (c.pop.ensures.rest ∙ ap (λ (v : Vec rFrame Global). take (v.len - 1) v.items) (is_kept m.frames top some read))
     (c.in_ok-done-in-Again.ensures needs)
+
+pub returns-in_ok-done-in-Turns-clause-step : goal.returns-in_ok-done-in-Turns-clause-step
+returns-in_ok-done-in-Turns-clause-step g c =
+    let m = c.args.self.now in let top = rTurns c.in-Turns.turns in
+    let needs = g.N.Needed.needs c.args.needed.now in
+    let some = c.in-Some.ensures.item.3.0 in
+    let read : top ≡ slice_index_or m.frames.items (m.frames.len - 1) top
+    = subst (λ (t : rFrame). t ≡ slice_index_or m.frames.items (m.frames.len - 1) t) c.in-Turns.is c.in-Some.ensures.value in
+    turns_is_turn needs m (below m.frames top some read) c.in-Turns.turns c.pop-in-Turns.new.self
+    c.in_ok-done-in-Turns.done c.next_turn.new.self
+    (is_above m.frames top some read)
+    (c.pop-in-Turns.ensures.rest ∙ ap (λ (v : Vec rFrame Global). take (v.len - 1) v.items) (is_kept m.frames top some read))
+    (c.in_ok-done-in-Turns.ensures needs)
 
 pub returns-in-EndFinish-clause-step : goal.returns-in-EndFinish-clause-step
 returns-in-EndFinish-clause-step g c =

@@ -1,22 +1,22 @@
 use Rattle.std.proofs.Common.{IfOk, IfErr, Some, map, ◌≡◌, ◌+◌, ◌<◌, ◌≤◌, ◌++◌, [], ◌∷◌, drop, length, sym, ap, ◌∙◌, subst, arith, rules}
 use Rattle.std.proofs.lemmas.List.{at_drop_more, at_drop_all}
 use Rattle.std.specs.String.{string_bytes}
-use Rattle.syntax_tree.specs.Tree.{Then, Print, If, IfElse, While, Split, Call, Async, Finish, stmt, block, expr}
-use Rattle.syntax_tree.proofs.RowLemmas.{stmt_If, stmt_IfElse, stmt_While, stmt_Split, stmt_Async, stmt_Finish}
+use Rattle.syntax_tree.specs.Tree.{Then, Print, If, IfElse, While, Split, Parts, Call, Async, Finish, stmt, block, expr}
+use Rattle.syntax_tree.proofs.RowLemmas.{stmt_If, stmt_IfElse, stmt_While, stmt_Split, stmt_Parts, stmt_Async, stmt_Finish}
 use Rattle.types.specs.Code as code
 use Rattle.types.specs.Resolution as resolution
 use Rattle.types.specs.Resolving.{scope_of, procedures_of, left, IsWellScoped, Resolves}
 use Rattle.types.specs.Rules.{errors, errors_in, own_errors, limit}
-use Rattle.types.specs.Scope.{Scope, ASection, meant, with_sides, inside_async, next as next_place, after, behind}
+use Rattle.types.specs.Scope.{Scope, ASection, AScalar, meant, with_sides, with_turn, inside_async, next as next_place, after, behind}
 use Rattle.types.specs.NameErrors.{declaring}
 use Rattle.syntax_tree.specs.declared.tree.Stmt.TheVariants.{If as tree_If}
 use Rattle.types.specs.Told.{Told}
 use Rattle.types.specs.Translation as plain
 use Rattle.types.proofs.Blocks.{joined, joined_push, joined_all}
-use Rattle.types.proofs.Scopes.{scoped_behind, scoped_next, scoped_async, scoped_sides, scoped_body, left_next}
+use Rattle.types.proofs.Scopes.{scoped_behind, scoped_next, scoped_async, scoped_sides, scoped_turn, scoped_body, left_next}
 use Rattle.types.proofs.Sizes.{size, size_in}
 use Rattle.types.proofs.Statements.{rest_errors, Marks, out_by, resolves_Skip, resolves_While, resolves_If, resolves_IfElse}
-use Rattle.types.proofs.Statements.{resolves_Finish, resolves_Async, resolves_Split, resolves_same, stmt_Skip, stmt_Var, stmt_Assign}
+use Rattle.types.proofs.Statements.{resolves_Finish, resolves_Async, resolves_Split, resolves_Parts, resolves_same, stmt_Skip, stmt_Var, stmt_Assign}
 use Rattle.types.proofs.Statements.{stmt_Store, stmt_Print, stmt_Fault, stmt_Call}
 use Rattle.types.proofs.Telling.{at_exit, told_left, told_right}
 use Rattle.types.proofs.check.statements.Statements.+statement.Goals as goal
@@ -220,6 +220,20 @@ kind-returns-in-Split-clause-error t c =
     let is = ap stmt c.in-Split.is ∙ stmt_Split c.in-Split.section c.in-Split.at c.in-Split.left c.in-Split.right c.in-Split.body ∙ ap (λ b. Split (string_bytes c.in-Split.section) (expr c.in-Split.at) (string_bytes c.in-Split.left) (string_bytes c.in-Split.right) (block b)) (sym c.deref-in-Split.ensures.value) in
     subst (λ s. IfErr c.split.result (Told (errors_in fs here s))) (sym is) c.split.ensures.error
 
+pub kind-returns-in-Parts-clause-ok : goal.kind-returns-in-Parts-clause-ok
+kind-returns-in-Parts-clause-ok t c =
+    let fs = procedures_of c.args.self.now.procedures in
+    let here = scope_of c.args.scope.now in
+    let is = ap stmt c.in-Parts.is ∙ stmt_Parts c.in-Parts.section c.in-Parts.size c.in-Parts.piece c.in-Parts.turn c.in-Parts.body ∙ ap (λ b. Parts (string_bytes c.in-Parts.section) (expr c.in-Parts.size) (string_bytes c.in-Parts.piece) (string_bytes c.in-Parts.turn) (block b)) (sym c.deref-in-Parts.ensures.value) in
+    subst (λ s. IfOk c.parts.result (λ k. Resolves fs here s k (scope_of c.parts.new.scope))) (sym is) c.parts.ensures.ok
+
+pub kind-returns-in-Parts-clause-error : goal.kind-returns-in-Parts-clause-error
+kind-returns-in-Parts-clause-error t c =
+    let fs = procedures_of c.args.self.now.procedures in
+    let here = scope_of c.args.scope.now in
+    let is = ap stmt c.in-Parts.is ∙ stmt_Parts c.in-Parts.section c.in-Parts.size c.in-Parts.piece c.in-Parts.turn c.in-Parts.body ∙ ap (λ b. Parts (string_bytes c.in-Parts.section) (expr c.in-Parts.size) (string_bytes c.in-Parts.piece) (string_bytes c.in-Parts.turn) (block b)) (sym c.deref-in-Parts.ensures.value) in
+    subst (λ s. IfErr c.parts.result (Told (errors_in fs here s))) (sym is) c.parts.ensures.error
+
 pub kind-returns-in-Skip-clause-ok : goal.kind-returns-in-Skip-clause-ok
 kind-returns-in-Skip-clause-ok t c =
     let fs = procedures_of c.args.self.now.procedures in
@@ -317,6 +331,33 @@ split-returns-clause-ok t c =
     (subst (λ (s : Scope). declaring (Some here.label) (meant r s.names)
     ++ declaring (Some here.label) (meant l ((r, ASection (length s.sections + 1)) ∷ s.names)) ≡ []) e c.in_ok-left.ensures.right)
     (numbers.0 ∙ ap (λ (s : Scope). length s.sections) e) (numbers.1 ∙ ap (λ (s : Scope). length s.sections + 1) e)
+    (record { right = c.in_ok-body.ensures.right; code = c.in_ok-body.ensures.code; place = c.in_ok-body.ensures.place })
+
+pub parts-inside-requires : goal.parts-inside-requires
+parts-inside-requires t c =
+    let here = scope_of c.args.scope.now in
+    let is = c.in_ok-piece.ensures.place
+    ∙ ap (with_turn c.in_ok-section.section.number (string_bytes c.args.piece.now) (string_bytes c.args.turn.now)) c.step.ensures in
+    (omega arith, subst IsWellScoped (sym is) (scoped_turn _ _ _ here c.requires.scoped))
+
+pub parts-returns-clause-ok : goal.parts-returns-clause-ok
+parts-returns-clause-ok t c =
+    let fs = procedures_of c.args.self.now.procedures in
+    let here = scope_of c.args.scope.now in
+    let x = string_bytes c.args.piece.now in
+    let i = string_bytes c.args.turn.now in
+    let e = c.step.ensures in
+    let numbers = c.in_ok-piece.ensures.numbers in
+    resolves_Parts fs here (scope_of c.inside.new.scope) (string_bytes c.args.section.now) (expr c.args.size.now) x i (block c.args.body.now)
+    (record { section = c.in_ok-section.section; size = c.in_ok-size.size; piece = c.in_ok-piece.piece; turn = c.in_ok-piece.turn })
+    c.in_ok-body.body
+    (scope_of c.turn.new.self) c.mark-mark.result.names c.mark-mark.result.outside
+    (record { names = c.mark-mark.ensures.names; outside = c.mark-mark.ensures.outside })
+    (c.in_ok-piece.ensures.place ∙ ap (with_turn c.in_ok-section.section.number x i) e)
+    c.in_ok-section.ensures.right c.in_ok-section.ensures.meaning c.in_ok-size.ensures.right c.in_ok-size.ensures.code
+    (subst (λ (s : Scope). declaring (Some here.label) (meant i s.names)
+    ++ declaring (Some here.label) (meant x ((i, AScalar s.slot) ∷ s.names)) ≡ []) e c.in_ok-piece.ensures.right)
+    (numbers.0 ∙ ap (λ (s : Scope). length s.sections) e) (numbers.1 ∙ ap (λ (s : Scope). s.slot) e)
     (record { right = c.in_ok-body.ensures.right; code = c.in_ok-body.ensures.code; place = c.in_ok-body.ensures.place })
 
 pub if_else-returns-in_err-other-clause-error : goal.if_else-returns-in_err-other-clause-error
@@ -417,6 +458,11 @@ kind-if_else-requires t c =
 pub kind-split-requires : goal.kind-split-requires
 kind-split-requires t c =
     let is = ap stmt c.in-Split.is ∙ stmt_Split c.in-Split.section c.in-Split.at c.in-Split.left c.in-Split.right c.in-Split.body ∙ ap (λ b. Split (string_bytes c.in-Split.section) (expr c.in-Split.at) (string_bytes c.in-Split.left) (string_bytes c.in-Split.right) (block b)) (sym c.deref-in-Split.ensures.value) in
+    (omega (arith, ap size_in is), (c.requires.scoped, c.requires.label))
+
+pub kind-parts-requires : goal.kind-parts-requires
+kind-parts-requires t c =
+    let is = ap stmt c.in-Parts.is ∙ stmt_Parts c.in-Parts.section c.in-Parts.size c.in-Parts.piece c.in-Parts.turn c.in-Parts.body ∙ ap (λ b. Parts (string_bytes c.in-Parts.section) (expr c.in-Parts.size) (string_bytes c.in-Parts.piece) (string_bytes c.in-Parts.turn) (block b)) (sym c.deref-in-Parts.ensures.value) in
     (omega (arith, ap size_in is), (c.requires.scoped, c.requires.label))
 
 pub kind-async_body-requires : goal.kind-async_body-requires

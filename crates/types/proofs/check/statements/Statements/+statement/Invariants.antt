@@ -48,6 +48,9 @@ decreases-while_loop l = 8 * size (block l.body.now) + 2
 abbrev pub decreases-split : goal.decreases-split
 decreases-split l = 8 * size (block l.body.now) + 2
 
+abbrev pub decreases-parts : goal.decreases-parts
+decreases-parts l = 8 * size (block l.body.now) + 2
+
 abbrev pub decreases-async_body : goal.decreases-async_body
 decreases-async_body l = 8 * size (block l.body.now) + 2
 

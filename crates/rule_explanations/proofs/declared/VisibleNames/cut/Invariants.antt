@@ -1,5 +1,5 @@
 use Rattle.std.proofs.Common.{length}
-use Rattle.rule_explanations.proofs.declared.VisibleNames.split.Given as goal
+use Rattle.rule_explanations.proofs.declared.VisibleNames.cut.Given as goal
 
 -- the tokens that are left
 abbrev pub decreases-tokens : goal.decreases-tokens

@@ -1,0 +1,111 @@
+-- The turns of a `parts` as frames.
+use Rattle.std.proofs.Common.{◌≡◌, ℕ, ◌+◌, List, [], ◌∷◌, ◌++◌, Ok, Err, refl, sym, ap, ◌∙◌, Bor}
+use Rattle.std.specs.Prelude.{true, false, ok_or}
+use Rattle.sections.specs.Place.{has_piece}
+use Rattle.types.specs.declared.code.Stmt.{Stmt}
+use Rattle.types.specs.declared.fault.FaultKind.{FaultKind}
+use Rattle.types.specs.declared.fault.FaultKind.TheVariants.{PieceSize}
+use Rattle.types.specs.Code.{Number, Parts, Codes, End, Program}
+use Rattle.types.specs.Run.{Flow, On, Faulted, Stopped, State, Pieces, at_flow, fault, number_at, piece_size, window_at}
+use Rattle.types.specs.Run.{with_step, choose, in_turn, stopped, act, counted, spend}
+use Rattle.types.specs.Translation.{codes}
+use Rattle.types.specs.TreeSteps.{size_by}
+use Rattle.types.specs.Value.{Environment}
+use Rattle.types.proofs.Solutions.{value_twice}
+use Rattle.statement_steps.specs.declared.turns.TurnsToCome.{TurnsToCome}
+use Rattle.statement_steps.specs.Turns.{begun, pieces}
+use Rattle.cost.specs.declared.frame.CostFrame.{CostFrame}
+use Rattle.cost.specs.declared.frame.CostFrame.TheVariants.{Rest, Turns}
+use Rattle.cost.specs.Accounts.{Account, accounted, accounted_rules}
+use Rattle.cost.specs.Laws.{totals, untallied}
+use Rattle.cost.specs.Resume.{Standing, acted, doing, resume}
+use Rattle.cost.proofs.Frames.{flow_on, meant, acted_by, step_taken, not_done, blocked, block_on_top, resume-pushed, faulted, paid}
+
+module _ (p : Program) (fresh : ℕ) where
+  -- all turns, once the size of the pieces is known
+  abbrev all_turns : (l sec q i : ℕ) → Codes → (nest size : ℕ) → State Account → State Account
+  all_turns l sec q i c nest size = accounted p fresh nest (Pieces l sec size 0 q i c)
+
+  -- a `parts` whose turns are a frame; `none` is an empty block
+  pub turns_on_top : (fs gs hs : List CostFrame) (t : TurnsToCome) (none : Bor (List Stmt)) (e : Number) (s : Standing)
+      → s.state.flow ≡ On → Ok t.size ≡ size_by (number_at (untallied (totals s.state)) e) → t.next ≡ 0
+      → gs ≡ fs ++ Turns t ∷ [] → hs ≡ gs ++ Rest none ∷ [] → codes none.now ≡ End
+      → resume p fresh hs s
+      ≡ resume p fresh fs (acted p fresh t.label (Parts t.section.number e t.piece.number t.turn.number (codes t.body.now)) s)
+  turns_on_top fs gs hs t none e s on size first g h empty =
+      let b = codes t.body.now in
+      let go = all_turns t.label t.section.number t.piece.number t.turn.number b s.nest in
+      let at : State Account → Standing = λ st. record s { state = st } in
+      block_on_top p fresh gs hs none End s on h empty
+      ∙ resume-pushed p fresh fs gs (Turns t) s g
+      ∙ ap (λ st. resume p fresh fs (at st)) (flow_on s.state.flow s.state (accounted p fresh s.nest (pieces t)) on)
+      ∙ ap (λ k. resume p fresh fs (at (accounted p fresh s.nest
+      (Pieces t.label t.section.number t.size k t.piece.number t.turn.number b) s.state))) first
+      ∙ acted_by p fresh fs t.label (Ok t.size) (size_by (number_at s.state e)) go s size
+      ∙ ap (λ st. resume p fresh fs (at st))
+      (value_twice t.label (number_at s.state e) (λ v. ok_or (piece_size v) PieceSize) go s.state)
+
+  -- a size that faults
+  pub size_faults : (fs gs : List CostFrame) (c : Codes) (sec q i l : ℕ) (e : Number) (f : FaultKind) (s t : Standing)
+      → Err f ≡ size_by (number_at (untallied (totals s.state)) e) → t.state ≡ fault l f s.state → t.nest ≡ s.nest → gs ≡ fs
+      → resume p fresh gs t ≡ resume p fresh fs (acted p fresh l (Parts sec e q i c) s)
+  size_faults fs gs c sec q i l e f s t v st n g =
+      faulted p fresh fs gs l f (size_by (number_at s.state e)) (all_turns l sec q i c s.nest) s t v st n g
+      ∙ ap (λ (st : State Account). resume p fresh fs (record s { state = st }))
+      (value_twice l (number_at s.state e) (λ v. ok_or (piece_size v) PieceSize) (all_turns l sec q i c s.nest) s.state)
+
+  -- the block of a turn whose step was taken, and the later turns below it
+  pub turn_on_top : (fs gs hs : List CostFrame) (t : TurnsToCome) (env : Environment) (s : Standing) → s.state.flow ≡ On
+      → env ≡ (in_turn t.section.number t.size t.next t.piece.number t.turn.number s.state).environment
+      → gs ≡ fs ++ Turns (record t { next = t.next + 1 }) ∷ [] → hs ≡ gs ++ Rest t.body ∷ []
+      → resume p fresh hs (record s { state = record s.state { environment = env } })
+      ≡ resume p fresh fs (acted p fresh t.label (begun t) s)
+  turn_on_top fs gs hs t env s on is g h =
+      let inside : Environment → Standing = λ env. record s { state = record s.state { environment = env } } in
+      let later : TurnsToCome = record t { next = t.next + 1 } in
+      block_on_top p fresh gs hs t.body (codes t.body.now) (inside env) on h refl
+      ∙ resume-pushed p fresh fs gs (Turns later) (blocked p fresh (codes t.body.now) (inside env)) g
+      ∙ ap (λ env. resume p fresh fs (doing p fresh (pieces later) (blocked p fresh (codes t.body.now) (inside env)))) is
+
+  -- a step taken for a turn
+  pub turn_taken : (fs : List CostFrame) (t : TurnsToCome) (k : ℕ) (s : Standing) → s.state.flow ≡ On → k + 1 ≡ s.state.steps
+      → has_piece (window_at s.state t.section.number) t.size t.next ≡ true
+      → resume p fresh fs (acted p fresh t.label (begun t) (record s { state = paid p fresh k t.label (begun t) s.state }))
+      ≡ resume p fresh fs (doing p fresh (pieces t) s)
+  turn_taken fs t k s on taken left =
+      let r = accounted_rules p fresh s.nest in
+      let go : State Account → State Account = with_step (λ st. act p r (accounted p fresh s.nest) t.label (begun t) (counted r t.label (begun t) st)) in
+      ap (λ (st : State Account). resume p fresh fs (record s { state = st }))
+      (sym (step_taken p fresh s.nest k t.label (begun t) s.state taken)
+      ∙ sym (ap (λ b. choose go (λ st. st) b s.state) left)
+      ∙ sym (meant p fresh s.nest (pieces t) s.state)
+      ∙ sym (flow_on s.state.flow s.state (accounted p fresh s.nest (pieces t)) on))
+
+  -- no turn is left
+  pub no_turn_left : (fs : List CostFrame) (t : TurnsToCome) (s : Standing)
+      → has_piece (window_at s.state t.section.number) t.size t.next ≡ false
+      → resume p fresh fs s ≡ resume p fresh fs (doing p fresh (pieces t) s)
+  no_turn_left fs t s none = ap (λ (st : State Account). resume p fresh fs (record s { state = st })) (by_flow s.state.flow)
+    where
+      by_flow : (f : Flow) → s.state ≡ at_flow f s.state (accounted p fresh s.nest (pieces t))
+      by_flow On =
+          let r = accounted_rules p fresh s.nest in
+          let go : State Account → State Account = with_step (λ st. act p r (accounted p fresh s.nest) t.label (begun t) (counted r t.label (begun t) st)) in
+          sym (meant p fresh s.nest (pieces t) s.state ∙ ap (λ b. choose go (λ st. st) b s.state) none)
+      by_flow Faulted = refl
+      by_flow Stopped = refl
+
+  -- a turn that isn't done: the flow wasn't on, or no step was left
+  pub turn_missed : (fs : List CostFrame) (t : TurnsToCome) (s u : Standing)
+      → has_piece (window_at s.state t.section.number) t.size t.next ≡ true
+      → (s.state.flow ≡ On → s.state.steps ≡ 0) → u.state ≡ at_flow s.state.flow s.state stopped → u.nest ≡ s.nest
+      → resume p fresh fs u ≡ resume p fresh fs (doing p fresh (pieces t) s)
+  turn_missed fs t s u left none is n = not_done p fresh fs (pieces t) s u stops is n
+    where
+      stops : s.state.flow ≡ On → accounted p fresh s.nest (pieces t) s.state ≡ stopped s.state
+      stops on =
+          let r = accounted_rules p fresh s.nest in
+          let act_it : State Account → State Account = λ st. act p r (accounted p fresh s.nest) t.label (begun t) (counted r t.label (begun t) st) in
+          meant p fresh s.nest (pieces t) s.state
+          ∙ ap (λ b. choose (with_step act_it) (λ st. st) b s.state) left
+          ∙ ap (λ k. spend k s.state act_it) (none on)
