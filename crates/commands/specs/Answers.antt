@@ -32,7 +32,7 @@ use Rattle.parallel_relation.specs.Together.{LabelsMeet}
 use Rattle.race_checker.specs.Clash.{IsAccepted}
 use Rattle.race_checker.specs.Races.{IsLeastRace, Race as ProgramRace}
 use Rattle.printing.specs.Appending.{AppendsBeginning}
-use Rattle.gather.specs.RunErrors.{IsRunCause}
+use Rattle.finish_scope.specs.RunErrors.{IsRunCause}
 use Rattle.commands.specs.Chosen.{ComesTo, HasLeaves}
 use Rattle.commands.specs.MeetingLines.{HasLines}
 use Rattle.commands.specs.declared.costing.Shares.{Shares}

@@ -16,7 +16,7 @@ use explanations::syntax_errors::explained_syntax;
 use explanations::told::{explained, push_races};
 use failures::failure::Failure;
 use files::file_source::FileSource;
-use gather::run_error::RunError;
+use finish_scope::run_error::RunError;
 use race_checker::check::{Refused, check};
 use rule_explanations::rule_errors::explained_rule;
 use run_explanations::headings::heading_of;

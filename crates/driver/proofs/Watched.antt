@@ -6,9 +6,9 @@ use Rattle.statement_steps.proofs.Watching.{behind_end, not_begun}
 use Rattle.syntax.specs.declared.error.SyntaxError.TheVariants.{OutOfMemory as MemoryInSyntax}
 use Rattle.types.specs.declared.error.TypeError.TheVariants.{OutOfMemory as MemoryInTypes}
 use Rattle.types.specs.declared.input_error.InputError.TheVariants.{OutOfMemory as MemoryInInput}
-use Rattle.gather.specs.declared.run_error.RunError.TheVariants.{OutOfMemory as MemoryInRun, RefusedPush, RefusedThread}
-use Rattle.gather.specs.declared.run_error.RunError.TheVariants.{IssuedTooOften, TooManyTasks, Gather}
-use Rattle.gather.specs.declared.run_error.RunError.TheVariants.{NotDue, NoOwner, NoScope, NoReport, Unlogged}
+use Rattle.finish_scope.specs.declared.run_error.RunError.TheVariants.{OutOfMemory as MemoryInRun, RefusedPush, RefusedThread}
+use Rattle.finish_scope.specs.declared.run_error.RunError.TheVariants.{IssuedTooOften, TooManyTasks, Gather}
+use Rattle.finish_scope.specs.declared.run_error.RunError.TheVariants.{NotDue, NoOwner, NoScope, NoReport, Unlogged}
 use Rattle.trace_text.specs.declared.error.TraceError.TheVariants.{NoMemory as MemoryInTrace}
 use Rattle.command_line.specs.Requests.{Asked}
 use Rattle.failures.specs.FailureStatus.{failure_status}
@@ -30,13 +30,13 @@ of_failure (Input MemoryInInput) other small = omega (arith, small)
 of_failure (Run MemoryInRun) other small = omega (arith, small)
 of_failure (Run RefusedPush) other small = omega (arith, small)
 of_failure (Run RefusedThread) other small = omega (arith, small)
-of_failure (Run IssuedTooOften) other small = omega (arith, small)
+of_failure (Run (IssuedTooOften c)) other small = omega (arith, small)
 of_failure (Run (TooManyTasks ticket)) other small = omega (arith, small)
 of_failure (Trace MemoryInTrace) other small = omega (arith, small)
 of_failure NoMemory other small = omega (arith, small)
-of_failure (Run (Gather e)) other small = omega (arith, small)
-of_failure (Run NotDue) other small = omega (arith, small)
-of_failure (Run NoOwner) other small = omega (arith, small)
+of_failure (Run (Gather u)) other small = omega (arith, small)
+of_failure (Run (NotDue c)) other small = omega (arith, small)
+of_failure (Run (NoOwner c)) other small = omega (arith, small)
 of_failure (Run NoScope) other small = omega (arith, small)
 of_failure (Run NoReport) other small = omega (arith, small)
 of_failure (Run Unlogged) other small = omega (arith, small)

@@ -7,7 +7,7 @@ use Rattle.types.specs.Translation.{input as lists_in, outcome as outcome_in}
 use Rattle.types.specs.Typed.{code_of}
 use Rattle.events.specs.Events.{Event}
 use Rattle.race_checker.specs.Clash.{IsAccepted}
-use Rattle.gather.specs.RunErrors.{IsRunCause}
+use Rattle.finish_scope.specs.RunErrors.{IsRunCause}
 use Rattle.event_worlds.specs.World.{World}
 use Rattle.event_worlds.specs.Worlds.{LeadsTo, outcome_of}
 use Rattle.trace_text.specs.Headers.{TraceHeader}

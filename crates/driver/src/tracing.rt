@@ -14,7 +14,7 @@ use command_line::request::{Command, RunOptions, Spread};
 use commands::question::{Begun, Question};
 use failures::failure::Failure;
 use files::file_source::{FileSource, write_file};
-use gather::run_error::RunError;
+use finish_scope::run_error::RunError;
 use std::alloc::Global;
 use std::sync::Wait;
 use std::thread::Threads;

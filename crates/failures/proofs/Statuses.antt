@@ -4,9 +4,8 @@ use Rattle.syntax.specs.declared.place.TextPlace.{TextPlace}
 use Rattle.syntax.specs.declared.error.SyntaxError.TheVariants.{UnexpectedToken, TooLong, OutOfMemory as MemoryInSyntax}
 use Rattle.types.specs.declared.error.TypeError.TheVariants.{NotInScope, OutOfMemory as MemoryInTypes}
 use Rattle.types.specs.declared.input_error.InputError.TheVariants.{NotJson, OutOfMemory as MemoryInInput}
-use Rattle.types.specs.declared.path.Path.{Path}
-use Rattle.gather.specs.declared.error.GatherError.TheVariants.{Lost, Double, Stranger}
-use Rattle.gather.specs.declared.run_error.RunError.TheVariants.{OutOfMemory as MemoryInRun, Gather, Unlogged}
+use Rattle.finish_scope.specs.declared.causes.Unsettled.{Unsettled}
+use Rattle.finish_scope.specs.declared.run_error.RunError.TheVariants.{OutOfMemory as MemoryInRun, Gather, Unlogged}
 use Rattle.trace_text.specs.declared.error.TraceError.TheVariants.{NotALine, NoMemory as MemoryInTrace}
 use Rattle.failures.specs.FailureStatus.{failure_status}
 use Rattle.failures.specs.declared.failure.Failure.TheVariants.{CannotRead, NotUtf8, Syntax, Types, Race, NoMemoryInCheck}
@@ -38,14 +37,8 @@ no_memory_in_trace = refl
 
 -- ---- inconsistent results, and invalid recorded events
 
-lost_result : (path : Path) → failure_status (Run (Gather (Lost path))) ≡ 5
-lost_result path = refl
-
-second_result : (path : Path) → failure_status (Run (Gather (Double path))) ≡ 5
-second_result path = refl
-
-strange_result : (path : Path) → failure_status (Run (Gather (Stranger path))) ≡ 5
-strange_result path = refl
+unsettled_results : (u : Unsettled) → failure_status (Run (Gather u)) ≡ 5
+unsettled_results u = refl
 
 strange_events : failure_status (Run Unlogged) ≡ 5
 strange_events = refl

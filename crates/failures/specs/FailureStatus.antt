@@ -6,10 +6,10 @@ use Rattle.failures.specs.declared.failure.Failure.TheVariants.{Input, Run, Trac
 use Rattle.syntax.specs.declared.error.SyntaxError.TheVariants.{OutOfMemory as MemoryInSyntax}
 use Rattle.types.specs.declared.error.TypeError.TheVariants.{OutOfMemory as MemoryInTypes}
 use Rattle.types.specs.declared.input_error.InputError.TheVariants.{OutOfMemory as MemoryInInput}
-use Rattle.gather.specs.declared.run_error.RunError.TheVariants.{OutOfMemory as MemoryInRun}
-use Rattle.gather.specs.declared.run_error.RunError.TheVariants.{RefusedPush, RefusedThread, IssuedTooOften}
-use Rattle.gather.specs.declared.run_error.RunError.TheVariants.{TooManyTasks, Gather}
-use Rattle.gather.specs.declared.run_error.RunError.TheVariants.{NotDue, NoOwner, NoScope, NoReport, Unlogged}
+use Rattle.finish_scope.specs.declared.run_error.RunError.TheVariants.{OutOfMemory as MemoryInRun}
+use Rattle.finish_scope.specs.declared.run_error.RunError.TheVariants.{RefusedPush, RefusedThread, IssuedTooOften}
+use Rattle.finish_scope.specs.declared.run_error.RunError.TheVariants.{TooManyTasks, Gather}
+use Rattle.finish_scope.specs.declared.run_error.RunError.TheVariants.{NotDue, NoOwner, NoScope, NoReport, Unlogged}
 use Rattle.trace_text.specs.declared.error.TraceError.TheVariants.{NoMemory as MemoryInTrace}
 
 -- 4 for running out of memory and for too many tasks, 5 for a result, a weight or events that are
@@ -22,13 +22,13 @@ failure_status (Input MemoryInInput) = 4
 failure_status (Run MemoryInRun) = 4
 failure_status (Run RefusedPush) = 4
 failure_status (Run RefusedThread) = 4
-failure_status (Run IssuedTooOften) = 4
+failure_status (Run (IssuedTooOften c)) = 4
 failure_status (Run (TooManyTasks ticket)) = 4
 failure_status (Trace MemoryInTrace) = 4
 failure_status NoMemory = 4
-failure_status (Run (Gather e)) = 5
-failure_status (Run NotDue) = 5
-failure_status (Run NoOwner) = 5
+failure_status (Run (Gather u)) = 5
+failure_status (Run (NotDue c)) = 5
+failure_status (Run (NoOwner c)) = 5
 failure_status (Run NoScope) = 5
 failure_status (Run NoReport) = 5
 failure_status (Run Unlogged) = 5

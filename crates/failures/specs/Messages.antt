@@ -5,7 +5,7 @@ use Rattle.std.specs.String.{string_bytes}
 use Rattle.syntax.specs.Refusals.{error_text as syntax_text}
 use Rattle.types.specs.Codes.{error_text}
 use Rattle.printing.specs.Reasons.{escaped, input_text, race_text}
-use Rattle.gather.specs.RunErrors.{error_code as run_code}
+use Rattle.finish_scope.specs.RunErrors.{error_code as run_code}
 use Rattle.trace_text.specs.Reading.{trace_error_text}
 use Rattle.failures.specs.declared.failure.Failure.{Failure}
 use Rattle.failures.specs.declared.failure.Failure.TheVariants.{CannotRead, NotUtf8, Syntax, Types}

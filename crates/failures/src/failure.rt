@@ -12,7 +12,7 @@ ghost use Rattle.failures.specs.Failures.{section_name as name_of_section};
 
 use crate::escaped::EscapedInput;
 use excerpts::escaped::Escaped;
-use gather::run_error::RunError;
+use finish_scope::run_error::RunError;
 use race_checker::race::Race;
 use sections::id::SectionId;
 use std::alloc::{AllocError, Global};
@@ -105,13 +105,13 @@ impl Failure {
             Failure::Run(RunError::OutOfMemory) => 4,
             Failure::Run(RunError::RefusedPush) => 4,
             Failure::Run(RunError::RefusedThread) => 4,
-            Failure::Run(RunError::IssuedTooOften) => 4,
+            Failure::Run(RunError::IssuedTooOften(_)) => 4,
             Failure::Run(RunError::TooManyTasks(_)) => 4,
             Failure::Trace(TraceError::NoMemory) => 4,
             Failure::NoMemory => 4,
             Failure::Run(RunError::Gather(_)) => 5,
-            Failure::Run(RunError::NotDue) => 5,
-            Failure::Run(RunError::NoOwner) => 5,
+            Failure::Run(RunError::NotDue(_)) => 5,
+            Failure::Run(RunError::NoOwner(_)) => 5,
             Failure::Run(RunError::NoScope) => 5,
             Failure::Run(RunError::NoReport) => 5,
             Failure::Run(RunError::Unlogged) => 5,

@@ -1,3 +1,5 @@
 pub mod Crossing
 pub mod Owners
+pub mod RunCauses
 pub mod Sending
+pub mod Settled

@@ -1,9 +1,11 @@
 -- The state of a scope, and the effect of each call.
-use Rattle.std.specs.Prelude.{ℕ, ◌≡◌, ◌-◌, ◌+◌, ◌<◌, ◌≤◌, ◌⊎◌, List, [], ◌∷◌, ◌++◌, Option, Some}
+use Rattle.std.specs.Prelude.{ℕ, ◌≡◌, ◌≢◌, ◌-◌, ◌+◌, ◌<◌, ◌≤◌, ◌⊎◌, List, [], ◌∷◌, ◌++◌, Option, Some}
 use Rattle.std.specs.Prelude.{None, Bool, true, false}
 use Rattle.task_run.specs.declared.result.TaskResult.{TaskResult as Made}
 use Rattle.weights.specs.Ledger.{Ledger, Returned, issued_of, returned_of, opened, minted, listed}
 use Rattle.weights.specs.Ledger.{without_entry}
+use Rattle.finish_scope.specs.declared.causes.Ownerless.{Ownerless}
+use Rattle.finish_scope.specs.declared.causes.Undue.{Undue}
 use Rattle.finish_scope.specs.declared.late.Reason.{Reason}
 use Rattle.finish_scope.specs.declared.late.Reason.TheVariants.{NotDue, IssuedTooOften}
 use Rattle.finish_scope.specs.declared.resting.Passing.{Passing}
@@ -44,10 +46,21 @@ pub record Mints (old new : Standing) (weight : ℕ) : Type 0 where
   pub few : 1 + old.book.mints < 2147483648
   pub book : new ≡ record old { book = minted old.book }
 
+-- a cause tells what the scope was given and what was out, and a second owner only if one was parked there
+pub record IsUndue (s : Standing) (weight : ℕ) (c : Undue) : Type 0 where
+  pub given : c.given ≡ weight
+  pub out : c.out ≡ out_of s
+  pub second : c.second_owner ≡ true → s.owner ≢ None
+
+-- a cause tells what was issued, and what came back
+pub record IsOwnerless (s : Standing) (c : Ownerless) : Type 0 where
+  pub issued : c.issued ≡ issued_of s.book
+  pub returned : c.returned ≡ returned_of s.book
+
 -- why no more is issued: that much isn't out; or it is, and w0 was issued 2^31 times
 abbrev pub Cannot : Standing → (weight : ℕ) → Reason → Type 0
-Cannot s weight NotDue = out_of s < weight
-Cannot s weight IssuedTooOften = (weight ≤ out_of s) × (1 + s.book.mints ≡ 2147483648)
+Cannot s weight (NotDue c) = (out_of s < weight) × IsUndue s weight c
+Cannot s weight (IssuedTooOften c) = (weight ≤ out_of s) × (1 + s.book.mints ≡ 2147483648)
 
 -- a weight comes back: it has its entry; or there was no memory for it, the weight is counted as unlisted,
 -- and the mark is set

@@ -5,8 +5,10 @@ ghost use Rattle.std.specs.Prelude.{IfSome, None, OnErr, OnOk};
 ghost use Rattle.weights.specs.Ledger.{issued_of, returned_of};
 ghost use Rattle.finish_scope.specs.Own.{IsOwnPassing, IsOwnResting, IsOwnScope, IsResultOfRun};
 ghost use Rattle.finish_scope.specs.Scopes.{Cannot, Counts, Keeps, Mints, Parks, Passes, TakesBack};
-ghost use Rattle.finish_scope.specs.Scopes.{IsEven, out_of, given_by, scope_at_opening};
+ghost use Rattle.finish_scope.specs.Scopes.{IsEven, IsOwnerless, IsUndue, out_of, given_by};
+ghost use Rattle.finish_scope.specs.Scopes.{scope_at_opening};
 
+use crate::causes::{Ownerless, Spent, Undue};
 use crate::late::{Late, Reason};
 use crate::resting::{Passing, Resting};
 use crate::running::Running;
@@ -89,7 +91,7 @@ impl<'p, J: Running> Inner<'p, J> {
     }
 
     /// Issues more weight, in addition to one that is out.
-    pub fn replenish(&mut self, weight: Weight) -> Result<Weight, Late<Weight>>
+    pub fn replenish(&mut self, weight: Weight) -> Result<Weight, Late<Reason, Weight>>
         ensures book { OnOk result (Mints self.old self.new weight) }
         ensures weight { IfOk result (λ w. w ≡ weight + self.old.book.w0) }
         ensures enough { IfOk result (λ w. 2 ≤ w) }
@@ -98,15 +100,22 @@ impl<'p, J: Running> Inner<'p, J> {
         ensures same { OnErr result (self.new ≡ self.old) }
         ensures of_run { OnErr result (IsOwnScope J.job self.old.results self.old.owner) }
     {
-        if weight.units() > self.out() {
+        let out = self.out();
+        if weight.units() > out {
+            let cause = Undue {
+                given: weight.units(),
+                out,
+                second_owner: false,
+            };
             return Err(Late {
-                reason: Reason::NotDue,
+                reason: Reason::NotDue(cause),
                 back: weight,
             });
         }
-        if self.book.issues() == MOST_ISSUES {
+        let issues = self.book.issues();
+        if issues == MOST_ISSUES {
             return Err(Late {
-                reason: Reason::IssuedTooOften,
+                reason: Reason::IssuedTooOften(Spent { issues }),
                 back: weight,
             });
         }
@@ -118,21 +127,27 @@ impl<'p, J: Running> Inner<'p, J> {
         &mut self,
         weight: Weight,
         made: TaskResult,
-    ) -> Result<Back, Late<(Weight, TaskResult)>>
+    ) -> Result<Back, Late<Undue, (Weight, TaskResult)>>
         requires own { IsResultOfRun J.job made }
         ensures takes { OnOk result (TakesBack self.old self.new (given_by made weight) made) }
         ensures complete { IfOk result (λ b. (b ≡ Back.Complete) ↔ IsEven self.new) }
         ensures case { OnErr result (out_of self.old < weight) }
-        ensures reason { IfErr result (λ l. l.reason ≡ Reason.NotDue) }
+        ensures reason { IfErr result (λ l. IsUndue self.old weight l.reason) }
         ensures back { IfErr result (λ l. (l.back.0 ≡ weight) × (l.back.1 ≡ made)) }
         ensures same { OnErr result (self.new ≡ self.old) }
         ensures of_run { OnErr result (IsOwnScope J.job self.old.results self.old.owner) }
     {
         // For the proof: the scope is used, so what it holds is of the run.
         let _ = &self.book;
-        if self.out() < weight.units() {
+        let out = self.out();
+        if out < weight.units() {
+            let reason = Undue {
+                given: weight.units(),
+                out,
+                second_owner: false,
+            };
             return Err(Late {
-                reason: Reason::NotDue,
+                reason,
                 back: (weight, made),
             });
         }
@@ -147,20 +162,27 @@ impl<'p, J: Running> Inner<'p, J> {
         &mut self,
         weight: Weight,
         owner: Resting<'p>,
-    ) -> Result<Back, Late<(Weight, Resting<'p>)>>
+    ) -> Result<Back, Late<Undue, (Weight, Resting<'p>)>>
         requires own { IsOwnResting J.job owner }
         ensures parks { OnOk result (Parks self.old self.new
             (given_by owner.entry.parked.value.made weight) owner.entry) }
         ensures complete { IfOk result (λ b. (b ≡ Back.Complete) ↔ IsEven self.new) }
         ensures case { OnErr result ((out_of self.old < weight) ⊎ (self.old.owner ≢ None)) }
-        ensures reason { IfErr result (λ l. l.reason ≡ Reason.NotDue) }
+        ensures reason { IfErr result (λ l. IsUndue self.old weight l.reason) }
         ensures back { IfErr result (λ l. (l.back.0 ≡ weight) × (l.back.1 ≡ owner.entry)) }
         ensures same { OnErr result (self.new ≡ self.old) }
         ensures of_run { OnErr result (IsOwnScope J.job self.old.results self.old.owner) }
     {
-        if self.owner.is_some() || self.out() < weight.units() {
+        let out = self.out();
+        let second_owner = self.owner.is_some();
+        if second_owner || out < weight.units() {
+            let reason = Undue {
+                given: weight.units(),
+                out,
+                second_owner,
+            };
             return Err(Late {
-                reason: Reason::NotDue,
+                reason,
                 back: (weight, owner),
             });
         }
@@ -185,6 +207,18 @@ impl<'p, J: Running> Inner<'p, J> {
         let none = Vec::new(owner.parked.job.alloc);
         let results = std::mem::replace(&mut self.results, none);
         Some(Passing { owner, results })
+    }
+
+    /// Returns the cause for a run that ends because nobody is parked, though all weight is back.
+    pub fn ownerless(&self) -> Ownerless
+        requires even { IsEven self.now }
+        requires nobody { self.now.owner ≡ None }
+        ensures { IsOwnerless self.now result }
+    {
+        Ownerless {
+            issued: self.book.issued(),
+            returned: self.book.returned(),
+        }
     }
 
     /// Counts a weight that came back. If there is no memory for its entry, the scope is marked.

@@ -6,9 +6,12 @@
 
 #![tactic(auto)]
 
+pub mod causes;
 pub mod inner;
 pub mod late;
 pub mod laws;
 pub mod resting;
+pub mod run_error;
 pub mod running;
 pub mod scope_table;
+pub mod settling;

@@ -3,7 +3,6 @@ pub mod Firsts
 pub mod Openings
 pub mod Pasting
 pub mod ReachedTurns
-pub mod RunCauses
 pub mod Stages
 pub mod StrayPlaces
 pub mod Taking

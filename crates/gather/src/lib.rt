@@ -1,11 +1,10 @@
-//! The results of tasks, put together by path, and why a run has no outcome.
+//! The results of tasks, put together by path.
 
 #![tactic(auto)]
 
 pub mod error;
 mod filling;
 pub mod laws;
-pub mod run_error;
 pub mod settle;
 mod strays;
 mod table;

@@ -8,7 +8,7 @@ use Rattle.types.specs.Codes.{error_code as rule_code, label_of}
 use Rattle.types.specs.InputErrors.{error_code as input_code}
 use Rattle.types.specs.declared.input_error.InputError.{InputError}
 use Rattle.types.specs.declared.input_error.InputError.TheVariants.{UnknownArray, WrongLength, WrongElement}
-use Rattle.gather.specs.RunErrors.{error_code as run_code}
+use Rattle.finish_scope.specs.RunErrors.{error_code as run_code}
 use Rattle.trace_text.specs.declared.error.TraceError.TheVariants.{NotALine, NoMemory as MemoryInTrace}
 use Rattle.failures.specs.FailureStatus.{failure_status}
 use Rattle.failures.specs.Messages.{failure_text}

@@ -207,6 +207,7 @@ fn found_of<R: Threads + Sync>(
 
 /// Returns what is found of a call: what its procedure does and leaves pending, in the names around
 /// the call. Clashes inside the procedure are found in that procedure.
+#[inline(never)]
 fn found_of_call(
     alloc: Global,
     code: &Program,

@@ -1,7 +1,7 @@
 -- Why a parallel run has no outcome.
 use Rattle.std.proofs.Common.{◌≡◌, subst, refl}
-use Rattle.gather.specs.RunErrors.{IsCause}
-use Rattle.gather.proofs.RunCauses.{run_cause}
+use Rattle.finish_scope.specs.RunErrors.{IsCause}
+use Rattle.finish_scope.proofs.RunCauses.{run_cause}
 use Rattle.command_line.specs.Requests.{Settings}
 use Rattle.command_line.specs.declared.request.Command.TheVariants.{Run}
 use Rattle.failures.specs.declared.failure.Failure.{Failure}

@@ -1,5 +1,5 @@
 -- Why a parallel run has no outcome.
-use Rattle.gather.specs.RunErrors.{IsCause}
+use Rattle.finish_scope.specs.RunErrors.{IsCause}
 use Rattle.command_line.specs.Requests.{Settings}
 use Rattle.failures.specs.declared.failure.Failure.{Failure}
 use Rattle.failures.specs.declared.failure.Failure.TheVariants.{Run as RunFailed, NoMemory}

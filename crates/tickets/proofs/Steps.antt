@@ -73,6 +73,30 @@ split_keeps seats id v left_over none s was at =
       within = within_draws-push cut right (omega arith) (within_draws-set s.views id left (omega (arith, empty)) was.within);
     }
 
+-- a mark is taken off a share, which stays as it is
+pub mark_keeps : (seats id : ℕ) (v : SeatShare) → Splits (DrawsOnce seats) id v (share v.seats v.drawn) (share 0 [])
+mark_keeps seats id v s was at =
+    let left : SeatShare = share v.seats v.drawn in
+    let right : SeatShare = share 0 [] in
+    let cut : List SeatShare = set s.views id left in
+    let seats_left = sum_by-set_share (λ u. u.seats) s.views id v left at in
+    let seats_right = sum_by_push (λ (u : SeatShare). u.seats) cut right in
+    let drawn_left = sum_by-set_share (λ u. length u.drawn) s.views id v left at in
+    let drawn_right = sum_by_push (λ (u : SeatShare). length u.drawn) cut right in
+    record {
+      word = was.word;
+      most = was.most;
+      all = omega (arith, was.all, seats_left, seats_right);
+      count = omega (arith, was.count, drawn_left, drawn_right);
+      once = λ x. omega (
+        arith,
+        was.once x,
+        sum_by-set_share (λ u. times x u.drawn) s.views id v left at,
+        sum_by_push (λ (u : SeatShare). times x u.drawn) cut right,
+      );
+      within = within_draws-push cut right (omega arith) (within_draws-set s.views id left (was.within id v at) was.within);
+    }
+
 -- a share is joined to another, and becomes empty
 pub join_keeps : (seats id : ℕ) (v : SeatShare) (other : ℕ) (w : SeatShare)
     → Joins (DrawsOnce seats) id v other w (share (v.seats + w.seats) (v.drawn ++ w.drawn)) (share 0 [])

@@ -1,6 +1,7 @@
 -- Definitions that contracts use for seats and for the word.
-use Rattle.std.specs.Prelude.{◌≡◌, ℕ, List, flat_map, length, ◌≤◌}
+use Rattle.std.specs.Prelude.{◌≡◌, ℕ, List, All, flat_map, length, ◌≤◌}
 use Rattle.tickets.specs.Shares.{times, one_below}
+use Rattle.tickets.specs.declared.drawing.Drawn.{Drawn}
 use Rattle.tickets.specs.declared.drawing.Ticket.{Ticket}
 use Rattle.tickets.specs.declared.word.Seat.{Seat}
 use Rattle.tickets.specs.declared.word.Tickets.{Tickets}
@@ -21,6 +22,14 @@ IsSeatOf t s = s.place.table_id ≡ t.table.shared.table_id
 abbrev pub seats_of : Tickets → ℕ
 seats_of t = t.table.shared.key
 
+-- the ticket was drawn from this word: it has its mark, and only a draw creates a ticket
+abbrev pub IsTicketOf : Tickets → Ticket → Type 0
+IsTicketOf t ticket = ticket.mark.table_id ≡ t.table.shared.table_id
+
+-- the number is that of this word's draws: it has its mark, and only closing the word creates it
+abbrev pub IsCountOf : Tickets → Drawn → Type 0
+IsCountOf t drawn = drawn.mark.table_id ≡ t.table.shared.table_id
+
 -- together these seats drew the numbers below n, each once
 abbrev pub AreOnly : (n : ℕ) → List Seat → Type 0
 AreOnly n seats = (x : ℕ) → times x (drawn_by seats) ≡ one_below x n
@@ -35,6 +44,24 @@ pub record AreDrawn (count n : ℕ) : Type 0 where
 pub record WasDrawn (count : ℕ) (ticket : Ticket) : Type 0 where
   pub seats : List Seat
   pub all : length seats ≡ count
+  pub n : ℕ
+  pub once : AreOnly n seats
+  pub among : 1 ≤ times ticket.number (drawn_by seats)
+
+-- the number of this word's draws: all of its seats drew the numbers below it, each once
+pub record AreAllOf (t : Tickets) (drawn : Drawn) : Type 0 where
+  pub word : IsCountOf t drawn
+  pub seats : List Seat
+  pub of : All (IsSeatOf t) seats
+  pub all : length seats ≡ seats_of t
+  pub once : AreOnly drawn.number seats
+
+-- the ticket was drawn on one of this word's seats, all of which drew the numbers below some n, each once
+pub record WasDrawnFrom (t : Tickets) (ticket : Ticket) : Type 0 where
+  pub word : IsTicketOf t ticket
+  pub seats : List Seat
+  pub of : All (IsSeatOf t) seats
+  pub all : length seats ≡ seats_of t
   pub n : ℕ
   pub once : AreOnly n seats
   pub among : 1 ≤ times ticket.number (drawn_by seats)

@@ -1,17 +1,20 @@
 //! Drawing numbers.
 
 ghost use Rattle.std.specs.Prelude.{◌≡◌, ◌<◌, ◌≤◌, ◌++◌, [], ◌∷◌, length, All, IfOk, vec_len};
-ghost use Rattle.tickets.specs.Seats.{AreOnly, drawn_of, IsSeatOf, seats_of};
+ghost use Rattle.tickets.specs.Seats.{AreOnly, drawn_of, IsCountOf, IsSeatOf, IsTicketOf, seats_of};
 
-use crate::rule::{Draw, Parting, SeatShare};
+use crate::rule::{Draw, Marking, Parting, SeatShare};
 use crate::word::{Seat, Tickets};
 use atomic_table::{Seat as Place, Table};
 use std::alloc::{AllocError, Global};
+use std::fmt;
 
 /// A drawn number. Only `Tickets::draw` creates one.
-#[derive(Debug, Drop, PartialEq, Eq)]
+#[derive(Drop)]
 pub struct Ticket {
     number: u64,
+    /// Shows contracts from which word it was drawn. It has no bytes.
+    mark: Place<(), SeatShare>,
 }
 
 impl Ticket {
@@ -23,10 +26,19 @@ impl Ticket {
     }
 }
 
+impl fmt::Debug for Ticket {
+    fn fmt<W: fmt::Write>(&self, f: &mut fmt::Formatter<W>) -> fmt::Result {
+        let number = self.number;
+        write!(f, "Ticket({number})")
+    }
+}
+
 /// The number of draws on all seats of a word. Only `Tickets::close` creates one.
-#[derive(Clone, Copy, Debug, Drop, PartialEq, Eq)]
+#[derive(Drop)]
 pub struct Drawn {
     number: u64,
+    /// Shows contracts which word was closed. It has no bytes.
+    mark: Place<(), SeatShare>,
 }
 
 impl Drawn {
@@ -35,6 +47,13 @@ impl Drawn {
         ensures { result ≡ self.now.number }
     {
         self.number
+    }
+}
+
+impl fmt::Debug for Drawn {
+    fn fmt<W: fmt::Write>(&self, f: &mut fmt::Formatter<W>) -> fmt::Result {
+        let number = self.number;
+        write!(f, "Drawn({number})")
     }
 }
 
@@ -56,23 +75,26 @@ impl Tickets {
         Ok((Tickets { table }, made))
     }
 
-    /// Draws the next number, starting at 0. This is one atomic step.
+    /// Draws the next number, starting at 0. This is one atomic step, and one more for the mark.
     pub fn draw(&self, seat: &mut Seat) -> Ticket
         requires of { IsSeatOf self.now seat.old }
         requires left { length (drawn_of seat.old) < 4294967296 }
         ensures of { IsSeatOf self.now seat.new }
         ensures drawn { drawn_of seat.new ≡ drawn_of seat.old ++ result.number ∷ [] }
         ensures least { length (drawn_of seat.old) ≤ result.number }
+        ensures word { IsTicketOf self.now result }
     {
         let number = self.table.shared.fetch_add::<Draw>(&mut seat.place, 0, 1);
-        Ticket { number }
+        let mark = self.table.shared.split_seat::<Marking>(&mut seat.place);
+        Ticket { number, mark }
     }
 
     /// Returns the number of draws on all seats together.
     pub fn close(self, mut seats: Vec<Seat>) -> Drawn
         requires all { vec_len seats ≡ seats_of self }
         requires each { All (IsSeatOf self) seats.items }
-        ensures { AreOnly result.number seats.items }
+        ensures once { AreOnly result.number seats.items }
+        ensures word { IsCountOf self result }
     {
         let Tickets { table } = self;
         let Some(last) = seats.pop() else {
@@ -83,10 +105,11 @@ impl Tickets {
             let Seat { place } = seat;
             table.shared.join_seat::<Parting>(&mut whole, place);
         }
+        let mark = table.shared.split_seat::<Marking>(&mut whole);
         let closed = table.close_with(whole);
         let number = closed.word(0);
         closed.free();
-        Drawn { number }
+        Drawn { number, mark }
     }
 }
 

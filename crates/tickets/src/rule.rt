@@ -53,3 +53,15 @@ impl Join<SeatShare> for Parting {
 
     ghost spent = { share 0 [] };
 }
+
+/// A mark that is split off a share. It represents no seat and no draw, and shows which word it is of.
+pub struct Marking;
+
+impl Split<SeatShare> for Marking {
+    ghost use Rattle.std.specs.Prelude.{[]};
+    ghost use Rattle.tickets.specs.Shares.{share};
+
+    ghost left = { λ v. share v.seats v.drawn };
+
+    ghost right = { λ v. share 0 [] };
+}

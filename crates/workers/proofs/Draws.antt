@@ -1,26 +1,29 @@
 -- Draws below the maximum of tasks, and what reports say together.
 use Rattle.std.proofs.Common.{◌≡◌, ℕ, ◌+◌, ◌<◌, ◌≤◌, ◌==◌, cond, List, [], ◌∷◌, ◌++◌, Option, Some, None, All, length}
 use Rattle.std.proofs.Common.{sym, refl, ap, subst, ◌∙◌, arith, ◌⊎◌, inl, inr, length-append}
-use Rattle.std.specs.Prelude.{IfSome}
+use Rattle.std.specs.Prelude.{IfErr, IfOk, IfSome, Result}
 use Rattle.std.proofs.lemmas.Grind.{flat_map-append}
 use Rattle.std.proofs.lemmas.List.{append-nil}
 use Rattle.std.proofs.lemmas.List.Elements.{All-nil, All-push}
 use Rattle.std.proofs.lemmas.Option.{none-some}
+use Rattle.std.proofs.lemmas.Result.{IfOk-weaker, IfErr-weaker}
 use Rattle.std.proofs.lemmas.List.Sums.{sum_by-append, sum_by_push}
 use Rattle.types.specs.Translation.{outcome}
 use Rattle.types.specs.declared.outcome.Outcome.{Outcome}
 use Rattle.task_run.specs.Jobs.{outcome_of}
 use Rattle.task_run.specs.declared.job.Job.{Job}
-use Rattle.gather.specs.declared.run_error.RunError.{RunError}
-use Rattle.gather.specs.declared.run_error.RunError.TheVariants.{OutOfMemory, RefusedPush, RefusedThread}
-use Rattle.gather.specs.declared.run_error.RunError.TheVariants.{IssuedTooOften, TooManyTasks, Gather}
-use Rattle.gather.specs.declared.run_error.RunError.TheVariants.{NotDue, NoOwner, NoScope, NoReport, Unlogged}
-use Rattle.tickets.specs.Seats.{AreOnly, IsSeatOf, drawn_by, drawn_of}
+use Rattle.finish_scope.specs.declared.run_error.RunError.{RunError}
+use Rattle.finish_scope.specs.declared.run_error.RunError.TheVariants.{OutOfMemory, RefusedPush, RefusedThread}
+use Rattle.finish_scope.specs.declared.run_error.RunError.TheVariants.{IssuedTooOften, TooManyTasks, Gather}
+use Rattle.finish_scope.specs.declared.run_error.RunError.TheVariants.{NotDue, NoOwner, NoScope, NoReport, Unlogged}
+use Rattle.tickets.specs.Seats.{AreAllOf, AreDrawn, AreOnly, IsSeatOf, drawn_by, drawn_of, seats_of}
 use Rattle.tickets.specs.Shares.{times, one_below}
+use Rattle.tickets.specs.declared.drawing.Drawn.{Drawn}
 use Rattle.tickets.specs.declared.word.Seat.{Seat}
 use Rattle.tickets.specs.declared.word.Tickets.{Tickets}
-use Rattle.workers.specs.Causes.{HasDrawn, HasTicket, IsReason}
-use Rattle.workers.specs.WorkerStates.{AreBelow, EndsRun, Fails, HasSeat, IsFresh, TellTogether, Tells}
+use Rattle.workers.specs.Causes.{HasDrawn, HasTicket, HasTicketFrom, IsReason}
+use Rattle.workers.specs.Words.{IsFresh}
+use Rattle.workers.specs.WorkerStates.{AreBelow, EndsRun, Fails, HasSeat, TellTogether, Tells}
 use Rattle.workers.specs.declared.worker.Report.{Report}
 
 -- ---- one seat
@@ -69,18 +72,19 @@ pushed seats s =
     flat_map-append drawn_of seats (s ∷ []) ∙ ap (λ (l : List ℕ). drawn_by seats ++ l) (append-nil (drawn_of s))
 
 -- what was drawn is drawn if there are more draws
-drawn_more : (e : RunError) (xs ys : List ℕ) → ((n : ℕ) → 1 ≤ times n xs → 1 ≤ times n ys) → HasDrawn xs e → HasDrawn ys e
-drawn_more OutOfMemory xs ys more has = tt
-drawn_more RefusedPush xs ys more has = tt
-drawn_more RefusedThread xs ys more has = tt
-drawn_more IssuedTooOften xs ys more has = tt
-drawn_more (TooManyTasks ticket) xs ys more has = more ticket.number has
-drawn_more (Gather e) xs ys more has = tt
-drawn_more NotDue xs ys more has = tt
-drawn_more NoOwner xs ys more has = tt
-drawn_more NoScope xs ys more has = tt
-drawn_more NoReport xs ys more has = tt
-drawn_more Unlogged xs ys more has = tt
+drawn_more : (t : Tickets) (e : RunError) (xs ys : List ℕ) → ((n : ℕ) → 1 ≤ times n xs → 1 ≤ times n ys)
+    → HasDrawn t xs e → HasDrawn t ys e
+drawn_more t OutOfMemory xs ys more has = tt
+drawn_more t RefusedPush xs ys more has = tt
+drawn_more t RefusedThread xs ys more has = tt
+drawn_more t (IssuedTooOften c) xs ys more has = tt
+drawn_more t (TooManyTasks ticket) xs ys more has = (has.0, more ticket.number has.1)
+drawn_more t (Gather u) xs ys more has = tt
+drawn_more t (NotDue c) xs ys more has = tt
+drawn_more t (NoOwner c) xs ys more has = tt
+drawn_more t NoScope xs ys more has = tt
+drawn_more t NoReport xs ys more has = tt
+drawn_more t Unlogged xs ys more has = tt
 
 both : (seats : List Seat) (s : Seat) (n : ℕ) → times n (drawn_by (seats ++ s ∷ [])) ≡ times n (drawn_by seats) + times n (drawn_of s)
 both seats s n = ap (times n) (pushed seats s) ∙ times_append n (drawn_by seats) (drawn_of s)
@@ -92,19 +96,58 @@ at_most tasks n seats only below =
     grind (arith, none)
 
 -- the ticket of an error is that of a closed word
-pub ticket : (workers n : ℕ) (e : RunError) (seats : List Seat) → length seats ≡ workers → AreOnly n seats
-    → HasDrawn (drawn_by seats) e → HasTicket workers e
-ticket workers n OutOfMemory seats all only has = tt
-ticket workers n RefusedPush seats all only has = tt
-ticket workers n RefusedThread seats all only has = tt
-ticket workers n IssuedTooOften seats all only has = tt
-ticket workers n (TooManyTasks t) seats all only has = record { seats = seats; all = all; n = n; once = only; among = has }
-ticket workers n (Gather e) seats all only has = tt
-ticket workers n NotDue seats all only has = tt
-ticket workers n NoOwner seats all only has = tt
-ticket workers n NoScope seats all only has = tt
-ticket workers n NoReport seats all only has = tt
-ticket workers n Unlogged seats all only has = tt
+pub ticket_from : (t : Tickets) (n : ℕ) (e : RunError) (seats : List Seat) → All (IsSeatOf t) seats → length seats ≡ seats_of t
+    → AreOnly n seats → HasDrawn t (drawn_by seats) e → HasTicketFrom t e
+ticket_from t n OutOfMemory seats of all only has = tt
+ticket_from t n RefusedPush seats of all only has = tt
+ticket_from t n RefusedThread seats of all only has = tt
+ticket_from t n (IssuedTooOften c) seats of all only has = tt
+ticket_from t n (TooManyTasks ticket) seats of all only has = record {
+  word = has.0;
+  seats = seats;
+  of = of;
+  all = all;
+  n = n;
+  once = only;
+  among = has.1;
+}
+ticket_from t n (Gather u) seats of all only has = tt
+ticket_from t n (NotDue c) seats of all only has = tt
+ticket_from t n (NoOwner c) seats of all only has = tt
+ticket_from t n NoScope seats of all only has = tt
+ticket_from t n NoReport seats of all only has = tt
+ticket_from t n Unlogged seats of all only has = tt
+
+-- the ticket of an error was drawn by as many seats as workers
+ticket_of_some : (t : Tickets) (workers : ℕ) → seats_of t ≡ workers → (e : RunError) → HasTicketFrom t e → HasTicket workers e
+ticket_of_some t workers count OutOfMemory has = tt
+ticket_of_some t workers count RefusedPush has = tt
+ticket_of_some t workers count RefusedThread has = tt
+ticket_of_some t workers count (IssuedTooOften c) has = tt
+ticket_of_some t workers count (TooManyTasks ticket) has = record {
+  seats = has.seats;
+  all = has.all ∙ count;
+  n = has.n;
+  once = has.once;
+  among = has.among;
+}
+ticket_of_some t workers count (Gather u) has = tt
+ticket_of_some t workers count (NotDue c) has = tt
+ticket_of_some t workers count (NoOwner c) has = tt
+ticket_of_some t workers count NoScope has = tt
+ticket_of_some t workers count NoReport has = tt
+ticket_of_some t workers count Unlogged has = tt
+
+pub tickets_of_some : {T : Type 0} (t : Tickets) (workers : ℕ) → seats_of t ≡ workers → (r : Result T RunError)
+    → IfErr r (HasTicketFrom t) → IfErr r (HasTicket workers)
+tickets_of_some t workers count r has = IfErr-weaker r (HasTicketFrom t) (HasTicket workers) (ticket_of_some t workers count) has
+
+-- so many seats as workers drew the numbers below that of a word's draws
+pub drawn_by_some : {T : Type 0} (t : Tickets) (workers : ℕ) → seats_of t ≡ workers → (tasks : T → Drawn) (r : Result T RunError)
+    → IfOk r (λ x. AreAllOf t (tasks x)) → IfOk r (λ x. AreDrawn workers (tasks x).number)
+drawn_by_some t workers count tasks r are =
+    IfOk-weaker r (λ x. AreAllOf t (tasks x)) (λ x. AreDrawn workers (tasks x).number)
+    (λ x h. record { seats = h.seats; all = h.all ∙ count; once = h.once }) are
 
 module _ (o : Option Job) (t : Tickets) (j : Job) (tasks : ℕ) where
   abbrev pub IsTold : Option Outcome → Type 0
@@ -113,18 +156,18 @@ module _ (o : Option Job) (t : Tickets) (j : Job) (tasks : ℕ) where
   pub none_yet : TellTogether o t j tasks None None []
   none_yet = record { of = All-nil (IsSeatOf t); outcome = tt; failed = tt; below = λ is x from. refl }
 
-  more : (e : Option RunError) (seats : List Seat) (s : Seat) → IfSome e (EndsRun o tasks seats) → IfSome e (EndsRun o tasks (seats ++ s ∷ []))
+  more : (e : Option RunError) (seats : List Seat) (s : Seat) → IfSome e (EndsRun o t tasks seats) → IfSome e (EndsRun o t tasks (seats ++ s ∷ []))
   more None seats s ends = tt
   more (Some e) seats s ends = record {
     cause = ends.cause;
-    drawn = drawn_more e (drawn_by seats) (drawn_by (seats ++ s ∷ [])) (λ n has. omega (arith, has, both seats s n)) ends.drawn;
+    drawn = drawn_more t e (drawn_by seats) (drawn_by (seats ++ s ∷ [])) (λ n has. omega (arith, has, both seats s n)) ends.drawn;
     happened = ends.happened;
   }
 
-  last : (e : RunError) (seats : List Seat) (s : Seat) → Fails o t tasks s e → EndsRun o tasks (seats ++ s ∷ []) e
+  last : (e : RunError) (seats : List Seat) (s : Seat) → Fails o t tasks s e → EndsRun o t tasks (seats ++ s ∷ []) e
   last e seats s fails = record {
     cause = fails.cause;
-    drawn = drawn_more e (drawn_of s) (drawn_by (seats ++ s ∷ [])) (λ n has. omega (arith, has, both seats s n)) fails.drawn;
+    drawn = drawn_more t e (drawn_of s) (drawn_by (seats ++ s ∷ [])) (λ n has. omega (arith, has, both seats s n)) fails.drawn;
     happened = fails.happened;
   }
 
@@ -152,15 +195,15 @@ module _ (o : Option Job) (t : Tickets) (j : Job) (tasks : ℕ) where
   tell_err x e seats s f g was fails (inr is) = record {
     of = All-push (IsSeatOf t) seats s was.of fails.of;
     outcome = was.outcome;
-    failed = more (Some g) seats s (subst (λ (y : Option RunError). IfSome y (EndsRun o tasks seats)) is was.failed);
+    failed = more (Some g) seats s (subst (λ (y : Option RunError). IfSome y (EndsRun o t tasks seats)) is was.failed);
     below = λ none. absurd (none-some g (sym none));
   }
 
   -- why a run has no outcome, once the word is closed
-  pub reason : (workers n : ℕ) (e : RunError) (seats : List Seat) → length seats ≡ workers → AreOnly n seats
-      → EndsRun o tasks seats e → IsReason o workers tasks e
-  reason workers n e seats all only ends = record {
+  pub reason : (n : ℕ) (e : RunError) (seats : List Seat) → All (IsSeatOf t) seats → length seats ≡ seats_of t → AreOnly n seats
+      → EndsRun o t tasks seats e → IsReason o t tasks e
+  reason n e seats of all only ends = record {
     cause = ends.cause;
-    ticket = ticket workers n e seats all only ends.drawn;
+    ticket = ticket_from t n e seats of all only ends.drawn;
     happened = ends.happened;
   }

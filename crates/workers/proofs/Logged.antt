@@ -5,21 +5,22 @@ use Rattle.std.proofs.lemmas.Option.{same_Some}
 use Rattle.types.specs.Outcome.{Outcome}
 use Rattle.task_run.specs.Jobs.{outcome_of}
 use Rattle.task_run.specs.declared.job.Job.{Job}
-use Rattle.gather.specs.declared.run_error.RunError.{RunError}
-use Rattle.gather.proofs.RunCauses.{run_cause}
+use Rattle.finish_scope.specs.declared.run_error.RunError.{RunError}
+use Rattle.finish_scope.proofs.RunCauses.{run_cause}
+use Rattle.tickets.specs.declared.word.Tickets.{Tickets}
 use Rattle.event_worlds.specs.declared.job.WeightedJob.{WeightedJob}
 use Rattle.trace.specs.Logs.{LeadsToOutcome, Recorded}
-use Rattle.gather.specs.RunErrors.{IsRunCause}
-use Rattle.gather.specs.declared.run_error.RunError.TheVariants.{OutOfMemory, RefusedPush, RefusedThread}
-use Rattle.gather.specs.declared.run_error.RunError.TheVariants.{IssuedTooOften, TooManyTasks, Gather}
-use Rattle.gather.specs.declared.run_error.RunError.TheVariants.{NotDue, NoOwner, NoScope, NoReport, Unlogged}
+use Rattle.finish_scope.specs.RunErrors.{IsRunCause}
+use Rattle.finish_scope.specs.declared.run_error.RunError.TheVariants.{OutOfMemory, RefusedPush, RefusedThread}
+use Rattle.finish_scope.specs.declared.run_error.RunError.TheVariants.{IssuedTooOften, TooManyTasks, Gather}
+use Rattle.finish_scope.specs.declared.run_error.RunError.TheVariants.{NotDue, NoOwner, NoScope, NoReport, Unlogged}
 use Rattle.workers.specs.Causes.{IsOfLog, IsReason, IsRunReason}
 use Rattle.workers.specs.Logs.{IsLogOfRun, IsOwnLog, weighted}
 
 -- what workers report ends a run with a log too
-pub run_reason : (o : Option Job) (workers tasks : ℕ) (HasLog : Type 0) (e : RunError) → IsReason o workers tasks e
-    → IsRunReason o workers tasks HasLog e
-run_reason o workers tasks HasLog e r =
+pub run_reason : (o : Option Job) (t : Tickets) (tasks : ℕ) (HasLog : Type 0) (e : RunError) → IsReason o t tasks e
+    → IsRunReason o t tasks HasLog e
+run_reason o t tasks HasLog e r =
     record { cause = run_cause tasks HasLog e r.cause; ticket = r.ticket; happened = r.happened }
 
 -- the log ends a run only if the run has one
@@ -28,24 +29,24 @@ with_log tasks HasLog Unlogged has cause = has
 with_log tasks HasLog OutOfMemory has cause = cause
 with_log tasks HasLog RefusedPush has cause = cause
 with_log tasks HasLog RefusedThread has cause = cause
-with_log tasks HasLog IssuedTooOften has cause = cause
+with_log tasks HasLog (IssuedTooOften c) has cause = cause
 with_log tasks HasLog (TooManyTasks ticket) has cause = cause
-with_log tasks HasLog (Gather e) has cause = cause
-with_log tasks HasLog NotDue has cause = cause
-with_log tasks HasLog NoOwner has cause = cause
+with_log tasks HasLog (Gather u) has cause = cause
+with_log tasks HasLog (NotDue c) has cause = cause
+with_log tasks HasLog (NoOwner c) has cause = cause
 with_log tasks HasLog NoScope has cause = cause
 with_log tasks HasLog NoReport has cause = cause
 
-pub log_reason : (o : Option Job) (workers tasks : ℕ) (HasLog : Type 0) (e : RunError) → IsOfLog e → HasLog
-    → IsRunReason o workers tasks HasLog e
-log_reason o workers tasks HasLog e r has =
-    record { cause = with_log tasks HasLog e has (r.cause tasks); ticket = r.ticket workers; happened = r.happened o }
+pub log_reason : (o : Option Job) (t : Tickets) (tasks : ℕ) (HasLog : Type 0) (e : RunError) → IsOfLog e → HasLog
+    → IsRunReason o t tasks HasLog e
+log_reason o t tasks HasLog e r has =
+    record { cause = with_log tasks HasLog e has (r.cause tasks); ticket = r.ticket t; happened = r.happened o }
 
 -- the same of a call that may end so
-pub log_reason_of : {T : Type 0} (o : Option Job) (workers tasks : ℕ) (HasLog Has : Type 0) (r : Result T RunError)
-    → IfErr r IsOfLog → IfErr r (λ _. Has) → (Has → HasLog) → IfErr r (IsRunReason o workers tasks HasLog)
-log_reason_of o workers tasks HasLog Has (Ok x) failed has to = tt
-log_reason_of o workers tasks HasLog Has (Err e) failed has to = log_reason o workers tasks HasLog e failed (to has)
+pub log_reason_of : {T : Type 0} (o : Option Job) (t : Tickets) (tasks : ℕ) (HasLog Has : Type 0) (r : Result T RunError)
+    → IfErr r IsOfLog → IfErr r (λ _. Has) → (Has → HasLog) → IfErr r (IsRunReason o t tasks HasLog)
+log_reason_of o t tasks HasLog Has (Ok x) failed has to = tt
+log_reason_of o t tasks HasLog Has (Err e) failed has to = log_reason o t tasks HasLog e failed (to has)
 
 module _ (o : Option Job) (w0 : ℕ) (j : Job) (v : ℕ) (of : o ≡ Some j) (weight : w0 ≡ v) (l : Recorded) where
   pub own_log : l.world.job ≡ weighted j v → IsOwnLog o w0 l

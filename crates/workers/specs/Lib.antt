@@ -1,4 +1,5 @@
 pub mod Causes
 pub mod Logs
 pub mod Own
+pub mod Words
 pub mod WorkerStates

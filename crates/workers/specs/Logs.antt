@@ -2,8 +2,8 @@
 use Rattle.std.specs.Prelude.{ℕ, ◌≡◌, Option, Some}
 use Rattle.task_run.specs.Jobs.{outcome_of}
 use Rattle.task_run.specs.declared.job.Job.{Job}
-use Rattle.gather.specs.declared.run_error.RunError.{RunError}
-use Rattle.gather.specs.declared.run_error.RunError.TheVariants.{OutOfMemory, Unlogged}
+use Rattle.finish_scope.specs.declared.run_error.RunError.{RunError}
+use Rattle.finish_scope.specs.declared.run_error.RunError.TheVariants.{OutOfMemory, Unlogged}
 use Rattle.event_worlds.specs.declared.error.EventError.{EventError}
 use Rattle.event_worlds.specs.declared.error.EventError.TheVariants.{Illegal, NoMemory}
 use Rattle.event_worlds.specs.declared.job.WeightedJob.{WeightedJob}

@@ -1,21 +1,17 @@
 -- The seats and reports of workers.
-use Rattle.std.specs.Prelude.{ℕ, ◌≡◌, ◌≤◌, List, [], Option, None, All, length, IfErr, IfOk, IfSome}
+use Rattle.std.specs.Prelude.{ℕ, ◌≡◌, ◌≤◌, List, Option, None, All, length, IfErr, IfOk, IfSome}
 use Rattle.types.specs.Translation.{outcome as outcome_in}
 use Rattle.task_run.specs.Jobs.{outcome_of}
 use Rattle.task_run.specs.declared.job.Job.{Job}
-use Rattle.gather.specs.declared.run_error.RunError.{RunError}
+use Rattle.finish_scope.specs.declared.run_error.RunError.{RunError}
 use Rattle.tickets.specs.Seats.{IsSeatOf, drawn_by, drawn_of}
 use Rattle.tickets.specs.Shares.{times}
 use Rattle.tickets.specs.declared.word.Seat.{Seat}
 use Rattle.tickets.specs.declared.word.Tickets.{Tickets}
-use Rattle.gather.specs.RunErrors.{IsCause}
+use Rattle.finish_scope.specs.RunErrors.{IsCause}
 use Rattle.workers.specs.Causes.{Happened, HasDrawn}
 use Rattle.workers.specs.declared.worker.Report.{Report}
 use Rattle.types.specs.declared.outcome.Outcome.{Outcome}
-
--- a seat of the run's tickets, on which nothing was drawn
-abbrev pub IsFresh : Tickets → Seat → Type 0
-IsFresh t s = IsSeatOf t s × (drawn_of s ≡ [])
 
 -- no number from `tasks` on was drawn
 abbrev pub AreBelow : (tasks : ℕ) → List ℕ → Type 0
@@ -31,7 +27,7 @@ pub record HasSeat (t : Tickets) (tasks : ℕ) (s : Seat) : Type 0 where
 pub record Fails (o : Option Job) (t : Tickets) (tasks : ℕ) (s : Seat) (e : RunError) : Type 0 where
   pub of : IsSeatOf t s
   pub cause : IsCause tasks e
-  pub drawn : HasDrawn (drawn_of s) e
+  pub drawn : HasDrawn t (drawn_of s) e
   pub happened : Happened o e
 
 -- what a worker reports: the one-thread outcome, or nothing, and then all of its tickets are below the
@@ -43,9 +39,9 @@ pub record Tells (o : Option Job) (t : Tickets) (j : Job) (tasks : ℕ) (r : Rep
   pub failed : IfErr r.told (Fails o t tasks r.seat)
 
 -- an error of a run, some of whose seats are these
-pub record EndsRun (o : Option Job) (tasks : ℕ) (seats : List Seat) (e : RunError) : Type 0 where
+pub record EndsRun (o : Option Job) (t : Tickets) (tasks : ℕ) (seats : List Seat) (e : RunError) : Type 0 where
   pub cause : IsCause tasks e
-  pub drawn : HasDrawn (drawn_by seats) e
+  pub drawn : HasDrawn t (drawn_by seats) e
   pub happened : Happened o e
 
 -- what reports say together: their outcome, their error, and the seats of their workers
@@ -53,5 +49,5 @@ pub record TellTogether (o : Option Job) (t : Tickets) (j : Job) (tasks : ℕ)
     (told : Option Outcome) (error : Option RunError) (seats : List Seat) : Type 0 where
   pub of : All (IsSeatOf t) seats
   pub outcome : IfSome told (λ x. outcome_in x ≡ outcome_of j)
-  pub failed : IfSome error (EndsRun o tasks seats)
+  pub failed : IfSome error (EndsRun o t tasks seats)
   pub below : error ≡ None → AreBelow tasks (drawn_by seats)

@@ -1,10 +1,11 @@
 //! Reasons why a run has no outcome.
 
 ghost use Rattle.std.specs.Prelude.{◌≡◌};
-ghost use Rattle.workers.specs.declared.error.Trouble.TheVariants.{Gather, OutOfMemory};
+ghost use Rattle.workers.specs.declared.error.Trouble.TheVariants.{OutOfMemory};
 
-use gather::error::GatherError;
-pub use gather::run_error::RunError;
+use finish_scope::causes::{Ownerless, Spent, Undue, Unsettled};
+pub use finish_scope::run_error::RunError;
+use finish_scope::settling::SettleError;
 use std::alloc::{AllocError, AllocFailed};
 
 /// The reason why a worker ends a run, except a missing ticket. `RunError` has the same variants,
@@ -16,13 +17,13 @@ pub enum Trouble {
     /// The worker's deque rejected a task.
     RefusedPush,
     /// A scope has issued weight as often as its book can count.
-    IssuedTooOften,
-    /// The results of tasks couldn't be settled: memory ran out, or they are inconsistent.
-    Gather(GatherError),
+    IssuedTooOften(Spent),
+    /// The results of tasks are inconsistent.
+    Gather(Unsettled),
     /// A scope rejected what was given back to it.
-    NotDue,
+    NotDue(Undue),
     /// A scope is complete, and has no owner.
-    NoOwner,
+    NoOwner(Ownerless),
     /// No scope was found at a position.
     NoScope,
 }
@@ -36,10 +37,10 @@ impl From<Trouble> for RunError {
         match trouble {
             Trouble::OutOfMemory => RunError::OutOfMemory,
             Trouble::RefusedPush => RunError::RefusedPush,
-            Trouble::IssuedTooOften => RunError::IssuedTooOften,
-            Trouble::Gather(error) => RunError::from(error),
-            Trouble::NotDue => RunError::NotDue,
-            Trouble::NoOwner => RunError::NoOwner,
+            Trouble::IssuedTooOften(cause) => RunError::IssuedTooOften(cause),
+            Trouble::Gather(cause) => RunError::Gather(cause),
+            Trouble::NotDue(cause) => RunError::NotDue(cause),
+            Trouble::NoOwner(cause) => RunError::NoOwner(cause),
             Trouble::NoScope => RunError::NoScope,
         }
     }
@@ -61,10 +62,15 @@ impl<T: Drop> From<AllocFailed<T>> for Trouble {
     }
 }
 
-impl From<GatherError> for Trouble {
-    ghost from_gives = { λ error e. e ≡ Gather error };
+impl From<SettleError> for Trouble {
+    ghost use Rattle.workers.specs.Causes.{trouble_by};
 
-    fn from(error: GatherError) -> Trouble {
-        Trouble::Gather(error)
+    ghost from_gives = { λ error t. t ≡ trouble_by error };
+
+    fn from(error: SettleError) -> Trouble {
+        match error {
+            SettleError::OutOfMemory => Trouble::OutOfMemory,
+            SettleError::Inconsistent(cause) => Trouble::Gather(cause),
+        }
     }
 }

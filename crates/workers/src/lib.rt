@@ -17,4 +17,5 @@ pub mod reports;
 pub mod run;
 mod scopes;
 pub mod settings;
+pub mod word;
 mod worker;

@@ -7,8 +7,8 @@ ghost use Rattle.workers.specs.Logs.{IsLogOfRun, IsOwnLog, of_log};
 use crate::log_guard::{LogGuard, OwnLog};
 use crate::pool::Pool;
 use event_worlds::error::EventError;
+use finish_scope::run_error::RunError;
 use finish_scope::running::Running;
-use gather::run_error::RunError;
 use std::sync::{Mutex, Wait};
 use trace::log::Log;
 

@@ -6,7 +6,7 @@ ghost use Rattle.task_run.specs.Jobs.{outcome_of};
 ghost use Rattle.finish_scope.specs.Own.{IsOwnPassing};
 ghost use Rattle.workers.specs.Own.{HasCode, IsOwnBody, IsOwnChild, IsOwnEnded, IsOwnEnding, IsOwnNext};
 ghost use Rattle.workers.specs.Own.{IsOwnLeaving, IsOwnStep, IsOwnTask, IsOwnTurn};
-ghost use Rattle.workers.specs.Causes.{Happens};
+ghost use Rattle.workers.specs.Causes.{Happens, IsOfResults};
 ghost use Rattle.workers.specs.WorkerStates.{Fails, HasSeat, Tells};
 
 use crate::code::OwnCode;
@@ -606,6 +606,7 @@ fn passed<'p, J: Running>(
     requires own { IsOwnLeaving J.job owner.value results.items }
     ensures next { IfOk result (IsOwnNext J.job) }
     ensures cause { IfErr result (Happens J.job) }
+    ensures unsettled { IfErr result (IsOfResults owner.entry.value results.items) }
 {
     pass(owner, results)
 }

@@ -4,7 +4,8 @@ ghost use Rattle.std.specs.Prelude.{◌≡◌, ◌+◌, ◌↔◌, All, IfErr, I
 ghost use Rattle.task_run.specs.Jobs.{IsJob};
 ghost use Rattle.tickets.specs.Seats.{seats_of};
 ghost use Rattle.workers.specs.Causes.{Happens};
-ghost use Rattle.workers.specs.WorkerStates.{HasSeat, IsFresh};
+ghost use Rattle.workers.specs.WorkerStates.{HasSeat};
+ghost use Rattle.workers.specs.Words.{IsFresh, IsFreshWord};
 
 use crate::code::OwnCode;
 use crate::error::Trouble;
@@ -15,6 +16,7 @@ use crate::open_scopes::OpenScopes;
 use crate::pool::{Pool, Tasks};
 use crate::ready::First;
 use crate::settings::Settings;
+use crate::word::{Terms, Word};
 use crate::worker::{WorkerParts, WorkerState};
 use crossbeam_utils::sync::Parker;
 use finish_scope::inner::Inner;
@@ -30,7 +32,7 @@ pub fn open<'p, J: Running, G: Gate, R: Wait>(
     rt: &R,
     job: Job<'p>,
     code: OwnCode<'p, J>,
-    settings: Settings,
+    terms: Terms,
     gate: &'p G,
     log: Option<LockedLog<'p, J>>,
 ) -> Result<
@@ -43,18 +45,21 @@ pub fn open<'p, J: Running, G: Gate, R: Wait>(
 >
     requires of { J.job ≡ Some job }
     requires job { IsJob job }
+    requires word { IsFreshWord terms.settings.workers terms.word }
     ensures job { IfOk result (λ r. r.0.job ≡ job.entry) }
-    ensures settings { IfOk result (λ r. r.0.settings ≡ settings) }
+    ensures settings { IfOk result (λ r. r.0.settings ≡ terms.settings) }
+    ensures tickets { IfOk result (λ r. r.0.tickets ≡ terms.word.tickets) }
     ensures log { IfOk result (λ r. IsSome r.0.log ↔ IsSome log.entry) }
-    ensures own { IfOk result (λ r. HasSeat r.0.tickets settings.tasks r.1.state.seat) }
+    ensures own { IfOk result (λ r. HasSeat r.0.tickets terms.settings.tasks r.1.state.seat) }
     ensures all_parts { IfOk result
-        (λ r. All (λ k. HasSeat r.0.tickets settings.tasks k.state.seat) r.2.items) }
-    ensures seats { IfOk result (λ r. seats_of r.0.tickets ≡ settings.workers) }
-    ensures count { IfOk result (λ r. vec_len r.2 + 1 ≡ settings.workers) }
+        (λ r. All (λ k. HasSeat r.0.tickets terms.settings.tasks k.state.seat) r.2.items) }
+    ensures seats { IfOk result (λ r. seats_of r.0.tickets ≡ terms.settings.workers) }
+    ensures count { IfOk result (λ r. vec_len r.2 + 1 ≡ terms.settings.workers) }
     ensures cause { IfErr result (Happens J.job) }
 {
     let alloc = job.alloc;
-    let (tickets, mut seats) = Tickets::new(alloc, settings.workers)?;
+    let Terms { settings, word } = terms;
+    let Word { tickets, mut seats } = word;
     let Some(seat) = seats.pop() else {
         unreachable!()
     };

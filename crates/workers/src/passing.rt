@@ -4,12 +4,12 @@ ghost use Rattle.std.specs.Prelude.{◌≡◌, ◌⊎◌, IfErr, IfOk, Some, rev
 ghost use Rattle.task_run.specs.Lists.{Each};
 ghost use Rattle.weighted_task.specs.Ends.{IsParked};
 ghost use Rattle.weighted_task.specs.Tasks.{IsResultOf};
-ghost use Rattle.workers.specs.Causes.{Happens};
+ghost use Rattle.workers.specs.Causes.{Happens, IsOfResults};
 ghost use Rattle.workers.specs.Own.{IsNext};
 
 use crate::error::Trouble;
 use crate::open_scopes::Next;
-use gather::settle::settle;
+use finish_scope::settling::settle;
 use task_run::result::TaskResult;
 use weighted_task::finish::{Owner, Parked};
 
@@ -19,11 +19,10 @@ pub fn pass<'p>(owner: Box<Parked<'p>>, results: Vec<TaskResult>) -> Result<Next
     requires results { Each (IsResultOf owner.value.job) results.items }
     ensures next { IfOk result (IsNext owner.entry.value.job) }
     ensures cause { IfErr result (Happens (Some owner.entry.value.job)) }
+    ensures unsettled { IfErr result (IsOfResults owner.entry.value results.items) }
 {
-    let alloc = owner.job.alloc;
     let results = with_least_first(results);
-    let (waiting, made) = Parked::open(owner);
-    let settled = settle(alloc, made, results)?;
+    let (waiting, settled) = settle(owner, results)?;
     match &waiting.owner {
         Owner::Main => Ok(Next::Told(waiting.outcome(settled)?)),
         Owner::Finish(_) => Ok(Next::Goes(waiting.go_on(settled)?)),

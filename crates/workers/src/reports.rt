@@ -1,9 +1,9 @@
 //! The reports of all workers, put together.
 
-ghost use Rattle.std.specs.Prelude.{◌≡◌, ◌+◌, ◌≤◌, ◌⊎◌, All, IfErr, IfOk, Some, vec_len};
+ghost use Rattle.std.specs.Prelude.{◌≡◌, ◌+◌, ◌≤◌, ◌⊎◌, All, Err, IfErr, IfOk, IfSome, Some, vec_len};
 ghost use Rattle.types.specs.Translation.{outcome as outcome_in};
 ghost use Rattle.task_run.specs.Jobs.{outcome_of};
-ghost use Rattle.tickets.specs.Seats.{AreDrawn, seats_of};
+ghost use Rattle.tickets.specs.Seats.{AreAllOf, seats_of};
 ghost use Rattle.workers.specs.Causes.{IsReason};
 ghost use Rattle.workers.specs.WorkerStates.{TellTogether, Tells};
 
@@ -17,7 +17,7 @@ use tickets::{Drawn, Seat, Tickets};
 use types::outcome::Outcome;
 
 /// A run that has an outcome.
-#[derive(Debug, Drop, PartialEq, Eq)]
+#[derive(Debug, Drop)]
 pub struct Finished {
     pub outcome: Outcome,
     /// The number of tasks that were started, including the root.
@@ -42,11 +42,10 @@ pub fn told<J: Running>(
 ) -> Result<Finished, RunError>
     requires each { All (Tells J.job tickets job settings.tasks) reports.items }
     requires seats { vec_len reports ≡ seats_of tickets }
-    requires workers { seats_of tickets ≡ settings.workers }
     ensures outcome { IfOk result (λ r. outcome_in r.outcome ≡ outcome_of job.entry) }
-    ensures drawn { IfOk result (λ r. AreDrawn settings.workers r.tasks.number) }
+    ensures drawn { IfOk result (λ r. AreAllOf tickets r.tasks) }
     ensures tasks { IfOk result (λ r. r.tasks.number ≤ settings.tasks) }
-    ensures failed { IfErr result (IsReason J.job settings.workers settings.tasks) }
+    ensures failed { IfErr result (IsReason J.job tickets settings.tasks) }
 {
     let together = put_together::<J>(job, settings, &tickets, reports)?;
     finish::<J>(job, settings, tickets, together)
@@ -142,11 +141,11 @@ fn finish<J: Running>(
     requires told { TellTogether J.job tickets _job _settings.tasks
         reports.outcome reports.error reports.seats.items }
     requires seats { vec_len reports.seats ≡ seats_of tickets }
-    requires workers { seats_of tickets ≡ _settings.workers }
     ensures outcome { IfOk result (λ r. outcome_in r.outcome ≡ outcome_of _job.entry) }
-    ensures drawn { IfOk result (λ r. AreDrawn _settings.workers r.tasks.number) }
+    ensures drawn { IfOk result (λ r. AreAllOf tickets r.tasks) }
     ensures tasks { IfOk result (λ r. r.tasks.number ≤ _settings.tasks) }
-    ensures failed { IfErr result (IsReason J.job _settings.workers _settings.tasks) }
+    ensures failed { IfErr result (IsReason J.job tickets _settings.tasks) }
+    ensures kept { IfSome reports.error (λ e. result ≡ Err e) }
 {
     let Reports {
         outcome,

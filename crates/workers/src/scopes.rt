@@ -102,10 +102,10 @@ pub fn give_back<'p, J: Running, G: Gate, R: Wait>(
             passes::<J, G, R>(rt, inner, back, recorder)
         }
         Err(late) => {
-            let Late { reason: _, back } = late;
+            let Late { reason, back } = late;
             let (weight, _) = back;
             weight.forfeit();
-            Err(Trouble::NotDue)
+            Err(Trouble::NotDue(reason))
         }
     }
 }
@@ -136,10 +136,10 @@ pub fn park<'p, J: Running, G: Gate, R: Wait>(
             passes::<J, G, R>(rt, inner, back, recorder)
         }
         Err(late) => {
-            let Late { reason: _, back } = late;
+            let Late { reason, back } = late;
             let (weight, _) = back;
             weight.forfeit();
-            Err(Trouble::NotDue)
+            Err(Trouble::NotDue(reason))
         }
     }
 }
@@ -168,20 +168,20 @@ fn passes<'p, J: Running, G: Gate, R: Wait>(
                     log_guard.passed(recorder.scope.number, passing.owner.parked.path());
                     Ok(Some(passing))
                 }
-                None => Err(Trouble::NoOwner),
+                None => Err(Trouble::NoOwner(inner.ownerless())),
             }
         }
     }
 }
 
 /// Returns the reason why a scope issued nothing.
-fn not_issued(late: Late<Weight>) -> Trouble
+fn not_issued(late: Late<Reason, Weight>) -> Trouble
     ensures { result ≡ trouble_of late.reason }
 {
     let Late { reason, back } = late;
     back.forfeit();
     match reason {
-        Reason::NotDue => Trouble::NotDue,
-        Reason::IssuedTooOften => Trouble::IssuedTooOften,
+        Reason::NotDue(cause) => Trouble::NotDue(cause),
+        Reason::IssuedTooOften(cause) => Trouble::IssuedTooOften(cause),
     }
 }

@@ -2,19 +2,19 @@
 
 use failures::failure::Failure;
 use failures::message::emit_message;
-use gather::error::GatherError;
-use gather::run_error::RunError;
+use finish_scope::inner::Inner;
+use finish_scope::late::{Late, Reason};
+use finish_scope::run_error::RunError;
 use std::alloc::Global;
+use std::marker::Brand;
 use std::process::Abort;
 use std::rt::HostRuntime;
 use syntax::error::SyntaxError;
 use syntax::place::TextPlace;
 use tickets::Tickets;
 use trace_text::error::TraceError;
-use types::child_number::ChildNumber;
 use types::error::TypeError;
 use types::input_error::InputError;
-use types::path::Path;
 
 const PLACE: TextPlace = TextPlace {
     line: 1,
@@ -217,12 +217,33 @@ fn lines_of_inputs_and_races(rt: HostRuntime) {
 #[test]
 fn lines_of_runs(rt: HostRuntime) {
     let alloc = rt.alloc();
-    let child = Path::root(alloc).child(ChildNumber::after(0));
-    let lost = RunError::Gather(GatherError::Lost(child.expect(&rt, "memory")));
     tells(&rt, alloc, &Failure::Run(RunError::OutOfMemory), "E1");
-    tells(&rt, alloc, &Failure::Run(lost), "E3");
-    tells(&rt, alloc, &Failure::Run(RunError::NotDue), "E4");
+    tells(&rt, alloc, &Failure::Run(RunError::NoScope), "E4");
     tells(&rt, alloc, &Failure::Run(RunError::Unlogged), "E5");
+}
+
+#[test]
+fn line_of_a_scope_that_is_given_too_much(rt: HostRuntime) {
+    let alloc = rt.alloc();
+    let (mut inner, weight) = Inner::<Brand>::open(alloc, 8);
+    let (_, more) = Inner::<Brand>::open(alloc, 9);
+    weight.forfeit();
+    match inner.replenish(more) {
+        Ok(weight) => {
+            weight.forfeit();
+            assert!(rt; false, "a scope of weight 8 took a weight of 9");
+        }
+        Err(late) => {
+            let Late { reason, back } = late;
+            back.forfeit();
+            match reason {
+                Reason::NotDue(cause) => {
+                    tells(&rt, alloc, &Failure::Run(RunError::NotDue(cause)), "E4");
+                }
+                Reason::IssuedTooOften(_) => assert!(rt; false, "another reason"),
+            }
+        }
+    }
 }
 
 #[test]

@@ -17,6 +17,8 @@ use std::sync::Wait;
 use std::sync::atomic::{AtomicBool, AtomicU32, AtomicU64, Ordering};
 use std::thread;
 use std::thread::Threads;
+use task_run::job::Job;
+use tickets::Tickets;
 use types::budget::Budget;
 use types::input::Input;
 use types::path::Path;
@@ -25,8 +27,9 @@ use weights::book::MOST_ISSUES;
 use workers::error::RunError;
 use workers::gate::{Gate, NoGate};
 use workers::reports::Finished;
-use workers::run::run;
+use workers::run::{run, run_with};
 use workers::settings::Settings;
+use workers::word::Word;
 
 /// The maximum number of looks of a task that waits for another.
 const TURNS: u32 = 1_000_000;
@@ -380,6 +383,45 @@ fn tasks_are_counted(rt: HostRuntime) {
 }
 
 #[test]
+fn tasks_draw_from_the_given_word(rt: HostRuntime) {
+    let alloc = rt.alloc();
+    let program = accepted(&rt, alloc, MANY_TASKS);
+    let input = Input::zeros(alloc, program.typed()).expect(&rt, "memory");
+    for workers in [1, 2, 8] {
+        let settings = settings(&rt, 65_536, 8, workers);
+        let (tickets, seats) = Tickets::new(alloc, settings.workers).expect(&rt, "memory");
+        let job = Job {
+            alloc,
+            accepted: &program,
+            input: &input,
+            budget: settings.budget,
+        };
+        let told = run_with(&rt, job, settings, Word { tickets, seats }, &NoGate, None);
+        let (finished, _) = told.expect(&rt, "an outcome");
+        let tasks = finished.tasks.number();
+        assert!(rt; tasks == 501, "{tasks} tasks");
+    }
+}
+
+#[test]
+fn the_ticket_of_a_task_too_many_has_its_number(rt: HostRuntime) {
+    let alloc = rt.alloc();
+    let program = accepted(&rt, alloc, TWO_TASKS);
+    let input = Input::zeros(alloc, program.typed()).expect(&rt, "memory");
+    let settings = settings(&rt, 2, 8, 1);
+    match unlogged(&rt, alloc, (&program, &input), settings, &NoGate) {
+        Ok(_) => assert!(rt; false, "an outcome of two of three tasks"),
+        Err(error) => match error {
+            RunError::TooManyTasks(ticket) => {
+                let number = ticket.number();
+                assert!(rt; number == 2, "ticket {number}");
+            }
+            other => panic!(rt; "{}", other.code()),
+        },
+    }
+}
+
+#[test]
 fn a_scope_issues_nothing_for_more_than_is_out(rt: HostRuntime) {
     let alloc = rt.alloc();
     let (mut inner, weight) = Inner::<Brand>::open(alloc, 8);
@@ -392,7 +434,10 @@ fn a_scope_issues_nothing_for_more_than_is_out(rt: HostRuntime) {
         Err(late) => {
             let Late { reason, back } = late;
             back.forfeit();
-            assert!(rt; reason == Reason::NotDue, "another reason");
+            match reason {
+                Reason::NotDue(_) => {}
+                Reason::IssuedTooOften(_) => assert!(rt; false, "another reason"),
+            }
         }
     }
     weight.forfeit();
@@ -422,7 +467,10 @@ fn a_scope_issues_weight_two_to_the_31_times(rt: HostRuntime) {
             let Late { reason, back } = late;
             assert!(rt; back.units() == MOST_ISSUES, "another weight");
             back.forfeit();
-            assert!(rt; reason == Reason::IssuedTooOften, "another reason");
+            match reason {
+                Reason::NotDue(_) => assert!(rt; false, "another reason"),
+                Reason::IssuedTooOften(_) => {}
+            }
         }
     }
 }

@@ -8,8 +8,8 @@ use Rattle.events.specs.Events.{event as event_of}
 use Rattle.events.specs.declared.event.Event.{Event}
 use Rattle.trace_text.specs.Headers.{header_of as header_in}
 use Rattle.trace_text.specs.Lines.{trace_text}
-use Rattle.gather.specs.RunErrors.{IsRunCause}
-use Rattle.gather.proofs.RunCauses.{cause_so}
+use Rattle.finish_scope.specs.RunErrors.{IsRunCause}
+use Rattle.finish_scope.proofs.RunCauses.{cause_so}
 use Rattle.command_line.specs.Requests.{settings}
 use Rattle.commands.specs.Answers.{IsTraced}
 use Rattle.driver.proofs.TracedRuns.{is_trace, of_some}

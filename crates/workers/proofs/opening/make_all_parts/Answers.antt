@@ -1,7 +1,8 @@
 use Rattle.std.proofs.Common.{rules, arith, ◌≡◌, ◌+◌, All, vec_len, subst, sym}
 use Rattle.std.proofs.lemmas.List.Elements.{All-push, All-rest}
 use Rattle.std.specs.Vec.Iter.{into_iter_len}
-use Rattle.workers.specs.WorkerStates.{HasSeat, IsFresh}
+use Rattle.workers.specs.WorkerStates.{HasSeat}
+use Rattle.workers.specs.Words.{IsFresh}
 use Rattle.workers.specs.declared.worker.WorkerParts.{WorkerParts}
 use Rattle.workers.proofs.opening.make_all_parts.Goals as goal
 

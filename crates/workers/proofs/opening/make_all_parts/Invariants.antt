@@ -1,6 +1,7 @@
 use Rattle.std.proofs.Common.{◌≡◌, ◌+◌, All, vec_len}
 use Rattle.std.specs.Vec.Iter.{into_iter_items, into_iter_len}
-use Rattle.workers.specs.WorkerStates.{HasSeat, IsFresh}
+use Rattle.workers.specs.WorkerStates.{HasSeat}
+use Rattle.workers.specs.Words.{IsFresh}
 use Rattle.workers.proofs.opening.make_all_parts.Given as goal
 
 -- the parts of the workers have seats of the run, and those that are left are fresh

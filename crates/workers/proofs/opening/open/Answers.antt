@@ -1,18 +1,18 @@
 use Rattle.std.proofs.Common.{rules, ◌≡◌, ◌++◌, ◌∷◌, [], Some}
 use Rattle.std.proofs.lemmas.List.Elements.{All-pop}
-use Rattle.workers.specs.WorkerStates.{IsFresh}
+use Rattle.workers.specs.Words.{IsFresh}
 use Rattle.workers.proofs.opening.open.Goals as goal
 
 pub state_at-state-requires : goal.state_at-state-requires
 state_at-state-requires g c =
-    let seats = c.in_ok-tickets.seats.items in
+    let seats = c.args.terms.word.seats.items in
     let rest = c.pop.new.self.items in
     let items : seats ≡ rest ++ c.in-Some.seat ∷ [] = search rules in
-    (All-pop (IsFresh c.in_ok-tickets.tickets) seats rest (Some c.in-Some.seat) items c.in_ok-tickets.ensures.each).1
+    (All-pop (IsFresh c.args.terms.word.tickets) seats rest (Some c.in-Some.seat) items c.requires.word.each).1
 
 pub make_all_parts-requires : goal.make_all_parts-requires
 make_all_parts-requires g c =
-    let seats = c.in_ok-tickets.seats.items in
+    let seats = c.args.terms.word.seats.items in
     let rest = c.pop.new.self.items in
     let items : seats ≡ rest ++ c.in-Some.seat ∷ [] = search rules in
-    (All-pop (IsFresh c.in_ok-tickets.tickets) seats rest (Some c.in-Some.seat) items c.in_ok-tickets.ensures.each).0
+    (All-pop (IsFresh c.args.terms.word.tickets) seats rest (Some c.in-Some.seat) items c.requires.word.each).0

@@ -1,9 +1,12 @@
-use Rattle.types.specs.Translation.{outcome}
-use Rattle.workers.specs.Causes.{job_of}
-use Rattle.workers.proofs.Logged.{told_by}
+use Rattle.workers.proofs.Draws.{drawn_by_some, tickets_of_some}
 use Rattle.workers.proofs.run.run.Goals as goal
 
-pub returns-clause-told : goal.returns-clause-told
-returns-clause-told g c =
-    told_by (job_of c.args.alloc c.args.accepted c.args.input c.args.settings.budget) c.args.settings.w0
-    (λ r. outcome r.0.outcome) (λ r. r.1) c.run_as.result c.run_as.ensures.outcome c.run_as.ensures.log
+pub returns-clause-drawn : goal.returns-clause-drawn
+returns-clause-drawn g c =
+    drawn_by_some c.in_ok-tickets.tickets c.args.settings.workers c.in_ok-tickets.ensures.seats.0 (λ r. r.0.tasks) c.run_with.result
+    c.run_with.ensures.drawn
+
+pub returns-clause-ticket : goal.returns-clause-ticket
+returns-clause-ticket g c =
+    tickets_of_some c.in_ok-tickets.tickets c.args.settings.workers c.in_ok-tickets.ensures.seats.0 c.run_with.result
+    c.run_with.ensures.ticket

@@ -1,8 +1,13 @@
+use Rattle.std.proofs.Common.{subst}
+use Rattle.std.specs.Prelude.{IfErr, IfOk}
 use denote.Exit.{no}
 use denote.Param.{param}
 use denote.Param.Send.{IsSend, IsSync, param_send, param_sync}
 use denote.Ref.{NamedLft}
 use mir.Syntax.{named}
+use Rattle.tickets.specs.Seats.{AreAllOf}
+use Rattle.tickets.specs.declared.word.Tickets.{Tickets}
+use Rattle.workers.specs.Causes.{IsReason}
 use Rattle.workers.specs.contracts.main_loop.Shared as Shared
 use Rattle.workers.specs.contracts.worker.WorkerParts as WorkerParts
 use Rattle.workers.proofs.Sending.{shared_sync, parts_send}
@@ -25,3 +30,13 @@ work_together-requires-sync-C g c κs within =
     shared_sync κ (param 0 g.row.J) g.J.Running (param 1 g.row.G) g.G.Gate c.type_bounds.sync-G in
     param_sync 0 (arg-3-0 g.row.J g.row.G g.row.R g.J.laws g.G.laws g.R.laws g.J.Running g.J.Running-dict g.G.Gate g.G.Gate-dict g.R.Threads g.R.Threads-dict g.R.Wait g.R.Wait-dict κs)
     (record { shared = s.shared })
+
+-- the shared tickets are those of the word
+pub returns-in-Ok-clause-drawn : goal.returns-in-Ok-clause-drawn
+returns-in-Ok-clause-drawn g c =
+    subst (λ (t : Tickets). IfOk c.told.result (λ f. AreAllOf t f.tasks)) c.in_ok-shared.ensures.tickets c.told.ensures.drawn
+
+pub returns-in-Ok-clause-failed : goal.returns-in-Ok-clause-failed
+returns-in-Ok-clause-failed g c =
+    subst (λ (t : Tickets). IfErr c.told.result (IsReason g.J.Running.job t c.args.terms.settings.tasks)) c.in_ok-shared.ensures.tickets
+    c.told.ensures.failed

@@ -6,7 +6,7 @@ use Rattle.std.proofs.lemmas.List.Sums.{sum_by-append}
 use Rattle.std.specs.Vec.Iter.{into_iter_items, into_iter_len}
 use Rattle.tickets.specs.Shares.{times}
 use Rattle.tickets.specs.Seats.{drawn_by, drawn_of, IsSeatOf}
-use Rattle.tickets.proofs.Steps.{join_keeps, closing}
+use Rattle.tickets.proofs.Steps.{join_keeps, mark_keeps, closing}
 use Rattle.tickets.proofs.word.Tickets.close.Goals as goal
 
 pub loop-seat-init : goal.loop-seat-init
@@ -64,15 +64,24 @@ loop-seat-preserved c =
       λ k t below. let h = was.6 (k + 1) t in grind rules,
     )
 
-pub returns : goal.returns
-returns c x =
+pub split_seat-mark-requires : goal.split_seat-mark-requires
+split_seat-mark-requires c =
+    let whole = c.loop-seat.whole in
+    (c.loop-seat.invariant.2, search rules, mark_keeps c.args.self.table.shared.key whole.id whole.me.0)
+
+pub returns-clause-once : goal.returns-clause-once
+returns-clause-once c x =
     let was = c.loop-seat.invariant in
     let whole = c.loop-seat.whole in
     let table = c.args.self.table.shared in
     let none : into_iter_len c.loop-seat.seat-iterator ≡ 0 = search rules in
     let left : into_iter_items c.loop-seat.seat-iterator ≡ [] = nil_from_length _ (search rules) in
     let nothing : times x (drawn_by (into_iter_items c.loop-seat.seat-iterator)) ≡ 0 = ap (λ l. times x (drawn_by l)) left in
-    let all : whole.me.0.seats ≡ table.key = omega (arith, was.4, none, c.requires.all) in
-    let drawn = closing table.key whole.id whole.me.0 _ _ all c.close_with-closed.ensures.values.2 c.word-number.result
+    let marked = c.split_seat-mark.new.seat in
+    let same = c.split_seat-mark.ensures.2 in
+    let seats : marked.me.0.seats ≡ whole.me.0.seats = ap (λ m. m.0.seats) same in
+    let draws : times x marked.me.0.drawn ≡ times x whole.me.0.drawn = ap (λ m. times x m.0.drawn) same in
+    let all : marked.me.0.seats ≡ table.key = omega (arith, was.4, none, seats, c.requires.all) in
+    let drawn = closing table.key marked.id marked.me.0 _ _ all c.close_with-closed.ensures.values.2 c.word-number.result
     c.word-number.ensures x in
-    omega (arith, was.5 x, nothing, drawn)
+    omega (arith, was.5 x, nothing, draws, drawn)

@@ -1,16 +1,17 @@
 //! The reasons why a run has no outcome.
 
 ghost use Rattle.std.specs.Prelude.{◌≡◌};
-ghost use Rattle.gather.specs.RunErrors.{error_code, refused_by};
-ghost use Rattle.gather.specs.declared.run_error.RunError.TheVariants.{OutOfMemory};
+ghost use Rattle.finish_scope.specs.RunErrors.{error_code};
+ghost use Rattle.finish_scope.specs.declared.run_error.RunError.TheVariants.{OutOfMemory};
 
-use crate::error::GatherError;
+use crate::causes::{Ownerless, Spent, Undue, Unsettled};
 use std::alloc::AllocError;
 use tickets::Ticket;
 
 /// The first reason why a run has no outcome, with an example of such a run if one is known. The
-/// comments give the code that the program prints.
-#[derive(PartialEq, Eq, Debug, Drop)]
+/// comments give the code that the program prints. A ticket or a cause in it is created only by the
+/// call that drew or met it.
+#[derive(Debug, Drop)]
 pub enum RunError {
     /// E1: out of memory. Example: `main { }`, if an allocation fails.
     OutOfMemory,
@@ -22,18 +23,18 @@ pub enum RunError {
     RefusedThread,
     /// E1: a scope has issued weight 2^31 times. No run is known in which this happens: that takes
     /// more tasks than a run may have.
-    IssuedTooOften,
+    IssuedTooOften(Spent),
     /// E2: this ticket was drawn, whose number is at least the maximum number of tasks of the run.
     /// Example: ticket 1 of `main { async { } }`, if the maximum is 1.
     TooManyTasks(Ticket),
     /// E3: the results of tasks don't fit together. No run is known in which this happens.
-    Gather(GatherError),
+    Gather(Unsettled),
     /// E4: a scope was given more weight than was out, or a second owner. No run is known in which
     /// this happens.
-    NotDue,
+    NotDue(Undue),
     /// E4: all weight of a scope came back, but no owner was parked there. No run is known in which
     /// this happens.
-    NoOwner,
+    NoOwner(Ownerless),
     /// E4: no scope was found at the position of an outer scope. No run is known in which this
     /// happens.
     NoScope,
@@ -53,10 +54,11 @@ impl RunError {
             RunError::OutOfMemory
             | RunError::RefusedPush
             | RunError::RefusedThread
-            | RunError::IssuedTooOften => "E1",
+            | RunError::IssuedTooOften(_) => "E1",
             RunError::TooManyTasks(_) => "E2",
             RunError::Gather(_) => "E3",
-            RunError::NotDue | RunError::NoOwner | RunError::NoScope | RunError::NoReport => "E4",
+            RunError::NotDue(_) | RunError::NoOwner(_) | RunError::NoScope | RunError::NoReport =>
+                "E4",
             RunError::Unlogged => "E5",
         }
     }
@@ -67,18 +69,5 @@ impl From<AllocError> for RunError {
 
     fn from(_error: AllocError) -> RunError {
         RunError::OutOfMemory
-    }
-}
-
-impl From<GatherError> for RunError {
-    ghost from_gives = { λ error e. e ≡ refused_by error };
-
-    fn from(error: GatherError) -> RunError {
-        match error {
-            GatherError::OutOfMemory => RunError::OutOfMemory,
-            GatherError::Lost(_) | GatherError::Double(_) | GatherError::Stranger(_) => {
-                RunError::Gather(error)
-            }
-        }
     }
 }

@@ -1,21 +1,21 @@
 -- The causes of a run's errors, with a log and without.
 use Rattle.std.proofs.Common.{ℕ}
-use Rattle.gather.specs.RunErrors.{IsCause, IsRunCause}
-use Rattle.gather.specs.declared.run_error.RunError.{RunError}
-use Rattle.gather.specs.declared.run_error.RunError.TheVariants.{OutOfMemory, RefusedPush, RefusedThread}
-use Rattle.gather.specs.declared.run_error.RunError.TheVariants.{IssuedTooOften, TooManyTasks, Gather}
-use Rattle.gather.specs.declared.run_error.RunError.TheVariants.{NotDue, NoOwner, NoScope, NoReport, Unlogged}
+use Rattle.finish_scope.specs.RunErrors.{IsCause, IsRunCause}
+use Rattle.finish_scope.specs.declared.run_error.RunError.{RunError}
+use Rattle.finish_scope.specs.declared.run_error.RunError.TheVariants.{OutOfMemory, RefusedPush, RefusedThread}
+use Rattle.finish_scope.specs.declared.run_error.RunError.TheVariants.{IssuedTooOften, TooManyTasks, Gather}
+use Rattle.finish_scope.specs.declared.run_error.RunError.TheVariants.{NotDue, NoOwner, NoScope, NoReport, Unlogged}
 
 -- what a worker reports is a cause, whether there is a log or not
 pub run_cause : (tasks : ℕ) (HasLog : Type 0) (e : RunError) → IsCause tasks e → IsRunCause tasks HasLog e
 run_cause tasks HasLog OutOfMemory cause = cause
 run_cause tasks HasLog RefusedPush cause = cause
 run_cause tasks HasLog RefusedThread cause = cause
-run_cause tasks HasLog IssuedTooOften cause = cause
+run_cause tasks HasLog (IssuedTooOften c) cause = cause
 run_cause tasks HasLog (TooManyTasks ticket) cause = cause
-run_cause tasks HasLog (Gather e) cause = cause
-run_cause tasks HasLog NotDue cause = cause
-run_cause tasks HasLog NoOwner cause = cause
+run_cause tasks HasLog (Gather u) cause = cause
+run_cause tasks HasLog (NotDue c) cause = cause
+run_cause tasks HasLog (NoOwner c) cause = cause
 run_cause tasks HasLog NoScope cause = cause
 run_cause tasks HasLog NoReport cause = cause
 run_cause tasks HasLog Unlogged cause = absurd cause
@@ -25,11 +25,11 @@ pub cause_unlogged : (tasks : ℕ) (HasLog : Type 0) → (HasLog → ⊥) → (e
 cause_unlogged tasks HasLog none OutOfMemory cause = cause
 cause_unlogged tasks HasLog none RefusedPush cause = cause
 cause_unlogged tasks HasLog none RefusedThread cause = cause
-cause_unlogged tasks HasLog none IssuedTooOften cause = cause
+cause_unlogged tasks HasLog none (IssuedTooOften c) cause = cause
 cause_unlogged tasks HasLog none (TooManyTasks ticket) cause = cause
-cause_unlogged tasks HasLog none (Gather e) cause = cause
-cause_unlogged tasks HasLog none NotDue cause = cause
-cause_unlogged tasks HasLog none NoOwner cause = cause
+cause_unlogged tasks HasLog none (Gather u) cause = cause
+cause_unlogged tasks HasLog none (NotDue c) cause = cause
+cause_unlogged tasks HasLog none (NoOwner c) cause = cause
 cause_unlogged tasks HasLog none NoScope cause = cause
 cause_unlogged tasks HasLog none NoReport cause = cause
 cause_unlogged tasks HasLog none Unlogged cause = none cause
@@ -39,11 +39,11 @@ pub cause_so : (tasks : ℕ) (A B : Type 0) → (A → B) → (e : RunError) →
 cause_so tasks A B so OutOfMemory cause = cause
 cause_so tasks A B so RefusedPush cause = cause
 cause_so tasks A B so RefusedThread cause = cause
-cause_so tasks A B so IssuedTooOften cause = cause
+cause_so tasks A B so (IssuedTooOften c) cause = cause
 cause_so tasks A B so (TooManyTasks ticket) cause = cause
-cause_so tasks A B so (Gather e) cause = cause
-cause_so tasks A B so NotDue cause = cause
-cause_so tasks A B so NoOwner cause = cause
+cause_so tasks A B so (Gather u) cause = cause
+cause_so tasks A B so (NotDue c) cause = cause
+cause_so tasks A B so (NoOwner c) cause = cause
 cause_so tasks A B so NoScope cause = cause
 cause_so tasks A B so NoReport cause = cause
 cause_so tasks A B so Unlogged cause = so cause

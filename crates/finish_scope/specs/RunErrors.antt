@@ -1,0 +1,50 @@
+-- The reasons why a run has no outcome.
+use Rattle.std.specs.Prelude.{ℕ, ◌≡◌, ◌≤◌, List, codes, false}
+use Rattle.finish_scope.specs.Inconsistent.{runs_out}
+use Rattle.finish_scope.specs.declared.run_error.RunError.{RunError}
+use Rattle.finish_scope.specs.declared.run_error.RunError.TheVariants.{OutOfMemory, RefusedPush, RefusedThread}
+use Rattle.finish_scope.specs.declared.run_error.RunError.TheVariants.{IssuedTooOften, TooManyTasks, Gather}
+use Rattle.finish_scope.specs.declared.run_error.RunError.TheVariants.{NotDue, NoOwner, NoScope, NoReport, Unlogged}
+
+-- the code that the program prints
+abbrev pub error_code : RunError → List ℕ
+error_code OutOfMemory = codes "E1"
+error_code RefusedPush = codes "E1"
+error_code RefusedThread = codes "E1"
+error_code (IssuedTooOften c) = codes "E1"
+error_code (TooManyTasks ticket) = codes "E2"
+error_code (Gather u) = codes "E3"
+error_code (NotDue c) = codes "E4"
+error_code (NoOwner c) = codes "E4"
+error_code NoScope = codes "E4"
+error_code NoReport = codes "E4"
+error_code Unlogged = codes "E5"
+
+-- why a worker ends a run: E2 has a ticket whose number is at least the maximum number of tasks of the run;
+-- E3 never means out of memory; no worker reports E5
+abbrev pub IsCause : (tasks : ℕ) → RunError → Type 0
+IsCause tasks OutOfMemory = Unit {0}
+IsCause tasks RefusedPush = Unit {0}
+IsCause tasks RefusedThread = Unit {0}
+IsCause tasks (IssuedTooOften c) = Unit {0}
+IsCause tasks (TooManyTasks ticket) = tasks ≤ ticket.number
+IsCause tasks (Gather u) = runs_out u.error ≡ false
+IsCause tasks (NotDue c) = Unit {0}
+IsCause tasks (NoOwner c) = Unit {0}
+IsCause tasks NoScope = Unit {0}
+IsCause tasks NoReport = Unit {0}
+IsCause tasks Unlogged = ⊥
+
+-- why a run has no outcome; E5 only if it has a log
+abbrev pub IsRunCause : (tasks : ℕ) → (HasLog : Type 0) → RunError → Type 0
+IsRunCause tasks HasLog Unlogged = HasLog
+IsRunCause tasks HasLog OutOfMemory = IsCause tasks OutOfMemory
+IsRunCause tasks HasLog RefusedPush = IsCause tasks RefusedPush
+IsRunCause tasks HasLog RefusedThread = IsCause tasks RefusedThread
+IsRunCause tasks HasLog (IssuedTooOften c) = IsCause tasks (IssuedTooOften c)
+IsRunCause tasks HasLog (TooManyTasks ticket) = IsCause tasks (TooManyTasks ticket)
+IsRunCause tasks HasLog (Gather u) = IsCause tasks (Gather u)
+IsRunCause tasks HasLog (NotDue c) = IsCause tasks (NotDue c)
+IsRunCause tasks HasLog (NoOwner c) = IsCause tasks (NoOwner c)
+IsRunCause tasks HasLog NoScope = IsCause tasks NoScope
+IsRunCause tasks HasLog NoReport = IsCause tasks NoReport
