@@ -8,7 +8,7 @@ ghost use Rattle.finish_scope.specs.Settling.{IsUnsettledBy, TellsUnsettled};
 
 use crate::causes::Unsettled;
 use gather::error::GatherError;
-use gather::settle::settle as gather;
+use gather::settle::settle as settle_results;
 use task_run::result::{Settled, TaskResult};
 use weighted_task::finish::{Parked, Waiting};
 
@@ -34,7 +34,7 @@ pub fn settle<'p>(
 {
     let alloc = owner.job.alloc;
     let (waiting, made) = Parked::open(owner);
-    match gather(alloc, made, results) {
+    match settle_results(alloc, made, results) {
         Ok(settled) => Ok((waiting, settled)),
         Err(error) => Err(unsettled(error)),
     }
