@@ -6,8 +6,8 @@ use Rattle.workers.specs.Causes.{Happens, IsOfResults, trouble_by}
 use Rattle.workers.proofs.Passes.{each_either, happens_unsettled, unsettled_of}
 use Rattle.workers.proofs.passing.pass.Goals as goal
 
-pub settle-waiting-requires-clause-results : goal.settle-waiting-requires-clause-results
-settle-waiting-requires-clause-results c =
+pub settle-requires-clause-results : goal.settle-requires-clause-results
+settle-requires-clause-results c =
     each_either (IsResultOf c.args.owner.value.job) c.args.results.items
     c.with_least_first-results.result.items c.with_least_first-results.ensures c.requires.results
 
