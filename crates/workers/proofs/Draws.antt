@@ -23,7 +23,7 @@ use Rattle.tickets.specs.declared.word.Seat.{Seat}
 use Rattle.tickets.specs.declared.word.Tickets.{Tickets}
 use Rattle.workers.specs.Causes.{HasDrawn, HasTicket, HasTicketFrom, IsReason}
 use Rattle.workers.specs.Words.{IsFresh}
-use Rattle.workers.specs.WorkerStates.{AreBelow, EndsRun, Fails, HasSeat, TellTogether, Tells}
+use Rattle.workers.specs.WorkerStates.{AreBelow, DrawsForEach, EndsRun, Fails, HasSeat, TellTogether, Tells}
 use Rattle.workers.specs.declared.worker.Report.{Report}
 
 -- ---- one seat
@@ -61,6 +61,29 @@ pub drawn_last : (s s' : Seat) (n : ℕ) → drawn_of s' ≡ drawn_of s ++ n ∷
 drawn_last s s' n drawn =
     let more = ap (times n) drawn ∙ one_more n n (drawn_of s) in
     omega (arith, more, same n)
+
+-- one more was drawn
+pub drawn_longer : (s s' : Seat) (n : ℕ) → drawn_of s' ≡ drawn_of s ++ n ∷ []
+    → length (drawn_of s') ≡ length (drawn_of s) + 1
+drawn_longer s s' n drawn = ap length drawn ∙ length-append (drawn_of s) (n ∷ [])
+
+-- ---- draws for tasks
+
+-- a ticket was drawn, and a task was put in
+pub draws_for_one : {T : Type 0} (s s' : Seat) (xs ys : List T) (x : T)
+    → length (drawn_of s') ≡ length (drawn_of s) + 1 → ys ≡ xs ++ x ∷ [] → DrawsForEach 0 s s' xs ys
+draws_for_one s s' xs ys x drawn put =
+    let more = ap length put ∙ length-append xs (x ∷ []) in omega (arith, drawn, more)
+
+-- a ticket was drawn for another task before
+pub draws_for_another : {T : Type 0} (s s' s'' : Seat) (xs ys : List T)
+    → length (drawn_of s') ≡ length (drawn_of s) + 1 → DrawsForEach 0 s' s'' xs ys → DrawsForEach 1 s s'' xs ys
+draws_for_another s s' s'' xs ys drawn each = omega (arith, drawn, each)
+
+-- what was drawn from one moment to the next, and from that to a later one
+pub draws_for_both : {T : Type 0} (s s' s'' : Seat) (xs ys zs : List T) → DrawsForEach 0 s s' xs ys
+    → DrawsForEach 0 s' s'' ys zs → DrawsForEach 0 s s'' xs zs
+draws_for_both s s' s'' xs ys zs first second = omega (arith, first, second)
 
 -- ---- all seats
 

@@ -1,5 +1,5 @@
 -- The seats and reports of workers.
-use Rattle.std.specs.Prelude.{ℕ, ◌≡◌, ◌≤◌, List, Option, None, All, length, IfErr, IfOk, IfSome}
+use Rattle.std.specs.Prelude.{ℕ, ◌≡◌, ◌+◌, ◌≤◌, List, Option, None, All, length, IfErr, IfOk, IfSome}
 use Rattle.types.specs.Translation.{outcome as outcome_in}
 use Rattle.task_run.specs.Jobs.{outcome_of}
 use Rattle.task_run.specs.declared.job.Job.{Job}
@@ -22,6 +22,11 @@ pub record HasSeat (t : Tickets) (tasks : ℕ) (s : Seat) : Type 0 where
   pub of : IsSeatOf t s
   pub few : length (drawn_of s) ≤ tasks
   pub below : AreBelow tasks (drawn_of s)
+
+-- a worker drew a ticket for each task that it put into its deque, and so many for others
+abbrev pub DrawsForEach : {T : Type 0} → (others : ℕ) → (old new : Seat) → (before after : List T) → Type 0
+DrawsForEach others old new before after =
+    length (drawn_of new) + length before ≡ length (drawn_of old) + length after + others
 
 -- the error of a worker with this seat; E2 has a ticket that was drawn there
 pub record Fails (o : Option Job) (t : Tickets) (tasks : ℕ) (s : Seat) (e : RunError) : Type 0 where
