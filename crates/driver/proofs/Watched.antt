@@ -37,8 +37,8 @@ of_failure NoMemory other small = omega (arith, small)
 of_failure (Run (Gather u)) other small = omega (arith, small)
 of_failure (Run (NotDue c)) other small = omega (arith, small)
 of_failure (Run (NoOwner c)) other small = omega (arith, small)
-of_failure (Run NoScope) other small = omega (arith, small)
-of_failure (Run NoReport) other small = omega (arith, small)
+of_failure (Run (NoScope c)) other small = omega (arith, small)
+of_failure (Run (NoReport c)) other small = omega (arith, small)
 of_failure (Run Unlogged) other small = omega (arith, small)
 of_failure _ other small = other refl
 

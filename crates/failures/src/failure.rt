@@ -112,8 +112,8 @@ impl Failure {
             Failure::Run(RunError::Gather(_)) => 5,
             Failure::Run(RunError::NotDue(_)) => 5,
             Failure::Run(RunError::NoOwner(_)) => 5,
-            Failure::Run(RunError::NoScope) => 5,
-            Failure::Run(RunError::NoReport) => 5,
+            Failure::Run(RunError::NoScope(_)) => 5,
+            Failure::Run(RunError::NoReport(_)) => 5,
             Failure::Run(RunError::Unlogged) => 5,
             _ => 1,
         }

@@ -16,8 +16,8 @@ run_cause tasks HasLog (TooManyTasks ticket) cause = cause
 run_cause tasks HasLog (Gather u) cause = cause
 run_cause tasks HasLog (NotDue c) cause = cause
 run_cause tasks HasLog (NoOwner c) cause = cause
-run_cause tasks HasLog NoScope cause = cause
-run_cause tasks HasLog NoReport cause = cause
+run_cause tasks HasLog (NoScope c) cause = cause
+run_cause tasks HasLog (NoReport c) cause = cause
 run_cause tasks HasLog Unlogged cause = absurd cause
 
 -- without a log it is one that a worker reports
@@ -30,8 +30,8 @@ cause_unlogged tasks HasLog none (TooManyTasks ticket) cause = cause
 cause_unlogged tasks HasLog none (Gather u) cause = cause
 cause_unlogged tasks HasLog none (NotDue c) cause = cause
 cause_unlogged tasks HasLog none (NoOwner c) cause = cause
-cause_unlogged tasks HasLog none NoScope cause = cause
-cause_unlogged tasks HasLog none NoReport cause = cause
+cause_unlogged tasks HasLog none (NoScope c) cause = cause
+cause_unlogged tasks HasLog none (NoReport c) cause = cause
 cause_unlogged tasks HasLog none Unlogged cause = none cause
 
 -- and so with another log
@@ -44,6 +44,6 @@ cause_so tasks A B so (TooManyTasks ticket) cause = cause
 cause_so tasks A B so (Gather u) cause = cause
 cause_so tasks A B so (NotDue c) cause = cause
 cause_so tasks A B so (NoOwner c) cause = cause
-cause_so tasks A B so NoScope cause = cause
-cause_so tasks A B so NoReport cause = cause
+cause_so tasks A B so (NoScope c) cause = cause
+cause_so tasks A B so (NoReport c) cause = cause
 cause_so tasks A B so Unlogged cause = so cause

@@ -16,8 +16,8 @@ error_code (TooManyTasks ticket) = codes "E2"
 error_code (Gather u) = codes "E3"
 error_code (NotDue c) = codes "E4"
 error_code (NoOwner c) = codes "E4"
-error_code NoScope = codes "E4"
-error_code NoReport = codes "E4"
+error_code (NoScope c) = codes "E4"
+error_code (NoReport c) = codes "E4"
 error_code Unlogged = codes "E5"
 
 -- why a worker ends a run: E2 has a ticket whose number is at least the maximum number of tasks of the run;
@@ -31,8 +31,8 @@ IsCause tasks (TooManyTasks ticket) = tasks ≤ ticket.number
 IsCause tasks (Gather u) = runs_out u.error ≡ false
 IsCause tasks (NotDue c) = Unit {0}
 IsCause tasks (NoOwner c) = Unit {0}
-IsCause tasks NoScope = Unit {0}
-IsCause tasks NoReport = Unit {0}
+IsCause tasks (NoScope c) = Unit {0}
+IsCause tasks (NoReport c) = Unit {0}
 IsCause tasks Unlogged = ⊥
 
 -- why a run has no outcome; E5 only if it has a log
@@ -46,5 +46,34 @@ IsRunCause tasks HasLog (TooManyTasks ticket) = IsCause tasks (TooManyTasks tick
 IsRunCause tasks HasLog (Gather u) = IsCause tasks (Gather u)
 IsRunCause tasks HasLog (NotDue c) = IsCause tasks (NotDue c)
 IsRunCause tasks HasLog (NoOwner c) = IsCause tasks (NoOwner c)
-IsRunCause tasks HasLog NoScope = IsCause tasks NoScope
-IsRunCause tasks HasLog NoReport = IsCause tasks NoReport
+IsRunCause tasks HasLog (NoScope c) = IsCause tasks (NoScope c)
+IsRunCause tasks HasLog (NoReport c) = IsCause tasks (NoReport c)
+
+-- none of so many workers reported anything
+abbrev pub IsSilence : (workers : ℕ) → RunError → Type 0
+IsSilence workers OutOfMemory = ⊥
+IsSilence workers RefusedPush = ⊥
+IsSilence workers RefusedThread = ⊥
+IsSilence workers (IssuedTooOften c) = ⊥
+IsSilence workers (TooManyTasks ticket) = ⊥
+IsSilence workers (Gather u) = ⊥
+IsSilence workers (NotDue c) = ⊥
+IsSilence workers (NoOwner c) = ⊥
+IsSilence workers (NoScope c) = ⊥
+IsSilence workers (NoReport c) = c.workers ≡ workers
+IsSilence workers Unlogged = ⊥
+
+-- an error that a worker may report: no worker reports that a thread was refused, that nobody reported
+-- anything, or that the log was lost
+abbrev pub IsOfWorker : RunError → Type 0
+IsOfWorker OutOfMemory = Unit {0}
+IsOfWorker RefusedPush = Unit {0}
+IsOfWorker RefusedThread = ⊥
+IsOfWorker (IssuedTooOften c) = Unit {0}
+IsOfWorker (TooManyTasks ticket) = Unit {0}
+IsOfWorker (Gather u) = Unit {0}
+IsOfWorker (NotDue c) = Unit {0}
+IsOfWorker (NoOwner c) = Unit {0}
+IsOfWorker (NoScope c) = Unit {0}
+IsOfWorker (NoReport c) = ⊥
+IsOfWorker Unlogged = ⊥

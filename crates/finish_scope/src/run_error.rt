@@ -1,10 +1,10 @@
 //! The reasons why a run has no outcome.
 
-ghost use Rattle.std.specs.Prelude.{◌≡◌};
-ghost use Rattle.finish_scope.specs.RunErrors.{error_code};
+ghost use Rattle.std.specs.Prelude.{◌≡◌, ◌⊎◌, IfErr, IfOk, None, Some};
+ghost use Rattle.finish_scope.specs.RunErrors.{IsSilence, error_code};
 ghost use Rattle.finish_scope.specs.declared.run_error.RunError.TheVariants.{OutOfMemory};
 
-use crate::causes::{Ownerless, Spent, Undue, Unsettled};
+use crate::causes::{Missing, Ownerless, Silent, Spent, Undue, Unsettled};
 use std::alloc::AllocError;
 use tickets::Ticket;
 
@@ -37,9 +37,9 @@ pub enum RunError {
     NoOwner(Ownerless),
     /// E4: no scope was found at the position of an outer scope. No run is known in which this
     /// happens.
-    NoScope,
+    NoScope(Missing),
     /// E4: no worker reported an outcome or an error. No run is known in which this happens.
-    NoReport,
+    NoReport(Silent),
     /// E5: an event of the workers isn't legal, or the events don't lead to the end of the run. It
     /// happens only in a run with a log, and no such run is known.
     Unlogged,
@@ -57,8 +57,10 @@ impl RunError {
             | RunError::IssuedTooOften(_) => "E1",
             RunError::TooManyTasks(_) => "E2",
             RunError::Gather(_) => "E3",
-            RunError::NotDue(_) | RunError::NoOwner(_) | RunError::NoScope | RunError::NoReport =>
-                "E4",
+            RunError::NotDue(_)
+            | RunError::NoOwner(_)
+            | RunError::NoScope(_)
+            | RunError::NoReport(_) => "E4",
             RunError::Unlogged => "E5",
         }
     }
@@ -69,5 +71,25 @@ impl From<AllocError> for RunError {
 
     fn from(_error: AllocError) -> RunError {
         RunError::OutOfMemory
+    }
+}
+
+/// Returns what so many workers reported together: their error if there is one, or else their
+/// outcome. If there is neither, the error is that no worker reported anything.
+pub fn reported<T: Drop>(
+    outcome: Option<T>,
+    error: Option<RunError>,
+    workers: usize,
+) -> Result<T, RunError>
+    ensures outcome { IfOk result (λ o. (error ≡ None) × (outcome ≡ Some o)) }
+    ensures error { IfErr result (λ e. (error ≡ Some e)
+        ⊎ ((error ≡ None) × (outcome ≡ None) × IsSilence workers e)) }
+{
+    match error {
+        Some(error) => Err(error),
+        None => match outcome {
+            Some(outcome) => Ok(outcome),
+            None => Err(RunError::NoReport(Silent { workers })),
+        },
     }
 }

@@ -105,8 +105,8 @@ drawn_more t (TooManyTasks ticket) xs ys more has = (has.0, more ticket.number h
 drawn_more t (Gather u) xs ys more has = tt
 drawn_more t (NotDue c) xs ys more has = tt
 drawn_more t (NoOwner c) xs ys more has = tt
-drawn_more t NoScope xs ys more has = tt
-drawn_more t NoReport xs ys more has = tt
+drawn_more t (NoScope c) xs ys more has = tt
+drawn_more t (NoReport c) xs ys more has = tt
 drawn_more t Unlogged xs ys more has = tt
 
 both : (seats : List Seat) (s : Seat) (n : ℕ) → times n (drawn_by (seats ++ s ∷ [])) ≡ times n (drawn_by seats) + times n (drawn_of s)
@@ -137,8 +137,8 @@ ticket_from t n (TooManyTasks ticket) seats of all only has = record {
 ticket_from t n (Gather u) seats of all only has = tt
 ticket_from t n (NotDue c) seats of all only has = tt
 ticket_from t n (NoOwner c) seats of all only has = tt
-ticket_from t n NoScope seats of all only has = tt
-ticket_from t n NoReport seats of all only has = tt
+ticket_from t n (NoScope c) seats of all only has = tt
+ticket_from t n (NoReport c) seats of all only has = tt
 ticket_from t n Unlogged seats of all only has = tt
 
 -- the ticket of an error was drawn by as many seats as workers
@@ -157,8 +157,8 @@ ticket_of_some t workers count (TooManyTasks ticket) has = record {
 ticket_of_some t workers count (Gather u) has = tt
 ticket_of_some t workers count (NotDue c) has = tt
 ticket_of_some t workers count (NoOwner c) has = tt
-ticket_of_some t workers count NoScope has = tt
-ticket_of_some t workers count NoReport has = tt
+ticket_of_some t workers count (NoScope c) has = tt
+ticket_of_some t workers count (NoReport c) has = tt
 ticket_of_some t workers count Unlogged has = tt
 
 pub tickets_of_some : {T : Type 0} (t : Tickets) (workers : ℕ) → seats_of t ≡ workers → (r : Result T RunError)
@@ -182,6 +182,7 @@ module _ (o : Option Job) (t : Tickets) (j : Job) (tasks : ℕ) where
   more : (e : Option RunError) (seats : List Seat) (s : Seat) → IfSome e (EndsRun o t tasks seats) → IfSome e (EndsRun o t tasks (seats ++ s ∷ []))
   more None seats s ends = tt
   more (Some e) seats s ends = record {
+    own = ends.own;
     cause = ends.cause;
     drawn = drawn_more t e (drawn_by seats) (drawn_by (seats ++ s ∷ [])) (λ n has. omega (arith, has, both seats s n)) ends.drawn;
     happened = ends.happened;
@@ -189,6 +190,7 @@ module _ (o : Option Job) (t : Tickets) (j : Job) (tasks : ℕ) where
 
   last : (e : RunError) (seats : List Seat) (s : Seat) → Fails o t tasks s e → EndsRun o t tasks (seats ++ s ∷ []) e
   last e seats s fails = record {
+    own = fails.own;
     cause = fails.cause;
     drawn = drawn_more t e (drawn_of s) (drawn_by (seats ++ s ∷ [])) (λ n has. omega (arith, has, both seats s n)) fails.drawn;
     happened = fails.happened;

@@ -34,8 +34,8 @@ with_log tasks HasLog (TooManyTasks ticket) has cause = cause
 with_log tasks HasLog (Gather u) has cause = cause
 with_log tasks HasLog (NotDue c) has cause = cause
 with_log tasks HasLog (NoOwner c) has cause = cause
-with_log tasks HasLog NoScope has cause = cause
-with_log tasks HasLog NoReport has cause = cause
+with_log tasks HasLog (NoScope c) has cause = cause
+with_log tasks HasLog (NoReport c) has cause = cause
 
 pub log_reason : (o : Option Job) (t : Tickets) (tasks : ℕ) (HasLog : Type 0) (e : RunError) → IsOfLog e → HasLog
     → IsRunReason o t tasks HasLog e

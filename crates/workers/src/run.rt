@@ -152,8 +152,8 @@ fn run_as<'p, J: Running + Send + Sync, G: Gate + Sync, R: Threads + Wait + Sync
                 Ok(log) => with_all_tasks(finished, log),
                 Err(error) => Err(error),
             },
-            Err(RunError::NoReport) => match close::<J>(log) {
-                Ok(_) => Err(RunError::NoReport),
+            Err(RunError::NoReport(silent)) => match close::<J>(log) {
+                Ok(_) => Err(RunError::NoReport(silent)),
                 Err(error) => Err(error),
             },
             Err(error) => Err(error),
