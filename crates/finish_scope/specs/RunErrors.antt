@@ -9,8 +9,8 @@ use Rattle.finish_scope.specs.declared.run_error.RunError.TheVariants.{NotDue, N
 -- the code that the program prints
 abbrev pub error_code : RunError → List ℕ
 error_code OutOfMemory = codes "E1"
-error_code RefusedPush = codes "E1"
-error_code RefusedThread = codes "E1"
+error_code (RefusedPush c) = codes "E1"
+error_code (RefusedThread c) = codes "E1"
 error_code (IssuedTooOften c) = codes "E1"
 error_code (TooManyTasks ticket) = codes "E2"
 error_code (Gather u) = codes "E3"
@@ -24,8 +24,8 @@ error_code Unlogged = codes "E5"
 -- E3 never means out of memory; no worker reports E5
 abbrev pub IsCause : (tasks : ℕ) → RunError → Type 0
 IsCause tasks OutOfMemory = Unit {0}
-IsCause tasks RefusedPush = Unit {0}
-IsCause tasks RefusedThread = Unit {0}
+IsCause tasks (RefusedPush c) = Unit {0}
+IsCause tasks (RefusedThread c) = Unit {0}
 IsCause tasks (IssuedTooOften c) = Unit {0}
 IsCause tasks (TooManyTasks ticket) = tasks ≤ ticket.number
 IsCause tasks (Gather u) = runs_out u.error ≡ false
@@ -39,8 +39,8 @@ IsCause tasks Unlogged = ⊥
 abbrev pub IsRunCause : (tasks : ℕ) → (HasLog : Type 0) → RunError → Type 0
 IsRunCause tasks HasLog Unlogged = HasLog
 IsRunCause tasks HasLog OutOfMemory = IsCause tasks OutOfMemory
-IsRunCause tasks HasLog RefusedPush = IsCause tasks RefusedPush
-IsRunCause tasks HasLog RefusedThread = IsCause tasks RefusedThread
+IsRunCause tasks HasLog (RefusedPush c) = IsCause tasks (RefusedPush c)
+IsRunCause tasks HasLog (RefusedThread c) = IsCause tasks (RefusedThread c)
 IsRunCause tasks HasLog (IssuedTooOften c) = IsCause tasks (IssuedTooOften c)
 IsRunCause tasks HasLog (TooManyTasks ticket) = IsCause tasks (TooManyTasks ticket)
 IsRunCause tasks HasLog (Gather u) = IsCause tasks (Gather u)
@@ -52,8 +52,8 @@ IsRunCause tasks HasLog (NoReport c) = IsCause tasks (NoReport c)
 -- none of so many workers reported anything
 abbrev pub IsSilence : (workers : ℕ) → RunError → Type 0
 IsSilence workers OutOfMemory = ⊥
-IsSilence workers RefusedPush = ⊥
-IsSilence workers RefusedThread = ⊥
+IsSilence workers (RefusedPush c) = ⊥
+IsSilence workers (RefusedThread c) = ⊥
 IsSilence workers (IssuedTooOften c) = ⊥
 IsSilence workers (TooManyTasks ticket) = ⊥
 IsSilence workers (Gather u) = ⊥
@@ -67,8 +67,8 @@ IsSilence workers Unlogged = ⊥
 -- anything, or that the log was lost
 abbrev pub IsOfWorker : RunError → Type 0
 IsOfWorker OutOfMemory = Unit {0}
-IsOfWorker RefusedPush = Unit {0}
-IsOfWorker RefusedThread = ⊥
+IsOfWorker (RefusedPush c) = Unit {0}
+IsOfWorker (RefusedThread c) = ⊥
 IsOfWorker (IssuedTooOften c) = Unit {0}
 IsOfWorker (TooManyTasks ticket) = Unit {0}
 IsOfWorker (Gather u) = Unit {0}

@@ -7,6 +7,7 @@ ghost use Rattle.finish_scope.specs.declared.run_error.RunError.TheVariants.{Out
 use crate::causes::{Missing, Ownerless, Silent, Spent, Undue, Unsettled};
 use std::alloc::AllocError;
 use tickets::Ticket;
+use worker_threads::{NoRoom, Unstarted};
 
 /// The first reason why a run has no outcome, with an example of such a run if one is known. The
 /// comments give the code that the program prints. A ticket or a cause in it is created only by the
@@ -17,10 +18,10 @@ pub enum RunError {
     OutOfMemory,
     /// E1: a worker's deque rejected a task, because it couldn't grow. Example: a loop of asyncs,
     /// if that allocation fails.
-    RefusedPush,
+    RefusedPush(NoRoom),
     /// E1: a worker's thread couldn't be started. Example: `main { }` on two workers, if the system
     /// has no more threads.
-    RefusedThread,
+    RefusedThread(Unstarted),
     /// E1: a scope has issued weight 2^31 times. No run is known in which this happens: that takes
     /// more tasks than a run may have.
     IssuedTooOften(Spent),
@@ -52,8 +53,8 @@ impl RunError {
     {
         match self {
             RunError::OutOfMemory
-            | RunError::RefusedPush
-            | RunError::RefusedThread
+            | RunError::RefusedPush(_)
+            | RunError::RefusedThread(_)
             | RunError::IssuedTooOften(_) => "E1",
             RunError::TooManyTasks(_) => "E2",
             RunError::Gather(_) => "E3",

@@ -98,8 +98,8 @@ pushed seats s =
 drawn_more : (t : Tickets) (e : RunError) (xs ys : List ℕ) → ((n : ℕ) → 1 ≤ times n xs → 1 ≤ times n ys)
     → HasDrawn t xs e → HasDrawn t ys e
 drawn_more t OutOfMemory xs ys more has = tt
-drawn_more t RefusedPush xs ys more has = tt
-drawn_more t RefusedThread xs ys more has = tt
+drawn_more t (RefusedPush c) xs ys more has = tt
+drawn_more t (RefusedThread c) xs ys more has = tt
 drawn_more t (IssuedTooOften c) xs ys more has = tt
 drawn_more t (TooManyTasks ticket) xs ys more has = (has.0, more ticket.number has.1)
 drawn_more t (Gather u) xs ys more has = tt
@@ -122,8 +122,8 @@ at_most tasks n seats only below =
 pub ticket_from : (t : Tickets) (n : ℕ) (e : RunError) (seats : List Seat) → All (IsSeatOf t) seats → length seats ≡ seats_of t
     → AreOnly n seats → HasDrawn t (drawn_by seats) e → HasTicketFrom t e
 ticket_from t n OutOfMemory seats of all only has = tt
-ticket_from t n RefusedPush seats of all only has = tt
-ticket_from t n RefusedThread seats of all only has = tt
+ticket_from t n (RefusedPush c) seats of all only has = tt
+ticket_from t n (RefusedThread c) seats of all only has = tt
 ticket_from t n (IssuedTooOften c) seats of all only has = tt
 ticket_from t n (TooManyTasks ticket) seats of all only has = record {
   word = has.0;
@@ -144,8 +144,8 @@ ticket_from t n Unlogged seats of all only has = tt
 -- the ticket of an error was drawn by as many seats as workers
 ticket_of_some : (t : Tickets) (workers : ℕ) → seats_of t ≡ workers → (e : RunError) → HasTicketFrom t e → HasTicket workers e
 ticket_of_some t workers count OutOfMemory has = tt
-ticket_of_some t workers count RefusedPush has = tt
-ticket_of_some t workers count RefusedThread has = tt
+ticket_of_some t workers count (RefusedPush c) has = tt
+ticket_of_some t workers count (RefusedThread c) has = tt
 ticket_of_some t workers count (IssuedTooOften c) has = tt
 ticket_of_some t workers count (TooManyTasks ticket) has = record {
   seats = has.seats;

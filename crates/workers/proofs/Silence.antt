@@ -19,8 +19,8 @@ use Rattle.workers.proofs.Draws.{reason}
 pub silence_reason : (o : Option Job) (t : Tickets) (tasks workers : ℕ) (e : RunError) → IsSilence workers e
     → IsReason o t tasks e
 silence_reason o t tasks workers OutOfMemory is = absurd is
-silence_reason o t tasks workers RefusedPush is = absurd is
-silence_reason o t tasks workers RefusedThread is = absurd is
+silence_reason o t tasks workers (RefusedPush c) is = absurd is
+silence_reason o t tasks workers (RefusedThread c) is = absurd is
 silence_reason o t tasks workers (IssuedTooOften c) is = absurd is
 silence_reason o t tasks workers (TooManyTasks ticket) is = absurd is
 silence_reason o t tasks workers (Gather u) is = absurd is
@@ -50,8 +50,8 @@ own_error o t tasks seats (Some e) ends = ends.own
 -- a worker doesn't report that nobody reported anything
 of_worker : (so : Type 0) (e : RunError) → IsOfWorker e → IsSilentIf so e
 of_worker so OutOfMemory own = tt
-of_worker so RefusedPush own = tt
-of_worker so RefusedThread own = tt
+of_worker so (RefusedPush c) own = tt
+of_worker so (RefusedThread c) own = tt
 of_worker so (IssuedTooOften c) own = tt
 of_worker so (TooManyTasks ticket) own = tt
 of_worker so (Gather u) own = tt
@@ -64,8 +64,8 @@ of_worker so Unlogged own = tt
 -- what is so may be said
 said : (so : Type 0) (e : RunError) → so → IsSilentIf so e
 said so OutOfMemory is = tt
-said so RefusedPush is = tt
-said so RefusedThread is = tt
+said so (RefusedPush c) is = tt
+said so (RefusedThread c) is = tt
 said so (IssuedTooOften c) is = tt
 said so (TooManyTasks ticket) is = tt
 said so (Gather u) is = tt
@@ -84,8 +84,8 @@ silent_if workers x e f own (inr is) = said ((x ≡ None) × (e ≡ None)) f (is
 
 more_silent : (so more : Type 0) → (so → more) → (e : RunError) → IsSilentIf so e → IsSilentIf more e
 more_silent so more to OutOfMemory is = tt
-more_silent so more to RefusedPush is = tt
-more_silent so more to RefusedThread is = tt
+more_silent so more to (RefusedPush c) is = tt
+more_silent so more to (RefusedThread c) is = tt
 more_silent so more to (IssuedTooOften c) is = tt
 more_silent so more to (TooManyTasks ticket) is = tt
 more_silent so more to (Gather u) is = tt

@@ -67,7 +67,7 @@ module _ (o : Option Job) where
 -- what happened, by the trouble that a worker had
 abbrev pub Happens : Option Job → Trouble → Type 0
 Happens o OutOfMemory = Unit {0}
-Happens o RefusedPush = Unit {0}
+Happens o (RefusedPush c) = Unit {0}
 Happens o (IssuedTooOften c) = IsSpent o c
 Happens o (Gather u) = DoesNotSettle o u
 Happens o (NotDue c) = WasNotDue o c
@@ -77,7 +77,7 @@ Happens o (NoScope c) = Unit {0}
 -- results that don't settle are all of these, in their order or reversed, with that of this owner
 abbrev pub IsOfResults : (owner : Parked) → (results : List Made) → Trouble → Type 0
 IsOfResults p rs OutOfMemory = Unit {0}
-IsOfResults p rs RefusedPush = Unit {0}
+IsOfResults p rs (RefusedPush c) = Unit {0}
 IsOfResults p rs (IssuedTooOften c) = Unit {0}
 IsOfResults p rs (Gather u) = AreUnsettled p rs u ⊎ AreUnsettled p (reverse rs) u
 IsOfResults p rs (NotDue c) = Unit {0}
@@ -87,7 +87,7 @@ IsOfResults p rs (NoScope c) = Unit {0}
 -- what happened at a scope, by what a call under its lock answered
 abbrev pub HappensAtScope : Option Job → Trouble → Type 0
 HappensAtScope o OutOfMemory = WasMarked o
-HappensAtScope o RefusedPush = ⊥
+HappensAtScope o (RefusedPush c) = ⊥
 HappensAtScope o (IssuedTooOften c) = IsSpent o c
 HappensAtScope o (Gather u) = ⊥
 HappensAtScope o (NotDue c) = WasNotDue o c
@@ -97,8 +97,8 @@ HappensAtScope o (NoScope c) = ⊥
 -- what happened, by the error of a run
 abbrev pub Happened : Option Job → RunError → Type 0
 Happened o In.OutOfMemory = Unit {0}
-Happened o In.RefusedPush = Unit {0}
-Happened o In.RefusedThread = Unit {0}
+Happened o (In.RefusedPush c) = Unit {0}
+Happened o (In.RefusedThread c) = Unit {0}
 Happened o (In.IssuedTooOften c) = IsSpent o c
 Happened o (In.TooManyTasks ticket) = Unit {0}
 Happened o (In.Gather u) = DoesNotSettle o u
@@ -111,8 +111,8 @@ Happened o In.Unlogged = Unit {0}
 -- the ticket of E2 was drawn from this word, and is among these draws
 abbrev pub HasDrawn : Tickets → List ℕ → RunError → Type 0
 HasDrawn t drawn In.OutOfMemory = Unit {0}
-HasDrawn t drawn In.RefusedPush = Unit {0}
-HasDrawn t drawn In.RefusedThread = Unit {0}
+HasDrawn t drawn (In.RefusedPush c) = Unit {0}
+HasDrawn t drawn (In.RefusedThread c) = Unit {0}
 HasDrawn t drawn (In.IssuedTooOften c) = Unit {0}
 HasDrawn t drawn (In.TooManyTasks ticket) = IsTicketOf t ticket × (1 ≤ times ticket.number drawn)
 HasDrawn t drawn (In.Gather u) = Unit {0}
@@ -125,8 +125,8 @@ HasDrawn t drawn In.Unlogged = Unit {0}
 -- the ticket of E2 was drawn on a seat of this word
 abbrev pub HasTicketFrom : Tickets → RunError → Type 0
 HasTicketFrom t In.OutOfMemory = Unit {0}
-HasTicketFrom t In.RefusedPush = Unit {0}
-HasTicketFrom t In.RefusedThread = Unit {0}
+HasTicketFrom t (In.RefusedPush c) = Unit {0}
+HasTicketFrom t (In.RefusedThread c) = Unit {0}
 HasTicketFrom t (In.IssuedTooOften c) = Unit {0}
 HasTicketFrom t (In.TooManyTasks ticket) = WasDrawnFrom t ticket
 HasTicketFrom t (In.Gather u) = Unit {0}
@@ -139,8 +139,8 @@ HasTicketFrom t In.Unlogged = Unit {0}
 -- the ticket of E2 is one of those that the seats of the workers drew
 abbrev pub HasTicket : (workers : ℕ) → RunError → Type 0
 HasTicket workers In.OutOfMemory = Unit {0}
-HasTicket workers In.RefusedPush = Unit {0}
-HasTicket workers In.RefusedThread = Unit {0}
+HasTicket workers (In.RefusedPush c) = Unit {0}
+HasTicket workers (In.RefusedThread c) = Unit {0}
 HasTicket workers (In.IssuedTooOften c) = Unit {0}
 HasTicket workers (In.TooManyTasks ticket) = WasDrawn workers ticket
 HasTicket workers (In.Gather u) = Unit {0}

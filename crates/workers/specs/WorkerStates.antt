@@ -67,8 +67,8 @@ IsSilent r = r.told ≡ Ok None
 -- a run ends because nobody reported anything only if this is so
 abbrev pub IsSilentIf : (so : Type 0) → RunError → Type 0
 IsSilentIf so In.OutOfMemory = Unit {0}
-IsSilentIf so In.RefusedPush = Unit {0}
-IsSilentIf so In.RefusedThread = Unit {0}
+IsSilentIf so (In.RefusedPush c) = Unit {0}
+IsSilentIf so (In.RefusedThread c) = Unit {0}
 IsSilentIf so (In.IssuedTooOften c) = Unit {0}
 IsSilentIf so (In.TooManyTasks ticket) = Unit {0}
 IsSilentIf so (In.Gather u) = Unit {0}

@@ -8,6 +8,7 @@ pub use finish_scope::run_error::RunError;
 use finish_scope::scope_table::FindError;
 use finish_scope::settling::SettleError;
 use std::alloc::{AllocError, AllocFailed};
+use worker_threads::NoRoom;
 
 /// The reason why a worker ends a run, except a missing ticket. `RunError` has the same variants,
 /// with examples.
@@ -16,7 +17,7 @@ pub enum Trouble {
     /// Out of memory.
     OutOfMemory,
     /// The worker's deque rejected a task.
-    RefusedPush,
+    RefusedPush(NoRoom),
     /// A scope has issued weight as often as its book can count.
     IssuedTooOften(Spent),
     /// The results of tasks are inconsistent.
@@ -37,7 +38,7 @@ impl From<Trouble> for RunError {
     fn from(trouble: Trouble) -> RunError {
         match trouble {
             Trouble::OutOfMemory => RunError::OutOfMemory,
-            Trouble::RefusedPush => RunError::RefusedPush,
+            Trouble::RefusedPush(cause) => RunError::RefusedPush(cause),
             Trouble::IssuedTooOften(cause) => RunError::IssuedTooOften(cause),
             Trouble::Gather(cause) => RunError::Gather(cause),
             Trouble::NotDue(cause) => RunError::NotDue(cause),

@@ -42,7 +42,7 @@ use weighted_task::stake::ScopeMark;
 use weighted_task::task::{Child, Task};
 use weighted_task::turn::{WeightedResult as Ended, WeightedTurn};
 use weights::weight::Weight;
-use worker_threads::Crew;
+use worker_threads::{Crew, Refused};
 
 /// The number of times that a worker looks for a task before it rests.
 const LOOKS: u32 = 64;
@@ -219,7 +219,10 @@ impl<'p, J: Running, G: Gate> Shared<'p, J, G> {
                 self.pool.wake();
                 Ok(())
             }
-            Err(_) => Err(Trouble::RefusedPush),
+            Err(refused) => {
+                let Refused { cause, .. } = refused;
+                Err(Trouble::RefusedPush(cause))
+            }
         }
     }
 

@@ -213,6 +213,6 @@ fn run_by<'p, J: Running + Send + Sync, G: Gate + Sync, R: Threads + Wait + Sync
             Ok((told::<J>(job, settings, tickets, reports), log))
         }
         Err(CrewError::OutOfMemory) => Err(RunError::OutOfMemory),
-        Err(CrewError::NoThread) => Err(RunError::RefusedThread),
+        Err(CrewError::NoThread(cause)) => Err(RunError::RefusedThread(cause)),
     }
 }
