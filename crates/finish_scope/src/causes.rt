@@ -35,6 +35,20 @@ pub struct Ownerless {
     pub ghost even: { returned ≡ issued },
 }
 
+/// There is no scope at a position: no scope table has this number, or nothing is in this slot.
+#[derive(Debug, Drop)]
+pub struct Missing {
+    /// The number of the table or slot that was looked up.
+    pub(crate) number: usize,
+}
+
+/// No worker reported an outcome or an error.
+#[derive(Debug, Drop)]
+pub struct Silent {
+    /// The number of workers.
+    pub(crate) workers: usize,
+}
+
 /// The results of a scope are inconsistent, so they don't settle.
 #[derive(Debug, Drop)]
 pub struct Unsettled {

@@ -1,12 +1,13 @@
 //! The reasons why a run has no outcome.
 
-ghost use Rattle.std.specs.Prelude.{◌≡◌};
-ghost use Rattle.finish_scope.specs.RunErrors.{error_code};
+ghost use Rattle.std.specs.Prelude.{◌≡◌, ◌⊎◌, IfErr, IfOk, None, Some};
+ghost use Rattle.finish_scope.specs.RunErrors.{IsSilence, error_code};
 ghost use Rattle.finish_scope.specs.declared.run_error.RunError.TheVariants.{OutOfMemory};
 
-use crate::causes::{Ownerless, Spent, Undue, Unsettled};
+use crate::causes::{Missing, Ownerless, Silent, Spent, Undue, Unsettled};
 use std::alloc::AllocError;
 use tickets::Ticket;
+use worker_threads::{NoRoom, Unstarted};
 
 /// The first reason why a run has no outcome, with an example of such a run if one is known. The
 /// comments give the code that the program prints. A ticket or a cause in it is created only by the
@@ -17,10 +18,10 @@ pub enum RunError {
     OutOfMemory,
     /// E1: a worker's deque rejected a task, because it couldn't grow. Example: a loop of asyncs,
     /// if that allocation fails.
-    RefusedPush,
+    RefusedPush(NoRoom),
     /// E1: a worker's thread couldn't be started. Example: `main { }` on two workers, if the system
     /// has no more threads.
-    RefusedThread,
+    RefusedThread(Unstarted),
     /// E1: a scope has issued weight 2^31 times. No run is known in which this happens: that takes
     /// more tasks than a run may have.
     IssuedTooOften(Spent),
@@ -37,9 +38,9 @@ pub enum RunError {
     NoOwner(Ownerless),
     /// E4: no scope was found at the position of an outer scope. No run is known in which this
     /// happens.
-    NoScope,
+    NoScope(Missing),
     /// E4: no worker reported an outcome or an error. No run is known in which this happens.
-    NoReport,
+    NoReport(Silent),
     /// E5: an event of the workers isn't legal, or the events don't lead to the end of the run. It
     /// happens only in a run with a log, and no such run is known.
     Unlogged,
@@ -52,13 +53,15 @@ impl RunError {
     {
         match self {
             RunError::OutOfMemory
-            | RunError::RefusedPush
-            | RunError::RefusedThread
+            | RunError::RefusedPush(_)
+            | RunError::RefusedThread(_)
             | RunError::IssuedTooOften(_) => "E1",
             RunError::TooManyTasks(_) => "E2",
             RunError::Gather(_) => "E3",
-            RunError::NotDue(_) | RunError::NoOwner(_) | RunError::NoScope | RunError::NoReport =>
-                "E4",
+            RunError::NotDue(_)
+            | RunError::NoOwner(_)
+            | RunError::NoScope(_)
+            | RunError::NoReport(_) => "E4",
             RunError::Unlogged => "E5",
         }
     }
@@ -69,5 +72,25 @@ impl From<AllocError> for RunError {
 
     fn from(_error: AllocError) -> RunError {
         RunError::OutOfMemory
+    }
+}
+
+/// Returns what so many workers reported together: their error if there is one, or else their
+/// outcome. If there is neither, the error is that no worker reported anything.
+pub fn reported<T: Drop>(
+    outcome: Option<T>,
+    error: Option<RunError>,
+    workers: usize,
+) -> Result<T, RunError>
+    ensures outcome { IfOk result (λ o. (error ≡ None) × (outcome ≡ Some o)) }
+    ensures error { IfErr result (λ e. (error ≡ Some e)
+        ⊎ ((error ≡ None) × (outcome ≡ None) × IsSilence workers e)) }
+{
+    match error {
+        Some(error) => Err(error),
+        None => match outcome {
+            Some(outcome) => Ok(outcome),
+            None => Err(RunError::NoReport(Silent { workers })),
+        },
     }
 }

@@ -1,9 +1,10 @@
 //! Tables of scopes.
 
-ghost use Rattle.std.specs.Prelude.{◌≡◌, IfSome, Some, option_map};
+ghost use Rattle.std.specs.Prelude.{◌≡◌, ◌≤◌, length, IfErr, IfOk, Some, option_map, slice_get};
 ghost use Rattle.std.specs.Arc.{arc_value};
-ghost use Rattle.finish_scope.specs.ScopeTables.{in_slot};
+ghost use Rattle.finish_scope.specs.ScopeTables.{TellsMissing, in_slot};
 
+use crate::causes::Missing;
 use std::alloc::{AllocError, Global};
 use std::sync::Arc;
 
@@ -38,17 +39,21 @@ impl<T: Drop> ScopeTable<T> {
         Ok(slot)
     }
 
-    /// Returns the scope in this slot, if there is one and its reference count can be incremented.
-    pub fn find(&self, slot: usize) -> Option<Arc<T>>
-        ensures { IfSome result (λ scope. option_map arc_value (in_slot self.now.scopes.items slot)
-            ≡ Some (arc_value scope)) }
+    /// Returns the scope in this slot, if there is one.
+    pub fn find(&self, slot: usize) -> Result<Arc<T>, FindError>
+        ensures found { IfOk result (λ scope. option_map arc_value
+            (in_slot self.now.scopes.items slot) ≡ Some (arc_value scope)) }
+        ensures missing { IfErr result (TellsMissing self.now.scopes.items slot) }
     {
-        match self.scopes.get(slot)? {
-            Some(scope) => match Arc::try_clone(scope) {
-                Ok(scope) => Some(scope),
-                Err(_) => None,
+        match self.scopes.get(slot) {
+            Some(entry) => match entry {
+                Some(scope) => match Arc::try_clone(scope) {
+                    Ok(scope) => Ok(scope),
+                    Err(_) => Err(FindError::OutOfMemory),
+                },
+                None => Err(FindError::NoScope(Missing { number: slot })),
             },
-            None => None,
+            None => Err(FindError::NoScope(Missing { number: slot })),
         }
     }
 
@@ -59,5 +64,25 @@ impl<T: Drop> ScopeTable<T> {
             self.free.push(slot)?;
         }
         Ok(())
+    }
+}
+
+/// Why a scope isn't found.
+#[derive(Debug, Drop)]
+pub enum FindError {
+    /// There was no memory to increment the scope's reference count.
+    OutOfMemory,
+    /// Nothing is in the slot. Example: slot 0 of a new scope table.
+    NoScope(Missing),
+}
+
+/// Returns the scope table of this number.
+pub fn table_at<T>(tables: &[T], number: usize) -> Result<&T, Missing>
+    ensures table { IfOk result (λ t. slice_get tables.now number ≡ Some t.now) }
+    ensures missing { IfErr result (λ m. (m.number ≡ number) × (length tables.now ≤ number)) }
+{
+    match tables.get(number) {
+        Some(table) => Ok(table),
+        None => Err(Missing { number }),
     }
 }

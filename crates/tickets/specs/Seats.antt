@@ -1,7 +1,9 @@
 -- Definitions that contracts use for seats and for the word.
 use Rattle.std.specs.Prelude.{◌≡◌, ℕ, List, All, flat_map, length, ◌≤◌}
+use Rattle.atomic_table.specs.Seated.{TableId}
 use Rattle.tickets.specs.Shares.{times, one_below}
 use Rattle.tickets.specs.declared.drawing.Drawn.{Drawn}
+use Rattle.tickets.specs.declared.drawing.Stub.{Stub}
 use Rattle.tickets.specs.declared.drawing.Ticket.{Ticket}
 use Rattle.tickets.specs.declared.word.Seat.{Seat}
 use Rattle.tickets.specs.declared.word.Tickets.{Tickets}
@@ -21,6 +23,17 @@ IsSeatOf t s = s.place.table_id ≡ t.table.shared.table_id
 -- the number of seats of the word
 abbrev pub seats_of : Tickets → ℕ
 seats_of t = t.table.shared.key
+
+-- what identifies a word
+abbrev pub WordId : Type 0
+WordId = TableId
+
+abbrev pub id_of : Tickets → WordId
+id_of t = t.table.shared.table_id
+
+-- the word from which the ticket of a stub was drawn
+abbrev pub word_of : Stub → WordId
+word_of s = s.mark.table_id
 
 -- the ticket was drawn from this word: it has its mark, and only a draw creates a ticket
 abbrev pub IsTicketOf : Tickets → Ticket → Type 0

@@ -1,7 +1,7 @@
 //! Drawing numbers.
 
 ghost use Rattle.std.specs.Prelude.{◌≡◌, ◌<◌, ◌≤◌, ◌++◌, [], ◌∷◌, length, All, IfOk, vec_len};
-ghost use Rattle.tickets.specs.Seats.{AreOnly, drawn_of, IsCountOf, IsSeatOf, IsTicketOf, seats_of};
+ghost use Rattle.tickets.specs.Seats.{AreOnly, drawn_of, IsCountOf, IsSeatOf, IsTicketOf, seats_of, word_of};
 
 use crate::rule::{Draw, Marking, Parting, SeatShare};
 use crate::word::{Seat, Tickets};
@@ -24,6 +24,14 @@ impl Ticket {
     {
         self.number
     }
+
+    /// Returns the ticket without its number.
+    pub fn into_stub(self) -> Stub
+        ensures { word_of result ≡ self.mark.table_id }
+    {
+        let Ticket { mark, .. } = self;
+        Stub { mark }
+    }
 }
 
 impl fmt::Debug for Ticket {
@@ -31,6 +39,14 @@ impl fmt::Debug for Ticket {
         let number = self.number;
         write!(f, "Ticket({number})")
     }
+}
+
+/// A ticket without its number. It has no bytes. Only `Ticket::into_stub` creates one, and it can't
+/// be copied.
+#[derive(Drop)]
+pub struct Stub {
+    /// Shows contracts from which word the ticket was drawn.
+    mark: Place<(), SeatShare>,
 }
 
 /// The number of draws on all seats of a word. Only `Tickets::close` creates one.

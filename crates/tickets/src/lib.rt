@@ -6,5 +6,5 @@ mod drawing;
 mod rule;
 mod word;
 
-pub use drawing::{Drawn, Ticket};
+pub use drawing::{Drawn, Stub, Ticket};
 pub use word::{Seat, Tickets};

@@ -1,2 +1,3 @@
+pub mod CrewErrors
 pub mod Tallies
 pub mod DequeEnds

@@ -28,14 +28,21 @@ pub trait Crew: Sync {
 }
 
 /// The reason why a crew has no reports. The examples call `work_together` with one kit.
-#[derive(Clone, Copy, PartialEq, Eq, Debug)]
+#[derive(Debug, Drop)]
 pub enum CrewError {
     /// There was no memory for the thread's handle, or for a report. Example: one kit, and an
     /// allocator that has nothing left.
     OutOfMemory,
     /// The thread for the kit couldn't be started. Example: one kit, and a system that has no more
     /// threads.
-    NoThread,
+    NoThread(Unstarted),
+}
+
+/// A thread couldn't be started. Only `work_together` creates one.
+#[derive(Debug, Drop)]
+pub struct Unstarted {
+    /// The number of threads that were started before.
+    pub(crate) started: usize,
 }
 
 /// A thread's promise: its report is one of this crew.

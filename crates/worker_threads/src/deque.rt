@@ -5,7 +5,7 @@ ghost use Rattle.crossbeam_deque.specs.Handles.{stealer_deque, worker_capacity, 
 ghost use Rattle.worker_threads.specs.DequeEnds.{put_into, taken_by, taken_from};
 ghost use Rattle.worker_threads.specs.Tallies.{Accounts};
 
-use crate::deque_ends::{Deque, Front, Thief};
+use crate::deque_ends::{Deque, Front, NoRoom, Refused, Thief};
 use crate::deque_rule::{Balance, Pops, Puts, Takes, Tally, Whole};
 use crossbeam_deque::{Steal, Worker};
 use std::alloc::{AllocError, Global};
@@ -32,15 +32,24 @@ impl<T> Deque<T> {
         Ok(Front { stealer })
     }
 
-    /// Puts a task in. If there is no room for it, the task is returned.
-    pub fn push(&mut self, task: T) -> Result<(), T>
+    /// Puts a task in. If there is no room for it, the task is returned, with the cause.
+    pub fn push(&mut self, task: T) -> Result<(), Refused<T>>
         ensures put { MatchResult result (λ _. put_into self.new ≡ put_into self.old ++ task ∷ [])
-            (λ x. (x ≡ task) × (put_into self.new ≡ put_into self.old)) }
+            (λ r. (r.task ≡ task) × (put_into self.new ≡ put_into self.old)) }
         ensures taken { taken_from self.new ≡ taken_from self.old }
         ensures refused { IfErr result
             (λ _. worker_capacity self.old.worker ≤ worker_index self.old.worker) }
+        ensures cause { IfErr result (λ r. r.cause.capacity ≡ worker_capacity self.new.worker) }
     {
-        self.worker.push_as::<Puts>(task)
+        match self.worker.push_as::<Puts>(task) {
+            Ok(()) => Ok(()),
+            Err(task) => Err(Refused {
+                task,
+                cause: NoRoom {
+                    capacity: self.worker.capacity(),
+                },
+            }),
+        }
     }
 
     /// Takes the newest task out. Returns None only if there was none at one moment of the call.

@@ -31,3 +31,17 @@ pub struct Thief<T> {
     ghost of: { IsPassOf (stealer_deque stealer) hand },
     ghost lifo: { stealer_flavor stealer ≡ 1 },
 }
+
+/// A task that a deque had no room for, and the cause.
+#[derive(Drop)]
+pub struct Refused<T> {
+    pub task: T,
+    pub cause: NoRoom,
+}
+
+/// A deque was full, and couldn't grow. Only `Deque::push` creates one.
+#[derive(Debug, Drop)]
+pub struct NoRoom {
+    /// The number of tasks for which it had room.
+    pub(crate) capacity: usize,
+}

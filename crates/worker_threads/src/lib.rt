@@ -8,6 +8,6 @@ mod deque_ends;
 mod deque_rule;
 mod starting;
 
-pub use crew::{Crew, CrewError, ReportPromise};
-pub use deque_ends::{Deque, Front, Thief};
+pub use crew::{Crew, CrewError, ReportPromise, Unstarted};
+pub use deque_ends::{Deque, Front, NoRoom, Refused, Thief};
 pub use starting::work_together;

@@ -1,8 +1,9 @@
 //! Starting the workers of a crew, and joining them.
 
 ghost use Rattle.std.specs.Prelude.{◌≡◌, ◌+◌, All, IfErr, IfOk, IsTrue, OnOk, vec_len};
+ghost use Rattle.worker_threads.specs.CrewErrors.{IsUnstarted};
 
-use crate::crew::{Crew, CrewError, ReportPromise};
+use crate::crew::{Crew, CrewError, ReportPromise, Unstarted};
 use std::alloc::Global;
 use std::snapshot::Snapshot;
 use std::sync::Wait;
@@ -100,20 +101,22 @@ fn add<'s, E, C: Crew, R: Threads + Wait + Sync>(
     if handles.reserve(1).is_err() {
         return Err(CrewError::OutOfMemory);
     }
-    handles.push_reserved(start(rt, scope, crew, kit)?);
+    let started = handles.len();
+    handles.push_reserved(start(rt, scope, crew, kit, started)?);
     Ok(())
 }
 
-/// Starts one worker.
+/// Starts one worker, after so many others.
 fn start<'s, E, C: Crew, R: Threads + Wait + Sync>(
     rt: &'s R,
     scope: &Scope<'s, E>,
     crew: &'s C,
     kit: C::Kit,
+    started: usize,
 ) -> Result<PromisedHandle<C::Report, ReportPromise<C>>, CrewError>
     requires fits { C.fits crew.now kit }
     ensures promise { IfOk result (λ h. h.promise.0.value ≡ crew.now) }
-    ensures refused { IfErr result (λ e. e ≡ CrewError.NoThread) }
+    ensures refused { IfErr result (IsUnstarted started) }
 {
     let spawned = scope.spawn_with(
         ReportPromise(Snapshot::of(crew)),
@@ -124,7 +127,7 @@ fn start<'s, E, C: Crew, R: Threads + Wait + Sync>(
     );
     match spawned {
         Ok(handle) => Ok(handle),
-        Err(_) => Err(CrewError::NoThread),
+        Err(_) => Err(CrewError::NoThread(Unstarted { started })),
     }
 }
 

@@ -23,7 +23,7 @@ use Rattle.tickets.specs.declared.word.Seat.{Seat}
 use Rattle.tickets.specs.declared.word.Tickets.{Tickets}
 use Rattle.workers.specs.Causes.{HasDrawn, HasTicket, HasTicketFrom, IsReason}
 use Rattle.workers.specs.Words.{IsFresh}
-use Rattle.workers.specs.WorkerStates.{AreBelow, EndsRun, Fails, HasSeat, TellTogether, Tells}
+use Rattle.workers.specs.WorkerStates.{AreBelow, DrawsForEach, EndsRun, Fails, HasSeat, TellTogether, Tells}
 use Rattle.workers.specs.declared.worker.Report.{Report}
 
 -- ---- one seat
@@ -62,6 +62,29 @@ drawn_last s s' n drawn =
     let more = ap (times n) drawn ∙ one_more n n (drawn_of s) in
     omega (arith, more, same n)
 
+-- one more was drawn
+pub drawn_longer : (s s' : Seat) (n : ℕ) → drawn_of s' ≡ drawn_of s ++ n ∷ []
+    → length (drawn_of s') ≡ length (drawn_of s) + 1
+drawn_longer s s' n drawn = ap length drawn ∙ length-append (drawn_of s) (n ∷ [])
+
+-- ---- draws for tasks
+
+-- a ticket was drawn, and a task was put in
+pub draws_for_one : {T : Type 0} (s s' : Seat) (xs ys : List T) (x : T)
+    → length (drawn_of s') ≡ length (drawn_of s) + 1 → ys ≡ xs ++ x ∷ [] → DrawsForEach 0 s s' xs ys
+draws_for_one s s' xs ys x drawn put =
+    let more = ap length put ∙ length-append xs (x ∷ []) in omega (arith, drawn, more)
+
+-- a ticket was drawn for another task before
+pub draws_for_another : {T : Type 0} (s s' s'' : Seat) (xs ys : List T)
+    → length (drawn_of s') ≡ length (drawn_of s) + 1 → DrawsForEach 0 s' s'' xs ys → DrawsForEach 1 s s'' xs ys
+draws_for_another s s' s'' xs ys drawn each = omega (arith, drawn, each)
+
+-- what was drawn from one moment to the next, and from that to a later one
+pub draws_for_both : {T : Type 0} (s s' s'' : Seat) (xs ys zs : List T) → DrawsForEach 0 s s' xs ys
+    → DrawsForEach 0 s' s'' ys zs → DrawsForEach 0 s s'' xs zs
+draws_for_both s s' s'' xs ys zs first second = omega (arith, first, second)
+
 -- ---- all seats
 
 times_append : (x : ℕ) (xs ys : List ℕ) → times x (xs ++ ys) ≡ times x xs + times x ys
@@ -75,15 +98,15 @@ pushed seats s =
 drawn_more : (t : Tickets) (e : RunError) (xs ys : List ℕ) → ((n : ℕ) → 1 ≤ times n xs → 1 ≤ times n ys)
     → HasDrawn t xs e → HasDrawn t ys e
 drawn_more t OutOfMemory xs ys more has = tt
-drawn_more t RefusedPush xs ys more has = tt
-drawn_more t RefusedThread xs ys more has = tt
+drawn_more t (RefusedPush c) xs ys more has = tt
+drawn_more t (RefusedThread c) xs ys more has = tt
 drawn_more t (IssuedTooOften c) xs ys more has = tt
 drawn_more t (TooManyTasks ticket) xs ys more has = (has.0, more ticket.number has.1)
 drawn_more t (Gather u) xs ys more has = tt
 drawn_more t (NotDue c) xs ys more has = tt
 drawn_more t (NoOwner c) xs ys more has = tt
-drawn_more t NoScope xs ys more has = tt
-drawn_more t NoReport xs ys more has = tt
+drawn_more t (NoScope c) xs ys more has = tt
+drawn_more t (NoReport c) xs ys more has = tt
 drawn_more t Unlogged xs ys more has = tt
 
 both : (seats : List Seat) (s : Seat) (n : ℕ) → times n (drawn_by (seats ++ s ∷ [])) ≡ times n (drawn_by seats) + times n (drawn_of s)
@@ -99,8 +122,8 @@ at_most tasks n seats only below =
 pub ticket_from : (t : Tickets) (n : ℕ) (e : RunError) (seats : List Seat) → All (IsSeatOf t) seats → length seats ≡ seats_of t
     → AreOnly n seats → HasDrawn t (drawn_by seats) e → HasTicketFrom t e
 ticket_from t n OutOfMemory seats of all only has = tt
-ticket_from t n RefusedPush seats of all only has = tt
-ticket_from t n RefusedThread seats of all only has = tt
+ticket_from t n (RefusedPush c) seats of all only has = tt
+ticket_from t n (RefusedThread c) seats of all only has = tt
 ticket_from t n (IssuedTooOften c) seats of all only has = tt
 ticket_from t n (TooManyTasks ticket) seats of all only has = record {
   word = has.0;
@@ -114,15 +137,15 @@ ticket_from t n (TooManyTasks ticket) seats of all only has = record {
 ticket_from t n (Gather u) seats of all only has = tt
 ticket_from t n (NotDue c) seats of all only has = tt
 ticket_from t n (NoOwner c) seats of all only has = tt
-ticket_from t n NoScope seats of all only has = tt
-ticket_from t n NoReport seats of all only has = tt
+ticket_from t n (NoScope c) seats of all only has = tt
+ticket_from t n (NoReport c) seats of all only has = tt
 ticket_from t n Unlogged seats of all only has = tt
 
 -- the ticket of an error was drawn by as many seats as workers
 ticket_of_some : (t : Tickets) (workers : ℕ) → seats_of t ≡ workers → (e : RunError) → HasTicketFrom t e → HasTicket workers e
 ticket_of_some t workers count OutOfMemory has = tt
-ticket_of_some t workers count RefusedPush has = tt
-ticket_of_some t workers count RefusedThread has = tt
+ticket_of_some t workers count (RefusedPush c) has = tt
+ticket_of_some t workers count (RefusedThread c) has = tt
 ticket_of_some t workers count (IssuedTooOften c) has = tt
 ticket_of_some t workers count (TooManyTasks ticket) has = record {
   seats = has.seats;
@@ -134,8 +157,8 @@ ticket_of_some t workers count (TooManyTasks ticket) has = record {
 ticket_of_some t workers count (Gather u) has = tt
 ticket_of_some t workers count (NotDue c) has = tt
 ticket_of_some t workers count (NoOwner c) has = tt
-ticket_of_some t workers count NoScope has = tt
-ticket_of_some t workers count NoReport has = tt
+ticket_of_some t workers count (NoScope c) has = tt
+ticket_of_some t workers count (NoReport c) has = tt
 ticket_of_some t workers count Unlogged has = tt
 
 pub tickets_of_some : {T : Type 0} (t : Tickets) (workers : ℕ) → seats_of t ≡ workers → (r : Result T RunError)
@@ -159,6 +182,7 @@ module _ (o : Option Job) (t : Tickets) (j : Job) (tasks : ℕ) where
   more : (e : Option RunError) (seats : List Seat) (s : Seat) → IfSome e (EndsRun o t tasks seats) → IfSome e (EndsRun o t tasks (seats ++ s ∷ []))
   more None seats s ends = tt
   more (Some e) seats s ends = record {
+    own = ends.own;
     cause = ends.cause;
     drawn = drawn_more t e (drawn_by seats) (drawn_by (seats ++ s ∷ [])) (λ n has. omega (arith, has, both seats s n)) ends.drawn;
     happened = ends.happened;
@@ -166,6 +190,7 @@ module _ (o : Option Job) (t : Tickets) (j : Job) (tasks : ℕ) where
 
   last : (e : RunError) (seats : List Seat) (s : Seat) → Fails o t tasks s e → EndsRun o t tasks (seats ++ s ∷ []) e
   last e seats s fails = record {
+    own = fails.own;
     cause = fails.cause;
     drawn = drawn_more t e (drawn_of s) (drawn_by (seats ++ s ∷ [])) (λ n has. omega (arith, has, both seats s n)) fails.drawn;
     happened = fails.happened;

@@ -5,4 +5,5 @@ pub mod Passes
 pub mod Recording
 pub mod Refusals
 pub mod Sending
+pub mod Silence
 pub mod Turning

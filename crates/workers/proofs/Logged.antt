@@ -27,15 +27,15 @@ run_reason o t tasks HasLog e r =
 with_log : (tasks : ℕ) (HasLog : Type 0) (e : RunError) → HasLog → IsRunCause tasks (Unit {0}) e → IsRunCause tasks HasLog e
 with_log tasks HasLog Unlogged has cause = has
 with_log tasks HasLog OutOfMemory has cause = cause
-with_log tasks HasLog RefusedPush has cause = cause
-with_log tasks HasLog RefusedThread has cause = cause
+with_log tasks HasLog (RefusedPush c) has cause = cause
+with_log tasks HasLog (RefusedThread c) has cause = cause
 with_log tasks HasLog (IssuedTooOften c) has cause = cause
 with_log tasks HasLog (TooManyTasks ticket) has cause = cause
 with_log tasks HasLog (Gather u) has cause = cause
 with_log tasks HasLog (NotDue c) has cause = cause
 with_log tasks HasLog (NoOwner c) has cause = cause
-with_log tasks HasLog NoScope has cause = cause
-with_log tasks HasLog NoReport has cause = cause
+with_log tasks HasLog (NoScope c) has cause = cause
+with_log tasks HasLog (NoReport c) has cause = cause
 
 pub log_reason : (o : Option Job) (t : Tickets) (tasks : ℕ) (HasLog : Type 0) (e : RunError) → IsOfLog e → HasLog
     → IsRunReason o t tasks HasLog e

@@ -7,7 +7,14 @@ use Rattle.finish_scope.specs.declared.causes.Ownerless.{Ownerless}
 use Rattle.finish_scope.specs.declared.causes.Undue.{Undue}
 use Rattle.finish_scope.specs.declared.late.Reason.{Reason}
 use Rattle.finish_scope.specs.declared.late.Reason.TheVariants.{NotDue, IssuedTooOften}
-use Rattle.workers.specs.Causes.{HadNoOwner, Happens, HappensAtScope, WasNotDue, trouble_of}
+use Rattle.finish_scope.specs.declared.scope_table.FindError.{FindError}
+use Rattle.finish_scope.specs.declared.scope_table.FindError.TheVariants.{OutOfMemory as NoCount, NoScope as EmptySlot}
+use Rattle.workers.specs.Causes.{HadNoOwner, Happens, HappensAtScope, WasNotDue, trouble_at, trouble_of}
+
+-- a scope that isn't found
+pub not_found : (o : Option Job) (e : FindError) → Happens o (trouble_at e)
+not_found o NoCount = tt
+not_found o (EmptySlot c) = tt
 
 -- nobody was parked in a scope that is complete and doesn't pass
 pub nobody : (s : Standing) → IsEven s → (s.owner ≡ None) ⊎ (IsEven s → ⊥) → s.owner ≡ None

@@ -42,6 +42,7 @@ use Rattle.finish_scope.proofs.resting.ScopePosition.TheSendSync as OfPlace
 use Rattle.workers.proofs.pool.SleepSlot.TheSendSync as OfSleepSlot
 use Rattle.workers.proofs.worker.WorkerState.TheSendSync as OfState
 use Rattle.workers.proofs.settings.Settings.TheSendSync as OfSettings
+use Rattle.tickets.proofs.drawing.Stub.TheSendSync as OfStub
 use Rattle.tickets.proofs.word.Tickets.TheSendSync as OfTickets
 use Rattle.finish_scope.proofs.Crossing.{job_sync, child_send, task_send}
 use Rattle.finish_scope.proofs.Sending.{scope_send, table_send}
@@ -53,7 +54,15 @@ module _ (κ : NamedLft) (J : RattleType) (gh : Ghosts J.Denot) where
   scope_field = as_row_send (Arc.the_field (Mutex.the_row (Inner.the_row κ J gh)) Heap.the_row ghosts) (scope_send κ J gh)
 
   ready_send : IsSend (Ready.the_row κ J gh)
-  ready_send = view_send (InReady.the_row κ J gh) _ _ _ _ (declared_send (InReady.the_type κ J gh) (child_send κ, (scope_field, (OfPlace.the_send, (search (sendable, crosses) depth 30 fits 5000, tt)))))
+  ready_send =
+      view_send (InReady.the_row κ J gh) _ _ _ _
+      (declared_send (InReady.the_type κ J gh) (
+        child_send κ,
+        (
+          scope_field,
+          (OfPlace.the_send, (search (sendable, crosses) depth 30 fits 5000, (OfStub.the_send, tt))),
+        ),
+      ))
 
   open_scopes_send : IsSend (OpenScopes.the_row κ J gh)
   open_scopes_send =

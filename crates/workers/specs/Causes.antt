@@ -14,12 +14,14 @@ use Rattle.tickets.specs.Shares.{times}
 use Rattle.tickets.specs.declared.word.Tickets.{Tickets}
 use Rattle.weighted_task.specs.declared.finish.Parked.{Parked}
 use Rattle.finish_scope.specs.Own.{IsOwnScope}
-use Rattle.finish_scope.specs.RunErrors.{IsCause, IsRunCause}
+use Rattle.finish_scope.specs.RunErrors.{IsCause, IsOfWorker, IsRunCause}
 use Rattle.finish_scope.specs.Scopes.{Standing, Cannot, IsEven, IsOwnerless, IsUndue, out_of}
 use Rattle.finish_scope.specs.Settling.{AreUnsettled, DoesNotSettle}
 use Rattle.finish_scope.specs.declared.causes.Ownerless.{Ownerless}
 use Rattle.finish_scope.specs.declared.causes.Spent.{Spent}
 use Rattle.finish_scope.specs.declared.causes.Undue.{Undue}
+use Rattle.finish_scope.specs.declared.scope_table.FindError.{FindError}
+use Rattle.finish_scope.specs.declared.scope_table.FindError.TheVariants.{OutOfMemory as NoCount, NoScope as EmptySlot}
 use Rattle.finish_scope.specs.declared.settling.SettleError.{SettleError}
 use Rattle.finish_scope.specs.declared.settling.SettleError.TheVariants.{OutOfMemory as NoMemory, Inconsistent}
 use Rattle.finish_scope.specs.declared.late.Reason.{Reason}
@@ -65,87 +67,87 @@ module _ (o : Option Job) where
 -- what happened, by the trouble that a worker had
 abbrev pub Happens : Option Job → Trouble → Type 0
 Happens o OutOfMemory = Unit {0}
-Happens o RefusedPush = Unit {0}
+Happens o (RefusedPush c) = Unit {0}
 Happens o (IssuedTooOften c) = IsSpent o c
 Happens o (Gather u) = DoesNotSettle o u
 Happens o (NotDue c) = WasNotDue o c
 Happens o (NoOwner c) = HadNoOwner o c
-Happens o NoScope = Unit {0}
+Happens o (NoScope c) = Unit {0}
 
 -- results that don't settle are all of these, in their order or reversed, with that of this owner
 abbrev pub IsOfResults : (owner : Parked) → (results : List Made) → Trouble → Type 0
 IsOfResults p rs OutOfMemory = Unit {0}
-IsOfResults p rs RefusedPush = Unit {0}
+IsOfResults p rs (RefusedPush c) = Unit {0}
 IsOfResults p rs (IssuedTooOften c) = Unit {0}
 IsOfResults p rs (Gather u) = AreUnsettled p rs u ⊎ AreUnsettled p (reverse rs) u
 IsOfResults p rs (NotDue c) = Unit {0}
 IsOfResults p rs (NoOwner c) = Unit {0}
-IsOfResults p rs NoScope = Unit {0}
+IsOfResults p rs (NoScope c) = Unit {0}
 
 -- what happened at a scope, by what a call under its lock answered
 abbrev pub HappensAtScope : Option Job → Trouble → Type 0
 HappensAtScope o OutOfMemory = WasMarked o
-HappensAtScope o RefusedPush = ⊥
+HappensAtScope o (RefusedPush c) = ⊥
 HappensAtScope o (IssuedTooOften c) = IsSpent o c
 HappensAtScope o (Gather u) = ⊥
 HappensAtScope o (NotDue c) = WasNotDue o c
 HappensAtScope o (NoOwner c) = HadNoOwner o c
-HappensAtScope o NoScope = ⊥
+HappensAtScope o (NoScope c) = ⊥
 
 -- what happened, by the error of a run
 abbrev pub Happened : Option Job → RunError → Type 0
 Happened o In.OutOfMemory = Unit {0}
-Happened o In.RefusedPush = Unit {0}
-Happened o In.RefusedThread = Unit {0}
+Happened o (In.RefusedPush c) = Unit {0}
+Happened o (In.RefusedThread c) = Unit {0}
 Happened o (In.IssuedTooOften c) = IsSpent o c
 Happened o (In.TooManyTasks ticket) = Unit {0}
 Happened o (In.Gather u) = DoesNotSettle o u
 Happened o (In.NotDue c) = WasNotDue o c
 Happened o (In.NoOwner c) = HadNoOwner o c
-Happened o In.NoScope = Unit {0}
-Happened o In.NoReport = Unit {0}
+Happened o (In.NoScope c) = Unit {0}
+Happened o (In.NoReport c) = Unit {0}
 Happened o In.Unlogged = Unit {0}
 
 -- the ticket of E2 was drawn from this word, and is among these draws
 abbrev pub HasDrawn : Tickets → List ℕ → RunError → Type 0
 HasDrawn t drawn In.OutOfMemory = Unit {0}
-HasDrawn t drawn In.RefusedPush = Unit {0}
-HasDrawn t drawn In.RefusedThread = Unit {0}
+HasDrawn t drawn (In.RefusedPush c) = Unit {0}
+HasDrawn t drawn (In.RefusedThread c) = Unit {0}
 HasDrawn t drawn (In.IssuedTooOften c) = Unit {0}
 HasDrawn t drawn (In.TooManyTasks ticket) = IsTicketOf t ticket × (1 ≤ times ticket.number drawn)
 HasDrawn t drawn (In.Gather u) = Unit {0}
 HasDrawn t drawn (In.NotDue c) = Unit {0}
 HasDrawn t drawn (In.NoOwner c) = Unit {0}
-HasDrawn t drawn In.NoScope = Unit {0}
-HasDrawn t drawn In.NoReport = Unit {0}
+HasDrawn t drawn (In.NoScope c) = Unit {0}
+HasDrawn t drawn (In.NoReport c) = Unit {0}
 HasDrawn t drawn In.Unlogged = Unit {0}
 
 -- the ticket of E2 was drawn on a seat of this word
 abbrev pub HasTicketFrom : Tickets → RunError → Type 0
 HasTicketFrom t In.OutOfMemory = Unit {0}
-HasTicketFrom t In.RefusedPush = Unit {0}
-HasTicketFrom t In.RefusedThread = Unit {0}
+HasTicketFrom t (In.RefusedPush c) = Unit {0}
+HasTicketFrom t (In.RefusedThread c) = Unit {0}
 HasTicketFrom t (In.IssuedTooOften c) = Unit {0}
 HasTicketFrom t (In.TooManyTasks ticket) = WasDrawnFrom t ticket
 HasTicketFrom t (In.Gather u) = Unit {0}
 HasTicketFrom t (In.NotDue c) = Unit {0}
 HasTicketFrom t (In.NoOwner c) = Unit {0}
-HasTicketFrom t In.NoScope = Unit {0}
-HasTicketFrom t In.NoReport = Unit {0}
+HasTicketFrom t (In.NoScope c) = Unit {0}
+HasTicketFrom t (In.NoReport c) = Unit {0}
 HasTicketFrom t In.Unlogged = Unit {0}
 
 -- the ticket of E2 is one of those that the seats of the workers drew
 abbrev pub HasTicket : (workers : ℕ) → RunError → Type 0
 HasTicket workers In.OutOfMemory = Unit {0}
-HasTicket workers In.RefusedPush = Unit {0}
-HasTicket workers In.RefusedThread = Unit {0}
+HasTicket workers (In.RefusedPush c) = Unit {0}
+HasTicket workers (In.RefusedThread c) = Unit {0}
 HasTicket workers (In.IssuedTooOften c) = Unit {0}
 HasTicket workers (In.TooManyTasks ticket) = WasDrawn workers ticket
 HasTicket workers (In.Gather u) = Unit {0}
 HasTicket workers (In.NotDue c) = Unit {0}
 HasTicket workers (In.NoOwner c) = Unit {0}
-HasTicket workers In.NoScope = Unit {0}
-HasTicket workers In.NoReport = Unit {0}
+HasTicket workers (In.NoScope c) = Unit {0}
+HasTicket workers (In.NoReport c) = Unit {0}
 HasTicket workers In.Unlogged = Unit {0}
 
 -- why a run with this word, and at most so many tasks, has no outcome
@@ -166,8 +168,9 @@ pub record IsOfLog (e : RunError) : Type 0 where
   pub ticket : (t : Tickets) → HasTicketFrom t e
   pub happened : (o : Option Job) → Happened o e
 
--- the error that a trouble becomes: its cause, no ticket, and what happened
+-- the error that a trouble becomes: one of a worker, its cause, no ticket, and what happened
 pub record Becomes (t : Trouble) (e : RunError) : Type 0 where
+  pub own : IsOfWorker e
   pub cause : (tasks : ℕ) → IsCause tasks e
   pub undrawn : (w : Tickets) (drawn : List ℕ) → HasDrawn w drawn e
   pub ticket : (w : Tickets) → HasTicketFrom w e
@@ -182,6 +185,11 @@ trouble_of (L2 c) = IssuedTooOften c
 abbrev pub trouble_by : SettleError → Trouble
 trouble_by NoMemory = OutOfMemory
 trouble_by (Inconsistent u) = Gather u
+
+-- the trouble of a worker that doesn't find a scope
+abbrev pub trouble_at : FindError → Trouble
+trouble_at NoCount = OutOfMemory
+trouble_at (EmptySlot c) = NoScope c
 
 -- the job of a run with these arguments
 abbrev pub job_of : Global → Bor Accepted → Bor Input → Budget → Job

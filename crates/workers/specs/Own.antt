@@ -21,6 +21,9 @@ use Rattle.weighted_task.specs.declared.turn.WeightedTurn.TheVariants.{Going, Sp
 use Rattle.weighted_task.specs.declared.turn.WeightedTurn.TheVariants.{EndsFinish, Ended, Over}
 use Rattle.weighted_task.specs.declared.turn.Wanting.{Wanting}
 use Rattle.weighted_task.specs.Tasks.{IsBody}
+use Rattle.tickets.specs.Seats.{WordId}
+use Rattle.tickets.specs.declared.drawing.Stub.{Stub}
+use Rattle.workers.specs.Words.{IsOwnStub}
 use Rattle.workers.specs.declared.open_scopes.Next.{Next}
 use Rattle.workers.specs.declared.open_scopes.Next.TheVariants.{Goes, Idle, Told}
 use Rattle.workers.specs.declared.open_scopes.AfterTurn.{AfterTurn}
@@ -45,6 +48,11 @@ module _ (o : Option Job) where
   pub record IsOwnTask (t : Task) : Type 0 where
     pub job : o ≡ Some t.body.value.job
     pub task : IsTask t
+
+  -- a task that waits for a worker has the stub of a ticket that was drawn from the word of the run
+  pub record IsReady (w : Option WordId) (c : Child) (s : Stub) : Type 0 where
+    pub own : IsOwnChild c
+    pub drawn : IsOwnStub w s
 
   pub record IsOwnBody (b : Body) : Type 0 where
     pub job : o ≡ Some b.job

@@ -1,6 +1,7 @@
 -- The word from which the tasks of a run draw tickets.
-use Rattle.std.specs.Prelude.{ℕ, ◌≡◌, [], All, vec_len}
-use Rattle.tickets.specs.Seats.{IsSeatOf, drawn_of, seats_of}
+use Rattle.std.specs.Prelude.{ℕ, ◌≡◌, [], All, Option, Some, vec_len}
+use Rattle.tickets.specs.Seats.{IsSeatOf, WordId, drawn_of, id_of, seats_of, word_of}
+use Rattle.tickets.specs.declared.drawing.Stub.{Stub}
 use Rattle.tickets.specs.declared.word.Seat.{Seat}
 use Rattle.tickets.specs.declared.word.Tickets.{Tickets}
 use Rattle.workers.specs.declared.word.Word.{Word}
@@ -14,3 +15,11 @@ pub record IsFreshWord (workers : ℕ) (w : Word) : Type 0 where
   pub count : seats_of w.tickets ≡ workers
   pub all : vec_len w.seats ≡ workers
   pub each : All (IsFresh w.tickets) w.seats.items
+
+-- the tasks of the run draw from this word
+abbrev pub IsOwnWord : Option WordId → Tickets → Type 0
+IsOwnWord w t = w ≡ Some (id_of t)
+
+-- the ticket of this stub was drawn from the word of the run
+abbrev pub IsOwnStub : Option WordId → Stub → Type 0
+IsOwnStub w s = w ≡ Some (word_of s)

@@ -3,10 +3,12 @@
 ghost use Rattle.std.specs.Prelude.{◌≡◌};
 ghost use Rattle.workers.specs.declared.error.Trouble.TheVariants.{OutOfMemory};
 
-use finish_scope::causes::{Ownerless, Spent, Undue, Unsettled};
+use finish_scope::causes::{Missing, Ownerless, Spent, Undue, Unsettled};
 pub use finish_scope::run_error::RunError;
+use finish_scope::scope_table::FindError;
 use finish_scope::settling::SettleError;
 use std::alloc::{AllocError, AllocFailed};
+use worker_threads::NoRoom;
 
 /// The reason why a worker ends a run, except a missing ticket. `RunError` has the same variants,
 /// with examples.
@@ -15,7 +17,7 @@ pub enum Trouble {
     /// Out of memory.
     OutOfMemory,
     /// The worker's deque rejected a task.
-    RefusedPush,
+    RefusedPush(NoRoom),
     /// A scope has issued weight as often as its book can count.
     IssuedTooOften(Spent),
     /// The results of tasks are inconsistent.
@@ -25,7 +27,7 @@ pub enum Trouble {
     /// A scope is complete, and has no owner.
     NoOwner(Ownerless),
     /// No scope was found at a position.
-    NoScope,
+    NoScope(Missing),
 }
 
 impl From<Trouble> for RunError {
@@ -36,12 +38,12 @@ impl From<Trouble> for RunError {
     fn from(trouble: Trouble) -> RunError {
         match trouble {
             Trouble::OutOfMemory => RunError::OutOfMemory,
-            Trouble::RefusedPush => RunError::RefusedPush,
+            Trouble::RefusedPush(cause) => RunError::RefusedPush(cause),
             Trouble::IssuedTooOften(cause) => RunError::IssuedTooOften(cause),
             Trouble::Gather(cause) => RunError::Gather(cause),
             Trouble::NotDue(cause) => RunError::NotDue(cause),
             Trouble::NoOwner(cause) => RunError::NoOwner(cause),
-            Trouble::NoScope => RunError::NoScope,
+            Trouble::NoScope(cause) => RunError::NoScope(cause),
         }
     }
 }
@@ -72,5 +74,28 @@ impl From<SettleError> for Trouble {
             SettleError::OutOfMemory => Trouble::OutOfMemory,
             SettleError::Inconsistent(cause) => Trouble::Gather(cause),
         }
+    }
+}
+
+impl From<FindError> for Trouble {
+    ghost use Rattle.workers.specs.Causes.{trouble_at};
+
+    ghost from_gives = { λ error t. t ≡ trouble_at error };
+
+    fn from(error: FindError) -> Trouble {
+        match error {
+            FindError::OutOfMemory => Trouble::OutOfMemory,
+            FindError::NoScope(cause) => Trouble::NoScope(cause),
+        }
+    }
+}
+
+impl From<Missing> for Trouble {
+    ghost use Rattle.workers.specs.declared.error.Trouble.TheVariants.{NoScope};
+
+    ghost from_gives = { λ cause t. t ≡ NoScope cause };
+
+    fn from(cause: Missing) -> Trouble {
+        Trouble::NoScope(cause)
     }
 }

@@ -1,13 +1,17 @@
 //! The workers of a run.
 
-ghost use Rattle.std.specs.Prelude.{◌≡◌, ◌≤◌, IfErr, IfOk, IfSome, OnOk, Option, Some};
+ghost use Rattle.std.specs.Prelude.{◌≡◌, ◌+◌, ◌≤◌, ◌++◌, [], ◌∷◌, length, IfErr, IfOk, IfSome};
+ghost use Rattle.std.specs.Prelude.{OnOk, Option, Some};
 ghost use Rattle.types.specs.Translation.{outcome as outcome_in};
 ghost use Rattle.task_run.specs.Jobs.{outcome_of};
 ghost use Rattle.finish_scope.specs.Own.{IsOwnPassing};
+ghost use Rattle.tickets.specs.Seats.{drawn_of, id_of};
+ghost use Rattle.worker_threads.specs.DequeEnds.{put_into};
 ghost use Rattle.workers.specs.Own.{HasCode, IsOwnBody, IsOwnChild, IsOwnEnded, IsOwnEnding, IsOwnNext};
 ghost use Rattle.workers.specs.Own.{IsOwnLeaving, IsOwnStep, IsOwnTask, IsOwnTurn};
 ghost use Rattle.workers.specs.Causes.{Happens, IsOfResults};
-ghost use Rattle.workers.specs.WorkerStates.{Fails, HasSeat, Tells};
+ghost use Rattle.workers.specs.WorkerStates.{DrawsForEach, Fails, HasSeat, Tells};
+ghost use Rattle.workers.specs.Words.{IsOwnStub};
 
 use crate::code::OwnCode;
 use crate::error::{RunError, Trouble};
@@ -31,14 +35,14 @@ use std::sync::{Arc, Mutex, Wait};
 use std::thread;
 use task_run::job::Job;
 use task_run::result::TaskResult;
-use tickets::Tickets;
+use tickets::{Stub, Tickets};
 use types::outcome::Outcome;
 use weighted_task::finish::{Ending, Entering, Parked};
 use weighted_task::stake::ScopeMark;
 use weighted_task::task::{Child, Task};
 use weighted_task::turn::{WeightedResult as Ended, WeightedTurn};
 use weights::weight::Weight;
-use worker_threads::Crew;
+use worker_threads::{Crew, Refused};
 
 /// The number of times that a worker looks for a task before it rests.
 const LOOKS: u32 = 64;
@@ -54,6 +58,7 @@ pub struct Shared<'p, J: Running, G: Gate> {
     pub pool: Pool<'p, J>,
     pub log: Option<LockedLog<'p, J>>,
     pub ghost of: { J.job ≡ Some job },
+    pub ghost word: { J.word ≡ Some (id_of tickets) },
 }
 
 impl<'p, J: Running, G: Gate> Shared<'p, J, G> {
@@ -173,42 +178,51 @@ impl<'p, J: Running, G: Gate> Shared<'p, J, G> {
     // ---- after a turn
 
     /// Draws the ticket of a task that starts.
-    fn draw(&self, state: &mut WorkerState) -> Result<(), RunError>
+    fn draw(&self, state: &mut WorkerState) -> Result<Stub, RunError>
         requires seat { HasSeat self.now.tickets self.now.settings.tasks state.old.seat }
         ensures seat { OnOk result
             (HasSeat self.now.tickets self.now.settings.tasks state.new.seat) }
         ensures failed { IfErr result
             (Fails J.job self.now.tickets self.now.settings.tasks state.new.seat) }
+        ensures word { IfOk result (IsOwnStub J.word) }
+        ensures once { length (drawn_of state.new.seat) ≡ length (drawn_of state.old.seat) + 1 }
     {
         let ticket = self.tickets.draw(&mut state.seat);
         if ticket.number() < self.settings.tasks {
-            Ok(())
+            Ok(ticket.into_stub())
         } else {
             Err(RunError::TooManyTasks(ticket))
         }
     }
 
-    /// Pushes a spawned task to the worker's deque.
+    /// Pushes a spawned task, with its ticket, to the worker's deque.
     fn begin(
         &self,
         number: usize,
         tasks: &mut Tasks<'p, J>,
         open_scopes: &mut OpenScopes<'p, J>,
         child: Child<'p>,
+        stub: Stub,
     ) -> Result<(), Trouble>
-        requires { IsOwnChild J.job child }
+        requires own { IsOwnChild J.job child }
+        requires drawn { IsOwnStub J.word stub }
+        ensures put { OnOk result (put_into tasks.new.own
+            ≡ put_into tasks.old.own ++ child.entry.start.value.path.turns.items ∷ []) }
         ensures cause { IfErr result (Happens J.job) }
     {
         let scope = Arc::try_clone(&open_scopes.scope)?;
         match tasks
             .own
-            .push(Ready::new(child, scope, open_scopes.place, number))
+            .push(Ready::new(child, scope, open_scopes.place, number, stub))
         {
             Ok(()) => {
                 self.pool.wake();
                 Ok(())
             }
-            Err(_) => Err(Trouble::RefusedPush),
+            Err(refused) => {
+                let Refused { cause, .. } = refused;
+                Err(Trouble::RefusedPush(cause))
+            }
         }
     }
 
@@ -360,12 +374,15 @@ impl<'p, J: Running, G: Gate> Shared<'p, J, G> {
         ensures failed { IfErr result
             (Fails J.job self.now.tickets self.now.settings.tasks state.new.seat) }
         ensures next { IfOk result (IsOwnNext J.job) }
+        ensures drawn { OnOk result (DrawsForEach 0 state.old.seat state.new.seat
+            (put_into tasks.old.own) (put_into tasks.new.own)) }
+        ensures once { length (drawn_of state.new.seat) ≤ length (drawn_of state.old.seat) + 1 }
     {
         match self.turn(rt, state.number, open_scopes, task)? {
             AfterTurn::Follows(next) => Ok(next),
             AfterTurn::Spawned(task, child) => {
-                self.draw(state)?;
-                self.begin(state.number, tasks, open_scopes, child)?;
+                let stub = self.draw(state)?;
+                self.begin(state.number, tasks, open_scopes, child, stub)?;
                 Ok(Next::Goes(task))
             }
         }
@@ -387,6 +404,8 @@ impl<'p, J: Running, G: Gate> Shared<'p, J, G> {
         ensures failed { IfErr result
             (Fails J.job self.now.tickets self.now.settings.tasks state.new.seat) }
         ensures outcome { IfOk result (λ o. IfSome o (λ x. outcome_in x ≡ outcome_of self.now.job)) }
+        ensures drawn { OnOk result (DrawsForEach 0 state.old.seat state.new.seat
+            (put_into tasks.old.own) (put_into tasks.new.own)) }
     {
         let mut task = task;
         for _ in rt.forever() {
@@ -416,10 +435,12 @@ impl<'p, J: Running, G: Gate> Shared<'p, J, G> {
         ensures failed { IfErr result
             (Fails J.job self.now.tickets self.now.settings.tasks state.new.seat) }
         ensures outcome { IfOk result (λ o. IfSome o (λ x. outcome_in x ≡ outcome_of self.now.job)) }
+        ensures drawn { OnOk result (DrawsForEach 1 state.old.seat state.new.seat
+            (put_into tasks.old.own) (put_into tasks.new.own)) }
     {
-        self.draw(state)?;
+        let stub = self.draw(state)?;
         let mut log_guard = self.hold(rt);
-        let (task, mut open_scopes) = first.begin();
+        let (task, mut open_scopes) = first.begin(stub);
         note_taken::<J>(&mut log_guard, state.number, state.number, &task);
         drop(log_guard);
         self.go_on(rt, state, tasks, &mut open_scopes, task)
@@ -439,6 +460,8 @@ impl<'p, J: Running, G: Gate> Shared<'p, J, G> {
         ensures failed { IfErr result
             (Fails J.job self.now.tickets self.now.settings.tasks state.new.seat) }
         ensures outcome { IfOk result (λ o. IfSome o (λ x. outcome_in x ≡ outcome_of self.now.job)) }
+        ensures drawn { OnOk result (DrawsForEach 0 state.old.seat state.new.seat
+            (put_into tasks.old.own) (put_into tasks.new.own)) }
     {
         let from = ready.from();
         let mut log_guard = self.hold(rt);

@@ -5,7 +5,7 @@ ghost use Rattle.task_run.specs.Jobs.{IsJob};
 ghost use Rattle.tickets.specs.Seats.{seats_of};
 ghost use Rattle.workers.specs.Causes.{Happens};
 ghost use Rattle.workers.specs.WorkerStates.{HasSeat};
-ghost use Rattle.workers.specs.Words.{IsFresh, IsFreshWord};
+ghost use Rattle.workers.specs.Words.{IsFresh, IsFreshWord, IsOwnWord};
 
 use crate::code::OwnCode;
 use crate::error::Trouble;
@@ -46,6 +46,7 @@ pub fn open<'p, J: Running, G: Gate, R: Wait>(
     requires of { J.job ≡ Some job }
     requires job { IsJob job }
     requires word { IsFreshWord terms.settings.workers terms.word }
+    requires own_word { IsOwnWord J.word terms.word.tickets }
     ensures job { IfOk result (λ r. r.0.job ≡ job.entry) }
     ensures settings { IfOk result (λ r. r.0.settings ≡ terms.settings) }
     ensures tickets { IfOk result (λ r. r.0.tickets ≡ terms.word.tickets) }

@@ -9,7 +9,7 @@ use crossbeam_utils::sync::{Parker, Unparker};
 use finish_scope::inner::Scope;
 use finish_scope::resting::ScopePosition;
 use finish_scope::running::Running;
-use finish_scope::scope_table::ScopeTable;
+use finish_scope::scope_table::{ScopeTable, table_at};
 use std::alloc::{AllocError, Global};
 use std::sync::atomic::{AtomicBool, AtomicUsize, Ordering};
 use std::sync::{Arc, Mutex, Wait};
@@ -191,13 +191,11 @@ impl<'p, J: Running> Pool<'p, J> {
     ) -> Result<ScopePosition, Trouble>
         ensures { IfErr result (Happens J.job) }
     {
-        match self.tables.get(number) {
-            Some(table) => Ok(ScopePosition {
-                table: number,
-                slot: table.lock(rt).add(scope)?,
-            }),
-            None => Err(Trouble::NoScope),
-        }
+        let table = table_at(&self.tables, number)?;
+        Ok(ScopePosition {
+            table: number,
+            slot: table.lock(rt).add(scope)?,
+        })
     }
 
     /// Returns the scope at this position.
@@ -208,26 +206,17 @@ impl<'p, J: Running> Pool<'p, J> {
     ) -> Result<Arc<Scope<'p, J>>, Trouble>
         ensures { IfErr result (Happens J.job) }
     {
-        match self.tables.get(place.table) {
-            Some(table) => match table.lock(rt).find(place.slot) {
-                Some(scope) => Ok(scope),
-                None => Err(Trouble::NoScope),
-            },
-            None => Err(Trouble::NoScope),
-        }
+        let table = table_at(&self.tables, place.table)?;
+        Ok(table.lock(rt).find(place.slot)?)
     }
 
     /// Removes a scope that has passed.
     pub fn clear<R: Wait>(&self, rt: &R, place: ScopePosition) -> Result<(), Trouble>
         ensures { IfErr result (Happens J.job) }
     {
-        match self.tables.get(place.table) {
-            Some(table) => {
-                table.lock(rt).free(place.slot)?;
-                Ok(())
-            }
-            None => Err(Trouble::NoScope),
-        }
+        let table = table_at(&self.tables, place.table)?;
+        table.lock(rt).free(place.slot)?;
+        Ok(())
     }
 }
 

@@ -2,6 +2,7 @@
 
 ghost use Rattle.std.specs.Prelude.{◌≡◌, IfOk};
 ghost use Rattle.workers.specs.Own.{IsOwnChild, IsOwnTask};
+ghost use Rattle.workers.specs.Words.{IsOwnStub};
 
 use crate::open_scopes::OpenScopes;
 use finish_scope::inner::Scope;
@@ -10,9 +11,11 @@ use finish_scope::running::Running;
 use std::alloc::AllocError;
 use std::marker::Model;
 use std::sync::Arc;
+use tickets::Stub;
 use weighted_task::task::{Child, Task};
 
-/// A spawned task of the run, and its scope. Contracts see it as the path of the task.
+/// A spawned task of the run, its scope, and the ticket that was drawn for it. Contracts see it as
+/// the path of the task.
 #[derive(Drop)]
 pub struct Ready<'p, J: Running> {
     child: Child<'p>,
@@ -20,28 +23,33 @@ pub struct Ready<'p, J: Running> {
     place: ScopePosition,
     /// The worker that spawned it.
     from: usize,
+    /// The ticket, which has no bytes here.
+    stub: Stub,
 }
 
 impl<'p, J: Running> Model for Ready<'p, J> {
     ghost use Rattle.std.specs.Prelude.{ℕ, List};
-    ghost use Rattle.workers.specs.Own.{IsOwnChild};
+    ghost use Rattle.workers.specs.Own.{IsReady};
 
     ghost Value = { List ℕ };
 
     ghost view = { λ r. r.child.start.value.path.turns.items };
 
-    ghost invariant = { λ r. IsOwnChild J.job r.child };
+    ghost invariant = { λ r. IsReady J.job J.word r.child r.stub };
 }
 
 impl<'p, J: Running> Ready<'p, J> {
-    /// Returns a task that the worker numbered `from` spawned in the scope at this position.
+    /// Returns a task that the worker numbered `from` spawned in the scope at this position, with its
+    /// ticket.
     pub fn new(
         child: Child<'p>,
         scope: Arc<Scope<'p, J>>,
         place: ScopePosition,
         from: usize,
+        stub: Stub,
     ) -> Ready<'p, J>
-        requires { IsOwnChild J.job child }
+        requires own { IsOwnChild J.job child }
+        requires drawn { IsOwnStub J.word stub }
         ensures { result ≡ child.entry.start.value.path.turns.items }
     {
         Ready {
@@ -49,6 +57,7 @@ impl<'p, J: Running> Ready<'p, J> {
             scope,
             place,
             from,
+            stub,
         }
     }
 
@@ -57,7 +66,7 @@ impl<'p, J: Running> Ready<'p, J> {
         self.from
     }
 
-    /// Returns the task before its first turn, and its scopes.
+    /// Returns the task before its first turn, and its scopes. Its ticket is used up.
     pub fn begin(self) -> Result<(Task<'p>, OpenScopes<'p, J>), AllocError>
         ensures { IfOk result (λ r. IsOwnTask J.job r.0) }
     {
@@ -105,7 +114,10 @@ impl<'p, J: Running> First<'p, J> {
         First { task, open_scopes }
     }
 
-    pub fn begin(self) -> (Task<'p>, OpenScopes<'p, J>)
+    /// Returns the task before its first turn, and its scopes. Its ticket is used up; only the
+    /// contract needs it.
+    pub fn begin(self, _stub: Stub) -> (Task<'p>, OpenScopes<'p, J>)
+        requires { IsOwnStub J.word _stub }
         ensures { IsOwnTask J.job result.0 }
     {
         let First { task, open_scopes } = self;

@@ -1,15 +1,16 @@
 //! The reports of all workers, put together.
 
-ghost use Rattle.std.specs.Prelude.{◌≡◌, ◌+◌, ◌≤◌, ◌⊎◌, All, Err, IfErr, IfOk, IfSome, Some, vec_len};
+ghost use Rattle.std.specs.Prelude.{◌≡◌, ◌+◌, ◌≤◌, ◌⊎◌, All, Err, IfErr, IfOk, IfSome, None, Some, vec_len};
 ghost use Rattle.types.specs.Translation.{outcome as outcome_in};
 ghost use Rattle.task_run.specs.Jobs.{outcome_of};
 ghost use Rattle.tickets.specs.Seats.{AreAllOf, seats_of};
 ghost use Rattle.workers.specs.Causes.{IsReason};
-ghost use Rattle.workers.specs.WorkerStates.{TellTogether, Tells};
+ghost use Rattle.workers.specs.WorkerStates.{IsSilent, IsSilentIf, TellTogether, Tells};
 
 use crate::error::RunError;
 use crate::settings::Settings;
 use crate::worker::Report;
+use finish_scope::run_error::reported;
 use finish_scope::running::Running;
 use std::alloc::{AllocError, Global};
 use task_run::job::Job;
@@ -46,6 +47,7 @@ pub fn told<J: Running>(
     ensures drawn { IfOk result (λ r. AreAllOf tickets r.tasks) }
     ensures tasks { IfOk result (λ r. r.tasks.number ≤ settings.tasks) }
     ensures failed { IfErr result (IsReason J.job tickets settings.tasks) }
+    ensures silent { IfErr result (IsSilentIf (All IsSilent reports.items)) }
 {
     let together = put_together::<J>(job, settings, &tickets, reports)?;
     finish::<J>(job, settings, tickets, together)
@@ -62,6 +64,8 @@ fn put_together<J: Running>(
     ensures told { IfOk result (λ r. TellTogether J.job tickets.now job.entry settings.tasks
         r.outcome r.error r.seats.items) }
     ensures seats { IfOk result (λ r. vec_len r.seats ≡ vec_len reports) }
+    ensures silent { IfOk result
+        (λ r. r.outcome ≡ None → r.error ≡ None → All IsSilent reports.items) }
 {
     let mut together = Reports {
         outcome: None,
@@ -88,6 +92,8 @@ fn add<J: Running>(
     ensures told { IfOk result (λ r. TellTogether J.job _tickets.now _job.entry _settings.tasks
         r.outcome r.error r.seats.items) }
     ensures seats { IfOk result (λ r. vec_len r.seats ≡ vec_len reports.seats + 1) }
+    ensures silent { IfOk result (λ r. r.outcome ≡ None → r.error ≡ None
+        → IsSilent report × (reports.outcome ≡ None) × (reports.error ≡ None)) }
 {
     let Report {
         told,
@@ -146,18 +152,18 @@ fn finish<J: Running>(
     ensures tasks { IfOk result (λ r. r.tasks.number ≤ _settings.tasks) }
     ensures failed { IfErr result (IsReason J.job tickets _settings.tasks) }
     ensures kept { IfSome reports.error (λ e. result ≡ Err e) }
+    ensures silent { IfErr result
+        (IsSilentIf ((reports.outcome ≡ None) × (reports.error ≡ None))) }
 {
     let Reports {
         outcome,
         error,
         seats,
     } = reports;
+    let workers = seats.len();
     let tasks = tickets.close(seats);
-    match error {
-        Some(error) => Err(error),
-        None => match outcome {
-            Some(outcome) => Ok(Finished { outcome, tasks }),
-            None => Err(RunError::NoReport),
-        },
+    match reported(outcome, error, workers) {
+        Ok(outcome) => Ok(Finished { outcome, tasks }),
+        Err(error) => Err(error),
     }
 }

@@ -14,7 +14,7 @@ ghost use Rattle.workers.specs.Causes.{Happened, HasTicket, HasTicketFrom, IsOfL
 ghost use Rattle.workers.specs.Causes.{IsRunReason, job_of};
 ghost use Rattle.workers.specs.Logs.{IsLogOfRun, weighted};
 ghost use Rattle.workers.specs.Own.{HasCode};
-ghost use Rattle.workers.specs.Words.{IsFreshWord};
+ghost use Rattle.workers.specs.Words.{IsFreshWord, IsOwnWord};
 
 use crate::code::OwnCode;
 use crate::error::RunError;
@@ -133,6 +133,7 @@ fn run_as<'p, J: Running + Send + Sync, G: Gate + Sync, R: Threads + Wait + Sync
     requires job { IsJob job }
     requires code { HasCode J.job code }
     requires word { IsFreshWord terms.settings.workers terms.word }
+    requires own_word { IsOwnWord J.word terms.word.tickets }
     requires log { IfSome log (λ l. l.world.job ≡ weighted job terms.settings.w0) }
     ensures outcome { IfOk result (λ r. outcome_in r.0.outcome ≡ outcome_of job.entry) }
     ensures drawn { IfOk result (λ r. AreAllOf terms.word.tickets r.0.tasks) }
@@ -151,8 +152,8 @@ fn run_as<'p, J: Running + Send + Sync, G: Gate + Sync, R: Threads + Wait + Sync
                 Ok(log) => with_all_tasks(finished, log),
                 Err(error) => Err(error),
             },
-            Err(RunError::NoReport) => match close::<J>(log) {
-                Ok(_) => Err(RunError::NoReport),
+            Err(RunError::NoReport(silent)) => match close::<J>(log) {
+                Ok(_) => Err(RunError::NoReport(silent)),
                 Err(error) => Err(error),
             },
             Err(error) => Err(error),
@@ -193,6 +194,7 @@ fn run_by<'p, J: Running + Send + Sync, G: Gate + Sync, R: Threads + Wait + Sync
     requires of { J.job ≡ Some job }
     requires job { IsJob job }
     requires word { IsFreshWord terms.settings.workers terms.word }
+    requires own_word { IsOwnWord J.word terms.word.tickets }
     ensures outcome { IfOk result
         (λ r. IfOk r.0 (λ f. outcome_in f.outcome ≡ outcome_of job.entry)) }
     ensures drawn { IfOk result
@@ -211,6 +213,6 @@ fn run_by<'p, J: Running + Send + Sync, G: Gate + Sync, R: Threads + Wait + Sync
             Ok((told::<J>(job, settings, tickets, reports), log))
         }
         Err(CrewError::OutOfMemory) => Err(RunError::OutOfMemory),
-        Err(CrewError::NoThread) => Err(RunError::RefusedThread),
+        Err(CrewError::NoThread(cause)) => Err(RunError::RefusedThread(cause)),
     }
 }

@@ -4,7 +4,8 @@ use failures::failure::Failure;
 use failures::message::emit_message;
 use finish_scope::inner::Inner;
 use finish_scope::late::{Late, Reason};
-use finish_scope::run_error::RunError;
+use finish_scope::run_error::{RunError, reported};
+use finish_scope::scope_table::{FindError, ScopeTable};
 use std::alloc::Global;
 use std::marker::Brand;
 use std::process::Abort;
@@ -218,8 +219,28 @@ fn lines_of_inputs_and_races(rt: HostRuntime) {
 fn lines_of_runs(rt: HostRuntime) {
     let alloc = rt.alloc();
     tells(&rt, alloc, &Failure::Run(RunError::OutOfMemory), "E1");
-    tells(&rt, alloc, &Failure::Run(RunError::NoScope), "E4");
     tells(&rt, alloc, &Failure::Run(RunError::Unlogged), "E5");
+}
+
+#[test]
+fn line_of_an_empty_slot(rt: HostRuntime) {
+    let alloc = rt.alloc();
+    let table = ScopeTable::<u64>::new(alloc);
+    match table.find(0) {
+        Err(FindError::NoScope(cause)) => {
+            tells(&rt, alloc, &Failure::Run(RunError::NoScope(cause)), "E4");
+        }
+        _ => assert!(rt; false, "a scope in a new scope table"),
+    }
+}
+
+#[test]
+fn line_of_a_run_that_nobody_reports(rt: HostRuntime) {
+    let alloc = rt.alloc();
+    match reported::<u64>(None, None, 2) {
+        Ok(_) => assert!(rt; false, "an outcome that nobody reported"),
+        Err(error) => tells(&rt, alloc, &Failure::Run(error), "E4"),
+    }
 }
 
 #[test]

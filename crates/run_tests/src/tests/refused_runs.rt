@@ -90,7 +90,7 @@ fn by_choices(
 /// Reports that a run ended without memory or threads. It may have no other error.
 fn report_run(rt: &(impl Abort + Eprint), error: &RunError) {
     match error {
-        RunError::OutOfMemory | RunError::RefusedPush | RunError::RefusedThread => {
+        RunError::OutOfMemory | RunError::RefusedPush(_) | RunError::RefusedThread(_) => {
             report(rt, "run");
         }
         _ => panic!(rt; "{}", error.code()),
