@@ -4,7 +4,7 @@ use Rattle.std.proofs.lemmas.List.{nil_from_length}
 use Rattle.std.specs.Prelude.{Bool, true, false}
 
 pub empty_folder : (folder : List ℕ) (b : Bool) → b ≡ eqb (length folder) 0 → b ≡ true → folder ≡ []
-empty_folder folder b of is = nil_from_length folder (true-eqb (length folder) 0 (sym of ∙ is))
+empty_folder folder b of is = nil_from_length folder (true-eqb (length folder) 0 (sym is ∙ of))
 
 pub some_folder : (folder : List ℕ) (b : Bool) → b ≡ eqb (length folder) 0 → b ≡ false → folder ≢ []
 some_folder folder b of is same =
