@@ -499,7 +499,8 @@ def outputs(tests):
     little = (["run", "t.afx"], ["check", "t.afx"], ["view", "loop.afx", "loop.trace", "--summary"], ["explain", "Y5"],
               ["--help"], ["--version"], ["cost", "t.afx"], ["cost", "t.afx", "--by-line"], ["explain", "--list"],
               ["check", "t.afx", "--list"], ["mhp", "t.afx", "--format", "json"], ["list", "t.afx", "--lines"],
-              ["bench", "t.afx"], ["test", "tests_of_output"])
+              ["bench", "t.afx"], ["bench", "t.afx", "--format", "json"], ["test", "tests_of_output"],
+              ["test", "tests_of_output", "--write"])
     for words in much + little:
         closed_pipe(tests, words)
         with open("/dev/full", "wb") as full:

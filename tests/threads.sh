@@ -1,7 +1,7 @@
 #!/bin/sh
 # Counts the threads that commands start. No contract states on how many threads `bench` and `test` run a program: the
 # outcome is the same on any number. `bench` runs it five times each as `run` does with 1, 2 and 4 workers, and `test` once
-# each with 1 and 4. So they start as many threads as these runs do. Needs a C compiler: CC, `cc` or the
+# each with 1 and 4, with `--write` too. So they start as many threads as these runs do. Needs a C compiler: CC, `cc` or the
 # kit's. Prints each number that differs; the last line is `N passed, M failed`, and the status is 1 if one failed.
 #     sh tests/threads.sh      AFX='./afx' names another program, RT another rt
 set -eu
@@ -54,7 +54,10 @@ expect 'run, 4 workers, beside 1' $((four - one)) 3
 expect 'serial' "$(started serial "$file")" 0
 expect 'bench' "$(started bench "$file")" $((checked + 5 * (one + two + four)))
 expect 'bench, 2 workers' "$(started bench "$file" --workers 2)" $((checked + 5 * (one + two)))
+expect 'bench --format json' "$(started bench --format json "$file")" $((checked + 5 * (one + two + four)))
 expect 'test' "$(started test "$room/tests")" $((checked + one + four))
+expect 'test of one program' "$(started test "$file")" $((checked + one + four))
+expect 'test --write' "$(started test --write "$room/tests")" $((checked + one + four))
 
 echo "$passed passed, $failed failed"
 [ "$failed" -eq 0 ]

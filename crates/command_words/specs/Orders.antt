@@ -1,8 +1,10 @@
--- Orders of command lines: to answer for one program, as text or as one object; to time its runs; to test
--- the programs of a folder; or to answer for several programs, one after the other.
+-- Orders of command lines: to answer for one program, as text or as one object; to time its runs, told in the
+-- same two ways; to test a program or a folder, or several of both; or to answer for several programs, one after
+-- the other.
 use Rattle.std.specs.Prelude.{ℕ, ◌≡◌, Bool, true, false, List, [], ◌∷◌, Option, None, Some, IsTrue, codes, map}
 use Rattle.std.specs.String.{string_bytes}
-use Rattle.command_line.specs.Requests.{Asked, Asks, asked_of, usual_telling}
+use Rattle.types.specs.Translation.{budget as budget_of}
+use Rattle.command_line.specs.Requests.{Asked, Asks, Settings, asked_of, settings, spread, usual_telling}
 use Rattle.command_line.specs.declared.request.Action.{Action}
 use Rattle.command_line.specs.declared.request.Action.TheVariants.{Answer, Rewrite}
 use Rattle.command_line.specs.declared.request.Command.{Command}
@@ -12,6 +14,9 @@ use Rattle.command_words.specs.Files.{names_once as asks_once}
 use Rattle.command_words.specs.declared.order.Order.{Order as rOrder}
 use Rattle.command_words.specs.declared.order.Order.TheVariants.{AsText as rAsText, AsObject as rAsObject}
 use Rattle.command_words.specs.declared.order.Order.TheVariants.{Times as rTimes, Tests as rTests, Each as rEach}
+use Rattle.command_words.specs.declared.order.Order.TheVariants.{TimesAsObject as rTimesAsObject}
+use Rattle.command_words.specs.declared.order.Order.TheVariants.{TestsEach as rTestsEach}
+use Rattle.command_words.specs.declared.limits.Limits.{Limits}
 use Rattle.command_words.specs.declared.order.Subject.{Subject}
 use Rattle.command_words.specs.declared.order.Subject.TheVariants.{Run as RunTold, Serial as SerialTold}
 use Rattle.command_words.specs.declared.order.Subject.TheVariants.{Check as CheckTold, Cost as CostTold}
@@ -21,14 +26,18 @@ pub data Order : Type 0 where
   AsText : (a : Asked) → Order
   AsObject : (x : Subject) → (a : Asked) → Order
   Times : (a : Asked) → Order
+  TimesAsObject : (a : Asked) → Order
   Tests : (a : Asked) → Order
+  TestsEach : (writes : Bool) → (names : List (List ℕ)) → (s : Settings) → Order
   Each : (x : Action) → (files : List (List ℕ)) → (t : Telling) → Order
 
 abbrev pub order : rOrder → Order
 order (rAsText request) = AsText (asked_of request)
 order (rAsObject x request) = AsObject x (asked_of request)
 order (rTimes request) = Times (asked_of request)
+order (rTimesAsObject request) = TimesAsObject (asked_of request)
 order (rTests request) = Tests (asked_of request)
+order (rTestsEach tests) = TestsEach tests.writes (map string_bytes tests.names.now) (settings tests.settings)
 order (rEach several) = Each several.action (map string_bytes several.files.now) several.telling
 
 -- a command whose answer can be written as one object
@@ -72,6 +81,13 @@ pub record AsksToTime (words : List (List ℕ)) (a : Asked) : Type 0 where
   pub timed : IsTimed a
   pub words_are : words ≡ codes "bench" ∷ behind
 
+-- `bench --format json` is followed by what can follow `bench`
+pub record AsksToTimeAsObject (words : List (List ℕ)) (a : Asked) : Type 0 where
+  pub behind : List (List ℕ)
+  pub asks : Asks (codes "run" ∷ behind) a
+  pub timed : IsTimed a
+  pub words_are : words ≡ codes "bench" ∷ codes "--format" ∷ codes "json" ∷ behind
+
 -- a parallel run on no input that isn't recorded, whose arrays aren't shown and that is reported by default
 pub record IsTested (a : Asked) : Type 0 where
   pub timed : IsTimed a
@@ -79,20 +95,26 @@ pub record IsTested (a : Asked) : Type 0 where
   pub told : a.telling ≡ usual_telling
 
 -- `test` is followed by what can follow `run` without an input, a trace, arrays and reporting options: the file is
--- a folder
+-- a program, or a folder of programs
 pub record AsksToTest (words : List (List ℕ)) (a : Asked) : Type 0 where
   pub behind : List (List ℕ)
   pub asks : Asks (codes "run" ∷ behind) a
   pub tested : IsTested a
   pub words_are : words ≡ codes "test" ∷ behind
 
+-- the limits of a request
+abbrev pub AreLimitsOf : Limits → Asked → Type 0
+AreLimitsOf l a = (budget_of l.budget ≡ a.settings.budget) × (spread l.spread ≡ a.settings.spread)
+
 -- the arguments order this
 abbrev pub Orders : (words : List (List ℕ)) → Order → Type 0
 Orders words (AsText a) = Asks words a
 Orders words (AsObject x a) = AsksForObject words x a
 Orders words (Times a) = AsksToTime words a
+Orders words (TimesAsObject a) = AsksToTimeAsObject words a
 Orders words (Tests a) = AsksToTest words a
--- which arguments order this isn't specified
+-- which arguments order these isn't specified
+Orders words (TestsEach writes names s) = ⊥
 Orders words (Each x files t) = ⊥
 
 -- it gives no two files the same name
@@ -100,5 +122,7 @@ abbrev pub names_once : Order → Bool
 names_once (AsText a) = asks_once a
 names_once (AsObject x a) = asks_once a
 names_once (Times a) = asks_once a
+names_once (TimesAsObject a) = asks_once a
 names_once (Tests a) = asks_once a
+names_once (TestsEach writes names s) = true
 names_once (Each x files t) = true

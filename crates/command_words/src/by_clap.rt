@@ -1,6 +1,6 @@
 //! Arguments of a command line that `clap` parses.
 
-use crate::order::{Order, Subject};
+use crate::order::{Order, SeveralTests, Subject};
 use clap::error::ErrorKind;
 use clap::{ArgMatches, Error};
 use command_line::request::{
@@ -17,8 +17,37 @@ pub fn order_by_clap<'w>(alloc: Global, words: &'w [String]) -> Result<Order<'w>
     let asked = matches.subcommand();
     match replied(alloc, asked)? {
         Some(reply) => Err(reply),
-        None => Ok(ordered(alloc, asked)?),
+        None => Ok(written_so(words, asked, ordered(alloc, asked)?)),
     }
+}
+
+/// Returns an order, with `test --write` that of writing.
+fn written_so<'w>(
+    words: &'w [String],
+    asked: Option<(&str, &ArgMatches<'w>)>,
+    order: Order<'w>,
+) -> Order<'w> {
+    let Order::Tests(request) = order else {
+        return order;
+    };
+    match asked {
+        Some((_, given)) if given.get_flag("write") => Order::TestsEach(SeveralTests {
+            names: name_among(words, request.file),
+            settings: request.settings,
+            writes: true,
+        }),
+        _ => order,
+    }
+}
+
+/// Returns the argument that is a name, as a list of one.
+fn name_among<'w>(words: &'w [String], name: &str) -> &'w [String] {
+    for index in 0..words.len() {
+        if words[index].as_str() == name {
+            return &words[index..index + 1];
+        }
+    }
+    &[]
 }
 
 /// Returns the reply to a command without an order, if this is one.
@@ -46,9 +75,17 @@ fn described(alloc: Global, given: Option<&ArgMatches<'_>>) -> Result<Reply, All
 /// Returns the order of another command.
 fn ordered<'w>(alloc: Global, asked: Option<(&str, &ArgMatches<'w>)>) -> Result<Order<'w>, Error> {
     match asked {
-        Some(("bench", given)) => Ok(Order::Times(request(alloc, Command::Run, given)?)),
+        Some(("bench", given)) => Ok(timing(given, request(alloc, Command::Run, given)?)),
         Some(("test", given)) => Ok(Order::Tests(request(alloc, Command::Run, given)?)),
         asked => Ok(told(asked, request_asked(alloc, asked)?)),
+    }
+}
+
+/// Returns the order to time the runs of a request, in the requested format.
+fn timing<'w>(given: &ArgMatches<'w>, request: Request<'w>) -> Order<'w> {
+    match given.get_str("format") {
+        Some("json") => Order::TimesAsObject(request),
+        _ => Order::Times(request),
     }
 }
 
@@ -185,12 +222,9 @@ fn asking<'w>(alloc: Global, action: Action, given: &ArgMatches<'w>) -> Result<R
     })
 }
 
-/// Returns the file of a program, or the folder of several.
+/// Returns the file of a program, or the name of what is tested.
 fn file<'w>(given: &ArgMatches<'w>) -> &'w str {
-    match given.get_str("FILE") {
-        Some(file) => file,
-        None => given.get_str("FOLDER").unwrap_or("-"),
-    }
+    given.get_str("FILE").unwrap_or("-")
 }
 
 /// Returns the reporting options. `clap` has checked that their values are possible ones. A list of

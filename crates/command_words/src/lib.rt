@@ -4,6 +4,7 @@
 
 pub mod by_clap;
 mod files;
+pub mod limits;
 pub mod manners;
 pub mod order;
 pub mod plain;

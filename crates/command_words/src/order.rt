@@ -5,7 +5,7 @@ ghost use Rattle.command_words.specs.Orders.{names_once as names_once_in, order 
 ghost use Rattle.command_words.specs.Orders.{command_of, subject_of};
 
 use crate::files::names_once;
-use command_line::request::{Action, Command, Request, Telling};
+use command_line::request::{Action, Command, Request, RunOptions, Telling};
 
 /// The order that the arguments of a command line give.
 #[derive(Clone, Copy, PartialEq, Eq, Debug)]
@@ -16,8 +16,12 @@ pub enum Order<'w> {
     AsObject(Subject, Request<'w>),
     /// `bench`: a program whose runs are timed.
     Times(Request<'w>),
-    /// `test`: a folder whose programs are run; their results are compared with the expected ones.
+    /// `bench --format json`: the durations are written as one object.
+    TimesAsObject(Request<'w>),
+    /// `test`: a program, or a folder of programs, whose results are compared with the expected ones.
     Tests(Request<'w>),
+    /// `test` of several programs and folders, or `test --write`.
+    TestsEach(SeveralTests<'w>),
     /// `check` or `fmt` of several files, one after the other.
     Each(Several<'w>),
 }
@@ -30,6 +34,15 @@ pub struct Several<'w> {
     pub telling: Telling,
 }
 
+/// Programs and folders of programs that are tested under the same settings.
+#[derive(Clone, Copy, PartialEq, Eq, Debug)]
+pub struct SeveralTests<'w> {
+    pub names: &'w [String],
+    pub settings: RunOptions<'w>,
+    /// `--write`: the output of each program is written into its `.out` file.
+    pub writes: bool,
+}
+
 impl Order<'_> {
     /// Returns whether it gives no two files the same name.
     pub fn names_once(&self) -> bool
@@ -39,8 +52,9 @@ impl Order<'_> {
             Order::AsText(request)
             | Order::AsObject(_, request)
             | Order::Times(request)
+            | Order::TimesAsObject(request)
             | Order::Tests(request) => names_once(request),
-            Order::Each(_) => true,
+            Order::TestsEach(_) | Order::Each(_) => true,
         }
     }
 }

@@ -43,7 +43,7 @@ pub struct Texts<'w> {
 
 impl<'w> Texts<'w> {
     /// Returns the values for no options.
-    fn none() -> Texts<'w>
+    pub fn none() -> Texts<'w>
         ensures { texts_of result ≡ no_texts }
     {
         Texts {

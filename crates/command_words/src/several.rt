@@ -1,21 +1,53 @@
-//! Several files after `check` or `fmt`.
+//! Several files after `check`, `fmt` or `test`.
 
 use crate::manners::manner_in;
-use crate::order::Several;
-use crate::plain::is_file_name;
-use crate::taking::take_flag;
+use crate::order::{Order, Several, SeveralTests};
+use crate::plain::{Texts, is_file_name};
+use crate::settings::settings_in;
+use crate::taking::{take, take_flag};
 use command_line::request::{Action, Command};
 
-/// Returns the action for several files, which come after the reporting options and an option of
-/// `fmt`. The standard input isn't one of several files.
-pub fn several_in<'w>(words: &'w [String]) -> Option<Several<'w>> {
+/// Returns the order for several files, which come after the options of a command.
+pub fn each_in<'w>(words: &'w [String]) -> Option<Order<'w>> {
     match words {
         [] => None,
-        [command, behind @ ..] => several_behind(command.as_str(), behind),
+        [command, behind @ ..] => if command.as_str() == "test" {
+            Some(Order::TestsEach(tests_behind(behind)?))
+        } else {
+            Some(Order::Each(several_behind(command.as_str(), behind)?))
+        },
     }
 }
 
-/// Returns the action for the files after a command.
+/// Returns the programs and folders that are tested: with `--write` one or more, else several.
+fn tests_behind<'w>(behind: &'w [String]) -> Option<SeveralTests<'w>> {
+    let (writes, words) = take_flag("--write", behind);
+    let (steps, words) = take("--steps", words);
+    let (nest, words) = take("--nest", words);
+    let (tasks, words) = take("--tasks", words);
+    let (w0, words) = take("--w0", words);
+    let (workers, names) = take("--workers", words);
+    let texts = Texts {
+        steps,
+        nest,
+        tasks,
+        w0,
+        workers,
+        ..Texts::none()
+    };
+    let fewest = if writes { 1 } else { 2 };
+    if names.len() < fewest || !are_files(names) {
+        return None;
+    }
+    Some(SeveralTests {
+        names,
+        settings: settings_in(texts)?,
+        writes,
+    })
+}
+
+/// Returns the action for several files, which come after the reporting options and an option of
+/// `fmt`. The standard input isn't one of several files.
 fn several_behind<'w>(command: &str, behind: &'w [String]) -> Option<Several<'w>> {
     let (manner, behind) = manner_in(behind)?;
     let (action, files) = action_in(command, behind)?;

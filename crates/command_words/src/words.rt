@@ -3,8 +3,9 @@
 ghost use Rattle.std.specs.Prelude.{ℕ, ◌≡◌, ◌∷◌, [], List, map, Some, true, false, codes};
 ghost use Rattle.std.specs.Prelude.{IfOk, IsErrAnd, IsOkAnd, IsSomeAnd};
 ghost use Rattle.std.specs.String.{string_bytes};
-ghost use Rattle.command_words.specs.Orders.{AsText, AsObject, Times, Tests, Order as OrderIn, Orders};
-ghost use Rattle.command_words.specs.Orders.{AsksForObject, IsTested, IsTimed, names_once, order as order_said, subject_of};
+ghost use Rattle.command_words.specs.Orders.{AsText, AsObject, Times, TimesAsObject, Tests, Order as OrderIn, Orders};
+ghost use Rattle.command_words.specs.Orders.{AsksForObject, AsksToTimeAsObject, IsTested, IsTimed};
+ghost use Rattle.command_words.specs.Orders.{names_once, order as order_said, subject_of};
 ghost use Rattle.command_words.specs.declared.order.Subject.{Subject as SubjectOf};
 ghost use Rattle.command_words.specs.Reading.{line_of};
 ghost use Rattle.command_line.specs.Requests.{AreRight, Asked, Asks, Options, asked_of};
@@ -15,7 +16,7 @@ use crate::by_clap::order_by_clap;
 use crate::order::{Order, Subject};
 use crate::plain::{PlainLine, line_in, line_of_none};
 use crate::settings::settings_in;
-use crate::several::several_in;
+use crate::several::each_in;
 use crate::taking::take;
 use command_line::request::{Color, Explain, Request, Telling};
 use options::reply::{self, Reply};
@@ -34,8 +35,8 @@ pub fn order_of<'w>(alloc: Global, words: &'w [String]) -> Result<Order<'w>, Rep
 {
     let order = match order_in(words) {
         Some(order) => order,
-        None => match several_in(words) {
-            Some(several) => Order::Each(several),
+        None => match each_in(words) {
+            Some(order) => order,
             None => order_by_clap(alloc, words)?,
         },
     };
@@ -65,7 +66,7 @@ fn order_behind<'w>(command: &str, behind: &'w [String]) -> Option<Order<'w>>
     if command == "test" {
         tests_in(behind)
     } else if command == "bench" {
-        times_in(behind)
+        bench_in(behind)
     } else {
         told_in(command, behind)
     }
@@ -103,10 +104,48 @@ fn object_in<'w>(command: &str, behind: &'w [String]) -> Option<Order<'w>>
 }
 
 /// Returns the order of the arguments after `bench`: what can follow `run`, except a trace and
-/// arrays.
+/// arrays, and `--format json` in front of it.
+fn bench_in<'w>(behind: &'w [String]) -> Option<Order<'w>>
+    ensures text { (a : Asked) → Asks (codes "run" ∷ map string_bytes behind.now) a
+        → IsTimed a → IsSomeAnd result (λ r. order_said r ≡ Times a) }
+    ensures object { (a : Asked) → AsksToTimeAsObject (codes "bench" ∷ map string_bytes behind.now) a
+        → IsSomeAnd result (λ r. order_said r ≡ TimesAsObject a) }
+{
+    let (form, rest) = take("--format", behind);
+    match form {
+        None => times_in(behind),
+        Some(form) => {
+            if form == "json" {
+                times_as_object_in(rest)
+            } else {
+                None
+            }
+        }
+    }
+}
+
+/// Returns the order of the arguments after `bench`, without a format.
 fn times_in<'w>(behind: &'w [String]) -> Option<Order<'w>>
     ensures { (a : Asked) → Asks (codes "run" ∷ map string_bytes behind.now) a
         → IsTimed a → IsSomeAnd result (λ r. order_said r ≡ Times a) }
+{
+    let request = timed_in(behind)?;
+    Some(Order::Times(request))
+}
+
+/// Returns the order of the arguments after `bench --format json`.
+fn times_as_object_in<'w>(behind: &'w [String]) -> Option<Order<'w>>
+    ensures { (a : Asked) → Asks (codes "run" ∷ map string_bytes behind.now) a
+        → IsTimed a → IsSomeAnd result (λ r. order_said r ≡ TimesAsObject a) }
+{
+    let request = timed_in(behind)?;
+    Some(Order::TimesAsObject(request))
+}
+
+/// Returns the request of the arguments after `run`, if it can be timed.
+fn timed_in<'w>(behind: &'w [String]) -> Option<Request<'w>>
+    ensures { (a : Asked) → Asks (codes "run" ∷ map string_bytes behind.now) a
+        → IsTimed a → IsSomeAnd result (λ r. asked_of r ≡ a) }
 {
     let request = asked_in("run", behind)?;
     match Subject::of(request.action)? {
@@ -115,10 +154,10 @@ fn times_in<'w>(behind: &'w [String]) -> Option<Order<'w>>
     }
 }
 
-/// Returns the order to time the runs of a request, if it has no trace and shows no arrays.
-fn timed<'w>(request: Request<'w>) -> Option<Order<'w>>
+/// Returns a request, if it has no trace and shows no arrays.
+fn timed<'w>(request: Request<'w>) -> Option<Request<'w>>
     ensures { IsTimed (asked_of request.entry)
-        → IsSomeAnd result (λ r. order_said r ≡ Times (asked_of request.entry)) }
+        → IsSomeAnd result (λ r. asked_of r ≡ asked_of request.entry) }
 {
     match request.settings.trace {
         Some(_) => None,
@@ -126,7 +165,7 @@ fn timed<'w>(request: Request<'w>) -> Option<Order<'w>>
             if request.settings.arrays {
                 None
             } else {
-                Some(Order::Times(request))
+                Some(request)
             }
         }
     }
@@ -138,35 +177,37 @@ fn tests_in<'w>(behind: &'w [String]) -> Option<Order<'w>>
     ensures { (a : Asked) → Asks (codes "run" ∷ map string_bytes behind.now) a
         → IsTested a → IsSomeAnd result (λ r. order_said r ≡ Tests a) }
 {
-    let request = asked_in("run", behind)?;
-    match Subject::of(request.action)? {
-        Subject::Run => tested(request),
-        _ => None,
-    }
+    let request = tested_in(behind)?;
+    Some(Order::Tests(request))
 }
 
-/// Returns the order to test programs as requested, if there is no input and no trace, the arrays
-/// aren't shown, and it is reported by default.
-fn tested<'w>(request: Request<'w>) -> Option<Order<'w>>
+/// Returns the request of the arguments after `run`, if it can be one of `test`.
+pub fn tested_in<'w>(behind: &'w [String]) -> Option<Request<'w>>
+    ensures { (a : Asked) → Asks (codes "run" ∷ map string_bytes behind.now) a
+        → IsTested a → IsSomeAnd result (λ r. asked_of r ≡ a) }
+{
+    let request = timed_in(behind)?;
+    tested(request)
+}
+
+/// Returns a request, if it has no input and is reported by default.
+fn tested<'w>(request: Request<'w>) -> Option<Request<'w>>
     ensures { IsTested (asked_of request.entry)
-        → IsSomeAnd result (λ r. order_said r ≡ Tests (asked_of request.entry)) }
+        → IsSomeAnd result (λ r. asked_of r ≡ asked_of request.entry) }
 {
     match request.settings.input {
         Some(_) => None,
-        None => match timed(request) {
-            Some(_) => reported_usually(request),
-            None => None,
-        },
+        None => reported_usually(request),
     }
 }
 
-/// Returns the order to test programs as requested, if it is reported by default.
-fn reported_usually<'w>(request: Request<'w>) -> Option<Order<'w>>
+/// Returns a request, if it is reported by default.
+fn reported_usually<'w>(request: Request<'w>) -> Option<Request<'w>>
     ensures { request.entry.telling ≡ usual_telling
-        → IsSomeAnd result (λ r. order_said r ≡ Tests (asked_of request.entry)) }
+        → IsSomeAnd result (λ r. asked_of r ≡ asked_of request.entry) }
 {
     if is_usual(request.telling) {
-        Some(Order::Tests(request))
+        Some(request)
     } else {
         None
     }

@@ -2,8 +2,6 @@
 use Rattle.std.proofs.Common.{◌≡◌, ℕ, List, Option, Some, None, Result, Ok, Err, IfOk, IfErr, sym, subst}
 use Rattle.std.specs.Prelude.{IsErrAnd}
 use Rattle.std.specs.String.{string_bytes}
-use Rattle.types.specs.Code.{Array}
-use Rattle.types.specs.Outcome.{Outcome}
 use Rattle.command_line.specs.Requests.{Settings}
 use Rattle.command_line.specs.declared.request.Command.TheVariants.{Run}
 use Rattle.files.specs.Held.{Held}
@@ -11,12 +9,13 @@ use Rattle.failures.specs.declared.failure.Failure.{Failure}
 use Rattle.failures.specs.declared.failure.Failure.TheVariants.{NoMemory}
 use Rattle.commands.specs.Answers.{Explains, IsExplored}
 use Rattle.commands.proofs.Answering.{other_failure}
-use Rattle.json_answers.specs.Objects.{FailsEarly, ObjectOf, TellsOutcome}
+use Rattle.json_answers.specs.Objects.{FailsEarly, ObjectOf}
 use Rattle.json_answers.specs.Failing.{IsToldAsObject, TellsFailure}
 use Rattle.json_answers.specs.declared.object_line.ObjectLine.{ObjectLine}
 use Rattle.json_answers.proofs.Written.{object_refused}
 use Rattle.command_words.specs.Orders.{command_of}
 use Rattle.command_words.specs.declared.order.Subject.{Subject}
+pub use Rattle.test_and_bench.proofs.Objects.{same_outcome}
 use Rattle.viewing.specs.Files.{Wrote, WritesTo}
 use Rattle.driver.specs.Acts.{Leaves}
 use Rattle.driver.specs.Objects.{TellsObject, status_in}
@@ -44,13 +43,6 @@ object_so x y same s held text r object =
 pub status_err : (r : Result ObjectLine Failure) (Q : Failure → Type 0) → IsErrAnd r Q → IsErrAnd (status_in r) Q
 status_err (Ok t) Q is = is
 status_err (Err f) Q is = is
-
--- the object of the same outcome
-pub same_outcome : (declared known : List Array) (o p : Outcome) (text object : List ℕ) (status : ℕ) → declared ≡ known → o ≡ p
-    → TellsOutcome declared o text object status → TellsOutcome known p text object status
-same_outcome declared known o p text object status are same tells =
-    subst (λ (d : List Array). TellsOutcome d p text object status) are
-    (subst (λ (q : Outcome). TellsOutcome declared q text object status) same tells)
 
 -- a run without an outcome
 pub no_run_early : (s : Settings) (held : Held) (text : List ℕ) → IsExplored s held text → (f : Failure) → TellsNoRun s f

@@ -1,13 +1,13 @@
 -- From a program that is read to what was ordered.
 use Rattle.std.proofs.Common.{◌≡◌, ℕ, ◌≤◌, length, List, Option, Result, Err, sym, subst, Bool, false}
-use Rattle.command_line.specs.Requests.{Asked, is_explained}
+use Rattle.command_line.specs.Requests.{Asked, Settings, is_explained}
 use Rattle.files.specs.Held.{Held, HasText, TellsNoProgram}
 use Rattle.failures.specs.declared.failure.Failure.{Failure}
 use Rattle.command_words.specs.Orders.{Order}
 use Rattle.test_and_bench.specs.Folders.{Folders}
 use Rattle.driver.specs.Acts.{Reports}
-use Rattle.driver.specs.Orders.{ActsOn, ActsWith, DoesWith, ReadsAnd, TellsUnread, TestsAs, on_text, without_text}
-use Rattle.driver.specs.Trying.{TestsFolder}
+use Rattle.driver.specs.Orders.{ActsOn, ActsWith, DoesWith, ReadsAnd, TellsUnread, TestsAll, on_text, without_text}
+use Rattle.test_and_bench.specs.Trials.{DoesTest}
 use Rattle.driver.specs.declared.doing.TextOrder.{TextOrder}
 
 -- equal orders do the same
@@ -48,9 +48,10 @@ module _ (held later : Held) (old new err_old err_new : Option (List ℕ)) (stat
   }
 
 module _ (named : Folders) (held later : Held) (old new err_old err_new : Option (List ℕ)) (status : ℕ) where
-  pub tested_as : (a : Asked) (r : Result ℕ Failure) → TestsFolder named held later a old new r
-      → Reports false err_old err_new r status → TestsAs a named held later old new err_old err_new status
-  tested_as a r does reports = record { result = r; does = does; reports = reports }
+  pub tested_as : (names : List (List ℕ)) (writes : Bool) (s : Settings) (r : Result ℕ Failure)
+      → DoesTest named held names writes s later old new r → Reports false err_old err_new r status
+      → TestsAll names writes s named held later old new err_old err_new status
+  tested_as names writes s r does reports = record { result = r; does = does; reports = reports }
 
   -- one order is another
   pub ordered : (at_terminal : Bool) (o p : Order) → o ≡ p

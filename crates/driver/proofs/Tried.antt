@@ -1,15 +1,18 @@
--- From a program that is timed, or a folder that is tested, to what was done.
-use Rattle.std.proofs.Common.{◌≡◌, ℕ, List, Option, Result, Err, subst, sym}
-use Rattle.commands.specs.Answers.{Done, Explains}
-use Rattle.command_line.specs.Requests.{Asked, Settings}
+-- From programs that are timed, or tested, to what was done.
+use Rattle.std.proofs.Common.{◌≡◌, ℕ, List, Option, Result, Ok, Err, refl, subst, sym}
+use Rattle.std.specs.Prelude.{Bool, true, false}
+use Rattle.commands.specs.Answers.{Explains}
+use Rattle.commands.proofs.Answering.{other_failure, refused}
+use Rattle.command_line.specs.Requests.{Settings}
 use Rattle.command_line.specs.declared.request.Command.TheVariants.{Run}
 use Rattle.files.specs.Held.{Held}
 use Rattle.failures.specs.declared.failure.Failure.{Failure}
 use Rattle.test_and_bench.specs.Folders.{Folders}
 use Rattle.test_and_bench.specs.Times.{AnswersTimes}
-use Rattle.test_and_bench.specs.Trials.{AnswersTest, ExplainsTest}
+use Rattle.failures.specs.declared.failure.Failure.TheVariants.{NoMemory}
+use Rattle.test_and_bench.specs.Trials.{AnswersTest, DoesTest, ExplainsTest, LeavesTested}
 use Rattle.driver.specs.Acts.{IsHandedOn}
-use Rattle.driver.specs.Trying.{TestsFolder, TimesRuns}
+use Rattle.driver.specs.Trying.{TimesRuns}
 use Rattle.driver.proofs.Acting.{done_on}
 
 -- the report on times is flushed
@@ -20,17 +23,44 @@ times_on s text held later old mid new done r times on = record {
   keeps = times.keeps;
 }
 
--- and the report on a folder
-pub tests_on : (named : Folders) (held later : Held) (a : Asked) (old mid new : Option (List ℕ))
-    (done r : Result ℕ Failure) → Done (AnswersTest named held a.file a.settings) (ExplainsTest named a.file) old mid done → later ≡ held
-    → IsHandedOn done mid new r → TestsFolder named held later a old new r
-tests_on named held later a old mid new done r tests same on = record {
-  done = done_on (AnswersTest named held a.file a.settings) (ExplainsTest named a.file) tt old mid new done r tests on;
-  keeps = same;
-}
+-- the report on tests is flushed, too
+module _ (named : Folders) (held later : Held) (names : List (List ℕ)) (writes : Bool) (s : Settings) (old : Option (List ℕ)) where
+  left_on : (b : Bool) (mid new : Option (List ℕ)) (done r : Result ℕ Failure) → LeavesTested b held later done
+      → IsHandedOn done mid new r → LeavesTested b held later r
+  left_on false mid new done r leaves on = leaves
+  left_on true mid new (Ok status) (Ok n) leaves on = tt
+  left_on true mid new (Ok status) (Err f) leaves on =
+      subst (λ (g : Failure). LeavesTested true held later (Err g)) (sym on.1.1) tt
+  left_on true mid new (Err f) r leaves on = subst (LeavesTested true held later) (sym on.1) leaves
 
--- a failure that is reported as another one is equal to it
-pub failed_so : (named : Folders) (held later : Held) (a : Asked) (old new : Option (List ℕ)) (e f : Failure) → e ≡ f
-    → TestsFolder named held later a old new (Err f) → TestsFolder named held later a old new (Err e)
-failed_so named held later a old new e f same tests =
-    subst (λ (x : Failure). TestsFolder named held later a old new (Err x)) (sym same) tests
+  pub tests_on : (mid new : Option (List ℕ)) (done r : Result ℕ Failure)
+      → DoesTest named held names writes s later old mid done → IsHandedOn done mid new r
+      → DoesTest named held names writes s later old new r
+  tests_on mid new done r tests on = record {
+    done = done_on (AnswersTest named held names writes s later) (ExplainsTest named names) tt old mid new done r tests.done on;
+    leaves = left_on writes mid new done r tests.leaves on;
+  }
+
+  -- a failure that is reported as another one is equal to it
+  pub failed_so : (new : Option (List ℕ)) (e f : Failure) → e ≡ f → DoesTest named held names writes s later old new (Err f)
+      → DoesTest named held names writes s later old new (Err e)
+  failed_so new e f same tests =
+      subst (λ (x : Failure). DoesTest named held names writes s later old new (Err x)) (sym same) tests
+
+-- tests of equal names
+pub named_so : (named : Folders) (held later : Held) (names others : List (List ℕ)) (s : Settings) (old new : Option (List ℕ))
+    (r : Result ℕ Failure) → names ≡ others → DoesTest named held names false s later old new r
+    → DoesTest named held others false s later old new r
+named_so named held later names others s old new r same tests =
+    subst (λ (ns : List (List ℕ)). DoesTest named held ns false s later old new r) same tests
+
+-- without memory nothing is tested
+pub untested : (named : Folders) (held : Held) (names : List (List ℕ)) (s : Settings) (old : Option (List ℕ)) (e : Failure)
+    → e ≡ NoMemory → DoesTest named held names false s held old old (Err e)
+untested named held names s old e is =
+    subst (λ (f : Failure). DoesTest named held names false s held old old (Err f)) (sym is)
+    (record {
+      done = refused (AnswersTest named held names false s held) (ExplainsTest named names) old NoMemory tt
+          (other_failure NoMemory tt);
+      leaves = refl;
+    })

@@ -2,7 +2,7 @@
 use Rattle.std.specs.Prelude.{ℕ, ◌≤◌, Bool, false, List, [], ◌∷◌, ◌++◌, codes, length, Option, Result, Ok, Err}
 use Rattle.std.specs.Prelude.{IsErrAnd, ◌≡◌, nat_lt, if◌then◌else◌}
 use Rattle.std.specs.Io.KnownBytes.{Keeps}
-use Rattle.command_line.specs.Requests.{Asked, asked_of, is_explained, usual}
+use Rattle.command_line.specs.Requests.{Asked, Settings, asked_of, is_explained, usual}
 use Rattle.command_line.specs.declared.request.Action.{Action}
 use Rattle.command_line.specs.declared.request.Telling.{Telling}
 use Rattle.files.specs.Held.{Held, HasText, TellsNoProgram}
@@ -10,24 +10,26 @@ use Rattle.failures.specs.declared.failure.Failure.{Failure}
 use Rattle.printing.specs.Appending.{AppendsBeginning}
 use Rattle.printing.specs.Reasons.{escaped}
 use Rattle.json_answers.specs.Failing.{IsToldAsObject, TellsFailure}
-use Rattle.command_words.specs.Orders.{Order, AsText, AsObject, Times, Tests, Each}
+use Rattle.command_words.specs.Orders.{Order, AsText, AsObject, Times, TimesAsObject, Tests, TestsEach, Each}
 use Rattle.command_words.specs.declared.order.Subject.{Subject}
 use Rattle.driver.specs.Acts.{Performs, Reports}
 use Rattle.driver.specs.Objects.{TellsObject}
-use Rattle.driver.specs.Trying.{TestsFolder, TimesRuns}
+use Rattle.driver.specs.Trying.{TellsTimes, TimesRuns}
 use Rattle.driver.specs.declared.doing.TextOrder.{TextOrder}
-use Rattle.driver.specs.declared.doing.TextOrder.TheVariants.{Answering, Describing, Timing}
+use Rattle.driver.specs.declared.doing.TextOrder.TheVariants.{Answering, Describing, Timing, TimingAsObject}
 use Rattle.driver.specs.declared.loaded.Loaded.{Loaded}
 use Rattle.test_and_bench.specs.Folders.{Folders}
+use Rattle.test_and_bench.specs.Trials.{DoesTest}
 
 -- this was done with the text of a program: the command was answered, or it was answered as one object, or
--- its runs were timed
+-- its runs were timed, with a text or one object
 abbrev pub DoesWith : TextOrder → Asked → (text : List ℕ) → (held later : Held) → (old new : Option (List ℕ))
     → Result ℕ Failure → Type 0
 DoesWith Answering a text held later old new r = Performs a.action a.file a.settings text held later old new r
 DoesWith (Describing x) a text held later old new r =
     TellsObject x a.file a.settings text held later old new r
 DoesWith Timing a text held later old new r = TimesRuns a.settings text held later old new r
+DoesWith TimingAsObject a text held later old new r = TellsTimes a.file a.settings text held later old new r
 
 -- the order for a request and the text of its file
 abbrev pub DoesWithLoaded : TextOrder → Loaded → (held later : Held) → (old new : Option (List ℕ))
@@ -40,6 +42,7 @@ abbrev pub TellsUnread : TextOrder → (file : List ℕ) → (old new : Option (
 TellsUnread (Describing x) file old new f = IsToldAsObject (TellsFailure file [] f) old new
 TellsUnread Answering file old new f = Keeps old new
 TellsUnread Timing file old new f = Keeps old new
+TellsUnread TimingAsObject file old new f = IsToldAsObject (TellsFailure file [] f) old new
 
 -- the failure states why a file has no text of a program, and is reported in this way
 pub record HasNone (d : TextOrder) (held : Held) (file : List ℕ) (old new : Option (List ℕ))
@@ -86,11 +89,23 @@ abbrev pub TimesAs : (at_terminal : Bool) → (a : Asked) → (held later : Held
 TimesAs at_terminal a held later old new err_old err_new status =
     ActsWith at_terminal Timing a held later old new err_old err_new status
 
--- the programs of a folder were tested, and that was reported
+-- the runs of a program were timed, the durations were written as one object, and that was reported
+abbrev pub TellsTimesAs : (at_terminal : Bool) → (a : Asked) → (held later : Held) → (old new : Option (List ℕ))
+    → (err_old err_new : Option (List ℕ)) → (status : ℕ) → Type 0
+TellsTimesAs at_terminal a held later old new err_old err_new status =
+    ActsWith at_terminal TimingAsObject a held later old new err_old err_new status
+
+-- the programs of these names were tested under these settings, and that was reported
+abbrev pub TestsAll : (names : List (List ℕ)) → (writes : Bool) → Settings → Folders → (held later : Held)
+    → (old new : Option (List ℕ)) → (err_old err_new : Option (List ℕ)) → (status : ℕ) → Type 0
+TestsAll names writes s named held later old new err_old err_new status =
+    ActsBy (DoesTest named held names writes s later old new) false err_old err_new status
+
+-- the program with the name of the request, or those of the folder with this name
 abbrev pub TestsAs : (a : Asked) → Folders → (held later : Held) → (old new : Option (List ℕ))
     → (err_old err_new : Option (List ℕ)) → (status : ℕ) → Type 0
 TestsAs a named held later old new err_old err_new status =
-    ActsBy (TestsFolder named held later a old new) false err_old err_new status
+    TestsAll (a.file ∷ []) false a.settings named held later old new err_old err_new status
 
 -- ---- several files, one after the other
 
@@ -134,7 +149,11 @@ ActsOn at_terminal (AsObject x a) named held later old new err_old err_new statu
     TellsAs at_terminal x a held later old new err_old err_new status
 ActsOn at_terminal (Times a) named held later old new err_old err_new status =
     TimesAs at_terminal a held later old new err_old err_new status
+ActsOn at_terminal (TimesAsObject a) named held later old new err_old err_new status =
+    TellsTimesAs at_terminal a held later old new err_old err_new status
 ActsOn at_terminal (Tests a) named held later old new err_old err_new status =
     TestsAs a named held later old new err_old err_new status
+ActsOn at_terminal (TestsEach writes names s) named held later old new err_old err_new status =
+    TestsAll names writes s named held later old new err_old err_new status
 ActsOn at_terminal (Each x files t) named held later old new err_old err_new status =
     ActsOnEach (is_explained t.explain at_terminal) x t held old err_old files later new err_new status

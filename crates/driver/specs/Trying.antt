@@ -1,13 +1,13 @@
--- Programs run in several ways: timed, and tested.
-use Rattle.std.specs.Prelude.{ℕ, ◌≡◌, List, Option, Result}
-use Rattle.commands.specs.Answers.{Done, Explains}
-use Rattle.command_line.specs.Requests.{Asked, Settings}
+-- Programs whose runs are timed.
+use Rattle.std.specs.Prelude.{ℕ, ◌≡◌, List, MatchResult, Option, Result}
+use Rattle.commands.specs.Answers.{Done, Explains, Wrote}
+use Rattle.command_line.specs.Requests.{Settings}
 use Rattle.command_line.specs.declared.request.Command.TheVariants.{Run}
 use Rattle.files.specs.Held.{Held}
 use Rattle.failures.specs.declared.failure.Failure.{Failure}
-use Rattle.test_and_bench.specs.Folders.{Folders}
+use Rattle.json_answers.specs.Failing.{FailedAsObject, TellsFailure}
 use Rattle.test_and_bench.specs.Times.{AnswersTimes}
-use Rattle.test_and_bench.specs.Trials.{AnswersTest, ExplainsTest}
+use Rattle.test_and_bench.specs.TimesObject.{ObjectOfTimes}
 
 -- the runs of a text's program were timed, or there is a reason why it isn't run; files are unchanged
 pub record TimesRuns (s : Settings) (text : List ℕ) (held later : Held)
@@ -15,8 +15,10 @@ pub record TimesRuns (s : Settings) (text : List ℕ) (held later : Held)
   pub done : Done (AnswersTimes s held text) (Explains Run s held text) old new r
   pub keeps : later ≡ held
 
--- the programs of a folder were tested as requested, or there is a reason why not; files are unchanged
-pub record TestsFolder (named : Folders) (held later : Held) (a : Asked) (old new : Option (List ℕ))
-    (r : Result ℕ Failure) : Type 0 where
-  pub done : Done (AnswersTest named held a.file a.settings) (ExplainsTest named a.file) old new r
+-- the object of the durations was written; or there is a reason why there is none, and its object was written;
+-- files are unchanged
+pub record TellsTimes (file : List ℕ) (s : Settings) (text : List ℕ) (held later : Held)
+    (old new : Option (List ℕ)) (r : Result ℕ Failure) : Type 0 where
+  pub done : MatchResult r (Wrote (ObjectOfTimes s held text) old new)
+      (FailedAsObject (ObjectOfTimes s held text) (Explains Run s held text) (TellsFailure file text) old new)
   pub keeps : later ≡ held

@@ -7,11 +7,11 @@ ghost use Rattle.failures.specs.Failures.{TellsNotUtf8};
 ghost use Rattle.failures.specs.declared.failure.Failure.{Failure as FailureOf};
 ghost use Rattle.command_line.specs.Requests.{Asked, Asks};
 ghost use Rattle.command_words.specs.Files.{names_once};
-ghost use Rattle.command_words.specs.Orders.{AsksForObject, AsksToTest, AsksToTime};
+ghost use Rattle.command_words.specs.Orders.{AsksForObject, AsksToTest, AsksToTime, AsksToTimeAsObject};
 ghost use Rattle.command_words.specs.Orders.{Order as OrderIn, Orders, order as order_said};
 ghost use Rattle.command_words.specs.Orders.{names_once as order_names_once};
 ghost use Rattle.command_words.specs.declared.order.Subject.{Subject};
-ghost use Rattle.driver.specs.Orders.{Acts, ActsOn, TellsAs, TestsAs, TimesAs};
+ghost use Rattle.driver.specs.Orders.{Acts, ActsOn, TellsAs, TellsTimesAs, TestsAs, TimesAs};
 ghost use Rattle.driver.specs.Watching.{WatchesOrder};
 ghost use Rattle.options.specs.Replies.{IsMistake};
 ghost use Rattle.printing.specs.Appending.{AppendsBeginning};
@@ -21,7 +21,7 @@ use crate::refusal::Refusal;
 use crate::reporting::report;
 use crate::several::do_with_each;
 use crate::terminal::{Terminal, explains_on};
-use crate::trying::test;
+use crate::trying::{test_each, test_one};
 use command_words::order::Order;
 use command_words::words::order_of;
 use failures::failure::Failure;
@@ -56,6 +56,10 @@ pub fn act<R: Threads + Wait + Sync, F: FolderSource, O: Write, E: Write, T: Ter
         (E.contents err.old) (E.contents err.new) result }
     ensures timed { (a : Asked) → AsksToTime (map string_bytes words.now) a → names_once a ≡ true
         → TimesAs (T.seen terminal.old) a (F.held files.old) (F.held files.new) (O.contents out.old) (O.contents out.new)
+        (E.contents err.old) (E.contents err.new) result }
+    ensures timed_as_object { (a : Asked) → AsksToTimeAsObject (map string_bytes words.now) a
+        → names_once a ≡ true → TellsTimesAs (T.seen terminal.old) a (F.held files.old) (F.held files.new)
+        (O.contents out.old) (O.contents out.new)
         (E.contents err.old) (E.contents err.new) result }
     ensures tested { (a : Asked) → AsksToTest (map string_bytes words.now) a → names_once a ≡ true
         → TestsAs a (F.named files.old) (F.held files.old) (F.held files.new)
@@ -124,8 +128,23 @@ fn carry_out<R: Threads + Wait + Sync, F: FolderSource, O: Write, E: Write, T: T
             let done = read_and_do(rt, alloc, ordered, files, out, terminal);
             report(done, explains, err)
         }
+        Order::TimesAsObject(request) => {
+            let doing = TextOrder::TimingAsObject;
+            let explains = explains_on(request.telling, terminal);
+            let ordered = Ordered {
+                doing,
+                request,
+                explains,
+            };
+            let done = read_and_do(rt, alloc, ordered, files, out, terminal);
+            report(done, explains, err)
+        }
         Order::Tests(request) => {
-            let done = test(rt, alloc, request, files, out);
+            let done = test_one(rt, alloc, request, files, out);
+            report(done, false, err)
+        }
+        Order::TestsEach(tests) => {
+            let done = test_each(rt, alloc, tests, files, out);
             report(done, false, err)
         }
         Order::Each(several) => do_with_each(rt, alloc, several, files, out, err, terminal),

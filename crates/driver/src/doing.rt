@@ -15,7 +15,7 @@ use crate::performing;
 use crate::refusal::Refusal;
 use crate::source::ProgramSource;
 use crate::terminal::Terminal;
-use crate::trying::time;
+use crate::trying::{time, time_as_object};
 use command_line::request::Request;
 use command_words::order::Subject;
 use commands::question::Question;
@@ -36,6 +36,8 @@ pub enum TextOrder {
     Describing(Subject),
     /// The runs of the program are timed.
     Timing,
+    /// They are timed, and the durations are written as one object.
+    TimingAsObject,
 }
 
 /// An order for the text of a program, its request, and whether failures and outcomes are explained.
@@ -99,6 +101,7 @@ fn tell_unread<R: Threads + Sync, O: Write>(
         TextOrder::Answering => {}
         TextOrder::Describing(_) => tell_refusal(rt, alloc, file, "", failure, out),
         TextOrder::Timing => {}
+        TextOrder::TimingAsObject => tell_refusal(rt, alloc, file, "", failure, out),
     }
 }
 
@@ -130,6 +133,7 @@ fn do_with<R: Threads + Wait + Sync, F: FileSource, O: Write, T: Terminal>(
             let done = time(rt, loaded.alloc, question, files, out, terminal);
             handed_on(out, done)
         }
+        TextOrder::TimingAsObject => time_as_object(rt, loaded, files, out, terminal),
     }
 }
 

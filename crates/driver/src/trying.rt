@@ -1,27 +1,33 @@
 //! Programs run in several ways: timed, and tested.
 
-ghost use Rattle.std.specs.Prelude.{false};
+ghost use Rattle.std.specs.Prelude.{◌≡◌, ◌∷◌, [], false, map, IfOk};
+ghost use Rattle.std.specs.String.{string_bytes};
 ghost use Rattle.command_line.specs.Requests.{asked_of, settings as settings_of};
 ghost use Rattle.driver.specs.Acts.{IsSaid, in_short};
-ghost use Rattle.driver.specs.Trying.{TestsFolder, TimesRuns};
+ghost use Rattle.driver.specs.Trying.{TellsTimes, TimesRuns};
+ghost use Rattle.test_and_bench.specs.Trials.{DoesTest};
 
 use crate::answered::Answered;
 use crate::handing::handed_on;
+use crate::loaded::Loaded;
 use crate::refusal::Refusal;
 use crate::tracing::run_settings;
 use command_line::request::{Request, RunOptions};
+use command_words::order::SeveralTests;
 use commands::question::Question;
 use failures::failure::Failure;
 use files::file_source::FileSource;
+use json_answers::writing::{answer_object, tell_refusal};
 use race_checker::accepted::Accepted;
-use std::alloc::Global;
+use std::alloc::{AllocError, Global};
 use std::io::Write;
 use std::sync::Wait;
 use std::thread::Threads;
 use test_and_bench::clock::Stopwatch;
+use test_and_bench::describing::times_told;
 use test_and_bench::folders::FolderSource;
 use test_and_bench::runs::Runs;
-use test_and_bench::testing::{Testing, test_folder};
+use test_and_bench::testing::{Testing, test_names};
 use test_and_bench::timing::{Timing, bench};
 use types::input::Input;
 use types::outcome::Outcome;
@@ -69,24 +75,94 @@ pub fn time<R: Threads + Wait + Sync, F: FileSource, O: Write, C: Stopwatch>(
     bench(rt, timing, question, files, out)
 }
 
-/// Tests the programs of a folder: the file of the request.
-pub fn test<R: Threads + Wait + Sync, F: FolderSource, O: Write>(
+/// Times the runs of a program. Writes the durations as one object, or the reason why there are
+/// none.
+pub fn time_as_object<R: Threads + Wait + Sync, F: FileSource, O: Write, C: Stopwatch>(
+    rt: &R,
+    loaded: Loaded<'_>,
+    files: &mut F,
+    out: &mut O,
+    clock: &mut C,
+) -> Result<u8, Failure>
+    ensures { let a = asked_of loaded.entry.request in TellsTimes a.file a.settings loaded.entry.text.now
+        (F.held files.old) (F.held files.new) (O.contents out.old) (O.contents out.new) result }
+{
+    let Loaded {
+        alloc,
+        request,
+        text,
+    } = loaded;
+    let question = Question {
+        text,
+        settings: request.settings,
+    };
+    let timing = Timing {
+        alloc,
+        runs: &OnThreads,
+        clock,
+    };
+    match times_told(rt, timing, question, files) {
+        Ok(told) => answer_object(out, &told),
+        Err(failure) => {
+            tell_refusal(rt, alloc, request.file, text, &failure, out);
+            Err(failure)
+        }
+    }
+}
+
+/// Tests a program, or the programs of a folder: the file of the request.
+pub fn test_one<R: Threads + Wait + Sync, F: FolderSource, O: Write>(
     rt: &R,
     alloc: Global,
     request: Request<'_>,
     files: &mut F,
     out: &mut O,
 ) -> Result<Answered, Refusal>
-    ensures done { TestsFolder (F.named files.old) (F.held files.old) (F.held files.new)
-        (asked_of request.entry) (O.contents out.old) (O.contents out.new) (in_short result) }
+    ensures done { let a = asked_of request.entry in DoesTest (F.named files.old) (F.held files.old)
+        (a.file ∷ []) false a.settings (F.held files.new)
+        (O.contents out.old) (O.contents out.new) (in_short result) }
+    ensures said { IsSaid false result }
+{
+    let Ok(names) = list_of_one(alloc, request.file) else {
+        return Err(Refusal::bare(alloc, Failure::NoMemory));
+    };
+    let tests = SeveralTests {
+        names: &names,
+        settings: request.settings,
+        writes: false,
+    };
+    test_each(rt, alloc, tests, files, out)
+}
+
+/// Returns a list with one name.
+fn list_of_one(alloc: Global, name: &str) -> Result<Vec<String>, AllocError>
+    ensures { IfOk result (λ names. map string_bytes names.items ≡ name.now ∷ []) }
+{
+    let mut names = Vec::new(alloc);
+    names.push(String::from_str(alloc, name)?)?;
+    Ok(names)
+}
+
+/// Tests programs, and the programs of folders.
+pub fn test_each<R: Threads + Wait + Sync, F: FolderSource, O: Write>(
+    rt: &R,
+    alloc: Global,
+    tests: SeveralTests<'_>,
+    files: &mut F,
+    out: &mut O,
+) -> Result<Answered, Refusal>
+    ensures done { DoesTest (F.named files.old) (F.held files.old)
+        (map string_bytes tests.entry.names.now) tests.entry.writes (settings_of tests.entry.settings)
+        (F.held files.new) (O.contents out.old) (O.contents out.new) (in_short result) }
     ensures said { IsSaid false result }
 {
     let testing = Testing {
         alloc,
         runs: &OnThreads,
-        settings: request.settings,
+        settings: tests.settings,
+        writes: tests.writes,
     };
-    let done = test_folder(rt, &testing, request.file, files, out);
+    let done = test_names(rt, &testing, tests.names, files, out);
     match handed_on(out, done) {
         Ok(status) => Ok(Answered {
             status,

@@ -66,9 +66,9 @@ const FILES: Entry = Entry {
     takes: Takes::File,
 };
 
-const FOLDER: Entry = Entry {
-    name: "FOLDER",
-    help: "Folder with the test programs",
+const TESTS: Entry = Entry {
+    name: "FILE",
+    help: "Program file, or folder of programs; several come after the options",
     takes: Takes::File,
 };
 
@@ -99,6 +99,12 @@ const CHECK: Entry = Entry {
 const WRITE: Entry = Entry {
     name: "write",
     help: "Format the file in place; a file that is already formatted isn't written",
+    takes: Takes::Nothing,
+};
+
+const WRITE_OUTPUT: Entry = Entry {
+    name: "write",
+    help: "Write the output of each program to its .out file; a file that has it already isn't written",
     takes: Takes::Nothing,
 };
 
@@ -280,14 +286,16 @@ const BENCH_EXAMPLE: &str =
 median divided by that of the most workers; no number of workers gives more than work / span. If the program has faults
 or is stopped, its outcome is printed and nothing is timed.
 
-Example: afx bench examples/doubling.afx --input examples/doubling.json";
+Example: afx bench examples/doubling.afx --input examples/doubling.json
+Example: afx bench --format json examples/doubling.afx --input examples/doubling.json";
 
 const TEST_EXAMPLE: &str =
-    "Each NAME.afx in the folder runs serially, and in parallel on 1 and on 4 threads. It passes if each run prints exactly
-the contents of NAME.out. NAME.json, if present, is its input. With NAME.err, the program is to be refused with exactly
-that message.
+    "FILE is a program NAME.afx, or a folder: each NAME.afx in it is tested. It runs serially, and in parallel on 1 and on 4
+threads, and passes if each run prints exactly the contents of NAME.out. NAME.json, if present, is its input. NAME.args,
+if present, has its options, each word on a line. With NAME.err, the program is to be refused with exactly that message.
 
-Example: afx test examples/tested";
+Example: afx test examples/tested
+Example: afx test --write examples/tested/total.afx";
 
 const EXPLORE_EXAMPLE: &str =
     "A choice is the number of the task that takes the next step. The tasks that can take one are numbered from 0 in
@@ -375,14 +383,16 @@ const BENCHED: Row = Row {
     name: "bench",
     about: "Time a program serially and in parallel on 1, 2 and 4 threads, or up to --workers",
     example: BENCH_EXAMPLE,
-    entries: &[FILE, INPUT, STEPS, NEST, TASKS, W0, WORKERS, EXPLAIN, COLOR],
+    entries: &[
+        FILE, INPUT, STEPS, NEST, TASKS, W0, WORKERS, FORMAT, EXPLAIN, COLOR,
+    ],
 };
 
 const TESTED: Row = Row {
     name: "test",
-    about: "Run the programs in a folder and compare their output with the expected output",
+    about: "Run programs, or those in a folder, and compare their output with the expected output",
     example: TEST_EXAMPLE,
-    entries: &[FOLDER, STEPS, NEST, TASKS, W0, WORKERS],
+    entries: &[TESTS, WRITE_OUTPUT, STEPS, NEST, TASKS, W0, WORKERS],
 };
 
 const EXPLORED: Row = Row {

@@ -7,7 +7,7 @@ use Rattle.std.proofs.lemmas.Slice.Eq.{bytes_eq-Decides}
 use Rattle.std.specs.Prelude.{Bool, true, false, if◌then◌else◌, MatchOption}
 use Rattle.std.specs.Str.{bytes_eq}
 use Rattle.std.specs.Str.Pattern.{FindsTextSuffix, StripsSuffix}
-use Rattle.test_and_bench.specs.Trials.{stem}
+use Rattle.test_and_bench.specs.Listing.{stem}
 
 -- the part before the last bytes of a name, if these are the ending
 abbrev stem_by : (n : ℕ) → (name : List ℕ) → List (List ℕ)
@@ -32,6 +32,10 @@ no_ending n name lacks true is =
     absurd (lacks (take n name) (sym (take-append-drop n name)
     ∙ ap (λ (t : List ℕ). take n name ++ t) ((bytes_eq-Decides (drop n name) (codes ".afx")).0 is)))
 no_ending n name lacks false is = refl
+
+-- a name with the ending is what comes before it, and the ending
+pub ending_found : (name x : List ℕ) → StripsSuffix (FindsTextSuffix (codes ".afx")) name x → name ≡ x ++ codes ".afx"
+ending_found name x found = found.1.1 ∙ ap (λ (t : List ℕ). t ++ codes ".afx") (sym found.2)
 
 -- what `strip_suffix` returns for a name
 pub stem_stripped : (name : List ℕ) (r : Option (Bor (List ℕ)))

@@ -1,6 +1,12 @@
 pub mod Ended
 pub mod Endings
+pub mod Hunk
+pub mod Limited
+pub mod Named
+pub mod Objects
 pub mod RunCauses
+pub mod Slashes
 pub mod Tested
 pub mod Told
 pub mod Trying
+pub mod Written

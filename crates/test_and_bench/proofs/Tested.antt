@@ -1,90 +1,57 @@
--- Programs of a folder, tested one after the other.
-use Rattle.std.proofs.Common.{◌≡◌, ℕ, ◌+◌, ◌<◌, List, [], ◌∷◌, ◌++◌, length, map, take, get_or, Option, Some, None}
-use Rattle.std.proofs.Common.{refl, sym, ap, ◌∙◌, subst, String, Global}
+-- Programs, tested one after the other.
+use Rattle.std.proofs.Common.{◌≡◌, ℕ, ◌+◌, ◌<◌, List, [], ◌∷◌, ◌++◌, length, map, take, get_or}
+use Rattle.std.proofs.Common.{refl, sym, ap, ◌∙◌, subst}
 use Rattle.std.proofs.lemmas.List.{map-append, take_more}
-use Rattle.std.specs.Prelude.{MatchOption}
-use Rattle.std.specs.String.{string_bytes}
+use Rattle.std.specs.Prelude.{Bool, false, if◌then◌else◌}
 use Rattle.command_line.specs.Requests.{Settings}
 use Rattle.files.specs.Held.{Held}
-use Rattle.failures.specs.declared.failure.Failure.{Failure}
-use Rattle.failures.specs.declared.failure.Failure.TheVariants.{CannotRead, NoMemory}
-use Rattle.commands.proofs.Answering.{IsOther}
-use Rattle.test_and_bench.specs.Folders.{Folders, TellsNoFolder}
-use Rattle.test_and_bench.specs.Trials.{Folder, Trial, IsLine, Passes, AreTested, ExplainsTest, none, pass, fail}
+use Rattle.test_and_bench.specs.Listing.{Listed, listed}
+use Rattle.test_and_bench.specs.Trials.{AreTested, HasVerdict, more, none}
+use Rattle.test_and_bench.specs.declared.listed.Listed.{Listed as rListed}
 
--- ---- failures
-
-pub no_folder_explained : (named : Folders) (name : List ℕ) (f : Failure) → TellsNoFolder named name f → ExplainsTest named name f
-no_folder_explained named name (CannotRead told) why = why
-no_folder_explained named name NoMemory why = tt
-no_folder_explained named name _ why = absurd why
-
-pub no_folder_other : (named : Folders) (name : List ℕ) (f : Failure) → TellsNoFolder named name f → IsOther f
-no_folder_other named name (CannotRead told) why = tt
-no_folder_other named name NoMemory why = tt
-no_folder_other named name _ why = absurd why
-
-pub memory_explained : (named : Folders) (name : List ℕ) (f : Failure) → f ≡ NoMemory → ExplainsTest named name f
-memory_explained named name f is = subst (ExplainsTest named name) (sym is) tt
-
-pub memory_other : (f : Failure) → f ≡ NoMemory → IsOther f
-memory_other f is = subst IsOther (sym is) tt
-
--- ---- one after the other
-
-module _ (held : Held) (f : Folder) (under : Settings) (ss : List (String Global)) where
-  -- the first n of them are tested, and the contents of files are unchanged
-  pub record HaveTested (now : Held) (n : ℕ) (lines : List ℕ) (passed failed : ℕ) : Type 0 where
-    pub tested : AreTested held f under (map string_bytes (take n ss)) lines passed failed
-    pub keeps : now ≡ held
+module _ (writes : Bool) (under : Settings) (held : Held) (ps : List rListed) where
+  -- the first n of them are tested
+  abbrev pub HaveTested : (now : Held) → (n : ℕ) → (lines : List ℕ) → (passed failed : ℕ) → Type 0
+  HaveTested now n lines passed failed = AreTested writes under held (map listed (take n ps)) lines passed failed now
 
   pub none_tested : HaveTested held 0 [] 0 0
-  none_tested = record { tested = none; keeps = refl }
+  none_tested = none
 
-  -- the next one, given by the part of its name before `.afx`
-  abbrev pub next : String Global → Trial
-  next s = record { folder = f; stem = string_bytes s; settings = under }
+  taken_more : (n : ℕ) (p d : rListed) → n < length ps → p ≡ get_or ps n d
+      → map listed (take n ps) ++ listed p ∷ [] ≡ map listed (take (n + 1) ps)
+  taken_more n p d inside is =
+      ap (λ (x : rListed). map listed (take n ps) ++ listed x ∷ []) is
+      ∙ sym (map-append listed (take n ps) (get_or ps n d ∷ [])) ∙ sym (ap (map listed) (take_more ps n d inside))
 
-  taken_more : (n : ℕ) (s d : String Global) → n < length ss → s ≡ get_or ss n d
-      → map string_bytes (take n ss) ++ string_bytes s ∷ [] ≡ map string_bytes (take (n + 1) ss)
-  taken_more n s d inside is =
-      ap (λ (x : String Global). map string_bytes (take n ss) ++ string_bytes x ∷ []) is
-      ∙ sym (map-append string_bytes (take n ss) (get_or ss n d ∷ []))
-      ∙ sym (ap (map string_bytes) (take_more ss n d inside))
+  -- one more
+  pub one_more : (mid now : Held) (n : ℕ) (p d : rListed) (lines told longer : List ℕ) (a b q k : ℕ) (passes : Bool)
+      → n < length ps → p ≡ get_or ps n d → HaveTested mid n lines a b
+      → HasVerdict writes mid (record { program = listed p; settings = under }) now passes told
+      → (longer ≡ lines ++ told) × (q ≡ (if passes then a + 1 else a)) × (k ≡ (if passes then b else b + 1))
+      → HaveTested now (n + 1) longer q k
+  one_more mid now n p d lines told longer a b q k passes inside is so_far verdict counts =
+      let both = if passes then b else b + 1 in
+      subst (λ (xs : List Listed). AreTested writes under held xs longer q k now) (taken_more n p d inside is)
+      (subst (λ (m : ℕ). AreTested writes under held (map listed (take n ps) ++ listed p ∷ []) longer q m now) (sym counts.2)
+      (subst (λ (m : ℕ). AreTested writes under held (map listed (take n ps) ++ listed p ∷ []) longer m both now) (sym counts.1)
+      (subst (λ (l : List ℕ). AreTested writes under held (map listed (take n ps) ++ listed p ∷ []) l
+      (if passes then a + 1 else a) both now) (sym counts.0)
+      (more (map listed (take n ps)) (listed p) lines told a b mid now passes so_far verdict))))
 
-  pub one_passed : (mid now : Held) (n : ℕ) (s d : String Global) (lines : List ℕ) (p q m : ℕ) → n < length ss
-      → s ≡ get_or ss n d → HaveTested mid n lines p m → Passes mid (next s) → now ≡ mid → q ≡ p + 1
-      → HaveTested now (n + 1) lines q m
-  one_passed mid now n s d lines p q m inside is so_far compared same more = record {
-    tested = subst (λ (k : ℕ). AreTested held f under (map string_bytes (take (n + 1) ss)) lines k m) (sym more)
-        (subst (λ (xs : List (List ℕ)). AreTested held f under xs lines (p + 1) m) (taken_more n s d inside is)
-        (pass (map string_bytes (take n ss)) (string_bytes s) lines p m so_far.tested
-        (subst (λ (h : Held). Passes h (next s)) so_far.keeps compared)));
-    keeps = same ∙ so_far.keeps;
-  }
+-- files are unchanged if nothing is written
+module _ (under : Settings) (held : Held) where
+  kept_so : {later : Held} {ps : List Listed} {lines : List ℕ} {a b : ℕ} → AreTested false under held ps lines a b later
+      → later ≡ held
+  kept_so none = refl
+  kept_so (more ps p lines told n m mid later passes so_far verdict) = verdict.0 ∙ kept_so so_far
 
-  pub one_failed : (mid now : Held) (n : ℕ) (s d : String Global) (lines line longer : List ℕ) (p m q : ℕ) → n < length ss
-      → s ≡ get_or ss n d → HaveTested mid n lines p m → IsLine mid (next s) line → now ≡ mid → longer ≡ lines ++ line
-      → q ≡ m + 1 → HaveTested now (n + 1) longer p q
-  one_failed mid now n s d lines line longer p m q inside is so_far told same added more = record {
-    tested = subst (λ (k : ℕ). AreTested held f under (map string_bytes (take (n + 1) ss)) longer p k) (sym more)
-        (subst (λ (l : List ℕ). AreTested held f under (map string_bytes (take (n + 1) ss)) l p (m + 1)) (sym added)
-        (subst (λ (xs : List (List ℕ)). AreTested held f under xs (lines ++ line) p (m + 1)) (taken_more n s d inside is)
-        (fail (map string_bytes (take n ss)) (string_bytes s) lines line p m so_far.tested
-        (subst (λ (h : Held). IsLine h (next s) line) so_far.keeps told))));
-    keeps = same ∙ so_far.keeps;
-  }
+  pub kept : (writes : Bool) (later : Held) (ps : List Listed) (lines : List ℕ) (a b : ℕ)
+      → AreTested writes under held ps lines a b later → writes ≡ false → later ≡ held
+  kept writes later ps lines a b tested is =
+      kept_so (subst (λ (w : Bool). AreTested w under held ps lines a b later) is tested)
 
-  -- one more, with a line or without
-  pub one_more : (mid now : Held) (n : ℕ) (s d : String Global) (lines longer : List ℕ) (p m q k : ℕ)
-      (line : Option (String Global)) → n < length ss → s ≡ get_or ss n d → HaveTested mid n lines p m
-      → MatchOption line (Passes mid (next s)) (λ l. IsLine mid (next s) (string_bytes l)) → now ≡ mid
-      → MatchOption line ((longer ≡ lines) × (q ≡ p + 1) × (k ≡ m))
-      (λ l. (longer ≡ lines ++ string_bytes l) × (q ≡ p) × (k ≡ m + 1)) → HaveTested now (n + 1) longer q k
-  one_more mid now n s d lines longer p m q k None inside is so_far found same added =
-      subst (λ (x : ℕ). HaveTested now (n + 1) longer q x) (sym added.2)
-      (subst (λ (l : List ℕ). HaveTested now (n + 1) l q m) (sym added.0)
-      (one_passed mid now n s d lines p q m inside is so_far found same added.1))
-  one_more mid now n s d lines longer p m q k (Some l) inside is so_far found same added =
-      subst (λ (x : ℕ). HaveTested now (n + 1) longer x k) (sym added.1)
-      (one_failed mid now n s d lines (string_bytes l) longer p m k inside is so_far found same added.0 added.2)
+-- for files with the same contents before
+pub tested_after : (writes : Bool) (under : Settings) (mid held : Held) (ps : List Listed) (lines : List ℕ) (a b : ℕ) (later : Held)
+    → mid ≡ held → AreTested writes under mid ps lines a b later → AreTested writes under held ps lines a b later
+tested_after writes under mid held ps lines a b later same tested =
+    subst (λ (h : Held). AreTested writes under h ps lines a b later) same tested

@@ -1,6 +1,6 @@
 -- A program of a folder, and its result.
-use Rattle.std.proofs.Common.{◌≡◌, ℕ, List, Result, Ok, refl, sym, subst, codes}
-use Rattle.std.specs.Prelude.{ℤ, false, Option, IfOk}
+use Rattle.std.proofs.Common.{◌≡◌, ℕ, List, Result, Ok, Vec, Global, refl, sym, subst, codes}
+use Rattle.std.specs.Prelude.{ℤ, false, Option, IfOk, option_map}
 use Rattle.types.specs.Code.{Program}
 use Rattle.types.specs.Outcome.{Budget, Outcome, outcome}
 use Rattle.types.specs.Translation.{input as lists_of}
@@ -14,7 +14,7 @@ use Rattle.commands.specs.declared.question.Begun.{Begun}
 use Rattle.commands.proofs.Answering.{begun_so, other_failure}
 use Rattle.test_and_bench.specs.Differences.{difference}
 use Rattle.test_and_bench.specs.Runs.{TellsNoRun}
-use Rattle.test_and_bench.specs.Trials.{Trial, IsBegun, IsCompared, IsRefused, IsUncompared, file, settings_of, told_by}
+use Rattle.test_and_bench.specs.Trials.{Trial, IsBegun, IsCompared, IsRefused, IsUnrun, Prints, file, settings_of, told_by}
 use Rattle.test_and_bench.specs.Trials.{without_answer, without_text}
 use Rattle.test_and_bench.proofs.RunCauses.{no_run_explained, no_run_other, same_tasks}
 
@@ -48,32 +48,47 @@ pub same_program : (t u : Typed) (input : List (List ℤ)) (b : Budget) (o : Out
 same_program t u input b o is same = subst (λ (x : Typed). o ≡ outcome (code_of x) input b) same is
 
 -- the text of the outcome is what the program prints
-pub told_as : (r : Result (Option ℕ) Failure) (b : Budget) (p : Program) (input : List (List ℤ)) (o : Outcome) (bytes : List ℕ)
-    → o ≡ outcome p input b → IfOk r (λ line. line ≡ difference (outcome_text p.arrays false o) bytes)
-    → IfOk r (λ line. line ≡ difference (told_by b p input) bytes)
+pub told_as : (r : Result (Option (Vec ℕ Global)) Failure) (b : Budget) (p : Program) (input : List (List ℤ)) (o : Outcome)
+    (bytes : List ℕ) → o ≡ outcome p input b
+    → IfOk r (λ how. option_map (λ v. v.items) how ≡ difference (outcome_text p.arrays false o) bytes)
+    → IfOk r (λ how. option_map (λ v. v.items) how ≡ difference (told_by b p input) bytes)
 told_as r b p input o bytes same told =
-    subst (λ (x : Outcome). IfOk r (λ l. l ≡ difference (outcome_text p.arrays false x) bytes)) same told
+    subst (λ (x : Outcome). IfOk r (λ how. option_map (λ v. v.items) how ≡ difference (outcome_text p.arrays false x) bytes)) same told
 
--- what was printed, compared with the expected output
-pub compared : (held : Held) (t : Trial) (b : Begun) (bytes : List ℕ) (line : Option ℕ) → IsBegun held t b
-    → IsGiven (held (file t (codes ".out"))) (Ok bytes)
-    → line ≡ difference (told_by t.settings.budget (code_of b.accepted.typed) (lists_of b.input)) bytes → IsCompared held t line
-compared held t b bytes line begun given is = record {
+-- the same, as it is printed
+pub printed_as : (r : Result (Vec ℕ Global) Failure) (b : Budget) (p : Program) (input : List (List ℤ)) (o : Outcome)
+    → o ≡ outcome p input b → IfOk r (λ v. v.items ≡ outcome_text p.arrays false o)
+    → IfOk r (λ v. v.items ≡ told_by b p input)
+printed_as r b p input o same told =
+    subst (λ (x : Outcome). IfOk r (λ v. v.items ≡ outcome_text p.arrays false x)) same told
+
+-- what it prints
+pub prints : (held : Held) (t : Trial) (b : Begun) → IsBegun held t b
+    → Prints held t (told_by t.settings.budget (code_of b.accepted.typed) (lists_of b.input))
+prints held t b begun = record {
   text = begun.text;
   has_text = begun.has_text;
-  told = told_by t.settings.budget (code_of b.accepted.typed) (lists_of b.input);
   status = status_of (outcome (code_of b.accepted.typed) (lists_of b.input) t.settings.budget);
   answers = record {
     run = begun_so (settings_of t) held begun.text b begun.given;
     shows = record { told_is = refl; status_is = refl };
   };
+}
+
+-- compared with the expected output
+pub compared : (held : Held) (t : Trial) (b : Begun) (bytes : List ℕ) (how : Option (List ℕ)) → IsBegun held t b
+    → IsGiven (held (file t (codes ".out"))) (Ok bytes)
+    → how ≡ difference (told_by t.settings.budget (code_of b.accepted.typed) (lists_of b.input)) bytes → IsCompared held t how
+compared held t b bytes how begun given is = record {
+  told = told_by t.settings.budget (code_of b.accepted.typed) (lists_of b.input);
+  prints = prints held t b begun;
   bytes = bytes;
   given = given;
-  line_is = is;
+  how_is = is;
 }
 
 -- a run that fails
-pub no_answer : (held : Held) (t : Trial) (b : Begun) (f : Failure) → IsBegun held t b → TellsNoRun t.settings f → IsUncompared held t f
+pub no_answer : (held : Held) (t : Trial) (b : Begun) (f : Failure) → IsBegun held t b → TellsNoRun t.settings f → IsUnrun held t f
 no_answer held t b f begun told =
     without_answer begun.text begun.has_text
     (no_run_explained (settings_of t) held begun.text (begun_so (settings_of t) held begun.text b begun.given) f

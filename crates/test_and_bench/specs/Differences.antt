@@ -1,6 +1,8 @@
 -- Where two texts differ.
-use Rattle.std.specs.Prelude.{ℕ, ◌+◌, List, [], ◌∷◌, nat_eq, if◌then◌else◌, Option, None, Some}
+use Rattle.std.specs.Prelude.{ℕ, ◌+◌, List, [], ◌∷◌, ◌++◌, codes, nat_eq, if◌then◌else◌, Option, None, Some}
+use Rattle.std.specs.Fmt.{decimal}
 use Rattle.std.specs.Str.{bytes_eq}
+use Rattle.test_and_bench.specs.Hunks.{hunk, lines_of}
 
 -- the line behind a byte of a line
 abbrev pub line_behind : (byte line : ℕ) → ℕ
@@ -14,6 +16,12 @@ differing_line line (x ∷ told) [] = line
 differing_line line (x ∷ told) (y ∷ wanted) =
     if nat_eq x y then differing_line (line_behind x line) told wanted else line
 
--- that line, if the texts differ
-abbrev pub difference : (told wanted : List ℕ) → Option ℕ
-difference told wanted = if bytes_eq told wanted then None else Some (differing_line 1 told wanted)
+-- that line, and the lines that differ
+abbrev pub description : (told wanted : List ℕ) → List ℕ
+description told wanted =
+    (codes "output differs at line " ++ (decimal (differing_line 1 told wanted) ++ codes "\n"))
+    ++ hunk (λ line. line) (lines_of told) (lines_of wanted)
+
+-- it, if the texts differ
+abbrev pub difference : (told wanted : List ℕ) → Option (List ℕ)
+difference told wanted = if bytes_eq told wanted then None else Some (description told wanted)

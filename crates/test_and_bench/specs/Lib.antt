@@ -1,6 +1,9 @@
 pub mod Differences
 pub mod Five
 pub mod Folders
+pub mod Hunks
+pub mod Listing
 pub mod Runs
 pub mod Times
+pub mod TimesObject
 pub mod Trials

@@ -1,97 +1,122 @@
--- The expected output of the programs of a folder, and what is printed about them.
-use Rattle.std.specs.Prelude.{ℕ, zero, suc, ℤ, ◌≡◌, ◌≢◌, ◌-◌, ◌+◌, Bool, true, false, if◌then◌else◌, List, []}
-use Rattle.std.specs.Prelude.{◌∷◌, ◌++◌, codes, Option, None, Some, Result, Ok, MatchOption, length, map}
-use Rattle.std.specs.Prelude.{take, drop, IsPermutation, MatchBool}
+-- The expected output of programs, and what is printed about them.
+use Rattle.std.specs.Prelude.{ℕ, zero, suc, ℤ, ◌≡◌, ◌≢◌, ◌+◌, ◌&&◌, not, Bool, true, false, if◌then◌else◌, List, []}
+use Rattle.std.specs.Prelude.{◌∷◌, ◌++◌, codes, Option, None, Some, Result, Ok, Err, MatchOption, MatchBool, String}
 use Rattle.std.specs.Fmt.{decimal}
-use Rattle.std.specs.List.{flat_map}
-use Rattle.std.specs.List.Sorted.{IsSorted}
-use Rattle.std.specs.Str.{bytes_eq}
-use Rattle.std.specs.Prelude.{String}
-use Rattle.std.specs.String.{string_bytes, string_cmp}
 use Rattle.std.specs.Global.{Global}
+use Rattle.std.specs.Str.{bytes_eq}
+use Rattle.std.specs.Str.Lines.{lines}
+use Rattle.std.specs.String.{string_bytes}
 use Rattle.types.specs.Code.{Program}
 use Rattle.types.specs.Outcome.{Budget, Outcome, outcome}
 use Rattle.types.specs.Translation.{budget as budget_of, input as lists_of}
 use Rattle.types.specs.Typed.{code_of}
 use Rattle.printing.specs.OutcomeText.{outcome_text}
 use Rattle.printing.specs.Reasons.{escaped}
-use Rattle.command_line.specs.Requests.{Settings, settings}
+use Rattle.command_line.specs.Requests.{Asked, Settings, Spread, settings}
 use Rattle.command_line.specs.declared.request.Command.TheVariants.{Run}
-use Rattle.files.specs.Held.{Held, HasText, IsGiven, TellsNoProgram, TellsNoText}
+use Rattle.command_words.specs.Orders.{AsksToTest}
+use Rattle.files.specs.Held.{Bytes, Held, HasText, IsGiven, KeepsOthers, TellsNoProgram, TellsNoText}
+use Rattle.failures.specs.Failures.{TellsUnwritten}
 use Rattle.failures.specs.Messages.{failure_text}
 use Rattle.failures.specs.declared.failure.Failure.{Failure}
-use Rattle.failures.specs.declared.failure.Failure.TheVariants.{CannotWriteOutput}
+use Rattle.failures.specs.declared.failure.Failure.TheVariants.{CannotRead, CannotWriteOutput, NoMemory}
 use Rattle.commands.specs.Answers.{AnswersRun, Done, Explains, HasInput, TellsNotBegun}
 use Rattle.commands.specs.declared.question.Begun.{Begun}
 use Rattle.test_and_bench.specs.Differences.{difference}
-use Rattle.test_and_bench.specs.Folders.{AreGiven, Folders, TellsNoFolder}
+use Rattle.test_and_bench.specs.Folders.{Folders}
+use Rattle.test_and_bench.specs.Listing.{AreAllNamed, Listed, TellsUnlisted, listed}
 use Rattle.test_and_bench.specs.declared.outcomes.Case.{Case}
 use Rattle.test_and_bench.specs.declared.testing.Found.{Found}
-use Rattle.test_and_bench.specs.declared.trial.Folder.{Folder as rFolder}
 use Rattle.test_and_bench.specs.declared.trial.Trial.{Trial as rTrial}
+use Rattle.test_and_bench.specs.declared.trial.Verdict.{Verdict}
 
--- ---- names
+-- ---- its files
 
--- a folder, and the names of all its entries
-pub record Folder : Type 0 where
-  pub name : List ℕ
-  pub names : List (List ℕ)
-
-abbrev pub folder : rFolder → Folder
-folder f = record { name = f.name.now; names = map string_bytes f.names.now }
-
--- a program of it, given by the part of its file name before `.afx`, and the settings of its runs, apart from
--- the input
+-- a program, and the settings of its runs, apart from the input
 pub record Trial : Type 0 where
-  pub folder : Folder
-  pub stem : List ℕ
+  pub program : Listed
   pub settings : Settings
 
 abbrev pub trial : rTrial → Trial
-trial t = record { folder = folder t.folder; stem = t.stem.now; settings = settings t.settings }
+trial t = record { program = listed t.program.now; settings = settings t.settings }
 
--- whether it is one of these
-abbrev pub has_name : (names : List (List ℕ)) → (name : List ℕ) → Bool
-has_name [] name = false
-has_name (one ∷ names) name = if bytes_eq one name then true else has_name names name
-
--- the part of a name before `.afx`, if it ends with that
-abbrev pub stem : (name : List ℕ) → List (List ℕ)
-stem name =
-    if bytes_eq (drop (length name - 4) name) (codes ".afx") then take (length name - 4) name ∷ [] else []
-
--- its file with this ending: `folder/stem.afx`
+-- its file with this ending
 abbrev pub file : Trial → (ending : List ℕ) → List ℕ
-file t ending = t.folder.name ++ (codes "/" ++ (t.stem ++ ending))
+file t ending = t.program.base ++ ending
 
--- whether the folder has that file
-abbrev pub has_file : Trial → (ending : List ℕ) → Bool
-has_file t ending = has_name t.folder.names (t.stem ++ ending)
-
--- the file of its input, if the folder has one
+-- the file of its input, if there is one
 abbrev pub input_file : Trial → Option (List ℕ)
-input_file t = if has_file t (codes ".json") then Some (file t (codes ".json")) else None
+input_file t = if t.program.has_input then Some (file t (codes ".json")) else None
+
+-- ---- its options
+
+-- how far a program is run, and on how many workers
+pub record Limits : Type 0 where
+  pub budget : Budget
+  pub spread : Spread
+
+-- under these limits
+abbrev pub limited : Trial → Limits → Trial
+limited t l = record t { settings = record t.settings { budget = l.budget; spread = l.spread } }
+
+-- the lines of its `.args` file are arguments that ask for this, after the name of a program
+abbrev pub AsksLines : (text : List ℕ) → Asked → Type 0
+AsksLines text a = AsksToTest (codes "test" ∷ codes "-" ∷ lines text) a
+
+-- these are the limits in its `.args` file
+pub record HasOptions (held : Held) (t : Trial) (l : Limits) : Type 0 where
+  pub text : List ℕ
+  pub has_text : HasText held (file t (codes ".args")) text
+  pub are : (a : Asked) → AsksLines text a → (l.budget ≡ a.settings.budget) × (l.spread ≡ a.settings.spread)
+
+-- they are those of its `.args` file, if it has one, or those of the whole test
+abbrev pub HasLimits : Held → Trial → Limits → Type 0
+HasLimits held t l =
+    MatchBool t.program.has_options (HasOptions held t l)
+    (l ≡ (record { budget = t.settings.budget; spread = t.settings.spread }))
+
+-- the program as it is run
+pub record IsLimited (held : Held) (t u : Trial) : Type 0 where
+  pub limits : Limits
+  pub has : HasLimits held t limits
+  pub is : u ≡ limited t limits
+
+-- its `.args` file asks for nothing
+pub record LacksOptions (held : Held) (t : Trial) : Type 0 where
+  pub has : t.program.has_options ≡ true
+  pub text : List ℕ
+  pub has_text : HasText held (file t (codes ".args")) text
+  pub none : (a : Asked) → AsksLines text a → ⊥
+
+-- the failure says why its `.args` file can't be read
+abbrev pub TellsNoOptions : Held → Trial → Failure → Type 0
+TellsNoOptions held t f = (t.program.has_options ≡ true) × TellsNoText held (file t (codes ".args")) f
+
+-- ---- one program
 
 -- it runs on its input, and no arrays are shown
 abbrev pub settings_of : Trial → Settings
 settings_of t = record t.settings { input = input_file t; arrays = false }
 
--- ---- one program
-
 -- what a program prints under a budget
 abbrev pub told_by : Budget → Program → (input : List (List ℤ)) → List ℕ
 told_by b p input = outcome_text p.arrays false (outcome p input b)
 
--- the line in which the text of an outcome of a case's program first differs from the expected output, if it
--- does
-abbrev pub differs_with : Case → Outcome → Option ℕ
-differs_with c o = difference (outcome_text (code_of c.accepted.now.typed).arrays false o) c.wanted.now
+-- the text of an outcome of a case's program
+abbrev pub text_with : Case → Outcome → List ℕ
+text_with c o = outcome_text (code_of c.accepted.now.typed).arrays false o
 
--- the line in which what it prints under its settings first differs from the expected output, if it does
-abbrev pub differs_in : Case → Option ℕ
-differs_in c =
-    let told = told_by (budget_of c.settings.budget) (code_of c.accepted.now.typed) (lists_of c.input.now) in
-    difference told c.wanted.now
+-- what it prints under its settings
+abbrev pub told_in : Case → List ℕ
+told_in c = told_by (budget_of c.settings.budget) (code_of c.accepted.now.typed) (lists_of c.input.now)
+
+-- how the text of an outcome differs from the expected output, if it does
+abbrev pub differs_with : Case → Outcome → Option (List ℕ)
+differs_with c o = difference (text_with c o) c.wanted.now
+
+-- how what it prints differs from the expected output, if it does
+abbrev pub differs_in : Case → Option (List ℕ)
+differs_in c = difference (told_in c) c.wanted.now
 
 -- its file has a text, of whose program, which has no race, this is the code, and this is its input
 pub record IsBegun (held : Held) (t : Trial) (b : Begun) : Type 0 where
@@ -108,7 +133,7 @@ pub data IsRefused (held : Held) (t : Trial) (f : Failure) : Type 0 where
 
 -- the line of a program that fails for this reason, with control characters in its name escaped
 abbrev pub line_for : Trial → Failure → List ℕ
-line_for t f = escaped t.stem ++ (codes ".afx: " ++ (failure_text f ++ codes "\n"))
+line_for t f = escaped t.program.shown ++ (codes ".afx: " ++ (failure_text f ++ codes "\n"))
 
 -- ---- one that is to be refused
 
@@ -127,78 +152,145 @@ pub record IsRefusedAs (held : Held) (t : Trial) (same : Bool) : Type 0 where
 -- its line, if it fails: it is refused with another message, or not at all, or its `.err` file can't be read
 pub data IsLineOfRefusal (held : Held) (t : Trial) (line : List ℕ) : Type 0 where
   with_another : (r : IsRefusedAs held t false) → line ≡ line_for t r.failure → IsLineOfRefusal held t line
-  not_refused : (b : Begun) → IsBegun held t b → line ≡ escaped t.stem ++ codes ".afx: not refused\n"
+  not_refused : (b : Begun) → IsBegun held t b → line ≡ escaped t.program.shown ++ codes ".afx: not refused\n"
       → IsLineOfRefusal held t line
   unread : (f : Failure) → TellsNoText held (file t (codes ".err")) f → line ≡ line_for t f
       → IsLineOfRefusal held t line
 
 -- ---- one that is to be run
 
--- `run` prints this much for its text, and its `.out` file has these bytes: the first line in which the two
--- differ, if they do
-pub record IsCompared (held : Held) (t : Trial) (line : Option ℕ) : Type 0 where
+-- `run` prints this much for its text
+pub record Prints (held : Held) (t : Trial) (told : List ℕ) : Type 0 where
   pub text : List ℕ
   pub has_text : HasText held (file t (codes ".afx")) text
-  pub told : List ℕ
   pub status : ℕ
   pub answers : AnswersRun (settings_of t) held text told status
+
+-- its `.out` file has these bytes: how they differ from what it prints, if they do
+pub record IsCompared (held : Held) (t : Trial) (how : Option (List ℕ)) : Type 0 where
+  pub told : List ℕ
+  pub prints : Prints held t told
   pub bytes : List ℕ
   pub given : IsGiven (held (file t (codes ".out"))) (Ok bytes)
-  pub line_is : line ≡ difference told bytes
+  pub how_is : how ≡ difference told bytes
 
--- the failure says why it can't be compared: it is refused, `run` fails before it answers, or there is no
--- `.out` file
-pub data IsUncompared (held : Held) (t : Trial) (f : Failure) : Type 0 where
-  refused : IsRefused held t f → IsUncompared held t f
+-- the failure says why it prints nothing: it is refused, or `run` fails before it answers
+pub data IsUnrun (held : Held) (t : Trial) (f : Failure) : Type 0 where
+  refused : IsRefused held t f → IsUnrun held t f
   without_answer : (text : List ℕ) → HasText held (file t (codes ".afx")) text
-      → Explains Run (settings_of t) held text f → f ≢ CannotWriteOutput → IsUncompared held t f
+      → Explains Run (settings_of t) held text f → f ≢ CannotWriteOutput → IsUnrun held t f
+
+-- the failure says why it can't be compared: it prints nothing, or there is no `.out` file
+pub data IsUncompared (held : Held) (t : Trial) (f : Failure) : Type 0 where
+  unrun : IsUnrun held t f → IsUncompared held t f
   without_output : TellsNoText held (file t (codes ".out")) f → IsUncompared held t f
 
--- its line, if it fails
+-- its lines, if it fails
+pub data IsLineOfOutput (held : Held) (t : Trial) (line : List ℕ) : Type 0 where
+  otherwise : (how : List ℕ) → IsCompared held t (Some how) → line ≡ escaped t.program.shown ++ (codes ".afx: " ++ how)
+      → IsLineOfOutput held t line
+  uncompared : (f : Failure) → IsUncompared held t f → line ≡ line_for t f → IsLineOfOutput held t line
+
+-- its line, if it has no options that are understood
+pub data IsLineOfOptions (held : Held) (t : Trial) (line : List ℕ) : Type 0 where
+  not_understood : LacksOptions held t → line ≡ escaped t.program.shown ++ codes ".afx: options not understood\n"
+      → IsLineOfOptions held t line
+  options_unread : (f : Failure) → TellsNoOptions held t f → line ≡ line_for t f → IsLineOfOptions held t line
+
+-- run under its limits, it prints what its `.out` file has
+pub record Fulfils (held : Held) (t : Trial) : Type 0 where
+  pub trial : Trial
+  pub is_limited : IsLimited held t trial
+  pub compared : IsCompared held trial None
+
+-- its lines, if it fails
 pub data IsLineOfRun (held : Held) (t : Trial) (line : List ℕ) : Type 0 where
-  otherwise : (n : ℕ) → IsCompared held t (Some n)
-      → line ≡ escaped t.stem ++ (codes ".afx: output differs at line " ++ (decimal n ++ codes "\n"))
-      → IsLineOfRun held t line
-  uncompared : (f : Failure) → IsUncompared held t f → line ≡ line_for t f → IsLineOfRun held t line
+  of_output : (u : Trial) → IsLimited held t u → IsLineOfOutput held u line → IsLineOfRun held t line
+  of_options : IsLineOfOptions held t line → IsLineOfRun held t line
 
 -- ---- either
 
--- one with a `.err` file is to be refused, and any other is to be run
+-- one with an `.err` file is to be refused, and any other is to be run
 abbrev pub Passes : Held → Trial → Type 0
-Passes held t = MatchBool (has_file t (codes ".err")) (IsRefusedAs held t true) (IsCompared held t None)
+Passes held t = MatchBool t.program.is_refused (IsRefusedAs held t true) (Fulfils held t)
 
 abbrev pub IsLine : Held → Trial → (line : List ℕ) → Type 0
-IsLine held t line =
-    MatchBool (has_file t (codes ".err")) (IsLineOfRefusal held t line) (IsLineOfRun held t line)
+IsLine held t line = MatchBool t.program.is_refused (IsLineOfRefusal held t line) (IsLineOfRun held t line)
 
 -- a program without a line passes, and any other has the line of one that fails
 abbrev pub HasLine : Held → Trial → Option (String Global) → Type 0
 HasLine held t line = MatchOption line (Passes held t) (λ l. IsLine held t (string_bytes l))
 
+-- whether it passes, and its lines: none if it does
+abbrev pub IsTested : Held → Trial → (passes : Bool) → (lines : List ℕ) → Type 0
+IsTested held t passes lines = MatchBool passes (Passes held t × (lines ≡ [])) (IsLine held t lines)
+
+-- ---- one whose `.out` file is written
+
+-- the file with this name isn't known to have these bytes
+abbrev pub Differs : (known : Option Bytes) → (told : List ℕ) → Type 0
+Differs known told = (bytes : List ℕ) → known ≡ Some (Ok bytes) → bytes ≢ told
+
+-- its `.out` file has what it prints: it was written, and no other file, or it had these bytes before
+pub data IsWritten (held : Held) (t : Trial) (later : Held) (written : Bool) : Type 0 where
+  as_it_was : (told : List ℕ) → Prints held t told → IsGiven (held (file t (codes ".out"))) (Ok told)
+      → later ≡ held → written ≡ false → IsWritten held t later written
+  anew : (told : List ℕ) → Prints held t told → Differs (held (file t (codes ".out"))) told
+      → IsGiven (later (file t (codes ".out"))) (Ok told) → KeepsOthers (file t (codes ".out")) held later
+      → written ≡ true → IsWritten held t later written
+
+-- the failure says why its `.out` file doesn't have it: it prints nothing, or the file can't be written; of a file
+-- that can't be written nothing is known
+pub data IsUnwritten (held : Held) (t : Trial) (later : Held) (f : Failure) : Type 0 where
+  no_output : IsUnrun held t f → later ≡ held → IsUnwritten held t later f
+  unread_output : f ≡ NoMemory → later ≡ held → IsUnwritten held t later f
+  not_written : TellsUnwritten (file t (codes ".out")) f → KeepsOthers (file t (codes ".out")) held later
+      → IsUnwritten held t later f
+
+-- its line, if its `.out` file was written
+abbrev pub line_of_writing : Trial → (written : Bool) → List ℕ
+line_of_writing t written = if written then escaped t.program.shown ++ codes ".afx: output written\n" else []
+
+-- whether it passes, and its lines
+pub data IsPrinted (held : Held) (t : Trial) (later : Held) (passes : Bool) (lines : List ℕ) : Type 0 where
+  printed : (written : Bool) → IsWritten held t later written → passes ≡ true → lines ≡ line_of_writing t written
+      → IsPrinted held t later passes lines
+  unprinted : (f : Failure) → IsUnwritten held t later f → passes ≡ false → lines ≡ line_for t f
+      → IsPrinted held t later passes lines
+
+-- the same, for a program that is run under its limits
+pub data IsPrintedSo (held : Held) (t : Trial) (later : Held) (passes : Bool) (lines : List ℕ) : Type 0 where
+  under_limits : (u : Trial) → IsLimited held t u → IsPrinted held u later passes lines
+      → IsPrintedSo held t later passes lines
+  without_limits : IsLineOfOptions held t lines → later ≡ held → passes ≡ false
+      → IsPrintedSo held t later passes lines
+
+-- with `--write` the `.out` file of a program that is to be run is written; any other program is tested, and files are
+-- unchanged
+abbrev pub HasVerdict : (writes : Bool) → Held → Trial → (later : Held) → (passes : Bool) → (lines : List ℕ) → Type 0
+HasVerdict writes held t later passes lines =
+    MatchBool (writes && not t.program.is_refused) (IsPrintedSo held t later passes lines)
+    ((later ≡ held) × IsTested held t passes lines)
+
 -- ---- all of them
 
--- of these programs of a folder, this many passed and this many failed under these settings, with these lines
-pub data AreTested (held : Held) (f : Folder) (under : Settings)
-    : (stems : List (List ℕ)) → (lines : List ℕ) → (passed failed : ℕ) → Type 0 where
-  none : AreTested held f under [] [] 0 0
-  pass : (ss : List (List ℕ)) (s lines : List ℕ) (n m : ℕ) → AreTested held f under ss lines n m
-      → Passes held (record { folder = f; stem = s; settings = under })
-      → AreTested held f under (ss ++ s ∷ []) lines (n + 1) m
-  fail : (ss : List (List ℕ)) (s lines line : List ℕ) (n m : ℕ) → AreTested held f under ss lines n m
-      → IsLine held (record { folder = f; stem = s; settings = under }) line
-      → AreTested held f under (ss ++ s ∷ []) (lines ++ line) n (m + 1)
+-- under these settings, with `--write` or without it, this many of these programs passed and this many failed, one
+-- after the other, with these lines
+pub data AreTested (writes : Bool) (under : Settings) (held : Held)
+    : (ps : List Listed) → (lines : List ℕ) → (passed failed : ℕ) → (later : Held) → Type 0 where
+  none : AreTested writes under held [] [] 0 0 held
+  more : (ps : List Listed) (p : Listed) (lines told : List ℕ) (n m : ℕ) (mid later : Held) (passes : Bool)
+      → AreTested writes under held ps lines n m mid
+      → HasVerdict writes mid (record { program = p; settings = under }) later passes told
+      → AreTested writes under held (ps ++ p ∷ []) (lines ++ told) (if passes then n + 1 else n)
+      (if passes then m else m + 1) later
 
--- one more program is counted that passed
-abbrev pub AddsPassed : (old new : Found) → Type 0
-AddsPassed old new =
-    (string_bytes new.lines ≡ string_bytes old.lines) × (new.passed ≡ old.passed + 1)
-    × (new.failed ≡ old.failed)
-
--- one more program is counted that failed, and its line follows the others
-abbrev pub AddsFailed : (line : String Global) → (old new : Found) → Type 0
-AddsFailed line old new =
-    (string_bytes new.lines ≡ string_bytes old.lines ++ string_bytes line) × (new.passed ≡ old.passed)
-    × (new.failed ≡ old.failed + 1)
+-- one more program is counted, and its lines follow the others
+abbrev pub Counts : Verdict → (old new : Found) → Type 0
+Counts v old new =
+    (string_bytes new.lines ≡ string_bytes old.lines ++ string_bytes v.lines)
+    × (new.passed ≡ (if v.passes then old.passed + 1 else old.passed))
+    × (new.failed ≡ (if v.passes then old.failed else old.failed + 1))
 
 -- the last line: `2 passed, 1 failed`
 abbrev pub closing : (passed failed : ℕ) → List ℕ
@@ -209,30 +301,32 @@ abbrev pub tested_status : (failed : ℕ) → ℕ
 tested_status zero = 0
 tested_status (suc n) = 1
 
--- the programs of a folder were tested under these settings, sorted by name, and the results are printed
-pub record AnswersTest (named : Folders) (held : Held) (name : List ℕ) (under : Settings)
-    (told : List ℕ) (status : ℕ) : Type 0 where
-  pub names : List (List ℕ)
-  pub given : AreGiven (named name) (Ok names)
-  pub programs : List (String Global)
-  pub all : IsPermutation (flat_map stem names) (map string_bytes programs)
-  pub ordered : IsSorted string_cmp programs
+-- the programs of these names were tested under these settings, and the results are printed
+pub record AnswersTest (named : Folders) (held : Held) (names : List (List ℕ)) (writes : Bool) (under : Settings)
+    (later : Held) (told : List ℕ) (status : ℕ) : Type 0 where
+  pub programs : List Listed
+  pub all : AreAllNamed named names programs
   pub lines : List ℕ
   pub passed : ℕ
   pub failed : ℕ
-  pub tested : AreTested held (record { name = name; names = names }) under
-      (map string_bytes programs) lines passed failed
+  pub tested : AreTested writes under held programs lines passed failed later
   pub told_is : told ≡ lines ++ closing passed failed
   pub status_is : status ≡ tested_status failed
 
 -- why none was tested
-abbrev pub ExplainsTest : Folders → (name : List ℕ) → Failure → Type 0
-ExplainsTest named name CannotWriteOutput = Unit {0}
-ExplainsTest named name f = TellsNoFolder named name f
+abbrev pub ExplainsTest : Folders → (names : List (List ℕ)) → Failure → Type 0
+ExplainsTest named names CannotWriteOutput = Unit {0}
+ExplainsTest named names NoMemory = Unit {0}
+ExplainsTest named names f = TellsUnlisted named names f
+
+-- files are unchanged without `--write`, and if there is a name without programs
+abbrev pub LeavesTested : (writes : Bool) → (held later : Held) → Result ℕ Failure → Type 0
+LeavesTested false held later r = later ≡ held
+LeavesTested true held later (Err (CannotRead name)) = later ≡ held
+LeavesTested true held later r = Unit {0}
 
 -- `test` was done: its answer was written, or there is a reason why not
-abbrev pub DoesTest : Folders → Held → (name : List ℕ) → (under : Settings) → (old new : Option (List ℕ))
-    → Result ℕ Failure
-    → Type 0
-DoesTest named held name under old new r =
-    Done (AnswersTest named held name under) (ExplainsTest named name) old new r
+pub record DoesTest (named : Folders) (held : Held) (names : List (List ℕ)) (writes : Bool) (under : Settings)
+    (later : Held) (old new : Option (List ℕ)) (r : Result ℕ Failure) : Type 0 where
+  pub done : Done (AnswersTest named held names writes under later) (ExplainsTest named names) old new r
+  pub leaves : LeavesTested writes held later r

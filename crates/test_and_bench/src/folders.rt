@@ -21,7 +21,8 @@ pub trait FolderSource: FileSource {
     fn names(&mut self, folder: &str) -> Result<Vec<String>, FileError>
         ensures given { let known = named self.old folder.now in MatchResult result
             (λ v. AreGiven known (Ok (map string_bytes v.items))) (λ e. AreGiven known (Err e)) }
-        ensures keeps { Self.held self.new ≡ Self.held self.old };
+        ensures keeps { Self.held self.new ≡ Self.held self.old }
+        ensures stays { named self.new ≡ named self.old };
 }
 
 /// Returns the names of all entries of a folder, or the failure that says why it can't be read.
@@ -34,6 +35,7 @@ pub fn read_folder<F: FolderSource>(
         (λ v. AreGiven (F.named files.old folder.now) (Ok (map string_bytes v.items))) }
     ensures why { IfErr result (TellsNoFolder (F.named files.old) folder.now) }
     ensures keeps { F.held files.new ≡ F.held files.old }
+    ensures stays { F.named files.new ≡ F.named files.old }
 {
     match files.names(folder) {
         Ok(names) => Ok(names),

@@ -3,12 +3,19 @@
 #![tactic(auto)]
 
 pub mod clock;
+pub mod describing;
 mod differences;
 pub mod folders;
+mod hunks;
+pub mod listed;
 pub mod outcomes;
+mod own_options;
 pub mod runs;
 pub mod stems;
 pub mod testing;
 pub mod times;
+pub mod times_object;
 pub mod timing;
 pub mod trial;
+mod trial_lines;
+mod writing;

@@ -3,7 +3,7 @@
 ghost use Rattle.std.specs.Prelude.{◌≡◌, ◌∷◌, [], map, IfErr, IfOk, IsPermutation, IsSorted, MatchOption};
 ghost use Rattle.std.specs.List.{flat_map};
 ghost use Rattle.std.specs.String.{string_bytes, string_cmp};
-ghost use Rattle.test_and_bench.specs.Trials.{has_name as has_name_of, stem};
+ghost use Rattle.test_and_bench.specs.Listing.{has_name as has_name_of, stem};
 
 use failures::failure::Failure;
 use std::alloc::{AllocError, Global};

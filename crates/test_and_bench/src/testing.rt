@@ -1,16 +1,16 @@
-//! `test`: the programs of a folder, and their expected output.
+//! `test`: programs, and their expected output.
 
-ghost use Rattle.std.specs.Prelude.{◌≡◌, ◌+◌, ◌++◌, map, IfErr, IfOk, MatchOption, OnOk};
+ghost use Rattle.std.specs.Prelude.{◌≡◌, ◌+◌, ◌++◌, false, map, IfErr, IfOk, OnOk};
 ghost use Rattle.std.specs.String.{string_bytes};
 ghost use Rattle.command_line.specs.Requests.{settings as settings_of};
 ghost use Rattle.printing.specs.Appending.{Writes};
-ghost use Rattle.test_and_bench.specs.Trials.{AddsFailed, AddsPassed, AreTested, DoesTest, closing};
-ghost use Rattle.test_and_bench.specs.Trials.{folder as folder_of, tested_status};
+ghost use Rattle.test_and_bench.specs.Listing.{listed};
+ghost use Rattle.test_and_bench.specs.Trials.{AreTested, Counts, DoesTest, closing, tested_status};
 
-use crate::folders::{FolderSource, read_folder};
+use crate::folders::FolderSource;
+use crate::listed::{Listed, programs_of};
 use crate::runs::Runs;
-use crate::stems::stems_in;
-use crate::trial::{Folder, Trial};
+use crate::trial::{Trial, Verdict};
 use command_line::request::RunOptions;
 use failures::failure::Failure;
 use files::file_source::FileSource;
@@ -28,30 +28,27 @@ pub struct Testing<'t, W> {
     pub runs: &'t W,
     /// The settings of their runs, apart from the input.
     pub settings: RunOptions<'t>,
+    /// Their output is written into their `.out` files.
+    pub writes: bool,
 }
 
-/// Runs each program of a folder, sorted by name, on its own input, and compares its output with its
-/// `.out` file. Writes a line for each program that fails, and then how many passed and failed.
-/// Returns the exit status: 1 if one failed.
-pub fn test_folder<R: Threads + Wait + Sync, F: FolderSource, O: Write, W: Runs>(
+/// Runs each program of these names, on its own input, and compares its output with its `.out` file,
+/// or writes its output there. Writes the lines of each program, and then how many passed and
+/// failed. Returns the exit status: 1 if one failed.
+pub fn test_names<R: Threads + Wait + Sync, F: FolderSource, O: Write, W: Runs>(
     rt: &R,
     testing: &Testing<'_, W>,
-    folder: &str,
+    names: &[String],
     files: &mut F,
     out: &mut O,
 ) -> Result<u8, Failure>
-    ensures done { DoesTest (F.named files.old) (F.held files.old) folder.now
-        (settings_of testing.now.settings) (O.contents out.old) (O.contents out.new) result }
-    ensures keeps { F.held files.new ≡ F.held files.old }
+    ensures { DoesTest (F.named files.old) (F.held files.old) (map string_bytes names.now)
+        testing.now.writes (settings_of testing.now.settings) (F.held files.new)
+        (O.contents out.old) (O.contents out.new) result }
 {
     let alloc = testing.alloc;
-    let names = read_folder(alloc, files, folder)?;
-    let stems = stems_in(alloc, &names)?;
-    let folder = Folder {
-        name: folder,
-        names: names.as_slice(),
-    };
-    let found = tested(rt, testing, files, folder, &stems)?;
+    let programs = programs_of(alloc, files, names)?;
+    let found = tested(rt, testing, files, &programs)?;
     let text = found.text(alloc)?;
     write(out, text.as_str(), found.status())
 }
@@ -59,30 +56,25 @@ pub fn test_folder<R: Threads + Wait + Sync, F: FolderSource, O: Write, W: Runs>
 /// The results of some programs.
 #[derive(Drop)]
 struct Found {
-    /// A line for each that failed.
+    /// The lines about them.
     lines: String,
     passed: u64,
     failed: u64,
 }
 
 impl Found {
-    /// Counts one more program: one that passed, or one that failed with this line.
-    fn add(&mut self, line: &Option<String>) -> Result<(), Failure>
-        ensures added { OnOk result (MatchOption line.now (AddsPassed self.old self.new)
-            (λ l. AddsFailed l self.old self.new)) }
+    /// Counts one more program.
+    fn add(&mut self, verdict: &Verdict) -> Result<(), Failure>
+        ensures added { OnOk result (Counts verdict.now self.old self.new) }
         ensures why { IfErr result (λ f. f ≡ Failure.NoMemory) }
     {
-        match line {
-            None => {
-                self.passed = one_more(self.passed)?;
-                Ok(())
-            }
-            Some(line) => {
-                add(&mut self.lines, line.as_str())?;
-                self.failed = one_more(self.failed)?;
-                Ok(())
-            }
+        add(&mut self.lines, verdict.lines.as_str())?;
+        if verdict.passes {
+            self.passed = one_more(self.passed)?;
+        } else {
+            self.failed = one_more(self.failed)?;
         }
+        Ok(())
     }
 
     /// Returns the lines, followed by how many passed and failed.
@@ -110,19 +102,18 @@ impl Found {
     }
 }
 
-/// Runs these programs of a folder, one after the other.
+/// Runs these programs, one after the other.
 fn tested<R: Threads + Wait + Sync, F: FileSource, W: Runs>(
     rt: &R,
     testing: &Testing<'_, W>,
     files: &mut F,
-    folder: Folder<'_>,
-    stems: &[String],
+    programs: &[Listed],
 ) -> Result<Found, Failure>
-    ensures tested { IfOk result (λ f. AreTested (F.held files.old) (folder_of folder.entry)
-        (settings_of testing.now.settings) (map string_bytes stems.now) (string_bytes f.lines)
-        f.passed f.failed) }
+    ensures tested { IfOk result (λ f. AreTested testing.now.writes (settings_of testing.now.settings)
+        (F.held files.old) (map listed programs.now) (string_bytes f.lines) f.passed f.failed
+        (F.held files.new)) }
     ensures why { IfErr result (λ f. f ≡ Failure.NoMemory) }
-    ensures keeps { F.held files.new ≡ F.held files.old }
+    ensures keeps { testing.now.writes ≡ false → F.held files.new ≡ F.held files.old }
 {
     let alloc = testing.alloc;
     let mut found = Found {
@@ -130,14 +121,13 @@ fn tested<R: Threads + Wait + Sync, F: FileSource, W: Runs>(
         passed: 0,
         failed: 0,
     };
-    for stem in stems {
+    for program in programs {
         let trial = Trial {
-            folder,
-            stem: stem.as_str(),
+            program,
             settings: testing.settings,
         };
-        let line = trial.line(rt, alloc, testing.runs, files)?;
-        found.add(&line)?;
+        let verdict = trial.verdict(rt, alloc, testing.runs, files, testing.writes)?;
+        found.add(&verdict)?;
     }
     Ok(found)
 }

@@ -75,7 +75,7 @@ pub fn bench<R: Threads + Wait + Sync, F: FileSource, O: Write, W: Runs, C: Stop
 }
 
 /// Returns the outcome and the cost of the run.
-fn measured(
+pub fn measured(
     alloc: Global,
     accepted: &Accepted,
     input: &Input,
@@ -96,11 +96,11 @@ fn measured(
 
 /// What is run.
 #[derive(Clone, Copy)]
-struct Job<'j> {
-    alloc: Global,
-    accepted: &'j Accepted,
-    input: &'j Input,
-    settings: RunOptions<'j>,
+pub struct Job<'j> {
+    pub alloc: Global,
+    pub accepted: &'j Accepted,
+    pub input: &'j Input,
+    pub settings: RunOptions<'j>,
 }
 
 impl Job<'_> {
@@ -118,22 +118,36 @@ impl Job<'_> {
             × (string_bytes text ≡ times_text t cost.now)) }
         ensures why { IfErr result (TellsNoRun (settings_of self.now.settings)) }
     {
+        let timed = self.timed(rt, runs, clock)?;
+        match text_of(self.alloc, &timed, cost) {
+            Ok(text) => Ok(text),
+            Err(AllocError) => Err(Failure::NoMemory),
+        }
+    }
+
+    /// Returns how long its runs take.
+    pub fn timed<R: Threads + Wait + Sync, W: Runs, C: Stopwatch>(
+        &self,
+        rt: &R,
+        runs: &W,
+        clock: &mut C,
+    ) -> Result<Timed, Failure>
+        requires { Fits self.now.accepted.now.typed self.now.input.now }
+        ensures five { IfOk result (AreAllOfFive self.now.settings.spread.workers) }
+        ensures why { IfErr result (TellsNoRun (settings_of self.now.settings)) }
+    {
         let serial = self.on_one_thread(clock)?;
         let on_one = self.as_tasks(rt, runs, clock, 1)?;
         let workers = self.settings.spread.workers;
         let on_two = self.above(rt, runs, clock, 2, 2)?;
         let on_all = self.above(rt, runs, clock, workers, 1)?;
-        let timed = Timed {
+        Ok(Timed {
             workers,
             serial,
             on_one,
             on_two,
             on_all,
-        };
-        match text_of(self.alloc, &timed, cost) {
-            Ok(text) => Ok(text),
-            Err(AllocError) => Err(Failure::NoMemory),
-        }
+        })
     }
 
     /// Returns the durations of five serial runs.

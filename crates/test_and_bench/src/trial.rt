@@ -1,58 +1,136 @@
-//! Whether a program of a folder prints its expected output.
+//! Whether a program prints its expected output.
 
-ghost use Rattle.std.specs.Prelude.{◌≡◌, ◌++◌, codes, true, None, IfErr, IfOk, MatchOption, Ok};
-ghost use Rattle.std.specs.Fmt.{decimal};
+ghost use Rattle.std.specs.Prelude.{◌≡◌, codes, false, true, None, Ok, IfErr, IfOk};
+ghost use Rattle.std.specs.Prelude.{MatchOption, option_map};
 ghost use Rattle.std.specs.String.{string_bytes};
 ghost use Rattle.types.specs.Inputs.{IsInput};
 ghost use Rattle.types.specs.Translation.{input as lists_of};
 ghost use Rattle.types.specs.Typed.{code_of};
 ghost use Rattle.commands.specs.Answers.{HasInput, TellsNotBegun};
 ghost use Rattle.commands.specs.Outcomes.{Fits};
-ghost use Rattle.files.specs.Held.{BeginsWith, IsGiven, TellsNoInput, TellsNoText};
-ghost use Rattle.failures.specs.Messages.{failure_text};
-ghost use Rattle.printing.specs.Reasons.{escaped};
-ghost use Rattle.test_and_bench.specs.Trials.{HasLine, IsBegun, IsCompared, IsLineOfRefusal, IsLineOfRun};
-ghost use Rattle.test_and_bench.specs.Trials.{IsMessage, IsRefused, IsRefusedAs, IsUncompared};
-ghost use Rattle.test_and_bench.specs.Trials.{file as file_of, has_file, input_file, settings_of};
-ghost use Rattle.test_and_bench.specs.Trials.{trial as trial_of};
+ghost use Rattle.files.specs.Held.{BeginsWith, HasText, IsGiven, TellsNoInput, TellsNoText};
+ghost use Rattle.test_and_bench.specs.Trials.{HasLine, HasVerdict, IsBegun, IsCompared, IsLimited};
+ghost use Rattle.test_and_bench.specs.Trials.{IsLineOfOutput, IsLineOfRefusal, IsMessage};
+ghost use Rattle.test_and_bench.specs.Trials.{Fulfils, IsLineOfRun, IsPrinted, IsPrintedSo, IsRefused, IsRefusedAs};
+ghost use Rattle.test_and_bench.specs.Trials.{IsUncompared, LacksOptions, TellsNoOptions};
+ghost use Rattle.test_and_bench.specs.Trials.{file as file_of, input_file, settings_of, trial as trial_of};
 
+use crate::listed::Listed;
 use crate::outcomes::Case;
+use crate::own_options::limits_of;
 use crate::runs::Runs;
-use crate::stems::has_name;
+use crate::trial_lines::message_of;
 use command_line::request::RunOptions;
 use commands::programs::accepted_of;
 use commands::question::Begun;
 use failures::failure::Failure;
-use failures::message::emit_message;
 use files::file_source::{FileSource, read_file, read_program};
 use files::input_file::input_of;
-use printing::reasons::emit_file;
 use std::alloc::{AllocError, Global};
 use std::sync::Wait;
 use std::thread::Threads;
 use types::input::Input;
 use types::typed::Typed;
 
-/// A folder, and the names of all its entries.
-#[derive(Clone, Copy)]
-pub struct Folder<'f> {
-    pub name: &'f str,
-    pub names: &'f [String],
-}
-
-/// A program of a folder, given by the part of its file name before `.afx`, and the settings of its
-/// runs, apart from the input.
+/// A program, and the settings of its runs, apart from the input.
 #[derive(Clone, Copy)]
 pub struct Trial<'f> {
-    pub folder: Folder<'f>,
-    pub stem: &'f str,
+    pub program: &'f Listed,
     pub settings: RunOptions<'f>,
 }
 
-impl Trial<'_> {
+/// Whether a program passes, and the lines about it.
+#[derive(Drop)]
+pub struct Verdict {
+    pub passes: bool,
+    pub lines: String,
+}
+
+impl Verdict {
+    /// Returns that a program fails with these lines.
+    fn failing(lines: String) -> Verdict
+        ensures passes { result.passes ≡ false }
+        ensures lines { result.lines ≡ lines }
+    {
+        Verdict {
+            passes: false,
+            lines,
+        }
+    }
+}
+
+impl<'f> Trial<'f> {
+    /// Returns whether a program passes, and the lines about it: it is compared with its expected
+    /// output, or with `writes` its output is written, unless it is to be refused.
+    pub fn verdict<R: Threads + Wait + Sync, F: FileSource, W: Runs>(
+        &self,
+        rt: &R,
+        alloc: Global,
+        runs: &W,
+        files: &mut F,
+        writes: bool,
+    ) -> Result<Verdict, Failure>
+        ensures verdict { IfOk result (λ v. HasVerdict writes (F.held files.old) (trial_of self.now)
+            (F.held files.new) v.passes (string_bytes v.lines)) }
+        ensures why { IfErr result (λ f. f ≡ Failure.NoMemory) }
+        ensures keeps { writes ≡ false → F.held files.new ≡ F.held files.old }
+    {
+        if writes && !self.program.is_refused {
+            return self.printed(rt, alloc, runs, files);
+        }
+        match self.line(rt, alloc, runs, files)? {
+            None => Ok(Verdict {
+                passes: true,
+                lines: String::new(alloc),
+            }),
+            Some(lines) => Ok(Verdict::failing(lines)),
+        }
+    }
+
+    /// Writes the output of a program that is to be run. Returns whether that succeeded, and the
+    /// lines about it.
+    fn printed<R: Threads + Wait + Sync, F: FileSource, W: Runs>(
+        &self,
+        rt: &R,
+        alloc: Global,
+        runs: &W,
+        files: &mut F,
+    ) -> Result<Verdict, Failure>
+        ensures verdict { IfOk result (λ v. IsPrintedSo (F.held files.old) (trial_of self.now)
+            (F.held files.new) v.passes (string_bytes v.lines)) }
+        ensures why { IfErr result (λ f. f ≡ Failure.NoMemory) }
+    {
+        match self.limited(alloc, files) {
+            Ok(Some(trial)) => trial.printed_so(rt, alloc, runs, files),
+            Ok(None) => Ok(Verdict::failing(self.not_understood(alloc)?)),
+            Err(failure) => Ok(Verdict::failing(self.failed(alloc, &failure)?)),
+        }
+    }
+
+    /// Writes its output, run under these settings.
+    fn printed_so<R: Threads + Wait + Sync, F: FileSource, W: Runs>(
+        &self,
+        rt: &R,
+        alloc: Global,
+        runs: &W,
+        files: &mut F,
+    ) -> Result<Verdict, Failure>
+        ensures verdict { IfOk result (λ v. IsPrinted (F.held files.old) (trial_of self.now)
+            (F.held files.new) v.passes (string_bytes v.lines)) }
+        ensures why { IfErr result (λ f. f ≡ Failure.NoMemory) }
+    {
+        match self.written(rt, alloc, runs, files) {
+            Ok(written) => Ok(Verdict {
+                passes: true,
+                lines: self.line_if_written(alloc, written)?,
+            }),
+            Err(failure) => Ok(Verdict::failing(self.failed(alloc, &failure)?)),
+        }
+    }
+
     /// Returns the line of a program that fails, or None if it passes. A program with a `.err` file
     /// is to be refused; any other prints the contents of its `.out` file.
-    pub fn line<R: Threads + Wait + Sync, F: FileSource, W: Runs>(
+    fn line<R: Threads + Wait + Sync, F: FileSource, W: Runs>(
         &self,
         rt: &R,
         alloc: Global,
@@ -63,7 +141,7 @@ impl Trial<'_> {
         ensures why { IfErr result (λ f. f ≡ Failure.NoMemory) }
         ensures keeps { F.held files.new ≡ F.held files.old }
     {
-        if self.has(alloc, ".err")? {
+        if self.program.is_refused {
             self.line_of_refusal(rt, alloc, files)
         } else {
             self.line_of_run(rt, alloc, runs, files)
@@ -84,16 +162,16 @@ impl Trial<'_> {
         ensures keeps { F.held files.new ≡ F.held files.old }
     {
         let failure = match self.begun(rt, alloc, files) {
-            Ok(_) => return Ok(Some(not_refused(alloc, self.stem)?)),
+            Ok(_) => return Ok(Some(self.not_refused(alloc)?)),
             Err(failure) => failure,
         };
         match self.is_expected(alloc, files, &failure) {
             Ok(expected) => if expected {
                 Ok(None)
             } else {
-                Ok(Some(failed(alloc, self.stem, &failure)?))
+                Ok(Some(self.failed(alloc, &failure)?))
             },
-            Err(unread) => Ok(Some(failed(alloc, self.stem, &unread)?)),
+            Err(unread) => Ok(Some(self.failed(alloc, &unread)?)),
         }
     }
 
@@ -114,7 +192,7 @@ impl Trial<'_> {
         Ok(message.as_bytes() == wanted.as_slice())
     }
 
-    /// Returns the line of a program that is to be run, or None if it passes.
+    /// Returns the lines of a program that is to be run, or None if it passes.
     fn line_of_run<R: Threads + Wait + Sync, F: FileSource, W: Runs>(
         &self,
         rt: &R,
@@ -123,27 +201,109 @@ impl Trial<'_> {
         files: &mut F,
     ) -> Result<Option<String>, Failure>
         ensures line { let t = trial_of self.now in IfOk result (λ line.
-            MatchOption line (IsCompared (F.held files.old) t None)
+            MatchOption line (Fulfils (F.held files.old) t)
             (λ l. IsLineOfRun (F.held files.old) t (string_bytes l))) }
+        ensures why { IfErr result (λ f. f ≡ Failure.NoMemory) }
+        ensures keeps { F.held files.new ≡ F.held files.old }
+    {
+        match self.limited(alloc, files) {
+            Ok(Some(trial)) => trial.line_of_output(rt, alloc, runs, files),
+            Ok(None) => Ok(Some(self.not_understood(alloc)?)),
+            Err(failure) => Ok(Some(self.failed(alloc, &failure)?)),
+        }
+    }
+
+    /// Returns it as it is run: with the options of its `.args` file, if there is one. Returns None
+    /// if these options aren't understood.
+    fn limited<F: FileSource>(
+        &self,
+        alloc: Global,
+        files: &mut F,
+    ) -> Result<Option<Trial<'f>>, Failure>
+        ensures limited { let t = trial_of self.now in IfOk result (λ trial.
+            MatchOption trial (LacksOptions (F.held files.old) t)
+            (λ u. IsLimited (F.held files.old) t (trial_of u))) }
+        ensures why { IfErr result (TellsNoOptions (F.held files.old) (trial_of self.now)) }
+        ensures keeps { F.held files.new ≡ F.held files.old }
+    {
+        if self.program.has_options {
+            self.with_options(alloc, files)
+        } else {
+            Ok(Some(*self))
+        }
+    }
+
+    /// Returns it with the options of its `.args` file, or None if they aren't understood.
+    fn with_options<F: FileSource>(
+        &self,
+        alloc: Global,
+        files: &mut F,
+    ) -> Result<Option<Trial<'f>>, Failure>
+        requires { (trial_of self.now).program.has_options ≡ true }
+        ensures limited { let t = trial_of self.now in IfOk result (λ trial.
+            MatchOption trial (LacksOptions (F.held files.old) t)
+            (λ u. IsLimited (F.held files.old) t (trial_of u))) }
+        ensures why { IfErr result (TellsNoOptions (F.held files.old) (trial_of self.now)) }
+        ensures keeps { F.held files.new ≡ F.held files.old }
+    {
+        let text = self.options_text(alloc, files)?;
+        match limits_of(alloc, text.as_str()) {
+            Ok(None) => Ok(None),
+            Ok(Some(limits)) => Ok(Some(Trial {
+                program: self.program,
+                settings: RunOptions {
+                    budget: limits.budget,
+                    spread: limits.spread,
+                    ..self.settings
+                },
+            })),
+            Err(AllocError) => Err(Failure::NoMemory),
+        }
+    }
+
+    /// Returns the text of its `.args` file.
+    fn options_text<F: FileSource>(&self, alloc: Global, files: &mut F) -> Result<String, Failure>
+        ensures text { IfOk result (λ text. HasText (F.held files.old)
+            (file_of (trial_of self.now) (codes ".args")) (string_bytes text)) }
+        ensures why { IfErr result
+            (TellsNoText (F.held files.old) (file_of (trial_of self.now) (codes ".args"))) }
+        ensures keeps { F.held files.new ≡ F.held files.old }
+    {
+        let name = self.file(alloc, ".args")?;
+        text_in(alloc, files, name.as_str())
+    }
+
+    /// Returns its lines, run under these settings, or None if it passes.
+    fn line_of_output<R: Threads + Wait + Sync, F: FileSource, W: Runs>(
+        &self,
+        rt: &R,
+        alloc: Global,
+        runs: &W,
+        files: &mut F,
+    ) -> Result<Option<String>, Failure>
+        ensures line { let t = trial_of self.now in IfOk result (λ line.
+            MatchOption line (IsCompared (F.held files.old) t None)
+            (λ l. IsLineOfOutput (F.held files.old) t (string_bytes l))) }
         ensures why { IfErr result (λ f. f ≡ Failure.NoMemory) }
         ensures keeps { F.held files.new ≡ F.held files.old }
     {
         match self.difference(rt, alloc, runs, files) {
             Ok(None) => Ok(None),
-            Ok(Some(line)) => Ok(Some(otherwise(alloc, self.stem, line)?)),
-            Err(failure) => Ok(Some(failed(alloc, self.stem, &failure)?)),
+            Ok(Some(how)) => Ok(Some(self.otherwise(alloc, how)?)),
+            Err(failure) => Ok(Some(self.failed(alloc, &failure)?)),
         }
     }
 
-    /// Returns the line in which its output first differs from its `.out` file, or None if it doesn't.
+    /// Returns how its output differs from its `.out` file, or None if it doesn't.
     fn difference<R: Threads + Wait + Sync, F: FileSource, W: Runs>(
         &self,
         rt: &R,
         alloc: Global,
         runs: &W,
         files: &mut F,
-    ) -> Result<Option<usize>, Failure>
-        ensures compared { IfOk result (IsCompared (F.held files.old) (trial_of self.now)) }
+    ) -> Result<Option<Vec<u8>>, Failure>
+        ensures compared { IfOk result (λ how. IsCompared (F.held files.old) (trial_of self.now)
+            (option_map (λ v. v.items) how)) }
         ensures why { IfErr result (IsUncompared (F.held files.old) (trial_of self.now)) }
         ensures keeps { F.held files.new ≡ F.held files.old }
     {
@@ -160,7 +320,7 @@ impl Trial<'_> {
     }
 
     /// Returns its program, if that has no race, and its input.
-    fn begun<R: Threads + Sync, F: FileSource>(
+    pub fn begun<R: Threads + Sync, F: FileSource>(
         &self,
         rt: &R,
         alloc: Global,
@@ -199,8 +359,7 @@ impl Trial<'_> {
         Ok(Begun { accepted, input })
     }
 
-    /// Returns the initial contents of its arrays: the lists in its `.json` file, if the folder has
-    /// one.
+    /// Returns the initial contents of its arrays: the lists in its `.json` file, if there is one.
     fn input<F: FileSource>(
         &self,
         alloc: Global,
@@ -214,23 +373,11 @@ impl Trial<'_> {
             (F.held files.old) (code_of typed.now).arrays) }
         ensures keeps { F.held files.new ≡ F.held files.old }
     {
-        if !self.has(alloc, ".json")? {
+        if !self.program.has_input {
             return input_of(alloc, files, typed, None);
         }
         let name = self.file(alloc, ".json")?;
         input_of(alloc, files, typed, Some(name.as_str()))
-    }
-
-    /// Returns whether the folder has its file with this ending.
-    fn has(&self, alloc: Global, ending: &str) -> Result<bool, Failure>
-        ensures has { IfOk result (λ has. has ≡ has_file (trial_of self.now) ending.now) }
-        ensures why { IfErr result (λ f. f ≡ Failure.NoMemory) }
-    {
-        let stem = self.stem;
-        match format!(in alloc; "{stem}{ending}") {
-            Ok(name) => Ok(has_name(self.folder.names, name.as_str())),
-            Err(AllocError) => Err(Failure::NoMemory),
-        }
     }
 
     /// Returns the contents of its file with this ending.
@@ -251,92 +398,28 @@ impl Trial<'_> {
     }
 
     /// Returns the name of its file with this ending.
-    fn file(&self, alloc: Global, ending: &str) -> Result<String, Failure>
+    pub fn file(&self, alloc: Global, ending: &str) -> Result<String, Failure>
         ensures name { IfOk result
             (λ name. string_bytes name ≡ file_of (trial_of self.now) ending.now) }
         ensures why { IfErr result (λ f. f ≡ Failure.NoMemory) }
     {
-        let folder = self.folder.name;
-        let stem = self.stem;
-        match format!(in alloc; "{folder}/{stem}{ending}") {
+        let base = self.program.base.as_str();
+        match format!(in alloc; "{base}{ending}") {
             Ok(name) => Ok(name),
             Err(AllocError) => Err(Failure::NoMemory),
         }
     }
 }
 
-/// Returns the line of a program whose output differs first in this line.
-fn otherwise(alloc: Global, stem: &str, line: usize) -> Result<String, Failure>
-    ensures line { IfOk result (λ told. string_bytes told ≡ escaped stem.now
-        ++ (codes ".afx: output differs at line " ++ (decimal line ++ codes "\n"))) }
-    ensures why { IfErr result (λ f. f ≡ Failure.NoMemory) }
+/// Returns the text of a file.
+fn text_in<F: FileSource>(alloc: Global, files: &mut F, name: &str) -> Result<String, Failure>
+    ensures text { IfOk result (λ text. HasText (F.held files.old) name.now (string_bytes text)) }
+    ensures why { IfErr result (TellsNoText (F.held files.old) name.now) }
+    ensures keeps { F.held files.new ≡ F.held files.old }
 {
-    let shown = shown_of(alloc, stem)?;
-    match format!(in alloc; "{shown}.afx: output differs at line {line}\n") {
-        Ok(line) => Ok(line),
-        Err(AllocError) => Err(Failure::NoMemory),
-    }
-}
-
-/// Returns the line of a program that isn't refused, though it is to be.
-fn not_refused(alloc: Global, stem: &str) -> Result<String, Failure>
-    ensures line { IfOk result
-        (λ line. string_bytes line ≡ escaped stem.now ++ codes ".afx: not refused\n") }
-    ensures why { IfErr result (λ f. f ≡ Failure.NoMemory) }
-{
-    let shown = shown_of(alloc, stem)?;
-    match format!(in alloc; "{shown}.afx: not refused\n") {
-        Ok(line) => Ok(line),
-        Err(AllocError) => Err(Failure::NoMemory),
-    }
-}
-
-/// Returns the line of a program that fails for this reason.
-fn failed(alloc: Global, stem: &str, failure: &Failure) -> Result<String, Failure>
-    ensures line { IfOk result (λ line. string_bytes line
-        ≡ escaped stem.now ++ (codes ".afx: " ++ (failure_text failure.now ++ codes "\n"))) }
-    ensures why { IfErr result (λ f. f ≡ Failure.NoMemory) }
-{
-    let shown = shown_of(alloc, stem)?;
-    let message = message_of(alloc, failure)?;
-    match format!(in alloc; "{shown}.afx: {message}") {
-        Ok(line) => Ok(line),
-        Err(AllocError) => Err(Failure::NoMemory),
-    }
-}
-
-/// Returns a name of a folder, with control characters escaped.
-fn shown_of(alloc: Global, name: &str) -> Result<String, Failure>
-    ensures text { IfOk result (λ text. string_bytes text ≡ escaped name.now) }
-    ensures why { IfErr result (λ f. f ≡ Failure.NoMemory) }
-{
-    let mut bytes = Vec::new(alloc);
-    if emit_file(&mut bytes, "", name).is_err() {
-        return Err(Failure::NoMemory);
-    }
-    text_of(bytes)
-}
-
-/// Returns the message of a failure, with its newline.
-fn message_of(alloc: Global, failure: &Failure) -> Result<String, Failure>
-    ensures text { IfOk result (λ text. string_bytes text ≡ failure_text failure.now ++ codes "\n") }
-    ensures why { IfErr result (λ f. f ≡ Failure.NoMemory) }
-{
-    let mut bytes = Vec::new(alloc);
-    if emit_message(&mut bytes, failure).is_err() {
-        return Err(Failure::NoMemory);
-    }
-    text_of(bytes)
-}
-
-/// Returns the text that these bytes are.
-fn text_of(bytes: Vec<u8>) -> Result<String, Failure>
-    ensures text { IfOk result (λ text. string_bytes text ≡ bytes.items) }
-    ensures why { IfErr result (λ f. f ≡ Failure.NoMemory) }
-{
+    let bytes = read_file(alloc, files, name)?;
     match String::from_utf8(bytes) {
         Ok(text) => Ok(text),
-        // No contract states that they are UTF-8; they consist of texts.
-        Err(_) => Err(Failure::NoMemory),
+        Err(_) => Err(Failure::not_utf8(alloc, name)),
     }
 }

@@ -25,8 +25,11 @@ const ROWS: &[(&str, &str)] = &[
         "cost",
         " input steps nest by-line by-procedure format explain color",
     ),
-    ("bench", " input steps nest tasks w0 workers explain color"),
-    ("test", " steps nest tasks w0 workers"),
+    (
+        "bench",
+        " input steps nest tasks w0 workers format explain color",
+    ),
+    ("test", " write steps nest tasks w0 workers"),
     (
         "explore",
         " input choices choices-from random arrays explain color",

@@ -14,9 +14,9 @@ returns-then-eq c o orders =
 pub returns-then-eq-2 : goal.returns-then-eq-2
 returns-then-eq-2 c o orders =
     bench_times c.args.command.now (map string_bytes c.args.behind.now)
-    (λ (p : Order). IsSomeAnd c.times_in.result (λ r. order r ≡ p))
+    (λ (p : Order). IsSomeAnd c.bench_in.result (λ r. order r ≡ p))
     (is_word c.eq-else-eq.result c.args.command.now (codes "bench") c.eq-else-eq.ensures c.if-eq-2.true)
-    c.times_in.ensures o orders
+    c.bench_in.ensures.text c.bench_in.ensures.object o orders
 
 pub returns-else-eq-2 : goal.returns-else-eq-2
 returns-else-eq-2 c o orders =

@@ -1,6 +1,6 @@
 use Rattle.std.proofs.Common.{inl, inr, refl}
 use Rattle.options.proofs.Replied.{conflict_is_mistake}
-use Rattle.command_words.specs.Orders.{AsText, AsObject, Times, Tests, order}
+use Rattle.command_words.specs.Orders.{AsText, AsObject, Times, TimesAsObject, Tests, order}
 use Rattle.driver.proofs.Ordered.{ordered}
 use Rattle.driver.proofs.Watched.{watched_as}
 use Rattle.driver.proofs.act.act.Goals as goal
@@ -13,6 +13,9 @@ returns-in-Err-clause-as_object g c x a asks once = absurd (c.in-Err.ensures.rea
 
 pub returns-in-Err-clause-timed : goal.returns-in-Err-clause-timed
 returns-in-Err-clause-timed g c a asks once = absurd (c.in-Err.ensures.read (Times a) asks once)
+
+pub returns-in-Err-clause-timed_as_object : goal.returns-in-Err-clause-timed_as_object
+returns-in-Err-clause-timed_as_object g c a asks once = absurd (c.in-Err.ensures.read (TimesAsObject a) asks once)
 
 pub returns-in-Err-clause-tested : goal.returns-in-Err-clause-tested
 returns-in-Err-clause-tested g c a asks once = absurd (c.in-Err.ensures.read (Tests a) asks once)
@@ -28,6 +31,11 @@ returns-in-Ok-clause-as_object g c x a asks once =
 pub returns-in-Ok-clause-timed : goal.returns-in-Ok-clause-timed
 returns-in-Ok-clause-timed g c a asks once =
     ordered _ _ _ _ _ _ _ _ _ (order c.in-Ok.order) (Times a) (c.in-Ok.ensures.read (Times a) asks once) c.carry_out.ensures.acts
+
+pub returns-in-Ok-clause-timed_as_object : goal.returns-in-Ok-clause-timed_as_object
+returns-in-Ok-clause-timed_as_object g c a asks once =
+    ordered _ _ _ _ _ _ _ _ _ (order c.in-Ok.order) (TimesAsObject a) (c.in-Ok.ensures.read (TimesAsObject a) asks once)
+    c.carry_out.ensures.acts
 
 pub returns-in-Ok-clause-tested : goal.returns-in-Ok-clause-tested
 returns-in-Ok-clause-tested g c a asks once =

@@ -1,10 +1,11 @@
-use Rattle.std.proofs.Common.{ap, map, refl, sym}
-use Rattle.command_line.specs.Requests.{asked_of}
+use Rattle.std.proofs.Common.{◌∷◌, [], ap, map, refl, sym}
+use Rattle.std.specs.Prelude.{false}
+use Rattle.command_line.specs.Requests.{asked_of, settings}
 use Rattle.std.specs.String.{string_bytes}
-use Rattle.command_words.specs.Orders.{AsText, AsObject, Times, Tests, Each, command_of, order}
+use Rattle.command_words.specs.Orders.{AsText, AsObject, Times, TimesAsObject, Tests, TestsEach, Each, command_of, order}
 use Rattle.driver.specs.Acts.{in_short}
 use Rattle.driver.specs.Watching.{is_watched, is_watched_by}
-use Rattle.driver.specs.declared.doing.TextOrder.TheVariants.{Answering, Describing, Timing}
+use Rattle.driver.specs.declared.doing.TextOrder.TheVariants.{Answering, Describing, Timing, TimingAsObject}
 use Rattle.driver.proofs.Ordered.{acted, ordered, tested_as}
 use Rattle.driver.proofs.Watched.{reported_watched, watched_as}
 use Rattle.driver.proofs.act.carry_out.Goals as goal
@@ -31,11 +32,27 @@ returns-in-Times-clause-acts g c =
     (acted _ _ _ _ _ _ _ _ Timing asked (in_short done.result) _ c.explains_on-explains-in-Times.ensures done.ensures.done
     c.report-in-Times.ensures)
 
+pub returns-in-TimesAsObject-clause-acts : goal.returns-in-TimesAsObject-clause-acts
+returns-in-TimesAsObject-clause-acts g c =
+    let asked = asked_of c.in-TimesAsObject.request in let done = c.read_and_do-done-in-TimesAsObject in
+    ordered _ _ _ _ _ _ _ _ _ (TimesAsObject asked) (order c.args.order) (sym (ap order c.in-TimesAsObject.is))
+    (acted _ _ _ _ _ _ _ _ TimingAsObject asked (in_short done.result) _ c.explains_on-explains-in-TimesAsObject.ensures
+    done.ensures.done c.report-in-TimesAsObject.ensures)
+
 pub returns-in-Tests-clause-acts : goal.returns-in-Tests-clause-acts
 returns-in-Tests-clause-acts g c =
-    ordered _ _ _ _ _ _ _ _ _ (Tests (asked_of c.in-Tests.request)) (order c.args.order) (sym (ap order c.in-Tests.is))
-    (tested_as _ _ _ _ _ _ _ _ (asked_of c.in-Tests.request) (in_short c.test-done.result) c.test-done.ensures.done
-    c.report-in-Tests.ensures)
+    let asked = asked_of c.in-Tests.request in
+    ordered _ _ _ _ _ _ _ _ _ (Tests asked) (order c.args.order) (sym (ap order c.in-Tests.is))
+    (tested_as _ _ _ _ _ _ _ _ (asked.file ∷ []) false asked.settings (in_short c.test_one-done.result)
+    c.test_one-done.ensures.done c.report-in-Tests.ensures)
+
+pub returns-in-TestsEach-clause-acts : goal.returns-in-TestsEach-clause-acts
+returns-in-TestsEach-clause-acts g c =
+    let tests = c.in-TestsEach.tests in
+    let names = map string_bytes tests.names.now in let s = settings tests.settings in
+    ordered _ _ _ _ _ _ _ _ _ (TestsEach tests.writes names s) (order c.args.order) (sym (ap order c.in-TestsEach.is))
+    (tested_as _ _ _ _ _ _ _ _ names tests.writes s (in_short c.test_each-done.result) c.test_each-done.ensures.done
+    c.report-in-TestsEach.ensures)
 
 pub returns-in-AsText-clause-watched : goal.returns-in-AsText-clause-watched
 returns-in-AsText-clause-watched g c =
@@ -56,9 +73,20 @@ pub returns-in-Times-clause-watched : goal.returns-in-Times-clause-watched
 returns-in-Times-clause-watched g c =
     watched_as g.T.Watch.Told _ _ (Times (asked_of c.in-Times.request)) (order c.args.order) (sym (ap order c.in-Times.is)) _ tt
 
+pub returns-in-TimesAsObject-clause-watched : goal.returns-in-TimesAsObject-clause-watched
+returns-in-TimesAsObject-clause-watched g c =
+    watched_as g.T.Watch.Told _ _ (TimesAsObject (asked_of c.in-TimesAsObject.request)) (order c.args.order)
+    (sym (ap order c.in-TimesAsObject.is)) _ tt
+
 pub returns-in-Tests-clause-watched : goal.returns-in-Tests-clause-watched
 returns-in-Tests-clause-watched g c =
     watched_as g.T.Watch.Told _ _ (Tests (asked_of c.in-Tests.request)) (order c.args.order) (sym (ap order c.in-Tests.is)) _ refl
+
+pub returns-in-TestsEach-clause-watched : goal.returns-in-TestsEach-clause-watched
+returns-in-TestsEach-clause-watched g c =
+    let tests = c.in-TestsEach.tests in
+    watched_as g.T.Watch.Told _ _ (TestsEach tests.writes (map string_bytes tests.names.now) (settings tests.settings))
+    (order c.args.order) (sym (ap order c.in-TestsEach.is)) _ refl
 
 pub returns-in-Each-clause-acts : goal.returns-in-Each-clause-acts
 returns-in-Each-clause-acts g c =

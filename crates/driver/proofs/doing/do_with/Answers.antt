@@ -1,5 +1,5 @@
 use Rattle.command_line.specs.Requests.{asked_of, settings as settings_of}
-use Rattle.driver.specs.declared.doing.TextOrder.TheVariants.{Answering, Describing, Timing}
+use Rattle.driver.specs.declared.doing.TextOrder.TheVariants.{Answering, Describing, Timing, TimingAsObject}
 use Rattle.driver.proofs.Acting.{handed_over}
 use Rattle.driver.proofs.Ordered.{does_so}
 use Rattle.driver.proofs.Tried.{times_on}
@@ -27,6 +27,11 @@ returns-in-Timing-clause-done g c =
     (times_on (settings_of request.settings) text _ _ _ _ _ c.time-done.result c.handed_on-in-Timing.result
     c.time-done.ensures c.handed_on-in-Timing.ensures)
 
+pub returns-in-TimingAsObject-clause-done : goal.returns-in-TimingAsObject-clause-done
+returns-in-TimingAsObject-clause-done g c =
+    does_so c.args.doing TimingAsObject c.in-TimingAsObject.is (asked_of c.args.loaded.request) c.args.loaded.text.now _ _ _ _
+    c.time_as_object.result c.time_as_object.ensures
+
 pub returns-in-Answering-clause-watched : goal.returns-in-Answering-clause-watched
 returns-in-Answering-clause-watched g c =
     let request = c.args.loaded.request in
@@ -43,3 +48,8 @@ pub returns-in-Timing-clause-watched : goal.returns-in-Timing-clause-watched
 returns-in-Timing-clause-watched g c =
     watched_so g.T.Watch.Told _ _ c.args.doing Timing c.in-Timing.is (asked_of c.args.loaded.request)
     c.handed_on-in-Timing.result tt
+
+pub returns-in-TimingAsObject-clause-watched : goal.returns-in-TimingAsObject-clause-watched
+returns-in-TimingAsObject-clause-watched g c =
+    watched_so g.T.Watch.Told _ _ c.args.doing TimingAsObject c.in-TimingAsObject.is (asked_of c.args.loaded.request)
+    c.time_as_object.result tt

@@ -1,5 +1,5 @@
 use Rattle.std.proofs.KnownBytes.{Keeps-refl}
-use Rattle.driver.specs.declared.doing.TextOrder.TheVariants.{Answering, Timing}
+use Rattle.driver.specs.declared.doing.TextOrder.TheVariants.{Answering, Timing, TimingAsObject}
 use Rattle.driver.proofs.Ordered.{unread_so}
 use Rattle.driver.proofs.doing.tell_unread.Goals as goal
 
@@ -14,3 +14,8 @@ returns-in-Describing g c =
 pub returns-in-Timing : goal.returns-in-Timing
 returns-in-Timing g c =
     unread_so c.args.doing Timing c.in-Timing.is c.args.file.now _ _ c.args.failure.now (Keeps-refl _)
+
+pub returns-in-TimingAsObject : goal.returns-in-TimingAsObject
+returns-in-TimingAsObject g c =
+    unread_so c.args.doing TimingAsObject c.in-TimingAsObject.is c.args.file.now _ _ c.args.failure.now
+    c.tell_refusal-in-TimingAsObject.ensures

@@ -1,6 +1,6 @@
 use Rattle.std.proofs.Common.{◌≡◌, drop, map}
 use Rattle.std.specs.String.{string_bytes}
-use Rattle.test_and_bench.specs.Trials.{has_name}
+use Rattle.test_and_bench.specs.Listing.{has_name}
 use Rattle.test_and_bench.proofs.stems.has_name.Given as goal
 
 -- whether it is among the rest is whether it is one of all

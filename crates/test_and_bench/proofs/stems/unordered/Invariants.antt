@@ -1,7 +1,7 @@
 use Rattle.std.proofs.Common.{◌≡◌, ◌++◌, drop, map}
 use Rattle.std.specs.List.{flat_map}
 use Rattle.std.specs.String.{string_bytes}
-use Rattle.test_and_bench.specs.Trials.{stem}
+use Rattle.test_and_bench.specs.Listing.{stem}
 use Rattle.test_and_bench.proofs.stems.unordered.Given as goal
 
 -- what was found, and what is left
