@@ -69,12 +69,12 @@ text_has_none s n = or_null_has_none string (option_map string_bytes (slice_get 
 
 share_has_none : (s : NamedStatements) (work span : List ℕ) (n : ℕ) (p : TextPlace) → HasNoFloat (share_json s work span n p)
 share_has_none s work span n p =
-    object_has_none (share_members s n p (slice_index work (n + 1)) (slice_index span (n + 1)))
+    object_has_none (share_members (n + 1) p (text_json s n) (slice_index work (n + 1)) (slice_index span (n + 1)))
     (refl, (refl, (refl, (refl, (text_has_none s n, (refl, tt))))))
 
 statement_has_none : (s : NamedStatements) (n : ℕ) (p : TextPlace) → HasNoFloat (statement_json s n p)
 statement_has_none s n p =
-    object_has_none (statement_members s n p) (refl, (refl, (refl, (text_has_none s n, tt))))
+    object_has_none (statement_members (n + 1) p (text_json s n)) (refl, (refl, (refl, (text_has_none s n, tt))))
 
 pub statements_have_none : (s : NamedStatements) → HasNoFloat (statements_json s)
 statements_have_none s =
@@ -138,12 +138,12 @@ text_within s n = or_null_within 0 string (option_map string_bytes (slice_get s.
 
 share_within : (s : NamedStatements) (work span : List ℕ) (n : ℕ) (p : TextPlace) → Within 1 (share_json s work span n p)
 share_within s work span n p =
-    object_within 0 (share_members s n p (slice_index work (n + 1)) (slice_index span (n + 1)))
+    object_within 0 (share_members (n + 1) p (text_json s n) (slice_index work (n + 1)) (slice_index span (n + 1)))
     (omega arith, (omega arith, (omega arith, (omega arith, (text_within s n, (omega arith, tt))))))
 
 statement_within : (s : NamedStatements) (n : ℕ) (p : TextPlace) → Within 1 (statement_json s n p)
 statement_within s n p =
-    object_within 0 (statement_members s n p) (omega arith, (omega arith, (omega arith, (text_within s n, tt))))
+    object_within 0 (statement_members (n + 1) p (text_json s n)) (omega arith, (omega arith, (omega arith, (text_within s n, tt))))
 
 pub statements_within : (s : NamedStatements) → depth (statements_json s) ≤ max_depth
 statements_within s =

@@ -12,31 +12,33 @@ use Rattle.json_answers.specs.Pieces.{natural, object_of, or_null}
 abbrev pub text_json : NamedStatements → (n : ℕ) → Data
 text_json s n = or_null string (option_map string_bytes (slice_get s.heads.items n))
 
--- the n-th statement, which begins there
-abbrev pub statement_members : NamedStatements → (n : ℕ) → TextPlace → List (List ℕ × Data)
-statement_members s n p =
+-- a statement with this label and this text, which begins there
+abbrev pub statement_members : (label : ℕ) → TextPlace → (text : Data) → List (List ℕ × Data)
+statement_members label p text =
     (codes "column", natural p.column)
-    ∷ (codes "label", natural (n + 1))
+    ∷ (codes "label", natural label)
     ∷ (codes "line", natural p.line)
-    ∷ (codes "text", text_json s n) ∷ []
+    ∷ (codes "text", text) ∷ []
 
+-- the n-th statement, from 0
 abbrev pub statement_json : NamedStatements → (n : ℕ) → TextPlace → Data
-statement_json s n p = object_of (statement_members s n p)
+statement_json s n p = object_of (statement_members (n + 1) p (text_json s n))
 
--- the same with its share of a cost
-abbrev pub share_members : NamedStatements → (n : ℕ) → TextPlace → (work span : ℕ) → List (List ℕ × Data)
-share_members s n p work span =
+-- a statement with its share of a cost
+abbrev pub share_members : (label : ℕ) → TextPlace → (text : Data) → (work span : ℕ) → List (List ℕ × Data)
+share_members label p text work span =
     (codes "column", natural p.column)
-    ∷ (codes "label", natural (n + 1))
+    ∷ (codes "label", natural label)
     ∷ (codes "line", natural p.line)
     ∷ (codes "span", natural span)
-    ∷ (codes "text", text_json s n)
+    ∷ (codes "text", text)
     ∷ (codes "work", natural work) ∷ []
 
--- its share in the rows of labels
+-- the n-th statement with its share in the rows of labels
 abbrev pub share_json : NamedStatements → (work span : List ℕ) → (n : ℕ) → TextPlace → Data
 share_json s work span n p =
-    object_of (share_members s n p (slice_index work (n + 1)) (slice_index span (n + 1)))
+    let label = n + 1 in
+    object_of (share_members label p (text_json s n) (slice_index work label) (slice_index span label))
 
 -- the values for statements that begin at these places, from the n-th on
 abbrev pub numbered : (f : ℕ → TextPlace → Data) → (n : ℕ) → List TextPlace → List Data

@@ -1,11 +1,11 @@
 //! The statements of a program, and their shares of the cost of a run.
 
-ghost use Rattle.std.specs.Prelude.{◌≡◌, ◌<◌, ◌-◌, ◌^◌, slice_index, IfOk, OnOk};
+ghost use Rattle.std.specs.Prelude.{◌≡◌, slice_index, IfOk, OnOk};
 ghost use Rattle.std.specs.String.{string_bytes};
 ghost use Rattle.serde_json.specs.View.{view};
 ghost use Rattle.json_answers.specs.Pieces.{IsReadBack, line, object_of};
 ghost use Rattle.json_answers.specs.Statements.{list_of, members_with, share_json, share_members};
-ghost use Rattle.json_answers.specs.Statements.{shares_json, statement_json};
+ghost use Rattle.json_answers.specs.Statements.{shares_json, statement_json, statement_members};
 ghost use Rattle.json_answers.specs.Statements.{statements_json, text_json};
 
 use crate::line::line_of;
@@ -39,27 +39,26 @@ fn list_value(alloc: Global, statements: &NamedStatements) -> Result<Value, Allo
 {
     let mut list = Vec::new(alloc);
     for (number, place) in statements.places.iter().enumerate() {
-        list.push(statement_value(alloc, statements, number, *place)?)?;
+        let text = text_value(alloc, statements, number)?;
+        list.push(statement_value(alloc, number + 1, *place, text)?)?;
     }
     Ok(Value::Array(list))
 }
 
-/// Returns the statement with this number, from 0, which starts there.
+/// Returns the statement with this label and this text, which starts there.
 fn statement_value(
     alloc: Global,
-    statements: &NamedStatements,
-    number: usize,
+    label: usize,
     place: TextPlace,
+    text: Value,
 ) -> Result<Value, AllocError>
-    requires { number < 2 ^ 64 - 1 }
-    ensures { IfOk result (λ v. view v ≡ statement_json statements.now number place) }
+    ensures { IfOk result (λ v. view v ≡ object_of (statement_members label place (view text))) }
 {
-    let label = number + 1;
     json!(in alloc; {
         "column": place.column,
         "label": label,
         "line": place.line,
-        "text": text_value(alloc, statements, number)?,
+        "text": text,
     })
 }
 
@@ -135,8 +134,9 @@ fn share_list(
 {
     let mut list = Vec::new(alloc);
     for (number, place) in statements.places.iter().enumerate() {
+        let text = text_value(alloc, statements, number)?;
         let share = share_at(work, span, number + 1);
-        list.push(share_value(alloc, statements, number, *place, share)?)?;
+        list.push(share_value(alloc, number + 1, *place, text, share)?)?;
     }
     Ok(Value::Array(list))
 }
@@ -159,25 +159,23 @@ fn share_at(work: &[u64], span: &[u64], label: usize) -> Share
     }
 }
 
-/// Returns the statement with this number, from 0, which starts there, with its share.
+/// Returns the statement with this label and this text, which starts there, with its share.
 fn share_value(
     alloc: Global,
-    statements: &NamedStatements,
-    number: usize,
+    label: usize,
     place: TextPlace,
+    text: Value,
     share: Share,
 ) -> Result<Value, AllocError>
-    requires { number < 2 ^ 64 - 1 }
     ensures { IfOk result (λ v. view v
-        ≡ object_of (share_members statements.now number place share.work share.span)) }
+        ≡ object_of (share_members label place (view text) share.work share.span)) }
 {
-    let label = number + 1;
     json!(in alloc; {
         "column": place.column,
         "label": label,
         "line": place.line,
         "span": share.span,
-        "text": text_value(alloc, statements, number)?,
+        "text": text,
         "work": share.work,
     })
 }
