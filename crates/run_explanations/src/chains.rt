@@ -16,6 +16,7 @@ pub fn chain_of(alloc: Global, left: &[RepeatedFrame<'_>]) -> Result<CallChain, 
         depth: 0,
         last: Vec::new(alloc),
         first: None,
+        skips: false,
     };
     for frame in left.iter().rev() {
         if let RepeatedFrame::Call { label, .. } = frame {
@@ -39,6 +40,7 @@ fn add_call(chain: &mut CallChain, label: Label) -> Result<(), AllocError> {
     if chain.last.len() < MOST_CALLS {
         chain.last.push(EqualCalls { label, times: 1 })?;
     } else {
+        chain.skips = chain.first.is_some();
         chain.first = Some(label);
     }
     Ok(())
@@ -78,7 +80,7 @@ fn push_chain(
         before = ", ";
     }
     if let Some(label) = chain.first {
-        told.push_str(", .., ")?;
+        told.push_str(if chain.skips { ", .., " } else { ", " })?;
         push_call(told, statements, EqualCalls { label, times: 1 })?;
     }
     told.push_str(".\n")

@@ -24,6 +24,8 @@ pub struct CallChain {
     pub last: Vec<EqualCalls>,
     /// The first call, if it isn't among the last ones.
     pub first: Option<Label>,
+    /// Whether there are other calls between the first one and the last ones.
+    pub skips: bool,
 }
 
 /// Calls by one statement, each inside the one before it.
