@@ -1,8 +1,8 @@
-use Rattle.std.proofs.Common.{◌∙◌}
+use Rattle.std.proofs.Common.{◌∙◌, sym}
 use Rattle.commands.proofs.Answering.{err_passed}
 use Rattle.test_and_bench.specs.Trials.{IsUnwritten, no_output, refused, trial, unread_output}
 use Rattle.test_and_bench.proofs.Trying.{no_answer}
-use Rattle.test_and_bench.proofs.Written.{had_before, unwritten, written_anew}
+use Rattle.test_and_bench.proofs.Written.{found_for, had_before, unwritten, written_anew}
 use Rattle.test_and_bench.proofs.trial.Trial.written.Goals as goal
 
 pub returns-in_err-begun-clause-why : goal.returns-in_err-begun-clause-why
@@ -50,4 +50,6 @@ returns-clause-written g c =
     let held = g.F.FileSource.held c.args.files.now in let t = trial c.args.self.now in
     written_anew held _ _ t c.in_ok-begun.begun _ _ c.in_ok-begun.ensures.begun (c.deref-2.ensures.value ∙ c.in_ok-told.ensures.told)
     c.in_ok-begun.ensures.keeps (c.as_str-2.ensures.value ∙ c.in_ok-name.ensures.name) c.in_ok-has.has c.if-has.false
-    c.in_ok-has.ensures.has _ c.in_ok-has.ensures.keeps c.in_ok-write_file.ensures.written c.in_ok-write_file.ensures.others
+    (found_for _ _ _ _ _ c.in_ok-has.has (c.as_str.ensures.value ∙ sym c.as_str-2.ensures.value)
+    (c.deref.ensures.value ∙ sym c.deref-2.ensures.value) c.in_ok-has.ensures.has)
+    _ c.in_ok-has.ensures.keeps c.in_ok-write_file.ensures.written c.in_ok-write_file.ensures.others
