@@ -72,7 +72,7 @@ fn push_chain(
     chain: &CallChain,
 ) -> Result<(), AllocError> {
     let depth = chain.depth;
-    write!(told, "The {depth} calls around it, from the last:")?;
+    write!(told, "The {depth} calls that led here, the last one first:")?;
     let mut before = " ";
     for calls in &chain.last {
         told.push_str(before)?;

@@ -44,7 +44,7 @@ fn push_heading(
             statements.push_at(told, label, None)?;
             write!(
                 calls,
-                "On one thread, this async would be the first to start one too many, label {label}.\n"
+                "On one thread, the async at label {label} would be the first to start one task too many.\n"
             )?;
             push_calls(&mut calls, &statements, &surplus.calls)?;
             return Ok(calls);

@@ -95,8 +95,8 @@ remark_at r n = remark_text (option_map string_bytes (slice_get r.texts.items (s
 
 -- this is the table of events with a remark after each line; the remarks aren't specified
 pub record IsTableByLine (es : List Event) (told : List ℕ) : Type 0 where
-  pub remarks : Remarks
-  pub told_is : told ≡ remarked (remark_at remarks) 0 (lines (table_text (map event_of es)))
+  pub remark : ℕ → List ℕ
+  pub told_is : told ≡ remarked remark 0 (lines (table_text (map event_of es)))
 
 -- after the text of the numbers of events come other lines, which aren't specified
 pub record IsSummaryByLine (workers : ℕ) (es : List Event) (told : List ℕ) : Type 0 where

@@ -11,7 +11,7 @@ pub returns : goal.returns
 returns c =
     let remarks = c.in_ok-remarks.remarks in
     IfOk-weaker c.with_remarks.result _ _ (λ told is. record {
-      remarks = remarks;
+      remark = remark_at remarks;
       told_is = is ∙ ap (λ (t : List ℕ). remarked (remark_at remarks) 0 (lines t))
           (c.as_str.ensures.value ∙ c.in_ok-table.ensures
           ∙ ap (λ (es : List Event). table_text (map event_of es)) c.deref.ensures.value);
