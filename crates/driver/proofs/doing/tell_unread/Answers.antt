@@ -12,7 +12,7 @@ pub returns-in-Describing-clause-told : goal.returns-in-Describing-clause-told
 returns-in-Describing-clause-told g c =
     let o = c.args.ordered in
     unread_so o.doing _ c.in-Describing.is o.request.file.now _ _ c.args.failure.now
-    c.tell_unread_file-in-Describing.ensures.told
+    c.tell_unread_file.ensures.told
 
 pub returns-in-Timing-clause-told : goal.returns-in-Timing-clause-told
 returns-in-Timing-clause-told g c =
