@@ -1,6 +1,6 @@
 -- The statements of a text's program, as answers name them: `12:11 label 8  async { .. }`.
 use Rattle.std.specs.Prelude.{ℕ, ◌≡◌, ◌+◌, ◌-◌, ◌++◌, Bool, false, List, [], ◌∷◌, Option, None, Some, codes}
-use Rattle.std.specs.Prelude.{drop, if◌then◌else◌, length, map, nat_eq, option_map, slice_get}
+use Rattle.std.specs.Prelude.{if◌then◌else◌, length, map, nat_eq, option_map, slice_get, unwrap_or}
 use Rattle.std.specs.Fmt.{decimal}
 use Rattle.std.specs.Str.{chars, trim_start}
 use Rattle.std.specs.Str.Lines.{lines}
@@ -32,20 +32,21 @@ closed head = if opens_block head then head ++ codes " .. }" else head
 abbrev pub head_on : (line : List ℕ) → List ℕ
 head_on line = closed (trim_start line)
 
--- that on the first of these lines, if its line in the listing has a label
-abbrev pub head_if : (labelled : Bool) → List (List ℕ) → List (List ℕ)
-head_if labelled [] = []
-head_if labelled (line ∷ behind) = if labelled then head_on line ∷ [] else []
+-- that text, if the line in the listing has a label
+abbrev pub head_if : (labelled : Bool) → (line : List ℕ) → List (List ℕ)
+head_if labelled line = if labelled then head_on line ∷ [] else []
 
--- the texts of the statements on the lines of a program, given those of its listing
-abbrev pub heads_on : (listing plain : List (List ℕ)) → List (List ℕ)
-heads_on [] plain = []
-heads_on (l ∷ listing) plain = head_if (has_label l) plain ++ heads_on listing (drop 1 plain)
+-- the texts of the statements on the lines of a program from the n-th on, given the lines of its listing from
+-- there on
+abbrev pub heads_on : (plain : List (List ℕ)) → (n : ℕ) → (listing : List (List ℕ)) → List (List ℕ)
+heads_on plain n [] = []
+heads_on plain n (l ∷ listing) =
+    head_if (has_label l) (unwrap_or (slice_get plain n) []) ++ heads_on plain (n + 1) listing
 
 -- these are the statements of the text's program, in the order of labels: where each begins, and its text
 pub record AreStatements (text : List ℕ) (p : Program) (s : NamedStatements) : Type 0 where
   pub begun : AreBegun (chars text) (starts p) s.places.items
-  pub heads_are : map string_bytes s.heads.items ≡ heads_on (lines (listed p)) (lines (canonical p))
+  pub heads_are : map string_bytes s.heads.items ≡ heads_on (lines (canonical p)) 0 (lines (listed p))
 
 -- those of a program that the text spells
 pub record HasStatements (text : List ℕ) (s : NamedStatements) : Type 0 where

@@ -1,6 +1,6 @@
 //! The statements of a text's program, as answers name them: `12:11 label 8  async { .. }`.
 
-ghost use Rattle.std.specs.Prelude.{◌≡◌, ◌++◌, codes, drop, map, option_map, slice_get, IfOk, OnOk};
+ghost use Rattle.std.specs.Prelude.{◌≡◌, ◌++◌, [], codes, map, option_map, slice_get, unwrap_or, IfOk, OnOk};
 ghost use Rattle.std.specs.Str.{chars};
 ghost use Rattle.std.specs.Str.Lines.{lines as lines_in};
 ghost use Rattle.std.specs.String.{string_bytes};
@@ -144,7 +144,7 @@ fn places_of(alloc: Global, text: &str) -> Result<Vec<TextPlace>, AllocError>
 /// in its listing.
 fn heads_of(alloc: Global, program: &Program) -> Result<Vec<String>, AllocError>
     ensures { let p = tree_of program.now in IfOk result (λ heads.
-        map string_bytes heads.items ≡ heads_on (lines_in (listed p)) (lines_in (canonical p))) }
+        map string_bytes heads.items ≡ heads_on (lines_in (canonical p)) 0 (lines_in (listed p))) }
 {
     let listing = syntax::listing(alloc, program)?;
     let text = syntax::format(alloc, program)?;
@@ -156,35 +156,39 @@ fn heads_of(alloc: Global, program: &Program) -> Result<Vec<String>, AllocError>
 /// Returns the texts of the statements on the lines of a program, given those of its listing.
 fn heads_among(alloc: Global, listing: &[&str], plain: &[&str]) -> Result<Vec<String>, AllocError>
     ensures { IfOk result (λ heads. map string_bytes heads.items
-        ≡ heads_on (map (λ l. l.now) listing.now) (map (λ l. l.now) plain.now)) }
+        ≡ heads_on (map (λ l. l.now) plain.now) 0 (map (λ l. l.now) listing.now)) }
 {
     let mut heads = Vec::new(alloc);
-    let mut left = plain;
-    for line in listing {
-        left = push_head(alloc, &mut heads, has_label(line), left)?;
+    for (number, line) in listing.iter().enumerate() {
+        push_head(alloc, &mut heads, has_label(line), line_at(plain, number))?;
     }
     Ok(heads)
 }
 
-/// Adds the text of the statement on the first line, if it has a label. Returns the lines after it.
-fn push_head<'l, 't>(
+/// Adds the text of the statement on a line, if it has a label.
+fn push_head(
     alloc: Global,
     heads: &mut Vec<String>,
     labelled: bool,
-    plain: &'l [&'t str],
-) -> Result<&'l [&'t str], AllocError>
-    ensures left { IfOk result (λ left. map (λ l. l.now) left.now
-        ≡ drop 1 (map (λ l. l.now) plain.now)) }
-    ensures heads { OnOk result (map string_bytes heads.new.items
-        ≡ map string_bytes heads.old.items ++ head_if labelled (map (λ l. l.now) plain.now)) }
+    line: &str,
+) -> Result<(), AllocError>
+    ensures { OnOk result (map string_bytes heads.new.items
+        ≡ map string_bytes heads.old.items ++ head_if labelled line.now) }
 {
-    let [line, behind @ ..] = plain else {
-        return Ok(plain);
-    };
     if labelled {
         heads.push(head_of(alloc, line)?)?;
     }
-    Ok(behind)
+    Ok(())
+}
+
+/// Returns the line with this number, from 0, or an empty text if there is none.
+fn line_at<'t>(lines: &[&'t str], number: usize) -> &'t str
+    ensures { result.now ≡ unwrap_or (slice_get (map (λ l. l.now) lines.now) number) [] }
+{
+    match lines.get(number) {
+        None => "",
+        Some(line) => line,
+    }
 }
 
 /// Returns the text of the statement on a line: without its indentation, and with its block closed.

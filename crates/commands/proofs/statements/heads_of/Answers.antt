@@ -12,5 +12,5 @@ returns c =
     let plain =
     ap (map shown) c.deref-2.ensures.value ∙ c.in_ok-plain.ensures ∙ ap lines (c.as_str-2.ensures.value ∙ c.in_ok-text.ensures.text) in
     IfOk-weaker c.heads_among.result _ _
-    (λ heads is. is ∙ ap (λ (l : List (List ℕ)). heads_on l (map shown c.deref-2.result.now)) listing
-    ∙ ap (λ (l : List (List ℕ)). heads_on _ l) plain) c.heads_among.ensures
+    (λ heads is. is ∙ ap (λ (l : List (List ℕ)). heads_on l 0 (map shown c.deref.result.now)) plain
+    ∙ ap (λ (l : List (List ℕ)). heads_on _ 0 l) listing) c.heads_among.ensures
