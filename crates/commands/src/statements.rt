@@ -187,7 +187,7 @@ fn line_at<'t>(lines: &[&'t str], number: usize) -> &'t str
 {
     match lines.get(number) {
         None => "",
-        Some(line) => line,
+        Some(line) => *line,
     }
 }
 
