@@ -1,8 +1,9 @@
 -- Lines with statements: those of a listing, those of shares, and those of pairs.
 use Rattle.std.proofs.Common.{◌≡◌, ℕ, ◌+◌, ◌<◌, ◌≤◌, List, [], ◌∷◌, ◌++◌, length, map, take, drop, get_or, refl, sym, ap, ◌∙◌}
 use Rattle.std.proofs.Common.{append_assoc, take_all}
-use Rattle.std.proofs.lemmas.List.{drop-map, drop_more, take_more, flat_map_more}
-use Rattle.std.specs.Prelude.{Bool, slice_get, unwrap_or}
+use Rattle.std.proofs.lemmas.List.{drop_more, take_more, flat_map_more}
+use Rattle.std.proofs.lemmas.Option.{slice_get-map}
+use Rattle.std.specs.Prelude.{Bool, Option, option_map, slice_get, unwrap_or}
 use Rattle.std.specs.Borrow.{Bor}
 use Rattle.std.specs.List.{flat_map}
 use Rattle.std.specs.Str.{chars}
@@ -31,18 +32,20 @@ lines_from items i d line within is =
     ∙ ap (λ (l : List ℕ). l ∷ map shown (drop (i + 1) items)) (sym is)
 
 -- one more statement: the texts so far, and those on the lines that are left
-pub one_more_head : (plain : List (List ℕ)) (items : List (Bor (List ℕ))) (i : ℕ) (d : Bor (List ℕ)) (line : List ℕ)
-    (labelled : Bool) (text : List ℕ) (done written all : List (List ℕ)) → i < length items → line ≡ (get_or items i d).now
-    → labelled ≡ has_label line → text ≡ unwrap_or (slice_get plain i) [] → written ≡ done ++ head_if labelled text
-    → done ++ heads_on plain i (map shown (drop i items)) ≡ all
-    → written ++ heads_on plain (i + 1) (map shown (drop (i + 1) items)) ≡ all
+pub one_more_head : (plain items : List (Bor (List ℕ))) (i : ℕ) (d : Bor (List ℕ)) (line : List ℕ) (labelled : Bool)
+    (text : List ℕ) (done written all : List (List ℕ)) → i < length items → line ≡ (get_or items i d).now
+    → labelled ≡ has_label line → text ≡ unwrap_or (option_map shown (slice_get plain i)) []
+    → written ≡ done ++ head_if labelled text → done ++ heads_on (map shown plain) i (map shown (drop i items)) ≡ all
+    → written ++ heads_on (map shown plain) (i + 1) (map shown (drop (i + 1) items)) ≡ all
 one_more_head plain items i d line labelled text done written all within is shows text_is written_is so_far =
-    let behind = heads_on plain (i + 1) (map shown (drop (i + 1) items)) in
+    let behind = heads_on (map shown plain) (i + 1) (map shown (drop (i + 1) items)) in
+    let same : text ≡ unwrap_or (slice_get (map shown plain) i) [] =
+    text_is ∙ ap (λ (o : Option (List ℕ)). unwrap_or o []) (sym (slice_get-map shown plain i)) in
     ap (λ (l : List (List ℕ)). l ++ behind) written_is
-    ∙ ap (λ (t : List ℕ). (done ++ head_if labelled t) ++ behind) text_is
-    ∙ ap (λ (b : Bool). (done ++ head_if b (unwrap_or (slice_get plain i) [])) ++ behind) shows
-    ∙ append_assoc done (head_if (has_label line) (unwrap_or (slice_get plain i) [])) behind
-    ∙ ap (λ (l : List (List ℕ)). done ++ heads_on plain i l) (sym (lines_from items i d line within is))
+    ∙ ap (λ (t : List ℕ). (done ++ head_if labelled t) ++ behind) same
+    ∙ ap (λ (b : Bool). (done ++ head_if b (unwrap_or (slice_get (map shown plain) i) [])) ++ behind) shows
+    ∙ append_assoc done (head_if (has_label line) (unwrap_or (slice_get (map shown plain) i) [])) behind
+    ∙ ap (λ (l : List (List ℕ)). done ++ heads_on (map shown plain) i l) (sym (lines_from items i d line within is))
     ∙ so_far
 
 -- one more line: what was written, and the lines that are left

@@ -183,7 +183,7 @@ fn push_head(
 
 /// Returns the line with this number, from 0, or an empty text if there is none.
 fn line_at<'t>(lines: &[&'t str], number: usize) -> &'t str
-    ensures { result.now ≡ unwrap_or (slice_get (map (λ l. l.now) lines.now) number) [] }
+    ensures { result.now ≡ unwrap_or (option_map (λ l. l.now) (slice_get lines.now number)) [] }
 {
     match lines.get(number) {
         None => "",
