@@ -104,10 +104,7 @@ fn lines_of(
     match shares {
         Shares::Untold => Ok(numbers),
         Shares::ByLabel => with_labels(alloc, text, typed, cost, numbers),
-        Shares::ByProcedure => {
-            let lines = lines_of_procedures(alloc, typed, cost)?;
-            Ok(joined(numbers, &lines)?)
-        }
+        Shares::ByProcedure => with_procedures(alloc, typed, cost, numbers),
     }
 }
 
@@ -130,6 +127,22 @@ fn with_labels(
     Ok(told)
 }
 
+/// Adds the shares of procedures to a text.
+fn with_procedures(
+    alloc: Global,
+    typed: &Typed,
+    cost: &CostByLabel,
+    before: String,
+) -> Result<String, AllocError>
+    ensures { IfOk result (λ told. string_bytes told ≡ string_bytes before
+        ++ text_of_procedures cost.now.work.items cost.now.span.items (code_of typed.now)) }
+{
+    let lines = lines_of_procedures(alloc, typed, cost)?;
+    let mut told = before;
+    told.push_str(lines.as_str())?;
+    Ok(told)
+}
+
 /// Returns the lines of the shares of procedures.
 fn lines_of_procedures(
     alloc: Global,
@@ -140,14 +153,4 @@ fn lines_of_procedures(
         ≡ text_of_procedures cost.now.work.items cost.now.span.items (code_of typed.now)) }
 {
     procedures_text(alloc, typed.code(), &cost.work, &cost.span)
-}
-
-/// Returns a text followed by another.
-fn joined(first: String, second: &String) -> Result<String, AllocError>
-    ensures { IfOk result
-        (λ text. string_bytes text ≡ string_bytes first ++ string_bytes second.now) }
-{
-    let mut text = first;
-    text.push_str(second.as_str())?;
-    Ok(text)
 }
