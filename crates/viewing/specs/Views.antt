@@ -1,5 +1,5 @@
 -- The answers for the trace of a run, and the reasons why there is none.
-use Rattle.std.specs.Prelude.{ℕ, ℤ, ◌≡◌, ◌⊎◌, ◌+◌, ◌++◌, List, [], ◌∷◌, Option, None, Some, Result, codes, map}
+use Rattle.std.specs.Prelude.{ℕ, ℤ, ◌≡◌, ◌⊎◌, ◌+◌, ◌++◌, List, [], ◌∷◌, Option, Result, codes, map}
 use Rattle.std.specs.Prelude.{option_map, slice_get, slice_index, unwrap_or}
 use Rattle.std.specs.Str.Lines.{lines}
 use Rattle.std.specs.String.{string_bytes}
@@ -86,12 +86,8 @@ remarked remark n [] = []
 remarked remark n (line ∷ more) = (line ++ (remark n ++ codes "\n")) ++ remarked remark (n + 1) more
 
 -- the remark after the line of the n-th event
-abbrev pub remark_text : Option (List ℕ) → List ℕ
-remark_text None = []
-remark_text (Some text) = text
-
 abbrev pub remark_at : Remarks → (n : ℕ) → List ℕ
-remark_at r n = remark_text (option_map string_bytes (slice_get r.texts.items (slice_index r.labels.items n)))
+remark_at r n = unwrap_or (option_map string_bytes (slice_get r.texts.items (slice_index r.labels.items n))) []
 
 -- this is the table of events with a remark after each line; the remarks aren't specified
 pub record IsTableByLine (es : List Event) (told : List ℕ) : Type 0 where
