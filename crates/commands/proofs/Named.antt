@@ -1,5 +1,5 @@
 -- Lines with statements: those of a listing, those of shares, and those of pairs.
-use Rattle.std.proofs.Common.{◌≡◌, ℕ, ◌+◌, ◌<◌, ◌≤◌, List, [], ◌∷◌, ◌++◌, length, map, take, drop, get_or, refl, sym, ap, ◌∙◌}
+use Rattle.std.proofs.Common.{◌≡◌, ℕ, ◌+◌, ◌<◌, ◌≤◌, List, [], ◌∷◌, ◌++◌, length, map, take, drop, get_or, refl, sym, subst, ap, ◌∙◌}
 use Rattle.std.proofs.Common.{append_assoc, take_all}
 use Rattle.std.proofs.lemmas.List.{drop_more, take_more, flat_map_more}
 use Rattle.std.proofs.lemmas.Option.{slice_get-map}
@@ -78,6 +78,13 @@ module _ {A : Type 0} (text : A → List ℕ) (xs : List A) where
 pub has_statements : (text : List ℕ) (p : Tree) (s : NamedStatements) → AreTokensOf (chars text) (spelling p)
     → AreStatements text p s → HasStatements text s
 has_statements text p s spelled are = record { program = p; spelled = spelled; are = are }
+
+-- those of one that was returned as this program
+pub statements_found : (text : List ℕ) (p q : Tree) (s : NamedStatements) → q ≡ p → AreTokensOf (chars text) (spelling p)
+    → (AreTokensOf (chars text) (spelling q) → AreStatements text q s) → HasStatements text s
+statements_found text p q s same spelled are =
+    let so = subst (λ (t : Tree). AreTokensOf (chars text) (spelling t)) (sym same) spelled in
+    has_statements text q s so (are so)
 
 -- the pairs of labels that may run together, with both statements
 pub pairs_by_line_answer : (text told : List ℕ) (code : Program) (kept : KeptPairs) (list : List (ℕ × ℕ)) (s : NamedStatements)
