@@ -224,10 +224,7 @@ fn head_of(alloc: Global, line: &str) -> Result<String, AllocError>
 fn opens_block(line: &str) -> bool
     ensures { result ≡ opens line.now }
 {
-    match line.as_bytes().last() {
-        Some(last) => *last == b'{',
-        None => false,
-    }
+    line.as_bytes().last().copied().unwrap_or(0) == b'{'
 }
 
 /// Returns whether a line of a listing starts with a label.
