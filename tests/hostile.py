@@ -494,9 +494,12 @@ def outputs(tests):
     tests.file("tests_of_output/t.afx", TWO_ARRAYS)
     tests.file("tests_of_output/t.out", "7 8\n")
     much = (["run", "prints.afx"], ["serial", "prints.afx"], ["view", "loop.afx", "loop.trace"], ["mhp", "pairs.afx"], ["man"],
+            ["view", "loop.afx", "loop.trace", "--by-line"], ["mhp", "pairs.afx", "--by-line"],
             ["list", "pairs.afx"], ["fmt", "pairs.afx"], ["explore", "prints.afx", "--random", "1"],
             ["run", "prints.afx", "--format", "json"], ["completions", "bash"])
     little = (["run", "t.afx"], ["check", "t.afx"], ["view", "loop.afx", "loop.trace", "--summary"], ["explain", "Y5"],
+              ["view", "loop.afx", "loop.trace", "--summary", "--by-line"], ["list", "t.afx", "--format", "json"],
+              ["view", "loop.afx", "loop.trace", "--summary", "--format", "json"],
               ["--help"], ["--version"], ["cost", "t.afx"], ["cost", "t.afx", "--by-line"], ["explain", "--list"],
               ["check", "t.afx", "--list"], ["mhp", "t.afx", "--format", "json"], ["list", "t.afx", "--lines"],
               ["bench", "t.afx"], ["bench", "t.afx", "--format", "json"], ["test", "tests_of_output"],

@@ -49,10 +49,10 @@ def deep_texts():
 
 # What a text that is as deep or long as it may be is tried with. A check of very many labels takes its time.
 WAYS = (["check"], ["check", "--explain"], ["check", "--format", "json"], ["list"], ["list", "--lines"], ["fmt"],
-        ["fmt", "--check"], ["fmt", "--write"], ["mhp"], ["mhp", "--accesses"], ["cost"], ["cost", "--by-line"], ["cost", "--by-procedure"],
-        ["cost", "--format", "json"], ["bench"], ["serial"], ["serial", "--explain"], ["run", "--workers", "1"],
-        ["run", "--workers", "8"], ["run", "--format", "json"], ["explore", "--random", "1"],
-        ["run", "--workers", "2", "--trace", "deep.trace"])
+        ["fmt", "--check"], ["fmt", "--write"], ["mhp"], ["mhp", "--accesses"], ["mhp", "--by-line"], ["cost"],
+        ["cost", "--by-line"], ["cost", "--by-procedure"], ["cost", "--format", "json"], ["bench"], ["serial"],
+        ["serial", "--explain"], ["run", "--workers", "1"], ["run", "--workers", "8"], ["run", "--format", "json"],
+        ["explore", "--random", "1"], ["run", "--workers", "2", "--trace", "deep.trace"])
 
 
 def try_deep_texts(tests, left_out):

@@ -23,6 +23,8 @@ pub enum Command {
     Pairs,
     /// `mhp --accesses`: write the pairs of accesses of each procedure that may run together.
     Meetings,
+    /// `mhp --by-line`: write the pairs of its labels, each with its position and its statement.
+    PairsByLine,
     /// `explore`: run it over one shared store by given choices.
     Explore,
     /// `fmt`: write its text in the canonical layout, with its comments.
@@ -37,8 +39,12 @@ pub enum Command {
     CostByProcedure,
     /// `view`: write the events of a trace as a table.
     View,
+    /// `view --by-line`: write the events of a trace with the statements at which they happened.
+    ViewByLine,
     /// `view --summary`: write the numbers of a trace.
     Summary,
+    /// `view --summary --by-line`: write also the number of steps of each statement.
+    SummaryByLine,
     /// `view --svg OUT`: draw a trace, as a picture in a file.
     Draw,
     /// `view --chrome OUT`: write a trace into a file for a trace viewer.

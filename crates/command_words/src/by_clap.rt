@@ -154,6 +154,8 @@ fn listing(given: &ArgMatches<'_>) -> Command {
 fn pairing(given: &ArgMatches<'_>) -> Command {
     if given.get_flag("accesses") {
         Command::Meetings
+    } else if given.get_flag("by-line") {
+        Command::PairsByLine
     } else {
         Command::Pairs
     }
@@ -183,12 +185,19 @@ fn costing(given: &ArgMatches<'_>) -> Command {
 
 /// Returns which command `view` is. `clap` has checked that at most one option selects it.
 fn viewing(given: &ArgMatches<'_>) -> Command {
+    let by_line = given.get_flag("by-line");
     if given.get_flag("summary") {
-        Command::Summary
+        if by_line {
+            Command::SummaryByLine
+        } else {
+            Command::Summary
+        }
     } else if given.get_str("svg").is_some() {
         Command::Draw
     } else if given.get_str("chrome").is_some() {
         Command::Chrome
+    } else if by_line {
+        Command::ViewByLine
     } else {
         Command::View
     }

@@ -19,6 +19,7 @@ use Rattle.command_line.specs.declared.request.Command.TheVariants.{Run, Serial,
 use Rattle.command_line.specs.declared.request.Command.TheVariants.{Meetings, Explore, Labels, Places, Format}
 use Rattle.command_line.specs.declared.request.Command.TheVariants.{CheckFormat, View, Summary, Draw, Chrome}
 use Rattle.command_line.specs.declared.request.Command.TheVariants.{Cost, CostByLabel, CostByProcedure}
+use Rattle.command_line.specs.declared.request.Command.TheVariants.{PairsByLine, ViewByLine, SummaryByLine}
 use Rattle.failures.specs.declared.failure.Failure.{Failure}
 use Rattle.failures.specs.declared.failure.Failure.TheVariants.{CannotWriteOutput}
 use Rattle.driver.specs.Traced.{TracesRun}
@@ -28,7 +29,9 @@ use Rattle.driver.specs.declared.refusal.Refusal.{Refusal}
 -- the text written, with its status, answers the command for a program's text, or for a trace of its run
 abbrev pub AnswersAny : Command → Settings → Held → (text : List ℕ) → Answer
 AnswersAny View s held text = AnswersTrace View s held text
+AnswersAny ViewByLine s held text = AnswersTrace ViewByLine s held text
 AnswersAny Summary s held text = AnswersTrace Summary s held text
+AnswersAny SummaryByLine s held text = AnswersTrace SummaryByLine s held text
 AnswersAny Draw s held text = AnswersTrace Draw s held text
 AnswersAny Chrome s held text = AnswersTrace Chrome s held text
 AnswersAny c s held text = Answers c s held text
@@ -36,7 +39,9 @@ AnswersAny c s held text = Answers c s held text
 -- a failure is one of this command
 abbrev pub ExplainsAny : Command → Settings → Held → (text : List ℕ) → Failure → Type 0
 ExplainsAny View s held text = ExplainsTrace View s held text
+ExplainsAny ViewByLine s held text = ExplainsTrace ViewByLine s held text
 ExplainsAny Summary s held text = ExplainsTrace Summary s held text
+ExplainsAny SummaryByLine s held text = ExplainsTrace SummaryByLine s held text
 ExplainsAny Draw s held text = ExplainsTrace Draw s held text
 ExplainsAny Chrome s held text = ExplainsTrace Chrome s held text
 ExplainsAny c s held text = Explains c s held text
@@ -52,6 +57,7 @@ Leaves Check s text held later r = later ≡ held
 Leaves Listing s text held later r = later ≡ held
 Leaves Pairs s text held later r = later ≡ held
 Leaves Meetings s text held later r = later ≡ held
+Leaves PairsByLine s text held later r = later ≡ held
 Leaves Explore s text held later r = later ≡ held
 Leaves Labels s text held later r = later ≡ held
 Leaves Places s text held later r = later ≡ held
@@ -61,7 +67,9 @@ Leaves Cost s text held later r = later ≡ held
 Leaves CostByLabel s text held later r = later ≡ held
 Leaves CostByProcedure s text held later r = later ≡ held
 Leaves View s text held later r = later ≡ held
+Leaves ViewByLine s text held later r = later ≡ held
 Leaves Summary s text held later r = later ≡ held
+Leaves SummaryByLine s text held later r = later ≡ held
 
 -- ---- what is done with a file
 

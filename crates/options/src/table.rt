@@ -43,6 +43,8 @@ enum Takes {
     TextBut(&'static str, &'static [&'static str]),
     /// An option whose value is one of these words. The help shows this name for the value.
     OneOf(&'static str, &'static [&'static str]),
+    /// An option as `OneOf`, which needs this other option.
+    OneOfWith(&'static str, &'static [&'static str], &'static str),
     /// An option whose value, after `=`, is one of these words; without a value it is the last word
     /// here. The help shows this name for the value.
     MaybeOneOf(&'static str, &'static [&'static str], &'static str),
@@ -81,12 +83,18 @@ const LIST: Entry = Entry {
 const LINES: Entry = Entry {
     name: "lines",
     help: "Also print the line and column of each statement",
-    takes: Takes::Nothing,
+    takes: Takes::NothingBut(&["format"]),
 };
 
 const ACCESSES: Entry = Entry {
     name: "accesses",
     help: "Print the pairs of accesses that may run in parallel, for each procedure",
+    takes: Takes::NothingBut(&["by-line", "format"]),
+};
+
+const PAIRS_BY_LINE: Entry = Entry {
+    name: "by-line",
+    help: "Print the position, the label and the text of both statements",
     takes: Takes::NothingBut(&["format"]),
 };
 
@@ -180,6 +188,12 @@ const SUMMARY: Entry = Entry {
     takes: Takes::NothingBut(&["svg", "chrome"]),
 };
 
+const EVENTS_BY_LINE: Entry = Entry {
+    name: "by-line",
+    help: "Also print the procedure and the statement of each step; with --summary the steps of each statement",
+    takes: Takes::NothingBut(&["svg", "chrome", "format"]),
+};
+
 const SVG: Entry = Entry {
     name: "svg",
     help: "Draw the trace to this SVG file instead of printing the table, with a lane for each worker",
@@ -194,8 +208,8 @@ const CHROME: Entry = Entry {
 
 const BY_LINE: Entry = Entry {
     name: "by-line",
-    help: "Also print the work and span of each statement, by label",
-    takes: Takes::NothingBut(&["by-procedure", "format"]),
+    help: "Also print the work and span of each statement, with its position, its label and its text",
+    takes: Takes::NothingBut(&["by-procedure"]),
 };
 
 const BY_PROCEDURE: Entry = Entry {
@@ -238,6 +252,18 @@ const FORMAT: Entry = Entry {
     name: "format",
     help: "Print lines of text or one JSON object [default: text]",
     takes: Takes::OneOf("KIND", &["text", "json"]),
+};
+
+const FORMAT_OF_CHECK: Entry = Entry {
+    name: "format",
+    help: "With --check, print lines of text or one JSON object [default: text]",
+    takes: Takes::OneOfWith("KIND", &["text", "json"], "check"),
+};
+
+const FORMAT_OF_SUMMARY: Entry = Entry {
+    name: "format",
+    help: "With --summary, print lines of text or one JSON object [default: text]",
+    takes: Takes::OneOfWith("KIND", &["text", "json"], "summary"),
 };
 
 const WORD: Entry = Entry {
@@ -345,21 +371,21 @@ const LISTED: Row = Row {
     name: "list",
     about: "Print a program with the label of each statement",
     example: LIST_EXAMPLE,
-    entries: &[FILE, LINES, EXPLAIN, COLOR],
+    entries: &[FILE, LINES, FORMAT, EXPLAIN, COLOR],
 };
 
 const FORMATTED: Row = Row {
     name: "fmt",
     about: "Format a program, keeping its comments",
     example: LAYOUT_EXAMPLE,
-    entries: &[FILES, CHECK, WRITE, EXPLAIN, COLOR],
+    entries: &[FILES, CHECK, WRITE, FORMAT_OF_CHECK, EXPLAIN, COLOR],
 };
 
 const PAIRED: Row = Row {
     name: "mhp",
     about: "List the pairs of statements that may run in parallel",
     example: PAIRS_EXAMPLE,
-    entries: &[FILE, ACCESSES, FORMAT, EXPLAIN, COLOR],
+    entries: &[FILE, ACCESSES, PAIRS_BY_LINE, FORMAT, EXPLAIN, COLOR],
 };
 
 const COSTED: Row = Row {
@@ -415,7 +441,18 @@ const VIEWED: Row = Row {
     name: "view",
     about: "Show the trace of a run as a table, as totals or as a picture",
     example: VIEW_EXAMPLE,
-    entries: &[FILE, TRACE, INPUT, SUMMARY, SVG, CHROME, EXPLAIN, COLOR],
+    entries: &[
+        FILE,
+        TRACE,
+        INPUT,
+        SUMMARY,
+        EVENTS_BY_LINE,
+        SVG,
+        CHROME,
+        FORMAT_OF_SUMMARY,
+        EXPLAIN,
+        COLOR,
+    ],
 };
 
 const EXPLAINED: Row = Row {
@@ -587,6 +624,13 @@ fn argument<'w>(alloc: Global, entry: Entry) -> Result<Arg<'w>, AllocError> {
             .long(entry.name)
             .value_name(value)
             .value_parser(words),
+        Takes::OneOfWith(value, words, other) => {
+            let argument = argument
+                .long(entry.name)
+                .value_name(value)
+                .value_parser(words);
+            argument.requires_arg(other)?
+        }
         Takes::MaybeOneOf(value, words, missing) => argument
             .long(entry.name)
             .value_name(value)

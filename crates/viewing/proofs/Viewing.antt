@@ -83,7 +83,7 @@ module _ (s : Settings) (held : Held) (text : List ℕ) where
 
   -- ---- the answer then
 
-  explained : (c : Command) (f : Failure) → TellsNoTrace s held text f → ExplainsTrace c s held text f
+  pub explained : (c : Command) (f : Failure) → TellsNoTrace s held text f → ExplainsTrace c s held text f
   explained c (CannotRead name) told = told
   explained c (NotUtf8 name) told = told
   explained c (Syntax e) told = told
@@ -96,7 +96,7 @@ module _ (s : Settings) (held : Held) (text : List ℕ) where
   explained c NoMemory told = tt
   explained c _ told = absurd told
 
-  other : (f : Failure) → TellsNoTrace s held text f → IsOther f
+  pub other : (f : Failure) → TellsNoTrace s held text f → IsOther f
   other (CannotRead name) told = tt
   other (NotUtf8 name) told = tt
   other (Syntax e) told = tt

@@ -1,5 +1,7 @@
 -- The answers for the trace of a run, and the reasons why there is none.
-use Rattle.std.specs.Prelude.{ℕ, ℤ, ◌≡◌, ◌⊎◌, List, [], Option, Result, codes, map, unwrap_or}
+use Rattle.std.specs.Prelude.{ℕ, ℤ, ◌≡◌, ◌⊎◌, ◌+◌, ◌++◌, List, [], ◌∷◌, Option, Result, codes, map}
+use Rattle.std.specs.Prelude.{option_map, slice_get, slice_index, unwrap_or}
+use Rattle.std.specs.Str.Lines.{lines}
 use Rattle.std.specs.String.{string_bytes}
 use Rattle.types.specs.Code.{Program}
 use Rattle.types.specs.Translation.{budget}
@@ -21,6 +23,7 @@ use Rattle.command_line.specs.declared.request.Command.TheVariants.{Run, Serial,
 use Rattle.command_line.specs.declared.request.Command.TheVariants.{Meetings, Explore, Labels, Places, Format}
 use Rattle.command_line.specs.declared.request.Command.TheVariants.{CheckFormat, View, Summary, Draw, Chrome}
 use Rattle.command_line.specs.declared.request.Command.TheVariants.{Cost, CostByLabel, CostByProcedure}
+use Rattle.command_line.specs.declared.request.Command.TheVariants.{PairsByLine, ViewByLine, SummaryByLine}
 use Rattle.files.specs.Held.{Held, HasText, TellsNoText}
 use Rattle.failures.specs.declared.failure.Failure.{Failure}
 use Rattle.failures.specs.declared.failure.Failure.TheVariants.{CannotRead, NotUtf8, Input, Trace, Illegal}
@@ -28,8 +31,9 @@ use Rattle.failures.specs.declared.failure.Failure.TheVariants.{CannotWrite, Can
 use Rattle.commands.specs.Answers.{Done, IsExplored, LacksInput, TellsNotAccepted}
 use Rattle.viewing.specs.declared.drawing.Form.{Form}
 use Rattle.viewing.specs.declared.drawing.Form.TheVariants.{Picture, Spans}
+use Rattle.viewing.specs.declared.remarks.Remarks.{Remarks}
 use Rattle.viewing.specs.declared.tables.Look.{Look}
-use Rattle.viewing.specs.declared.tables.Look.TheVariants.{Table, Numbers}
+use Rattle.viewing.specs.declared.tables.Look.TheVariants.{Table, TableByLine, Numbers, NumbersByLine}
 
 -- ---- names
 
@@ -66,7 +70,9 @@ pub record HasTrace (s : Settings) (held : Held) (text : List ℕ) (h : Header) 
 -- the command that shows this part of a trace
 abbrev pub command_by : Look → Command
 command_by Table = View
+command_by TableByLine = ViewByLine
 command_by Numbers = Summary
+command_by NumbersByLine = SummaryByLine
 
 -- this is the text of the numbers of events, in a run on so many workers
 pub record IsSummaryText (workers : ℕ) (es : List Event) (told : List ℕ) : Type 0 where
@@ -74,11 +80,34 @@ pub record IsSummaryText (workers : ℕ) (es : List Event) (told : List ℕ) : T
   pub are : IsSummary es numbers
   pub told_is : told ≡ summary_text workers numbers
 
--- the answer for a trace: by `view` the table of its events, by `view --summary` its numbers; `view --svg`
--- and `view --chrome` write nothing to the standard output
+-- lines, each with a remark after it, from the n-th on
+abbrev pub remarked : (remark : ℕ → List ℕ) → (n : ℕ) → List (List ℕ) → List ℕ
+remarked remark n [] = []
+remarked remark n (line ∷ more) = (line ++ (remark n ++ codes "\n")) ++ remarked remark (n + 1) more
+
+-- the remark after the line of the n-th event
+abbrev pub remark_at : Remarks → (n : ℕ) → List ℕ
+remark_at r n = unwrap_or (option_map string_bytes (slice_get r.texts.items (slice_index r.labels.items n))) []
+
+-- this is the table of events with a remark after each line; the remarks aren't specified
+pub record IsTableByLine (es : List Event) (told : List ℕ) : Type 0 where
+  pub remark : ℕ → List ℕ
+  pub told_is : told ≡ remarked remark 0 (lines (table_text (map event_of es)))
+
+-- after the text of the numbers of events come other lines, which aren't specified
+pub record IsSummaryByLine (workers : ℕ) (es : List Event) (told : List ℕ) : Type 0 where
+  pub before : List ℕ
+  pub is_text : IsSummaryText workers es before
+  pub behind : List ℕ
+  pub told_is : told ≡ before ++ behind
+
+-- the answer for a trace: by `view` the table of its events, by `view --summary` its numbers, both by
+-- `--by-line` also with statements; `view --svg` and `view --chrome` write nothing to the standard output
 abbrev pub TellsTrace : Command → Header → List Event → (told : List ℕ) → Type 0
 TellsTrace View h es told = told ≡ table_text (map event_of es)
+TellsTrace ViewByLine h es told = IsTableByLine es told
 TellsTrace Summary h es told = IsSummaryText h.workers es told
+TellsTrace SummaryByLine h es told = IsSummaryByLine h.workers es told
 TellsTrace Draw h es told = told ≡ []
 TellsTrace Chrome h es told = told ≡ []
 TellsTrace Run h es told = ⊥
@@ -87,6 +116,7 @@ TellsTrace Check h es told = ⊥
 TellsTrace Listing h es told = ⊥
 TellsTrace Pairs h es told = ⊥
 TellsTrace Meetings h es told = ⊥
+TellsTrace PairsByLine h es told = ⊥
 TellsTrace Explore h es told = ⊥
 TellsTrace Labels h es told = ⊥
 TellsTrace Places h es told = ⊥
@@ -157,13 +187,16 @@ abbrev pub Draws : Command → Type 0
 Draws Draw = Unit {0}
 Draws Chrome = Unit {0}
 Draws View = ⊥
+Draws ViewByLine = ⊥
 Draws Summary = ⊥
+Draws SummaryByLine = ⊥
 Draws Run = ⊥
 Draws Serial = ⊥
 Draws Check = ⊥
 Draws Listing = ⊥
 Draws Pairs = ⊥
 Draws Meetings = ⊥
+Draws PairsByLine = ⊥
 Draws Explore = ⊥
 Draws Labels = ⊥
 Draws Places = ⊥
