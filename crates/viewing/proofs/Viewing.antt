@@ -23,7 +23,7 @@ use Rattle.commands.proofs.Answering.{IsOther, other_failure, passed_on}
 use Rattle.viewing.specs.Views.{AnswersTrace, Draws, ExplainsTrace, HasTrace, HoldsTrace, IsDrawnTo, TellsIllegal}
 use Rattle.viewing.specs.Views.{TellsNoLines, TellsNoTrace, TellsTrace, Views, command_of, picture_name, trace_name}
 use Rattle.viewing.specs.declared.drawing.Form.{Form}
-use Rattle.viewing.specs.declared.drawing.Form.TheVariants.{Picture, Spans}
+use Rattle.viewing.specs.declared.drawing.Form.TheVariants.{Html, Picture, Spans}
 
 -- ---- a trace's file
 
@@ -136,7 +136,9 @@ module _ (s : Settings) (held : Held) (text : List ℕ) where
 pub draws_form : (form : Form) → Draws (command_of form)
 draws_form Picture = tt
 draws_form Spans = tt
+draws_form (Html program) = tt
 
 pub form_tells : (form : Form) (h : Header) (es : List Event) → TellsTrace (command_of form) h es []
 form_tells Picture h es = refl
 form_tells Spans h es = refl
+form_tells (Html program) h es = refl

@@ -20,6 +20,7 @@ use Rattle.command_line.specs.declared.request.Command.{Command}
 use Rattle.command_line.specs.declared.request.Command.TheVariants.{Run, Serial, Check, Listing, Pairs}
 use Rattle.command_line.specs.declared.request.Command.TheVariants.{Meetings, Explore, Labels, Places, Format}
 use Rattle.command_line.specs.declared.request.Command.TheVariants.{CheckFormat, View, Summary, Draw, Chrome}
+use Rattle.command_line.specs.declared.request.Command.TheVariants.{Page}
 use Rattle.command_line.specs.declared.request.Command.TheVariants.{Cost, CostByLabel, CostByProcedure}
 use Rattle.files.specs.Held.{Held, HasText, TellsNoText}
 use Rattle.failures.specs.declared.failure.Failure.{Failure}
@@ -27,7 +28,7 @@ use Rattle.failures.specs.declared.failure.Failure.TheVariants.{CannotRead, NotU
 use Rattle.failures.specs.declared.failure.Failure.TheVariants.{CannotWrite, CannotWriteOutput, NoMemory}
 use Rattle.commands.specs.Answers.{Done, IsExplored, LacksInput, TellsNotAccepted}
 use Rattle.viewing.specs.declared.drawing.Form.{Form}
-use Rattle.viewing.specs.declared.drawing.Form.TheVariants.{Picture, Spans}
+use Rattle.viewing.specs.declared.drawing.Form.TheVariants.{Html, Picture, Spans}
 use Rattle.viewing.specs.declared.tables.Look.{Look}
 use Rattle.viewing.specs.declared.tables.Look.TheVariants.{Table, Numbers}
 
@@ -74,13 +75,14 @@ pub record IsSummaryText (workers : ℕ) (es : List Event) (told : List ℕ) : T
   pub are : IsSummary es numbers
   pub told_is : told ≡ summary_text workers numbers
 
--- the answer for a trace: by `view` the table of its events, by `view --summary` its numbers; `view --svg`
--- and `view --chrome` write nothing to the standard output
+-- the answer for a trace: by `view` the table of its events, by `view --summary` its numbers; `view --svg`,
+-- `view --chrome` and `view --html` write nothing to the standard output
 abbrev pub TellsTrace : Command → Header → List Event → (told : List ℕ) → Type 0
 TellsTrace View h es told = told ≡ table_text (map event_of es)
 TellsTrace Summary h es told = IsSummaryText h.workers es told
 TellsTrace Draw h es told = told ≡ []
 TellsTrace Chrome h es told = told ≡ []
+TellsTrace Page h es told = told ≡ []
 TellsTrace Run h es told = ⊥
 TellsTrace Serial h es told = ⊥
 TellsTrace Check h es told = ⊥
@@ -156,6 +158,7 @@ TellsNoTrace s held text f = TellsNotAccepted text f
 abbrev pub Draws : Command → Type 0
 Draws Draw = Unit {0}
 Draws Chrome = Unit {0}
+Draws Page = Unit {0}
 Draws View = ⊥
 Draws Summary = ⊥
 Draws Run = ⊥
@@ -177,6 +180,7 @@ Draws CostByProcedure = ⊥
 abbrev pub command_of : Form → Command
 command_of Picture = Draw
 command_of Spans = Chrome
+command_of (Html program) = Page
 
 -- a trace is drawn, and the file of the picture has this name
 pub record IsDrawnTo (s : Settings) (held : Held) (text told : List ℕ) : Type 0 where

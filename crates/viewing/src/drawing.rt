@@ -1,7 +1,8 @@
-//! `view --svg` and `view --chrome`: drawing a trace into a file.
+//! `view --svg`, `view --chrome` and `view --html`: drawing a trace into a file.
 
 ghost use Rattle.std.specs.Prelude.{◌≡◌};
 ghost use Rattle.command_line.specs.Requests.{settings as settings_of};
+ghost use Rattle.commands.specs.Outcomes.{Fits};
 ghost use Rattle.viewing.specs.Files.{WritesTo};
 ghost use Rattle.viewing.specs.Views.{IsDrawn, Views, command_of, picture_name as name_of_picture};
 
@@ -16,27 +17,30 @@ use files::file_source::{FileSource, write_file};
 use std::alloc::{AllocError, Global};
 use std::io::Write;
 use std::thread::Threads;
+use trace_page::page::{TracedRun, page};
 use trace_pictures::{chrome, timeline};
 
 /// The form in which a trace is drawn.
 #[derive(Clone, Copy)]
-pub enum Form {
+pub enum Form<'w> {
     /// A picture: `view --svg`.
     Picture,
     /// The input of a trace viewer: `view --chrome`.
     Spans,
+    /// A page, with the name of the program's file: `view --html`.
+    Html { program: &'w str },
 }
 
 /// Draws a trace in this form into the file of the picture. Returns the exit status.
 pub fn draw<R: Threads + Sync, F: FileSource, O: Write>(
     rt: &R,
     alloc: Global,
-    form: Form,
+    form: Form<'_>,
     question: Question<'_>,
     files: &mut F,
     out: &mut O,
 ) -> Result<u8, Failure>
-    ensures done { Views (command_of form) (settings_of question.entry.settings) (F.held files.old)
+    ensures done { Views (command_of form.entry) (settings_of question.entry.settings) (F.held files.old)
         question.entry.text.now (O.contents out.old) (O.contents out.new) result }
     ensures picture { let s = settings_of question.entry.settings in WritesTo (name_of_picture s)
         (IsDrawn s (F.held files.old) question.entry.text.now) (F.held files.old) (F.held files.new) result }
@@ -61,20 +65,37 @@ fn picture_name<'w>(settings: RunOptions<'w>) -> &'w str
 /// Returns a trace drawn in this form, with the statements at its events.
 fn drawn(
     alloc: Global,
-    form: Form,
+    form: Form<'_>,
     question: Question<'_>,
     judged: &JudgedTrace,
-) -> Result<String, AllocError> {
-    let JudgedTrace { trace, .. } = judged;
+) -> Result<String, AllocError>
+    requires { Fits judged.now.given.accepted.typed judged.now.given.input }
+{
+    let heading = trace_name(question.settings);
+    let JudgedTrace { given, trace } = judged;
     let statements = statements_of(alloc, question.text, judged)?;
     match form {
         Form::Picture => timeline::draw(
             alloc,
-            trace_name(question.settings),
+            heading,
             &trace.header,
             &trace.events,
             statements.lent(),
         ),
         Form::Spans => chrome::spans(alloc, &trace.events, statements.lent()),
+        Form::Html { program } => {
+            let run = TracedRun {
+                name: program,
+                text: question.text,
+                trace: heading,
+                accepted: &given.accepted,
+                input: &given.input,
+                header: &trace.header,
+                events: &trace.events,
+                labels: statements.lent().labels,
+            };
+            // Its events are legal, so the only possible error is out of memory.
+            page(alloc, run).map_err(|_| AllocError)
+        }
     }
 }

@@ -47,6 +47,7 @@ pub fn trace_of<R: Threads + Sync, F: FileSource>(
 ) -> Result<JudgedTrace, Failure>
     ensures trace { IfOk result (λ t. HasTrace (settings_of question.entry.settings) (F.held files.old)
         question.entry.text.now t.trace.header t.trace.events.items) }
+    ensures fits { IfOk result (λ t. Fits t.given.accepted.typed t.given.input) }
     ensures why { IfErr result (TellsNoTrace (settings_of question.entry.settings) (F.held files.old)
         question.entry.text.now) }
     ensures keeps { F.held files.new ≡ F.held files.old }

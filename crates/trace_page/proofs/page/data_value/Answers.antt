@@ -1,0 +1,33 @@
+use Rattle.std.proofs.Common.{◌∙◌, List, ap, subst}
+use Rattle.std.proofs.lemmas.Result.{IfOk-weaker}
+use Rattle.serde_json.specs.View.{view}
+use Rattle.trace_layout.specs.declared.finishes.Finish.{Finish}
+use Rattle.trace_layout.specs.declared.moves.Birth.{Birth}
+use Rattle.trace_page.specs.Layouts.{AreFinishRows}
+use Rattle.trace_page.specs.Tasks.{AreTaskRows}
+use Rattle.trace_page.specs.Pages.{layout_json, parts_json, program_json, trace_json}
+use Rattle.trace_page.proofs.Parts.{same_parts}
+use Rattle.trace_page.proofs.page.data_value.Goals as goal
+
+pub returns : goal.returns
+returns c =
+    let drawn = c.in_ok-drawn.ensures in
+    let program = c.in_ok-program.ensures in
+    let trace = c.in_ok-trace.ensures in
+    IfOk-weaker c.whole.result _ _ (λ v is. record {
+      places = c.in_ok-places.places.items;
+      begun = c.in_ok-places.ensures;
+      layout = c.in_ok-layout.layout;
+      laid_out = c.in_ok-layout.ensures;
+      finish_rows = view c.in_ok-finish_rows.finish_rows;
+      of_finishes = subst (λ (l : List Finish). AreFinishRows l (view c.in_ok-finish_rows.finish_rows)) c.deref.ensures.value
+          c.in_ok-finish_rows.ensures;
+      task_rows = view c.in_ok-task_rows.task_rows;
+      of_tasks = subst (λ (l : List Birth). AreTaskRows l (view c.in_ok-task_rows.task_rows)) c.deref-2.ensures.value
+          c.in_ok-task_rows.ensures;
+      summary = c.in_ok-summary.summary;
+      counted = c.in_ok-summary.ensures;
+      changes = view c.args.changes;
+      replayed = c.requires.replayed;
+      are = same_parts (view v) _ _ _ _ _ _ is drawn program trace;
+    }) c.whole.ensures
