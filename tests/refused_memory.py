@@ -43,6 +43,9 @@ TWICE = """proc twice(mut s: int) {
 }
 main { array a: int[16]; finish { twice(a); } }
 """
+PIECES = """main { array a: int[10]; finish { parts a by 4 as p, i { async { p[0] = i + 1; p[len(p) - 1] = len(p); } } }
+print a[0], a[3], a[4], a[7], a[8], a[9]; }
+"""
 READERS = """main { array a: int[1]; array b: int[1]; array c: int[1];
 finish { async { b[0] = a[0]; } async { c[0] = a[0]; } HERE } print b[0], c[0]; }
 """
@@ -57,6 +60,7 @@ PROGRAMS = {
                "fault 0.1 at 3: F6 1\nfault 0.2 at 5: F6 2\nfault 0 at 6: F6 3\n", 2),
     "three": ("main { finish { async { skip; } async { skip; } async { skip; } } }\n", None, [], ["--w0", "1"], "", 0),
     "nested_tasks": (None, None, [], [], "1\n2\n3\n", 0),
+    "pieces": (PIECES, None, [], [], "1 4 2 4 3 2\n", 0),
     "doubling": (TWICE, '{"a":[1,2,3,4,5,6,7,8,9,10,11,12,13,14,15,16]}', ["--arrays"], [], DOUBLED, 0),
 }
 RACE = "C1 race in main: 3 read a, 6 write a\n"
