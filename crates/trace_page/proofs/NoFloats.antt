@@ -16,17 +16,17 @@ use Rattle.trace_numbers.specs.declared.summary.TraceSummary.{TraceSummary}
 use Rattle.trace_layout.specs.Rows.{rows_of}
 use Rattle.trace_layout.specs.declared.finishes.Finish.{Finish}
 use Rattle.trace_page.specs.Changes.{change_json, changes_json}
-use Rattle.trace_page.specs.Costs.{if_ended, tables_json, unless_faulted}
+use Rattle.trace_page.specs.Costs.{cost_json, if_ended, tables_json, unless_faulted}
 use Rattle.trace_page.specs.Layouts.{finish_items, finish_json, spell_json, steal_json}
-use Rattle.trace_page.specs.Pages.{IsData, budget_of, code, layout_json, layout_members, lists, parts, parts_json}
-use Rattle.trace_page.specs.Pages.{program_json, program_members, trace_json, trace_members}
+use Rattle.trace_page.specs.Births.{births}
+use Rattle.trace_page.specs.Pages.{IsData, Traced, budget_of, described_members, layout_json, layout_members, parts, parts_json}
+use Rattle.trace_page.specs.Pages.{program_json, trace_json, trace_members}
 use Rattle.trace_page.specs.Pieces.{is_exact, list_by, list_of, members_by, natural, object_of, or_null, value_json}
 use Rattle.trace_page.specs.Programs.{array_json, initial_json, is_blank, place_json, summary_json, summary_members}
 use Rattle.trace_page.specs.Tasks.{number_of, task_of}
 use Rattle.trace_page.specs.declared.changes.Change.{Change}
 use Rattle.trace_page.specs.declared.changes.Change.TheVariants.{Weight, ChildWeight, Book, Scalar}
 use Rattle.trace_page.specs.declared.changes.Change.TheVariants.{Section, Flows, Store, Line, Fault, Gathered, Given}
-use Rattle.trace_page.specs.declared.page.TracedRun.{TracedRun}
 
 abbrev pub HasNoFloat : Data → Type 0
 HasNoFloat d = has_float d ≡ false
@@ -114,7 +114,7 @@ ended_has_none Stopped d none = refl
 same_has_none : (d e : Data) → d ≡ e → HasNoFloat e → HasNoFloat d
 same_has_none d e is none = ap has_float is ∙ none
 
-layout_has_none : (run : TracedRun) (d : Data) (p : IsData run d) → HasNoFloat (layout_json p.layout p.finish_rows p.task_rows)
+layout_has_none : (run : Traced) (d : Data) (p : IsData run d) → HasNoFloat (layout_json p.layout p.finish_rows p.task_rows)
 layout_has_none run d p =
     object_has_none (layout_members p.layout p.finish_rows p.task_rows) (
       refl,
@@ -133,13 +133,14 @@ layout_has_none run d p =
       ),
     )
 
-program_has_none : (run : TracedRun) (places : List TextPlace) → HasNoFloat (program_json run places)
+program_has_none : (run : Traced) (places : List TextPlace) → HasNoFloat (program_json run places)
 program_has_none run places =
-    let account = account_of (code run) (length places + 1) (lists run) (budget_of run) in
-    object_has_none (program_members run places) (
-      list_has_none array_json (code run).arrays (λ a. refl),
+    let account = account_of run.code (length places + 1) run.input (budget_of run) in
+    object_has_none (described_members run (list_by array_json run.code.arrays)
+    (cost_json run.code (length places + 1) run.input (budget_of run)) places) (
+      list_has_none array_json run.code.arrays (λ a. refl),
       (
-        ended_has_none (outcome (code run) (lists run) (budget_of run)) (tables_json (span_by_label account) account.work)
+        ended_has_none (outcome run.code run.input (budget_of run)) (tables_json (span_by_label account) account.work)
             (tables_have_none (span_by_label account) account.work),
         (refl, (list_has_none place_json places (λ place. refl), (refl, tt))),
       ),
@@ -150,24 +151,24 @@ summary_has_none s =
     object_has_none (summary_members s)
     (refl, (refl, (refl, (refl, (refl, (refl, (numbers_have_none s.by_worker.items, (refl, tt))))))))
 
-trace_has_none : (run : TracedRun) (d : Data) (p : IsData run d) → HasNoFloat (trace_json run p.layout p.summary p.changes)
+trace_has_none : (run : Traced) (d : Data) (p : IsData run d) → HasNoFloat (trace_json run p.summary p.changes)
 trace_has_none run d p =
-    object_has_none (trace_members run p.layout p.summary p.changes) (
+    object_has_none (trace_members run p.summary p.changes) (
       same_has_none _ _ p.replayed.are (list_has_none changes_json p.replayed.told changes_have_none),
       (
         refl,
         (
-          list_has_none initial_json (lists run) initial_has_none,
+          list_has_none initial_json run.input initial_has_none,
           (
             refl,
             (
-              numbers_have_none run.labels.now,
+              numbers_have_none run.labels,
               (
                 refl,
                 (
                   summary_has_none p.summary,
                   (
-                    list_has_none (λ e. natural (number_of p.layout.moves.births.items (task_of (event e)))) run.events.now (λ e. refl),
+                    list_has_none (λ e. natural (number_of (births run.events) (task_of (event e)))) run.events (λ e. refl),
                     tt,
                   ),
                 ),
@@ -178,10 +179,10 @@ trace_has_none run d p =
       ),
     )
 
-pub data_has_none : (run : TracedRun) (d : Data) → IsData run d → HasNoFloat d
+pub data_has_none : (run : Traced) (d : Data) → IsData run d → HasNoFloat d
 data_has_none run d p =
     let layout = layout_json p.layout p.finish_rows p.task_rows in
     let program = program_json run p.places in
-    let trace = trace_json run p.layout p.summary p.changes in
+    let trace = trace_json run p.summary p.changes in
     same_has_none d (parts_json layout program trace) p.are (object_has_none (parts layout program trace)
     (refl, (layout_has_none run d p, (program_has_none run p.places, (trace_has_none run d p, tt)))))

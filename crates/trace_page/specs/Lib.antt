@@ -1,3 +1,4 @@
+pub mod Births
 pub mod Changes
 pub mod Costs
 pub mod Escaped

@@ -4,6 +4,7 @@
 
 mod after;
 mod before;
+pub mod births;
 pub mod changes;
 pub mod costs;
 pub mod escaped;

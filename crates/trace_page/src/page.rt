@@ -1,17 +1,19 @@
 //! The page in which the run of a trace can be explored.
 
-ghost use Rattle.std.specs.Prelude.{◌≡◌, ◌++◌, IfErr, IfOk};
+ghost use Rattle.std.specs.Prelude.{◌≡◌, ◌++◌, IfErr, IfOk, map};
 ghost use Rattle.std.specs.String.{string_bytes};
-ghost use Rattle.serde_json.specs.Data.{Data};
 ghost use Rattle.serde_json.specs.View.{view};
-ghost use Rattle.serde_json.specs.Written.{compact_text};
 ghost use Rattle.types.specs.Contents.{FitsArrays};
-ghost use Rattle.trace_page.specs.Escaped.{escaped as escaped_text};
-ghost use Rattle.trace_page.specs.Pages.{IsData, IsNoTrace, IsReplayed, code, layout_json, lists, parts_json};
-ghost use Rattle.trace_page.specs.Pages.{program_json, trace_json};
+ghost use Rattle.types.specs.Translation.{array as array_of};
+ghost use Rattle.trace_page.specs.Births.{birth as birth_of, births as births_in};
+ghost use Rattle.trace_page.specs.Pages.{IsData, IsNoTrace, IsPage, IsReplayed, layout_json, parts_json};
+ghost use Rattle.trace_page.specs.Pages.{described_json, program_json, trace_json, traced};
+ghost use Rattle.trace_page.specs.Pieces.{list_by};
+ghost use Rattle.trace_page.specs.Programs.{array_json, place_json};
 
 use crate::after::AFTER;
 use crate::before::BEFORE;
+use crate::births::{Birth, births_of};
 use crate::costs::cost_value;
 use crate::escaped::escaped;
 use crate::layouts::{chain, finish_rows_value, kinds};
@@ -29,7 +31,7 @@ use syntax::TextPlace;
 use trace_layout::layout::{Layout, layout_of};
 use trace_numbers::summary::{TraceSummary, summarize};
 use trace_text::header::Header;
-use types::code::Label;
+use types::code::{Array, Label};
 use types::input::Input;
 
 /// A trace of a program's run on an input.
@@ -50,10 +52,9 @@ pub struct TracedRun<'t> {
 
 /// Returns the page of a trace.
 pub fn page(alloc: Global, run: TracedRun<'_>) -> Result<String, ReplayError>
-    requires { FitsArrays (code run).arrays (lists run) }
-    ensures page { IfOk result (λ text. (d : Data) × IsData run.entry d
-        × (string_bytes text ≡ BEFORE.now ++ (escaped_text (compact_text d) ++ AFTER.now))) }
-    ensures refused { IfErr result (IsNoTrace run.entry) }
+    requires { FitsArrays (traced run).code.arrays (traced run).input }
+    ensures page { IfOk result (λ text. IsPage (traced run.entry) (string_bytes text)) }
+    ensures refused { IfErr result (IsNoTrace (traced run.entry)) }
 {
     let Header { budget, w0, .. } = *run.header;
     let Some(job) = WeightedJob::new(alloc, run.accepted, run.input, budget, w0) else {
@@ -70,10 +71,9 @@ pub fn page(alloc: Global, run: TracedRun<'_>) -> Result<String, ReplayError>
 
 /// Returns the page of a trace whose events change this.
 fn page_with(alloc: Global, run: TracedRun<'_>, changes: Value) -> Result<String, AllocError>
-    requires fits { FitsArrays (code run).arrays (lists run) }
-    requires replayed { IsReplayed run (view changes) }
-    ensures { IfOk result (λ text. (d : Data) × IsData run.entry d
-        × (string_bytes text ≡ BEFORE.now ++ (escaped_text (compact_text d) ++ AFTER.now))) }
+    requires fits { FitsArrays (traced run).code.arrays (traced run).input }
+    requires replayed { IsReplayed (traced run) (view changes) }
+    ensures { IfOk result (λ text. IsPage (traced run.entry) (string_bytes text)) }
 {
     let data = data_value(alloc, run, changes)?;
     let text = data.to_string(alloc)?;
@@ -93,18 +93,19 @@ fn joined(alloc: Global, before: &str, inside: &str, after: &str) -> Result<Stri
 
 /// Returns the data of a page.
 fn data_value(alloc: Global, run: TracedRun<'_>, changes: Value) -> Result<Value, AllocError>
-    requires fits { FitsArrays (code run).arrays (lists run) }
-    requires replayed { IsReplayed run (view changes) }
-    ensures { IfOk result (λ v. IsData run.entry (view v)) }
+    requires fits { FitsArrays (traced run).code.arrays (traced run).input }
+    requires replayed { IsReplayed (traced run) (view changes) }
+    ensures { IfOk result (λ v. IsData (traced run.entry) (view v)) }
 {
     let places = places_in(alloc, run.text)?;
     let layout = layout_of(alloc, run.events)?;
-    let finish_rows = finish_rows_value(alloc, &layout.finishes.all)?;
-    let task_rows = task_rows_value(alloc, &layout.moves.births, run.events)?;
+    let births = births_of(alloc, run.events)?;
     let summary = summarize(alloc, run.events)?;
+    let finish_rows = finish_rows_value(alloc, &layout.finishes.all)?;
+    let task_rows = task_rows_value(alloc, &births, run.events)?;
     let drawn = layout_value(alloc, &layout, finish_rows, task_rows)?;
     let program = program_value(alloc, run, &places)?;
-    let trace = trace_value(alloc, run, &layout, &summary, changes)?;
+    let trace = trace_value(alloc, run, &births, &summary, changes)?;
     whole(alloc, drawn, program, trace)
 }
 
@@ -121,19 +122,31 @@ fn program_value(
     run: TracedRun<'_>,
     places: &[TextPlace],
 ) -> Result<Value, AllocError>
-    requires { FitsArrays (code run).arrays (lists run) }
-    ensures { IfOk result (λ v. view v ≡ program_json run.entry places.now) }
+    requires { FitsArrays (traced run).code.arrays (traced run).input }
+    ensures { IfOk result (λ v. view v ≡ program_json (traced run.entry) places.now) }
 {
     let typed = run.accepted.typed();
-    let arrays = arrays_value(alloc, &typed.code().arrays)?;
     let rows = places.len() + 1;
     let cost = cost_value(alloc, typed, run.input, run.header.budget, rows)?;
-    let places = list(alloc, places)?;
+    described(alloc, run, &typed.code().arrays, cost, places)
+}
+
+/// Returns the part on a program with these arrays, this cost, and statements at these positions.
+fn described(
+    alloc: Global,
+    run: TracedRun<'_>,
+    arrays: &[Array],
+    cost: Value,
+    places: &[TextPlace],
+) -> Result<Value, AllocError>
+    ensures { IfOk result (λ v. view v ≡ described_json (traced run.entry)
+        (list_by array_json (map array_of arrays.now)) (view cost) places.now) }
+{
     json!(in alloc; {
-        "arrays": arrays,
+        "arrays": arrays_value(alloc, arrays)?,
         "cost": cost,
         "name": run.name,
-        "places": places,
+        "places": list(alloc, places)?,
         "text": run.text,
     })
 }
@@ -157,17 +170,18 @@ fn layout_value(
     })
 }
 
-/// Returns the part on the events, which change this.
+/// Returns the part on the events, which spawn these tasks and change this.
 fn trace_value(
     alloc: Global,
     run: TracedRun<'_>,
-    layout: &Layout,
+    births: &[Birth],
     summary: &TraceSummary,
     changes: Value,
 ) -> Result<Value, AllocError>
-    ensures { IfOk result (λ v. view v
-        ≡ trace_json run.entry layout.now summary.now (view changes)) }
+    requires born { map birth_of births.now ≡ births_in run.events.now }
+    ensures { IfOk result (λ v. view v ≡ trace_json (traced run.entry) summary.now (view changes)) }
 {
+    let tasks = tasks_value(alloc, births, run.events)?;
     json!(in alloc; {
         "changes": changes,
         "header": header_value(alloc, run.header)?,
@@ -176,6 +190,6 @@ fn trace_value(
         "labels": list(alloc, run.labels)?,
         "name": run.trace,
         "summary": summary_value(alloc, summary)?,
-        "tasks": tasks_value(alloc, &layout.moves.births, run.events)?,
+        "tasks": tasks,
     })
 }

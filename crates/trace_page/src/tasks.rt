@@ -1,19 +1,21 @@
 //! Tasks by numbers: the root is 0, and the k-th task that is spawned is k, from 1.
 
-ghost use Rattle.std.specs.Prelude.{◌≡◌, IfOk, unwrap_or};
+ghost use Rattle.std.specs.Prelude.{◌≡◌, IfOk, OnOk, Some, cond, map, max, option_map, unwrap_or};
 ghost use Rattle.std.specs.HashMap.{get};
 ghost use Rattle.serde_json.specs.View.{view};
 ghost use Rattle.types.specs.Translation.{is_path};
 ghost use Rattle.types.specs.declared.path.Path.{Path as AnyPath};
 ghost use Rattle.events.specs.Events.{event as event_of};
-ghost use Rattle.trace_page.specs.Tasks.{AreTaskRows, number_of, task_of, tasks_json};
+ghost use Rattle.trace_page.specs.Births.{birth as birth_of};
+ghost use Rattle.trace_page.specs.Tasks.{AreTaskRows, end_in, ended, is_path_of, number_of};
+ghost use Rattle.trace_page.specs.Tasks.{task_of, tasks_json};
 
+use crate::births::Birth;
 use crate::layouts::rows_value;
 use events::event::Event;
 use serde_json::Value;
 use std::alloc::{AllocError, Global};
 use std::collections::HashMap;
-use trace_layout::moves::Birth;
 use trace_layout::stretch::Stretch;
 use types::path::Path;
 
@@ -26,8 +28,8 @@ pub struct TaskNumbers {
 impl TaskNumbers {
     /// Returns the numbers of tasks with these births.
     pub fn of(alloc: Global, births: &[Birth]) -> Result<TaskNumbers, AllocError>
-        ensures { IfOk result (λ t. (path : AnyPath)
-            → unwrap_or (get is_path t.by_path path) 0 ≡ number_of births.now path.turns.items) }
+        ensures { IfOk result (λ t. (path : AnyPath) → unwrap_or (get is_path t.by_path path) 0
+            ≡ number_of (map birth_of births.now) path.turns.items) }
     {
         let mut by_path = HashMap::new(alloc);
         for (index, birth) in births.iter().enumerate() {
@@ -48,9 +50,89 @@ impl TaskNumbers {
     }
 }
 
+/// The events that end tasks.
+#[derive(Drop)]
+pub struct TaskEnds {
+    by_path: HashMap<Path, usize>,
+    /// The list's last event.
+    last: usize,
+}
+
+impl TaskEnds {
+    /// Returns the events that end tasks.
+    pub fn of(alloc: Global, events: &[Event]) -> Result<TaskEnds, AllocError>
+        ensures { IfOk result (λ t. (path : AnyPath) → unwrap_or (get is_path t.by_path path) t.last
+            ≡ end_in events.now path.turns.items) }
+    {
+        let mut by_path = HashMap::new(alloc);
+        for (at, event) in events.iter().enumerate() {
+            put_end(&mut by_path, alloc, at, event)?;
+        }
+        let last = events.len().saturating_sub(1);
+        Ok(TaskEnds { by_path, last })
+    }
+
+    /// Returns the event that ends a task, or the last event.
+    pub fn end(&self, path: &Path) -> usize
+        ensures { result ≡ unwrap_or (get is_path self.now.by_path path.now) self.now.last }
+    {
+        match self.by_path.get(path) {
+            Some(at) => *at,
+            None => self.last,
+        }
+    }
+
+    /// Returns the stretch of a task that is spawned at an event.
+    fn stretch(&self, at: usize, path: &Path) -> Stretch
+        ensures first { result.first ≡ at }
+        ensures last { result.last
+            ≡ max at (unwrap_or (get is_path self.now.by_path path.now) self.now.last) }
+    {
+        Stretch::new(at, self.end(path))
+    }
+}
+
+/// Records an event, if it ends a task.
+fn put_end(
+    by_path: &mut HashMap<Path, usize>,
+    alloc: Global,
+    at: usize,
+    event: &Event,
+) -> Result<(), AllocError>
+    ensures { OnOk result ((path : AnyPath) → get is_path by_path.new path
+        ≡ cond (is_path_of path.turns.items (ended (event_of event.now))) (Some at)
+        (get is_path by_path.old path)) }
+{
+    match ended_by(event) {
+        Some(path) => {
+            let path = path.copied(alloc)?;
+            by_path.insert(path, at)?;
+            Ok(())
+        }
+        None => Ok(()),
+    }
+}
+
+/// Returns the task that an event ends.
+fn ended_by(event: &Event) -> Option<&Path>
+    ensures { option_map (λ path. path.now.turns.items) result ≡ ended (event_of event.now) }
+{
+    match event {
+        Event::End { path } => Some(path),
+        Event::Pass { scope } => {
+            if scope.number == 0 {
+                Some(&scope.owner)
+            } else {
+                None
+            }
+        }
+        _ => None,
+    }
+}
+
 /// Returns the number of the task of each event, and of the owner of each scope that passes.
 pub fn tasks_value(alloc: Global, births: &[Birth], events: &[Event]) -> Result<Value, AllocError>
-    ensures { IfOk result (λ v. view v ≡ tasks_json births.now events.now) }
+    ensures { IfOk result (λ v. view v ≡ tasks_json (map birth_of births.now) events.now) }
 {
     let numbers = TaskNumbers::of(alloc, births)?;
     let mut list = Vec::with_capacity(alloc, events.len())?;
@@ -67,47 +149,16 @@ pub fn task_rows_value(
     births: &[Birth],
     events: &[Event],
 ) -> Result<Value, AllocError>
-    ensures { IfOk result (λ v. AreTaskRows births.now (view v)) }
+    ensures { IfOk result (λ v. AreTaskRows (map birth_of births.now) events.now (view v)) }
 {
-    let ends = ends_of(alloc, births, events)?;
+    let ends = TaskEnds::of(alloc, events)?;
+    let root = Path::root(alloc);
     let mut stretches = Vec::new(alloc);
-    stretches.push(Stretch::new(0, end_in(&ends, 0)))?;
-    for (index, birth) in births.iter().enumerate() {
-        stretches.push(Stretch::new(birth.at, end_in(&ends, index + 1)))?;
+    stretches.push(ends.stretch(0, &root))?;
+    for birth in births {
+        stretches.push(ends.stretch(birth.at, &birth.child))?;
     }
     rows_value(alloc, &stretches)
-}
-
-/// Returns the event that ends each task, or the list's last event.
-fn ends_of(alloc: Global, births: &[Birth], events: &[Event]) -> Result<Vec<usize>, AllocError> {
-    let numbers = TaskNumbers::of(alloc, births)?;
-    let last = events.len().saturating_sub(1);
-    let mut ends = vec![in alloc; last; births.len() + 1]?;
-    for (at, event) in events.iter().enumerate() {
-        if is_end(event) {
-            if let Some(end) = ends.get_mut(numbers.number(path_of(event))) {
-                *end = at;
-            }
-        }
-    }
-    Ok(ends)
-}
-
-/// Returns the event that ends the task with a number.
-fn end_in(ends: &[usize], number: usize) -> usize {
-    match ends.get(number) {
-        Some(end) => *end,
-        None => 0,
-    }
-}
-
-/// Returns whether an event ends its task. The root has ended when its scope passes.
-fn is_end(event: &Event) -> bool {
-    match event {
-        Event::End { .. } => true,
-        Event::Pass { scope } => scope.number == 0,
-        _ => false,
-    }
 }
 
 /// Returns the task of an event, or the owner of the scope that passes.

@@ -1,18 +1,23 @@
-use Rattle.std.proofs.Common.{◌∙◌, List, ap, subst}
+use Rattle.std.proofs.Common.{◌≡◌, ◌∙◌, List, ap, map, subst}
 use Rattle.std.proofs.lemmas.Result.{IfOk-weaker}
 use Rattle.serde_json.specs.View.{view}
+use Rattle.syntax.specs.declared.place.TextPlace.{TextPlace}
 use Rattle.trace_layout.specs.declared.finishes.Finish.{Finish}
-use Rattle.trace_layout.specs.declared.moves.Birth.{Birth}
+use Rattle.trace_page.specs.Births.{Born, birth}
 use Rattle.trace_page.specs.Layouts.{AreFinishRows}
+use Rattle.trace_page.specs.Pages.{layout_json, parts_json, program_json, trace_json, traced}
 use Rattle.trace_page.specs.Tasks.{AreTaskRows}
-use Rattle.trace_page.specs.Pages.{layout_json, parts_json, program_json, trace_json}
 use Rattle.trace_page.proofs.Parts.{same_parts}
 use Rattle.trace_page.proofs.page.data_value.Goals as goal
 
+pub trace_value-requires : goal.trace_value-requires
+trace_value-requires c = ap (map birth) c.deref-4.ensures.value ∙ c.in_ok-births.ensures
+
 pub returns : goal.returns
 returns c =
+    let run = traced c.args.run in
     let drawn = c.in_ok-drawn.ensures in
-    let program = c.in_ok-program.ensures in
+    let program = c.in_ok-program.ensures ∙ ap (λ (ps : List TextPlace). program_json run ps) c.deref-3.ensures.value in
     let trace = c.in_ok-trace.ensures in
     IfOk-weaker c.whole.result _ _ (λ v is. record {
       places = c.in_ok-places.places.items;
@@ -23,11 +28,14 @@ returns c =
       of_finishes = subst (λ (l : List Finish). AreFinishRows l (view c.in_ok-finish_rows.finish_rows)) c.deref.ensures.value
           c.in_ok-finish_rows.ensures;
       task_rows = view c.in_ok-task_rows.task_rows;
-      of_tasks = subst (λ (l : List Birth). AreTaskRows l (view c.in_ok-task_rows.task_rows)) c.deref-2.ensures.value
-          c.in_ok-task_rows.ensures;
+      of_tasks = subst (λ (bs : List Born). AreTaskRows bs run.events (view c.in_ok-task_rows.task_rows))
+          (ap (map birth) c.deref-2.ensures.value ∙ c.in_ok-births.ensures) c.in_ok-task_rows.ensures;
       summary = c.in_ok-summary.summary;
       counted = c.in_ok-summary.ensures;
       changes = view c.args.changes;
       replayed = c.requires.replayed;
-      are = same_parts (view v) _ _ _ _ _ _ is drawn program trace;
+      are = same_parts (view v) (view c.in_ok-drawn.drawn)
+          (layout_json c.in_ok-layout.layout (view c.in_ok-finish_rows.finish_rows) (view c.in_ok-task_rows.task_rows))
+          (view c.in_ok-program.program) (program_json run c.in_ok-places.places.items) (view c.in_ok-trace.trace)
+          (trace_json run c.in_ok-summary.summary (view c.args.changes)) is drawn program trace;
     }) c.whole.ensures

@@ -1,9 +1,10 @@
-use Rattle.std.proofs.Common.{◌∷◌, ◌∙◌, ◌+◌, ℕ, Option, ap, drop, sym}
+use Rattle.std.proofs.Common.{◌∷◌, ◌∙◌, ◌+◌, ℕ, Option, ap, drop, map, sym}
 use Rattle.std.specs.Prelude.{unwrap_or}
 use Rattle.std.specs.HashMap.{get}
 use Rattle.std.specs.Map.{lookup}
 use Rattle.std.proofs.lemmas.List.{drop_all, drop_more}
 use Rattle.types.specs.Translation.{is_path}
+use Rattle.trace_page.specs.Births.{birth}
 use Rattle.trace_page.specs.Tasks.{number_from}
 use Rattle.trace_page.proofs.Numbered.{numbered_all, numbered_more}
 use Rattle.trace_page.proofs.tasks.TaskNumbers.of.Goals as goal
@@ -11,7 +12,7 @@ use Rattle.trace_page.proofs.tasks.TaskNumbers.of.Goals as goal
 pub loop-index-init : goal.loop-index-init
 loop-index-init c = record {
   numbers = λ path.
-      ap (λ (o : Option ℕ). number_from path.turns.items 1 (unwrap_or o 0) c.args.births.now) (ap (lookup (is_path path)) c.new-by_path.ensures.empty);
+      ap (λ (o : Option ℕ). number_from path.turns.items 1 (unwrap_or o 0) (map birth c.args.births.now)) (ap (lookup (is_path path)) c.new-by_path.ensures.empty);
 }
 
 pub loop-index-preserved : goal.loop-index-preserved
