@@ -6,7 +6,7 @@ use Rattle.std.specs.Io.KnownBytes.{Keeps}
 use Rattle.commands.specs.Answers.{Answer, Answers, Done, Explains}
 use Rattle.commands.specs.Rewriting.{AnswersRewrite, ExplainsRewrite, LeavesRewritten}
 use Rattle.viewing.specs.Files.{WritesTo}
-use Rattle.viewing.specs.Views.{AnswersTrace, ExplainsTrace, IsDrawn, picture_name}
+use Rattle.viewing.specs.Views.{AnswersTrace, ExplainsTrace, IsDrawn, IsPageOf, picture_name}
 use Rattle.printing.specs.Appending.{AppendsBeginning}
 use Rattle.failures.specs.FailureStatus.{failure_status}
 use Rattle.files.specs.Held.{Held}
@@ -50,7 +50,7 @@ abbrev pub Leaves : Command → Settings → (text : List ℕ) → (held later :
 Leaves Run s text held later r = TracesRun s text held later r
 Leaves Draw s text held later r = WritesTo (picture_name s) (IsDrawn s held text) held later r
 Leaves Chrome s text held later r = WritesTo (picture_name s) (IsDrawn s held text) held later r
-Leaves Page s text held later r = WritesTo (picture_name s) (IsDrawn s held text) held later r
+Leaves Page s text held later r = ⊥
 Leaves Serial s text held later r = later ≡ held
 Leaves Check s text held later r = later ≡ held
 Leaves Listing s text held later r = later ≡ held
@@ -66,6 +66,13 @@ Leaves CostByLabel s text held later r = later ≡ held
 Leaves CostByProcedure s text held later r = later ≡ held
 Leaves View s text held later r = later ≡ held
 Leaves Summary s text held later r = later ≡ held
+
+-- the same; a page names the program's file too
+abbrev pub LeavesBy : Command → (file : List ℕ) → Settings → (text : List ℕ) → (held later : Held)
+    → Result ℕ Failure
+    → Type 0
+LeavesBy Page file s text held later r = WritesTo (picture_name s) (IsPageOf file s held text) held later r
+LeavesBy c file s text held later r = Leaves c s text held later r
 
 -- ---- what is done with a file
 
@@ -84,7 +91,7 @@ ExplainsTo Rewrite file s held text = ExplainsRewrite file text
 abbrev pub LeavesTo : Action → (file : List ℕ) → Settings → (text : List ℕ) → (held later : Held)
     → Result ℕ Failure
     → Type 0
-LeavesTo (AnswerBy c) file s text held later r = Leaves c s text held later r
+LeavesTo (AnswerBy c) file s text held later r = LeavesBy c file s text held later r
 LeavesTo Rewrite file s text held later r = LeavesRewritten file text held later r
 
 -- the request was carried out, and the contents of files are right
