@@ -449,6 +449,77 @@ def check_keyboard(browser, case):
     holds(f"{case.name}: the lanes say their event", name.startswith("event 0: "), name)
 
 
+# Choices until the run has ended: of the first task, of the last one, or drawn.
+SCHEDULE = """seed => { let x = seed; startSchedule();
+  const next = ready => { x = (x * 1103515245 + 12345) % 2147483648; return Math.floor(x / 65536) % ready; };
+  while (!treeNow().done) choose(seed < 0 ? treeNow().ready - 1 : seed > 0 ? next(treeNow().ready) : 0);
+  return schedule.choices; }"""
+
+
+def explored(case, choices):
+    words = ["--choices", ",".join(map(str, choices))] if choices else []
+    return ask("explore", case.program, "--arrays", *words, *case.input).split("\n")[:-1]
+
+
+def check_schedules(browser, case):
+    """After any choices the step tree is that of `explore`, and so is the outcome."""
+    name = case.name
+    browser.open(case.page)
+    for seed in (0, -1, 7, 2026):
+        choices = browser.run(f"({SCHEDULE})({seed})")
+        same(f"{name}: steps of schedule {seed}", str(len(choices)), case.summary["steps"])
+        for upto in sorted({0, 1, len(choices) // 3, len(choices) // 2, len(choices) - 1}):
+            ready = browser.run(f"(chooseAll({json.dumps(choices[:upto])}), treeNow().ready)")
+            same(f"{name}: schedule {seed} after {upto}", [f"open {ready}"], explored(case, choices[:upto]))
+        browser.run(f"(chooseAll({json.dumps(choices)}), openSchedules())")
+        shown = browser.texts("#reached .output")
+        numbers = browser.run("Array.from(document.querySelectorAll('#reached .item'), e => 'array ' + "
+                              "[e.querySelector('b').textContent].concat(Array.from(e.querySelectorAll('.cell'), "
+                              "c => c.textContent)).join(' '))")
+        wanted = explored(case, choices)
+        told = [x for x in shown if not x.startswith("fault ")] + [x for x in shown if x.startswith("fault ")]
+        same(f"{name}: outcome of schedule {seed}", told, [x for x in wanted if not x.startswith("array ")])
+        if not any(x.startswith("fault") for x in wanted):
+            same(f"{name}: arrays of schedule {seed}", numbers, [x for x in wanted if x.startswith("array ")])
+        command = browser.text("#command")
+        same(f"{name}: command of schedule {seed}", command,
+             f"afx explore {case.program} --choices {','.join(map(str, choices))}")
+        browser.run("byId('schedules').close()")
+    check_choosing(browser, case)
+    same(f"{name}: nothing wrong in schedules", browser.wrong(), [])
+
+
+def check_choosing(browser, case):
+    """Clicks and keys choose, go back, and start again; a link restores the choices."""
+    name = case.name
+    browser.run("(startSchedule(), byId('lanes').focus())")
+    browser.key("x")
+    same(f"{name}: schedules open", browser.run("byId('schedules').open"), True)
+    same(f"{name}: one task at the start", browser.texts("#tree [data-choice]"), ["0"])
+    browser.press("#tree [data-choice='0']")
+    browser.key("0")
+    same(f"{name}: two choices", browser.run("schedule.choices"), [0, 0])
+    same(f"{name}: two rows", browser.count("#chosen .event"), 2)
+    browser.key("9")
+    same(f"{name}: no such task", browser.run("schedule.choices"), [0, 0])
+    browser.key("r")
+    same(f"{name}: a random step", browser.run("schedule.choices.length"), 3)
+    link = browser.run("linkOf()")
+    browser.press("#undo")
+    same(f"{name}: one step back", browser.run("schedule.choices"), [0, 0])
+    browser.press("#chosen [data-back='1']")
+    same(f"{name}: back to the first step", browser.run("schedule.choices"), [0])
+    browser.key("End")
+    same(f"{name}: to the end", browser.text("#tree-note"), "the run has ended")
+    browser.key("Home")
+    same(f"{name}: start again", browser.run("schedule.choices"), [])
+    browser.key("Escape")
+    same(f"{name}: schedules closed", browser.run("byId('schedules').open"), False)
+    browser.open(case.page, link)
+    same(f"{name}: choices of a link", browser.run("byId('schedules').open && schedule.choices.length"), 3)
+    browser.run("byId('schedules').close()")
+
+
 def check_looks(browser, case):
     """Both themes have enough contrast, nothing is cut off at 200 %, and the page prints on one sheet."""
     name = case.name
@@ -584,6 +655,8 @@ def pictures(browser, folder, cases):
              ("page_dark.png", "faults", "#at=300&view=240-330&label=6&chain=1&theme=dark", "dark",
               "setTab('third', 'values'); setTab('first', 'output')"),
              ("page_labels.png", "doubling", "#at=40&rows=finishes&theme=light", "light", "setTab('program', 'labels')"),
+             ("page_schedules.png", "faults", "#theme=light", "light",
+              f"(chooseAll(({SCHEDULE})(7).slice(0, 150)), openSchedules())"),
              ("page_million.png", "large", "#at=500000&theme=light", "light", "0")]
     for name, case, link, theme, script in shots:
         if case not in cases:
@@ -619,6 +692,10 @@ def main():
                     made = Case(folder, *case)
                     cases[case[0]] = made.page
                     check_all(browser, made)
+                    if case[0] == "stopped":
+                        holds("stopped: no schedules", "over its budget" in browser.run("whyNoSchedules()"))
+                    else:
+                        check_schedules(browser, made)
             if wanted("values"):
                 made = Case(folder, "values", HERE / "faults.afx", HERE / "faults.trace")
                 check_values(browser, made)
@@ -635,6 +712,9 @@ def main():
                 for key in ("End", "Home", "ArrowRight", "PageDown", "]", "n", "m", "Enter", "+", "-", "0", "r", "r", "r", "s", "l", "l"):
                     browser.key(key)
                 same("one: event", browser.text("#log .now .mono"), "0")
+                browser.key("x")
+                same("one: no schedules", browser.text("#schedules-why"), "The trace ends before the run.")
+                browser.key("Escape")
                 same("one: nothing wrong", browser.wrong(), [])
             if wanted("none"):
                 made = Case(folder, "none", HERE / "faults.afx", none)

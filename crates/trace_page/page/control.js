@@ -54,6 +54,7 @@ const KEYS = {
   s: () => setChain(!view.chain),
   l: () => setTab('program', byId('tab-labels').getAttribute('aria-selected') === 'true' ? 'text' : 'labels'),
   t: () => { readColors(!view.dark); setChain(view.chain); },
+  x: openSchedules,
   '/': () => byId('find').focus(),
   '?': () => byId('help').showModal(),
   Escape: () => { view.task = NONE; markLabel(0); changed(ROWS | LOOK); },
@@ -68,7 +69,7 @@ function setChain(on) {
 }
 
 addEventListener('keydown', event => {
-  if (event.ctrlKey || event.metaKey || event.altKey || byId('help').open) return;
+  if (event.ctrlKey || event.metaKey || event.altKey || byId('help').open || byId('schedules').open) return;
   const tag = event.target.tagName;
   const isTab = event.target.getAttribute('role') === 'tab' && event.key.startsWith('Arrow');
   if (event.target.id === 'find' || tag === 'SELECT' || isTab) return;

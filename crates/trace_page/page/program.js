@@ -18,7 +18,7 @@ function readProgram(data) {
     while (token < tokens.length && tokens[token].at < from) token++;
     heads.push(headFrom(tokens, token, data.places.line[i]));
   }
-  const program = {text, lineStarts, tokens, labels, heads, procedures: [], ranges: [], arrays: data.arrays};
+  const program = {name: data.name, text, lineStarts, tokens, labels, heads, procedures: [], ranges: [], arrays: data.arrays};
   readProcedures(program);
   return program;
 }

@@ -156,6 +156,7 @@ function linkOf() {
   if (view.label > 0) parts.push('label=' + view.label);
   if (view.rows !== 'tree') parts.push('rows=' + view.rows);
   if (view.chain) parts.push('chain=1');
+  if (byId('schedules').open && schedule.choices.length > 0) parts.push('choices=' + schedule.choices.join(','));
   parts.push('theme=' + (view.dark ? 'dark' : 'light'));
   return '#' + parts.join('&');
 }
@@ -183,7 +184,15 @@ function follow(link) {
   const range = /^([0-9]{1,9})-([0-9]{1,9})$/.exec(parts.get('view') || '');
   if (range) show(Number(range[1]), Number(range[2])); else show(0, SPAN);
   go(number('at') || 0, !range);
+  followChoices(parts.get('choices'));
   changed(CURSOR | WINDOW | ROWS | LOOK);
+}
+
+// Opens the schedule that a link names.
+function followChoices(text) {
+  if (!/^[0-9]{1,4}(,[0-9]{1,4})*$/.test(text || '') || whyNoSchedules() !== '') return;
+  chooseAll(text.split(',').map(Number));
+  openSchedules();
 }
 
 // ---- canvases

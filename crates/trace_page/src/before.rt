@@ -5,7 +5,7 @@ pub const BEFORE: &str = "<!doctype html>
 <html lang=\"en\">
 <head>
 <meta charset=\"utf-8\">
-<meta http-equiv=\"Content-Security-Policy\" content=\"default-src 'none'; script-src 'sha256-RstMJ3xfhJopoQL8Kp7IOx/Ypo6NnyF2lQwXlPhu/18='; style-src 'sha256-j7vuM5QLdyoPp1pmniFVLSrgyTrLhCiT5fiVdnmIK4Q='; base-uri 'none'; form-action 'none'; require-trusted-types-for 'script'; trusted-types 'none'\">
+<meta http-equiv=\"Content-Security-Policy\" content=\"default-src 'none'; script-src 'sha256-ckM2Dt7meYACyMBZRB5026qrd8hFDnIXIGbYc/XxmWo='; style-src 'sha256-fGIBzfFWw/94qK1AI9BiXQKvZLf4zKCDtpQ4uZRKDrs='; base-uri 'none'; form-action 'none'; require-trusted-types-for 'script'; trusted-types 'none'\">
 <meta name=\"viewport\" content=\"width=device-width, initial-scale=1\">
 <meta name=\"referrer\" content=\"no-referrer\">
 <title>afx trace</title>
@@ -175,6 +175,24 @@ kbd {
   border-radius: 4px; padding: 0 5px; background: var(--lane);
 }
 
+/* other schedules */
+#schedules { width: min(1200px, 96vw); max-width: none; }
+#schedules .columns { display: grid; grid-template-columns: 1.2fr 1.1fr 1fr; gap: 14px; }
+#schedules section { min-width: 0; }
+#schedules h3 { margin: 0 0 4px; font-size: 13px; }
+#schedules .scroll { height: min(52vh, 480px); border: 1px solid var(--line); border-radius: 8px; }
+#schedules .tools { margin: 0; color: var(--ink); }
+#schedules .close { position: absolute; top: 14px; right: 18px; }
+#command { overflow-wrap: anywhere; max-height: 4.5em; overflow: auto; color: var(--ink); font-size: 12.5px; }
+.leaf { display: flex; gap: 7px; align-items: center; padding: 1px 10px; line-height: 24px; white-space: nowrap; }
+.leaf button { min-height: 22px; padding: 0 8px; font-weight: 700; font-variant-numeric: tabular-nums; }
+.leaf .sign { width: 28px; text-align: center; color: var(--soft); }
+.leaf code { overflow: hidden; text-overflow: ellipsis; }
+.leaf span.link { border: 0; }
+.body { margin: 2px 0 2px 10px; border-left: 3px solid var(--line); }
+.body > small { padding: 0 10px; }
+#chosen .event { grid-template-columns: 40px 22px 1fr; }
+
 /* narrow windows, and large ones at 200 % */
 @media (max-width: 900px), (max-height: 520px) {
   html, body { height: auto; }
@@ -185,6 +203,8 @@ kbd {
   #text, #labels { max-height: 45vh; min-height: 160px; }
   #rows { height: 40vh; min-height: 160px; }
   .cards .scroll { height: 200px; }
+  #schedules .columns { display: block; }
+  #schedules .scroll { height: 30vh; }
   footer { position: sticky; bottom: 0; z-index: 3; background: var(--bg); flex-wrap: wrap; }
   #say { order: -1; flex: 1 0 100%; white-space: normal; }
 }
@@ -209,9 +229,10 @@ kbd {
 <header>
 <h1>afx trace <span id=\"name\"></span></h1>
 <div class=\"tools\">
-<input id=\"find\" type=\"search\" placeholder=\"path 0.1, label 5, @event, text\" aria-label=\"Search by path, label, event or text\" autocomplete=\"off\" spellcheck=\"false\">
+<input id=\"find\" type=\"search\" placeholder=\"path, label, @event, text\" aria-label=\"Search by path, label, event or text\" autocomplete=\"off\" spellcheck=\"false\">
 <output id=\"found\" for=\"find\"></output>
 <button id=\"chain\" data-key=\"s\" type=\"button\" aria-pressed=\"false\" title=\"the longest chain of steps: the span (s)\">Longest chain</button>
+<button id=\"choices\" data-key=\"x\" type=\"button\" title=\"choose which task takes each step (x)\">Schedules</button>
 <button id=\"copy\" type=\"button\" title=\"copy a link that restores this view\">Copy link</button>
 <button id=\"theme\" data-key=\"t\" type=\"button\" title=\"light or dark (t)\">Dark</button>
 <button data-key=\"?\" type=\"button\" title=\"all keys (?)\">Keys</button>
@@ -265,7 +286,17 @@ kbd {
 <tr><td><kbd>Enter</kbd> <kbd>Esc</kbd></td><td>select the task at the cursor; unmark all</td></tr>
 <tr><td><kbd>Space</kbd></td><td>play, pause</td></tr>
 <tr><td><kbd>r</kbd> <kbd>l</kbd></td><td>tasks as a tree, packed, finishes; the text or the table of labels</td></tr>
+<tr><td><kbd>x</kbd></td><td>other schedules: choose which task takes each step</td></tr>
 <tr><td><kbd>s</kbd> <kbd>t</kbd> <kbd>/</kbd> <kbd>?</kbd></td><td>longest chain, light or dark, search, this list</td></tr></table>
 <p>A trace has no clock: the horizontal axis is the number of the event. A solid mark is an event that takes a step. A finish passes once all weight that it has issued is back. Its bar shows the weight that is back, and which tasks hold the rest (hatched: a task that doesn't run).</p>
 <form method=\"dialog\"><button autofocus>Close</button></form></dialog>
+<dialog id=\"schedules\" aria-labelledby=\"schedules-title\"><h2 id=\"schedules-title\">Which task takes the next step?</h2>
+<p id=\"schedules-why\"></p>
+<div id=\"schedules-all\"><div class=\"columns\">
+<section><h3>Tasks <small id=\"tree-note\"></small></h3><div id=\"tree\" class=\"scroll\" tabindex=\"0\"></div></section>
+<section><h3>Steps so far <small id=\"chosen-note\"></small></h3><div id=\"chosen\" class=\"scroll\" tabindex=\"0\"></div></section>
+<section><h3>Arrays and output</h3><div id=\"reached\" class=\"scroll\" tabindex=\"0\"></div></section></div>
+<p class=\"mono\" id=\"command\"></p>
+<p class=\"tools\"><button id=\"undo\" data-choosing=\"Backspace\" type=\"button\" title=\"Backspace\">Back one step</button><button data-choosing=\"Home\" type=\"button\" title=\"Home\">Start again</button><button id=\"random\" data-choosing=\"r\" type=\"button\" title=\"r\">Random step</button><button id=\"leftmost\" data-choosing=\"End\" type=\"button\" title=\"End: the first task takes each step\">To the end</button></p></div>
+<form method=\"dialog\" class=\"close\"><button autofocus>Close</button></form></dialog>
 <script type=\"application/json\" id=\"data\">";
