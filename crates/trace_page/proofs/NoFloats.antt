@@ -19,7 +19,7 @@ use Rattle.trace_page.specs.Changes.{change_json, changes_json}
 use Rattle.trace_page.specs.Costs.{cost_json, if_ended, tables_json, unless_faulted}
 use Rattle.trace_page.specs.Layouts.{finish_items, finish_json, spell_json, steal_json}
 use Rattle.trace_page.specs.Births.{births}
-use Rattle.trace_page.specs.Pages.{IsData, Traced, budget_of, described_members, layout_json, layout_members, parts, parts_json}
+use Rattle.trace_page.specs.Pages.{IsData, Traced, budget_of, described_members, layout_json, layout_members, parts, parts_json, tasks_of}
 use Rattle.trace_page.specs.Pages.{program_json, trace_json, trace_members}
 use Rattle.trace_page.specs.Pieces.{is_exact, list_by, list_of, members_by, natural, object_of, or_null, value_json}
 use Rattle.trace_page.specs.Programs.{array_json, initial_json, is_blank, place_json, summary_json, summary_members}
@@ -151,9 +151,9 @@ summary_has_none s =
     object_has_none (summary_members s)
     (refl, (refl, (refl, (refl, (refl, (refl, (numbers_have_none s.by_worker.items, (refl, tt))))))))
 
-trace_has_none : (run : Traced) (d : Data) (p : IsData run d) → HasNoFloat (trace_json run p.summary p.changes)
+trace_has_none : (run : Traced) (d : Data) (p : IsData run d) → HasNoFloat (trace_json run p.summary (tasks_of run) p.changes)
 trace_has_none run d p =
-    object_has_none (trace_members run p.summary p.changes) (
+    object_has_none (trace_members run p.summary (tasks_of run) p.changes) (
       same_has_none _ _ p.replayed.are (list_has_none changes_json p.replayed.told changes_have_none),
       (
         refl,
@@ -183,6 +183,6 @@ pub data_has_none : (run : Traced) (d : Data) → IsData run d → HasNoFloat d
 data_has_none run d p =
     let layout = layout_json p.layout p.finish_rows p.task_rows in
     let program = program_json run p.places in
-    let trace = trace_json run p.summary p.changes in
+    let trace = trace_json run p.summary (tasks_of run) p.changes in
     same_has_none d (parts_json layout program trace) p.are (object_has_none (parts layout program trace)
     (refl, (layout_has_none run d p, (program_has_none run p.places, (trace_has_none run d p, tt)))))

@@ -97,8 +97,8 @@ abbrev pub layout_json : Layout → (finish_rows task_rows : Data) → Data
 layout_json l finish_rows task_rows = object_of (layout_members l finish_rows task_rows)
 
 -- the events, each once and in order, with their tasks, the labels of their statements, and what they change
-abbrev pub trace_members : Traced → TraceSummary → (changes : Data) → List (List ℕ × Data)
-trace_members run summary changes =
+abbrev pub trace_members : Traced → TraceSummary → (tasks changes : Data) → List (List ℕ × Data)
+trace_members run summary tasks changes =
     (codes "changes", changes)
     ∷ (codes "header", header_json run.header)
     ∷ (codes "initial", list_by initial_json run.input)
@@ -106,10 +106,14 @@ trace_members run summary changes =
     ∷ (codes "labels", list_by natural run.labels)
     ∷ (codes "name", string run.trace)
     ∷ (codes "summary", summary_json summary)
-    ∷ (codes "tasks", tasks_json (births run.events) run.events) ∷ []
+    ∷ (codes "tasks", tasks) ∷ []
 
-abbrev pub trace_json : Traced → TraceSummary → (changes : Data) → Data
-trace_json run summary changes = object_of (trace_members run summary changes)
+abbrev pub trace_json : Traced → TraceSummary → (tasks changes : Data) → Data
+trace_json run summary tasks changes = object_of (trace_members run summary tasks changes)
+
+-- the task of each event
+abbrev pub tasks_of : Traced → Data
+tasks_of run = tasks_json (births run.events) run.events
 
 -- the three parts
 abbrev pub parts : (layout program trace : Data) → List (List ℕ × Data)
@@ -143,7 +147,7 @@ pub record IsData (run : Traced) (d : Data) : Type 0 where
   pub changes : Data
   pub replayed : IsReplayed run changes
   pub are : d ≡ parts_json (layout_json layout finish_rows task_rows) (program_json run places)
-      (trace_json run summary changes)
+      (trace_json run summary (tasks_of run) changes)
 
 -- ---- the page
 

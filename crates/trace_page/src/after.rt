@@ -2431,8 +2431,8 @@ const treeNow = () => schedule.trees[schedule.trees.length - 1];
 function whyNoSchedules() {
   if (run.events === 0 || !run.isOver[0]) return 'The trace ends before the run.';
   if (run.data.flows.flow.includes('s')) return 'The run is stopped: a task is over its budget.';
-  if (run.summary.steps > MOST_STEPS) return `The run takes ${num(run.summary.steps)} steps. At most ${num(MOST_STEPS)} can be explored.`;
-  return '';
+  const {steps} = run.summary;
+  return steps > MOST_STEPS ? `The run takes ${num(steps)} steps. At most ${num(MOST_STEPS)} can be explored.` : '';
 }
 
 function startSchedule() {

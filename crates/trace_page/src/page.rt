@@ -5,7 +5,6 @@ ghost use Rattle.std.specs.String.{string_bytes};
 ghost use Rattle.serde_json.specs.View.{view};
 ghost use Rattle.types.specs.Contents.{FitsArrays};
 ghost use Rattle.types.specs.Translation.{array as array_of};
-ghost use Rattle.trace_page.specs.Births.{birth as birth_of, births as births_in};
 ghost use Rattle.trace_page.specs.Pages.{IsData, IsNoTrace, IsPage, IsReplayed, layout_json, parts_json};
 ghost use Rattle.trace_page.specs.Pages.{described_json, program_json, trace_json, traced};
 ghost use Rattle.trace_page.specs.Pieces.{list_by};
@@ -13,7 +12,7 @@ ghost use Rattle.trace_page.specs.Programs.{array_json, place_json};
 
 use crate::after::AFTER;
 use crate::before::BEFORE;
-use crate::births::{Birth, births_of};
+use crate::births::births_of;
 use crate::costs::cost_value;
 use crate::escaped::escaped;
 use crate::layouts::{chain, finish_rows_value, kinds};
@@ -105,7 +104,8 @@ fn data_value(alloc: Global, run: TracedRun<'_>, changes: Value) -> Result<Value
     let task_rows = task_rows_value(alloc, &births, run.events)?;
     let drawn = layout_value(alloc, &layout, finish_rows, task_rows)?;
     let program = program_value(alloc, run, &places)?;
-    let trace = trace_value(alloc, run, &births, &summary, changes)?;
+    let tasks = tasks_value(alloc, &births, run.events)?;
+    let trace = trace_value(alloc, run, &summary, tasks, changes)?;
     whole(alloc, drawn, program, trace)
 }
 
@@ -170,18 +170,17 @@ fn layout_value(
     })
 }
 
-/// Returns the part on the events, which spawn these tasks and change this.
+/// Returns the part on the events, which belong to these tasks and change this.
 fn trace_value(
     alloc: Global,
     run: TracedRun<'_>,
-    births: &[Birth],
     summary: &TraceSummary,
+    tasks: Value,
     changes: Value,
 ) -> Result<Value, AllocError>
-    requires born { map birth_of births.now ≡ births_in run.events.now }
-    ensures { IfOk result (λ v. view v ≡ trace_json (traced run.entry) summary.now (view changes)) }
+    ensures { IfOk result (λ v. view v
+        ≡ trace_json (traced run.entry) summary.now (view tasks) (view changes)) }
 {
-    let tasks = tasks_value(alloc, births, run.events)?;
     json!(in alloc; {
         "changes": changes,
         "header": header_value(alloc, run.header)?,
