@@ -2468,11 +2468,11 @@ function openSchedules() {
   byId('schedules-why').textContent = why;
   byId('schedules-why').hidden = why === '';
   byId('schedules-all').hidden = why !== '';
+  if (!byId('schedules').open) byId('schedules').showModal();
   if (why === '') {
     if (schedule.trees.length === 0) startSchedule();
     drawSchedule();
   }
-  if (!byId('schedules').open) byId('schedules').showModal();
   keepLink();
 }
 
