@@ -8,7 +8,7 @@ ghost use Rattle.types.specs.Translation.{array as array_of};
 ghost use Rattle.trace_page.specs.Pages.{IsData, IsNoTrace, IsPage, IsReplayed, layout_json, parts_json};
 ghost use Rattle.trace_page.specs.Pages.{described_json, program_json, trace_json, traced};
 ghost use Rattle.trace_page.specs.Pieces.{list_by};
-ghost use Rattle.trace_page.specs.Programs.{array_json, place_json};
+ghost use Rattle.trace_page.specs.Programs.{array_json};
 
 use crate::after::AFTER;
 use crate::before::BEFORE;
