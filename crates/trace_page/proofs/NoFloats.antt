@@ -1,5 +1,5 @@
 -- The data of a page has no float, therefore it has one compact text.
-use Rattle.std.proofs.Common.{◌≡◌, ◌+◌, ℕ, List, length, [], ◌∷◌, map, Option, None, Some, Bool, true, false, refl, subst, sym, ap, ◌∙◌}
+use Rattle.std.proofs.Common.{◌≡◌, ◌+◌, ℕ, List, length, [], ◌∷◌, ◌++◌, map, Option, None, Some, Bool, true, false, refl, subst, sym, ap, ◌∙◌}
 use Rattle.std.specs.Prelude.{ℤ, pos, negsuc, if◌then◌else◌, codes}
 use Rattle.std.specs.List.{AllByRecursion}
 use Rattle.std.proofs.lemmas.Bool.{or_from}
@@ -15,7 +15,7 @@ use Rattle.cost.specs.Accounts.{account_of, span_by_label}
 use Rattle.trace_numbers.specs.declared.summary.TraceSummary.{TraceSummary}
 use Rattle.trace_layout.specs.Rows.{rows_of}
 use Rattle.trace_layout.specs.declared.finishes.Finish.{Finish}
-use Rattle.trace_page.specs.Changes.{change_json, changes_json}
+use Rattle.trace_page.specs.Changes.{Changes, change_json, changes_json, weight_json}
 use Rattle.trace_page.specs.Costs.{cost_json, if_ended, tables_json, unless_faulted}
 use Rattle.trace_page.specs.Layouts.{finish_items, finish_json, spell_json, steal_json}
 use Rattle.trace_page.specs.Births.{births}
@@ -24,9 +24,10 @@ use Rattle.trace_page.specs.Pages.{program_json, trace_json, trace_members}
 use Rattle.trace_page.specs.Pieces.{is_exact, list_by, list_of, members_by, natural, object_of, or_null, value_json}
 use Rattle.trace_page.specs.Programs.{array_json, initial_json, is_blank, place_json, summary_json, summary_members}
 use Rattle.trace_page.specs.Tasks.{number_of, task_of}
-use Rattle.trace_page.specs.declared.changes.Change.{Change}
-use Rattle.trace_page.specs.declared.changes.Change.TheVariants.{Weight, ChildWeight, Book, Scalar}
-use Rattle.trace_page.specs.declared.changes.Change.TheVariants.{Section, Flows, Store, Line, Fault, Gathered, Given}
+use Rattle.trace_page.specs.declared.changes.ValueChange.{ValueChange}
+use Rattle.trace_page.specs.declared.changes.ValueChange.TheVariants.{Scalar, Section, Flows, Store, Line, Fault, Gathered, Given}
+use Rattle.trace_page.specs.declared.changes.WeightChange.{WeightChange}
+use Rattle.trace_page.specs.declared.changes.WeightChange.TheVariants.{Weight, ChildWeight, Book}
 
 abbrev pub HasNoFloat : Data → Type 0
 HasNoFloat d = has_float d ≡ false
@@ -80,10 +81,12 @@ finish_has_none f =
 initial_has_none : (zs : List ℤ) → HasNoFloat (initial_json zs)
 initial_has_none zs = either_has_none (is_blank zs) _ _ refl (values_have_none zs)
 
-change_has_none : (c : Change) → HasNoFloat (change_json c)
-change_has_none (Weight own) = refl
-change_has_none (ChildWeight weight) = refl
-change_has_none (Book issued returned) = refl
+weight_has_none : (c : WeightChange) → HasNoFloat (weight_json c)
+weight_has_none (Weight own) = refl
+weight_has_none (ChildWeight weight) = refl
+weight_has_none (Book issued returned) = refl
+
+change_has_none : (c : ValueChange) → HasNoFloat (change_json c)
 change_has_none (Scalar slot value) = few_have_none (string (codes "x") ∷ natural slot ∷ value_json value ∷ []) (refl, (refl, (value_has_none value, tt)))
 change_has_none (Section section window) = refl
 change_has_none (Flows flow) = refl
@@ -94,8 +97,15 @@ change_has_none (Fault kind) = refl
 change_has_none (Gathered faults) = refl
 change_has_none (Given may_write window) = refl
 
-changes_have_none : (cs : List Change) → HasNoFloat (changes_json cs)
-changes_have_none cs = list_has_none change_json cs change_has_none
+-- a list with values for some items and then for others
+both_have_none : {X Y : Type 0} (f : X → Data) (g : Y → Data) (xs : List X) (ys : List Y) → ((x : X) → HasNoFloat (f x))
+    → ((y : Y) → HasNoFloat (g y)) → HasNoFloat (list_of (map f xs ++ map g ys))
+both_have_none f g [] ys one other = list_has_none g ys other
+both_have_none f g (x ∷ xs) ys one other =
+    or_from (has_float (f x)) (items_have_float (items_of (map f xs ++ map g ys))) (one x) (both_have_none f g xs ys one other)
+
+changes_have_none : (c : Changes) → HasNoFloat (changes_json c)
+changes_have_none c = both_have_none weight_json change_json c.weights c.values weight_has_none change_has_none
 
 tables_have_none : (span work : List ℕ) → HasNoFloat (tables_json span work)
 tables_have_none span work = object_has_none ((codes "span", list_by natural span) ∷ (codes "work", list_by natural work) ∷ [])

@@ -15,20 +15,19 @@ use Rattle.event_worlds.specs.World.{World}
 use Rattle.event_worlds.specs.Worlds.{event_of as next_world}
 use Rattle.event_worlds.specs.declared.job.WeightedJob.{WeightedJob}
 use Rattle.event_worlds.proofs.Replaying.{left_comes}
-use Rattle.trace_page.specs.Changes.{AreChanges, AreTold, changes_json}
-use Rattle.trace_page.specs.declared.changes.Change.{Change}
+use Rattle.trace_page.specs.Changes.{AreChanges, AreTold, Changes, changes_json}
 
 module _ (p : Program) (w0 : ℕ) (b : Budget) (from : World) (es : List rEvent) where
   -- values that represent the changes of the first n events, which lead to a world
   pub record ToldFirst (n : ℕ) (values : List Value) (at : World) : Type 0 where
-    pub told : List (List Change)
+    pub told : List Changes
     pub replayed : AreTold p w0 b from (take n es) told at
     pub seen : map view values ≡ map changes_json told
 
   pub told_none : ToldFirst 0 [] from
   told_none = record { told = []; replayed = AreTold.none; seen = refl }
 
-  pub told_more : (n : ℕ) (e : rEvent) (values : List Value) (v : Value) (at to : World) (told : List Change) → n < length es
+  pub told_more : (n : ℕ) (e : rEvent) (values : List Value) (v : Value) (at to : World) (told : Changes) → n < length es
       → e ≡ get_or es n e → next_world p w0 b (event_of e) at ≡ Some to → AreChanges (event_of e) at to told
       → view v ≡ changes_json told → ToldFirst n values at → ToldFirst (n + 1) (values ++ v ∷ []) to
   told_more n e values v at to told inside is legal are value was = record {

@@ -8,9 +8,9 @@ use Rattle.event_worlds.specs.Shown.{Shows}
 use Rattle.event_worlds.specs.World.{World, weight_of}
 use Rattle.event_worlds.specs.declared.world.World.{World as rWorld}
 use Rattle.trace_page.specs.Changes.{book_told, innermost, shares_told, weight_told, weights_told}
-use Rattle.trace_page.specs.declared.changes.Change.{Change}
+use Rattle.trace_page.specs.declared.changes.WeightChange.{WeightChange}
 
-module _ {T E : Type 0} (r : Result T E) (before after : rWorld) (old new : List Change) where
+module _ {T E : Type 0} (r : Result T E) (before after : rWorld) (old new : List WeightChange) where
   -- what an event changes was added
   abbrev pub AddsIfOk : Event → Type 0
   AddsIfOk e = OnOk r ((w to : World) → Shows before w → Shows after to → new ≡ old ++ weights_told e w to)
@@ -19,7 +19,7 @@ module _ {T E : Type 0} (r : Result T E) (before after : rWorld) (old new : List
   pub by_event : {e other : rEvent} → e ≡ other → AddsIfOk (event other) → AddsIfOk (event e)
   by_event is adds = subst (λ e. AddsIfOk (event e)) (sym is) adds
 
-module _ (old mid new : List Change) where
+module _ (old mid new : List WeightChange) where
   pub none_added : old ≡ old ++ []
   none_added = sym (append-nil old)
 
@@ -40,7 +40,7 @@ module _ (old mid new : List Change) where
       → new ≡ mid ++ book_told scope w → weight ≡ weight_of path w → scope ≡ innermost path w
       → new ≡ old ++ (weight_told (weight_of path w) ++ book_told (innermost path w) w)
   issued_added w path weight scope first second is_weight is_scope =
-      second ∙ ap (λ (m : List Change). m ++ book_told scope w) first
+      second ∙ ap (λ (m : List WeightChange). m ++ book_told scope w) first
       ∙ append_assoc old (weight_told weight) (book_told scope w)
       ∙ ap (λ (o : Option ℕ). old ++ (weight_told o ++ book_told scope w)) is_weight
       ∙ ap (λ (o : Option ScopeId). old ++ (weight_told (weight_of path w) ++ book_told o w)) is_scope

@@ -1,16 +1,15 @@
 //! What an event changes, from the worlds before and after it.
 
-ghost use Rattle.std.specs.Prelude.{List, ◌≡◌, ◌++◌, IfOk, OnOk, option_map};
+ghost use Rattle.std.specs.Prelude.{◌≡◌, ◌++◌, IfOk, OnOk, option_map};
 ghost use Rattle.serde_json.specs.View.{view};
 ghost use Rattle.events.specs.Events.{event as event_of};
 ghost use Rattle.event_worlds.specs.Shown.{Shows, scope_id};
 ghost use Rattle.event_worlds.specs.World.{World as AnyWorld, weight_of};
-ghost use Rattle.trace_page.specs.Changes.{AreChanges, book_told, changes_json};
+ghost use Rattle.trace_page.specs.Changes.{AreChanges, Changes as AnyChanges, book_told, changes_json};
 ghost use Rattle.trace_page.specs.Changes.{innermost as innermost_of, shares_told, weight_told, weights_told};
-ghost use Rattle.trace_page.specs.declared.changes.Change.{Change as AnyChange};
 
-use crate::changes::Change;
-use crate::told::list;
+use crate::changes::WeightChange;
+use crate::told::push_all;
 use crate::values::values_of;
 use event_worlds::world::World;
 use events::event::Event;
@@ -32,20 +31,22 @@ pub struct Moment<'m, 'p> {
 
 /// Returns what an event changes: weights and a book, and then the values of its task.
 pub fn changes_of(alloc: Global, moment: Moment<'_, '_>) -> Result<Value, AllocError>
-    ensures { IfOk result (λ v. (told : List AnyChange) × (view v ≡ changes_json told)
+    ensures { IfOk result (λ v. (told : AnyChanges) × (view v ≡ changes_json told)
         × ((before after : AnyWorld) → Shows moment.entry.before.now before
         → Shows moment.entry.after.now after
         → AreChanges (event_of moment.entry.event.now) before after told)) }
 {
-    let mut values = values_of(alloc, moment)?;
-    let mut changes = Vec::new(alloc);
-    push_weights(&mut changes, moment)?;
-    changes.append(&mut values)?;
-    list(alloc, &changes)
+    let values = values_of(alloc, moment)?;
+    let mut weights = Vec::new(alloc);
+    push_weights(&mut weights, moment)?;
+    let mut list = Vec::new(alloc);
+    push_all(&mut list, alloc, &weights)?;
+    push_all(&mut list, alloc, &values)?;
+    Ok(Value::Array(list))
 }
 
 /// Adds the weights and the book that an event changes.
-fn push_weights(changes: &mut Vec<Change>, moment: Moment<'_, '_>) -> Result<(), AllocError>
+fn push_weights(changes: &mut Vec<WeightChange>, moment: Moment<'_, '_>) -> Result<(), AllocError>
     ensures { OnOk result ((before after : AnyWorld)
         → Shows moment.entry.before.now before → Shows moment.entry.after.now after
         → changes.new.items ≡ changes.old.items
@@ -69,7 +70,7 @@ fn push_weights(changes: &mut Vec<Change>, moment: Moment<'_, '_>) -> Result<(),
 
 /// Adds the weight that a task has left after a spawn, and the weight that its child got.
 fn push_shares(
-    changes: &mut Vec<Change>,
+    changes: &mut Vec<WeightChange>,
     had: Option<u64>,
     has: Option<u64>,
 ) -> Result<(), AllocError>
@@ -81,13 +82,17 @@ fn push_shares(
     let Some(has) = has else {
         return Ok(());
     };
-    changes.push(Change::Weight(has))?;
-    changes.push(Change::ChildWeight(had.saturating_sub(has)))?;
+    changes.push(WeightChange::Weight(has))?;
+    changes.push(WeightChange::ChildWeight(had.saturating_sub(has)))?;
     Ok(())
 }
 
 /// Adds the weight of a task in its innermost scope, and the book of that scope.
-fn push_issued(changes: &mut Vec<Change>, world: &World<'_>, path: &Path) -> Result<(), AllocError>
+fn push_issued(
+    changes: &mut Vec<WeightChange>,
+    world: &World<'_>,
+    path: &Path,
+) -> Result<(), AllocError>
     ensures { OnOk result ((w : AnyWorld) → Shows world.now w → changes.new.items ≡ changes.old.items
         ++ (weight_told (weight_of path.now.turns.items w)
         ++ book_told (innermost_of path.now.turns.items w) w)) }
@@ -97,12 +102,12 @@ fn push_issued(changes: &mut Vec<Change>, world: &World<'_>, path: &Path) -> Res
 }
 
 /// Adds a task's weight.
-fn push_weight(changes: &mut Vec<Change>, weight: Option<u64>) -> Result<(), AllocError>
+fn push_weight(changes: &mut Vec<WeightChange>, weight: Option<u64>) -> Result<(), AllocError>
     ensures { OnOk result (changes.new.items ≡ changes.old.items ++ weight_told weight) }
 {
     match weight {
         Some(own) => {
-            changes.push(Change::Weight(own))?;
+            changes.push(WeightChange::Weight(own))?;
             Ok(())
         }
         None => Ok(()),
@@ -111,7 +116,7 @@ fn push_weight(changes: &mut Vec<Change>, weight: Option<u64>) -> Result<(), All
 
 /// Adds the book of a scope.
 fn push_book(
-    changes: &mut Vec<Change>,
+    changes: &mut Vec<WeightChange>,
     scope: Option<&ScopeId>,
     world: &World<'_>,
 ) -> Result<(), AllocError>
@@ -123,7 +128,7 @@ fn push_book(
     };
     match world.book(scope) {
         Some(book) => {
-            changes.push(Change::Book {
+            changes.push(WeightChange::Book {
                 issued: book.0,
                 returned: book.1,
             })?;

@@ -1,6 +1,6 @@
 //! What has a value of JSON, and lists of that.
 
-ghost use Rattle.std.specs.Prelude.{◌≡◌, IfOk};
+ghost use Rattle.std.specs.Prelude.{◌≡◌, ◌++◌, IfOk, OnOk, map};
 ghost use Rattle.serde_json.specs.View.{view};
 ghost use Rattle.trace_page.specs.Pieces.{list_by};
 
@@ -28,6 +28,20 @@ pub fn list<T: Told>(alloc: Global, items: &[T]) -> Result<Value, AllocError>
         list.push(item.value(alloc)?)?;
     }
     Ok(Value::Array(list))
+}
+
+/// Adds the values of items to a list.
+pub fn push_all<T: Told>(
+    list: &mut Vec<Value>,
+    alloc: Global,
+    items: &[T],
+) -> Result<(), AllocError>
+    ensures { OnOk result (map view list.new.items ≡ map view list.old.items ++ map T.json items.now) }
+{
+    for item in items {
+        list.push(item.value(alloc)?)?;
+    }
+    Ok(())
 }
 
 impl Told for u32 {

@@ -1,6 +1,6 @@
 //! What an event changes in the state of its task. No contract states which changes these are.
 
-use crate::changes::Change;
+use crate::changes::ValueChange;
 use crate::held::{environment_of, flow_of, next_store, run_of};
 use crate::moments::{Moment, innermost};
 use crate::tasks::path_of;
@@ -15,7 +15,7 @@ use types::path::Path;
 use types::value::Environment;
 
 /// Returns what an event changes in the state of its task.
-pub fn values_of(alloc: Global, moment: Moment<'_, '_>) -> Result<Vec<Change>, AllocError> {
+pub fn values_of(alloc: Global, moment: Moment<'_, '_>) -> Result<Vec<ValueChange>, AllocError> {
     let mut changes = Vec::new(alloc);
     let path = path_of(moment.event);
     let Some(before) = moment.before.tasks.get(path) else {
@@ -38,12 +38,12 @@ pub fn values_of(alloc: Global, moment: Moment<'_, '_>) -> Result<Vec<Change>, A
 
 /// Adds that a task ended because it was over its budget, if it was.
 fn push_end(
-    changes: &mut Vec<Change>,
+    changes: &mut Vec<ValueChange>,
     moment: Moment<'_, '_>,
     path: &Path,
 ) -> Result<(), AllocError> {
     if has_stopped(moment, path) {
-        changes.push(Change::Flows(Flow::Stopped))?;
+        changes.push(ValueChange::Flows(Flow::Stopped))?;
     }
     Ok(())
 }
@@ -67,7 +67,7 @@ fn has_stopped(moment: Moment<'_, '_>, path: &Path) -> bool {
 
 /// Adds what a step did: its fault, or the line that it has printed, or the element that it has stored.
 fn push_step(
-    changes: &mut Vec<Change>,
+    changes: &mut Vec<ValueChange>,
     before: &TaskProgress<'_>,
     after: &TaskProgress<'_>,
 ) -> Result<(), AllocError> {
@@ -77,18 +77,18 @@ fn push_step(
     let (lines, faults) = printed(before);
     if faults < run.thread.faults.len() {
         if let Some(fault) = run.thread.faults.last() {
-            changes.push(Change::Fault(fault.kind))?;
+            changes.push(ValueChange::Fault(fault.kind))?;
         }
         return Ok(());
     }
     if lines < run.thread.lines.len() {
         if let Some(line) = run.thread.lines.last() {
-            changes.push(Change::Line(line.clone()?))?;
+            changes.push(ValueChange::Line(line.clone()?))?;
         }
     }
     if let Some(place) = next_store(before) {
         let value = run.thread.store.holdings.number(place);
-        changes.push(Change::Store { place, value })?;
+        changes.push(ValueChange::Store { place, value })?;
     }
     Ok(())
 }
@@ -103,7 +103,7 @@ fn printed(doing: &TaskProgress<'_>) -> (usize, usize) {
 
 /// Adds the number of faults that a finish has gathered, if it has.
 fn push_gathered(
-    changes: &mut Vec<Change>,
+    changes: &mut Vec<ValueChange>,
     before: &TaskProgress<'_>,
     after: &TaskProgress<'_>,
 ) -> Result<(), AllocError> {
@@ -116,14 +116,14 @@ fn push_gathered(
     if let Flow::Faulted = run.thread.flow {
         let outer = paused.outer.faults.len();
         let count = run.thread.faults.len().saturating_sub(outer);
-        changes.push(Change::Gathered(count))?;
+        changes.push(ValueChange::Gathered(count))?;
     }
     Ok(())
 }
 
 /// Adds the elements that a child starts with, in the environment of its parent.
 fn push_given(
-    changes: &mut Vec<Change>,
+    changes: &mut Vec<ValueChange>,
     moment: Moment<'_, '_>,
     parent: &TaskProgress<'_>,
 ) -> Result<(), AllocError> {
@@ -145,16 +145,20 @@ fn push_given(
 }
 
 /// Adds a part of an array that a child starts with, unless the part is empty.
-fn push_part(changes: &mut Vec<Change>, may_write: bool, window: Window) -> Result<(), AllocError> {
+fn push_part(
+    changes: &mut Vec<ValueChange>,
+    may_write: bool,
+    window: Window,
+) -> Result<(), AllocError> {
     if window.len > 0 {
-        changes.push(Change::Given { may_write, window })?;
+        changes.push(ValueChange::Given { may_write, window })?;
     }
     Ok(())
 }
 
 /// Adds the scalars and the sections that have another value, or had none.
 fn push_environment(
-    changes: &mut Vec<Change>,
+    changes: &mut Vec<ValueChange>,
     before: &TaskProgress<'_>,
     after: &TaskProgress<'_>,
 ) -> Result<(), AllocError> {
@@ -167,13 +171,13 @@ fn push_environment(
     for (slot, value) in has.scalars.iter().enumerate() {
         if !is_at(&had.scalars, slot, value) {
             let value = *value;
-            changes.push(Change::Scalar { slot, value })?;
+            changes.push(ValueChange::Scalar { slot, value })?;
         }
     }
     for (number, window) in has.windows.iter().enumerate() {
         if !is_at(&had.windows, number, window) {
             let window = *window;
-            changes.push(Change::Section { number, window })?;
+            changes.push(ValueChange::Section { number, window })?;
         }
     }
     Ok(())
@@ -181,7 +185,7 @@ fn push_environment(
 
 /// Adds a task's flow, if it is another one.
 fn push_flow(
-    changes: &mut Vec<Change>,
+    changes: &mut Vec<ValueChange>,
     before: &TaskProgress<'_>,
     after: &TaskProgress<'_>,
 ) -> Result<(), AllocError> {
@@ -189,7 +193,7 @@ fn push_flow(
         return Ok(());
     };
     if flow_of(before).unwrap_or(Flow::On) != flow {
-        changes.push(Change::Flows(flow))?;
+        changes.push(ValueChange::Flows(flow))?;
     }
     Ok(())
 }
