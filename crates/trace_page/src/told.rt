@@ -30,16 +30,17 @@ pub fn list<T: Told>(alloc: Global, items: &[T]) -> Result<Value, AllocError>
     Ok(Value::Array(list))
 }
 
-/// Adds the values of items to a list.
+/// Adds the values of items to others.
 pub fn push_all<T: Told>(
-    list: &mut Vec<Value>,
+    values: &mut Vec<Value>,
     alloc: Global,
     items: &[T],
 ) -> Result<(), AllocError>
-    ensures { OnOk result (map view list.new.items ≡ map view list.old.items ++ map T.json items.now) }
+    ensures { OnOk result
+        (map view values.new.items ≡ map view values.old.items ++ map T.json items.now) }
 {
     for item in items {
-        list.push(item.value(alloc)?)?;
+        values.push(item.value(alloc)?)?;
     }
     Ok(())
 }

@@ -21,7 +21,7 @@ returns c =
     ∙ ap (λ (ds : List Data). ds ++ map change_json c.deref-2.result.now) first
     ∙ ap (λ (xs : List ValueChange). map weight_json weights ++ map change_json xs) c.deref-2.ensures.value in (
       record { weights = weights; values = values },
-      view-Array c.push_all-2.new.list ∙ ap (λ (ds : List Data). array (items_of ds)) both,
+      view-Array c.push_all-2.new.values ∙ ap (λ (ds : List Data). array (items_of ds)) both,
       λ before after shows_before shows_after. record {
         weights = c.in_ok-push_weights.ensures before after shows_before shows_after
             ∙ ap (λ (l : List WeightChange). l ++ weights_told e before after) c.new-weights.ensures.items;

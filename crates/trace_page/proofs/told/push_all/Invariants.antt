@@ -5,4 +5,4 @@ use Rattle.trace_page.proofs.told.push_all.Given as goal
 -- the values so far: those before, and those of the first items
 abbrev pub invariant-loop-item : goal.invariant-loop-item
 invariant-loop-item g l =
-    map view l.list.items ≡ map view l.initial.list.items ++ map g.T.Told.json (take l.item-index l.items)
+    map view l.values.items ≡ map view l.initial.values.items ++ map g.T.Told.json (take l.item-index l.items)
