@@ -42,7 +42,6 @@ impl Found {
     }
 
     /// Combines two blocks, one of which is run.
-    #[inline(never)]
     pub fn or(mut self, other: Found) -> Result<Found, AllocError>
         ensures { IfOk result (IsBoth self other) }
     {
@@ -83,7 +82,6 @@ impl Found {
 
     /// Makes a loop of these statements: what one iteration leaves pending meets all of the next
     /// iteration.
-    #[inline(never)]
     pub fn in_turn(mut self, sections: &SectionTree, procedure: ProcedureId) -> Found
         requires pending { All (λ x. x.section.number < length (origins_of sections.now))
             self.pending.items.items }
@@ -98,7 +96,6 @@ impl Found {
 
     /// Makes a turn of a `parts` of these statements: what one turn leaves pending meets all of a
     /// later turn, except that the pieces of two turns are apart.
-    #[inline(never)]
     pub fn in_turns(
         mut self,
         alloc: Global,
@@ -123,7 +120,6 @@ impl Found {
     }
 
     /// Makes a split of these statements, in the names around it.
-    #[inline(never)]
     pub fn past_split(
         self,
         alloc: Global,
@@ -154,7 +150,6 @@ impl Found {
     }
 
     /// Makes an async of these statements: everything that they do is left pending.
-    #[inline(never)]
     pub fn in_async(mut self, alloc: Global) -> Result<Found, AllocError>
         ensures all { IfOk result (λ found. found.all ≡ self.all) }
         ensures pending { IfOk result (λ found. kept_in found.pending ≡ kept_in self.all) }
@@ -165,7 +160,6 @@ impl Found {
     }
 
     /// Makes a finish of these statements: it leaves nothing pending.
-    #[inline(never)]
     pub fn in_finish(mut self, alloc: Global) -> Found
         ensures all { result.all ≡ self.all }
         ensures pending { kept_in result.pending ≡ [] }

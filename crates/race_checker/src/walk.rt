@@ -66,6 +66,31 @@ pub(crate) fn found_in<R: Threads + Sync>(
     if body.len() < 2 * PIECE {
         return found_in_piece(rt, alloc, code, summaries, procedure, body);
     }
+    found_in_pieces(rt, alloc, code, summaries, procedure, body)
+}
+
+/// Returns what is found of a long list of statements. It isn't inlined, so that the frames of short
+/// lists inside one another are small.
+#[cycle(walk)]
+#[inline(never)]
+fn found_in_pieces<R: Threads + Sync>(
+    rt: &R,
+    alloc: Global,
+    code: &Program,
+    summaries: &Summaries,
+    procedure: ProcedureId,
+    body: &[Stmt],
+) -> Result<Found, AllocError>
+    requires sound { IsSound (program_as code.now) }
+    requires summaries { AreSummaries (program_as code.now) summaries.now }
+    requires procedure { procedure.number ≤ length (program_as code.now).procedures }
+    requires stands { Stands (program_as code.now)
+        (numbered (program_as code.now) procedure.number).sections (codes_of body.now) }
+    requires long { 512 ≤ length body.now }
+    ensures { IfOk result (IsFoundIn (program_as code.now)
+        (numbered (program_as code.now) procedure.number).sections procedure.number
+        (codes_of body.now)) }
+{
     let pieces = body
         .par_chunks(PIECE)
         .with_min_len(1)
@@ -207,7 +232,6 @@ fn found_of<R: Threads + Sync>(
 
 /// Returns what is found of a call: what its procedure does and leaves pending, in the names around
 /// the call. Clashes inside the procedure are found in that procedure.
-#[inline(never)]
 fn found_of_call(
     alloc: Global,
     code: &Program,

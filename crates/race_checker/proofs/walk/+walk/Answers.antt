@@ -41,8 +41,12 @@ pub found_in-found_in_piece-requires : goal.found_in-found_in_piece-requires
 found_in-found_in_piece-requires g t c κs within =
     (omega arith, (within, (search (sendable, crosses) depth 40, (c.requires.sound, (c.requires.summaries, (c.requires.procedure, c.requires.stands))))))
 
-pub found_in-collect-requires-clause-ready : goal.found_in-collect-requires-clause-ready
-found_in-collect-requires-clause-ready g t c κs within =
+pub found_in-found_in_pieces-requires : goal.found_in-found_in_pieces-requires
+found_in-found_in_pieces-requires g t c κs within =
+    (omega arith, (within, (search (sendable, crosses) depth 40, (c.requires.sound, (c.requires.summaries, (c.requires.procedure, (c.requires.stands, omega arith)))))))
+
+pub found_in_pieces-collect-requires-clause-ready : goal.found_in_pieces-collect-requires-clause-ready
+found_in_pieces-collect-requires-clause-ready g t c κs within =
     let p = program c.args.code.now in
     let os = (numbered p c.args.procedure.number).sections in
     let body = c.args.body.now in
@@ -56,8 +60,8 @@ found_in-collect-requires-clause-ready g t c κs within =
       λ y q. tt,
     )))
 
-pub found_in-joined-requires-clause-pieces : goal.found_in-joined-requires-clause-pieces
-found_in-joined-requires-clause-pieces g t c =
+pub found_in_pieces-joined-requires-clause-pieces : goal.found_in_pieces-joined-requires-clause-pieces
+found_in_pieces-joined-requires-clause-pieces g t c =
     let body = c.args.body.now in
     let asked = map_f c.map.result in
     let q = program asked.2.now in

@@ -13,13 +13,16 @@ invariant-found_in_piece-loop-place g l =
 
 -- a list calls for its pieces, a piece for its statements, a statement for its blocks
 abbrev pub decreases-found_in : goal.decreases-found_in
-decreases-found_in g l = 4 * size (codes l.body.now) + 3
+decreases-found_in g l = 5 * size (codes l.body.now) + 4
 
-abbrev pub decreases-found_in-map : goal.decreases-found_in-map
-decreases-found_in-map g l = 4 * size (codes l.piece.now) + 2
+abbrev pub decreases-found_in_pieces : goal.decreases-found_in_pieces
+decreases-found_in_pieces g l = 5 * size (codes l.body.now) + 3
+
+abbrev pub decreases-found_in_pieces-map : goal.decreases-found_in_pieces-map
+decreases-found_in_pieces-map g l = 5 * size (codes l.piece.now) + 2
 
 abbrev pub decreases-found_in_piece : goal.decreases-found_in_piece
-decreases-found_in_piece g l = 4 * size (codes l.piece.now) + 1
+decreases-found_in_piece g l = 5 * size (codes l.piece.now) + 1
 
 abbrev pub decreases-found_of : goal.decreases-found_of
-decreases-found_of g l = 4 * size_in (code l.statement.now.kind) + 4
+decreases-found_of g l = 5 * size_in (code l.statement.now.kind) + 5
