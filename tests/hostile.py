@@ -232,6 +232,7 @@ def folders(tests):
     for words in (["run", "t.afx", "--trace", "folder"], ["run", "t.afx", "--trace", "folder/"], ["run", "t.afx", "--trace", ""],
                   ["run", "t.afx", "--trace", "none/x"], ["view", "t.afx", "t.trace", "--svg", "folder"],
                   ["view", "t.afx", "t.trace", "--chrome", "folder"], ["run", "t.afx", "--trace", "/proc/x"],
+                  ["view", "t.afx", "t.trace", "--html", "folder"],
                   ["run", "t.afx", "--trace", "t.afx/x"], ["run", "t.afx", "--trace", "x" * 300]):
         tests.expect(words, 1, "", f"cannot write {words[-1]}\n")
 

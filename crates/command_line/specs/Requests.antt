@@ -8,6 +8,7 @@ use Rattle.command_line.specs.declared.request.Command.{Command}
 use Rattle.command_line.specs.declared.request.Command.TheVariants.{Run, Serial, Check, Pairs, Explore}
 use Rattle.command_line.specs.declared.request.Command.TheVariants.{Places, Listing, Labels, Format, Meetings}
 use Rattle.command_line.specs.declared.request.Command.TheVariants.{CheckFormat, View, Summary, Draw, Chrome}
+use Rattle.command_line.specs.declared.request.Command.TheVariants.{Page}
 use Rattle.command_line.specs.declared.request.Command.TheVariants.{Cost, CostByLabel, CostByProcedure}
 use Rattle.command_line.specs.declared.request.Action.{Action}
 use Rattle.command_line.specs.declared.request.Action.TheVariants.{Answer, Rewrite}
@@ -344,12 +345,13 @@ settings_by o = record {
 
 -- ---- a trace that is shown
 
--- how it is shown: as a table, by its numbers, as a picture in a file, or in a file for a trace viewer
+-- how it is shown: as a table, by its numbers, as a picture in a file, in a file for a trace viewer, or as a page
 pub data Showing : Type 0 where
   AsTable : Showing
   ByNumbers : Showing
   AsPicture : (out : List ℕ) → Showing
   ForViewer : (out : List ℕ) → Showing
+  AsPage : (out : List ℕ) → Showing
 
 -- the arguments for it, at most one option
 abbrev pub showing_words : Showing → List (List ℕ)
@@ -357,12 +359,14 @@ showing_words AsTable = []
 showing_words ByNumbers = codes "--summary" ∷ []
 showing_words (AsPicture out) = codes "--svg" ∷ out ∷ []
 showing_words (ForViewer out) = codes "--chrome" ∷ out ∷ []
+showing_words (AsPage out) = codes "--html" ∷ out ∷ []
 
 abbrev pub command_for : Showing → Command
 command_for AsTable = View
 command_for ByNumbers = Summary
 command_for (AsPicture out) = Draw
 command_for (ForViewer out) = Chrome
+command_for (AsPage out) = Page
 
 -- the file of the picture
 abbrev pub picture_of : Showing → Option (List ℕ)
@@ -370,6 +374,7 @@ picture_of AsTable = None
 picture_of ByNumbers = None
 picture_of (AsPicture out) = Some out
 picture_of (ForViewer out) = Some out
+picture_of (AsPage out) = Some out
 
 -- the file of the trace, that of the initial contents of the arrays, if one is named, and how it is shown
 pub record Viewing : Type 0 where

@@ -72,6 +72,10 @@ pub fn perform<R: Threads + Wait + Sync, F: FileSource, O: Write, W: Watch>(
             Command::Summary => view(rt, alloc, Look::Numbers, question, files, out),
             Command::Draw => draw(rt, alloc, Form::Picture, question, files, out),
             Command::Chrome => draw(rt, alloc, Form::Spans, question, files, out),
+            Command::Page => {
+                let program = request.file;
+                draw(rt, alloc, Form::Html { program }, question, files, out)
+            }
         },
     }
 }
