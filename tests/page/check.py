@@ -696,6 +696,13 @@ def main():
                         holds("stopped: no schedules", "over its budget" in browser.run("whyNoSchedules()"))
                     else:
                         check_schedules(browser, made)
+            if wanted("parts"):
+                for example in ("task_per_piece", "turned_names"):
+                    program, trace = pathlib.Path(f"examples/{example}.afx"), folder / f"{example}.trace"
+                    ask("run", program, "--workers", "2", "--trace", trace)
+                    made = Case(folder, example, program, trace)
+                    check_all(browser, made)
+                    check_schedules(browser, made)
             if wanted("values"):
                 made = Case(folder, "values", HERE / "faults.afx", HERE / "faults.trace")
                 check_values(browser, made)
