@@ -118,11 +118,10 @@ fn with_labels(
         → IfOk result (λ told. HasShares text.now (text_of_cost cost.now.costed.cost)
         cost.now.work.items cost.now.span.items (string_bytes told)) }
 {
-    let mut told = cost_text(alloc, &cost.costed.cost)?;
+    let told = cost_text(alloc, &cost.costed.cost)?;
     let statements = NamedStatements::of(alloc, text, typed.program())?;
     let lines = labels_text(alloc, &cost.work, &cost.span)?;
-    statements.push_lines(alloc, &mut told, lines.as_str())?;
-    Ok(told)
+    statements.after(alloc, told, lines.as_str())
 }
 
 /// Returns the lines of a cost, followed by the shares of procedures.

@@ -86,12 +86,23 @@ impl NamedStatements {
     }
 
     /// Adds the lines of a text, each between the position and the text of a statement.
-    pub fn push_lines(&self, alloc: Global, told: &mut String, text: &str) -> Result<(), AllocError>
+    fn push_lines(&self, alloc: Global, told: &mut String, text: &str) -> Result<(), AllocError>
         ensures { OnOk result (string_bytes told.new
             ≡ string_bytes told.old ++ lines_around self.now 0 (lines_in text.now)) }
     {
         let lines = lines_of(alloc, text)?;
         self.push_each(told, &lines)
+    }
+
+    /// Returns a text, followed by the lines of another, each between the position and the text of a
+    /// statement.
+    pub fn after(&self, alloc: Global, before: String, text: &str) -> Result<String, AllocError>
+        ensures { IfOk result (λ told. string_bytes told
+            ≡ string_bytes before ++ lines_around self.now 0 (lines_in text.now)) }
+    {
+        let mut told = before;
+        self.push_lines(alloc, &mut told, text)?;
+        Ok(told)
     }
 
     /// Adds these lines, each between the position and the text of a statement.

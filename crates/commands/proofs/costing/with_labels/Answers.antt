@@ -1,4 +1,5 @@
 use Rattle.std.proofs.Common.{◌++◌, ◌∙◌, List, ℕ, ap}
+use Rattle.std.proofs.lemmas.Result.{IfOk-weaker}
 use Rattle.types.specs.Typed.{program_of}
 use Rattle.std.specs.Str.Lines.{lines}
 use Rattle.cost.specs.Text.{cost_text}
@@ -9,12 +10,13 @@ use Rattle.commands.proofs.costing.with_labels.Goals as goal
 pub returns : goal.returns
 returns c spelled =
     let s = c.in_ok-statements.statements in
-    record {
+    IfOk-weaker c.after.result _ _
+    (λ told is. record {
       statements = s;
       are = statements_found c.args.text.now (program_of c.args.typed.now) _ s c.program.ensures.program spelled
           c.in_ok-statements.ensures;
-      told_is = c.in_ok-push_lines.ensures
+      told_is = is
           ∙ ap (λ (before : List ℕ). before ++ lines_around s 0 (lines c.as_str.result.now)) c.in_ok-told.ensures
           ∙ ap (λ (l : List ℕ). cost_text c.args.cost.now.costed.cost ++ lines_around s 0 (lines l))
           (c.as_str.ensures.value ∙ c.in_ok-lines.ensures);
-    }
+    }) c.after.ensures

@@ -1,6 +1,8 @@
 use Rattle.std.proofs.Common.{List, ℕ, ap, ◌∙◌, map}
 use Rattle.std.proofs.lemmas.Result.{IfOk-weaker}
 use Rattle.std.specs.Str.Lines.{lines}
+use Rattle.syntax.specs.Canonical.{canonical}
+use Rattle.syntax_tree.specs.Tree.{program}
 use Rattle.commands.specs.Statements.{heads_on}
 use Rattle.commands.proofs.Named.{shown}
 use Rattle.commands.proofs.statements.heads_of.Goals as goal
@@ -13,4 +15,4 @@ returns c =
     ap (map shown) c.deref-2.ensures.value ∙ c.in_ok-plain.ensures ∙ ap lines (c.as_str-2.ensures.value ∙ c.in_ok-text.ensures.text) in
     IfOk-weaker c.heads_among.result _ _
     (λ heads is. is ∙ ap (λ (l : List (List ℕ)). heads_on l 0 (map shown c.deref.result.now)) plain
-    ∙ ap (λ (l : List (List ℕ)). heads_on _ 0 l) listing) c.heads_among.ensures
+    ∙ ap (λ (l : List (List ℕ)). heads_on (lines (canonical (program c.args.program.now))) 0 l) listing) c.heads_among.ensures
