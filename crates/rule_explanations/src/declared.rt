@@ -77,6 +77,7 @@ impl<'t> VisibleNames<'t> {
             Token::Word(Word::Var) => self.declare(behind, NameKind::Scalar)?,
             Token::Word(Word::Split) => self.cut(behind, true)?,
             Token::Word(Word::Parts) => self.cut(behind, false)?,
+            Token::Word(Word::Rescue) => self.declare_inside(behind, NameKind::Scalar, None)?,
             Token::Word(Word::Async) => self.task = Some(first.at),
             Token::Mark(Mark::LeftBrace) => {
                 let task = self.task.take();
