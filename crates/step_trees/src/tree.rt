@@ -566,7 +566,7 @@ fn closed<'p>(alloc: Global, first: Tree<'p>, waiting: Waiting<'p>) -> Result<Le
 /// Starts the handler of a finish that has gathered the faults of a leaf. They are dropped.
 fn handled<'p>(alloc: Global, leaf: Leaf<'p>, handler: Handler<'p>) -> Result<Leaf<'p>, AllocError>
     ensures { IfOk result (λ k. leaf_of k ≡ returned_leaf
-        (handling handler.faults.number (codes_of handler.block.now) (leaf_of leaf.entry))) }
+        (handling handler.entry.faults.number (codes_of handler.entry.block.now) (leaf_of leaf.entry))) }
 {
     let mut leaf = leaf;
     let number = leaf.faults.len();

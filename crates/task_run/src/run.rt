@@ -302,7 +302,7 @@ impl<'p> Run<'p> {
         faults: Slot,
         handler: &'p [Stmt],
     ) -> Result<(), AllocError>
-        ensures { OnOk result (Turns (λ fs st. handled st.flow (map fault_of before.entry.items)
+        ensures { OnOk result (Turns (λ fs st. handled st.flow (map fault_of before.items)
             faults.number (codes_of handler.entry.now) fs st) self.old self.new) }
     {
         match self.thread.flow {
