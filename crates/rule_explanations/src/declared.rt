@@ -271,6 +271,35 @@ fn array_kind(tokens: &[Spanned]) -> NameKind {
     }
 }
 
+/// Returns the name after the `rescue` of the `finish` that comes first, with the number of the
+/// name's first character.
+pub fn rescued_name(tokens: &[Spanned]) -> Option<(&str, usize)> {
+    let mut depth: u32 = 0;
+    for (number, spanned) in tokens.iter().enumerate() {
+        match &spanned.token {
+            Token::Mark(Mark::LeftBrace) => depth = depth.saturating_add(1),
+            Token::Mark(Mark::RightBrace) => {
+                depth = depth.saturating_sub(1);
+                if depth == 0 {
+                    return name_after_rescue(tokens.get(number.saturating_add(1)..).unwrap_or(&[]));
+                }
+            }
+            _ => {}
+        }
+    }
+    None
+}
+
+/// Returns the name after a `rescue` that comes first.
+fn name_after_rescue(tokens: &[Spanned]) -> Option<(&str, usize)> {
+    match tokens {
+        [first, behind @ ..] if matches!(&first.token, Token::Word(Word::Rescue)) => {
+            first_name(behind)
+        }
+        _ => None,
+    }
+}
+
 /// Returns the name that comes first, with the number of its first character.
 fn first_name(tokens: &[Spanned]) -> Option<(&str, usize)> {
     match tokens {
