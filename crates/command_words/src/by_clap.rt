@@ -154,6 +154,8 @@ fn listing(given: &ArgMatches<'_>) -> Command {
 fn pairing(given: &ArgMatches<'_>) -> Command {
     if given.get_flag("accesses") {
         Command::Meetings
+    } else if given.get_flag("by-line") {
+        Command::PairsByLine
     } else {
         Command::Pairs
     }
@@ -183,12 +185,21 @@ fn costing(given: &ArgMatches<'_>) -> Command {
 
 /// Returns which command `view` is. `clap` has checked that at most one option selects it.
 fn viewing(given: &ArgMatches<'_>) -> Command {
+    let by_line = given.get_flag("by-line");
     if given.get_flag("summary") {
-        Command::Summary
+        if by_line {
+            Command::SummaryByLine
+        } else {
+            Command::Summary
+        }
     } else if given.get_str("svg").is_some() {
         Command::Draw
     } else if given.get_str("chrome").is_some() {
         Command::Chrome
+    } else if given.get_str("html").is_some() {
+        Command::Page
+    } else if by_line {
+        Command::ViewByLine
     } else {
         Command::View
     }
@@ -268,9 +279,12 @@ fn trace<'w>(given: &ArgMatches<'w>) -> Option<&'w str> {
 
 /// Returns the file of a picture. `clap` has checked that at most one option names it.
 fn picture<'w>(given: &ArgMatches<'w>) -> Option<&'w str> {
-    match given.get_str("svg") {
+    if let Some(file) = given.get_str("svg") {
+        return Some(file);
+    }
+    match given.get_str("chrome") {
         Some(file) => Some(file),
-        None => given.get_str("chrome"),
+        None => given.get_str("html"),
     }
 }
 
