@@ -64,6 +64,9 @@ function readProcedures(program) {
       while (i < tokens.length && tokens[i].text !== '{') i++;
       blocks.push([declare('sections', tokens[i - 3].text, at),
         declare(text === 'split' ? 'sections' : 'scalars', tokens[i - 1].text, at)]);
+    } else if (text === 'rescue') {
+      blocks.push([declare('scalars', tokens[++i].text, at)]);
+      i++;
     } else if (text === '{') {
       blocks.push(parameters);
       parameters = [];

@@ -5,7 +5,7 @@ pub const BEFORE: &str = "<!doctype html>
 <html lang=\"en\">
 <head>
 <meta charset=\"utf-8\">
-<meta http-equiv=\"Content-Security-Policy\" content=\"default-src 'none'; script-src 'sha256-4zhx0zlxGPdRbbgrjPNLN6LQ6zDXY5KoJgvdVi/EFNo='; style-src 'sha256-fGIBzfFWw/94qK1AI9BiXQKvZLf4zKCDtpQ4uZRKDrs='; base-uri 'none'; form-action 'none'; require-trusted-types-for 'script'; trusted-types 'none'\">
+<meta http-equiv=\"Content-Security-Policy\" content=\"default-src 'none'; script-src 'sha256-bdtZjzye7ac/8C9ujSbS3eTIL3mTyta9TuGFuwwaLs0='; style-src 'sha256-fGIBzfFWw/94qK1AI9BiXQKvZLf4zKCDtpQ4uZRKDrs='; base-uri 'none'; form-action 'none'; require-trusted-types-for 'script'; trusted-types 'none'\">
 <meta name=\"viewport\" content=\"width=device-width, initial-scale=1\">
 <meta name=\"referrer\" content=\"no-referrer\">
 <title>afx trace</title>

@@ -51,8 +51,8 @@ fn stored_at(stmt: &Stmt, environment: &Environment, holdings: &Holdings) -> Opt
     environment.place(*section, index).ok()
 }
 
-/// Returns the next statement of a run and the environment of its frame, unless a loop, a `parts` or
-/// a finish comes first.
+/// Returns the next statement of a run and the environment of its frame, unless a loop, a `parts`, a
+/// finish or its handler comes first.
 fn next_statement<'w>(run: &'w Run<'_>) -> Option<(&'w Stmt, &'w Environment)> {
     let mut environment = &run.thread.environment;
     for frame in run.frames.iter().rev() {
@@ -65,7 +65,8 @@ fn next_statement<'w>(run: &'w Run<'_>) -> Option<(&'w Stmt, &'w Environment)> {
             TaskFrame::EndCall {
                 environment: caller,
             } => environment = caller,
-            TaskFrame::Again { .. } | TaskFrame::Turns(_) | TaskFrame::EndFinish(_) => return None,
+            TaskFrame::Again { .. } | TaskFrame::Turns(_) => return None,
+            TaskFrame::EndFinish(_) | TaskFrame::OnFault { .. } => return None,
         }
     }
     None
