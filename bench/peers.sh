@@ -2,12 +2,14 @@
 # Times afx next to others, in this one run, and prints the tables that README takes:
 #
 #     serial    `serial` next to Lua, LuaJIT's interpreter, Python and C, by bench/run.sh: the other's time divided by that of
-#               afx. Above the table is how the loop compares with Lua's: the tables of two machines can be compared only if
-#               this ratio is about the same, since it shows how fast indirect jumps are.
+#               afx.
 #     tasks     `run` next to rayon, oneTBB, Java's pool and Go, on 1, 2 and 4 workers and the same tasks: the minimum in
 #               milliseconds, without the start of the process. A '!' marks a result that differs from that of afx.
 #     old       with AFX_OLD, this program next to that one, in turn for each kernel of docs/COOKBOOK.md at a larger size: the
 #               minimum of three times in milliseconds, as `old > new`; then the new program's medians.
+#
+# Above the tables is how the loop compares with that of the others. The tables of two machines can be compared only if these
+# ratios are about the same, since they show how fast indirect jumps are.
 #
 # Peers that aren't installed are left out. Not a test and not part of CI: times mean nothing on a machine that does other
 # work.
@@ -22,10 +24,29 @@ made=$(mktemp -d) && trap 'rm -rf "$made"' EXIT
 . ./programs.sh
 missing=
 
+peers='Lua 5.4,LuaJIT (interpreter only),Python 3,C (-O2)'
+
+# Prints how the loop compares with that of the others.
+loop_line() {
+    AFX="$afx serial --steps 1000000000" sh run.sh loop | awk -v peers="$peers" '
+        $1 == "loop" {
+            split(peers, names, ",")
+            printf "The loop takes %s ms in `afx serial`", $2
+            for (i = 3; i <= NF; i++) {
+                peer++
+                if ($i == "-" || $i == "failed") continue
+                gsub(/[()]/, "", $(i + 1))
+                printf ", %s times as long in %s", $(i + 1), names[peer]
+                i++
+            }
+            print "."
+        }'
+}
+
 # The `serial` table: the rows of bench/run.sh become columns.
 serial_table() {
     AFX="$afx serial --steps 1000000000" sh run.sh >"$made/rows"
-    awk '
+    awk -v peers="$peers" '
         $1 == "not" || $1 == "kernel" { next }
         {
             names[++count] = $1
@@ -36,19 +57,16 @@ serial_table() {
                 else { cells[column, count] = $(i + 1); gsub(/[()]/, "", cells[column, count]); i++ }
                 if ($i != "-") found[column] = 1
             }
-            if ($1 == "loop") { loop = $2; lua = cells[1, count] }
         }
         END {
-            if (found[1]) printf "The loop takes %s ms in `afx serial`, and %s times as long in Lua 5.4.\n\n", loop, lua
-            else printf "The loop takes %s ms in `afx serial`. Lua 5.4 isn'\''t installed, so there is no ratio.\n\n", loop
-            split("Lua 5.4,LuaJIT (interpreter only),Python 3,C (-O2)", peers, ",")
+            split(peers, titles, ",")
             line = "| |"
             rule = "|---|"
             for (k = 1; k <= count; k++) { line = line " " names[k] " |"; rule = rule "---|" }
             print line "\n" rule
             for (p = 1; p <= 4; p++) {
                 if (!found[p]) continue
-                line = "| " peers[p] " |"
+                line = "| " titles[p] " |"
                 for (k = 1; k <= count; k++) line = line " " cells[p, k] " |"
                 print line
             }
@@ -184,18 +202,24 @@ old_table() {
         }' "$made/times"
 }
 
-echo "Measured on $(nproc) processors, $(sed -n 's/^model name[^:]*: //p' /proc/cpuinfo | head -n 1)."
 if [ $# -eq 0 ]; then
     set -- serial tasks
     [ -z "$old" ] || set -- serial tasks old
 fi
 for part; do
+    case $part in
+        serial | tasks) ;;
+        old) [ -n "$old" ] || { echo 'old: AFX_OLD names no program' >&2; exit 2; } ;;
+        *) echo "no part '$part'" >&2; exit 2 ;;
+    esac
+done
+echo "Measured on $(nproc) processors, $(sed -n 's/^model name[^:]*: //p' /proc/cpuinfo | head -n 1)."
+loop_line
+for part; do
     echo
     case $part in
         serial) serial_table ;;
         tasks) task_table ;;
-        old) [ -n "$old" ] || { echo 'old: AFX_OLD names no program' >&2; exit 2; }
-            old_table ;;
-        *) echo "no part '$part'" >&2; exit 2 ;;
+        old) old_table ;;
     esac
 done
