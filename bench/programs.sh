@@ -2,10 +2,11 @@
 # read this file in the folder bench/, with a folder $made for what is made. Not a command.
 
 # The programs that test a single cost, and the kernels of docs/COOKBOOK.md at larger sizes; each with its number of tasks.
-single='blocks:1024 halves:65536 readers:1024 wide_readers:100 tree:75025 fib_tasks:987'
-kernels='reduce:256 prefix_sum:2049 histogram:9 merge_sort:8192 parallel_merge_sort:75797 quicksort:87273
-    matrix_product:128 lu:4097 floyd_warshall:505 jacobi:2561 life:4097 blur:257 segmented_sieve:64
-    mandelbrot:128 bfs:211 match:65 lcs:18424 queens:64 ntt:49151'
+single='blocks:1024 halves:65536 readers:1024 wide_readers:100 tree:75025 fib_tasks:987 quicksort_tiny:87273
+    ntt_tiny:49151 parallel_merge_sort_tiny:75797'
+kernels='reduce:256 prefix_sum:2049 histogram:9 merge_sort:8192 parallel_merge_sort:6881 quicksort:2023
+    matrix_product:128 lu:1073 floyd_warshall:505 jacobi:2561 life:4097 blur:257 segmented_sieve:64
+    mandelbrot:128 bfs:211 match:65 lcs:6142 queens:64 ntt:383'
 # Kernels and a loop in another form: with `split` in place of `parts`, or the other way round.
 forms='jacobi_split:2521 histogram_split:8 matrix_product_parts:129 turns:1 turns_split:1 turns_while:1'
 
