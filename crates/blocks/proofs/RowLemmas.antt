@@ -125,10 +125,7 @@ pub row_from-range : {A : Type 0} (first : ℕ) (xs : List A) (from to : ℕ) (d
     → row_from from (slice_range xs (from - first) (to - first)) k ≡ inside from to (row_from first xs) k
 row_from-range first xs from to d low some high k = by_tests (nat_le from k) (nat_lt k to) refl refl
   where
-    n : ℕ
-    n = to - first - (from - first)
-
-    long : length (slice_range xs (from - first) (to - first)) ≡ n
+    long : length (slice_range xs (from - first) (to - first)) ≡ to - first - (from - first)
     long = length-range xs (from - first) (to - first) (omega (arith, high))
 
     by_tests : (b c : Bool) → nat_le from k ≡ b → nat_lt k to ≡ c
@@ -140,7 +137,7 @@ row_from-range first xs from to d low some high k = by_tests (nat_le from k) (na
     by_tests true true e f =
         let le = leb-true _ _ e in let lt = ltb-true _ _ f in
         row_from-in from (slice_range xs (from - first) (to - first)) k d le (omega (arith, long, lt, low, some))
-        ∙ ap Some (get_or-take n (drop (from - first) xs) (k - from) d (omega (arith, le, lt, low))
+        ∙ ap Some (get_or-take (to - first - (from - first)) (drop (from - first) xs) (k - from) d (omega (arith, le, lt, low))
         ∙ get_or-drop (from - first) xs (k - from) d
         ∙ ap (λ (j : ℕ). get_or xs j d) (omega (arith, le, low)))
         ∙ sym (row_from-in first xs k d (omega (arith, le, low)) (omega (arith, lt, high)))
