@@ -1,5 +1,6 @@
-use Rattle.std.proofs.Common.{◌≡◌, ◌++◌, [], ◌∷◌, List, length, refl, ap, ◌∙◌, sym, subst, map, rules}
-use Rattle.shared_lemmas.proofs.Results.{if_err_then, if_ok_then, ok_then}
+use Rattle.std.proofs.Common.{append-nil, ◌≡◌, ◌++◌, [], ◌∷◌, List, length, refl, ap, ◌∙◌, sym, subst, map, rules}
+use Rattle.shared_lemmas.proofs.Results.{if_ok_then, ok_then}
+use Rattle.std.specs.Prelude.{Result, Ok, Err, IfErr}
 use Rattle.std.proofs.lemmas.List.{map-append}
 use Rattle.std.specs.Prelude.{◌||◌}
 use Rattle.sections.specs.Covers.{has}
@@ -18,7 +19,7 @@ use Rattle.task_run.proofs.memory.TaskMemory.part.Goals as goal
 
 -- if nothing is read, what is written is all
 all_written : (ws rs : List rWindow) → length rs ≡ 0 → ws ≡ ws ++ rs
-all_written ws [] none = search rules
+all_written ws [] none = sym (append-nil ws)
 all_written ws (r ∷ rs) none = absurd (cc)
 
 -- if the places are there, only memory is the reason
@@ -26,6 +27,11 @@ no_memory : (P : Type 0) (e : HoldError) → P → RefusesPlaces e P → e ≡ O
 no_memory P NotHeld there no = absurd (no there)
 no_memory P OutOfMemory there r = refl
 no_memory P OwnedTwice there r = absurd r
+
+-- what follows from a property of the error
+if_refused : {T E : Type 0} {P Q : E → Type 0} (r : Result T E) → IfErr r P → ((e : E) → P e → Q e) → IfErr r Q
+if_refused (Ok x) p f = tt
+if_refused (Err e) p f = f e p
 
 pub returns-then-is_empty-clause-contents : goal.returns-then-is_empty-clause-contents
 returns-then-is_empty-clause-contents c =
@@ -54,7 +60,7 @@ returns-then-is_empty-clause-keeps c =
 pub returns-then-is_empty-clause-refused : goal.returns-then-is_empty-clause-refused
 returns-then-is_empty-clause-refused c =
     let m = held c.args.self.now.holdings in let ws = map window c.args.writes.now in
-    if_err_then c.carve.result c.carve.ensures.refused (λ e r. no_memory _ e (all_owned (has ws) m c.requires.owned) r)
+    if_refused c.carve.result c.carve.ensures.refused (λ e r. no_memory _ e (all_owned (has ws) m c.requires.owned) r)
 
 pub returns-in_err-child-clause-refused : goal.returns-in_err-child-clause-refused
 returns-in_err-child-clause-refused c =
