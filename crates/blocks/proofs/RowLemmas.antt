@@ -3,12 +3,13 @@ use Rattle.std.proofs.Common.{◌≡◌, ℕ, ◌+◌, ◌-◌, ◌<◌, ◌≤�
 use Rattle.std.proofs.Common.{Option, Some, None, Bool, true, false, refl, sym, ap, ◌∙◌, arith, rules, ◌⊎◌, inl, inr}
 use Rattle.std.proofs.lemmas.Bool.{eqb-true, eqb-false, leb-true, leb-false, ltb-true, le-leb, lt-leb}
 use Rattle.std.proofs.lemmas.Grind.{common_steps, get_or-set_at}
-use Rattle.std.proofs.lemmas.List.{get_or-set_other, length-set}
+use Rattle.std.proofs.lemmas.List.{get_or-drop, get_or-set_other, get_or-take, length-drop, length-set, length-take-le}
 use Rattle.std.proofs.Math.ListN.{get_or-append}
 use Rattle.std.proofs.Math.Seq.{get_or-append_seam}
 use Rattle.std.proofs.lemmas.Option.{slice_get_past, slice_get-get_or}
-use Rattle.std.specs.Prelude.{nat_eq, nat_le, nat_lt, slice_get, if◌then◌else◌}
+use Rattle.std.specs.Prelude.{◌&&◌, drop, nat_eq, nat_le, nat_lt, slice_get, slice_range, take, if◌then◌else◌}
 use Rattle.blocks.specs.Numbers.{row_from}
+use Rattle.blocks.specs.Offsets.{inside}
 
 -- an offset of a row
 pub row_from-in : {A : Type 0} (first : ℕ) (xs : List A) (k : ℕ) (d : A) → first ≤ k → k < first + length xs
@@ -110,3 +111,33 @@ row_from-push first xs x o at k = by_eq (nat_eq o k) refl
             | inr le ↦ row_from-behind first (xs ++ x ∷ []) k (omega (arith, long, le, ne, at)) ∙ sym w.1
           ]
         ]
+
+-- the number of elements of a range
+pub length-range : {A : Type 0} (xs : List A) (a b : ℕ) → b ≤ length xs → length (slice_range xs a b) ≡ b - a
+length-range xs a b le = length-take-le (b - a) (drop a xs) few
+  where
+    few : b - a ≤ length (drop a xs)
+    few = simp length-drop (omega (arith, le))
+
+-- the elements at the offsets of a range
+pub row_from-range : {A : Type 0} (first : ℕ) (xs : List A) (from to : ℕ) (d : A) → first ≤ from → from < to
+    → to ≤ first + length xs → (k : ℕ)
+    → row_from from (slice_range xs (from - first) (to - first)) k ≡ inside from to (row_from first xs) k
+row_from-range first xs from to d low some high k = by_tests (nat_le from k) (nat_lt k to) refl refl
+  where
+    long : length (slice_range xs (from - first) (to - first)) ≡ to - first - (from - first)
+    long = length-range xs (from - first) (to - first) (omega (arith, high))
+
+    by_tests : (b c : Bool) → nat_le from k ≡ b → nat_lt k to ≡ c
+        → row_from from (slice_range xs (from - first) (to - first)) k ≡ (if b && c then row_from first xs k else None)
+    by_tests false c e f = row_from-before from (slice_range xs (from - first) (to - first)) k (leb-false _ _ e)
+    by_tests true false e f =
+        let past : to ≤ k = search rules in
+        row_from-behind from (slice_range xs (from - first) (to - first)) k (omega (arith, long, past, low, some))
+    by_tests true true e f =
+        let le = leb-true _ _ e in let lt = ltb-true _ _ f in
+        row_from-in from (slice_range xs (from - first) (to - first)) k d le (omega (arith, long, lt, low, some))
+        ∙ ap Some (get_or-take (to - first - (from - first)) (drop (from - first) xs) (k - from) d (omega (arith, le, lt, low))
+        ∙ get_or-drop (from - first) xs (k - from) d
+        ∙ ap (λ (j : ℕ). get_or xs j d) (omega (arith, le, low)))
+        ∙ sym (row_from-in first xs k d (omega (arith, le, low)) (omega (arith, lt, high)))

@@ -103,12 +103,9 @@ impl Numbers {
             Agree (number_in r.0) (inside from to (number_in self.now))) }
         ensures copied { IfOk result (λ r. r.1 ≡ to - from) }
     {
-        let mut list = Vec::with_capacity(alloc, to - from)?;
-        let mut copied = 0;
-        for offset in from..to {
-            list.push(self.list[offset - self.first])?;
-            copied += 1;
-        }
+        let (start, end) = (from - self.first, to - self.first);
+        let list = Vec::from_slice(alloc, &self.list[start..end])?;
+        let copied = list.len() as u64;
         Ok((Numbers { first: from, list }, copied))
     }
 }

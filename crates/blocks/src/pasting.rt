@@ -23,7 +23,8 @@ impl Block {
         match other {
             Block::Empty | Block::Shared(_) => Ok(()),
             Block::Owned(_) | Block::Mixed(_) => {
-                if self.is_within(other) {
+                // A block that is open has the room already, or gets it without a look at its numbers.
+                if !self.is_open() && self.is_within(other) {
                     return Ok(());
                 }
                 let from = other.start();
@@ -62,6 +63,14 @@ impl Block {
         match self {
             Block::Mixed(mixed) => mixed.take(other),
             Block::Empty | Block::Owned(_) | Block::Shared(_) => 0,
+        }
+    }
+
+    /// Returns whether the block has its own room.
+    fn is_open(&self) -> bool {
+        match self {
+            Block::Mixed(_) => true,
+            Block::Empty | Block::Owned(_) | Block::Shared(_) => false,
         }
     }
 

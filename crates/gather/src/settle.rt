@@ -61,9 +61,11 @@ pub fn settle(
         unused,
         used: Vec::new(alloc),
     };
+    // Mostly a single result waits. A vector that grows has room for four at first, a large block.
+    let waiting = Vec::with_capacity(alloc, 1)?;
     let mut stage = Stage {
         results,
-        waiting: Vec::new(alloc),
+        waiting,
         filling,
     };
     'turns: while stage.turn(alloc)? {}

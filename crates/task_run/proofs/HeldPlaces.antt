@@ -143,5 +143,22 @@ module _ (ws rs : Place → Bool) (m : Map Held) (own : (q : Place) → ws q ≡
   pub left_owned : owns (without ws m) ≡ outside
   left_owned = λ t q. left_is_own (ws q) (m q) t
 
+module _ (ws : Place → Bool) (m : Map Held) (own : (q : Place) → ws q ≡ true → is_some (owned m q) ≡ true) where
+  taken_number : (w : Bool) (o : Option Held) → option_map number_of (if w then o else None) ≡ (if w then option_map number_of o else None)
+  taken_number true o = refl
+  taken_number false o = refl
+
+  -- what was carved, for a child that has no copies
+  pub taken_contents : numbers (only ws m) ≡ only ws (numbers m)
+  taken_contents = λ t q. taken_number (ws q) (m q) t
+
+  taken_is_own : (w : Bool) (o : Option Held) → (w ≡ true → is_some (owned_number o) ≡ true)
+      → is_some (owned_number (if w then o else None)) ≡ w
+  taken_is_own true o is = is refl
+  taken_is_own false o is = refl
+
+  pub taken_owned : owns (only ws m) ≡ ws
+  taken_owned = λ t q. taken_is_own (ws q) (m q) (own q) t
+
 pub copies_apart : (rs : Place → Bool) (m : Map Held) (other : Map ℤ) → AreApart other (owned (as_shared (only rs (numbers m))))
 copies_apart rs m other q there = owned_number-shared (only rs (numbers m) q)

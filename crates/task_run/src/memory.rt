@@ -100,7 +100,8 @@ impl TaskMemory {
     ghost use Rattle.std.specs.Prelude.{IfErr};
     ghost use Rattle.holdings.specs.declared.error.HoldError.TheVariants.{OutOfMemory};
 
-    /// Takes the places of `writes` out, and copies those of `reads`, for a child.
+    /// Takes the places of `writes` out, and copies those of `reads`, for a child. Without `reads`,
+    /// nothing is put together.
     pub fn part(
         &mut self,
         alloc: Global,
@@ -121,6 +122,9 @@ impl TaskMemory {
             ≡ (λ q. owned_by self.old.holdings q && not (has (map window_of writes.now) q))) }
         ensures refused { IfErr result (λ e. e ≡ OutOfMemory) }
     {
+        if reads.is_empty() {
+            return self.holdings.carve(alloc, writes);
+        }
         let mut child = self.holdings.share(alloc, reads)?;
         let own = self.holdings.carve(alloc, writes)?;
         match child.paste(own) {

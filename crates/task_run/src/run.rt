@@ -23,9 +23,9 @@ use holdings::holdings::Holdings;
 use sections::id::SectionId;
 use sections::window::Window;
 use statement_steps::flow::Flow;
-use statement_steps::thread::{Plan, Thread, room};
+use statement_steps::thread::{Plan, Thread};
 use statement_steps::turns::TurnsToCome;
-use std::alloc::AllocError;
+use std::alloc::{AllocError, Global};
 use types::child_number::ChildNumber;
 use types::code::{Label, Number, Pieces, Procedure, Stmt, Truth};
 use types::fault::Fault;
@@ -43,6 +43,10 @@ pub struct Run<'p> {
     pub pending: Vec<Listed>,
 }
 
+/// The number of frames for which a run has room at its start. Few tasks have more, and their room
+/// then grows.
+const FIRST_FRAMES: usize = 12;
+
 impl<'p> Run<'p> {
     ghost use Rattle.task_run.specs.RunTurns.{Acts, Turns, taken_off};
 
@@ -52,7 +56,7 @@ impl<'p> Run<'p> {
         ensures plan { IfOk result (λ r. r.plan ≡ plan.entry) }
         ensures nest { IfOk result (λ r. r.thread.nest ≡ start.entry.nest) }
     {
-        let mut frames = Vec::new(plan.alloc);
+        let mut frames = Vec::with_capacity(plan.alloc, FIRST_FRAMES)?;
         frames.push(TaskFrame::Rest(start.body))?;
         let thread = Thread {
             flow: Flow::On,
@@ -216,12 +220,13 @@ impl<'p> Run<'p> {
         ensures { OnOk result (Acts label (Call procedure.number
             (map number_of values.now) (map section_of sections.now)) self.old self.new) }
     {
-        let Environment { scalars, windows } = room(&mut self.thread.spare, self.plan.alloc);
+        let (procedure, body) = procedure_of(self.plan, procedure);
+        let room = room_for(&mut self.thread.spare, self.plan.alloc, procedure)?;
+        let Environment { scalars, windows } = room;
         let values = match self.thread.numbers(scalars, values)? {
             Err(kind) => return self.thread.fault(self.plan, label, kind),
             Ok(values) => values,
         };
-        let (procedure, body) = procedure_of(self.plan, procedure);
         let entry = self.thread.entry(procedure, values, windows, sections)?;
         let environment = std::mem::replace(&mut self.thread.environment, entry);
         self.frames.push(TaskFrame::EndCall { environment })?;
@@ -313,6 +318,23 @@ impl<'p> Run<'p> {
                 Ok(())
             }
         }
+    }
+}
+
+/// Returns an environment whose allocations can be reused, or a new one with room for all slots and
+/// sections of a procedure, so it grows in no step.
+#[inline(always)]
+fn room_for(
+    spare: &mut Vec<Environment>,
+    alloc: Global,
+    procedure: &Procedure,
+) -> Result<Environment, AllocError> {
+    match spare.pop() {
+        Some(environment) => Ok(environment),
+        None => Ok(Environment {
+            scalars: Vec::with_capacity(alloc, procedure.slots)?,
+            windows: Vec::with_capacity(alloc, procedure.sections.len())?,
+        }),
     }
 }
 
