@@ -70,12 +70,13 @@ pub fn push_grain(text: &mut String, cost: &Cost) -> Result<(), AllocError>
 fn push_advice(text: &mut String, cost: &Cost) -> Result<(), AllocError>
     ensures { OnOk result (string_bytes text.new ≡ string_bytes text.old ++ advice cost.now) }
 {
-    if !are_too_fine(cost) {
-        return Ok(());
+    if are_too_fine(cost) {
+        text.push_str(
+            "help: most tasks are too small to pay; stop dividing sooner, or take larger pieces\n",
+        )
+    } else {
+        Ok(())
     }
-    text.push_str(
-        "help: most tasks are too small to pay; stop dividing sooner, or take larger pieces\n",
-    )
 }
 
 /// Returns whether there are many tasks, and more than half of them are small.
