@@ -14,6 +14,7 @@ usual = record { steps = 1000000; nest = 100 }
 abbrev zeros : ℕ → List ℤ
 zeros n = replicate n (pos 0)
 
+-- no task of these programs has 1,000 steps
 abbrev costs : (work span tasks deepest_nest finishes copied : ℕ) → Cost
 costs work span tasks deepest finishes copied = record {
   work = work;
@@ -22,6 +23,7 @@ costs work span tasks deepest finishes copied = record {
   deepest_nest = deepest;
   finishes = finishes;
   copied = copied;
+  small = tasks;
 }
 
 abbrev cost : Program → List (List ℤ) → Cost

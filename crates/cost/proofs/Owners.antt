@@ -20,13 +20,14 @@ pub record Waiting (p : Program) (o : OwnerCosts) (l : ℕ) (st : State Account)
   pub lines : lines_in o.told ≡ st.lines
   pub faults : faults_in o.told ≡ st.faults
   pub here : o.here ≡ (beginning_booked accounting p l st).extra.tally.here
+  pub along : o.along ≡ (beginning_booked accounting p l st).extra.tally.along
   pub by_label : o.here_by_label.items ≡ (beginning_booked accounting p l st).extra.here
   pub nest : o.nest ≡ n
 
 -- how it continues, from its parts
-abbrev going : (path : List ℕ) → Environment → (steps spawned : ℕ) → List (List ℤ) → List Fault → (here : ℕ) → (by_label : List ℕ)
+abbrev going : (path : List ℕ) → Environment → (steps spawned : ℕ) → List (List ℤ) → List Fault → (here along : ℕ) → (by_label : List ℕ)
     → (nest : ℕ) → State Account → Standing
-going path env steps spawned lines faults here by_label nest out = record {
+going path env steps spawned lines faults here along by_label nest out = record {
   state = record {
     flow = after_async out.flow;
     environment = env;
@@ -36,7 +37,7 @@ going path env steps spawned lines faults here by_label nest out = record {
     steps = steps;
     path = path;
     spawned = spawned;
-    extra = ends_behind here by_label out.extra;
+    extra = ends_behind here along by_label out.extra;
   };
   nest = nest;
 }
@@ -53,12 +54,14 @@ pub goes_on : (p : Program) (o : OwnerCosts) (l : ℕ) (st out : State Account) 
 goes_on p o l st out n w =
     let lines = lines_in o.told in let faults = faults_in o.told in let env = environment_of o.environment in
     let k = st.spawned + 1 in let rows = o.here_by_label.items in let begun = (beginning_booked accounting p l st).extra in
-    ap (λ x. going x env o.steps o.spawned lines faults o.here rows o.nest out) w.path
-    ∙ ap (λ x. going st.path x o.steps o.spawned lines faults o.here rows o.nest out) w.environment
-    ∙ ap (λ x. going st.path st.environment x o.spawned lines faults o.here rows o.nest out) w.steps
-    ∙ ap (λ x. going st.path st.environment st.steps x lines faults o.here rows o.nest out) w.spawned
-    ∙ ap (λ x. going st.path st.environment st.steps k x faults o.here rows o.nest out) w.lines
-    ∙ ap (λ x. going st.path st.environment st.steps k st.lines x o.here rows o.nest out) w.faults
-    ∙ ap (λ x. going st.path st.environment st.steps k st.lines st.faults x rows o.nest out) w.here
-    ∙ ap (λ x. going st.path st.environment st.steps k st.lines st.faults begun.tally.here x o.nest out) w.by_label
-    ∙ ap (λ x. going st.path st.environment st.steps k st.lines st.faults begun.tally.here begun.here x out) w.nest
+    let was = begun.tally in
+    ap (λ x. going x env o.steps o.spawned lines faults o.here o.along rows o.nest out) w.path
+    ∙ ap (λ x. going st.path x o.steps o.spawned lines faults o.here o.along rows o.nest out) w.environment
+    ∙ ap (λ x. going st.path st.environment x o.spawned lines faults o.here o.along rows o.nest out) w.steps
+    ∙ ap (λ x. going st.path st.environment st.steps x lines faults o.here o.along rows o.nest out) w.spawned
+    ∙ ap (λ x. going st.path st.environment st.steps k x faults o.here o.along rows o.nest out) w.lines
+    ∙ ap (λ x. going st.path st.environment st.steps k st.lines x o.here o.along rows o.nest out) w.faults
+    ∙ ap (λ x. going st.path st.environment st.steps k st.lines st.faults x o.along rows o.nest out) w.here
+    ∙ ap (λ x. going st.path st.environment st.steps k st.lines st.faults was.here x rows o.nest out) w.along
+    ∙ ap (λ x. going st.path st.environment st.steps k st.lines st.faults was.here was.along x o.nest out) w.by_label
+    ∙ ap (λ x. going st.path st.environment st.steps k st.lines st.faults was.here was.along begun.here x out) w.nest

@@ -108,8 +108,9 @@ has_entered l a h =
       adds = record { work = adds.work; here = adds.here; ended = refl };
     }
 
-has_ended : (here : ℕ) (ns : List ℕ) (a : Account) → HasRows a → 0 < length ns → sum ns ≡ here → HasRows (ends_behind here ns a)
-has_ended here ns a h some e = record {
+has_ended : (here along : ℕ) (ns : List ℕ) (a : Account) → HasRows a → 0 < length ns → sum ns ≡ here
+    → HasRows (ends_behind here along ns a)
+has_ended here along ns a h some e = record {
   work = h.work;
   here = some;
   adds = record {
@@ -163,7 +164,8 @@ module _ (p : Program) (fresh : ℕ) where
       let out = run p (accounted_rules p fresh n) (Block b) begun in
       let k : HasRows (beginning_booked accounting p l st).extra = has_begun l (length st.path + 1) (copied_at p l st.environment) st.extra h in
       let o : HasRows out.extra = run_keeps p (accounted_rules p fresh n) Rowed (kept_by n (begins_rowed n)) (Block b) begun k in
-      has_ended (beginning_booked accounting p l st).extra.tally.here (beginning_booked accounting p l st).extra.here out.extra o k.here k.adds.here
+      has_ended (beginning_booked accounting p l st).extra.tally.here (beginning_booked accounting p l st).extra.tally.along
+      (beginning_booked accounting p l st).extra.here out.extra o k.here k.adds.here
 
 -- whole runs have rows
 has_run : (p : Program) (rows : ℕ) (input : List (List ℤ)) (b : Budget) → 0 < rows → HasRows (account_of p rows input b)

@@ -62,9 +62,9 @@ abbrev pub begins_at : (label depth copied : ℕ) → Account → Account
 begins_at l depth copied a = record (steps_at l a) { tally = begins_task depth copied a.tally }
 
 -- the task has ended; its parent continues from its position before, in the same finish
-abbrev pub ends_behind : (here : ℕ) → (by_label : List ℕ) → Account → Account
-ends_behind here ns a = record a {
-  tally = ends_task here a.tally;
+abbrev pub ends_behind : (here along : ℕ) → (by_label : List ℕ) → Account → Account
+ends_behind here along ns a = record a {
+  tally = ends_task here along a.tally;
   here = ns;
   ended = longer a.tally.ended a.tally.here a.ended a.here;
 }
@@ -100,7 +100,7 @@ abbrev pub accounting : Book Account
 accounting = record {
   steps = steps_at;
   begins = begins_at;
-  ends = λ before. ends_behind before.tally.here before.here;
+  ends = λ before. ends_behind before.tally.here before.tally.along before.here;
   enters = enters_at;
   leaves = λ before. leaves_behind before.tally.ended before.ended;
 }

@@ -1,7 +1,7 @@
 -- The cost of a run on one thread: a tally of steps, which the run keeps as its book. A step comes
 -- after the earlier steps of its task and after the async that started its task. After a finish, it
 -- also comes after all that was done in the finish.
-use Rattle.std.specs.Prelude.{ℕ, ◌+◌, max, List, ℤ}
+use Rattle.std.specs.Prelude.{ℕ, ◌+◌, ◌-◌, max, nat_lt, if◌then◌else◌, List, ℤ}
 use Rattle.types.specs.Code.{Program}
 use Rattle.types.specs.Contents.{held_by}
 use Rattle.types.specs.Outcome.{Budget, start}
@@ -20,11 +20,13 @@ nothing_done = record {
   deepest = 0;
   finishes = 1;
   copied = 0;
+  along = 0;
+  small = 0;
 }
 
 -- the running task takes a step
 abbrev pub one_more : Tally → Tally
-one_more t = record t { work = t.work + 1; here = t.here + 1 }
+one_more t = record t { work = t.work + 1; here = t.here + 1; along = t.along + 1 }
 
 -- an async takes its step, and then its task starts, inside this number of asyncs, and copies this
 -- number of places
@@ -36,9 +38,19 @@ begins_task depth copied t =
       copied = t.copied + copied;
     }
 
--- the task has ended; its parent continues from its position before, in the same finish
-abbrev pub ends_task : (here : ℕ) → Tally → Tally
-ends_task here t = record t { here = here; ended = max t.ended t.here }
+-- 1 for a task with fewer than 1,000 steps, and 0 for any other
+abbrev pub as_small : (steps : ℕ) → ℕ
+as_small n = if nat_lt n 1000 then 1 else 0
+
+-- the task has ended; its parent continues from its position before, in the same finish, and the
+-- steps along the way to it are those of before
+abbrev pub ends_task : (here along : ℕ) → Tally → Tally
+ends_task here along t = record t {
+  here = here;
+  ended = max t.ended t.here;
+  along = along;
+  small = t.small + as_small (t.along - along);
+}
 
 -- a finish takes its step, and no task has ended in it
 abbrev pub enters_finish : Tally → Tally
@@ -54,7 +66,7 @@ abbrev pub tallying : Book Tally
 tallying = record {
   steps = λ l. one_more;
   begins = λ l. begins_task;
-  ends = λ before. ends_task before.here;
+  ends = λ before. ends_task before.here before.along;
   enters = λ l. enters_finish;
   leaves = λ before. leaves_finish before.ended;
 }
@@ -79,4 +91,5 @@ cost_of t = record {
   deepest_nest = t.deepest;
   finishes = t.finishes;
   copied = t.copied;
+  small = t.small + as_small t.along;
 }

@@ -68,7 +68,7 @@ end_async o out = record {
   steps = o.steps;
   path = o.path.turns.items;
   spawned = o.spawned;
-  extra = ends_behind o.here o.here_by_label.items out.extra;
+  extra = ends_behind o.here o.along o.here_by_label.items out.extra;
 }
 
 module _ (p : Program) (fresh : ℕ) where

@@ -1,5 +1,6 @@
 -- The text of a cost, one number per line, and the share of each label or procedure.
-use Rattle.std.specs.Prelude.{ℕ, ◌+◌, List, [], ◌∷◌, ◌++◌, codes, slice_index, nat_eq, if◌then◌else◌}
+use Rattle.std.specs.Prelude.{ℕ, ◌+◌, ◌/◌, ◌&&◌, Bool, List, [], ◌∷◌, ◌++◌, codes, slice_index, nat_eq, nat_le, nat_lt}
+use Rattle.std.specs.Prelude.{if◌then◌else◌}
 use Rattle.std.specs.Fmt.{decimal}
 use Rattle.trace_numbers.specs.Text.{line, parallelism}
 use Rattle.types.specs.Code.{Procedure, Program}
@@ -21,8 +22,25 @@ task_lines c =
     ++ (line (codes "finishes") (decimal c.finishes)
     ++ line (codes "copied places") (decimal c.copied)))
 
+-- there are at least 100 tasks, and more than half of them are small
+abbrev pub is_too_fine : Cost → Bool
+is_too_fine c = nat_le 100 c.tasks && nat_lt (c.tasks / 2) c.small
+
+-- what to change, if tasks are too small to pay
+abbrev pub advice : Cost → List ℕ
+advice c =
+    if is_too_fine c
+    then codes "help: most tasks are too small to pay; stop dividing sooner, or take larger pieces\n"
+    else []
+
+-- how many steps a task takes on average, and how many tasks take fewer than 1,000
+abbrev pub grain_lines : Cost → List ℕ
+grain_lines c =
+    line (codes "steps per task") (parallelism c.work c.tasks)
+    ++ (line (codes "tasks under 1000 steps") (decimal c.small) ++ advice c)
+
 abbrev pub cost_text : Cost → List ℕ
-cost_text c = work_lines c ++ task_lines c
+cost_text c = work_lines c ++ (task_lines c ++ grain_lines c)
 
 -- the line of a share: the number of steps, and how many of them are on the longest chain
 abbrev pub share_line : (name : List ℕ) → (work span : ℕ) → List ℕ

@@ -88,13 +88,20 @@ impl Account {
         Vec::from_slice(alloc, &self.here)
     }
 
-    /// Counts the end of an async's task. Its parent continues at `here`, with this chain.
-    pub fn end_task(&mut self, here: usize, by_label: Vec<u64>)
-        ensures { account self.new ≡ ends_behind here by_label.items (account self.old) }
+    /// Counts the end of an async's task. Its parent continues at `here`, with this chain, and with
+    /// the steps `along` the way to it.
+    pub fn end_task(
+        &mut self,
+        here: usize,
+        along: usize,
+        by_label: Vec<u64>,
+    ) -> Result<(), AllocError>
+        ensures { OnOk result
+            (account self.new ≡ ends_behind here along by_label.items (account self.old)) }
     {
         let chain = std::mem::replace(&mut self.here, by_label);
         lengthen(&mut self.ended, self.tally.ended, chain, self.tally.here);
-        self.tally.end_task(here);
+        self.tally.end_task(here, along)
     }
 
     /// Counts the step of a finish, and starts the finish.

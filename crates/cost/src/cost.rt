@@ -13,7 +13,7 @@ ghost use Rattle.cost.specs.Costs.{cost_of, tally_of};
 ghost use Rattle.cost.specs.Machines.{end_of, stands};
 
 use crate::machine::CostMachine;
-use crate::tally::Tally;
+use crate::tally::{Tally, as_small};
 use effects::summaries::{Summaries, summarize};
 use statement_steps::thread::Plan;
 use std::alloc::{AllocError, Global};
@@ -39,21 +39,25 @@ pub struct Cost {
     /// blocks of 256 that aren't wholly inside what its body may write. Each place counts twice:
     /// for the way to the task, and for the way back.
     pub copied: usize,
+    /// The number of tasks with fewer than 1,000 steps.
+    pub small: usize,
 }
 
 impl Cost {
     /// Returns the cost of a run with this tally.
-    pub fn of(tally: Tally) -> Cost
-        ensures { result ≡ cost_of tally }
+    pub fn of(tally: Tally) -> Result<Cost, AllocError>
+        ensures { IfOk result (λ c. c ≡ cost_of tally) }
     {
-        Cost {
+        let root = as_small(tally.along);
+        Ok(Cost {
             work: tally.work,
             span: tally.here.max(tally.ended),
             tasks: tally.tasks,
             deepest_nest: tally.deepest,
             finishes: tally.finishes,
             copied: tally.copied,
-        }
+            small: tally.small.checked_add(root).ok_or(AllocError)?,
+        })
     }
 }
 
@@ -129,7 +133,7 @@ pub fn measure_by_label(
     let summaries = summarize(alloc, typed)?;
     let machine = ran(plan, &summaries, input, rows)?;
     let costed = Costed {
-        cost: Cost::of(machine.account.tally),
+        cost: Cost::of(machine.account.tally)?,
         outcome: machine.thread.outcome(),
     };
     let (work, span) = machine.account.tables();

@@ -69,6 +69,8 @@ pub struct OwnerCosts {
     pub told: OutputSoFar,
     /// The length of the longest chain to the owner's position, after the async's step.
     pub here: usize,
+    /// The steps that the owner and the tasks around it have taken, after the async's step.
+    pub along: usize,
     /// That chain, by label.
     pub here_by_label: Vec<u64>,
 }

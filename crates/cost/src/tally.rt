@@ -1,7 +1,7 @@
 //! The work so far in a run, and the length of its chains.
 
 ghost use Rattle.std.specs.Prelude.{◌≡◌, ◌+◌, IfOk, OnOk};
-ghost use Rattle.cost.specs.Costs.{begins_task, ends_task, enters_finish, leaves_finish, one_more};
+ghost use Rattle.cost.specs.Costs.{as_small as small_by, begins_task, ends_task, enters_finish, leaves_finish, one_more};
 
 use std::alloc::AllocError;
 
@@ -22,7 +22,14 @@ pub struct Tally {
     pub finishes: usize,
     /// The number of places counted as copied at the asyncs that started tasks, for both ways.
     pub copied: usize,
+    /// The steps that the running task and the tasks around it have taken.
+    pub along: usize,
+    /// The number of ended tasks with few steps.
+    pub small: usize,
 }
+
+/// A task with fewer steps has few: it costs more than another worker can gain.
+pub const FEW_STEPS: usize = 1_000;
 
 impl Tally {
     /// No work: there is only the root, in the finish around `main`.
@@ -34,6 +41,8 @@ impl Tally {
         deepest: 0,
         finishes: 1,
         copied: 0,
+        along: 0,
+        small: 0,
     };
 
     /// Counts a step of the task.
@@ -42,6 +51,7 @@ impl Tally {
     {
         self.work = more(self.work)?;
         self.here = more(self.here)?;
+        self.along = more(self.along)?;
         Ok(())
     }
 
@@ -57,12 +67,17 @@ impl Tally {
         Ok(())
     }
 
-    /// Counts the end of an async's task. Its parent continues at `here`.
-    pub fn end_task(&mut self, here: usize)
-        ensures { self.new ≡ ends_task here self.old }
+    /// Counts the end of an async's task. Its parent continues at `here`, with the steps `along` the
+    /// way to it.
+    pub fn end_task(&mut self, here: usize, along: usize) -> Result<(), AllocError>
+        ensures { OnOk result (self.new ≡ ends_task here along self.old) }
     {
+        let small = as_small(self.along.saturating_sub(along));
+        self.small = self.small.checked_add(small).ok_or(AllocError)?;
         self.ended = self.ended.max(self.here);
         self.here = here;
+        self.along = along;
+        Ok(())
     }
 
     /// Counts the step of a finish, and starts the finish.
@@ -82,6 +97,13 @@ impl Tally {
         self.here = self.here.max(self.ended);
         self.ended = ended;
     }
+}
+
+/// Returns 1 for a task with few steps, and 0 for any other.
+pub(crate) fn as_small(steps: usize) -> usize
+    ensures { result ≡ small_by steps }
+{
+    if steps < FEW_STEPS { 1 } else { 0 }
 }
 
 /// Returns a number plus one. Fails as if memory ran out if the result is too large.

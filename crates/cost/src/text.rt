@@ -4,7 +4,7 @@ ghost use Rattle.std.specs.Prelude.{◌≡◌, ◌++◌, map, slice_index, IfOk,
 ghost use Rattle.std.specs.String.{string_bytes};
 ghost use Rattle.types.specs.Translation.{procedure as plain_procedure, program as plain_program};
 ghost use Rattle.cost.specs.Shares.{share_of};
-ghost use Rattle.cost.specs.Text.{cost_text, label_line, labels_text};
+ghost use Rattle.cost.specs.Text.{advice, cost_text, grain_lines, is_too_fine, label_line, labels_text};
 ghost use Rattle.cost.specs.Text.{procedure_line, procedure_lines as lines_of, procedures_text};
 ghost use Rattle.cost.specs.Text.{share_line, task_lines, work_lines};
 
@@ -14,15 +14,20 @@ use std::alloc::{AllocError, Global};
 use trace_numbers::text::push_parallelism;
 use types::code::{Procedure, Program};
 
+/// The number of tasks from which small ones are worth an advice.
+const MANY_TASKS: usize = 100;
+
 /// Returns the numbers of a cost, one per line: `work: 61`, `span: 17`, `parallelism: 3.58`, which
 /// is work divided by span with two digits, `tasks: 8`, `deepest nest: 3`, `finishes: 2`, `copied
-/// places: 24`.
+/// places: 24`, `steps per task: 7.62`, `tasks under 1000 steps: 8`. Adds what to change if tasks
+/// are too small to pay.
 pub fn cost_text(alloc: Global, cost: &Cost) -> Result<String, AllocError>
     ensures { IfOk result (λ text. string_bytes text ≡ cost_text cost.now) }
 {
     let mut text = String::new(alloc);
     push_work(&mut text, cost)?;
     push_tasks(&mut text, cost)?;
+    push_grain(&mut text, cost)?;
     Ok(text)
 }
 
@@ -48,6 +53,37 @@ fn push_tasks(text: &mut String, cost: &Cost) -> Result<(), AllocError>
         text,
         "tasks: {tasks}\ndeepest nest: {deepest_nest}\nfinishes: {finishes}\ncopied places: {copied}\n"
     )
+}
+
+/// Adds how many steps a task takes, and what to change if tasks are too small to pay.
+pub fn push_grain(text: &mut String, cost: &Cost) -> Result<(), AllocError>
+    ensures { OnOk result (string_bytes text.new ≡ string_bytes text.old ++ grain_lines cost.now) }
+{
+    text.push_str("steps per task: ")?;
+    push_parallelism(text, cost.work, cost.tasks)?;
+    let small = cost.small;
+    write!(text, "tasks under 1000 steps: {small}\n")?;
+    push_advice(text, cost)
+}
+
+/// Adds what to change, if tasks are too small to pay.
+fn push_advice(text: &mut String, cost: &Cost) -> Result<(), AllocError>
+    ensures { OnOk result (string_bytes text.new ≡ string_bytes text.old ++ advice cost.now) }
+{
+    if are_too_fine(cost) {
+        text.push_str(
+            "help: most tasks are too small to pay; stop dividing sooner, or take larger pieces\n",
+        )
+    } else {
+        Ok(())
+    }
+}
+
+/// Returns whether there are many tasks, and more than half of them are small.
+fn are_too_fine(cost: &Cost) -> bool
+    ensures { result ≡ is_too_fine cost.now }
+{
+    cost.tasks >= MANY_TASKS && cost.small > cost.tasks / 2
 }
 
 /// Returns the share of each label, one per line: `label 3: work 7, span 2`. The tables are those

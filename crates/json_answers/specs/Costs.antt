@@ -11,6 +11,7 @@ cost_json c =
     (codes "copied_places", natural c.copied)
     ∷ (codes "deepest_nest", natural c.deepest_nest)
     ∷ (codes "finishes", natural c.finishes)
+    ∷ (codes "small_tasks", natural c.small)
     ∷ (codes "span", natural c.span)
     ∷ (codes "status", natural 0)
     ∷ (codes "tasks", natural c.tasks)

@@ -62,6 +62,7 @@ members_with c shares =
     (codes "copied_places", natural c.copied)
     ∷ (codes "deepest_nest", natural c.deepest_nest)
     ∷ (codes "finishes", natural c.finishes)
+    ∷ (codes "small_tasks", natural c.small)
     ∷ (codes "span", natural c.span)
     ∷ (codes "statements", shares)
     ∷ (codes "status", natural 0)

@@ -12,7 +12,8 @@ use serde_json::{Value, json};
 use std::alloc::{AllocError, Global};
 
 /// Returns the object of the cost of a run that ended without faults, in steps:
-/// `{"copied_places":24,"deepest_nest":3,"finishes":2,"span":17,"status":0,"tasks":8,"work":61}`.
+/// `{"copied_places":24,"deepest_nest":3,"finishes":2,"small_tasks":8,"span":17,"status":0,"tasks":8,
+/// "work":61}`.
 pub fn cost_object(alloc: Global, cost: &Cost) -> Result<String, AllocError>
     ensures text { IfOk result (λ text. string_bytes text ≡ line (cost_json cost.now)) }
     ensures reads { OnOk result (IsReadBack (cost_json cost.now)) }
@@ -29,6 +30,7 @@ fn cost_value(alloc: Global, cost: &Cost) -> Result<Value, AllocError>
         "copied_places": cost.copied,
         "deepest_nest": cost.deepest_nest,
         "finishes": cost.finishes,
+        "small_tasks": cost.small,
         "span": cost.span,
         "status": 0u8,
         "tasks": cost.tasks,

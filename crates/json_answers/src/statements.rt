@@ -112,6 +112,7 @@ fn cost_value(alloc: Global, cost: &Cost, shares: Value) -> Result<Value, AllocE
         "copied_places": cost.copied,
         "deepest_nest": cost.deepest_nest,
         "finishes": cost.finishes,
+        "small_tasks": cost.small,
         "span": cost.span,
         "statements": shares,
         "status": 0u8,

@@ -5,6 +5,7 @@ use Rattle.std.specs.Fmt.{decimal}
 use Rattle.types.specs.Code.{Program}
 use Rattle.types.specs.Outcome.{Outcome, outcome}
 use Rattle.cost.specs.Costs.{cost_of, tally_of}
+use Rattle.cost.specs.Text.{grain_lines}
 use Rattle.cost.specs.declared.cost.Cost.{Cost as Numbers}
 use Rattle.trace_numbers.specs.Text.{line, parallelism}
 use Rattle.printing.specs.OutcomeText.{status_of}
@@ -59,14 +60,14 @@ abbrev pub counts : Numbers → List ℕ
 counts c =
     codes "tasks: " ++ (decimal c.tasks ++ (codes "\ncopied places: " ++ (decimal c.copied ++ codes "\n")))
 
--- a line for each of them, followed by the speed-up and those counts
+-- a line for each of them, followed by the speed-up, those counts, and how many steps a task takes
 abbrev pub times_text : Timed → Numbers → List ℕ
 times_text t c =
     times_line (codes "serial") t.serial
     ++ (times_line (codes "run, 1 worker") t.on_one
     ++ (times_line_if (codes "run, 2 workers") t.on_two
     ++ (times_line_if (codes "run, " ++ (decimal t.workers ++ codes " workers")) t.on_all
-    ++ (speeds t c ++ counts c))))
+    ++ (speeds t c ++ (counts c ++ grain_lines c)))))
 
 -- for a run that ended without faults, the durations on up to this many workers and the cost are printed; for
 -- any other its outcome

@@ -27,6 +27,7 @@ times_members t c =
     ∷ (codes "on_one", five_json t.on_one)
     ∷ (codes "on_two", or_null five_json t.on_two)
     ∷ (codes "serial", five_json t.serial)
+    ∷ (codes "small_tasks", natural c.small)
     ∷ (codes "span", natural c.span)
     ∷ (codes "status", natural 0)
     ∷ (codes "tasks", natural c.tasks)

@@ -32,6 +32,7 @@ fn timed_value(alloc: Global, timed: &Timed, cost: &Cost) -> Result<Value, Alloc
         "on_one": value_of(alloc, timed.on_one)?,
         "on_two": value_if(alloc, timed.on_two)?,
         "serial": value_of(alloc, timed.serial)?,
+        "small_tasks": cost.small,
         "span": cost.span,
         "status": 0u8,
         "tasks": cost.tasks,

@@ -21,6 +21,7 @@ use command_line::request::RunOptions;
 use commands::question::Question;
 use commands::showing::{answer, show, status};
 use cost::cost::{Cost, Costed, measure};
+use cost::text::push_grain;
 use failures::failure::Failure;
 use files::file_source::FileSource;
 use race_checker::accepted::Accepted;
@@ -314,7 +315,8 @@ fn push_counts(text: &mut String, cost: &Cost) -> Result<(), AllocError>
     write!(text, "tasks: {tasks}\ncopied places: {copied}\n")
 }
 
-/// Returns a line for each of the durations, followed by the speed-up and those counts.
+/// Returns a line for each of the durations, followed by the speed-up, those counts, and how many
+/// steps a task takes.
 fn text_of(alloc: Global, timed: &Timed, cost: &Cost) -> Result<String, AllocError>
     ensures { IfOk result (λ text. string_bytes text ≡ times_text timed.now cost.now) }
 {
@@ -325,5 +327,6 @@ fn text_of(alloc: Global, timed: &Timed, cost: &Cost) -> Result<String, AllocErr
     push_all(&mut text, timed)?;
     push_speeds(&mut text, timed, cost)?;
     push_counts(&mut text, cost)?;
+    push_grain(&mut text, cost)?;
     Ok(text)
 }

@@ -38,20 +38,35 @@ fn push_cost(text: &mut String, object: &Value) -> Result<(), AllocError> {
     let deepest = number_in(object, "deepest_nest").unwrap_or(0);
     let finishes = number_in(object, "finishes").unwrap_or(0);
     let copied = number_in(object, "copied_places").unwrap_or(0);
+    let small = number_in(object, "small_tasks").unwrap_or(0);
     write!(text, "work: {work}\nspan: {span}\nparallelism: ")?;
-    match (work.checked_div(span), work.checked_rem(span)) {
-        (Some(whole), Some(rest)) => {
-            let hundredths = rest.saturating_mul(100).checked_div(span).unwrap_or(0);
-            let tenth = hundredths / 10;
-            let hundredth = hundredths % 10;
-            write!(text, "{whole}.{tenth}{hundredth}\n")?;
-        }
-        _ => text.push_str("-\n")?,
-    }
+    push_quotient(text, work, span)?;
     write!(
         text,
         "tasks: {tasks}\ndeepest nest: {deepest}\nfinishes: {finishes}\ncopied places: {copied}\n"
-    )
+    )?;
+    text.push_str("steps per task: ")?;
+    push_quotient(text, work, tasks)?;
+    write!(text, "tasks under 1000 steps: {small}\n")?;
+    if tasks >= 100 && small > tasks / 2 {
+        text.push_str(
+            "help: most tasks are too small to pay; stop dividing sooner, or take larger pieces\n",
+        )?;
+    }
+    Ok(())
+}
+
+/// Appends the line of a quotient with two digits, or `-` if the second number is 0.
+fn push_quotient(text: &mut String, first: u64, second: u64) -> Result<(), AllocError> {
+    match (first.checked_div(second), first.checked_rem(second)) {
+        (Some(whole), Some(rest)) => {
+            let hundredths = rest.saturating_mul(100).checked_div(second).unwrap_or(0);
+            let tenth = hundredths / 10;
+            let hundredth = hundredths % 10;
+            write!(text, "{whole}.{tenth}{hundredth}\n")
+        }
+        _ => text.push_str("-\n"),
+    }
 }
 
 /// Appends a line for each list of numbers.

@@ -31,27 +31,27 @@ const TURNS: &str = "main {
 const ROWS: [(&str, &str); 6] = [
     (
         "main { }",
-        "work: 0\nspan: 0\nparallelism: -\ntasks: 1\ndeepest nest: 0\nfinishes: 1\ncopied places: 0\n",
+        "work: 0\nspan: 0\nparallelism: -\ntasks: 1\ndeepest nest: 0\nfinishes: 1\ncopied places: 0\nsteps per task: 0.00\ntasks under 1000 steps: 1\n",
     ),
     (
         "main { finish { async { skip; } skip; } skip; }",
-        "work: 5\nspan: 4\nparallelism: 1.25\ntasks: 2\ndeepest nest: 1\nfinishes: 2\ncopied places: 0\n",
+        "work: 5\nspan: 4\nparallelism: 1.25\ntasks: 2\ndeepest nest: 1\nfinishes: 2\ncopied places: 0\nsteps per task: 2.50\ntasks under 1000 steps: 2\n",
     ),
     (
         OUTLIVED,
-        "work: 8\nspan: 7\nparallelism: 1.14\ntasks: 3\ndeepest nest: 2\nfinishes: 2\ncopied places: 0\n",
+        "work: 8\nspan: 7\nparallelism: 1.14\ntasks: 3\ndeepest nest: 2\nfinishes: 2\ncopied places: 0\nsteps per task: 2.66\ntasks under 1000 steps: 3\n",
     ),
     (
         NESTED,
-        "work: 12\nspan: 7\nparallelism: 1.71\ntasks: 3\ndeepest nest: 1\nfinishes: 3\ncopied places: 0\n",
+        "work: 12\nspan: 7\nparallelism: 1.71\ntasks: 3\ndeepest nest: 1\nfinishes: 3\ncopied places: 0\nsteps per task: 4.00\ntasks under 1000 steps: 3\n",
     ),
     (
         TURNS,
-        "work: 14\nspan: 11\nparallelism: 1.27\ntasks: 4\ndeepest nest: 1\nfinishes: 1\ncopied places: 0\n",
+        "work: 14\nspan: 11\nparallelism: 1.27\ntasks: 4\ndeepest nest: 1\nfinishes: 1\ncopied places: 0\nsteps per task: 3.50\ntasks under 1000 steps: 4\n",
     ),
     (
         DOUBLING,
-        "work: 61\nspan: 17\nparallelism: 3.58\ntasks: 8\ndeepest nest: 3\nfinishes: 2\ncopied places: 24\n",
+        "work: 61\nspan: 17\nparallelism: 3.58\ntasks: 8\ndeepest nest: 3\nfinishes: 2\ncopied places: 24\nsteps per task: 7.62\ntasks under 1000 steps: 8\n",
     ),
 ];
 

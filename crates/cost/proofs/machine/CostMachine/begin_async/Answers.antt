@@ -85,6 +85,7 @@ returns-clause-does c =
             lines = ap (λ (v : Vec (Vec ℤ Global) Global). map (λ (w : Vec ℤ Global). w.items) v.items) told.lines;
             faults = ap (λ (v : Vec Fault Global). map fault v.items) told.faults;
             here = ap (λ (y : Account). y.tally.here) deeper;
+            along = ap (λ (y : Account). y.tally.along) deeper;
             by_label = c.in_ok-here_by_label.ensures ∙ ap (λ (y : Account). y.here) deeper;
             nest = refl;
           }))
