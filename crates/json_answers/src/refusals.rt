@@ -4,8 +4,8 @@ ghost use Rattle.std.specs.Prelude.{◌≡◌, IfOk, OnOk, option_map};
 ghost use Rattle.std.specs.String.{string_bytes};
 ghost use Rattle.serde_json.specs.Data.{string};
 ghost use Rattle.serde_json.specs.View.{view};
-ghost use Rattle.json_answers.specs.Pieces.{IsReadBack, line, list_by, or_null};
-ghost use Rattle.json_answers.specs.Refusals.{explained_place, helps_json, reason_json, refusal_json};
+ghost use Rattle.json_answers.specs.Pieces.{IsReadBack, line, list_by, object_of, or_null};
+ghost use Rattle.json_answers.specs.Refusals.{explained_place, helps_json, members_with, reason_json, refusal_json};
 
 use crate::line::line_of;
 use crate::reason::Reason;
@@ -47,18 +47,50 @@ fn refusal_value(
         ≡ refusal_json file.now places.now failure.now reason.now) }
 {
     let place = place_explained(failure, places, reason);
+    let why = why_of(alloc, reason)?;
+    value_with(alloc, file, place, failure, why)
+}
+
+/// Returns the value of a failure at this position, with what its explanation says.
+fn value_with(
+    alloc: Global,
+    file: &str,
+    place: Option<TextPlace>,
+    failure: &Failure,
+    why: Why,
+) -> Result<Value, AllocError>
+    ensures { IfOk result (λ v. view v
+        ≡ object_of (members_with file.now place failure.now (view why.help) (view why.reason))) }
+{
     json!(in alloc; {
         "array": text_or_null(alloc, array_of(failure))?,
         "code": text_or_null(alloc, code_of(failure))?,
         "column": column_in(place),
         "file": file,
-        "help": helps_value(alloc, reason)?,
+        "help": why.help,
         "label": label_of(failure),
         "line": line_in(place),
         "message": message_of(alloc, failure)?,
-        "reason": reason_value(alloc, reason)?,
+        "reason": why.reason,
         "status": failure.status(),
     })
+}
+
+/// What an explanation says, as values.
+#[derive(Drop)]
+pub struct Why {
+    pub help: Value,
+    pub reason: Value,
+}
+
+/// Returns what an explanation says.
+pub fn why_of(alloc: Global, reason: &Reason) -> Result<Why, AllocError>
+    ensures help { IfOk result (λ why. view why.help ≡ helps_json reason.now) }
+    ensures reason { IfOk result (λ why. view why.reason ≡ reason_json reason.now) }
+{
+    let help = helps_value(alloc, reason)?;
+    let reason = reason_value(alloc, reason)?;
+    Ok(Why { help, reason })
 }
 
 /// Returns the position of a failure: where the text is wrong, where the statement starts, or else
@@ -70,7 +102,7 @@ fn place_explained(failure: &Failure, places: &[TextPlace], reason: &Reason) -> 
 }
 
 /// Returns why a failure is one, or null.
-pub fn reason_value(alloc: Global, reason: &Reason) -> Result<Value, AllocError>
+fn reason_value(alloc: Global, reason: &Reason) -> Result<Value, AllocError>
     ensures { IfOk result (λ v. view v ≡ reason_json reason.now) }
 {
     match &reason.reason {
@@ -80,7 +112,7 @@ pub fn reason_value(alloc: Global, reason: &Reason) -> Result<Value, AllocError>
 }
 
 /// Returns the list of suggestions.
-pub fn helps_value(alloc: Global, reason: &Reason) -> Result<Value, AllocError>
+fn helps_value(alloc: Global, reason: &Reason) -> Result<Value, AllocError>
     ensures { IfOk result (λ v. view v ≡ helps_json reason.now) }
 {
     texts_value(alloc, &reason.helps)
