@@ -4,8 +4,10 @@ ghost use Rattle.std.specs.Prelude.{◌≡◌, IfOk, OnOk, option_map};
 ghost use Rattle.std.specs.String.{string_bytes};
 ghost use Rattle.serde_json.specs.Data.{string};
 ghost use Rattle.serde_json.specs.View.{view};
+ghost use Rattle.failures.specs.Messages.{failure_text};
 ghost use Rattle.json_answers.specs.Pieces.{IsReadBack, line, list_by, object_of, or_null};
-ghost use Rattle.json_answers.specs.Refusals.{explained_place, helps_json, members_with, reason_json, refusal_json};
+ghost use Rattle.json_answers.specs.Refusals.{explained_place, failure_array, failure_code, helps_json};
+ghost use Rattle.json_answers.specs.Refusals.{members_with, reason_json, refusal_json};
 
 use crate::line::line_of;
 use crate::reason::Reason;
@@ -47,32 +49,62 @@ fn refusal_value(
         ≡ refusal_json file.now places.now failure.now reason.now) }
 {
     let place = place_explained(failure, places, reason);
-    let why = why_of(alloc, reason)?;
-    value_with(alloc, file, place, failure, why)
+    let texts = texts_of(alloc, failure, reason)?;
+    value_with(alloc, file, place, failure, texts)
 }
 
-/// Returns the value of a failure at this position, with what its explanation says.
+/// Returns the value of a failure at this position, with what is said of it.
 fn value_with(
     alloc: Global,
     file: &str,
     place: Option<TextPlace>,
     failure: &Failure,
-    why: Why,
+    texts: Texts,
 ) -> Result<Value, AllocError>
-    ensures { IfOk result (λ v. view v
-        ≡ object_of (members_with file.now place failure.now (view why.help) (view why.reason))) }
+    ensures { IfOk result (λ v. view v ≡ object_of (members_with file.now place failure.now
+        (view texts.array) (view texts.code) (view texts.help) (string_bytes texts.message)
+        (view texts.reason))) }
 {
     json!(in alloc; {
-        "array": text_or_null(alloc, array_of(failure))?,
-        "code": text_or_null(alloc, code_of(failure))?,
+        "array": texts.array,
+        "code": texts.code,
         "column": column_in(place),
         "file": file,
-        "help": why.help,
+        "help": texts.help,
         "label": label_of(failure),
         "line": line_in(place),
-        "message": message_of(alloc, failure)?,
-        "reason": why.reason,
+        "message": texts.message,
+        "reason": texts.reason,
         "status": failure.status(),
+    })
+}
+
+/// What is said of a failure, as values: the name of its array, its code, the suggestions, its line
+/// and why it is one.
+#[derive(Drop)]
+struct Texts {
+    array: Value,
+    code: Value,
+    help: Value,
+    message: String,
+    reason: Value,
+}
+
+/// Returns what is said of a failure.
+fn texts_of(alloc: Global, failure: &Failure, reason: &Reason) -> Result<Texts, AllocError>
+    ensures array { IfOk result (λ t. view t.array ≡ or_null string (failure_array failure.now)) }
+    ensures code { IfOk result (λ t. view t.code ≡ or_null string (failure_code failure.now)) }
+    ensures help { IfOk result (λ t. view t.help ≡ helps_json reason.now) }
+    ensures message { IfOk result (λ t. string_bytes t.message ≡ failure_text failure.now) }
+    ensures reason { IfOk result (λ t. view t.reason ≡ reason_json reason.now) }
+{
+    let Why { help, reason } = why_of(alloc, reason)?;
+    Ok(Texts {
+        array: text_or_null(alloc, array_of(failure))?,
+        code: text_or_null(alloc, code_of(failure))?,
+        help,
+        message: message_of(alloc, failure)?,
+        reason,
     })
 }
 
