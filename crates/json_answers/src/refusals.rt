@@ -17,6 +17,7 @@ use failures::failure::Failure;
 use serde_json::{Value, json};
 use std::alloc::{AllocError, Global};
 use syntax::TextPlace;
+use types::code::Label;
 
 /// Returns the object of a failure, with the file of the program as it was named, and the positions
 /// of the program's statements if they are known. Members that the failure doesn't have are null:
@@ -50,7 +51,14 @@ fn refusal_value(
 {
     let place = place_explained(failure, places, reason);
     let texts = texts_of(alloc, failure, reason)?;
-    value_with(alloc, file, place, failure, texts)
+    value_with(
+        alloc,
+        file,
+        place,
+        label_of(failure),
+        texts,
+        failure.status(),
+    )
 }
 
 /// Returns the value of a failure at this position, with what is said of it.
@@ -58,12 +66,13 @@ fn value_with(
     alloc: Global,
     file: &str,
     place: Option<TextPlace>,
-    failure: &Failure,
+    label: Option<Label>,
     texts: Texts,
+    status: u8,
 ) -> Result<Value, AllocError>
-    ensures { IfOk result (λ v. view v ≡ object_of (members_with file.now place failure.now
+    ensures { IfOk result (λ v. view v ≡ object_of (members_with file.now place label
         (view texts.array) (view texts.code) (view texts.help) (string_bytes texts.message)
-        (view texts.reason))) }
+        (view texts.reason) status)) }
 {
     json!(in alloc; {
         "array": texts.array,
@@ -71,11 +80,11 @@ fn value_with(
         "column": column_in(place),
         "file": file,
         "help": texts.help,
-        "label": label_of(failure),
+        "label": label,
         "line": line_in(place),
         "message": texts.message,
         "reason": texts.reason,
-        "status": failure.status(),
+        "status": status,
     })
 }
 
