@@ -66,7 +66,7 @@ failure_array (Input e) = input_name e
 failure_array _ = None
 
 -- its code, its line and its status, and all else that is known; `file` is that of the program
-abbrev pub members_with : (file : List ℕ) → Option TextPlace → (label : Option ℕ) → (array code help : Data)
+abbrev pub members_with : (file : List ℕ) → Option TextPlace → (label array code help : Data)
     → (message : List ℕ) → (reason : Data) → (status : ℕ) → List (List ℕ × Data)
 members_with file place label array code help message reason status =
     (codes "array", array)
@@ -74,7 +74,7 @@ members_with file place label array code help message reason status =
     ∷ (codes "column", or_null natural (column_of place))
     ∷ (codes "file", string file)
     ∷ (codes "help", help)
-    ∷ (codes "label", or_null natural label)
+    ∷ (codes "label", label)
     ∷ (codes "line", or_null natural (line_of place))
     ∷ (codes "message", string message)
     ∷ (codes "reason", reason)
@@ -82,7 +82,7 @@ members_with file place label array code help message reason status =
 
 abbrev pub refusal_members : (file : List ℕ) → List TextPlace → Failure → Reason → List (List ℕ × Data)
 refusal_members file places f r =
-    members_with file (explained_place places f r) (failure_label f) (or_null string (failure_array f))
+    members_with file (explained_place places f r) (or_null natural (failure_label f)) (or_null string (failure_array f))
     (or_null string (failure_code f)) (helps_json r) (failure_text f) (reason_json r) (failure_status f)
 
 abbrev pub refusal_json : (file : List ℕ) → List TextPlace → Failure → Reason → Data

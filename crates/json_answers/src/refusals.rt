@@ -5,8 +5,8 @@ ghost use Rattle.std.specs.String.{string_bytes};
 ghost use Rattle.serde_json.specs.Data.{string};
 ghost use Rattle.serde_json.specs.View.{view};
 ghost use Rattle.failures.specs.Messages.{failure_text};
-ghost use Rattle.json_answers.specs.Pieces.{IsReadBack, line, list_by, object_of, or_null};
-ghost use Rattle.json_answers.specs.Refusals.{explained_place, failure_array, failure_code, helps_json};
+ghost use Rattle.json_answers.specs.Pieces.{IsReadBack, line, list_by, natural, object_of, or_null};
+ghost use Rattle.json_answers.specs.Refusals.{explained_place, failure_array, failure_code, failure_label, helps_json};
 ghost use Rattle.json_answers.specs.Refusals.{members_with, reason_json, refusal_json};
 
 use crate::line::line_of;
@@ -17,7 +17,6 @@ use failures::failure::Failure;
 use serde_json::{Value, json};
 use std::alloc::{AllocError, Global};
 use syntax::TextPlace;
-use types::code::Label;
 
 /// Returns the object of a failure, with the file of the program as it was named, and the positions
 /// of the program's statements if they are known. Members that the failure doesn't have are null:
@@ -66,11 +65,10 @@ fn value_with(
     alloc: Global,
     file: &str,
     place: Option<TextPlace>,
-    label: Option<Label>,
     texts: Texts,
     status: u8,
 ) -> Result<Value, AllocError>
-    ensures { IfOk result (λ v. view v ≡ object_of (members_with file.now place label
+    ensures { IfOk result (λ v. view v ≡ object_of (members_with file.now place (view texts.label)
         (view texts.array) (view texts.code) (view texts.help) (string_bytes texts.message)
         (view texts.reason) status)) }
 {
@@ -80,7 +78,7 @@ fn value_with(
         "column": column_in(place),
         "file": file,
         "help": texts.help,
-        "label": label,
+        "label": texts.label,
         "line": line_in(place),
         "message": texts.message,
         "reason": texts.reason,
@@ -95,6 +93,7 @@ struct Texts {
     array: Value,
     code: Value,
     help: Value,
+    label: Value,
     message: String,
     reason: Value,
 }
@@ -104,6 +103,7 @@ fn texts_of(alloc: Global, failure: &Failure, reason: &Reason) -> Result<Texts, 
     ensures array { IfOk result (λ t. view t.array ≡ or_null string (failure_array failure.now)) }
     ensures code { IfOk result (λ t. view t.code ≡ or_null string (failure_code failure.now)) }
     ensures help { IfOk result (λ t. view t.help ≡ helps_json reason.now) }
+    ensures label { IfOk result (λ t. view t.label ≡ or_null natural (failure_label failure.now)) }
     ensures message { IfOk result (λ t. string_bytes t.message ≡ failure_text failure.now) }
     ensures reason { IfOk result (λ t. view t.reason ≡ reason_json reason.now) }
 {
@@ -112,6 +112,7 @@ fn texts_of(alloc: Global, failure: &Failure, reason: &Reason) -> Result<Texts, 
         array: text_or_null(alloc, array_of(failure))?,
         code: text_or_null(alloc, code_of(failure))?,
         help,
+        label: number_or_null(label_of(failure)),
         message: message_of(alloc, failure)?,
         reason,
     })
@@ -168,6 +169,16 @@ fn texts_value(alloc: Global, texts: &[String]) -> Result<Value, AllocError>
         list.push(Value::try_from_str(alloc, text.as_str())?)?;
     }
     Ok(Value::Array(list))
+}
+
+/// Returns a number, or null if there is none.
+fn number_or_null(number: Option<u32>) -> Value
+    ensures { view result ≡ or_null natural number }
+{
+    match number {
+        Some(number) => Value::from(number),
+        None => Value::Null,
+    }
 }
 
 /// Returns a text, or null if there is none.
