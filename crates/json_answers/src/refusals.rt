@@ -51,14 +51,7 @@ fn refusal_value(
 {
     let place = place_explained(failure, places, reason);
     let texts = texts_of(alloc, failure, place, reason)?;
-    value_with(
-        alloc,
-        file,
-        place,
-        label_of(failure),
-        texts,
-        failure.status(),
-    )
+    value_with(alloc, file, texts, failure.status())
 }
 
 /// Returns the value of a failure at this position, with what is said of it.
