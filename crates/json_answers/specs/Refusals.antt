@@ -83,7 +83,8 @@ members_with file column line label array code help message reason status =
 abbrev pub refusal_members : (file : List ℕ) → List TextPlace → Failure → Reason → List (List ℕ × Data)
 refusal_members file places f r =
     let place = explained_place places f r in
-    members_with file (or_null natural (column_of place)) (or_null natural (line_of place)) (or_null natural (failure_label f)) (or_null string (failure_array f))
+    members_with file (or_null natural (column_of place)) (or_null natural (line_of place))
+    (or_null natural (failure_label f)) (or_null string (failure_array f))
     (or_null string (failure_code f)) (helps_json r) (failure_text f) (reason_json r) (failure_status f)
 
 abbrev pub refusal_json : (file : List ℕ) → List TextPlace → Failure → Reason → Data

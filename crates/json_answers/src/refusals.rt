@@ -56,9 +56,10 @@ fn refusal_value(
 
 /// Returns the value of a failure at this position, with what is said of it.
 fn value_with(alloc: Global, file: &str, texts: Texts, status: u8) -> Result<Value, AllocError>
-    ensures { IfOk result (λ v. view v ≡ object_of (members_with file.now (view texts.column) (view texts.line) (view texts.label)
-        (view texts.array) (view texts.code) (view texts.help) (string_bytes texts.message)
-        (view texts.reason) status)) }
+    ensures { IfOk result (λ v. view v ≡ object_of (members_with file.now
+        (view texts.column) (view texts.line) (view texts.label) (view texts.array)
+        (view texts.code) (view texts.help) (string_bytes texts.message) (view texts.reason)
+        status)) }
 {
     json!(in alloc; {
         "array": texts.array,
