@@ -5,8 +5,9 @@ ghost use Rattle.std.specs.String.{string_bytes};
 ghost use Rattle.serde_json.specs.Data.{string};
 ghost use Rattle.serde_json.specs.View.{view};
 ghost use Rattle.failures.specs.Messages.{failure_text};
-ghost use Rattle.json_answers.specs.Pieces.{IsReadBack, line, list_by, object_of, or_null};
-ghost use Rattle.json_answers.specs.Refusals.{explained_place, failure_array, failure_code, helps_json};
+ghost use Rattle.json_answers.specs.Places.{column_of, line_of};
+ghost use Rattle.json_answers.specs.Pieces.{IsReadBack, line, list_by, natural, object_of, or_null};
+ghost use Rattle.json_answers.specs.Refusals.{explained_place, failure_array, failure_code, failure_label, helps_json};
 ghost use Rattle.json_answers.specs.Refusals.{members_with, reason_json, refusal_json};
 
 use crate::line::line_of;
@@ -17,7 +18,6 @@ use failures::failure::Failure;
 use serde_json::{Value, json};
 use std::alloc::{AllocError, Global};
 use syntax::TextPlace;
-use types::code::Label;
 
 /// Returns the object of a failure, with the file of the program as it was named, and the positions
 /// of the program's statements if they are known. Members that the failure doesn't have are null:
@@ -50,38 +50,25 @@ fn refusal_value(
         ≡ refusal_json file.now places.now failure.now reason.now) }
 {
     let place = place_explained(failure, places, reason);
-    let texts = texts_of(alloc, failure, reason)?;
-    value_with(
-        alloc,
-        file,
-        place,
-        label_of(failure),
-        texts,
-        failure.status(),
-    )
+    let texts = texts_of(alloc, failure, place, reason)?;
+    value_with(alloc, file, texts, failure.status())
 }
 
 /// Returns the value of a failure at this position, with what is said of it.
-fn value_with(
-    alloc: Global,
-    file: &str,
-    place: Option<TextPlace>,
-    label: Option<Label>,
-    texts: Texts,
-    status: u8,
-) -> Result<Value, AllocError>
-    ensures { IfOk result (λ v. view v ≡ object_of (members_with file.now place label
-        (view texts.array) (view texts.code) (view texts.help) (string_bytes texts.message)
-        (view texts.reason) status)) }
+fn value_with(alloc: Global, file: &str, texts: Texts, status: u8) -> Result<Value, AllocError>
+    ensures { IfOk result (λ v. view v ≡ object_of (members_with file.now
+        (view texts.column) (view texts.line) (view texts.label) (view texts.array)
+        (view texts.code) (view texts.help) (string_bytes texts.message) (view texts.reason)
+        status)) }
 {
     json!(in alloc; {
         "array": texts.array,
         "code": texts.code,
-        "column": column_in(place),
+        "column": texts.column,
         "file": file,
         "help": texts.help,
-        "label": label,
-        "line": line_in(place),
+        "label": texts.label,
+        "line": texts.line,
         "message": texts.message,
         "reason": texts.reason,
         "status": status,
@@ -94,16 +81,27 @@ fn value_with(
 struct Texts {
     array: Value,
     code: Value,
+    column: Value,
     help: Value,
+    label: Value,
+    line: Value,
     message: String,
     reason: Value,
 }
 
 /// Returns what is said of a failure.
-fn texts_of(alloc: Global, failure: &Failure, reason: &Reason) -> Result<Texts, AllocError>
+fn texts_of(
+    alloc: Global,
+    failure: &Failure,
+    place: Option<TextPlace>,
+    reason: &Reason,
+) -> Result<Texts, AllocError>
     ensures array { IfOk result (λ t. view t.array ≡ or_null string (failure_array failure.now)) }
     ensures code { IfOk result (λ t. view t.code ≡ or_null string (failure_code failure.now)) }
+    ensures column { IfOk result (λ t. view t.column ≡ or_null natural (column_of place)) }
+    ensures line { IfOk result (λ t. view t.line ≡ or_null natural (line_of place)) }
     ensures help { IfOk result (λ t. view t.help ≡ helps_json reason.now) }
+    ensures label { IfOk result (λ t. view t.label ≡ or_null natural (failure_label failure.now)) }
     ensures message { IfOk result (λ t. string_bytes t.message ≡ failure_text failure.now) }
     ensures reason { IfOk result (λ t. view t.reason ≡ reason_json reason.now) }
 {
@@ -111,7 +109,10 @@ fn texts_of(alloc: Global, failure: &Failure, reason: &Reason) -> Result<Texts, 
     Ok(Texts {
         array: text_or_null(alloc, array_of(failure))?,
         code: text_or_null(alloc, code_of(failure))?,
+        column: number_or_null(column_in(place)),
         help,
+        label: number_or_null(label_of(failure)),
+        line: number_or_null(line_in(place)),
         message: message_of(alloc, failure)?,
         reason,
     })
@@ -168,6 +169,16 @@ fn texts_value(alloc: Global, texts: &[String]) -> Result<Value, AllocError>
         list.push(Value::try_from_str(alloc, text.as_str())?)?;
     }
     Ok(Value::Array(list))
+}
+
+/// Returns a number, or null if there is none.
+fn number_or_null(number: Option<u32>) -> Value
+    ensures { view result ≡ or_null natural number }
+{
+    match number {
+        Some(number) => Value::from(number),
+        None => Value::Null,
+    }
 }
 
 /// Returns a text, or null if there is none.
