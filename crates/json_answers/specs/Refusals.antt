@@ -66,10 +66,10 @@ failure_array (Input e) = input_name e
 failure_array _ = None
 
 -- its code, its line and its status, and all else that is known; `file` is that of the program
-abbrev pub members_with : (file : List ℕ) → (column line label array code help : Data)
+abbrev pub members_with : (file : List ℕ) → (column line label name code help : Data)
     → (message : List ℕ) → (reason : Data) → (status : ℕ) → List (List ℕ × Data)
-members_with file column line label array code help message reason status =
-    (codes "array", array)
+members_with file column line label name code help message reason status =
+    (codes "array", name)
     ∷ (codes "code", code)
     ∷ (codes "column", column)
     ∷ (codes "file", string file)
