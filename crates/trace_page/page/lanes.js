@@ -3,6 +3,7 @@
 const laneHeight = run.lanes <= 6 ? 36 : run.lanes <= 12 ? 26 : run.lanes <= 24 ? 18 : 12;
 const SIGNS = ['▷', '⇐', '', '◆', '[', '+', '‖', ']', '◇', '▷'];
 const MOST_ARCS = 300;
+const MANY_ARCS = 60;        // more arcs than these in view are drawn thinner
 
 // ---- the overview
 
@@ -118,12 +119,12 @@ function drawLanes() {
     pen.clip();
     drawSpells(pen, width);
     if (perEvent() < 1.5) drawShares(pen, width); else drawEvents(pen);
-    drawNames(pen, width);
     drawSteals(pen, width);
+    drawNames(pen, width);
     drawMarks(pen);
     pen.restore();
   }
-  drawLaneTop(penOf(top, width, height), width, height);
+  drawLaneTop(penOf(top, width, height), width);
 }
 
 function drawTicks(pen, y, width) {
@@ -246,7 +247,7 @@ function drawEvents(pen) {
     const width = Math.max(1, size - (size > 4 ? 1 : 0.4));
     const solid = takesStep(run.kind[e]);
     tint(pen, colorOf(worker), solid ? 0.95 : 0.8);
-    if (solid) pen.fillRect(x, y + 8, width, laneHeight - 14);
+    if (solid) pen.fillRect(x, y + (laneHeight < 26 ? 3 : 8), width, laneHeight - (laneHeight < 26 ? 6 : 14));
     else pen.fillRect(x, y + laneHeight / 2 - 2, width, 4);
     if (view.chain && run.chain[e]) {
       tint(pen, colors.gold, 1);
@@ -318,8 +319,10 @@ function drawSteals(pen, width) {
     pen.globalAlpha = 1;
     return;
   }
+  const many = last - first > MANY_ARCS;
   pen.strokeStyle = pen.fillStyle = colors.ink;
-  pen.lineWidth = 1.5;
+  pen.lineWidth = many ? 1 : 1.5;
+  pen.globalAlpha = many ? 0.55 : 1;
   for (let i = first; i < last; i++) {
     const e = run.steals[i];
     const x = xOf(e + 0.5);
@@ -332,14 +335,16 @@ function drawSteals(pen, width) {
     pen.quadraticCurveTo(x - Math.min(14, 8 + perEvent()), (y0 + y1) / 2, x, y1 - down * 3);
     pen.stroke();
     pen.beginPath();
-    pen.arc(x, y0, 2.5, 0, 7);
+    pen.arc(x, y0, many ? 1.5 : 2.5, 0, 7);
     pen.fill();
+    const size = many ? 0.7 : 1;
     pen.beginPath();
     pen.moveTo(x, y1);
-    pen.lineTo(x - 4, y1 - down * 7);
-    pen.lineTo(x + 3.5, y1 - down * 7);
+    pen.lineTo(x - 4 * size, y1 - down * 7 * size);
+    pen.lineTo(x + 3.5 * size, y1 - down * 7 * size);
     pen.fill();
   }
+  pen.globalAlpha = 1;
 }
 
 // Executions of the marked label: a triangle above each of them.
@@ -367,7 +372,7 @@ function drawMarks(pen) {
 }
 
 // What moves with the cursor: names and tasks of workers, the selected task, the cursor, the pointer.
-function drawLaneTop(pen, width, height) {
+function drawLaneTop(pen, width) {
   if (view.task >= 0) drawSelected(pen, width);
   for (let worker = 0; worker < run.lanes; worker++) {
     const y = worker * laneHeight + laneHeight / 2;
@@ -378,7 +383,7 @@ function drawLaneTop(pen, width, height) {
     const text = spell >= 0 ? pathOf(run, run.spellTask[spell]) : 'idle';
     pen.fillText(cut(text, 12), 38, y + 0.5);
   }
-  drawCursor(pen, width, height);
+  drawCursor(pen, width, run.lanes * laneHeight);
 }
 
 function drawChip(pen, worker, y) {

@@ -151,7 +151,7 @@ function stepRow(event, i) {
   const effect = effectOf(run, program, event);
   const last = i === schedule.events.length - 1;
   return make('div', {class: last ? 'event now' : 'event', 'data-back': String(i + 1), title: 'go back to this step'},
-    make('span', {class: 'mono'}, String(i)), make('span', null, String(schedule.choices[i])),
+    make('span', {class: 'mono'}, String(i)), make('span', {class: 'choice-number'}, String(schedule.choices[i])),
     make('span', null, [brief(run, program, event).replace(/;$/, '')].concat(effect).join('; ')));
 }
 

@@ -1154,6 +1154,7 @@ function workerBar(pen, worker, x, y, width, height, alpha) {
 const laneHeight = run.lanes <= 6 ? 36 : run.lanes <= 12 ? 26 : run.lanes <= 24 ? 18 : 12;
 const SIGNS = ['▷', '⇐', '', '◆', '[', '+', '‖', ']', '◇', '▷'];
 const MOST_ARCS = 300;
+const MANY_ARCS = 60;        // more arcs than these in view are drawn thinner
 
 // ---- the overview
 
@@ -1269,12 +1270,12 @@ function drawLanes() {
     pen.clip();
     drawSpells(pen, width);
     if (perEvent() < 1.5) drawShares(pen, width); else drawEvents(pen);
-    drawNames(pen, width);
     drawSteals(pen, width);
+    drawNames(pen, width);
     drawMarks(pen);
     pen.restore();
   }
-  drawLaneTop(penOf(top, width, height), width, height);
+  drawLaneTop(penOf(top, width, height), width);
 }
 
 function drawTicks(pen, y, width) {
@@ -1397,7 +1398,7 @@ function drawEvents(pen) {
     const width = Math.max(1, size - (size > 4 ? 1 : 0.4));
     const solid = takesStep(run.kind[e]);
     tint(pen, colorOf(worker), solid ? 0.95 : 0.8);
-    if (solid) pen.fillRect(x, y + 8, width, laneHeight - 14);
+    if (solid) pen.fillRect(x, y + (laneHeight < 26 ? 3 : 8), width, laneHeight - (laneHeight < 26 ? 6 : 14));
     else pen.fillRect(x, y + laneHeight / 2 - 2, width, 4);
     if (view.chain && run.chain[e]) {
       tint(pen, colors.gold, 1);
@@ -1469,8 +1470,10 @@ function drawSteals(pen, width) {
     pen.globalAlpha = 1;
     return;
   }
+  const many = last - first > MANY_ARCS;
   pen.strokeStyle = pen.fillStyle = colors.ink;
-  pen.lineWidth = 1.5;
+  pen.lineWidth = many ? 1 : 1.5;
+  pen.globalAlpha = many ? 0.55 : 1;
   for (let i = first; i < last; i++) {
     const e = run.steals[i];
     const x = xOf(e + 0.5);
@@ -1483,14 +1486,16 @@ function drawSteals(pen, width) {
     pen.quadraticCurveTo(x - Math.min(14, 8 + perEvent()), (y0 + y1) / 2, x, y1 - down * 3);
     pen.stroke();
     pen.beginPath();
-    pen.arc(x, y0, 2.5, 0, 7);
+    pen.arc(x, y0, many ? 1.5 : 2.5, 0, 7);
     pen.fill();
+    const size = many ? 0.7 : 1;
     pen.beginPath();
     pen.moveTo(x, y1);
-    pen.lineTo(x - 4, y1 - down * 7);
-    pen.lineTo(x + 3.5, y1 - down * 7);
+    pen.lineTo(x - 4 * size, y1 - down * 7 * size);
+    pen.lineTo(x + 3.5 * size, y1 - down * 7 * size);
     pen.fill();
   }
+  pen.globalAlpha = 1;
 }
 
 // Executions of the marked label: a triangle above each of them.
@@ -1518,7 +1523,7 @@ function drawMarks(pen) {
 }
 
 // What moves with the cursor: names and tasks of workers, the selected task, the cursor, the pointer.
-function drawLaneTop(pen, width, height) {
+function drawLaneTop(pen, width) {
   if (view.task >= 0) drawSelected(pen, width);
   for (let worker = 0; worker < run.lanes; worker++) {
     const y = worker * laneHeight + laneHeight / 2;
@@ -1529,7 +1534,7 @@ function drawLaneTop(pen, width, height) {
     const text = spell >= 0 ? pathOf(run, run.spellTask[spell]) : 'idle';
     pen.fillText(cut(text, 12), 38, y + 0.5);
   }
-  drawCursor(pen, width, height);
+  drawCursor(pen, width, run.lanes * laneHeight);
 }
 
 function drawChip(pen, worker, y) {
@@ -2164,11 +2169,10 @@ function drawWorkers() {
     else if (state === RUNS) runs++;
   }
   const begun = lastUpTo(run.spawned, view.at) + 1;
-  byId('workers-note').textContent = `${num(runs)} run · ${num(queued)} queued · ${num(waiting.length)} wait · ` +
-    `${num(begun - live.length)} ended`;
+  const counts = `${num(runs)} run · ${num(queued)} queued · ${num(waiting.length)} wait · ${num(begun - live.length)} ended`;
   const list = (tasks, most) => tasks.slice(-most).flatMap(task => [taskLink(task), ' '])
     .concat(tasks.length > most ? [`and ${num(tasks.length - most)} more`] : []);
-  const rows = [];
+  const rows = [make('div', {class: 'item', id: 'task-counts'}, small(counts))];
   for (let worker = 0; worker < run.lanes; worker++) {
     const spell = spellAt(run, worker, view.at);
     const step = spell < 0 ? NONE : lastStep(run, run.spellTask[spell], view.at);
@@ -2182,29 +2186,77 @@ function drawWorkers() {
   fill(byId('workers'), ...rows);
 }
 
-// ---- the tree of live tasks
+// ---- the tree of tasks
 
 const MOST_TASKS = 200;
 const SIGN_OF = ['·', '≡', '▶', '‖', '✓'];
 
+// The tasks that are there after an event, in the order of their paths: a row for each task that is live or has live tasks
+// below it, and one for neighbours that have ended with all tasks below them.
+function taskRows(event) {
+  const begun = lastUpTo(run.spawned, event) + 1;
+  const live = new Int32Array(begun);
+  const size = new Int32Array(begun).fill(1);
+  for (let task = begun - 1; task >= 0; task--) {
+    if (!run.isOver[task] || run.ended[task] > event) live[task]++;
+    if (task === 0) break;
+    live[run.parent[task]] += live[task];
+    size[run.parent[task]] += size[task];
+  }
+  const rows = [];
+  const stack = [0];
+  while (stack.length > 0) {
+    const task = stack.pop();
+    const before = rows[rows.length - 1];
+    if (live[task] > 0) {
+      rows.push({task, last: task, ended: 0});
+      const {start, items} = run.children;
+      for (let i = start[task + 1] - 1; i >= start[task]; i--) if (items[i] < begun) stack.push(items[i]);
+    } else if (before && before.ended > 0 && run.parent[before.task] === run.parent[task]) {
+      before.last = task;
+      before.ended += size[task];
+    } else {
+      rows.push({task, last: task, ended: size[task]});
+    }
+  }
+  return rows;
+}
+
 function drawTasks() {
-  const live = liveTasks(run, view.at).sort((a, b) => treeRow[a] - treeRow[b]);
-  const at = lastUpTo(live.map(task => treeRow[task]), treeRow[taskAtCursor()]);
-  const first = clamp(at - MOST_TASKS / 2, 0, Math.max(0, live.length - MOST_TASKS));
-  const rows = live.slice(first, first + MOST_TASKS).map(task => {
-    const {state, worker} = whereIs(run, task, view.at);
-    const label = state === RUNS ? labelOfTask(task, view.at) : 0;
-    const row = make('div', {class: task === taskAtCursor() ? 'task now' : 'task', 'data-state': STATES[state]},
-      make('span', {class: 'sign'}, SIGN_OF[state]), taskLink(task), small(STATES[state] + (state === QUEUED || state === RUNS
-        ? ', worker ' + worker : '')), label > 0 ? make('code', null, `${label} ${statement(program, label)}`) : null);
-    row.style.paddingLeft = 12 + 10 * Math.min(run.depth[task], 12) + 'px';
-    row.firstChild.style.color = colorOf(worker);
-    return row;
+  const all = taskRows(view.at);
+  const at = lastUpTo(all.map(row => treeRow[row.task]), treeRow[taskAtCursor()]);
+  const first = clamp(at - MOST_TASKS / 2, 0, Math.max(0, all.length - MOST_TASKS));
+  const rows = all.slice(first, first + MOST_TASKS).map((row, i) => {
+    const element = row.ended > 0 ? endedRow(row) : liveRow(row.task);
+    if (first + i === at) element.classList.add('now');
+    element.style.paddingLeft = 12 + 10 * Math.min(run.depth[row.task], 12) + 'px';
+    return element;
   });
+  const live = all.reduce((sum, row) => sum + (row.ended === 0 && whereIs(run, row.task, view.at).state !== ENDED), 0);
   const begun = lastUpTo(run.spawned, view.at) + 1;
-  const more = live.length - rows.length;
-  fill(byId('tasks'), ...rows, more > 0 ? small(`and ${num(more)} more before and after these`) : null);
-  byId('tasks-note').textContent = `${num(live.length)} live, ${num(begun - live.length)} ended`;
+  const more = all.length - rows.length;
+  fill(byId('tasks'), ...rows, more > 0 ? small(`and ${num(more)} more rows before and after these`) : null);
+  byId('tasks-note').textContent = `${num(live)} live, ${num(begun - live)} ended`;
+}
+
+function liveRow(task) {
+  const {state, worker} = whereIs(run, task, view.at);
+  const label = state === RUNS ? labelOfTask(task, view.at) : 0;
+  const row = make('div', {class: 'task', 'data-state': STATES[state], 'data-count': '1'},
+    make('span', {class: 'sign'}, SIGN_OF[state]), taskLink(task), small(STATES[state] + (state === QUEUED || state === RUNS
+      ? ', worker ' + worker : '')), label > 0 ? make('code', null, `${label} ${statement(program, label)}`) : null);
+  row.firstChild.style.color = state === ENDED ? colors.soft : colorOf(worker);
+  return row;
+}
+
+// Tasks that have ended with all below them.
+function endedRow({task, last, ended}) {
+  const below = ended > 1 ? `${num(ended)} have ended` : 'has ended';
+  const row = make('div', {class: 'task', 'data-state': STATES[ENDED], 'data-count': String(ended)},
+    make('span', {class: 'sign'}, SIGN_OF[ENDED]), taskLink(task), last === task ? null : small('to '),
+    last === task ? null : taskLink(last), small(below));
+  row.firstChild.style.color = colors.soft;
+  return row;
 }
 
 // ---- values of the task at the cursor
@@ -2508,7 +2560,7 @@ function stepRow(event, i) {
   const effect = effectOf(run, program, event);
   const last = i === schedule.events.length - 1;
   return make('div', {class: last ? 'event now' : 'event', 'data-back': String(i + 1), title: 'go back to this step'},
-    make('span', {class: 'mono'}, String(i)), make('span', null, String(schedule.choices[i])),
+    make('span', {class: 'mono'}, String(i)), make('span', {class: 'choice-number'}, String(schedule.choices[i])),
     make('span', null, [brief(run, program, event).replace(/;$/, '')].concat(effect).join('; ')));
 }
 
