@@ -273,6 +273,16 @@ def check_marks(browser, case):
         browser.key("n")
         seen.append(browser.run("view.at"))
     same(f"{name}: executions", seen, browser.run(f"Array.from(itemsOf(run.stepsAt, {label})).slice(0, {min(steps, 5)})"))
+    browser.key("0")
+    drawn = browser.run("Array.from({length: run.lanes}, (_, w) => { readMarks(); const all = []; for (let i = nextMark(w, 0); "
+                        "i < marks.byWorker.start[w + 1]; i++) all.push(marks.items[marks.byWorker.items[i]]); return all; })")
+    same(f"{name}: marks in lanes", sorted(e for own in drawn for e in own)[:5], seen)
+    same(f"{name}: lanes of marks", browser.run(f"{json.dumps(drawn)}.every((own, w) => own.every(e => run.worker[e] === w))"), True)
+    never = browser.run("stepsByLabel.findIndex((steps, label) => label > 0 && steps === 0)")
+    if never > 0:
+        browser.run(f"markLabel({never})")
+        browser.frames()
+        same(f"{name}: no marks of a statement without steps", browser.run("[view.label, marks.items.length]"), [never, 0])
     browser.key("Escape")
     same(f"{name}: nothing marked", browser.count(".head.hit"), 0)
     browser.key("/")

@@ -18,7 +18,7 @@ function drawOverview() {
   keepHeight(element, height);
   const [base, top] = element.children;
   const plot = width - GUTTER - EDGE;
-  if (view.changed & (LOOK | WINDOW)) drawOverviewBase(penOf(base, width, height), plot, height);
+  if (view.changed & LOOK) drawOverviewBase(penOf(base, width, height), plot, height);
   const pen = penOf(top, width, height);
   const x = event => GUTTER + event / SPAN * plot;
   tint(pen, colors.cursor, 0.12);
@@ -347,28 +347,42 @@ function drawSteals(pen, width) {
   pen.globalAlpha = 1;
 }
 
-// Executions of the marked label: a triangle above each of them.
+// The executions of the marked label by workers.
+const marks = {label: 0, items: null, byWorker: null};
+
+function readMarks() {
+  if (marks.label === view.label) return;
+  marks.label = view.label;
+  marks.items = itemsOf(run.stepsAt, view.label);
+  marks.byWorker = groups(integers(marks.items.length, i => run.worker[marks.items[i]]), run.lanes);
+}
+
+// A triangle below each execution of the marked label. Of those at one pixel, one is drawn.
 function drawMarks(pen) {
   if (view.label === 0) return;
-  const all = run.stepsAt;
-  const low = all.start[view.label];
-  const high = all.start[view.label + 1];
+  readMarks();
   tint(pen, colors.hit, 1);
-  const last = new Float64Array(run.lanes).fill(-9);
-  for (let i = Math.max(low, lastUpTo(all.items, view.from, low, high)); i < high && all.items[i] < view.to; i++) {
-    const e = all.items[i];
-    const worker = run.worker[e];
-    if (worker < 0 || e < view.from) continue;
-    const x = xOf(e + 0.5);
-    if (x - last[worker] < 2) continue;
-    last[worker] = x;
+  for (let worker = 0; worker < run.lanes; worker++) {
     const y = (worker + 1) * laneHeight - 2;
-    pen.beginPath();
-    pen.moveTo(x, y - 7);
-    pen.lineTo(x - 4, y);
-    pen.lineTo(x + 4, y);
-    pen.fill();
+    const end = marks.byWorker.start[worker + 1];
+    for (let i = nextMark(worker, view.from); i < end;) {
+      const e = marks.items[marks.byWorker.items[i]];
+      if (e >= view.to) break;
+      const x = xOf(e + 0.5);
+      pen.beginPath();
+      pen.moveTo(x, y - 7);
+      pen.lineTo(x - 4, y);
+      pen.lineTo(x + 4, y);
+      pen.fill();
+      i = Math.max(i + 1, nextMark(worker, eventAt(x + 2) - 0.5));
+    }
   }
+}
+
+// The position of a worker's first execution of the marked label from an event on.
+function nextMark(worker, event) {
+  const before = lastOf(marks.byWorker, worker, marks.items, Math.ceil(event) - 1);
+  return before < 0 ? marks.byWorker.start[worker] : before + 1;
 }
 
 // What moves with the cursor: names and tasks of workers, the selected task, the cursor, the pointer.

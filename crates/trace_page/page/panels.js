@@ -16,8 +16,7 @@ const MOST_LINES_AT_ONCE = 1500;    // of a longer text only the lines around th
 
 const textLines = program.text.replace(/\n$/, '').split('\n');
 const firstLabels = labelsByLine();
-const stepsByLabel = Array.from({length: program.labels + 1}, (_, label) =>
-  (label + 1 < run.stepsAt.start.length ? run.stepsAt.start[label + 1] - run.stepsAt.start[label] : 0));
+const stepsByLabel = Array.from({length: program.labels + 1}, (_, label) => itemsOf(run.stepsAt, label).length);
 const mostSteps = largest(stepsByLabel);
 
 const heads = [];           // for each label the elements of its head, on the lines that are there

@@ -30,6 +30,13 @@ const count = (n, noun) => num(n) + ' ' + noun + (n === 1 ? '' : 's');
 
 const clamp = (n, least, most) => Math.max(least, Math.min(most, n));
 
+// A list of so many integers, each made of its position. Typed arrays make lists of a function more slowly.
+function integers(n, of) {
+  const list = new Int32Array(n);
+  for (let i = 0; i < n; i++) list[i] = of(i);
+  return list;
+}
+
 // The position of the last number of a sorted list that is at most `limit`, between two positions; `from - 1` if none is.
 function lastUpTo(list, limit, from = 0, to = list.length) {
   let low = from;
@@ -327,7 +334,7 @@ function readTasks(run, tasks) {
   run.row = tasks.row;
   run.children = groups(run.parent, n);
   run.eventsOf = groups(run.task, n);
-  run.stepsAt = groups(labelsOfSteps(run), largest(run.label) + 1);
+  run.stepsAt = groups(labelsOfSteps(run), Math.max(largest(run.label), run.data.places.line.length) + 1);
   run.spawned = new Int32Array(n).fill(-1);
   run.ended = new Int32Array(n).fill(run.events);
   run.depth = new Int32Array(n);
@@ -436,8 +443,8 @@ function readScopes(run, data) {
   run.scopesOf = groups(run.scopeOwner, run.tasks);
   run.scopeNumber = scopes.number;
   run.scopeAt = Int32Array.from(scopes.at);
-  run.scopeParked = Int32Array.from(scopes.parked, at => (at === null ? run.events : at));
-  run.scopePassed = Int32Array.from(scopes.passed, at => (at === null ? run.events : at));
+  run.scopeParked = integers(run.scopes, s => (scopes.parked[s] === null ? run.events : scopes.parked[s]));
+  run.scopePassed = integers(run.scopes, s => (scopes.passed[s] === null ? run.events : scopes.passed[s]));
   run.scopeRow = scopes.row;
   run.finishEvents = [];
   if (run.scopePassed[0] < run.events) {
@@ -545,22 +552,26 @@ function readValues(run, data) {
     run.arrayStart.push(elements);
     elements += array.length;
   }
-  const places = Int32Array.from(data.stores.index, (index, i) => run.arrayStart[data.stores.array[i]] + index);
+  const {array, index} = data.stores;
+  const places = integers(index.length, i => run.arrayStart[array[i]] + index[i]);
   run.storeAt = Int32Array.from(data.stores.at);
   run.storeValue = data.stores.value;
   run.storesOf = groups(places, places.length > 0 ? elements : 0);
-  run.storesBy = groups(Int32Array.from(run.storeAt, e => run.task[e]), run.tasks);
+  run.storesBy = groups(tasksAt(run, run.storeAt), run.tasks);
   run.givenTo = groups(Int32Array.from(data.given.task), run.tasks);
   run.lineAt = Int32Array.from(data.lines.at);
   run.faultAt = Int32Array.from(data.faults.at);
   run.flowAt = Int32Array.from(data.flows.at);
-  run.flowsOf = groups(Int32Array.from(run.flowAt, e => run.task[e]), run.tasks);
+  run.flowsOf = groups(tasksAt(run, run.flowAt), run.tasks);
   run.gatheredAt = Int32Array.from(data.gathered.at);
-  const isLine = new Map();
-  run.lineAt.forEach((e, i) => isLine.set(e, i));
-  run.faultAt.forEach((e, i) => isLine.set(e, i));
-  run.inOrder = isLine.size > 0 ? depthFirst(run, isLine) : [];
+  const tells = new Uint8Array(run.events);
+  for (const e of run.lineAt) tells[e] = 1;
+  for (const e of run.faultAt) tells[e] = 1;
+  run.inOrder = run.lineAt.length + run.faultAt.length > 0 ? depthFirst(run, tells) : [];
 }
+
+// The task of each of some events.
+const tasksAt = (run, events) => integers(events.length, i => run.task[events[i]]);
 
 // Changes by task and slot. Each task has as many groups as its largest slot needs.
 function bySlot(run, at, slots) {
@@ -571,7 +582,7 @@ function bySlot(run, at, slots) {
   }
   const offset = new Int32Array(run.tasks + 1);
   for (let task = 0; task < run.tasks; task++) offset[task + 1] = offset[task] + most[task];
-  const keys = Int32Array.from(at, (e, i) => offset[run.task[e]] + slots[i]);
+  const keys = integers(at.length, i => offset[run.task[at[i]]] + slots[i]);
   return {offset, groups: groups(keys, offset[run.tasks])};
 }
 
@@ -602,7 +613,7 @@ function depthFirst(run, wanted) {
     if (run.kind[e] === SPAWN) {
       const child = run.children.items[top.child++];
       stack.push({task: child, next: run.eventsOf.start[child], child: run.children.start[child]});
-    } else if (wanted.has(e)) {
+    } else if (wanted[e] === 1) {
       order.push(e);
     }
   }
@@ -1169,7 +1180,7 @@ function drawOverview() {
   keepHeight(element, height);
   const [base, top] = element.children;
   const plot = width - GUTTER - EDGE;
-  if (view.changed & (LOOK | WINDOW)) drawOverviewBase(penOf(base, width, height), plot, height);
+  if (view.changed & LOOK) drawOverviewBase(penOf(base, width, height), plot, height);
   const pen = penOf(top, width, height);
   const x = event => GUTTER + event / SPAN * plot;
   tint(pen, colors.cursor, 0.12);
@@ -1498,28 +1509,42 @@ function drawSteals(pen, width) {
   pen.globalAlpha = 1;
 }
 
-// Executions of the marked label: a triangle above each of them.
+// The executions of the marked label by workers.
+const marks = {label: 0, items: null, byWorker: null};
+
+function readMarks() {
+  if (marks.label === view.label) return;
+  marks.label = view.label;
+  marks.items = itemsOf(run.stepsAt, view.label);
+  marks.byWorker = groups(integers(marks.items.length, i => run.worker[marks.items[i]]), run.lanes);
+}
+
+// A triangle below each execution of the marked label. Of those at one pixel, one is drawn.
 function drawMarks(pen) {
   if (view.label === 0) return;
-  const all = run.stepsAt;
-  const low = all.start[view.label];
-  const high = all.start[view.label + 1];
+  readMarks();
   tint(pen, colors.hit, 1);
-  const last = new Float64Array(run.lanes).fill(-9);
-  for (let i = Math.max(low, lastUpTo(all.items, view.from, low, high)); i < high && all.items[i] < view.to; i++) {
-    const e = all.items[i];
-    const worker = run.worker[e];
-    if (worker < 0 || e < view.from) continue;
-    const x = xOf(e + 0.5);
-    if (x - last[worker] < 2) continue;
-    last[worker] = x;
+  for (let worker = 0; worker < run.lanes; worker++) {
     const y = (worker + 1) * laneHeight - 2;
-    pen.beginPath();
-    pen.moveTo(x, y - 7);
-    pen.lineTo(x - 4, y);
-    pen.lineTo(x + 4, y);
-    pen.fill();
+    const end = marks.byWorker.start[worker + 1];
+    for (let i = nextMark(worker, view.from); i < end;) {
+      const e = marks.items[marks.byWorker.items[i]];
+      if (e >= view.to) break;
+      const x = xOf(e + 0.5);
+      pen.beginPath();
+      pen.moveTo(x, y - 7);
+      pen.lineTo(x - 4, y);
+      pen.lineTo(x + 4, y);
+      pen.fill();
+      i = Math.max(i + 1, nextMark(worker, eventAt(x + 2) - 0.5));
+    }
   }
+}
+
+// The position of a worker's first execution of the marked label from an event on.
+function nextMark(worker, event) {
+  const before = lastOf(marks.byWorker, worker, marks.items, Math.ceil(event) - 1);
+  return before < 0 ? marks.byWorker.start[worker] : before + 1;
 }
 
 // What moves with the cursor: names and tasks of workers, the selected task, the cursor, the pointer.
@@ -1904,8 +1929,7 @@ const MOST_LINES_AT_ONCE = 1500;    // of a longer text only the lines around th
 
 const textLines = program.text.replace(/\\n$/, '').split('\\n');
 const firstLabels = labelsByLine();
-const stepsByLabel = Array.from({length: program.labels + 1}, (_, label) =>
-  (label + 1 < run.stepsAt.start.length ? run.stepsAt.start[label + 1] - run.stepsAt.start[label] : 0));
+const stepsByLabel = Array.from({length: program.labels + 1}, (_, label) => itemsOf(run.stepsAt, label).length);
 const mostSteps = largest(stepsByLabel);
 
 const heads = [];           // for each label the elements of its head, on the lines that are there
