@@ -518,8 +518,9 @@ def check_schedules(browser, case):
         if not any(x.startswith("fault") for x in wanted):
             same(f"{name}: arrays of schedule {seed}", numbers, [x for x in wanted if x.startswith("array ")])
         command = browser.text("#command")
+        given = " --input .." if case.input else ""
         same(f"{name}: command of schedule {seed}", command,
-             f"afx explore {case.program} --choices {','.join(map(str, choices))}")
+             f"afx explore {case.program}{given} --choices {','.join(map(str, choices))}")
         browser.run("byId('schedules').close()")
     check_choosing(browser, case)
     same(f"{name}: nothing wrong in schedules", browser.wrong(), [])
