@@ -5,7 +5,7 @@ pub const BEFORE: &str = "<!doctype html>
 <html lang=\"en\">
 <head>
 <meta charset=\"utf-8\">
-<meta http-equiv=\"Content-Security-Policy\" content=\"default-src 'none'; script-src 'sha256-C+lm9V7gBs/xbLpNwXH9iYzC6lTtbSyBXpTwVhEmHi4='; style-src 'sha256-txP+FA/7y4dBFazWPE9bbaWj1BlKTdjQFBzEYwTxlnY='; base-uri 'none'; form-action 'none'; require-trusted-types-for 'script'; trusted-types 'none'\">
+<meta http-equiv=\"Content-Security-Policy\" content=\"default-src 'none'; script-src 'sha256-zkZ0GtZ7QemE/ND345hTV5swsWFTxA5d9ZNPKZK0vVE='; style-src 'sha256-txP+FA/7y4dBFazWPE9bbaWj1BlKTdjQFBzEYwTxlnY='; base-uri 'none'; form-action 'none'; require-trusted-types-for 'script'; trusted-types 'none'\">
 <meta name=\"viewport\" content=\"width=device-width, initial-scale=1\">
 <meta name=\"referrer\" content=\"no-referrer\">
 <title>afx trace</title>
