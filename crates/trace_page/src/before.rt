@@ -5,7 +5,7 @@ pub const BEFORE: &str = "<!doctype html>
 <html lang=\"en\">
 <head>
 <meta charset=\"utf-8\">
-<meta http-equiv=\"Content-Security-Policy\" content=\"default-src 'none'; script-src 'sha256-plwro47nlsa/COb+spjhigDzc8JlQQPorVnRFr+MbOo='; style-src 'sha256-txP+FA/7y4dBFazWPE9bbaWj1BlKTdjQFBzEYwTxlnY='; base-uri 'none'; form-action 'none'; require-trusted-types-for 'script'; trusted-types 'none'\">
+<meta http-equiv=\"Content-Security-Policy\" content=\"default-src 'none'; script-src 'sha256-/wFd6FENprHieGBXOrl9wa57ihNEEopF6sLDwJKnaE4='; style-src 'sha256-txP+FA/7y4dBFazWPE9bbaWj1BlKTdjQFBzEYwTxlnY='; base-uri 'none'; form-action 'none'; require-trusted-types-for 'script'; trusted-types 'none'\">
 <meta name=\"viewport\" content=\"width=device-width, initial-scale=1\">
 <meta name=\"referrer\" content=\"no-referrer\">
 <title>afx trace</title>
