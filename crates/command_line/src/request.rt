@@ -51,6 +51,8 @@ pub enum Command {
     Chrome,
     /// `view --html OUT`: write a page in which a trace can be explored.
     Page,
+    /// `explore --html OUT`: write a page in which each step can be chosen.
+    Schedules,
 }
 
 /// When explanations have colors.

@@ -23,14 +23,14 @@ use Rattle.command_line.specs.declared.request.Command.{Command}
 use Rattle.command_line.specs.declared.request.Command.TheVariants.{Run, Serial, Check, Listing, Pairs}
 use Rattle.command_line.specs.declared.request.Command.TheVariants.{Meetings, Explore, Labels, Places, Format}
 use Rattle.command_line.specs.declared.request.Command.TheVariants.{CheckFormat, View, Summary, Draw, Chrome}
-use Rattle.command_line.specs.declared.request.Command.TheVariants.{Page}
+use Rattle.command_line.specs.declared.request.Command.TheVariants.{Page, Schedules}
 use Rattle.command_line.specs.declared.request.Command.TheVariants.{Cost, CostByLabel, CostByProcedure}
 use Rattle.command_line.specs.declared.request.Command.TheVariants.{PairsByLine, ViewByLine, SummaryByLine}
 use Rattle.files.specs.Held.{Held, HasText, TellsNoText}
 use Rattle.failures.specs.declared.failure.Failure.{Failure}
 use Rattle.failures.specs.declared.failure.Failure.TheVariants.{CannotRead, NotUtf8, Input, Trace, Illegal}
 use Rattle.failures.specs.declared.failure.Failure.TheVariants.{CannotWrite, CannotWriteOutput, NoMemory}
-use Rattle.commands.specs.Answers.{Done, IsExplored, LacksInput, TellsNotAccepted}
+use Rattle.commands.specs.Answers.{Done, IsExplored, LacksInput, TellsNotAccepted, TellsNotBegun}
 use Rattle.trace_page.specs.Pages.{IsPage, Traced}
 use Rattle.viewing.specs.declared.drawing.Form.{Form}
 use Rattle.viewing.specs.declared.drawing.Form.TheVariants.{Html, Picture, Spans}
@@ -122,6 +122,7 @@ TellsTrace SummaryByLine h es told = IsSummaryByLine h.workers es told
 TellsTrace Draw h es told = told ≡ []
 TellsTrace Chrome h es told = told ≡ []
 TellsTrace Page h es told = told ≡ []
+TellsTrace Schedules h es told = ⊥
 TellsTrace Run h es told = ⊥
 TellsTrace Serial h es told = ⊥
 TellsTrace Check h es told = ⊥
@@ -199,6 +200,7 @@ abbrev pub Draws : Command → Type 0
 Draws Draw = Unit {0}
 Draws Chrome = Unit {0}
 Draws Page = Unit {0}
+Draws Schedules = ⊥
 Draws View = ⊥
 Draws ViewByLine = ⊥
 Draws Summary = ⊥
@@ -301,3 +303,43 @@ abbrev pub IsDrawnAs : Form → Settings → Held → (text bytes : List ℕ) �
 IsDrawnAs Picture s held text bytes = IsDrawn s held text bytes
 IsDrawnAs Spans s held text bytes = IsDrawn s held text bytes
 IsDrawnAs (Html program) s held text bytes = IsPageOf program.now s held text bytes
+
+-- ---- schedules
+
+-- a page of events that are of no trace's file
+pub record ShowsSchedules (name text : List ℕ) (t : JudgedTrace) (bytes : List ℕ) : Type 0 where
+  pub labels : List ℕ
+  pub page : IsPage (traced_of t name text [] labels) bytes
+
+-- the page of legal events of the program's run on the input, by the name of the program's file; which events
+-- these are isn't specified: a task takes the same steps in each run
+pub record IsSchedulesPage (name : List ℕ) (s : Settings) (held : Held) (text bytes : List ℕ) : Type 0 where
+  pub run : IsExplored s held text
+  pub header : Header
+  pub events : List Event
+  pub legal : AreLegal run.code run.input header events
+  pub labels : List ℕ
+  pub page : IsPage (record {
+    name = name;
+    text = text;
+    trace = [];
+    code = run.code;
+    input = run.input;
+    header = header;
+    events = events;
+    labels = labels;
+  })
+      bytes
+
+-- `explore --html` writes nothing to the standard output
+pub record AnswersSchedules (s : Settings) (held : Held) (text told : List ℕ) (status : ℕ) : Type 0 where
+  pub run : IsExplored s held text
+  pub told_is : told ≡ []
+  pub status_is : status ≡ 0
+
+-- why there is no page of schedules; only out of memory needs no reason
+abbrev pub ExplainsSchedules : Settings → Held → (text : List ℕ) → Failure → Type 0
+ExplainsSchedules s held text (CannotWrite name) = IsExplored s held text × (string_bytes name ≡ picture_name s)
+ExplainsSchedules s held text CannotWriteOutput = Unit {0}
+ExplainsSchedules s held text NoMemory = Unit {0}
+ExplainsSchedules s held text f = TellsNotBegun s held text f
