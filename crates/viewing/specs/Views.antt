@@ -1,19 +1,20 @@
 -- The answers for the trace of a run, and the reasons why there is none.
-use Rattle.std.specs.Prelude.{ℕ, ℤ, ◌≡◌, ◌⊎◌, ◌+◌, ◌++◌, List, [], ◌∷◌, Option, Result, codes, map}
-use Rattle.std.specs.Prelude.{option_map, slice_get, slice_index, unwrap_or}
+use Rattle.std.specs.Prelude.{ℕ, ℤ, ◌≡◌, ◌⊎◌, ◌+◌, ◌++◌, List, [], ◌∷◌, Option, Result, codes, length, map}
+use Rattle.std.specs.Prelude.{false, option_map, slice_get, slice_index, true, unwrap_or}
 use Rattle.std.specs.Str.Lines.{lines}
 use Rattle.std.specs.String.{string_bytes}
 use Rattle.types.specs.Code.{Program}
+use Rattle.types.specs.Outcome.{Budget}
 use Rattle.types.specs.Translation.{budget, input as lists_in}
 use Rattle.types.specs.Typed.{code_of}
 use Rattle.events.specs.Events.{event as event_of}
 use Rattle.events.specs.declared.event.Event.{Event}
-use Rattle.event_worlds.specs.World.{World}
-use Rattle.event_worlds.specs.Worlds.{IsFirstIllegal, LeadsTo}
+use Rattle.event_worlds.specs.World.{World, has_passed, root_scope}
+use Rattle.event_worlds.specs.Worlds.{IsFirstIllegal, IsSpent, LeadsTo}
 use Rattle.trace_numbers.specs.Summary.{IsSummary}
 use Rattle.trace_numbers.specs.Text.{summary_text}
 use Rattle.trace_numbers.specs.declared.summary.TraceSummary.{TraceSummary as SummaryOf}
-use Rattle.trace_text.specs.Headers.{header_of}
+use Rattle.trace_text.specs.Headers.{TraceHeader, header_of}
 use Rattle.trace_text.specs.Reading.{IsRefusal, IsTrace}
 use Rattle.trace_text.specs.Table.{table_text}
 use Rattle.trace_text.specs.declared.error.TraceError.{TraceError}
@@ -306,18 +307,51 @@ IsDrawnAs (Html program) s held text bytes = IsPageOf program.now s held text by
 
 -- ---- schedules
 
+-- the settings of the run that a page of schedules shows: one worker, and asyncs nested as deeply as a budget can
+-- allow
+abbrev pub schedule_header : TraceHeader
+schedule_header = record { steps = 1000000; nest = 1000; w0 = 1048576; workers = 1 }
+
+-- the settings of a page that shows no run
+abbrev pub runless_header : TraceHeader
+runless_header = record { steps = 1; nest = 0; w0 = 1048576; workers = 1 }
+
+abbrev pub budget_in : TraceHeader → Budget
+budget_in h = record { steps = h.steps; nest = h.nest }
+
+module _ (p : Program) (input : List (List ℤ)) where
+  -- events of a run under some settings, from its start to the world in which main has passed
+  pub record AreWhole (h : TraceHeader) (es : List Event) : Type 0 where
+    pub world : World
+    pub legal : LeadsTo p h.w0 input (budget_in h) (map event_of es) world
+    pub passed : has_passed root_scope world ≡ true
+
+  -- a run has not come to its end after 20,000 events, or a task needs weight from a scope that has issued 2^31
+  -- times
+  pub record IsTooLong (h : TraceHeader) : Type 0 where
+    pub events : List Event
+    pub world : World
+    pub legal : LeadsTo p h.w0 input (budget_in h) (map event_of events) world
+    pub goes_on : has_passed root_scope world ≡ false
+    pub so_far : IsSpent p h.w0 (budget_in h) world ⊎ (length events ≡ 20000)
+
+  -- what a page of schedules shows: a whole run, whichever; or none, if the run is too long
+  pub data AreShown (h : Header) (es : List Event) : Type 0 where
+    a_run : header_of h ≡ schedule_header → AreWhole schedule_header es → AreShown h es
+    no_run : header_of h ≡ runless_header → es ≡ [] → IsTooLong schedule_header → AreShown h es
+
 -- a page of events that are of no trace's file
 pub record ShowsSchedules (name text : List ℕ) (t : JudgedTrace) (bytes : List ℕ) : Type 0 where
   pub labels : List ℕ
   pub page : IsPage (traced_of t name text [] labels) bytes
 
--- the page of legal events of the program's run on the input, by the name of the program's file; which events
--- these are isn't specified: a task takes the same steps in each run
+-- the page of a run of the text's program on the input, by the name of the program's file. A task takes the same
+-- steps in each run, so one whole run has the steps of all schedules
 pub record IsSchedulesPage (name : List ℕ) (s : Settings) (held : Held) (text bytes : List ℕ) : Type 0 where
   pub run : IsExplored s held text
   pub header : Header
   pub events : List Event
-  pub legal : AreLegal run.code run.input header events
+  pub shown : AreShown run.code run.input header events
   pub labels : List ℕ
   pub page : IsPage (record {
     name = name;

@@ -45,15 +45,15 @@ pub returns-clause-page : goal.returns-clause-page
 returns-clause-page g c =
     let s = settings c.args.question.settings in let held = g.F.FileSource.held c.args.files.now in
     let text = c.args.question.text.now in let name = c.args.program.now in
-    let t = c.in_ok-walked.walked in
-    let walked = IfOk-at_ok _ c.in_ok-walked.ensures.value c.walk_of.ensures.given in
-    let legal = IfOk-at_ok _ c.in_ok-walked.ensures.value c.walk_of.ensures.legal in
+    let t = c.in_ok-shown.shown in
+    let given = IfOk-at_ok _ c.in_ok-shown.ensures.value c.shown_of.ensures.given in
+    let are_shown = IfOk-at_ok _ c.in_ok-shown.ensures.value c.shown_of.ensures.shown in
     let shows = subst (λ (bytes : List ℕ). ShowsSchedules name text t bytes) (sym c.as_bytes.ensures.value)
-    (IfOk-at_ok _ c.in_ok-page.ensures.value c.page_of_walk.ensures) in
+    (IfOk-at_ok _ c.in_ok-page.ensures.value c.page_of_shown.ensures) in
     wrote_anyway (picture_name s) (IsSchedulesPage name s held text) held _ c.answer.result
     (wrote _ (picture_name s) c.picture_name.ensures (IsSchedulesPage name s held text) held _ _ c.in_ok-given.ensures.keeps
     c.as_bytes.result.now
     (schedules_page s held text (begun_so s held text c.in_ok-given.given c.in_ok-given.ensures.given) name t c.as_bytes.result.now
-    (ap (λ (b : Begun). code_of b.accepted.typed) (sym walked)) (ap (λ (b : Begun). lists_in b.input) (sym walked)) legal shows)
+    (ap (λ (b : Begun). code_of b.accepted.typed) (sym given)) (ap (λ (b : Begun). lists_in b.input) (sym given)) are_shown shows)
     c.in_ok-write_file.ensures.written c.in_ok-write_file.ensures.others)
     c.answer.ensures.failure
