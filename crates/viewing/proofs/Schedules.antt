@@ -93,9 +93,9 @@ spent : (w : World) (Spent : Type 0) → has_passed root_scope w ≡ false → (
 spent w Spent still (inl passed) = absurd (true≢false (sym passed ∙ still))
 spent w Spent still (inr is) = is
 
-spent_or_long : (k : WeightedJob) (walk : Walk) → walk.world.job ≡ k → IsOver 20000 walk → (w : World)
+spent_or_long : (k : WeightedJob) (walk : Walk) → walk.world.job ≡ k → IsOver 8003 walk → (w : World)
     → comes k walk.events.items ≡ Legal w → has_passed root_scope w ≡ false
-    → IsSpent (program_of k.job) k.w0 (budget_of k.job) w ⊎ (length walk.events.items ≡ 20000)
+    → IsSpent (program_of k.job) k.w0 (budget_of k.job) w ⊎ (length walk.events.items ≡ 8003)
 spent_or_long k walk same (inl stopped) w legal still =
     inl (subst (λ (j : WeightedJob). IsSpent (program_of j.job) j.w0 (budget_of j.job) w) same
     (spent w _ still (stopped w (comes_same walk.world.job k same walk.events.items walk.events.items refl ∙ legal))))
@@ -103,7 +103,7 @@ spent_or_long k walk same (inr long) w legal still = inr long
 
 -- a walk that hasn't passed is too long
 pub too_long : (k : WeightedJob) (t : TraceHeader) → k.w0 ≡ t.w0 → budget_of k.job ≡ budget_in t
-    → (walk : Walk) → walk.world.job ≡ k → IsOver 20000 walk → (w : World) → comes k walk.events.items ≡ Legal w
+    → (walk : Walk) → walk.world.job ≡ k → IsOver 8003 walk → (w : World) → comes k walk.events.items ≡ Legal w
     → has_passed root_scope w ≡ false → IsTooLong (program_of k.job) (lists_of k.job) t
 too_long k t weight limits walk job over w legal still =
     let p = program_of k.job in let events = walk.events.items in
@@ -113,8 +113,8 @@ too_long k t weight limits walk job over w legal still =
       legal = subst (λ (n : ℕ). LeadsTo p n (lists_of k.job) (budget_in t) (map event_of events) w) weight
           (subst (λ (b : Budget). LeadsTo p k.w0 (lists_of k.job) b (map event_of events) w) limits legal);
       goes_on = still;
-      so_far = subst (λ (n : ℕ). IsSpent p n (budget_in t) w ⊎ (length events ≡ 20000)) weight
-          (subst (λ (b : Budget). IsSpent p k.w0 b w ⊎ (length events ≡ 20000)) limits
+      so_far = subst (λ (n : ℕ). IsSpent p n (budget_in t) w ⊎ (length events ≡ 8003)) weight
+          (subst (λ (b : Budget). IsSpent p k.w0 b w ⊎ (length events ≡ 8003)) limits
           (spent_or_long k walk job over w legal still));
     }
 

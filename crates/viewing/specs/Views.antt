@@ -326,14 +326,14 @@ module _ (p : Program) (input : List (List ℤ)) where
     pub legal : LeadsTo p h.w0 input (budget_in h) (map event_of es) world
     pub passed : has_passed root_scope world ≡ true
 
-  -- a run has not come to its end after 20,000 events, or a task needs weight from a scope that has issued 2^31
-  -- times
+  -- a run has not come to its end after 8,003 events, more than those of 2,000 steps; or a task needs weight from
+  -- a scope that has issued 2^31 times
   pub record IsTooLong (h : TraceHeader) : Type 0 where
     pub events : List Event
     pub world : World
     pub legal : LeadsTo p h.w0 input (budget_in h) (map event_of events) world
     pub goes_on : has_passed root_scope world ≡ false
-    pub so_far : IsSpent p h.w0 (budget_in h) world ⊎ (length events ≡ 20000)
+    pub so_far : IsSpent p h.w0 (budget_in h) world ⊎ (length events ≡ 8003)
 
   -- what a page of schedules shows: a whole run, whichever; or none, if the run is too long
   pub data AreShown (h : Header) (es : List Event) : Type 0 where

@@ -37,8 +37,9 @@ use types::path::Path;
 use types::scope_id::ScopeId;
 
 /// The number of events after which a run is too long for a page. A run of one worker has at most
-/// five events for each step and three more, so a run of 2,000 steps has fewer.
-const MOST_EVENTS: usize = 20_000;
+/// four events for each step, and three more: a spawn leads to a take, a replenishment and an end,
+/// and the start of a finish to its end. A page shows the schedules of at most 2,000 steps.
+const MOST_EVENTS: usize = 8_003;
 
 /// The weight that a scope issues at a time.
 const W0: u64 = 1_048_576;
