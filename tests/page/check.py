@@ -194,7 +194,8 @@ def check_outcome(browser, case):
 def check_labels(browser, case):
     """The table of labels has the numbers of `cost`, or those of the trace."""
     cost = ask("cost", case.program, "--by-line", *case.input, *case.budget)
-    wanted = re.findall(r"^label (\d+): work (\d+), span (\d+)$", cost, re.M)
+    wanted = re.findall(r"^(?:\d+:\d+ )?label (\d+): work (\d+), span (\d+)", cost, re.M)
+    holds(f"{case.name}: costs of labels", wanted != [] or not cost.startswith("work: "), cost[:200])
     browser.press("#tab-labels")
     rows = browser.run("Array.from(document.querySelectorAll('#labels tbody tr'), r => Array.from(r.cells, c => c.textContent))")
     got = [(a, b.replace(",", ""), c.replace(",", "")) for a, b, c, _ in rows]
@@ -272,6 +273,16 @@ def check_marks(browser, case):
         browser.key("n")
         seen.append(browser.run("view.at"))
     same(f"{name}: executions", seen, browser.run(f"Array.from(itemsOf(run.stepsAt, {label})).slice(0, {min(steps, 5)})"))
+    browser.key("0")
+    drawn = browser.run("Array.from({length: run.lanes}, (_, w) => { readMarks(); const all = []; for (let i = nextMark(w, 0); "
+                        "i < marks.byWorker.start[w + 1]; i++) all.push(marks.items[marks.byWorker.items[i]]); return all; })")
+    same(f"{name}: marks in lanes", sorted(e for own in drawn for e in own)[:5], seen)
+    same(f"{name}: lanes of marks", browser.run(f"{json.dumps(drawn)}.every((own, w) => own.every(e => run.worker[e] === w))"), True)
+    never = browser.run("stepsByLabel.findIndex((steps, label) => label > 0 && steps === 0)")
+    if never > 0:
+        browser.run(f"markLabel({never})")
+        browser.frames()
+        same(f"{name}: no marks of a statement without steps", browser.run("[view.label, marks.items.length]"), [never, 0])
     browser.key("Escape")
     same(f"{name}: nothing marked", browser.count(".head.hit"), 0)
     browser.key("/")
@@ -341,7 +352,7 @@ def check_panels(browser, case):
     for at in sorted({0, n // 3, n // 2, n - 1}):
         browser.run(f"go({at})")
         browser.frames()
-        note = browser.text("#workers-note")
+        note = browser.text("#task-counts")
         counts = [int(x.replace(",", "")) for x in re.findall(r"[\d,]+", note)]
         spawned = 1 + sum(line[9:14] == "spawn" for line in case.table[:at + 1])
         same(f"{name}: tasks at {at}", sum(counts), spawned)
@@ -355,9 +366,34 @@ def check_panels(browser, case):
         same(f"{name}: running tasks at {at}", counts[0], len(hands))
         shown = set(browser.run("Array.from(document.querySelectorAll('#workers [data-worker] .top [data-task]'), e => e.textContent)"))
         same(f"{name}: workers at {at}", shown, hands)
+        check_task_rows(browser, case, at)
         opened = 1 + sum(line[9:13] == "open" for line in case.table[:at + 1])
         passes = sum(line[9:13] == "pass" for line in case.table[:at + 1])
         same(f"{name}: open finishes at {at}", browser.text("#scopes-note"), f"{opened - passes} open")
+
+
+def check_task_rows(browser, case, at):
+    """The tree of tasks after an event has each task that was spawned; those that are live are there by name."""
+    live, ended, children = {"0"}, 0, {}
+    for line in case.table[:at + 1]:
+        kind, task = line[9:18].strip(), line[25:].strip()
+        if kind == "spawn":
+            children[task] = children.get(task, 0) + 1
+            live.add(f"{task}.{children[task]}")
+        elif kind == "end" or kind == "pass" and task == "0#0":
+            live.discard(task.split("#")[0])
+            ended += 1
+    if len(live) > 200:
+        return
+    browser.press("#tab-tasks")
+    rows = browser.run("Array.from(document.querySelectorAll('#tasks .task'), e => [e.querySelector('.link').textContent, "
+                       "e.dataset.state, Number(e.dataset.count)])")
+    same(f"{case.name}: live tasks at {at}", {path for path, state, _ in rows if state != "has ended"}, live)
+    same(f"{case.name}: ended tasks at {at}", sum(n for _, state, n in rows if state == "has ended"), ended)
+    same(f"{case.name}: counts of tasks at {at}", browser.text("#tasks-note"), f"{len(live)} live, {ended} ended")
+    paths = [[int(x) for x in path.split(".")] for path, _, _ in rows]
+    same(f"{case.name}: order of tasks at {at}", paths, sorted(paths))
+    browser.press("#tab-scopes")
 
 
 def check_values(browser, case):
@@ -482,8 +518,9 @@ def check_schedules(browser, case):
         if not any(x.startswith("fault") for x in wanted):
             same(f"{name}: arrays of schedule {seed}", numbers, [x for x in wanted if x.startswith("array ")])
         command = browser.text("#command")
+        given = " --input .." if case.input else ""
         same(f"{name}: command of schedule {seed}", command,
-             f"afx explore {case.program} --choices {','.join(map(str, choices))}")
+             f"afx explore {case.program}{given} --choices {','.join(map(str, choices))}")
         browser.run("byId('schedules').close()")
     check_choosing(browser, case)
     same(f"{name}: nothing wrong in schedules", browser.wrong(), [])

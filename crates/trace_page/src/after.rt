@@ -30,6 +30,13 @@ const count = (n, noun) => num(n) + ' ' + noun + (n === 1 ? '' : 's');
 
 const clamp = (n, least, most) => Math.max(least, Math.min(most, n));
 
+// A list of so many integers, each made of its position. Typed arrays make lists of a function more slowly.
+function integers(n, of) {
+  const list = new Int32Array(n);
+  for (let i = 0; i < n; i++) list[i] = of(i);
+  return list;
+}
+
 // The position of the last number of a sorted list that is at most `limit`, between two positions; `from - 1` if none is.
 function lastUpTo(list, limit, from = 0, to = list.length) {
   let low = from;
@@ -327,7 +334,7 @@ function readTasks(run, tasks) {
   run.row = tasks.row;
   run.children = groups(run.parent, n);
   run.eventsOf = groups(run.task, n);
-  run.stepsAt = groups(labelsOfSteps(run), largest(run.label) + 1);
+  run.stepsAt = groups(labelsOfSteps(run), Math.max(largest(run.label), run.data.places.line.length) + 1);
   run.spawned = new Int32Array(n).fill(-1);
   run.ended = new Int32Array(n).fill(run.events);
   run.depth = new Int32Array(n);
@@ -436,8 +443,8 @@ function readScopes(run, data) {
   run.scopesOf = groups(run.scopeOwner, run.tasks);
   run.scopeNumber = scopes.number;
   run.scopeAt = Int32Array.from(scopes.at);
-  run.scopeParked = Int32Array.from(scopes.parked, at => (at === null ? run.events : at));
-  run.scopePassed = Int32Array.from(scopes.passed, at => (at === null ? run.events : at));
+  run.scopeParked = integers(run.scopes, s => (scopes.parked[s] === null ? run.events : scopes.parked[s]));
+  run.scopePassed = integers(run.scopes, s => (scopes.passed[s] === null ? run.events : scopes.passed[s]));
   run.scopeRow = scopes.row;
   run.finishEvents = [];
   if (run.scopePassed[0] < run.events) {
@@ -545,22 +552,26 @@ function readValues(run, data) {
     run.arrayStart.push(elements);
     elements += array.length;
   }
-  const places = Int32Array.from(data.stores.index, (index, i) => run.arrayStart[data.stores.array[i]] + index);
+  const {array, index} = data.stores;
+  const places = integers(index.length, i => run.arrayStart[array[i]] + index[i]);
   run.storeAt = Int32Array.from(data.stores.at);
   run.storeValue = data.stores.value;
   run.storesOf = groups(places, places.length > 0 ? elements : 0);
-  run.storesBy = groups(Int32Array.from(run.storeAt, e => run.task[e]), run.tasks);
+  run.storesBy = groups(tasksAt(run, run.storeAt), run.tasks);
   run.givenTo = groups(Int32Array.from(data.given.task), run.tasks);
   run.lineAt = Int32Array.from(data.lines.at);
   run.faultAt = Int32Array.from(data.faults.at);
   run.flowAt = Int32Array.from(data.flows.at);
-  run.flowsOf = groups(Int32Array.from(run.flowAt, e => run.task[e]), run.tasks);
+  run.flowsOf = groups(tasksAt(run, run.flowAt), run.tasks);
   run.gatheredAt = Int32Array.from(data.gathered.at);
-  const isLine = new Map();
-  run.lineAt.forEach((e, i) => isLine.set(e, i));
-  run.faultAt.forEach((e, i) => isLine.set(e, i));
-  run.inOrder = isLine.size > 0 ? depthFirst(run, isLine) : [];
+  const tells = new Uint8Array(run.events);
+  for (const e of run.lineAt) tells[e] = 1;
+  for (const e of run.faultAt) tells[e] = 1;
+  run.inOrder = run.lineAt.length + run.faultAt.length > 0 ? depthFirst(run, tells) : [];
 }
+
+// The task of each of some events.
+const tasksAt = (run, events) => integers(events.length, i => run.task[events[i]]);
 
 // Changes by task and slot. Each task has as many groups as its largest slot needs.
 function bySlot(run, at, slots) {
@@ -571,7 +582,7 @@ function bySlot(run, at, slots) {
   }
   const offset = new Int32Array(run.tasks + 1);
   for (let task = 0; task < run.tasks; task++) offset[task + 1] = offset[task] + most[task];
-  const keys = Int32Array.from(at, (e, i) => offset[run.task[e]] + slots[i]);
+  const keys = integers(at.length, i => offset[run.task[at[i]]] + slots[i]);
   return {offset, groups: groups(keys, offset[run.tasks])};
 }
 
@@ -602,7 +613,7 @@ function depthFirst(run, wanted) {
     if (run.kind[e] === SPAWN) {
       const child = run.children.items[top.child++];
       stack.push({task: child, next: run.eventsOf.start[child], child: run.children.start[child]});
-    } else if (wanted.has(e)) {
+    } else if (wanted[e] === 1) {
       order.push(e);
     }
   }
@@ -1154,6 +1165,7 @@ function workerBar(pen, worker, x, y, width, height, alpha) {
 const laneHeight = run.lanes <= 6 ? 36 : run.lanes <= 12 ? 26 : run.lanes <= 24 ? 18 : 12;
 const SIGNS = ['▷', '⇐', '', '◆', '[', '+', '‖', ']', '◇', '▷'];
 const MOST_ARCS = 300;
+const MANY_ARCS = 60;        // more arcs than these in view are drawn thinner
 
 // ---- the overview
 
@@ -1168,7 +1180,7 @@ function drawOverview() {
   keepHeight(element, height);
   const [base, top] = element.children;
   const plot = width - GUTTER - EDGE;
-  if (view.changed & (LOOK | WINDOW)) drawOverviewBase(penOf(base, width, height), plot, height);
+  if (view.changed & LOOK) drawOverviewBase(penOf(base, width, height), plot, height);
   const pen = penOf(top, width, height);
   const x = event => GUTTER + event / SPAN * plot;
   tint(pen, colors.cursor, 0.12);
@@ -1269,12 +1281,12 @@ function drawLanes() {
     pen.clip();
     drawSpells(pen, width);
     if (perEvent() < 1.5) drawShares(pen, width); else drawEvents(pen);
-    drawNames(pen, width);
     drawSteals(pen, width);
+    drawNames(pen, width);
     drawMarks(pen);
     pen.restore();
   }
-  drawLaneTop(penOf(top, width, height), width, height);
+  drawLaneTop(penOf(top, width, height), width);
 }
 
 function drawTicks(pen, y, width) {
@@ -1397,7 +1409,7 @@ function drawEvents(pen) {
     const width = Math.max(1, size - (size > 4 ? 1 : 0.4));
     const solid = takesStep(run.kind[e]);
     tint(pen, colorOf(worker), solid ? 0.95 : 0.8);
-    if (solid) pen.fillRect(x, y + 8, width, laneHeight - 14);
+    if (solid) pen.fillRect(x, y + (laneHeight < 26 ? 3 : 8), width, laneHeight - (laneHeight < 26 ? 6 : 14));
     else pen.fillRect(x, y + laneHeight / 2 - 2, width, 4);
     if (view.chain && run.chain[e]) {
       tint(pen, colors.gold, 1);
@@ -1469,8 +1481,10 @@ function drawSteals(pen, width) {
     pen.globalAlpha = 1;
     return;
   }
+  const many = last - first > MANY_ARCS;
   pen.strokeStyle = pen.fillStyle = colors.ink;
-  pen.lineWidth = 1.5;
+  pen.lineWidth = many ? 1 : 1.5;
+  pen.globalAlpha = many ? 0.55 : 1;
   for (let i = first; i < last; i++) {
     const e = run.steals[i];
     const x = xOf(e + 0.5);
@@ -1483,42 +1497,58 @@ function drawSteals(pen, width) {
     pen.quadraticCurveTo(x - Math.min(14, 8 + perEvent()), (y0 + y1) / 2, x, y1 - down * 3);
     pen.stroke();
     pen.beginPath();
-    pen.arc(x, y0, 2.5, 0, 7);
+    pen.arc(x, y0, many ? 1.5 : 2.5, 0, 7);
     pen.fill();
+    const size = many ? 0.7 : 1;
     pen.beginPath();
     pen.moveTo(x, y1);
-    pen.lineTo(x - 4, y1 - down * 7);
-    pen.lineTo(x + 3.5, y1 - down * 7);
+    pen.lineTo(x - 4 * size, y1 - down * 7 * size);
+    pen.lineTo(x + 3.5 * size, y1 - down * 7 * size);
     pen.fill();
+  }
+  pen.globalAlpha = 1;
+}
+
+// The executions of the marked label by workers.
+const marks = {label: 0, items: null, byWorker: null};
+
+function readMarks() {
+  if (marks.label === view.label) return;
+  marks.label = view.label;
+  marks.items = itemsOf(run.stepsAt, view.label);
+  marks.byWorker = groups(integers(marks.items.length, i => run.worker[marks.items[i]]), run.lanes);
+}
+
+// A triangle below each execution of the marked label. Of those at one pixel, one is drawn.
+function drawMarks(pen) {
+  if (view.label === 0) return;
+  readMarks();
+  tint(pen, colors.hit, 1);
+  for (let worker = 0; worker < run.lanes; worker++) {
+    const y = (worker + 1) * laneHeight - 2;
+    const end = marks.byWorker.start[worker + 1];
+    for (let i = nextMark(worker, view.from); i < end;) {
+      const e = marks.items[marks.byWorker.items[i]];
+      if (e >= view.to) break;
+      const x = xOf(e + 0.5);
+      pen.beginPath();
+      pen.moveTo(x, y - 7);
+      pen.lineTo(x - 4, y);
+      pen.lineTo(x + 4, y);
+      pen.fill();
+      i = Math.max(i + 1, nextMark(worker, eventAt(x + 2) - 0.5));
+    }
   }
 }
 
-// Executions of the marked label: a triangle above each of them.
-function drawMarks(pen) {
-  if (view.label === 0) return;
-  const all = run.stepsAt;
-  const low = all.start[view.label];
-  const high = all.start[view.label + 1];
-  tint(pen, colors.hit, 1);
-  const last = new Float64Array(run.lanes).fill(-9);
-  for (let i = Math.max(low, lastUpTo(all.items, view.from, low, high)); i < high && all.items[i] < view.to; i++) {
-    const e = all.items[i];
-    const worker = run.worker[e];
-    if (worker < 0 || e < view.from) continue;
-    const x = xOf(e + 0.5);
-    if (x - last[worker] < 2) continue;
-    last[worker] = x;
-    const y = (worker + 1) * laneHeight - 2;
-    pen.beginPath();
-    pen.moveTo(x, y - 7);
-    pen.lineTo(x - 4, y);
-    pen.lineTo(x + 4, y);
-    pen.fill();
-  }
+// The position of a worker's first execution of the marked label from an event on.
+function nextMark(worker, event) {
+  const before = lastOf(marks.byWorker, worker, marks.items, Math.ceil(event) - 1);
+  return before < 0 ? marks.byWorker.start[worker] : before + 1;
 }
 
 // What moves with the cursor: names and tasks of workers, the selected task, the cursor, the pointer.
-function drawLaneTop(pen, width, height) {
+function drawLaneTop(pen, width) {
   if (view.task >= 0) drawSelected(pen, width);
   for (let worker = 0; worker < run.lanes; worker++) {
     const y = worker * laneHeight + laneHeight / 2;
@@ -1529,7 +1559,7 @@ function drawLaneTop(pen, width, height) {
     const text = spell >= 0 ? pathOf(run, run.spellTask[spell]) : 'idle';
     pen.fillText(cut(text, 12), 38, y + 0.5);
   }
-  drawCursor(pen, width, height);
+  drawCursor(pen, width, run.lanes * laneHeight);
 }
 
 function drawChip(pen, worker, y) {
@@ -1899,8 +1929,7 @@ const MOST_LINES_AT_ONCE = 1500;    // of a longer text only the lines around th
 
 const textLines = program.text.replace(/\\n$/, '').split('\\n');
 const firstLabels = labelsByLine();
-const stepsByLabel = Array.from({length: program.labels + 1}, (_, label) =>
-  (label + 1 < run.stepsAt.start.length ? run.stepsAt.start[label + 1] - run.stepsAt.start[label] : 0));
+const stepsByLabel = Array.from({length: program.labels + 1}, (_, label) => itemsOf(run.stepsAt, label).length);
 const mostSteps = largest(stepsByLabel);
 
 const heads = [];           // for each label the elements of its head, on the lines that are there
@@ -2164,11 +2193,10 @@ function drawWorkers() {
     else if (state === RUNS) runs++;
   }
   const begun = lastUpTo(run.spawned, view.at) + 1;
-  byId('workers-note').textContent = `${num(runs)} run · ${num(queued)} queued · ${num(waiting.length)} wait · ` +
-    `${num(begun - live.length)} ended`;
+  const counts = `${num(runs)} run · ${num(queued)} queued · ${num(waiting.length)} wait · ${num(begun - live.length)} ended`;
   const list = (tasks, most) => tasks.slice(-most).flatMap(task => [taskLink(task), ' '])
     .concat(tasks.length > most ? [`and ${num(tasks.length - most)} more`] : []);
-  const rows = [];
+  const rows = [make('div', {class: 'item', id: 'task-counts'}, small(counts))];
   for (let worker = 0; worker < run.lanes; worker++) {
     const spell = spellAt(run, worker, view.at);
     const step = spell < 0 ? NONE : lastStep(run, run.spellTask[spell], view.at);
@@ -2182,29 +2210,77 @@ function drawWorkers() {
   fill(byId('workers'), ...rows);
 }
 
-// ---- the tree of live tasks
+// ---- the tree of tasks
 
 const MOST_TASKS = 200;
 const SIGN_OF = ['·', '≡', '▶', '‖', '✓'];
 
+// The tasks that are there after an event, in the order of their paths: a row for each task that is live or has live tasks
+// below it, and one for neighbours that have ended with all tasks below them.
+function taskRows(event) {
+  const begun = lastUpTo(run.spawned, event) + 1;
+  const live = new Int32Array(begun);
+  const size = new Int32Array(begun).fill(1);
+  for (let task = begun - 1; task >= 0; task--) {
+    if (!run.isOver[task] || run.ended[task] > event) live[task]++;
+    if (task === 0) break;
+    live[run.parent[task]] += live[task];
+    size[run.parent[task]] += size[task];
+  }
+  const rows = [];
+  const stack = [0];
+  while (stack.length > 0) {
+    const task = stack.pop();
+    const before = rows[rows.length - 1];
+    if (live[task] > 0) {
+      rows.push({task, last: task, ended: 0});
+      const {start, items} = run.children;
+      for (let i = start[task + 1] - 1; i >= start[task]; i--) if (items[i] < begun) stack.push(items[i]);
+    } else if (before && before.ended > 0 && run.parent[before.task] === run.parent[task]) {
+      before.last = task;
+      before.ended += size[task];
+    } else {
+      rows.push({task, last: task, ended: size[task]});
+    }
+  }
+  return rows;
+}
+
 function drawTasks() {
-  const live = liveTasks(run, view.at).sort((a, b) => treeRow[a] - treeRow[b]);
-  const at = lastUpTo(live.map(task => treeRow[task]), treeRow[taskAtCursor()]);
-  const first = clamp(at - MOST_TASKS / 2, 0, Math.max(0, live.length - MOST_TASKS));
-  const rows = live.slice(first, first + MOST_TASKS).map(task => {
-    const {state, worker} = whereIs(run, task, view.at);
-    const label = state === RUNS ? labelOfTask(task, view.at) : 0;
-    const row = make('div', {class: task === taskAtCursor() ? 'task now' : 'task', 'data-state': STATES[state]},
-      make('span', {class: 'sign'}, SIGN_OF[state]), taskLink(task), small(STATES[state] + (state === QUEUED || state === RUNS
-        ? ', worker ' + worker : '')), label > 0 ? make('code', null, `${label} ${statement(program, label)}`) : null);
-    row.style.paddingLeft = 12 + 10 * Math.min(run.depth[task], 12) + 'px';
-    row.firstChild.style.color = colorOf(worker);
-    return row;
+  const all = taskRows(view.at);
+  const at = lastUpTo(all.map(row => treeRow[row.task]), treeRow[taskAtCursor()]);
+  const first = clamp(at - MOST_TASKS / 2, 0, Math.max(0, all.length - MOST_TASKS));
+  const rows = all.slice(first, first + MOST_TASKS).map((row, i) => {
+    const element = row.ended > 0 ? endedRow(row) : liveRow(row.task);
+    if (first + i === at) element.classList.add('now');
+    element.style.paddingLeft = 12 + 10 * Math.min(run.depth[row.task], 12) + 'px';
+    return element;
   });
+  const live = all.reduce((sum, row) => sum + (row.ended === 0 && whereIs(run, row.task, view.at).state !== ENDED), 0);
   const begun = lastUpTo(run.spawned, view.at) + 1;
-  const more = live.length - rows.length;
-  fill(byId('tasks'), ...rows, more > 0 ? small(`and ${num(more)} more before and after these`) : null);
-  byId('tasks-note').textContent = `${num(live.length)} live, ${num(begun - live.length)} ended`;
+  const more = all.length - rows.length;
+  fill(byId('tasks'), ...rows, more > 0 ? small(`and ${num(more)} more rows before and after these`) : null);
+  byId('tasks-note').textContent = `${num(live)} live, ${num(begun - live)} ended`;
+}
+
+function liveRow(task) {
+  const {state, worker} = whereIs(run, task, view.at);
+  const label = state === RUNS ? labelOfTask(task, view.at) : 0;
+  const row = make('div', {class: 'task', 'data-state': STATES[state], 'data-count': '1'},
+    make('span', {class: 'sign'}, SIGN_OF[state]), taskLink(task), small(STATES[state] + (state === QUEUED || state === RUNS
+      ? ', worker ' + worker : '')), label > 0 ? make('code', null, `${label} ${statement(program, label)}`) : null);
+  row.firstChild.style.color = state === ENDED ? colors.soft : colorOf(worker);
+  return row;
+}
+
+// Tasks that have ended with all below them.
+function endedRow({task, last, ended}) {
+  const below = ended > 1 ? `${num(ended)} have ended` : 'has ended';
+  const row = make('div', {class: 'task', 'data-state': STATES[ENDED], 'data-count': String(ended)},
+    make('span', {class: 'sign'}, SIGN_OF[ENDED]), taskLink(task), last === task ? null : small('to '),
+    last === task ? null : taskLink(last), small(below));
+  row.firstChild.style.color = colors.soft;
+  return row;
 }
 
 // ---- values of the task at the cursor
@@ -2508,7 +2584,7 @@ function stepRow(event, i) {
   const effect = effectOf(run, program, event);
   const last = i === schedule.events.length - 1;
   return make('div', {class: last ? 'event now' : 'event', 'data-back': String(i + 1), title: 'go back to this step'},
-    make('span', {class: 'mono'}, String(i)), make('span', null, String(schedule.choices[i])),
+    make('span', {class: 'mono'}, String(i)), make('span', {class: 'choice-number'}, String(schedule.choices[i])),
     make('span', null, [brief(run, program, event).replace(/;$/, '')].concat(effect).join('; ')));
 }
 
@@ -2558,10 +2634,17 @@ function drawSchedule() {
   const told = toldIn(tree);
   fill(byId('reached'), ...run.data.arrays.map((array, i) => arrayRow(array, i, values)), ...told.map(toldRow),
     tree.done ? small('Each schedule of this program comes to this outcome.') : null);
-  byId('command').textContent = `afx explore ${program.name} --choices ${schedule.choices.join(',')}`;
+  byId('command').textContent = commandNow();
   byId('undo').disabled = schedule.choices.length === 0;
   byId('random').disabled = byId('leftmost').disabled = tree.done;
   keepLink();
+}
+
+// The command that takes these choices. A page doesn't know the name of the input.
+function commandNow() {
+  const given = run.data.arrays.some(array => array.initial.length > 0) ? ' --input ..' : '';
+  const choices = schedule.choices.length > 0 ? ' --choices ' + schedule.choices.join(',') : '';
+  return `afx explore ${program.name}${given}${choices}`;
 }
 
 const CHOOSING = {
