@@ -307,6 +307,7 @@ function drawSteals(pen, width) {
   const first = Math.max(0, lastUpTo(run.steals, view.from));
   const last = lastUpTo(run.steals, view.to) + 1;
   pen.globalAlpha = 1;
+  byId('steals-note').textContent = last - first > MOST_ARCS ? 'marks at the top: steals' : 'arrows: steals';
   if (last - first > MOST_ARCS) {
     const counts = new Int32Array(Math.ceil((width - GUTTER) / 3) + 1);
     let most = 1;

@@ -1,6 +1,6 @@
 // What is shown: the cursor, the part of the events in view, marks, colours; and the link that restores it.
 
-const run = readRun(readData(JSON.parse(byId('data').textContent)));
+const run = readRun(readData(byId('data').textContent));
 const program = readProgram(run.data);
 
 const view = {

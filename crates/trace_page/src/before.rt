@@ -5,7 +5,7 @@ pub const BEFORE: &str = "<!doctype html>
 <html lang=\"en\">
 <head>
 <meta charset=\"utf-8\">
-<meta http-equiv=\"Content-Security-Policy\" content=\"default-src 'none'; script-src 'sha256-+IxuAJZflPVifdWPrRlck/jpGa5ExSAMVmXV57UUCic='; style-src 'sha256-p7zXVitUQ+pEb1t1T0UVlndHR1yue4GWKdlop4UbWcc='; base-uri 'none'; form-action 'none'; require-trusted-types-for 'script'; trusted-types 'none'\">
+<meta http-equiv=\"Content-Security-Policy\" content=\"default-src 'none'; script-src 'sha256-zG8ltuofiQffGMzev5s5uKc7TdbXARelG2pvcI4ieZY='; style-src 'sha256-p7zXVitUQ+pEb1t1T0UVlndHR1yue4GWKdlop4UbWcc='; base-uri 'none'; form-action 'none'; require-trusted-types-for 'script'; trusted-types 'none'\">
 <meta name=\"viewport\" content=\"width=device-width, initial-scale=1\">
 <meta name=\"referrer\" content=\"no-referrer\">
 <title>afx trace</title>
@@ -249,7 +249,7 @@ kbd {
 <div id=\"labels\" class=\"scroll\" tabindex=\"0\" role=\"tabpanel\" aria-labelledby=\"tab-labels\" hidden></div>
 </section>
 <div class=\"right\">
-<section class=\"panel\" aria-label=\"Workers over events\"><h2>Workers <small><span id=\"range\"></span> · arrows: steals</small></h2>
+<section class=\"panel\" aria-label=\"Workers over events\"><h2>Workers <small><span id=\"range\"></span> · <span id=\"steals-note\"></span></small></h2>
 <div class=\"drawing\" id=\"over\"><canvas></canvas><canvas></canvas></div>
 <div class=\"lanes\"><div class=\"drawing\" id=\"lanes\" tabindex=\"0\" role=\"slider\" aria-label=\"Event under the cursor\" aria-valuemin=\"0\"><canvas></canvas><canvas></canvas></div></div></section>
 <section class=\"panel\" aria-label=\"Tasks over events\"><h2>Tasks <span class=\"choice\"><button id=\"rows-tree\" type=\"button\" title=\"tasks in the order of their paths (r)\">tree</button><button id=\"rows-packed\" type=\"button\" title=\"tasks in as few rows as possible (r)\">packed</button><button id=\"rows-finishes\" type=\"button\" title=\"finishes (r)\">finishes</button></span><small id=\"rows-note\"></small></h2>
