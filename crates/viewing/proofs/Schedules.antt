@@ -28,7 +28,7 @@ use Rattle.commands.specs.Answers.{Done, IsExplored, TellsNotBegun}
 use Rattle.commands.proofs.Answering.{IsOther, not_begun_other, other_failure, passed_on}
 use Rattle.trace_page.specs.Pages.{IsPage}
 use Rattle.viewing.specs.Views.{AnswersSchedules, AreShown, AreWhole, ExplainsSchedules, IsSchedulesPage, IsTooLong}
-use Rattle.viewing.specs.Views.{ShowsSchedules, a_run, budget_in, no_run, picture_name, runless_header, schedule_header, traced_of}
+use Rattle.viewing.specs.Views.{ShowsSchedules, budget_in, picture_name, runless_header, schedule_header, traced_of}
 use Rattle.viewing.specs.declared.traces.JudgedTrace.{JudgedTrace}
 use Rattle.viewing.proofs.Viewing.{comes_same}
 
@@ -124,7 +124,7 @@ pub run_shown : (p : Program) (input : List (List ℤ)) (h : Header) (found : Op
     → MatchOption found (IsTooLong p input schedule_header) (λ es. AreWhole p input schedule_header es.items)
     → header_of h ≡ schedule_header → AreShown p input h es.items
 run_shown p input h found es is are settings =
-    a_run settings
+    AreShown.a_run settings
     (subst (λ (o : Option (Vec Event Global)). MatchOption o (IsTooLong p input schedule_header) (λ es. AreWhole p input schedule_header es.items))
     is are)
 
@@ -132,6 +132,6 @@ pub no_run_shown : (p : Program) (input : List (List ℤ)) (h : Header) (found :
     → found ≡ None → MatchOption found (IsTooLong p input schedule_header) (λ es. AreWhole p input schedule_header es.items)
     → header_of h ≡ runless_header → es ≡ [] → AreShown p input h es
 no_run_shown p input h found es is are settings none =
-    no_run settings none
+    AreShown.no_run settings none
     (subst (λ (o : Option (Vec Event Global)). MatchOption o (IsTooLong p input schedule_header) (λ es. AreWhole p input schedule_header es.items))
     is are)

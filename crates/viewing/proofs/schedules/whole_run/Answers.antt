@@ -1,6 +1,7 @@
-use Rattle.std.proofs.Common.{◌∙◌, ap, refl, sym}
+use Rattle.std.proofs.Common.{◌∙◌, ap, map, refl, sym}
 use Rattle.types.specs.Translation.{input as lists_in}
 use Rattle.types.specs.Typed.{code_of}
+use Rattle.events.specs.Events.{event as event_of}
 use Rattle.event_worlds.specs.World.{has_passed}
 use Rattle.trace_text.specs.Headers.{TraceHeader}
 use Rattle.viewing.specs.Views.{budget_in}
@@ -15,7 +16,8 @@ returns-then-passed c =
     record {
       world = world;
       legal = led_under (code_of c.args.accepted.now.typed) (lists_in c.args.input.now) c.header_of_run-header.result _
-          c.header_of_run-header.ensures _ world (sym (comes_same _ _ c.in-Some.ensures.1 _ _ refl) ∙ replayed.legal);
+          c.header_of_run-header.ensures (map event_of c.in-Ok.walk.events.items) world
+          (sym (comes_same _ _ c.in-Some.ensures.1 _ _ refl) ∙ replayed.legal);
       passed = ap (λ id. has_passed id world) (sym c.scope_of_main-outermost.ensures)
           ∙ sym (c.passed.ensures world replayed.shows) ∙ c.if-passed.true;
     }
