@@ -102,10 +102,10 @@ spent_or_long k walk same (inl stopped) w legal still =
 spent_or_long k walk same (inr long) w legal still = inr long
 
 -- a walk that hasn't passed is too long
-pub too_long : (k : WeightedJob) (t : TraceHeader) → k.w0 ≡ t.w0 → budget_of k.job ≡ budget_in t
-    → (walk : Walk) → walk.world.job ≡ k → IsOver 8003 walk → (w : World) → comes k walk.events.items ≡ Legal w
+pub too_long : (k : WeightedJob) (walk : Walk) → walk.world.job ≡ k → (t : TraceHeader) → k.w0 ≡ t.w0
+    → budget_of k.job ≡ budget_in t → IsOver 8003 walk → (w : World) → comes k walk.events.items ≡ Legal w
     → has_passed root_scope w ≡ false → IsTooLong (program_of k.job) (lists_of k.job) t
-too_long k t weight limits walk job over w legal still =
+too_long k walk job t weight limits over w legal still =
     let p = program_of k.job in let events = walk.events.items in
     record {
       events = events;
