@@ -78,6 +78,10 @@ begins "$room/run.svg" '<svg '
 begins "$room/run.html" '<!doctype html>'
 begins "$room/steps.html" '<!doctype html>'
 begins "$room/run.json" '{"traceEvents":['
+# Standard output by its name.
+$afx view examples/two_arrays.afx "$room/run.trace" --html /dev/stdout >"$room/told.html"
+begins "$room/told.html" '<!doctype html>'
+cmp -s "$room/run.html" "$room/told.html" || { failed=$((failed + 1)); echo "a page on standard output differs"; }
 
 # `bench` reads the clock before and after each run: ten million steps take more than a millisecond.
 echo 'main { var k = 0; while k < 5000000 { k = k + 1; } }' >"$room/slow.afx"
