@@ -356,6 +356,10 @@ def check_zoom(browser, case):
     same(f"{name}: a link restores the view",
          browser.run("[view.at, Math.round(view.from), Math.round(view.to), view.label, view.task, view.chain, view.rows]"), before)
     same(f"{name}: a link restores the words", browser.text("#say"), said)
+    browser.open(case.page, f"#at={n - 2}&rows=tree")
+    browser.frames(3)
+    row = browser.run("[rowOf(taskAtCursor()) * ROW, byId('rows').scrollTop, sizes.rows, sizes.rowsTop]")
+    holds(f"{name}: a link shows the row of the cursor's task", row[1] == row[3] and row[1] <= row[0] <= row[1] + row[2] - 18, row)
     browser.key("Escape")
 
 

@@ -1,6 +1,6 @@
 // The overview of the whole run, and the lanes of workers.
 
-const laneHeight = run.lanes <= 6 ? 36 : run.lanes <= 12 ? 26 : run.lanes <= 24 ? 18 : 12;
+const laneHeight = run.lanes <= 6 ? 36 : run.lanes <= 12 ? 26 : run.lanes <= 24 ? 18 : 13;
 const SIGNS = ['▷', '⇐', '', '◆', '[', '+', '‖', ']', '◇', '▷'];
 const MOST_ARCS = 300;
 const MANY_ARCS = 60;        // more arcs than these in view are drawn thinner
@@ -393,7 +393,7 @@ function drawLaneTop(pen, width) {
     const y = worker * laneHeight + laneHeight / 2;
     drawChip(pen, worker, y);
     const spell = spellAt(run, worker, view.at);
-    pen.font = CODE;
+    pen.font = laneHeight < 16 ? TINY_CODE : CODE;
     pen.fillStyle = spell >= 0 ? colors.ink : colors.soft;
     const text = spell >= 0 ? pathOf(run, run.spellTask[spell]) : 'idle';
     pen.fillText(cut(text, 12), 38, y + 0.5);
@@ -409,7 +409,7 @@ function drawChip(pen, worker, y) {
   pen.roundRect(12, y - height / 2, width, height, 4);
   pen.fill();
   pen.fillStyle = colors.on;
-  pen.font = '700 11px system-ui, "DejaVu Sans", sans-serif';
+  pen.font = `700 ${laneHeight < 16 ? 10 : 11}px system-ui, "DejaVu Sans", sans-serif`;
   pen.textAlign = 'center';
   pen.fillText(worker, 12 + width / 2, y + 0.5);
   pen.textAlign = 'left';

@@ -1159,6 +1159,7 @@ function follow(link) {
   const number = name => (/^[0-9]{1,9}$/.test(parts.get(name) || '') ? Number(parts.get(name)) : null);
   if (parts.has('theme')) readColors(parts.get('theme') === 'dark');
   if (['tree', 'packed', 'finishes'].includes(parts.get('rows'))) view.rows = parts.get('rows');
+  keepHeight(byId('tall'), heightOfRows());
   view.chain = parts.get('chain') === '1';
   view.task = parts.has('task') ? taskAt(run, parts.get('task')) : NONE;
   const label = number('label');
@@ -1203,6 +1204,7 @@ const TEXT = '12px system-ui, \"DejaVu Sans\", sans-serif';
 const SMALL = '11px system-ui, \"DejaVu Sans\", sans-serif';
 const BOLD = '600 11px system-ui, \"DejaVu Sans\", sans-serif';
 const CODE = '12px ui-monospace, \"DejaVu Sans Mono\", monospace';
+const TINY_CODE = '10px ui-monospace, \"DejaVu Sans Mono\", monospace';
 
 const perEvent = () => (sizes.lanes - GUTTER - EDGE) / (view.to - view.from);
 const xOf = event => GUTTER + (event - view.from) * perEvent();
@@ -1226,7 +1228,7 @@ function workerBar(pen, worker, x, y, width, height, alpha) {
 }
 // The overview of the whole run, and the lanes of workers.
 
-const laneHeight = run.lanes <= 6 ? 36 : run.lanes <= 12 ? 26 : run.lanes <= 24 ? 18 : 12;
+const laneHeight = run.lanes <= 6 ? 36 : run.lanes <= 12 ? 26 : run.lanes <= 24 ? 18 : 13;
 const SIGNS = ['▷', '⇐', '', '◆', '[', '+', '‖', ']', '◇', '▷'];
 const MOST_ARCS = 300;
 const MANY_ARCS = 60;        // more arcs than these in view are drawn thinner
@@ -1619,7 +1621,7 @@ function drawLaneTop(pen, width) {
     const y = worker * laneHeight + laneHeight / 2;
     drawChip(pen, worker, y);
     const spell = spellAt(run, worker, view.at);
-    pen.font = CODE;
+    pen.font = laneHeight < 16 ? TINY_CODE : CODE;
     pen.fillStyle = spell >= 0 ? colors.ink : colors.soft;
     const text = spell >= 0 ? pathOf(run, run.spellTask[spell]) : 'idle';
     pen.fillText(cut(text, 12), 38, y + 0.5);
@@ -1635,7 +1637,7 @@ function drawChip(pen, worker, y) {
   pen.roundRect(12, y - height / 2, width, height, 4);
   pen.fill();
   pen.fillStyle = colors.on;
-  pen.font = '700 11px system-ui, \"DejaVu Sans\", sans-serif';
+  pen.font = `700 ${laneHeight < 16 ? 10 : 11}px system-ui, \"DejaVu Sans\", sans-serif`;
   pen.textAlign = 'center';
   pen.fillText(worker, 12 + width / 2, y + 0.5);
   pen.textAlign = 'left';

@@ -5,7 +5,7 @@ pub const BEFORE: &str = "<!doctype html>
 <html lang=\"en\">
 <head>
 <meta charset=\"utf-8\">
-<meta http-equiv=\"Content-Security-Policy\" content=\"default-src 'none'; script-src 'sha256-zG8ltuofiQffGMzev5s5uKc7TdbXARelG2pvcI4ieZY='; style-src 'sha256-p7zXVitUQ+pEb1t1T0UVlndHR1yue4GWKdlop4UbWcc='; base-uri 'none'; form-action 'none'; require-trusted-types-for 'script'; trusted-types 'none'\">
+<meta http-equiv=\"Content-Security-Policy\" content=\"default-src 'none'; script-src 'sha256-FVSaIHvdB9zslvTd7bHFbLKVXTLhiD8ob6fyMBZrP9M='; style-src 'sha256-p7zXVitUQ+pEb1t1T0UVlndHR1yue4GWKdlop4UbWcc='; base-uri 'none'; form-action 'none'; require-trusted-types-for 'script'; trusted-types 'none'\">
 <meta name=\"viewport\" content=\"width=device-width, initial-scale=1\">
 <meta name=\"referrer\" content=\"no-referrer\">
 <title>afx trace</title>
