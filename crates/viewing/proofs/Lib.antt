@@ -1,4 +1,4 @@
 pub mod Remarked
-pub mod Schedules
+pub mod Scheduled
 pub mod Viewing
 pub mod Written

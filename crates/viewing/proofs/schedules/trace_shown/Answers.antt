@@ -1,6 +1,6 @@
 use Rattle.types.specs.Translation.{input as lists_in}
 use Rattle.types.specs.Typed.{code_of}
-use Rattle.viewing.proofs.Schedules.{no_run_shown, run_shown}
+use Rattle.viewing.proofs.Scheduled.{no_run_shown, run_shown}
 use Rattle.viewing.proofs.schedules.trace_shown.Goals as goal
 
 pub returns-in-Some : goal.returns-in-Some

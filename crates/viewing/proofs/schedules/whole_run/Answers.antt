@@ -5,7 +5,7 @@ use Rattle.events.specs.Events.{event as event_of}
 use Rattle.event_worlds.specs.World.{has_passed}
 use Rattle.trace_text.specs.Headers.{TraceHeader}
 use Rattle.viewing.specs.Views.{budget_in, schedule_header}
-use Rattle.viewing.proofs.Schedules.{led_under, too_long}
+use Rattle.viewing.proofs.Scheduled.{led_under, too_long}
 use Rattle.viewing.proofs.Viewing.{comes_same}
 use Rattle.viewing.proofs.schedules.whole_run.Goals as goal
 

@@ -6,7 +6,7 @@ use Rattle.command_line.specs.Requests.{settings}
 use Rattle.commands.specs.declared.question.Begun.{Begun}
 use Rattle.commands.proofs.Answering.{answered, begun_so}
 use Rattle.viewing.specs.Views.{AnswersSchedules, ExplainsSchedules, IsSchedulesPage, ShowsSchedules, picture_name}
-use Rattle.viewing.proofs.Schedules.{schedules_not_begun, schedules_page, schedules_unwritten}
+use Rattle.viewing.proofs.Scheduled.{schedules_not_begun, schedules_page, schedules_unwritten}
 use Rattle.viewing.proofs.Written.{unwritten, wrote, wrote_anyway}
 use Rattle.viewing.proofs.schedules.write_schedules.Goals as goal
 
