@@ -3,7 +3,8 @@
 
     check.py [--pictures FOLDER] [--only NAME..]
 
-AFX names the program. WRITER is a command that writes a page: it gets `PROGRAM TRACE [--input FILE] --html OUT`.
+AFX names the program. WRITER is a command that writes a page: it gets `PROGRAM TRACE [--input FILE] --html OUT`. EXPLORER is
+one that writes a page of schedules: it gets `PROGRAM [--input FILE] --html OUT`.
 Prints each wrong answer; the last line is `N passed, M failed`.
 """
 import json
@@ -23,6 +24,7 @@ HERE = pathlib.Path("tests/page")
 os.chdir(TOP)
 AFX = os.environ.get("AFX", str(TOP / "afx")).split()
 WRITER = os.environ.get("WRITER", "").split() or AFX + ["view"]
+EXPLORER = os.environ.get("EXPLORER", "").split() or AFX + ["explore"]
 SECONDS = float(os.environ.get("PAGE_SECONDS", "3"))
 FRAMES = float(os.environ.get("PAGE_FRAMES", "30"))
 passed, failed = 0, 0
@@ -60,6 +62,18 @@ class Case:
         self.table = ask("view", program, trace, *self.input).split("\n")[:-1]
         summary = ask("view", program, trace, "--summary", *self.input).split("\n")[:-1]
         self.summary = dict(line.split(": ") for line in summary)
+
+
+class Explored:
+    """A program, and a page of its schedules."""
+
+    def __init__(self, folder, name, program, given=None):
+        self.name, self.program = name, program
+        self.input = ["--input", str(given)] if given else []
+        self.page = folder / f"{name}.html"
+        got = subprocess.run(EXPLORER + [str(program)] + self.input + ["--html", str(self.page)], capture_output=True, text=True)
+        if got.returncode != 0 or got.stdout != "":
+            sys.exit(f"no page of schedules of {program}: {got.stdout}{got.stderr}")
 
 
 # What the page knows of each event, in the form of the table that `view` prints.
@@ -561,6 +575,51 @@ def check_choosing(browser, case):
     browser.run("byId('schedules').close()")
 
 
+STEPS = "main {\n  var i = 0;\n  while i < %d { i = i + 1; }\n}\n"
+
+
+def check_explored(browser, folder):
+    """A page of `explore --html` opens with its schedules, which are those of `explore`. It says why it has none."""
+    long, endless = folder / "steps.afx", folder / "endless.afx"
+    long.write_text(STEPS % 1100)
+    endless.write_text("main { while true { finish { async { skip; } } } }\n")
+    for program, given in (("examples/two_arrays.afx", None), ("examples/doubling.afx", "examples/doubling.json"),
+                           (HERE / "faults.afx", None)):
+        made = Explored(folder, pathlib.Path(program).stem, program, given)
+        name = f"explored {made.name}"
+        browser.open(made.page)
+        same(f"{name}: opens with its schedules", browser.run("byId('schedules').open"), True)
+        same(f"{name}: nothing is chosen", browser.run("schedule.choices"), [])
+        same(f"{name}: the first choice has the focus", browser.run("document.activeElement.id"), "tree")
+        same(f"{name}: title", browser.text("h1"), f"afx explore {program}")
+        browser.key("0")
+        same(f"{name}: a step by key", browser.run("schedule.choices"), [0])
+        browser.key("Backspace")
+        browser.press("#tree [data-choice='0']")
+        same(f"{name}: a step by click", browser.text("#command").split(" ")[-2:], ["--choices", "0"])
+        made.summary = {"steps": browser.run("String(run.summary.steps)")}
+        made.name = name
+        run_of = ask("run", program, *made.input, "--workers", "1").split("\n")[:-1]
+        browser.run("byId('schedules').close()")
+        browser.key("End")
+        browser.press("#tab-output")
+        same(f"{name}: output of its run", browser.texts("#output .output"), run_of)
+        check_schedules(browser, made)
+    for program, why in ((long, r"The run takes 2,2\d\d steps\. At most 2,000 can be explored\."),
+                         (endless, r"The run takes more than 2,000 steps\.")):
+        made = Explored(folder, program.stem, program)
+        browser.open(made.page)
+        told = browser.text("#schedules-why")
+        holds(f"explored {made.name}: says that it is too long", re.fullmatch(why, told), told)
+        same(f"explored {made.name}: no choices", browser.run("byId('schedules-all').hidden"), True)
+        browser.key("Escape")
+        same(f"explored {made.name}: closed", browser.run("byId('schedules').open"), False)
+        same(f"explored {made.name}: text", len(browser.texts("#text .line")), len(program.read_text().split("\n")) - 1)
+        for key in ("End", "Home", "ArrowRight", "m", "r", "s", "l", "t", "t", "x"):
+            browser.key(key)
+        same(f"explored {made.name}: nothing wrong", browser.wrong(), [])
+
+
 def check_looks(browser, case):
     """Both themes have enough contrast, nothing is cut off at 200 %, and the page prints on one sheet."""
     name = case.name
@@ -744,6 +803,8 @@ def main():
                     made = Case(folder, example, program, trace)
                     check_all(browser, made)
                     check_schedules(browser, made)
+            if wanted("explored"):
+                check_explored(browser, folder)
             if wanted("values"):
                 made = Case(folder, "values", HERE / "faults.afx", HERE / "faults.trace")
                 check_values(browser, made)

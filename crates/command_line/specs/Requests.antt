@@ -8,7 +8,7 @@ use Rattle.command_line.specs.declared.request.Command.{Command}
 use Rattle.command_line.specs.declared.request.Command.TheVariants.{Run, Serial, Check, Pairs, Explore}
 use Rattle.command_line.specs.declared.request.Command.TheVariants.{Places, Listing, Labels, Format, Meetings}
 use Rattle.command_line.specs.declared.request.Command.TheVariants.{CheckFormat, View, Summary, Draw, Chrome}
-use Rattle.command_line.specs.declared.request.Command.TheVariants.{Page}
+use Rattle.command_line.specs.declared.request.Command.TheVariants.{Page, Schedules}
 use Rattle.command_line.specs.declared.request.Command.TheVariants.{Cost, CostByLabel, CostByProcedure}
 use Rattle.command_line.specs.declared.request.Command.TheVariants.{PairsByLine, ViewByLine, SummaryByLine}
 use Rattle.command_line.specs.declared.request.Action.{Action}
@@ -51,8 +51,8 @@ spread s = record { tasks = s.tasks; w0 = s.w0; workers = s.workers }
 
 -- the settings of a run: the file of the initial contents of its arrays, if one is named; its budget; its
 -- worker threads; the source of its choices, if there is one; the file of its trace, to be written or
--- shown, and that of a picture of it, if they are named; whether the arrays are shown; whether its progress
--- is reported
+-- shown, and that of a picture or a page of it, if they are named; whether the arrays are shown; whether its
+-- progress is reported
 pub record Settings : Type 0 where
   pub input : Option (List ℕ)
   pub budget : Budget
@@ -401,6 +401,16 @@ abbrev pub viewing_options : Viewing → Options
 viewing_options v =
     record no_options { input = v.input; trace = Some v.trace; picture = picture_of v.shown }
 
+-- ---- a page in which each step is chosen
+
+-- the arguments after the file of its program, in this order: `--input FILE --html OUT`
+abbrev pub schedule_words : (input : Option (List ℕ)) → (out : List ℕ) → List (List ℕ)
+schedule_words input out = valued (codes "--input") input (codes "--html" ∷ out ∷ [])
+
+-- the options that they specify
+abbrev pub schedule_options : (input : Option (List ℕ)) → (out : List ℕ) → Options
+schedule_options input out = record no_options { input = input; picture = Some out }
+
 -- ---- the shares of a run that is measured
 
 -- which shares follow the total cost: those of each label, or of each procedure
@@ -484,6 +494,10 @@ pub data AsksPlainly (words : List (List ℕ)) (a : Asked) : Type 0 where
   to_explore : (file : List ℕ) (o : Options) → IsTrue (is_file_name file) → AreForExplore o
       → words ≡ codes "explore" ∷ file ∷ choosing_words_of (texts_by o) → a ≡ optioned Explore file o
       → AsksPlainly words a
+  to_choose : (file : List ℕ) (input : Option (List ℕ)) (out : List ℕ) → IsTrue (is_file_name file)
+      → AreRight (schedule_options input out)
+      → words ≡ codes "explore" ∷ file ∷ schedule_words input out
+      → a ≡ optioned Schedules file (schedule_options input out) → AsksPlainly words a
   to_view : (file : List ℕ) (v : Viewing) → IsTrue (is_file_name file) → AreRight (viewing_options v)
       → words ≡ codes "view" ∷ file ∷ viewing_words v
       → a ≡ optioned (command_for v.shown) file (viewing_options v) → AsksPlainly words a

@@ -51,6 +51,8 @@ pub enum Command {
     Chrome,
     /// `view --html OUT`: write a page in which a trace can be explored.
     Page,
+    /// `explore --html OUT`: write a page in which each step can be chosen.
+    Schedules,
 }
 
 /// When explanations have colors.
@@ -206,7 +208,8 @@ pub struct RunOptions<'w> {
     /// `--trace FILE` of `run`: the file that the run's trace is written to. `TRACE` of `view`: the
     /// file that contains it, which these arguments always name.
     pub trace: Option<&'w str>,
-    /// `--svg OUT`, `--chrome OUT` or `--html OUT`: the file that the picture is written to.
+    /// `--svg OUT`, `--chrome OUT` or `--html OUT`: the file that the picture or the page is written
+    /// to.
     pub picture: Option<&'w str>,
     /// `--arrays`: the arrays are shown after the outcome.
     pub arrays: bool,

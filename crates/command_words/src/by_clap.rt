@@ -126,7 +126,7 @@ fn action_asked(word: &str, given: &ArgMatches<'_>) -> Option<Action> {
         "list" => Action::Answer(listing(given)),
         "mhp" => Action::Answer(pairing(given)),
         "cost" => Action::Answer(costing(given)),
-        "explore" => Action::Answer(Command::Explore),
+        "explore" => Action::Answer(exploring(given)),
         "view" => Action::Answer(viewing(given)),
         _ => return None,
     })
@@ -180,6 +180,15 @@ fn costing(given: &ArgMatches<'_>) -> Command {
         Command::CostByProcedure
     } else {
         Command::Cost
+    }
+}
+
+/// Returns which command `explore` is.
+fn exploring(given: &ArgMatches<'_>) -> Command {
+    if given.get_str("html").is_some() {
+        Command::Schedules
+    } else {
+        Command::Explore
     }
 }
 

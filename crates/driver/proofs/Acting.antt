@@ -17,13 +17,13 @@ use Rattle.driver.specs.Traced.{IsTraceOfText}
 use Rattle.driver.proofs.Leaving.{told_behind}
 use Rattle.commands.specs.Answers.{Answer, Done, Wrote}
 use Rattle.commands.specs.Rewriting.{LeavesLaidOut, LeavesRewritten}
-use Rattle.viewing.specs.Views.{IsDrawn, IsPageOf, picture_name}
+use Rattle.viewing.specs.Views.{IsDrawn, IsPageOf, IsSchedulesPage, picture_name}
 use Rattle.viewing.proofs.Written.{wrote_anyway}
 use Rattle.printing.specs.Appending.{AppendsBeginning}
 use Rattle.files.specs.Held.{Held}
 use Rattle.command_line.specs.Requests.{Settings}
 use Rattle.command_line.specs.declared.request.Command.{Command}
-use Rattle.command_line.specs.declared.request.Command.TheVariants.{Run, View, Summary, Draw, Chrome, Page}
+use Rattle.command_line.specs.declared.request.Command.TheVariants.{Run, View, Summary, Draw, Chrome, Page, Schedules}
 use Rattle.failures.specs.declared.failure.Failure.{Failure}
 use Rattle.failures.specs.declared.failure.Failure.TheVariants.{CannotWriteOutput}
 
@@ -60,6 +60,7 @@ may_fail Summary s held text = tt
 may_fail Draw s held text = tt
 may_fail Chrome s held text = tt
 may_fail Page s held text = tt
+may_fail Schedules s held text = tt
 may_fail _ s held text = tt
 
 -- files are unchanged then
@@ -76,6 +77,8 @@ leaves_by : (c : Command) (file : List ℕ) (s : Settings) (text : List ℕ) (he
     → IfErr r (λ f. f ≡ CannotWriteOutput) → LeavesBy c file s text held later (Ok status) → LeavesBy c file s text held later r
 leaves_by Page file s text held later status r only w =
     wrote_anyway (picture_name s) (IsPageOf file s held text) held later r w only
+leaves_by Schedules file s text held later status r only w =
+    wrote_anyway (picture_name s) (IsSchedulesPage file s held text) held later r w only
 leaves_by c file s text held later status r only w = leaves_on c s text held later status r only w
 
 -- nor is there more than was written

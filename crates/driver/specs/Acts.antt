@@ -6,7 +6,8 @@ use Rattle.std.specs.Io.KnownBytes.{Keeps}
 use Rattle.commands.specs.Answers.{Answer, Answers, Done, Explains}
 use Rattle.commands.specs.Rewriting.{AnswersRewrite, ExplainsRewrite, LeavesRewritten}
 use Rattle.viewing.specs.Files.{WritesTo}
-use Rattle.viewing.specs.Views.{AnswersTrace, ExplainsTrace, IsDrawn, IsPageOf, picture_name}
+use Rattle.viewing.specs.Views.{AnswersSchedules, AnswersTrace, ExplainsSchedules, ExplainsTrace, IsDrawn}
+use Rattle.viewing.specs.Views.{IsPageOf, IsSchedulesPage, picture_name}
 use Rattle.printing.specs.Appending.{AppendsBeginning}
 use Rattle.failures.specs.FailureStatus.{failure_status}
 use Rattle.files.specs.Held.{Held}
@@ -18,7 +19,7 @@ use Rattle.command_line.specs.declared.request.Command.{Command}
 use Rattle.command_line.specs.declared.request.Command.TheVariants.{Run, Serial, Check, Listing, Pairs}
 use Rattle.command_line.specs.declared.request.Command.TheVariants.{Meetings, Explore, Labels, Places, Format}
 use Rattle.command_line.specs.declared.request.Command.TheVariants.{CheckFormat, View, Summary, Draw, Chrome}
-use Rattle.command_line.specs.declared.request.Command.TheVariants.{Page}
+use Rattle.command_line.specs.declared.request.Command.TheVariants.{Page, Schedules}
 use Rattle.command_line.specs.declared.request.Command.TheVariants.{Cost, CostByLabel, CostByProcedure}
 use Rattle.command_line.specs.declared.request.Command.TheVariants.{PairsByLine, ViewByLine, SummaryByLine}
 use Rattle.failures.specs.declared.failure.Failure.{Failure}
@@ -36,6 +37,7 @@ AnswersAny SummaryByLine s held text = AnswersTrace SummaryByLine s held text
 AnswersAny Draw s held text = AnswersTrace Draw s held text
 AnswersAny Chrome s held text = AnswersTrace Chrome s held text
 AnswersAny Page s held text = AnswersTrace Page s held text
+AnswersAny Schedules s held text = AnswersSchedules s held text
 AnswersAny c s held text = Answers c s held text
 
 -- a failure is one of this command
@@ -47,6 +49,7 @@ ExplainsAny SummaryByLine s held text = ExplainsTrace SummaryByLine s held text
 ExplainsAny Draw s held text = ExplainsTrace Draw s held text
 ExplainsAny Chrome s held text = ExplainsTrace Chrome s held text
 ExplainsAny Page s held text = ExplainsTrace Page s held text
+ExplainsAny Schedules s held text = ExplainsSchedules s held text
 ExplainsAny c s held text = Explains c s held text
 
 -- the contents of files after a command: the trace of a run in the file that was named for it, a picture in
@@ -56,6 +59,7 @@ Leaves Run s text held later r = TracesRun s text held later r
 Leaves Draw s text held later r = WritesTo (picture_name s) (IsDrawn s held text) held later r
 Leaves Chrome s text held later r = WritesTo (picture_name s) (IsDrawn s held text) held later r
 Leaves Page s text held later r = ⊥
+Leaves Schedules s text held later r = ⊥
 Leaves Serial s text held later r = later ≡ held
 Leaves Check s text held later r = later ≡ held
 Leaves Listing s text held later r = later ≡ held
@@ -80,6 +84,8 @@ abbrev pub LeavesBy : Command → (file : List ℕ) → Settings → (text : Lis
     → Result ℕ Failure
     → Type 0
 LeavesBy Page file s text held later r = WritesTo (picture_name s) (IsPageOf file s held text) held later r
+LeavesBy Schedules file s text held later r =
+    WritesTo (picture_name s) (IsSchedulesPage file s held text) held later r
 LeavesBy c file s text held later r = Leaves c s text held later r
 
 -- ---- what is done with a file

@@ -428,6 +428,12 @@ const TESTED: Row = Row {
     entries: &[TESTS, WRITE_OUTPUT, STEPS, NEST, TASKS, W0, WORKERS],
 };
 
+const SCHEDULES: Entry = Entry {
+    name: "html",
+    help: "Write a page to this HTML file in which each step can be chosen in a browser",
+    takes: Takes::TextBut("OUT", &["choices", "choices-from", "random", "arrays"]),
+};
+
 const EXPLORED: Row = Row {
     name: "explore",
     about: "Run a program step by step under a chosen schedule",
@@ -439,6 +445,7 @@ const EXPLORED: Row = Row {
         CHOICES_FROM,
         RANDOM,
         ARRAYS,
+        SCHEDULES,
         EXPLAIN,
         COLOR,
     ],

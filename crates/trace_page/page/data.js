@@ -20,12 +20,13 @@ function readData(text) {
   return data;
 }
 
+// A page of `explore --html` shows events of no trace's file.
 function readParts({layout, program, trace}) {
   const data = {
     name: program.name, text: program.text, places: byColumns(program.places, ['line', 'column']),
     arrays: program.arrays.map((array, i) => ({...array, initial: trace.initial[i]})),
     cost: program.cost && {work: program.cost.work.slice(1), span: program.cost.span.slice(1)},
-    trace: trace.name, header: trace.header, summary: trace.summary,
+    trace: trace.name, isExplored: trace.name === '', header: trace.header, summary: trace.summary,
     events: {kinds: trace.kinds, labels: trace.labels, tasks: trace.tasks},
     tasks: tasksOf(trace), chain: onChain(layout.chain), steals: byColumns(layout.steals, ['at', 'worker', 'from']),
   };

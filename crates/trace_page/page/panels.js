@@ -500,8 +500,9 @@ function writeFacts() {
     ['most live tasks', num(summary.most_live_tasks)], ['deepest nest', num(summary.deepest_nest)], ['steps by worker', by]];
   fill(byId('facts'), ...facts.map(([name, value]) => make('div', null, make('dt', null, name), make('dd', null, value))));
   byId('name').textContent = run.data.name;
-  byId('name').title = 'trace: ' + run.data.trace;
-  document.title = 'afx trace of ' + run.data.name;
+  byId('name').title = run.data.isExplored ? 'a run by one worker' : 'trace: ' + run.data.trace;
+  byId('what').textContent = run.data.isExplored ? 'afx explore' : 'afx trace';
+  document.title = (run.data.isExplored ? 'afx explore ' : 'afx trace of ') + run.data.name;
 }
 
 function drawPanels() {

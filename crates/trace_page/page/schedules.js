@@ -72,6 +72,7 @@ const treeNow = () => schedule.trees[schedule.trees.length - 1];
 
 // Why schedules of this run can't be explored, or an empty text.
 function whyNoSchedules() {
+  if (run.events === 0 && run.data.isExplored) return `The run takes more than ${num(MOST_STEPS)} steps.`;
   if (run.events === 0 || !run.isOver[0]) return 'The trace ends before the run.';
   if (run.data.flows.flow.includes('s')) return 'The run is stopped: a task is over its budget.';
   const {steps} = run.summary;

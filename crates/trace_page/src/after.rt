@@ -96,12 +96,13 @@ function readData(text) {
   return data;
 }
 
+// A page of `explore --html` shows events of no trace's file.
 function readParts({layout, program, trace}) {
   const data = {
     name: program.name, text: program.text, places: byColumns(program.places, ['line', 'column']),
     arrays: program.arrays.map((array, i) => ({...array, initial: trace.initial[i]})),
     cost: program.cost && {work: program.cost.work.slice(1), span: program.cost.span.slice(1)},
-    trace: trace.name, header: trace.header, summary: trace.summary,
+    trace: trace.name, isExplored: trace.name === '', header: trace.header, summary: trace.summary,
     events: {kinds: trace.kinds, labels: trace.labels, tasks: trace.tasks},
     tasks: tasksOf(trace), chain: onChain(layout.chain), steals: byColumns(layout.steals, ['at', 'worker', 'from']),
   };
@@ -2479,8 +2480,9 @@ function writeFacts() {
     ['most live tasks', num(summary.most_live_tasks)], ['deepest nest', num(summary.deepest_nest)], ['steps by worker', by]];
   fill(byId('facts'), ...facts.map(([name, value]) => make('div', null, make('dt', null, name), make('dd', null, value))));
   byId('name').textContent = run.data.name;
-  byId('name').title = 'trace: ' + run.data.trace;
-  document.title = 'afx trace of ' + run.data.name;
+  byId('name').title = run.data.isExplored ? 'a run by one worker' : 'trace: ' + run.data.trace;
+  byId('what').textContent = run.data.isExplored ? 'afx explore' : 'afx trace';
+  document.title = (run.data.isExplored ? 'afx explore ' : 'afx trace of ') + run.data.name;
 }
 
 function drawPanels() {
@@ -2571,6 +2573,7 @@ const treeNow = () => schedule.trees[schedule.trees.length - 1];
 
 // Why schedules of this run can't be explored, or an empty text.
 function whyNoSchedules() {
+  if (run.events === 0 && run.data.isExplored) return `The run takes more than ${num(MOST_STEPS)} steps.`;
   if (run.events === 0 || !run.isOver[0]) return 'The trace ends before the run.';
   if (run.data.flows.flow.includes('s')) return 'The run is stopped: a task is over its budget.';
   const {steps} = run.summary;
@@ -3126,6 +3129,7 @@ readColors(matchMedia('(prefers-color-scheme: dark)').matches);
 measure();
 if (run.tasks > 2000) view.rows = 'packed';
 follow(location.hash);
+if (run.data.isExplored) openSchedules();
 setRows(view.rows);
 setChain(view.chain);
 setTab('program', 'text');

@@ -5,7 +5,7 @@ pub const BEFORE: &str = "<!doctype html>
 <html lang=\"en\">
 <head>
 <meta charset=\"utf-8\">
-<meta http-equiv=\"Content-Security-Policy\" content=\"default-src 'none'; script-src 'sha256-/wFd6FENprHieGBXOrl9wa57ihNEEopF6sLDwJKnaE4='; style-src 'sha256-txP+FA/7y4dBFazWPE9bbaWj1BlKTdjQFBzEYwTxlnY='; base-uri 'none'; form-action 'none'; require-trusted-types-for 'script'; trusted-types 'none'\">
+<meta http-equiv=\"Content-Security-Policy\" content=\"default-src 'none'; script-src 'sha256-FVSaIHvdB9zslvTd7bHFbLKVXTLhiD8ob6fyMBZrP9M='; style-src 'sha256-p7zXVitUQ+pEb1t1T0UVlndHR1yue4GWKdlop4UbWcc='; base-uri 'none'; form-action 'none'; require-trusted-types-for 'script'; trusted-types 'none'\">
 <meta name=\"viewport\" content=\"width=device-width, initial-scale=1\">
 <meta name=\"referrer\" content=\"no-referrer\">
 <title>afx trace</title>
@@ -33,7 +33,7 @@ code, pre, .mono { font-family: ui-monospace, \"Cascadia Mono\", \"DejaVu Sans M
 /* the head of the page */
 header { display: flex; align-items: center; gap: 4px 18px; flex-wrap: wrap; padding: 7px 14px 5px; }
 h1 { font-size: 16px; margin: 0; font-weight: 650; letter-spacing: .01em; }
-h1 span { color: var(--soft); font-weight: 400; overflow-wrap: anywhere; }
+#name { color: var(--soft); font-weight: 400; overflow-wrap: anywhere; }
 .facts { display: flex; gap: 2px 16px; flex-wrap: wrap; flex: 1 0 100%; margin: 0; }
 .facts div { white-space: nowrap; }
 .facts dt { display: inline; color: var(--soft); font-size: 12.5px; }
@@ -230,7 +230,7 @@ kbd {
 </head>
 <body>
 <header>
-<h1>afx trace <span id=\"name\"></span></h1>
+<h1><span id=\"what\">afx trace</span> <span id=\"name\"></span></h1>
 <div class=\"tools\">
 <input id=\"find\" type=\"search\" placeholder=\"path, label, @event, text\" aria-label=\"Search by path, label, event or text\" autocomplete=\"off\" spellcheck=\"false\">
 <output id=\"found\" for=\"find\"></output>

@@ -32,7 +32,7 @@ const ROWS: &[(&str, &str)] = &[
     ("test", " write steps nest tasks w0 workers"),
     (
         "explore",
-        " input choices choices-from random arrays explain color",
+        " input choices choices-from random arrays html explain color",
     ),
     (
         "view",
