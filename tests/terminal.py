@@ -1,6 +1,6 @@
 #!/usr/bin/env python3
-"""Runs the program with its standard error at a pseudo-terminal, at a pipe, and with each word of `--explain`, and compares
-what it writes: only at a terminal explanations are written by default. No contract says that `main` finds a terminal, and
+"""Runs the program with its standard error at a pseudo-terminal, at a pipe, and with each word of `--explain` or `--warn`,
+and compares what it writes: only at a terminal explanations and warnings are written by default. No contract says that `main` finds a terminal, and
 the rows of examples/rows have none. Prints each run that differs; the last line is `N passed, M failed`.
 
     python3 tests/terminal.py      AFX=./afx names another program
@@ -52,9 +52,17 @@ endless.afx:1:8: stopped: step or nesting limit exceeded
 Task 0 had used all of its 1000 steps before this statement, label 1.
 help: raise the limit with `--steps 2000`, or look for an infinite loop or recursion.
 """
-FILES = {"refused.afx": REFUSED, "faulty.afx": FAULTY, "endless.afx": ENDLESS, "right.afx": b"main { print 1; }\n"}
+IDLE = b"main { finish { print 1; } }\n"
+IDLE_MORE = b"""
+idle.afx:1:8: warning: this `finish` has no task to wait for
+     1 | main { finish { print 1; } }
+       |        ^
+help: remove the `finish`, or start tasks in it with `async`.
+"""
+FILES = {"refused.afx": REFUSED, "faulty.afx": FAULTY, "endless.afx": ENDLESS, "idle.afx": IDLE,
+         "right.afx": b"main { print 1; }\n"}
 
-# The words of a run, its output, the line that it writes in any case, its explanation, and its status.
+# The words of a run, its output, the line that it writes in any case, its explanation or warnings, and its status.
 RUNS = (
     (["check", "refused.afx"], b"", REFUSED_LINE, REFUSED_MORE, 1),
     (["run", "refused.afx"], b"", REFUSED_LINE, REFUSED_MORE, 1),
@@ -62,6 +70,12 @@ RUNS = (
     (["run", "faulty.afx", "--workers", "2"], b"fault 0 at 2: F1\n", b"", FAULTY_MORE, 2),
     (["serial", "endless.afx", "--steps", "1000"], b"stopped\n", b"", ENDLESS_MORE, 3),
     (["run", "right.afx"], b"1\n", b"", b"", 0),
+    (["run", "idle.afx"], b"1\n", b"", b"", 0),
+)
+WARNED = (
+    (["check", "idle.afx"], b"accepted: 0 procedures, 2 labels\n", b"", IDLE_MORE, 0),
+    (["check", "right.afx"], b"accepted: 0 procedures, 1 labels\n", b"", b"", 0),
+    (["check", "--explain=never", "refused.afx"], b"", REFUSED_LINE, b"", 1),
 )
 
 
@@ -96,11 +110,12 @@ def main():
     with tempfile.TemporaryDirectory() as room:
         for name, text in FILES.items():
             (pathlib.Path(room) / name).write_bytes(text)
-        for words, out, line, more, status in RUNS:
-            for option in ([], ["--explain"], ["--explain=auto"], ["--explain=always"], ["--explain=never"]):
+        for name, run in [("--explain", run) for run in RUNS] + [("--warn", run) for run in WARNED]:
+            words, out, line, more, status = run
+            for option in ([], [name], [name + "=auto"], [name + "=always"], [name + "=never"]):
                 for way in (at_terminal, at_pipe):
-                    is_explained = option in (["--explain"], ["--explain=always"]) or (
-                        option != ["--explain=never"] and way is at_terminal)
+                    is_explained = option in ([name], [name + "=always"]) or (
+                        option != [name + "=never"] and way is at_terminal)
                     wanted = (out, line + more * is_explained, status)
                     told = way([words[0], *option, *words[1:]], room, env)
                     if told == wanted:

@@ -113,9 +113,9 @@ usual = record {
 
 -- how a command line reports by default
 abbrev pub usual_telling : Telling
-usual_telling = record { explain = AtTerminal; all = false; color = Auto }
+usual_telling = record { explain = AtTerminal; all = false; warn = AtTerminal; color = Auto }
 
--- whether explanations follow, by whether the standard error is a terminal
+-- whether explanations, or warnings, follow, by whether the standard error is a terminal
 abbrev pub is_explained : Explain → (at_terminal : Bool) → Bool
 is_explained AtTerminal at_terminal = at_terminal
 is_explained Explained at_terminal = true
@@ -505,6 +505,7 @@ abbrev pub telling_by : Manner → Telling
 telling_by m = record {
   explain = if m.explain then Explained else AtTerminal;
   all = false;
+  warn = AtTerminal;
   color = unwrap_or m.color Auto;
 }
 

@@ -62,21 +62,22 @@ pub enum Color {
     Never,
 }
 
-/// When the line of a failure, or an outcome, is followed by where and why it occurred.
+/// When something follows the line of a failure or an answer: where and why it occurred, or
+/// warnings.
 #[derive(Clone, Copy, PartialEq, Eq, Debug)]
 pub enum Explain {
-    /// `--explain=auto`: if the standard error is a terminal.
+    /// `--explain=auto`, `--warn=auto`: if the standard error is a terminal.
     AtTerminal,
-    /// `--explain` or `--explain=always`
+    /// `--explain` or `--explain=always`, `--warn` or `--warn=always`
     Always,
-    /// `--explain=never`
+    /// `--explain=never`, `--warn=never`
     Never,
 }
 
 impl Explain {
     ghost use Rattle.command_line.specs.Requests.{is_explained};
 
-    /// Returns whether explanations follow if the standard error is a terminal, or isn't.
+    /// Returns whether this follows if the standard error is a terminal, or isn't.
     pub fn explains(self, at_terminal: bool) -> bool
         ensures { result ≡ is_explained self at_terminal }
     {
@@ -95,6 +96,8 @@ pub struct Telling {
     pub explain: Explain,
     /// `check --all`: the explanation of a race is followed by all races.
     pub all: bool,
+    /// `check --warn` or `--warn=WHEN`: whether warnings follow the answer for an accepted program.
+    pub warn: Explain,
     /// `--color WHEN`
     pub color: Color,
 }
@@ -102,13 +105,14 @@ pub struct Telling {
 impl Telling {
     ghost use Rattle.command_line.specs.Requests.{usual_telling};
 
-    /// Returns the default: explanations and colors at a terminal.
+    /// Returns the default: explanations, warnings and colors at a terminal.
     pub fn usual() -> Telling
         ensures { result ≡ usual_telling }
     {
         Telling {
             explain: Explain::AtTerminal,
             all: false,
+            warn: Explain::AtTerminal,
             color: Color::Auto,
         }
     }

@@ -241,18 +241,27 @@ fn file<'w>(given: &ArgMatches<'w>) -> &'w str {
 fn telling(given: &ArgMatches<'_>) -> Telling {
     let all = given.get_flag("all");
     Telling {
-        explain: match given.get_str("explain") {
-            _ if all => Explain::Always,
-            Some("always") => Explain::Always,
-            Some("never") => Explain::Never,
-            _ => Explain::AtTerminal,
+        explain: if all {
+            Explain::Always
+        } else {
+            when(given.get_str("explain"))
         },
         all,
+        warn: when(given.get_str("warn")),
         color: match given.get_str("color") {
             Some("always") => Color::Always,
             Some("never") => Color::Never,
             _ => Color::Auto,
         },
+    }
+}
+
+/// Returns when something is reported.
+fn when(word: Option<&str>) -> Explain {
+    match word {
+        Some("always") => Explain::Always,
+        Some("never") => Explain::Never,
+        _ => Explain::AtTerminal,
     }
 }
 

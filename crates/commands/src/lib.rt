@@ -19,3 +19,4 @@ pub mod telling;
 mod unchosen;
 mod unlaid;
 pub mod unread;
+pub mod warning;

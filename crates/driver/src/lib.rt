@@ -8,6 +8,7 @@ mod as_object;
 mod doing;
 mod handing;
 mod loaded;
+mod more;
 mod opening;
 mod performing;
 mod refusal;

@@ -236,6 +236,12 @@ const ALL: Entry = Entry {
     takes: Takes::NothingBut(&["format"]),
 };
 
+const WARN: Entry = Entry {
+    name: "warn",
+    help: "Print warnings about an accepted program [default: auto, on a terminal; always without a value]",
+    takes: Takes::MaybeOneOf("WHEN", &["auto", "always", "never"], "always"),
+};
+
 const EXPLAIN: Entry = Entry {
     name: "explain",
     help: "Explain an error, a fault or a stopped run [default: auto, on a terminal; always without a value]",
@@ -364,7 +370,7 @@ const CHECKED: Row = Row {
     name: "check",
     about: "Check a program for errors and races",
     example: CHECK_EXAMPLE,
-    entries: &[FILES, LIST, ALL, FORMAT, EXPLAIN, COLOR],
+    entries: &[FILES, LIST, ALL, WARN, FORMAT, EXPLAIN, COLOR],
 };
 
 const LISTED: Row = Row {

@@ -17,7 +17,7 @@ const ROWS: &[(&str, &str)] = &[
         "serial",
         " input steps nest arrays progress format explain color",
     ),
-    ("check", " list all format explain color"),
+    ("check", " list all warn format explain color"),
     ("list", " lines format explain color"),
     ("fmt", " check write format explain color"),
     ("mhp", " accesses by-line format explain color"),
