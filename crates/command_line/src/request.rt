@@ -127,6 +127,18 @@ pub enum Action {
     Rewrite,
 }
 
+/// Where the initial contents of the arrays come from.
+#[derive(Clone, Copy, PartialEq, Eq, Debug)]
+pub enum InputSource<'w> {
+    /// `--input FILE`: the JSON text in this file.
+    File(&'w str),
+    /// `--set NAME=1,2,3`: the elements of one array. The others are zeros.
+    Elements { name: &'w str, elements: &'w str },
+    /// `--text NAME=FILE`: the bytes of this file are the elements of one array. The others are
+    /// zeros.
+    Bytes { name: &'w str, file: &'w str },
+}
+
 /// The source of choices: which leaves step.
 #[derive(Clone, Copy, PartialEq, Eq, Debug)]
 pub enum Choosing<'w> {
@@ -195,9 +207,9 @@ const MOST_WORKERS: u64 = 64;
 /// The settings of a run.
 #[derive(Clone, Copy, PartialEq, Eq, Debug)]
 pub struct RunOptions<'w> {
-    /// `--input FILE`: the JSON text of the initial contents of the arrays. Without it they are
-    /// zeros.
-    pub input: Option<&'w str>,
+    /// `--input FILE`, `--set NAME=LIST` or `--text NAME=FILE`: the source of the initial contents
+    /// of the arrays. Without it they are zeros.
+    pub input: Option<InputSource<'w>>,
     /// `--steps N` and `--nest N`
     pub budget: Budget,
     /// `--tasks N`, `--w0 N` and `--workers N`

@@ -4,7 +4,7 @@ use crate::order::{Order, SeveralTests, Subject};
 use clap::error::ErrorKind;
 use clap::{ArgMatches, Error};
 use command_line::request::{
-    Action, Choosing, Color, Command, Explain, Request, RunOptions, Spread, Telling,
+    Action, Choosing, Color, Command, Explain, InputSource, Request, RunOptions, Spread, Telling,
 };
 use options::reply::{self, Reply};
 use options::table::{CLOSING, commands};
@@ -218,7 +218,7 @@ fn asking<'w>(alloc: Global, action: Action, given: &ArgMatches<'w>) -> Result<R
         action,
         file: file(given),
         settings: RunOptions {
-            input: given.get_str("input"),
+            input: source(alloc, given)?,
             budget: budget(alloc, given)?,
             spread: spread(alloc, given)?,
             choices: choosing(given),
@@ -229,6 +229,46 @@ fn asking<'w>(alloc: Global, action: Action, given: &ArgMatches<'w>) -> Result<R
         },
         telling: telling(given),
     })
+}
+
+/// Returns the source of an input. `clap` has checked that at most one option names it.
+fn source<'w>(alloc: Global, given: &ArgMatches<'w>) -> Result<Option<InputSource<'w>>, Error> {
+    if let Some(file) = given.get_str("input") {
+        return Ok(Some(InputSource::File(file)));
+    }
+    if let Some(word) = given.get_str("set") {
+        return match word.split_once('=') {
+            Some((name, elements)) if are_numbers(elements) => {
+                Ok(Some(InputSource::Elements { name, elements }))
+            }
+            _ => Err(mistake(alloc, ErrorKind::ValueValidation, SET_MISTAKE)?),
+        };
+    }
+    match given.get_str("text") {
+        Some(word) => match word.split_once('=') {
+            Some((name, file)) => Ok(Some(InputSource::Bytes { name, file })),
+            None => Err(mistake(alloc, ErrorKind::ValueValidation, TEXT_MISTAKE)?),
+        },
+        None => Ok(None),
+    }
+}
+
+const SET_MISTAKE: &str =
+    "--set takes NAME=1,2,3: the name of an array, and its elements in digits with commas between them";
+
+const TEXT_MISTAKE: &str =
+    "--text takes NAME=FILE: the name of an array, and a file whose bytes are its elements";
+
+/// Returns whether this is a list of integers in decimal, or empty.
+fn are_numbers(elements: &str) -> bool {
+    elements.is_empty() || elements.split(',').all(is_number)
+}
+
+/// Returns whether this is an integer as JSON spells it.
+fn is_number(part: &str) -> bool {
+    let digits = part.strip_prefix('-').unwrap_or(part);
+    let is_padded = digits.len() > 1 && digits.starts_with('0');
+    !digits.is_empty() && !is_padded && digits.bytes().all(|byte| byte.is_ascii_digit())
 }
 
 /// Returns the file of a program, or the name of what is tested.

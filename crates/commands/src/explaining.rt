@@ -8,7 +8,7 @@ use crate::question::Question;
 use crate::unchosen::{choices_explained, no_leaf_explained, open_explained};
 use crate::unlaid::layout_explained;
 use crate::unread::{reread_explained, unreadable_explained, unwritten_explained};
-use command_line::request::{Command, Request, RunOptions};
+use command_line::request::{Command, InputSource, Request, RunOptions};
 use excerpts::heading::Heading;
 use explanations::input_errors::explained_input;
 use explanations::races::explained_race;
@@ -16,6 +16,7 @@ use explanations::syntax_errors::explained_syntax;
 use explanations::told::{explained, push_races};
 use failures::failure::Failure;
 use files::file_source::FileSource;
+use files::input_file::array_text;
 use finish_scope::run_error::RunError;
 use race_checker::check::{Refused, check};
 use rule_explanations::rule_errors::explained_rule;
@@ -59,8 +60,12 @@ pub fn explanation<R: Threads + Sync, F: FileSource>(
             race_explained(rt, alloc, text, accesses, heading, request.telling.all)
         }
         Failure::Input(error) => match settings.input {
-            Some(name) => input_explained(alloc, files, text, name, error),
-            None => Ok(String::new(alloc)),
+            Some(InputSource::File(name)) => input_explained(alloc, files, text, name, error),
+            Some(InputSource::Elements { name, elements }) => {
+                let input = array_text(alloc, name, elements)?;
+                elements_explained(alloc, text, input.as_str(), error)
+            }
+            _ => Ok(String::new(alloc)),
         },
         Failure::Run(RunError::TooManyTasks(_)) => {
             let question = Question { text, settings };
@@ -164,6 +169,22 @@ fn input_explained<F: FileSource>(
     };
     let heading = heading_of(name, error.code());
     explained_input(alloc, &typed.code().arrays, input, error, heading)
+}
+
+/// Explains what is wrong with the JSON text of elements in the arguments.
+fn elements_explained(
+    alloc: Global,
+    text: &str,
+    input: &str,
+    error: &InputError,
+) -> Result<String, AllocError> {
+    match typed_of(alloc, text) {
+        Ok(typed) => {
+            let heading = heading_of("--set", error.code());
+            explained_input(alloc, &typed.code().arrays, input, error, heading)
+        }
+        Err(_) => Ok(String::new(alloc)),
+    }
 }
 
 /// Explains what is wrong with the file of a trace. It reads the file again.

@@ -122,6 +122,18 @@ const INPUT: Entry = Entry {
     takes: Takes::Text("JSON"),
 };
 
+const SET: Entry = Entry {
+    name: "set",
+    help: "Initial contents of one array, as in a=1,2,3; the others are zeros",
+    takes: Takes::TextBut("NAME=LIST", &["input", "text"]),
+};
+
+const TEXT: Entry = Entry {
+    name: "text",
+    help: "File whose bytes are the initial contents of one array, as in p=words.txt; the others are zeros",
+    takes: Takes::TextBut("NAME=FILE", &["input"]),
+};
+
 const STEPS: Entry = Entry {
     name: "steps",
     help: "Step limit for each task, 1 to 1000000000 [default: 1000000]",
@@ -353,7 +365,8 @@ const RUN: Row = Row {
     about: "Run a program in parallel",
     example: RUN_EXAMPLE,
     entries: &[
-        FILE, INPUT, STEPS, NEST, TASKS, W0, WORKERS, TRACED, ARRAYS, FORMAT, EXPLAIN, COLOR,
+        FILE, INPUT, SET, TEXT, STEPS, NEST, TASKS, W0, WORKERS, TRACED, ARRAYS, FORMAT, EXPLAIN,
+        COLOR,
     ],
 };
 
@@ -362,7 +375,7 @@ const SERIAL: Row = Row {
     about: "Run a program on one thread",
     example: SERIAL_EXAMPLE,
     entries: &[
-        FILE, INPUT, STEPS, NEST, ARRAYS, PROGRESS, FORMAT, EXPLAIN, COLOR,
+        FILE, INPUT, SET, TEXT, STEPS, NEST, ARRAYS, PROGRESS, FORMAT, EXPLAIN, COLOR,
     ],
 };
 
@@ -401,6 +414,8 @@ const COSTED: Row = Row {
     entries: &[
         FILE,
         INPUT,
+        SET,
+        TEXT,
         STEPS,
         NEST,
         BY_LINE,
@@ -416,7 +431,7 @@ const BENCHED: Row = Row {
     about: "Time a program serially and in parallel on 1, 2 and 4 threads, or up to --workers",
     example: BENCH_EXAMPLE,
     entries: &[
-        FILE, INPUT, STEPS, NEST, TASKS, W0, WORKERS, FORMAT, EXPLAIN, COLOR,
+        FILE, INPUT, SET, TEXT, STEPS, NEST, TASKS, W0, WORKERS, FORMAT, EXPLAIN, COLOR,
     ],
 };
 
@@ -434,6 +449,8 @@ const EXPLORED: Row = Row {
     entries: &[
         FILE,
         INPUT,
+        SET,
+        TEXT,
         CHOICES,
         CHOICES_FROM,
         RANDOM,
@@ -451,6 +468,8 @@ const VIEWED: Row = Row {
         FILE,
         TRACE,
         INPUT,
+        SET,
+        TEXT,
         SUMMARY,
         EVENTS_BY_LINE,
         SVG,
