@@ -238,7 +238,7 @@ fn source<'w>(alloc: Global, given: &ArgMatches<'w>) -> Result<Option<InputSourc
     }
     if let Some(word) = given.get_str("set") {
         return match word.split_once('=') {
-            Some((name, elements)) if are_numbers(elements) => {
+            Some((name, elements)) if is_name(name) && are_numbers(elements) => {
                 Ok(Some(InputSource::Elements { name, elements }))
             }
             _ => Err(mistake(alloc, ErrorKind::ValueValidation, SET_MISTAKE)?),
@@ -246,8 +246,8 @@ fn source<'w>(alloc: Global, given: &ArgMatches<'w>) -> Result<Option<InputSourc
     }
     match given.get_str("text") {
         Some(word) => match word.split_once('=') {
-            Some((name, file)) => Ok(Some(InputSource::Bytes { name, file })),
-            None => Err(mistake(alloc, ErrorKind::ValueValidation, TEXT_MISTAKE)?),
+            Some((name, file)) if is_name(name) => Ok(Some(InputSource::Bytes { name, file })),
+            _ => Err(mistake(alloc, ErrorKind::ValueValidation, TEXT_MISTAKE)?),
         },
         None => Ok(None),
     }
@@ -258,6 +258,14 @@ const SET_MISTAKE: &str =
 
 const TEXT_MISTAKE: &str =
     "--text takes NAME=FILE: the name of an array, and a file whose bytes are its elements";
+
+/// Returns whether this can be a part of a name. Then JSON spells it without escapes.
+fn is_name(name: &str) -> bool {
+    !name.is_empty()
+        && name
+            .bytes()
+            .all(|byte| byte.is_ascii_alphanumeric() || byte == b'_')
+}
 
 /// Returns whether this is a list of integers in decimal, or empty.
 fn are_numbers(elements: &str) -> bool {

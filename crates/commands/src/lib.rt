@@ -9,6 +9,7 @@ pub mod exploring;
 pub mod formatting;
 pub mod listing;
 pub mod memory;
+mod misfit;
 pub mod programs;
 pub mod question;
 pub mod rewrite;

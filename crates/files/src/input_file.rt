@@ -122,7 +122,7 @@ pub fn array_text(alloc: Global, name: &str, elements: &str) -> Result<String, A
 }
 
 /// Returns these numbers, with commas between them.
-fn joined(alloc: Global, bytes: &[u8]) -> Result<String, AllocError>
+pub fn joined(alloc: Global, bytes: &[u8]) -> Result<String, AllocError>
     ensures { IfOk result (λ text. string_bytes text ≡ joined_by bytes.now) }
 {
     let mut text = String::new(alloc);

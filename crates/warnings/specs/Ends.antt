@@ -1,5 +1,5 @@
 -- Statements after which their task does not go on, and blocks that start no task.
-use Rattle.std.specs.Prelude.{Bool, true, false, not, ◌&&◌, ◌||◌}
+use Rattle.std.specs.Prelude.{Bool, true, false, not, ◌&&◌, ◌||◌, if◌then◌else◌}
 use Rattle.types.specs.Code.{Truth, Constant, Compare, Not, Both, Either, Primitive, Skip, Assign, Store, Print, Raise}
 use Rattle.types.specs.Code.{Code, Do, If, While, Split, Parts, Begun, Call, Async, Finish, Codes, End, Then}
 
@@ -59,7 +59,7 @@ abbrev mutual
   block_may_leave End = false
   block_may_leave (Then l s rest) = may_leave s || block_may_leave rest
 
--- a block is one async alone
+-- the last statement of a block is an async, and no statement before it may leave a task: nothing runs beside it
 abbrev pub is_async : Code → Bool
 is_async (Async b) = true
 is_async _ = false
@@ -70,4 +70,4 @@ is_end (Then l s rest) = false
 
 abbrev pub is_lone_task : Codes → Bool
 is_lone_task End = false
-is_lone_task (Then l s rest) = is_async s && is_end rest
+is_lone_task (Then l s rest) = if is_async s then is_end rest else (not (may_leave s) && is_lone_task rest)

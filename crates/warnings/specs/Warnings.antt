@@ -63,7 +63,7 @@ step_warnings f l Skip = []
 step_warnings f l (Print es) = []
 step_warnings f l (Raise e) = []
 
--- those of a finish: its block is one task alone, or no task that it waits for
+-- those of a finish: nothing runs beside its only task, or there is no task that it waits for
 abbrev pub finish_warnings : (label : ℕ) → Codes → List Warning
 finish_warnings l b =
     if is_lone_task b then LoneTask l ∷ [] else warn_if (not (block_may_leave b)) (IdleFinish l)

@@ -5,7 +5,7 @@ ghost use Rattle.types.specs.Translation.{code as plain_code, codes as codes_of,
 ghost use Rattle.types.specs.Translation.{truth as truth_of};
 ghost use Rattle.warnings.specs.Ends.{block_may_leave as leaves_in, block_stops as ends_in};
 ghost use Rattle.warnings.specs.Ends.{is_always as always, is_async as starts_task, is_fault as faults};
-ghost use Rattle.warnings.specs.Ends.{is_end as has_ended, is_lone_task as lone_task};
+ghost use Rattle.warnings.specs.Ends.{is_lone_task as lone_task};
 ghost use Rattle.warnings.specs.Ends.{is_never as never, may_leave as leaves, stops as ends};
 
 use types::code::{Primitive, Stmt, StmtKind, Truth};
@@ -114,24 +114,23 @@ pub fn block_may_leave(block: &[Stmt]) -> bool
     false
 }
 
-/// Returns whether a block is one async alone.
+/// Returns whether the last statement of a block is an async, and no statement before it may leave a
+/// task: then nothing runs beside it.
 pub fn is_lone_task(block: &[Stmt]) -> bool
     ensures { result ≡ lone_task (codes_of block.now) }
 {
-    match block {
-        [] => false,
-        [first, behind @ ..] => is_async(&first.kind) & is_end(behind),
+    let mut ends_with_task = false;
+    for stmt in block {
+        if ends_with_task {
+            return false;
+        }
+        if is_async(&stmt.kind) {
+            ends_with_task = true;
+        } else if may_leave(&stmt.kind) {
+            return false;
+        }
     }
-}
-
-/// Returns whether a block has no statement.
-fn is_end(block: &[Stmt]) -> bool
-    ensures { result ≡ has_ended (codes_of block.now) }
-{
-    match block {
-        [] => true,
-        [_, ..] => false,
-    }
+    ends_with_task
 }
 
 /// Returns whether a statement is an async.

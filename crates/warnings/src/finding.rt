@@ -345,7 +345,8 @@ fn is_positive(number: &Number) -> bool
     }
 }
 
-/// Adds the warning of a finish: its block is one task alone, or no task that it waits for.
+/// Adds the warning of a finish: nothing runs beside its only task, or there is no task that it waits
+/// for.
 fn push_finish(label: Label, body: &[Stmt], found: &mut Vec<Warning>) -> Result<(), AllocError>
     ensures { OnOk result (found.new.items
         ≡ found.old.items ++ finish_warnings label (codes_of body.now)) }

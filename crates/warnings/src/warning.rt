@@ -13,7 +13,7 @@ pub enum Warning {
     UnreadVariable(Label),
     /// `finish { a[0] = 1; }`: no task that it waits for is started in it.
     IdleFinish(Label),
-    /// `finish { async { .. } }`: nothing runs beside its only task.
+    /// `finish { async { .. } }`: nothing runs beside its only task, which is started last.
     LoneTask(Label),
     /// `b[0] = 256;`: no element of bytes holds this constant.
     TooLarge(Label),
