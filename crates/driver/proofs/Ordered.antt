@@ -1,5 +1,5 @@
 -- From a program that is read to what was ordered.
-use Rattle.std.proofs.Common.{◌≡◌, ℕ, ◌≤◌, length, List, Option, Result, Err, sym, subst, Bool, false}
+use Rattle.std.proofs.Common.{◌≡◌, ℕ, ◌≤◌, length, List, Option, Result, Err, sym, subst, Bool}
 use Rattle.command_line.specs.Requests.{Asked, Settings}
 use Rattle.files.specs.Held.{Held, HasText, TellsNoProgram}
 use Rattle.failures.specs.declared.failure.Failure.{Failure}
