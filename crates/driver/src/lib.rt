@@ -17,6 +17,7 @@ mod said;
 mod several;
 mod source;
 pub mod terminal;
+pub mod ticker;
 mod tracing;
 mod trying;
 
