@@ -8,6 +8,7 @@ the rows of examples/rows have none. Prints each run that differs; the last line
 import os
 import pathlib
 import pty
+import re
 import subprocess
 import sys
 import tempfile
@@ -59,7 +60,9 @@ idle.afx:1:8: warning: this `finish` has no task to wait for
        |        ^
 help: remove the `finish`, or start tasks in it with `async`.
 """
-FILES = {"refused.afx": REFUSED, "faulty.afx": FAULTY, "endless.afx": ENDLESS, "idle.afx": IDLE,
+SLOW = b"main { var i = 0; while i < 200000000 { i = i + 1; } print 1; }\n"
+TIME = re.compile(rb"(?:\rafx: [0-9]+ s)+\r\x1b\[K")
+FILES = {"slow.afx": SLOW, "refused.afx": REFUSED, "faulty.afx": FAULTY, "endless.afx": ENDLESS, "idle.afx": IDLE,
          "right.afx": b"main { print 1; }\n"}
 
 # The words of a run, its output, the line that it writes in any case, its explanation or warnings, and its status.
@@ -79,8 +82,9 @@ WARNED = (
 )
 
 
-def at_terminal(words, room, env):
-    """Returns the output, the standard error and the status of a run whose standard error is a terminal."""
+def at_terminal(words, room, env, keeps_time=False):
+    """Returns the output, the standard error and the status of a run whose standard error is a terminal. The line that shows
+    how long the command has worked is left out, unless it should be kept: a busy machine may show it for any command."""
     ours, theirs = pty.openpty()
     ran = subprocess.Popen([AFX, *words], cwd=room, env=env, stdin=subprocess.DEVNULL, stdout=subprocess.PIPE, stderr=theirs)
     os.close(theirs)
@@ -95,7 +99,8 @@ def at_terminal(words, room, env):
         told += piece
     out = ran.stdout.read()
     os.close(ours)
-    return out, told.replace(b"\r\n", b"\n"), ran.wait()
+    told = told.replace(b"\r\n", b"\n")
+    return out, told if keeps_time else TIME.sub(b"", told), ran.wait()
 
 
 def at_pipe(words, room, env):
@@ -132,6 +137,20 @@ def main():
             else:
                 failed += 1
                 print(f"{way.__name__}: colours: {told}")
+        # A command that takes more than a second shows the time, at a terminal alone, and erases it.
+        for words, is_shown in ((["serial", "slow.afx", "--steps", "1000000000"], True),
+                                (["serial", "slow.afx", "--steps", "1000000000", "--progress"], False)):
+            told = at_terminal(words, room, env, keeps_time=True)
+            if told[0] == b"1\n" and bool(TIME.search(told[1])) == is_shown and (not is_shown or not TIME.sub(b"", told[1])):
+                passed += 1
+            else:
+                failed += 1
+                print(f"the time: afx {' '.join(words)}\n  {told}")
+        if at_pipe(["serial", "slow.afx", "--steps", "1000000000"], room, env) == (b"1\n", b"", 0):
+            passed += 1
+        else:
+            failed += 1
+            print("the time is shown at a pipe")
     print(f"{passed} passed, {failed} failed")
     sys.exit(1 if failed else 0)
 
