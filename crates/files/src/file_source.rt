@@ -2,7 +2,7 @@
 
 ghost use Rattle.std.specs.Prelude.{◌≡◌, ◌≤◌, length, Option, None, option_map};
 ghost use Rattle.std.specs.Prelude.{IfOk, IfErr, MatchResult, OnOk};
-ghost use Rattle.failures.specs.Failures.{TellsUnwritten};
+ghost use Rattle.failures.specs.Failures.{TellsUnread, TellsUnwritten};
 ghost use Rattle.files.specs.Held.{Held, IsGiven, KeepsOthers, TellsNoProgram, TellsNoText, first};
 
 use crate::replacing::{FileNumber, number_of, replace};
@@ -80,6 +80,7 @@ pub fn read_file<F: FileSource>(
 ) -> Result<Vec<u8>, Failure>
     ensures given { IfOk result (λ v. IsGiven (F.held files.old name.now) (Ok v.items)) }
     ensures why { IfErr result (TellsNoText (F.held files.old) name.now) }
+    ensures unread { IfErr result (TellsUnread name.now) }
     ensures keeps { F.held files.new ≡ F.held files.old }
 {
     match files.read(name) {
