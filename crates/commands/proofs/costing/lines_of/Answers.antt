@@ -20,8 +20,8 @@ returns-in-ByLabel c spelled =
     (subst (λ (b : List ℕ). IfOk c.with_labels.result (λ told. HasShares c.args.text.now b cost.work.items cost.span.items
     (string_bytes told))) c.in_ok-numbers.ensures (c.with_labels.ensures spelled))
 
-pub returns-in-ByProcedure : goal.returns-in-ByProcedure
-returns-in-ByProcedure c spelled =
+pub returns : goal.returns
+returns c spelled =
     let cost = c.args.cost.now in
     let p = code_of c.args.typed.now in
     subst (λ (x : Shares). IfOk c.with_procedures.result (λ told. HasCost x c.args.text.now cost.costed.cost cost.work.items
