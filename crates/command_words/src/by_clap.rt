@@ -269,7 +269,7 @@ fn is_name(name: &str) -> bool {
 
 /// Returns whether this is a list of integers in decimal, or empty.
 fn are_numbers(elements: &str) -> bool {
-    elements.is_empty() || elements.split(',').all(is_number)
+    elements.is_empty() || elements.split(',').all(|part| is_number(part))
 }
 
 /// Returns whether this is an integer as JSON spells it.
