@@ -248,6 +248,7 @@ def cases_of(name, text, given, shared, alone):
     yield Case(name, ["view", file, trace, *options, "--by-line"])
     yield Case(name, ["view", file, trace, *options, "--summary", "--by-line"])
     yield Case(name, ["view", file, trace, *options, "--svg", "new.svg"], "new.svg")
+    yield Case(name, ["view", file, trace, *options, "--html", "new.html"], "new.html")
 
 
 def lay_out(program):

@@ -8,6 +8,7 @@ use Rattle.command_line.specs.declared.request.Command.{Command}
 use Rattle.command_line.specs.declared.request.Command.TheVariants.{Run, Serial, Check, Pairs, Explore}
 use Rattle.command_line.specs.declared.request.Command.TheVariants.{Places, Listing, Labels, Format, Meetings}
 use Rattle.command_line.specs.declared.request.Command.TheVariants.{CheckFormat, View, Summary, Draw, Chrome}
+use Rattle.command_line.specs.declared.request.Command.TheVariants.{Page}
 use Rattle.command_line.specs.declared.request.Command.TheVariants.{Cost, CostByLabel, CostByProcedure}
 use Rattle.command_line.specs.declared.request.Command.TheVariants.{PairsByLine, ViewByLine, SummaryByLine}
 use Rattle.command_line.specs.declared.request.Action.{Action}
@@ -367,8 +368,8 @@ settings_by o = record {
 
 -- ---- a trace that is shown
 
--- how it is shown: as a table, by its numbers, both also with statements, as a picture in a file, or in a file
--- for a trace viewer
+-- how it is shown: as a table, by its numbers, both also with statements, as a picture in a file, in a file for a
+-- trace viewer, or as a page
 pub data Showing : Type 0 where
   AsTable : Showing
   ByLine : Showing
@@ -376,6 +377,7 @@ pub data Showing : Type 0 where
   NumbersByLine : Showing
   AsPicture : (out : List ℕ) → Showing
   ForViewer : (out : List ℕ) → Showing
+  AsPage : (out : List ℕ) → Showing
 
 -- the arguments for it
 abbrev pub showing_words : Showing → List (List ℕ)
@@ -385,6 +387,7 @@ showing_words ByNumbers = codes "--summary" ∷ []
 showing_words NumbersByLine = codes "--summary" ∷ codes "--by-line" ∷ []
 showing_words (AsPicture out) = codes "--svg" ∷ out ∷ []
 showing_words (ForViewer out) = codes "--chrome" ∷ out ∷ []
+showing_words (AsPage out) = codes "--html" ∷ out ∷ []
 
 abbrev pub command_for : Showing → Command
 command_for AsTable = View
@@ -393,6 +396,7 @@ command_for ByNumbers = Summary
 command_for NumbersByLine = SummaryByLine
 command_for (AsPicture out) = Draw
 command_for (ForViewer out) = Chrome
+command_for (AsPage out) = Page
 
 -- the file of the picture
 abbrev pub picture_of : Showing → Option (List ℕ)
@@ -402,6 +406,7 @@ picture_of ByNumbers = None
 picture_of NumbersByLine = None
 picture_of (AsPicture out) = Some out
 picture_of (ForViewer out) = Some out
+picture_of (AsPage out) = Some out
 
 -- the file of the trace, that of the initial contents of the arrays, if one is named, and how it is shown
 pub record Viewing : Type 0 where

@@ -49,6 +49,8 @@ pub enum Command {
     Draw,
     /// `view --chrome OUT`: write a trace into a file for a trace viewer.
     Chrome,
+    /// `view --html OUT`: write a page in which a trace can be explored.
+    Page,
 }
 
 /// When explanations have colors.
@@ -220,7 +222,7 @@ pub struct RunOptions<'w> {
     /// `--trace FILE` of `run`: the file that the run's trace is written to. `TRACE` of `view`: the
     /// file that contains it, which these arguments always name.
     pub trace: Option<&'w str>,
-    /// `--svg OUT` or `--chrome OUT`: the file that the picture is written to.
+    /// `--svg OUT`, `--chrome OUT` or `--html OUT`: the file that the picture is written to.
     pub picture: Option<&'w str>,
     /// `--arrays`: the arrays are shown after the outcome.
     pub arrays: bool,

@@ -196,6 +196,8 @@ fn viewing(given: &ArgMatches<'_>) -> Command {
         Command::Draw
     } else if given.get_str("chrome").is_some() {
         Command::Chrome
+    } else if given.get_str("html").is_some() {
+        Command::Page
     } else if by_line {
         Command::ViewByLine
     } else {
@@ -269,7 +271,7 @@ fn is_name(name: &str) -> bool {
 
 /// Returns whether this is a list of integers in decimal, or empty.
 fn are_numbers(elements: &str) -> bool {
-    elements.is_empty() || elements.split(',').all(is_number)
+    elements.is_empty() || elements.split(',').all(|part| is_number(part))
 }
 
 /// Returns whether this is an integer as JSON spells it.
@@ -334,9 +336,12 @@ fn trace<'w>(given: &ArgMatches<'w>) -> Option<&'w str> {
 
 /// Returns the file of a picture. `clap` has checked that at most one option names it.
 fn picture<'w>(given: &ArgMatches<'w>) -> Option<&'w str> {
-    match given.get_str("svg") {
+    if let Some(file) = given.get_str("svg") {
+        return Some(file);
+    }
+    match given.get_str("chrome") {
         Some(file) => Some(file),
-        None => given.get_str("chrome"),
+        None => given.get_str("html"),
     }
 }
 

@@ -173,8 +173,8 @@ fn view_line<'w>(file: &'w str, behind: &'w [String]) -> Option<PlainLine<'w>>
     }
 }
 
-/// Returns how to show a trace, and the file for its picture: no argument, `--by-line`, `--summary`,
-/// `--summary --by-line`, `--svg OUT` or `--chrome OUT`.
+/// Returns how to show a trace, and the file for its picture or page: no argument, `--by-line`,
+/// `--summary`, `--summary --by-line`, `--svg OUT`, `--chrome OUT` or `--html OUT`.
 fn showing<'w>(words: &'w [String]) -> Option<(Action, Option<&'w str>)>
     ensures { option_map shown_of result ≡ read_showing (map string_bytes words.now) }
 {
@@ -207,6 +207,8 @@ fn shown_by_two<'w>(option: &str, out: &'w str) -> Option<(Action, Option<&'w st
         Some((Answer(Command::Draw), Some(out)))
     } else if option == "--chrome" {
         Some((Answer(Command::Chrome), Some(out)))
+    } else if option == "--html" {
+        Some((Answer(Command::Page), Some(out)))
     } else if option == "--summary" && out == "--by-line" {
         Some((Answer(Command::SummaryByLine), None))
     } else {

@@ -1,6 +1,6 @@
 -- The statements of a text's program, as answers name them: `12:11 label 8  async { .. }`.
-use Rattle.std.specs.Prelude.{ℕ, ◌≡◌, ◌+◌, ◌-◌, ◌++◌, Bool, false, List, [], ◌∷◌, Option, None, Some, codes}
-use Rattle.std.specs.Prelude.{if◌then◌else◌, length, map, nat_eq, option_map, slice_get, unwrap_or}
+use Rattle.std.specs.Prelude.{ℕ, ◌≡◌, ◌+◌, ◌-◌, ◌++◌, Bool, List, [], ◌∷◌, Option, None, Some, codes}
+use Rattle.std.specs.Prelude.{if◌then◌else◌, length, map, nat_eq, option_map, slice_get, slice_index, unwrap_or}
 use Rattle.std.specs.Fmt.{decimal}
 use Rattle.std.specs.Str.{chars, trim_start}
 use Rattle.std.specs.Str.Lines.{lines}
@@ -15,14 +15,9 @@ use Rattle.statement_places.specs.Lines.{has_label}
 use Rattle.statement_places.specs.Starts.{starts}
 use Rattle.commands.specs.declared.statements.NamedStatements.{NamedStatements}
 
--- this byte is an open brace
-abbrev pub is_brace : Option ℕ → Bool
-is_brace None = false
-is_brace (Some c) = nat_eq c 123
-
 -- a line of a program ends with an open brace
 abbrev pub opens_block : List ℕ → Bool
-opens_block line = is_brace (slice_get line (length line - 1))
+opens_block line = nat_eq (slice_index line (length line - 1)) 123
 
 -- a text whose block is closed
 abbrev pub closed : List ℕ → List ℕ

@@ -7,7 +7,7 @@ ghost use Rattle.syntax.specs.Lexical.{AreTokensOf};
 ghost use Rattle.syntax.specs.Spelling.{spelling};
 ghost use Rattle.types.specs.Typed.{code_of, program_of as program_in};
 ghost use Rattle.command_line.specs.Requests.{settings as settings_of};
-ghost use Rattle.cost.specs.Text.{procedures_text as text_of_procedures};
+ghost use Rattle.cost.specs.Text.{cost_text as text_of_cost, procedures_text as text_of_procedures};
 ghost use Rattle.printing.specs.Labels.{labels_in};
 ghost use Rattle.commands.specs.Answers.{Does, HasCost, HasShares, command_of, rows_in};
 
@@ -100,45 +100,38 @@ fn lines_of(
         → IfOk result (λ told. HasCost shares text.now cost.now.costed.cost
         cost.now.work.items cost.now.span.items (code_of typed.now) (string_bytes told)) }
 {
-    let numbers = cost_text(alloc, &cost.costed.cost)?;
     match shares {
-        Shares::Untold => Ok(numbers),
-        Shares::ByLabel => with_labels(alloc, text, typed, cost, numbers),
-        Shares::ByProcedure => with_procedures(alloc, typed, cost, numbers),
+        Shares::Untold => cost_text(alloc, &cost.costed.cost),
+        Shares::ByLabel => with_labels(alloc, text, typed, cost),
+        Shares::ByProcedure => with_procedures(alloc, typed, cost),
     }
 }
 
-/// Adds the shares of labels to a text, each with its statement.
+/// Returns the lines of a cost, followed by the shares of labels, each with its statement.
 fn with_labels(
     alloc: Global,
     text: &str,
     typed: &Typed,
     cost: &CostByLabel,
-    before: String,
 ) -> Result<String, AllocError>
     ensures { AreTokensOf (chars text.now) (spelling (program_in typed.now))
-        → IfOk result (λ told. HasShares text.now (string_bytes before)
+        → IfOk result (λ told. HasShares text.now (text_of_cost cost.now.costed.cost)
         cost.now.work.items cost.now.span.items (string_bytes told)) }
 {
+    let mut told = cost_text(alloc, &cost.costed.cost)?;
     let statements = NamedStatements::of(alloc, text, typed.program())?;
     let lines = labels_text(alloc, &cost.work, &cost.span)?;
-    let mut told = before;
     statements.push_lines(alloc, &mut told, lines.as_str())?;
     Ok(told)
 }
 
-/// Adds the shares of procedures to a text.
-fn with_procedures(
-    alloc: Global,
-    typed: &Typed,
-    cost: &CostByLabel,
-    before: String,
-) -> Result<String, AllocError>
-    ensures { IfOk result (λ told. string_bytes told ≡ string_bytes before
+/// Returns the lines of a cost, followed by the shares of procedures.
+fn with_procedures(alloc: Global, typed: &Typed, cost: &CostByLabel) -> Result<String, AllocError>
+    ensures { IfOk result (λ told. string_bytes told ≡ text_of_cost cost.now.costed.cost
         ++ text_of_procedures cost.now.work.items cost.now.span.items (code_of typed.now)) }
 {
+    let mut told = cost_text(alloc, &cost.costed.cost)?;
     let lines = lines_of_procedures(alloc, typed, cost)?;
-    let mut told = before;
     told.push_str(lines.as_str())?;
     Ok(told)
 }

@@ -105,7 +105,7 @@ fn file_explained<F: FileSource>(
     ensures { F.held files.new ≡ F.held files.old }
 {
     match failure {
-        Failure::CannotRead { name } => unreadable_explained(alloc, name.as_str()),
+        Failure::CannotRead { name } => unreadable_explained(alloc, files, name.as_str()),
         Failure::NotUtf8 { name } => reread_explained(alloc, files, name.as_str()),
         Failure::CannotWrite { name } => unwritten_explained(alloc, name.as_str()),
         _ => Ok(String::new(alloc)),

@@ -42,32 +42,21 @@ impl NamedStatements {
         Ok(NamedStatements { places, heads })
     }
 
-    /// Adds where the statement with this number, from 0, starts.
-    fn push_place(&self, told: &mut String, number: usize) -> Result<(), AllocError>
-        ensures { OnOk result (string_bytes told.new
-            ≡ string_bytes told.old ++ place_text (slice_get self.now.places.items number)) }
+    /// Returns where the statement with this number, from 0, starts, if there is one.
+    fn place_at(&self, number: usize) -> Option<TextPlace>
+        ensures { result ≡ slice_get self.now.places.items number }
     {
-        match self.places.get(number).copied() {
-            None => Ok(()),
-            Some(place) => {
-                let line = place.line;
-                let column = place.column;
-                write!(told, "{line}:{column} ")
-            }
-        }
+        self.places.get(number).copied()
     }
 
-    /// Adds the text of the statement with this number, from 0.
-    fn push_head(&self, told: &mut String, number: usize) -> Result<(), AllocError>
-        ensures { OnOk result (string_bytes told.new ≡ string_bytes told.old
-            ++ head_text (option_map string_bytes (slice_get self.now.heads.items number))) }
+    /// Returns the text of the statement with this number, from 0, if there is one.
+    pub fn head_at(&self, number: usize) -> Option<&str>
+        ensures { option_map (λ t. t.now) result
+            ≡ option_map string_bytes (slice_get self.now.heads.items number) }
     {
         match self.heads.get(number) {
-            None => Ok(()),
-            Some(head) => {
-                told.push_str("  ")?;
-                told.push_str(head.as_str())
-            }
+            None => None,
+            Some(head) => Some(head.as_str()),
         }
     }
 
@@ -82,9 +71,9 @@ impl NamedStatements {
         ensures { OnOk result (string_bytes told.new
             ≡ string_bytes told.old ++ around self.now number between.now) }
     {
-        self.push_place(told, number)?;
+        push_place(told, self.place_at(number))?;
         told.push_str(between)?;
-        self.push_head(told, number)
+        push_text(told, self.head_at(number))
     }
 
     /// Adds the statement with a label: `12:11 label 8  async { .. }`.
@@ -123,6 +112,34 @@ impl NamedStatements {
     {
         self.push_around(told, number, line)?;
         told.push('\n')
+    }
+}
+
+/// Adds where a statement starts, if it is known.
+fn push_place(told: &mut String, place: Option<TextPlace>) -> Result<(), AllocError>
+    ensures { OnOk result (string_bytes told.new ≡ string_bytes told.old ++ place_text place) }
+{
+    match place {
+        None => Ok(()),
+        Some(place) => {
+            let line = place.line;
+            let column = place.column;
+            write!(told, "{line}:{column} ")
+        }
+    }
+}
+
+/// Adds the text of a statement, if it is known.
+fn push_text(told: &mut String, head: Option<&str>) -> Result<(), AllocError>
+    ensures { OnOk result (string_bytes told.new
+        ≡ string_bytes told.old ++ head_text (option_map (λ t. t.now) head.entry)) }
+{
+    match head {
+        None => Ok(()),
+        Some(head) => {
+            told.push_str("  ")?;
+            told.push_str(head)
+        }
     }
 }
 
@@ -207,10 +224,7 @@ fn head_of(alloc: Global, line: &str) -> Result<String, AllocError>
 fn opens_block(line: &str) -> bool
     ensures { result ≡ opens line.now }
 {
-    match line.as_bytes().last() {
-        Some(last) => *last == b'{',
-        None => false,
-    }
+    line.as_bytes().last().copied().unwrap_or(0) == b'{'
 }
 
 /// Returns whether a line of a listing starts with a label.

@@ -6,7 +6,7 @@ use Rattle.std.specs.Io.KnownBytes.{Keeps}
 use Rattle.commands.specs.Answers.{Answer, Answers, Done, Explains}
 use Rattle.commands.specs.Rewriting.{AnswersRewrite, ExplainsRewrite, LeavesRewritten}
 use Rattle.viewing.specs.Files.{WritesTo}
-use Rattle.viewing.specs.Views.{AnswersTrace, ExplainsTrace, IsDrawn, picture_name}
+use Rattle.viewing.specs.Views.{AnswersTrace, ExplainsTrace, IsDrawn, IsPageOf, picture_name}
 use Rattle.printing.specs.Appending.{AppendsBeginning}
 use Rattle.failures.specs.FailureStatus.{failure_status}
 use Rattle.files.specs.Held.{Held}
@@ -18,6 +18,7 @@ use Rattle.command_line.specs.declared.request.Command.{Command}
 use Rattle.command_line.specs.declared.request.Command.TheVariants.{Run, Serial, Check, Listing, Pairs}
 use Rattle.command_line.specs.declared.request.Command.TheVariants.{Meetings, Explore, Labels, Places, Format}
 use Rattle.command_line.specs.declared.request.Command.TheVariants.{CheckFormat, View, Summary, Draw, Chrome}
+use Rattle.command_line.specs.declared.request.Command.TheVariants.{Page}
 use Rattle.command_line.specs.declared.request.Command.TheVariants.{Cost, CostByLabel, CostByProcedure}
 use Rattle.command_line.specs.declared.request.Command.TheVariants.{PairsByLine, ViewByLine, SummaryByLine}
 use Rattle.failures.specs.declared.failure.Failure.{Failure}
@@ -36,6 +37,7 @@ AnswersAny Summary s held text = AnswersTrace Summary s held text
 AnswersAny SummaryByLine s held text = AnswersTrace SummaryByLine s held text
 AnswersAny Draw s held text = AnswersTrace Draw s held text
 AnswersAny Chrome s held text = AnswersTrace Chrome s held text
+AnswersAny Page s held text = AnswersTrace Page s held text
 AnswersAny c s held text = Answers c s held text
 
 -- a failure is one of this command
@@ -46,6 +48,7 @@ ExplainsAny Summary s held text = ExplainsTrace Summary s held text
 ExplainsAny SummaryByLine s held text = ExplainsTrace SummaryByLine s held text
 ExplainsAny Draw s held text = ExplainsTrace Draw s held text
 ExplainsAny Chrome s held text = ExplainsTrace Chrome s held text
+ExplainsAny Page s held text = ExplainsTrace Page s held text
 ExplainsAny c s held text = Explains c s held text
 
 -- the contents of files after a command: the trace of a run in the file that was named for it, a picture in
@@ -54,6 +57,7 @@ abbrev pub Leaves : Command → Settings → (text : List ℕ) → (held later :
 Leaves Run s text held later r = TracesRun s text held later r
 Leaves Draw s text held later r = WritesTo (picture_name s) (IsDrawn s held text) held later r
 Leaves Chrome s text held later r = WritesTo (picture_name s) (IsDrawn s held text) held later r
+Leaves Page s text held later r = ⊥
 Leaves Serial s text held later r = later ≡ held
 Leaves Check s text held later r = later ≡ held
 Leaves Listing s text held later r = later ≡ held
@@ -73,6 +77,13 @@ Leaves ViewByLine s text held later r = later ≡ held
 Leaves Summary s text held later r = later ≡ held
 Leaves SummaryByLine s text held later r = later ≡ held
 
+-- the same; a page names the program's file too
+abbrev pub LeavesBy : Command → (file : List ℕ) → Settings → (text : List ℕ) → (held later : Held)
+    → Result ℕ Failure
+    → Type 0
+LeavesBy Page file s text held later r = WritesTo (picture_name s) (IsPageOf file s held text) held later r
+LeavesBy c file s text held later r = Leaves c s text held later r
+
 -- ---- what is done with a file
 
 -- the text written, with its status, answers the action for the text of a program: that of a command, or
@@ -90,7 +101,7 @@ ExplainsTo Rewrite file s held text = ExplainsRewrite file text
 abbrev pub LeavesTo : Action → (file : List ℕ) → Settings → (text : List ℕ) → (held later : Held)
     → Result ℕ Failure
     → Type 0
-LeavesTo (AnswerBy c) file s text held later r = Leaves c s text held later r
+LeavesTo (AnswerBy c) file s text held later r = LeavesBy c file s text held later r
 LeavesTo Rewrite file s text held later r = LeavesRewritten file text held later r
 
 -- the request was carried out, and the contents of files are right

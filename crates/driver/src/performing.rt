@@ -75,6 +75,10 @@ pub fn perform<R: Threads + Wait + Sync, F: FileSource, O: Write, W: Watch>(
             Command::SummaryByLine => view(rt, alloc, Look::NumbersByLine, question, files, out),
             Command::Draw => draw(rt, alloc, Form::Picture, question, files, out),
             Command::Chrome => draw(rt, alloc, Form::Spans, question, files, out),
+            Command::Page => {
+                let program = request.file;
+                draw(rt, alloc, Form::Html { program }, question, files, out)
+            }
         },
     }
 }

@@ -263,7 +263,7 @@ fn push_no_list(
     if value.get(name).and_then(Value::as_str).is_some() {
         write!(
             told,
-            "help: write the text to a file, and use `--text {name}=FILE` in place of `--input`.\n"
+            "help: write the code of each letter, as in [107, 105]; if no other array has an input, use `--text {name}=FILE`.\n"
         )
     } else {
         told.push_str(

@@ -2,7 +2,7 @@
 use Rattle.std.proofs.Common.{◌≡◌, ℕ, ℤ, List, Some, refl}
 use Rattle.types.specs.Code.{Array}
 use Rattle.command_line.specs.Requests.{Source, FromBytes, FromFile}
-use Rattle.failures.specs.Failures.{TellsNotUtf8}
+use Rattle.failures.specs.Failures.{TellsNotUtf8, TellsUnread}
 use Rattle.files.specs.Held.{HasJson, HasMistakeIn, HasNoText, Held, Says, SaysText, TellsNoInput, TellsNoText}
 use Rattle.failures.specs.declared.failure.Failure.{Failure}
 use Rattle.failures.specs.declared.failure.Failure.TheVariants.{CannotRead, Input, NotUtf8, NoMemory}
@@ -27,6 +27,12 @@ unread_no_input name held arrays (NotUtf8 told) why =
     record { source = FromFile name; given = refl; fact = (name, refl, why) }
 unread_no_input name held arrays NoMemory why = tt
 unread_no_input name held arrays _ why = absurd why
+
+pub unread_no_bytes : (name file : List ℕ) (held : Held) (arrays : List Array) (f : Failure) → TellsUnread file f
+    → TellsNoText held file f → TellsNoInput (Some (FromBytes name file)) held arrays f
+unread_no_bytes name file held arrays (CannotRead told) unread why = record { name = file; named = refl; fact = why }
+unread_no_bytes name file held arrays NoMemory unread why = tt
+unread_no_bytes name file held arrays _ unread why = absurd unread
 
 -- a file whose bytes aren't UTF-8 gives no input
 pub no_text_no_input : (name : List ℕ) (held : Held) (arrays : List Array) (f : Failure) → TellsNotUtf8 name f

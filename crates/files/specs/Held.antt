@@ -1,5 +1,6 @@
 -- What is known about files, and what reading them returns.
-use Rattle.std.specs.Prelude.{ℕ, ℤ, pos, ◌≡◌, ◌≢◌, ◌<◌, ◌≤◌, List, [], ◌∷◌, ◌++◌, codes, length, map, replicate, take}
+use Rattle.std.specs.Prelude.{ℕ, ℤ, pos, ◌≡◌, ◌≢◌, ◌<◌, ◌≤◌, List, [], ◌∷◌, ◌++◌, codes, length, map}
+use Rattle.std.specs.Prelude.{replicate, take}
 use Rattle.std.specs.Prelude.{Option, None, Some, Result, Ok, Err, IfSome}
 use Rattle.std.specs.Fmt.{decimal}
 use Rattle.std.specs.List.{flat_map}
@@ -86,10 +87,14 @@ TellsNoProgram held name _ = ⊥
 abbrev pub zeros : List Array → List (List ℤ)
 zeros arrays = map (λ a. replicate a.length (pos 0)) arrays
 
+-- a number in decimal after a comma
+abbrev pub after_comma : ℕ → List ℕ
+after_comma n = codes "," ++ decimal n
+
 -- numbers in decimal, with commas between them
 abbrev pub joined : List ℕ → List ℕ
 joined [] = []
-joined (n ∷ ns) = decimal n ++ flat_map (λ m. 44 ∷ decimal m) ns
+joined (n ∷ ns) = decimal n ++ flat_map after_comma ns
 
 -- the JSON text of one array with these elements: `{"a":[1,2,3]}`
 abbrev pub array_text : (name elements : List ℕ) → List ℕ
@@ -148,7 +153,8 @@ abbrev pub TellsNoInput : (input : Option Source) → Held → List Array → Fa
 TellsNoInput input held arrays (CannotRead told) =
     NamesFile input (λ name. TellsNoText held name (CannotRead told))
 TellsNoInput input held arrays (NotUtf8 told) =
-    HasSource input (λ source. (name : List ℕ) × (source ≡ FromFile name) × TellsNoText held name (NotUtf8 told))
+    HasSource input (λ source. (name : List ℕ) × (source ≡ FromFile name)
+    × TellsNoText held name (NotUtf8 told))
 TellsNoInput input held arrays (Input e) = HasSource input (λ source. HasMistake held source arrays e)
 TellsNoInput input held arrays NoMemory = Unit {0}
 TellsNoInput input held arrays _ = ⊥

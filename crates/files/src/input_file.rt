@@ -1,7 +1,6 @@
 //! The initial contents of the arrays.
 
-ghost use Rattle.std.specs.Prelude.{◌≡◌, ◌∷◌, ◌++◌, IfErr, IfOk, OnOk, Some, option_map};
-ghost use Rattle.std.specs.Fmt.{decimal};
+ghost use Rattle.std.specs.Prelude.{◌≡◌, ◌++◌, IfErr, IfOk, OnOk, Some, option_map};
 ghost use Rattle.std.specs.List.{flat_map};
 ghost use Rattle.std.specs.String.{string_bytes};
 ghost use Rattle.types.specs.Inputs.{IsInput};
@@ -9,7 +8,7 @@ ghost use Rattle.types.specs.Translation.{input as lists_of};
 ghost use Rattle.types.specs.Typed.{code_of};
 ghost use Rattle.command_line.specs.Requests.{FromBytes, FromFile, source as source_of};
 ghost use Rattle.files.specs.Held.{BeginsWith, TellsNoInput, array_text as text_of_array, joined as joined_by};
-ghost use Rattle.files.specs.Held.{HasMistakeIn, SaysText, zeros as zeros_of};
+ghost use Rattle.files.specs.Held.{HasMistakeIn, SaysText, after_comma, zeros as zeros_of};
 
 use crate::file_source::{FileSource, read_file};
 use command_line::request::InputSource;
@@ -55,10 +54,10 @@ fn input_in<F: FileSource>(
     ensures keeps { F.held files.new ≡ F.held files.old }
 {
     let bytes = read_file(alloc, files, name)?;
-    let Ok(text) = std::str::from_utf8(&bytes) else {
-        return Err(Failure::not_utf8(alloc, name));
-    };
-    read(alloc, typed, text)
+    match std::str::from_utf8(&bytes) {
+        Ok(text) => read(alloc, typed, text),
+        Err(_) => Err(Failure::not_utf8(alloc, name)),
+    }
 }
 
 /// Returns the lists in a JSON text.
@@ -113,11 +112,8 @@ fn bytes_in<F: FileSource>(
 pub fn array_text(alloc: Global, name: &str, elements: &str) -> Result<String, AllocError>
     ensures { IfOk result (λ text. string_bytes text ≡ text_of_array name.now elements.now) }
 {
-    let mut text = String::from_str(alloc, "{\"")?;
-    text.push_str(name)?;
-    text.push_str("\":[")?;
-    text.push_str(elements)?;
-    text.push_str("]}")?;
+    let mut text = String::new(alloc);
+    write!(&mut text, "{{\"{name}\":[{elements}]}}")?;
     Ok(text)
 }
 
@@ -136,12 +132,19 @@ pub fn joined(alloc: Global, bytes: &[u8]) -> Result<String, AllocError>
 /// Adds these numbers, each after a comma.
 fn push_others(text: &mut String, bytes: &[u8]) -> Result<(), AllocError>
     ensures { OnOk result (string_bytes text.new
-        ≡ string_bytes text.old ++ flat_map (λ m. 44 ∷ decimal m) bytes.now) }
+        ≡ string_bytes text.old ++ flat_map after_comma bytes.now) }
 {
     for byte in bytes {
-        write!(text, ",{byte}")?;
+        push_other(text, *byte)?;
     }
     Ok(())
+}
+
+/// Adds a number after a comma.
+fn push_other(text: &mut String, byte: u8) -> Result<(), AllocError>
+    ensures { OnOk result (string_bytes text.new ≡ string_bytes text.old ++ after_comma byte) }
+{
+    write!(text, ",{byte}")
 }
 
 /// Returns an input of zeros.

@@ -16,7 +16,7 @@ use Rattle.syntax.specs.declared.place.TextPlace.{TextPlace}
 use Rattle.cost.specs.declared.cost.Cost.{Cost}
 use Rattle.trace_numbers.specs.declared.summary.TraceSummary.{TraceSummary}
 use Rattle.commands.specs.declared.statements.NamedStatements.{NamedStatements}
-use Rattle.json_answers.specs.Pieces.{list_by, natural}
+use Rattle.json_answers.specs.Pieces.{list_by, natural, object_of}
 use Rattle.json_answers.specs.Statements.{list_of, members_with, numbered, share_json, share_members, shares_json, statement_json}
 use Rattle.json_answers.specs.Statements.{statement_members, statements_json, statements_members, text_json}
 use Rattle.json_answers.specs.Summaries.{summary_json, summary_members}
@@ -45,6 +45,21 @@ one_more_value f places n p d vs v inside is so_far new =
     ∙ ap (λ (x : Data). map view vs ++ (x ∷ behind)) new
     ∙ ap (λ (l : List TextPlace). map view vs ++ numbered f n l) (sym parts)
     ∙ so_far
+
+-- the value of one statement, from that of its text
+pub statement_told : (s : NamedStatements) (n : ℕ) (p : TextPlace) (text v : Value) → view text ≡ text_json s n
+    → view v ≡ object_of (statement_members (n + 1) p (view text)) → view v ≡ statement_json s n p
+statement_told s n p text v text_is is = is ∙ ap (λ (t : Data). object_of (statement_members (n + 1) p t)) text_is
+
+-- with its share
+pub share_told : (s : NamedStatements) (work span : List ℕ) (n : ℕ) (p : TextPlace) (steps longest : ℕ) (text v : Value)
+    → view text ≡ text_json s n → steps ≡ slice_index work (n + 1) → longest ≡ slice_index span (n + 1)
+    → view v ≡ object_of (share_members (n + 1) p (view text) steps longest) → view v ≡ share_json s work span n p
+share_told s work span n p steps longest text v text_is work_is span_is is =
+    is
+    ∙ ap (λ (t : Data). object_of (share_members (n + 1) p t steps longest)) text_is
+    ∙ ap (λ (k : ℕ). object_of (share_members (n + 1) p (text_json s n) k longest)) work_is
+    ∙ ap (λ (k : ℕ). object_of (share_members (n + 1) p (text_json s n) (slice_index work (n + 1)) k)) span_is
 
 pub all_values : (f : ℕ → TextPlace → Data) (s : NamedStatements) (n : ℕ) (v : Vec Value Global)
     → length s.places.items ≤ n → SoFar f s.places.items n v.items → view (Array v) ≡ list_of f s

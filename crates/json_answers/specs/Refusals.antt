@@ -1,5 +1,6 @@
 -- The object of a failure.
 use Rattle.std.specs.Prelude.{ℕ, List, [], ◌∷◌, codes, Option, None, Some, option_and_then, option_map}
+use Rattle.std.specs.Option.{option_or}
 use Rattle.std.specs.String.{string_bytes}
 use Rattle.serde_json.specs.Data.{Data, string}
 use Rattle.syntax.specs.declared.place.TextPlace.{TextPlace}
@@ -42,14 +43,9 @@ failure_place places (Syntax e) = place_of e
 failure_place places (Types e) = option_and_then (place_at places) (label_of e)
 failure_place places _ = None
 
--- the first of two values, or the second if there is no first
-abbrev pub first_of : {X : Type 0} → Option X → Option X → Option X
-first_of None second = second
-first_of (Some first) second = Some first
-
 -- that position, or the one in the explanation
 abbrev pub explained_place : List TextPlace → Failure → Reason → Option TextPlace
-explained_place places f r = first_of (failure_place places f) r.place
+explained_place places f r = option_or (failure_place places f) r.place
 
 -- why, and the suggestions
 abbrev pub reason_json : Reason → Data

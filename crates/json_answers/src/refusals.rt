@@ -66,10 +66,7 @@ fn refusal_value(
 fn place_explained(failure: &Failure, places: &[TextPlace], reason: &Reason) -> Option<TextPlace>
     ensures { result ≡ explained_place places.now failure.now reason.now }
 {
-    match place_of(failure, places) {
-        None => reason.place,
-        Some(place) => Some(place),
-    }
+    place_of(failure, places).or(reason.place)
 }
 
 /// Returns why a failure is one, or null.

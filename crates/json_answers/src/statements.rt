@@ -9,6 +9,7 @@ ghost use Rattle.json_answers.specs.Statements.{shares_json, statement_json, sta
 ghost use Rattle.json_answers.specs.Statements.{statements_json, text_json};
 
 use crate::line::line_of;
+use crate::refusals::text_or_null;
 use commands::statements::NamedStatements;
 use cost::cost::{Cost, CostByLabel};
 use cost::shares::at;
@@ -70,10 +71,7 @@ fn text_value(
 ) -> Result<Value, AllocError>
     ensures { IfOk result (λ v. view v ≡ text_json statements.now number) }
 {
-    match statements.heads.get(number) {
-        None => Ok(Value::Null),
-        Some(text) => Value::try_from_str(alloc, text.as_str()),
-    }
+    text_or_null(alloc, statements.head_at(number))
 }
 
 /// Returns the object of the cost of a run that ended without faults, with the share of each

@@ -197,24 +197,30 @@ const TRACE: Entry = Entry {
 const SUMMARY: Entry = Entry {
     name: "summary",
     help: "Print totals instead of the table: tasks, steps, span, parallelism, steals and more",
-    takes: Takes::NothingBut(&["svg", "chrome"]),
+    takes: Takes::NothingBut(&["svg", "chrome", "html"]),
 };
 
 const EVENTS_BY_LINE: Entry = Entry {
     name: "by-line",
     help: "Also print the procedure and the statement of each step; with --summary the steps of each statement",
-    takes: Takes::NothingBut(&["svg", "chrome", "format"]),
+    takes: Takes::NothingBut(&["svg", "chrome", "html", "format"]),
 };
 
 const SVG: Entry = Entry {
     name: "svg",
     help: "Draw the trace to this SVG file instead of printing the table, with a lane for each worker",
-    takes: Takes::TextBut("OUT", &["chrome"]),
+    takes: Takes::TextBut("OUT", &["chrome", "html"]),
 };
 
 const CHROME: Entry = Entry {
     name: "chrome",
     help: "Write the trace to this file for Perfetto or chrome://tracing instead of printing the table",
+    takes: Takes::TextBut("OUT", &["html"]),
+};
+
+const HTML: Entry = Entry {
+    name: "html",
+    help: "Write a page to this HTML file in which the run can be explored in a browser",
     takes: Takes::Text("OUT"),
 };
 
@@ -352,7 +358,8 @@ const VIEW_EXAMPLE: &str =
 that this program can't produce on this input is rejected.
 
 Example: afx run examples/two_arrays.afx --trace two_arrays.trace && afx view examples/two_arrays.afx two_arrays.trace
-Example: afx view examples/two_arrays.afx two_arrays.trace --svg two_arrays.svg";
+Example: afx view examples/two_arrays.afx two_arrays.trace --svg two_arrays.svg
+Example: afx view examples/two_arrays.afx two_arrays.trace --html two_arrays.html";
 
 const EXPLAIN_EXAMPLE: &str = "Example: afx explain Y5";
 
@@ -462,7 +469,7 @@ const EXPLORED: Row = Row {
 
 const VIEWED: Row = Row {
     name: "view",
-    about: "Show the trace of a run as a table, as totals or as a picture",
+    about: "Show the trace of a run as a table, as totals, as a picture or as a page",
     example: VIEW_EXAMPLE,
     entries: &[
         FILE,
@@ -474,6 +481,7 @@ const VIEWED: Row = Row {
         EVENTS_BY_LINE,
         SVG,
         CHROME,
+        HTML,
         FORMAT_OF_SUMMARY,
         EXPLAIN,
         COLOR,

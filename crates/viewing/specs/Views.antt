@@ -4,7 +4,8 @@ use Rattle.std.specs.Prelude.{option_map, slice_get, slice_index, unwrap_or}
 use Rattle.std.specs.Str.Lines.{lines}
 use Rattle.std.specs.String.{string_bytes}
 use Rattle.types.specs.Code.{Program}
-use Rattle.types.specs.Translation.{budget}
+use Rattle.types.specs.Translation.{budget, input as lists_in}
+use Rattle.types.specs.Typed.{code_of}
 use Rattle.events.specs.Events.{event as event_of}
 use Rattle.events.specs.declared.event.Event.{Event}
 use Rattle.event_worlds.specs.World.{World}
@@ -22,6 +23,7 @@ use Rattle.command_line.specs.declared.request.Command.{Command}
 use Rattle.command_line.specs.declared.request.Command.TheVariants.{Run, Serial, Check, Listing, Pairs}
 use Rattle.command_line.specs.declared.request.Command.TheVariants.{Meetings, Explore, Labels, Places, Format}
 use Rattle.command_line.specs.declared.request.Command.TheVariants.{CheckFormat, View, Summary, Draw, Chrome}
+use Rattle.command_line.specs.declared.request.Command.TheVariants.{Page}
 use Rattle.command_line.specs.declared.request.Command.TheVariants.{Cost, CostByLabel, CostByProcedure}
 use Rattle.command_line.specs.declared.request.Command.TheVariants.{PairsByLine, ViewByLine, SummaryByLine}
 use Rattle.files.specs.Held.{Held, HasText, TellsNoText}
@@ -29,11 +31,13 @@ use Rattle.failures.specs.declared.failure.Failure.{Failure}
 use Rattle.failures.specs.declared.failure.Failure.TheVariants.{CannotRead, NotUtf8, Input, Trace, Illegal}
 use Rattle.failures.specs.declared.failure.Failure.TheVariants.{CannotWrite, CannotWriteOutput, NoMemory}
 use Rattle.commands.specs.Answers.{Done, IsExplored, LacksInput, TellsNotAccepted}
+use Rattle.trace_page.specs.Pages.{IsPage, Traced}
 use Rattle.viewing.specs.declared.drawing.Form.{Form}
-use Rattle.viewing.specs.declared.drawing.Form.TheVariants.{Picture, Spans}
+use Rattle.viewing.specs.declared.drawing.Form.TheVariants.{Html, Picture, Spans}
 use Rattle.viewing.specs.declared.remarks.Remarks.{Remarks}
 use Rattle.viewing.specs.declared.tables.Look.{Look}
 use Rattle.viewing.specs.declared.tables.Look.TheVariants.{Table, TableByLine, Numbers, NumbersByLine}
+use Rattle.viewing.specs.declared.traces.JudgedTrace.{JudgedTrace}
 
 -- ---- names
 
@@ -64,6 +68,12 @@ pub record HasTrace (s : Settings) (held : Held) (text : List ℕ) (h : Header) 
   pub run : IsExplored s held text
   pub holds : HoldsTrace held (trace_name s) h es
   pub legal : AreLegal run.code run.input h es
+
+-- this is the trace of the text's program, which was read: its program and its input are those of the run
+pub record IsJudged (s : Settings) (held : Held) (text : List ℕ) (t : JudgedTrace) : Type 0 where
+  pub trace : HasTrace s held text t.trace.header t.trace.events.items
+  pub code : trace.run.code ≡ code_of t.given.accepted.typed
+  pub input : trace.run.input ≡ lists_in t.given.input
 
 -- ---- answers
 
@@ -102,7 +112,8 @@ pub record IsSummaryByLine (workers : ℕ) (es : List Event) (told : List ℕ) :
   pub told_is : told ≡ before ++ behind
 
 -- the answer for a trace: by `view` the table of its events, by `view --summary` its numbers, both by
--- `--by-line` also with statements; `view --svg` and `view --chrome` write nothing to the standard output
+-- `--by-line` also with statements; `view --svg`, `view --chrome` and `view --html` write nothing to the standard
+-- output
 abbrev pub TellsTrace : Command → Header → List Event → (told : List ℕ) → Type 0
 TellsTrace View h es told = told ≡ table_text (map event_of es)
 TellsTrace ViewByLine h es told = IsTableByLine es told
@@ -110,6 +121,7 @@ TellsTrace Summary h es told = IsSummaryText h.workers es told
 TellsTrace SummaryByLine h es told = IsSummaryByLine h.workers es told
 TellsTrace Draw h es told = told ≡ []
 TellsTrace Chrome h es told = told ≡ []
+TellsTrace Page h es told = told ≡ []
 TellsTrace Run h es told = ⊥
 TellsTrace Serial h es told = ⊥
 TellsTrace Check h es told = ⊥
@@ -186,6 +198,7 @@ TellsNoTrace s held text f = TellsNotAccepted text f
 abbrev pub Draws : Command → Type 0
 Draws Draw = Unit {0}
 Draws Chrome = Unit {0}
+Draws Page = Unit {0}
 Draws View = ⊥
 Draws ViewByLine = ⊥
 Draws Summary = ⊥
@@ -210,6 +223,7 @@ Draws CostByProcedure = ⊥
 abbrev pub command_of : Form → Command
 command_of Picture = Draw
 command_of Spans = Chrome
+command_of (Html program) = Page
 
 -- a trace is drawn, and the file of the picture has this name
 pub record IsDrawnTo (s : Settings) (held : Held) (text told : List ℕ) : Type 0 where
@@ -236,3 +250,54 @@ pub record IsDrawn (s : Settings) (held : Held) (text bytes : List ℕ) : Type 0
   pub header : Header
   pub events : List Event
   pub trace : HasTrace s held text header events
+
+-- what a page shows of a trace that was read, with these names, this text, and these labels at the events
+abbrev pub traced_of : JudgedTrace → (name text trace labels : List ℕ) → Traced
+traced_of t name text trace labels = record {
+  name = name;
+  text = text;
+  trace = trace;
+  code = code_of t.given.accepted.typed;
+  input = lists_in t.given.input;
+  header = t.trace.header;
+  events = t.trace.events.items;
+  labels = labels;
+}
+
+-- a page of a trace that was read, by the name of the program's file
+pub record ShowsPage (name : List ℕ) (s : Settings) (text : List ℕ) (t : JudgedTrace) (bytes : List ℕ)
+    : Type 0 where
+  pub labels : List ℕ
+  pub page : IsPage (traced_of t name text (trace_name s) labels) bytes
+
+-- a trace that was read, drawn in this form; how a picture is drawn isn't specified
+abbrev pub ShowsTrace : Form → Settings → (text : List ℕ) → JudgedTrace → (bytes : List ℕ) → Type 0
+ShowsTrace Picture s text t bytes = Unit {0}
+ShowsTrace Spans s text t bytes = Unit {0}
+ShowsTrace (Html program) s text t bytes = ShowsPage program.now s text t bytes
+
+-- ---- pages
+
+-- the page of a trace of the text's program, by the name of the program's file; the labels aren't specified
+pub record IsPageOf (name : List ℕ) (s : Settings) (held : Held) (text bytes : List ℕ) : Type 0 where
+  pub header : Header
+  pub events : List Event
+  pub trace : HasTrace s held text header events
+  pub labels : List ℕ
+  pub page : IsPage (record {
+    name = name;
+    text = text;
+    trace = trace_name s;
+    code = trace.run.code;
+    input = trace.run.input;
+    header = header;
+    events = events;
+    labels = labels;
+  })
+      bytes
+
+-- the contents of the file in which a trace is drawn in this form
+abbrev pub IsDrawnAs : Form → Settings → Held → (text bytes : List ℕ) → Type 0
+IsDrawnAs Picture s held text bytes = IsDrawn s held text bytes
+IsDrawnAs Spans s held text bytes = IsDrawn s held text bytes
+IsDrawnAs (Html program) s held text bytes = IsPageOf program.now s held text bytes

@@ -1,6 +1,7 @@
 -- Statements after which their task does not go on, and blocks that start no task.
 use Rattle.std.specs.Prelude.{Bool, true, false, not, ◌&&◌, ◌||◌, if◌then◌else◌}
-use Rattle.types.specs.Code.{Truth, Constant, Compare, Not, Both, Either, Primitive, Skip, Assign, Store, Print, Raise}
+use Rattle.types.specs.Code.{Truth, Constant, Compare, Not, Both, Either, Primitive, Skip, Assign, Store}
+use Rattle.types.specs.Code.{Print, Raise}
 use Rattle.types.specs.Code.{Code, Do, If, While, Split, Parts, Begun, Call, Async, Finish, Codes, End, Then}
 
 -- a guard is the constant `true`, or `false`
@@ -59,7 +60,8 @@ abbrev mutual
   block_may_leave End = false
   block_may_leave (Then l s rest) = may_leave s || block_may_leave rest
 
--- the last statement of a block is an async, and no statement before it may leave a task: nothing runs beside it
+-- the last statement of a block is an async, and no statement before it may leave a task: nothing runs beside
+-- it
 abbrev pub is_async : Code → Bool
 is_async (Async b) = true
 is_async _ = false

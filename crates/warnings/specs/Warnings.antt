@@ -1,12 +1,14 @@
 -- The warnings of a program, in the order of the text.
-use Rattle.std.specs.Prelude.{ℕ, pos, negsuc, ◌+◌, Bool, true, false, not, ◌&&◌, ◌||◌, List, [], ◌∷◌, ◌++◌, Option, None, Some}
+use Rattle.std.specs.Prelude.{ℕ, pos, negsuc, ◌+◌, Bool, true, false, not, ◌&&◌, ◌||◌, List, [], ◌∷◌, ◌++◌}
+use Rattle.std.specs.Prelude.{Option, None, Some}
 use Rattle.std.specs.Prelude.{if◌then◌else◌, int_lt, nat_eq, slice_get}
 use Rattle.sections.specs.Overlap.{root_of}
 use Rattle.syntax_tree.specs.Tree as tree
 use Rattle.syntax_tree.specs.Tree.{Written, Read, Scalar as ScalarParameter}
 use Rattle.syntax_tree.specs.declared.tree.ElementType.{ElementType}
-use Rattle.types.specs.Code.{Number, Literal, Scalar, Element, Length, Negative, Chain, Primitive, Skip, Assign, Store}
-use Rattle.types.specs.Code.{Print, Raise, Code, Do, If, While, Split, Parts, Begun, Call, Async, Finish, Codes, End, Then}
+use Rattle.types.specs.Code.{Number, Literal, Scalar, Element, Length, Negative, Chain}
+use Rattle.types.specs.Code.{Primitive, Skip, Assign, Store, Print, Raise}
+use Rattle.types.specs.Code.{Code, Do, If, While, Split, Parts, Begun, Call, Async, Finish, Codes, End, Then}
 use Rattle.types.specs.Code.{Parameter, Procedure, Program}
 use Rattle.types.specs.Value.{holds_number}
 use Rattle.warnings.specs.Ends.{block_may_leave, is_always, is_lone_task, is_never, stops}
@@ -14,7 +16,8 @@ use Rattle.warnings.specs.Uses.{codes_use}
 use Rattle.warnings.specs.declared.uses.Thing.{Thing}
 use Rattle.warnings.specs.declared.uses.Thing.TheVariants.{ScalarIn, SectionOf, ProcedureOf}
 use Rattle.warnings.specs.declared.warning.Warning.{Warning}
-use Rattle.warnings.specs.declared.warning.Warning.TheVariants.{UnusedProcedure, UnusedParameter, UnreadVariable}
+use Rattle.warnings.specs.declared.warning.Warning.TheVariants.{UnusedProcedure, UnusedParameter}
+use Rattle.warnings.specs.declared.warning.Warning.TheVariants.{UnreadVariable}
 use Rattle.warnings.specs.declared.warning.Warning.TheVariants.{IdleFinish, LoneTask, TooLarge, Unreached}
 
 -- a warning, if this holds
@@ -93,12 +96,13 @@ abbrev mutual
   inner_warnings f (Async b) = block_warnings f false b
   inner_warnings f (Finish b) = block_warnings f false b
 
-  -- those of a block, whose first statement isn't reached if it is dead: no run reaches the statement after one
-  -- that stops its task
+  -- those of a block, whose first statement isn't reached if it is dead: no run reaches the statement after
+  -- one that stops its task
   pub block_warnings : Procedure → (dead : Bool) → Codes → List Warning
   block_warnings f dead End = []
   block_warnings f dead (Then l s rest) =
-      warn_if dead (Unreached l) ++ (own_warnings f l s ++ (inner_warnings f s ++ block_warnings f (stops s) rest))
+      warn_if dead (Unreached l)
+      ++ (own_warnings f l s ++ (inner_warnings f s ++ block_warnings f (stops s) rest))
 
 -- ---- procedures
 
@@ -119,7 +123,8 @@ sections_after (Written x t) n = n + 1
 sections_after (Read x t) n = n + 1
 
 -- the parameters of the procedure with number f from the n-th on, in its block
-abbrev pub parameter_warnings : (f : ℕ) → Codes → (n scalars sections : ℕ) → List tree.Parameter → List Warning
+abbrev pub parameter_warnings : (f : ℕ) → Codes → (n scalars sections : ℕ) → List tree.Parameter
+    → List Warning
 parameter_warnings f b n scalars sections [] = []
 parameter_warnings f b n scalars sections (x ∷ xs) =
     unused (thing_of x scalars sections) b (UnusedParameter f n)
@@ -143,7 +148,8 @@ parameters_in (Some g) = g.parameters
 abbrev pub procedure_warnings : tree.Program → Program → (f : ℕ) → Procedure → List Warning
 procedure_warnings t p f g =
     warn_if (not (is_called p f)) (UnusedProcedure f)
-    ++ (parameter_warnings f g.body 0 0 0 (parameters_in (slice_get t.procedures f)) ++ block_warnings g false g.body)
+    ++ (parameter_warnings f g.body 0 0 0 (parameters_in (slice_get t.procedures f))
+    ++ block_warnings g false g.body)
 
 -- those of the procedures from the n-th on
 abbrev pub warnings_from : tree.Program → Program → (n : ℕ) → List Procedure → List Warning

@@ -36,7 +36,7 @@ const ROWS: &[(&str, &str)] = &[
     ),
     (
         "view",
-        " input set text summary by-line svg chrome format explain color",
+        " input set text summary by-line svg chrome html format explain color",
     ),
     ("explain", " list"),
     ("completions", ""),

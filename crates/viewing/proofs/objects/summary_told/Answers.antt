@@ -7,7 +7,7 @@ returns-in-Ok-clause-object g c =
     record {
       header = trace.header;
       events = trace.events.items;
-      trace = c.in_ok-judged.ensures.trace;
+      trace = c.in_ok-judged.ensures.judged.trace;
       tells = c.in-Ok.ensures;
       status_is = refl;
     }
