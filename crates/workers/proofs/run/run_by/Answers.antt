@@ -22,7 +22,7 @@ pub work_together-requires-send-C-Kit : goal.work_together-requires-send-C-Kit
 work_together-requires-send-C-Kit g c κs within =
     let κ : NamedLft = record { mir = named 6; lft = κs.1.1.1.1.1.1.0 } in
     let s : IsSend (WorkerParts.the_row κ (param 0 g.row.J) g.J.Running) = parts_send κ (param 0 g.row.J) g.J.Running in
-    param_send 2 (arg-3-2 g.row.J g.row.G g.row.R g.J.laws g.G.laws g.R.laws g.J.Running g.J.Running-dict g.G.Gate g.G.Gate-dict g.R.Threads g.R.Threads-dict g.R.Wait g.R.Wait-dict κs)
+    param_send 2 (arg-3-2 g.row.J g.row.G g.row.R g.J.laws g.G.laws g.R.laws g.J.Running g.J.Running-dict g.J.Recording g.J.Recording-dict g.G.Gate g.G.Gate-dict g.R.Threads g.R.Threads-dict g.R.Wait g.R.Wait-dict κs)
     (record { owned = s.owned; leaving = λ k. s.leaving no })
 
 -- all threads can share the shared state
@@ -31,7 +31,7 @@ work_together-requires-sync-C g c κs within =
     let κ : NamedLft = record { mir = named 6; lft = κs.1.1.1.1.1.1.0 } in
     let s : IsSync (Shared.the_row κ (param 0 g.row.J) (param 1 g.row.G) g.J.Running g.G.Gate) =
     shared_sync κ (param 0 g.row.J) g.J.Running (param 1 g.row.G) g.G.Gate c.type_bounds.sync-G in
-    param_sync 0 (arg-3-0 g.row.J g.row.G g.row.R g.J.laws g.G.laws g.R.laws g.J.Running g.J.Running-dict g.G.Gate g.G.Gate-dict g.R.Threads g.R.Threads-dict g.R.Wait g.R.Wait-dict κs)
+    param_sync 0 (arg-3-0 g.row.J g.row.G g.row.R g.J.laws g.G.laws g.R.laws g.J.Running g.J.Running-dict g.J.Recording g.J.Recording-dict g.G.Gate g.G.Gate-dict g.R.Threads g.R.Threads-dict g.R.Wait g.R.Wait-dict κs)
     (record { shared = s.shared })
 
 -- the job and the settings of the shared state are those of the run
