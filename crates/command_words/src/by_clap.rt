@@ -4,7 +4,7 @@ use crate::order::{Order, SeveralTests, Subject};
 use clap::error::ErrorKind;
 use clap::{ArgMatches, Error};
 use command_line::request::{
-    Action, Choosing, Color, Command, Explain, Request, RunOptions, Spread, Telling,
+    Action, Choosing, Color, Command, Explain, InputSource, Request, RunOptions, Spread, Telling,
 };
 use options::reply::{self, Reply};
 use options::table::{CLOSING, commands};
@@ -220,7 +220,7 @@ fn asking<'w>(alloc: Global, action: Action, given: &ArgMatches<'w>) -> Result<R
         action,
         file: file(given),
         settings: RunOptions {
-            input: given.get_str("input"),
+            input: source(alloc, given)?,
             budget: budget(alloc, given)?,
             spread: spread(alloc, given)?,
             choices: choosing(given),
@@ -233,6 +233,54 @@ fn asking<'w>(alloc: Global, action: Action, given: &ArgMatches<'w>) -> Result<R
     })
 }
 
+/// Returns the source of an input. `clap` has checked that at most one option names it.
+fn source<'w>(alloc: Global, given: &ArgMatches<'w>) -> Result<Option<InputSource<'w>>, Error> {
+    if let Some(file) = given.get_str("input") {
+        return Ok(Some(InputSource::File(file)));
+    }
+    if let Some(word) = given.get_str("set") {
+        return match word.split_once('=') {
+            Some((name, elements)) if is_name(name) && are_numbers(elements) => {
+                Ok(Some(InputSource::Elements { name, elements }))
+            }
+            _ => Err(mistake(alloc, ErrorKind::ValueValidation, SET_MISTAKE)?),
+        };
+    }
+    match given.get_str("text") {
+        Some(word) => match word.split_once('=') {
+            Some((name, file)) if is_name(name) => Ok(Some(InputSource::Bytes { name, file })),
+            _ => Err(mistake(alloc, ErrorKind::ValueValidation, TEXT_MISTAKE)?),
+        },
+        None => Ok(None),
+    }
+}
+
+const SET_MISTAKE: &str =
+    "--set takes NAME=1,2,3: the name of an array, and its elements in digits with commas between them";
+
+const TEXT_MISTAKE: &str =
+    "--text takes NAME=FILE: the name of an array, and a file whose bytes are its elements";
+
+/// Returns whether this can be a part of a name. Then JSON spells it without escapes.
+fn is_name(name: &str) -> bool {
+    !name.is_empty()
+        && name
+            .bytes()
+            .all(|byte| byte.is_ascii_alphanumeric() || byte == b'_')
+}
+
+/// Returns whether this is a list of integers in decimal, or empty.
+fn are_numbers(elements: &str) -> bool {
+    elements.is_empty() || elements.split(',').all(|part| is_number(part))
+}
+
+/// Returns whether this is an integer as JSON spells it.
+fn is_number(part: &str) -> bool {
+    let digits = part.strip_prefix('-').unwrap_or(part);
+    let is_padded = digits.len() > 1 && digits.starts_with('0');
+    !digits.is_empty() && !is_padded && digits.bytes().all(|byte| byte.is_ascii_digit())
+}
+
 /// Returns the file of a program, or the name of what is tested.
 fn file<'w>(given: &ArgMatches<'w>) -> &'w str {
     given.get_str("FILE").unwrap_or("-")
@@ -243,18 +291,27 @@ fn file<'w>(given: &ArgMatches<'w>) -> &'w str {
 fn telling(given: &ArgMatches<'_>) -> Telling {
     let all = given.get_flag("all");
     Telling {
-        explain: match given.get_str("explain") {
-            _ if all => Explain::Always,
-            Some("always") => Explain::Always,
-            Some("never") => Explain::Never,
-            _ => Explain::AtTerminal,
+        explain: if all {
+            Explain::Always
+        } else {
+            when(given.get_str("explain"))
         },
         all,
+        warn: when(given.get_str("warn")),
         color: match given.get_str("color") {
             Some("always") => Color::Always,
             Some("never") => Color::Never,
             _ => Color::Auto,
         },
+    }
+}
+
+/// Returns when something is reported.
+fn when(word: Option<&str>) -> Explain {
+    match word {
+        Some("always") => Explain::Always,
+        Some("never") => Explain::Never,
+        _ => Explain::AtTerminal,
     }
 }
 

@@ -4,6 +4,7 @@ ghost use Rattle.std.specs.Prelude.{◌≡◌, ◌∷◌, [], false, map, IfOk};
 ghost use Rattle.std.specs.String.{string_bytes};
 ghost use Rattle.command_line.specs.Requests.{asked_of, settings as settings_of};
 ghost use Rattle.driver.specs.Acts.{IsSaid, in_short};
+ghost use Rattle.driver.specs.More.{nothing_more};
 ghost use Rattle.driver.specs.Trying.{TellsTimes, TimesRuns};
 ghost use Rattle.test_and_bench.specs.Trials.{DoesTest};
 
@@ -122,7 +123,7 @@ pub fn test_one<R: Threads + Wait + Sync, F: FolderSource, O: Write>(
     ensures done { let a = asked_of request.entry in DoesTest (F.named files.old) (F.held files.old)
         (a.file ∷ []) false a.settings (F.held files.new)
         (O.contents out.old) (O.contents out.new) (in_short result) }
-    ensures said { IsSaid false result }
+    ensures said { IsSaid nothing_more result }
 {
     let Ok(names) = list_of_one(alloc, request.file) else {
         return Err(Refusal::bare(alloc, Failure::NoMemory));
@@ -155,7 +156,7 @@ pub fn test_each<R: Threads + Wait + Sync, F: FolderSource, O: Write>(
     ensures done { DoesTest (F.named files.old) (F.held files.old)
         (map string_bytes tests.entry.names.now) tests.entry.writes (settings_of tests.entry.settings)
         (F.held files.new) (O.contents out.old) (O.contents out.new) (in_short result) }
-    ensures said { IsSaid false result }
+    ensures said { IsSaid nothing_more result }
 {
     let testing = Testing {
         alloc,

@@ -1,6 +1,9 @@
 -- What is known about files, and what reading them returns.
-use Rattle.std.specs.Prelude.{ℕ, ℤ, pos, ◌≡◌, ◌≢◌, ◌<◌, ◌≤◌, List, length, map, replicate, take}
+use Rattle.std.specs.Prelude.{ℕ, ℤ, pos, ◌≡◌, ◌≢◌, ◌<◌, ◌≤◌, List, [], ◌∷◌, ◌++◌, codes, length, map}
+use Rattle.std.specs.Prelude.{replicate, take}
 use Rattle.std.specs.Prelude.{Option, None, Some, Result, Ok, Err, IfSome}
+use Rattle.std.specs.Fmt.{decimal}
+use Rattle.std.specs.List.{flat_map}
 use Rattle.std.specs.Str.{IsUtf8}
 use Rattle.std.specs.String.{string_bytes}
 use Rattle.syntax.specs.declared.error.SyntaxError.TheVariants.{TooLong}
@@ -8,6 +11,7 @@ use Rattle.types.specs.Code.{Array}
 use Rattle.types.specs.InputErrors.{told}
 use Rattle.types.specs.Inputs.{text_says}
 use Rattle.types.specs.declared.input_error.InputError.{InputError}
+use Rattle.command_line.specs.Requests.{Source, FromFile, FromElements, FromBytes, source_file}
 use Rattle.failures.specs.declared.failure.Failure.{Failure}
 use Rattle.failures.specs.declared.failure.Failure.TheVariants.{CannotRead, NotUtf8, Syntax, Input, NoMemory}
 use Rattle.files.specs.declared.file_source.FileError.{FileError}
@@ -83,37 +87,74 @@ TellsNoProgram held name _ = ⊥
 abbrev pub zeros : List Array → List (List ℤ)
 zeros arrays = map (λ a. replicate a.length (pos 0)) arrays
 
--- the file with this name has a JSON text with these lists for the arrays
-pub record Says (held : Held) (name : List ℕ) (arrays : List Array) (lists : List (List ℤ))
+-- a number in decimal after a comma
+abbrev pub after_comma : ℕ → List ℕ
+after_comma n = codes "," ++ decimal n
+
+-- numbers in decimal, with commas between them
+abbrev pub joined : List ℕ → List ℕ
+joined [] = []
+joined (n ∷ ns) = decimal n ++ flat_map after_comma ns
+
+-- the JSON text of one array with these elements: `{"a":[1,2,3]}`
+abbrev pub array_text : (name elements : List ℕ) → List ℕ
+array_text name elements = codes "{\"" ++ (name ++ (codes "\":[" ++ (elements ++ codes "]}")))
+
+-- this is the JSON text of a source: that of its file, or that of one array with its elements
+abbrev pub HasJson : Held → Source → (text : List ℕ) → Type 0
+HasJson held (FromFile name) text = HasText held name text
+HasJson held (FromElements name elements) text = text ≡ array_text name elements
+HasJson held (FromBytes name file) text =
+    (bytes : List ℕ) × IsGiven (held file) (Ok bytes) × (text ≡ array_text name (joined bytes))
+
+-- a JSON text has these lists for the arrays
+abbrev pub SaysText : (text : List ℕ) → List Array → (lists : List (List ℤ)) → Type 0
+SaysText text arrays lists = text_says arrays text ≡ Ok lists
+
+-- a JSON text has this error, or memory ran out
+abbrev pub HasMistakeIn : (text : List ℕ) → List Array → Failure → Type 0
+HasMistakeIn text arrays (Input e) = IfSome (told e) (λ m. text_says arrays text ≡ Err m)
+HasMistakeIn text arrays NoMemory = Unit {0}
+HasMistakeIn text arrays _ = ⊥
+
+-- a source has a JSON text with these lists for the arrays
+pub record Says (held : Held) (source : Source) (arrays : List Array) (lists : List (List ℤ))
     : Type 0 where
   pub text : List ℕ
-  pub has_text : HasText held name text
-  pub says : text_says arrays text ≡ Ok lists
+  pub has_text : HasJson held source text
+  pub says : SaysText text arrays lists
 
--- the initial contents of the arrays: zeros, or the lists in the input file
-abbrev pub BeginsWith : (input : Option (List ℕ)) → Held → List Array → List (List ℤ) → Type 0
+-- the initial contents of the arrays: zeros, or the lists of the source
+abbrev pub BeginsWith : (input : Option Source) → Held → List Array → List (List ℤ) → Type 0
 BeginsWith None held arrays lists = lists ≡ zeros arrays
-BeginsWith (Some name) held arrays lists = Says held name arrays lists
+BeginsWith (Some source) held arrays lists = Says held source arrays lists
 
--- the file with this name has a text with this error, or memory ran out
-pub record HasMistake (held : Held) (name : List ℕ) (arrays : List Array) (e : InputError)
+-- a source has a text with this error, or memory ran out
+pub record HasMistake (held : Held) (source : Source) (arrays : List Array) (e : InputError)
     : Type 0 where
   pub text : List ℕ
-  pub has_text : HasText held name text
+  pub has_text : HasJson held source text
   pub mistake : IfSome (told e) (λ m. text_says arrays text ≡ Err m)
 
--- there is an input file, and this is true of its name
-pub record NamesInput (input : Option (List ℕ)) (P : List ℕ → Type 0) : Type 0 where
+-- there is a source of an input, and this is true of it
+pub record HasSource (input : Option Source) (P : Source → Type 0) : Type 0 where
+  pub source : Source
+  pub given : input ≡ Some source
+  pub fact : P source
+
+-- it names a file, and this is true of its name
+pub record NamesFile (input : Option Source) (P : List ℕ → Type 0) : Type 0 where
   pub name : List ℕ
-  pub named : input ≡ Some name
+  pub named : source_file input ≡ Some name
   pub fact : P name
 
 -- the failure says why there is no input, unless memory runs out
-abbrev pub TellsNoInput : (input : Option (List ℕ)) → Held → List Array → Failure → Type 0
+abbrev pub TellsNoInput : (input : Option Source) → Held → List Array → Failure → Type 0
 TellsNoInput input held arrays (CannotRead told) =
-    NamesInput input (λ name. TellsNoText held name (CannotRead told))
+    NamesFile input (λ name. TellsNoText held name (CannotRead told))
 TellsNoInput input held arrays (NotUtf8 told) =
-    NamesInput input (λ name. TellsNoText held name (NotUtf8 told))
-TellsNoInput input held arrays (Input e) = NamesInput input (λ name. HasMistake held name arrays e)
+    HasSource input (λ source. (name : List ℕ) × (source ≡ FromFile name)
+    × TellsNoText held name (NotUtf8 told))
+TellsNoInput input held arrays (Input e) = HasSource input (λ source. HasMistake held source arrays e)
 TellsNoInput input held arrays NoMemory = Unit {0}
 TellsNoInput input held arrays _ = ⊥

@@ -122,6 +122,18 @@ const INPUT: Entry = Entry {
     takes: Takes::Text("JSON"),
 };
 
+const SET: Entry = Entry {
+    name: "set",
+    help: "Initial contents of one array, as in a=1,2,3; the others are zeros",
+    takes: Takes::TextBut("NAME=LIST", &["input", "text"]),
+};
+
+const TEXT: Entry = Entry {
+    name: "text",
+    help: "File whose bytes are the initial contents of one array, as in p=words.txt; the others are zeros",
+    takes: Takes::TextBut("NAME=FILE", &["input"]),
+};
+
 const STEPS: Entry = Entry {
     name: "steps",
     help: "Step limit for each task, 1 to 1000000000 [default: 1000000]",
@@ -242,6 +254,12 @@ const ALL: Entry = Entry {
     takes: Takes::NothingBut(&["format"]),
 };
 
+const WARN: Entry = Entry {
+    name: "warn",
+    help: "Print warnings about an accepted program [default: auto, on a terminal; always without a value]",
+    takes: Takes::MaybeOneOf("WHEN", &["auto", "always", "never"], "always"),
+};
+
 const EXPLAIN: Entry = Entry {
     name: "explain",
     help: "Explain an error, a fault or a stopped run [default: auto, on a terminal; always without a value]",
@@ -354,7 +372,8 @@ const RUN: Row = Row {
     about: "Run a program in parallel",
     example: RUN_EXAMPLE,
     entries: &[
-        FILE, INPUT, STEPS, NEST, TASKS, W0, WORKERS, TRACED, ARRAYS, FORMAT, EXPLAIN, COLOR,
+        FILE, INPUT, SET, TEXT, STEPS, NEST, TASKS, W0, WORKERS, TRACED, ARRAYS, FORMAT, EXPLAIN,
+        COLOR,
     ],
 };
 
@@ -363,7 +382,7 @@ const SERIAL: Row = Row {
     about: "Run a program on one thread",
     example: SERIAL_EXAMPLE,
     entries: &[
-        FILE, INPUT, STEPS, NEST, ARRAYS, PROGRESS, FORMAT, EXPLAIN, COLOR,
+        FILE, INPUT, SET, TEXT, STEPS, NEST, ARRAYS, PROGRESS, FORMAT, EXPLAIN, COLOR,
     ],
 };
 
@@ -371,7 +390,7 @@ const CHECKED: Row = Row {
     name: "check",
     about: "Check a program for errors and races",
     example: CHECK_EXAMPLE,
-    entries: &[FILES, LIST, ALL, FORMAT, EXPLAIN, COLOR],
+    entries: &[FILES, LIST, ALL, WARN, FORMAT, EXPLAIN, COLOR],
 };
 
 const LISTED: Row = Row {
@@ -402,6 +421,8 @@ const COSTED: Row = Row {
     entries: &[
         FILE,
         INPUT,
+        SET,
+        TEXT,
         STEPS,
         NEST,
         BY_LINE,
@@ -417,7 +438,7 @@ const BENCHED: Row = Row {
     about: "Time a program serially and in parallel on 1, 2 and 4 threads, or up to --workers",
     example: BENCH_EXAMPLE,
     entries: &[
-        FILE, INPUT, STEPS, NEST, TASKS, W0, WORKERS, FORMAT, EXPLAIN, COLOR,
+        FILE, INPUT, SET, TEXT, STEPS, NEST, TASKS, W0, WORKERS, FORMAT, EXPLAIN, COLOR,
     ],
 };
 
@@ -435,6 +456,8 @@ const EXPLORED: Row = Row {
     entries: &[
         FILE,
         INPUT,
+        SET,
+        TEXT,
         CHOICES,
         CHOICES_FROM,
         RANDOM,
@@ -452,6 +475,8 @@ const VIEWED: Row = Row {
         FILE,
         TRACE,
         INPUT,
+        SET,
+        TEXT,
         SUMMARY,
         EVENTS_BY_LINE,
         SVG,

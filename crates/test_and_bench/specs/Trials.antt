@@ -12,7 +12,7 @@ use Rattle.types.specs.Translation.{budget as budget_of, input as lists_of}
 use Rattle.types.specs.Typed.{code_of}
 use Rattle.printing.specs.OutcomeText.{outcome_text}
 use Rattle.printing.specs.Reasons.{escaped}
-use Rattle.command_line.specs.Requests.{Asked, Settings, Spread, settings}
+use Rattle.command_line.specs.Requests.{Asked, FromFile, Settings, Source, Spread, settings}
 use Rattle.command_line.specs.declared.request.Command.TheVariants.{Run}
 use Rattle.command_words.specs.Orders.{AsksToTest}
 use Rattle.files.specs.Held.{Bytes, Held, HasText, IsGiven, KeepsOthers, TellsNoProgram, TellsNoText}
@@ -45,8 +45,8 @@ abbrev pub file : Trial → (ending : List ℕ) → List ℕ
 file t ending = t.program.base ++ ending
 
 -- the file of its input, if there is one
-abbrev pub input_file : Trial → Option (List ℕ)
-input_file t = if t.program.has_input then Some (file t (codes ".json")) else None
+abbrev pub input_file : Trial → Option Source
+input_file t = if t.program.has_input then Some (FromFile (file t (codes ".json"))) else None
 
 -- ---- its options
 

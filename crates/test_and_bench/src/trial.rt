@@ -20,7 +20,7 @@ use crate::outcomes::Case;
 use crate::own_options::limits_of;
 use crate::runs::Runs;
 use crate::trial_lines::message_of;
-use command_line::request::RunOptions;
+use command_line::request::{InputSource, RunOptions};
 use commands::programs::accepted_of;
 use commands::question::Begun;
 use failures::failure::Failure;
@@ -377,7 +377,7 @@ impl<'f> Trial<'f> {
             return input_of(alloc, files, typed, None);
         }
         let name = self.file(alloc, ".json")?;
-        input_of(alloc, files, typed, Some(name.as_str()))
+        input_of(alloc, files, typed, Some(InputSource::File(name.as_str())))
     }
 
     /// Returns the contents of its file with this ending.

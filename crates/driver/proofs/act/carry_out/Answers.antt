@@ -14,7 +14,7 @@ pub returns-in-AsText-clause-acts : goal.returns-in-AsText-clause-acts
 returns-in-AsText-clause-acts g c =
     let asked = asked_of c.in-AsText.request in let done = c.read_and_do-done in
     ordered _ _ _ _ _ _ _ _ _ (AsText asked) (order c.args.order) (sym (ap order c.in-AsText.is))
-    (acted _ _ _ _ _ _ _ _ Answering asked (in_short done.result) _ c.explains_on-explains.ensures done.ensures.done
+    (acted _ _ _ _ _ _ _ _ Answering asked (in_short done.result) _ c.more_on-more.ensures done.ensures.done
     c.report.ensures)
 
 pub returns-in-AsObject-clause-acts : goal.returns-in-AsObject-clause-acts
@@ -22,21 +22,21 @@ returns-in-AsObject-clause-acts g c =
     let x = c.in-AsObject.subject in let asked = asked_of c.in-AsObject.request in
     let done = c.read_and_do-done-in-AsObject in
     ordered _ _ _ _ _ _ _ _ _ (AsObject x asked) (order c.args.order) (sym (ap order c.in-AsObject.is))
-    (acted _ _ _ _ _ _ _ _ (Describing x) asked (in_short done.result) _ c.explains_on-explains-in-AsObject.ensures
+    (acted _ _ _ _ _ _ _ _ (Describing x) asked (in_short done.result) _ c.more_on-more-in-AsObject.ensures
     done.ensures.done c.report-in-AsObject.ensures)
 
 pub returns-in-Times-clause-acts : goal.returns-in-Times-clause-acts
 returns-in-Times-clause-acts g c =
     let asked = asked_of c.in-Times.request in let done = c.read_and_do-done-in-Times in
     ordered _ _ _ _ _ _ _ _ _ (Times asked) (order c.args.order) (sym (ap order c.in-Times.is))
-    (acted _ _ _ _ _ _ _ _ Timing asked (in_short done.result) _ c.explains_on-explains-in-Times.ensures done.ensures.done
+    (acted _ _ _ _ _ _ _ _ Timing asked (in_short done.result) _ c.more_on-more-in-Times.ensures done.ensures.done
     c.report-in-Times.ensures)
 
 pub returns-in-TimesAsObject-clause-acts : goal.returns-in-TimesAsObject-clause-acts
 returns-in-TimesAsObject-clause-acts g c =
     let asked = asked_of c.in-TimesAsObject.request in let done = c.read_and_do-done-in-TimesAsObject in
     ordered _ _ _ _ _ _ _ _ _ (TimesAsObject asked) (order c.args.order) (sym (ap order c.in-TimesAsObject.is))
-    (acted _ _ _ _ _ _ _ _ TimingAsObject asked (in_short done.result) _ c.explains_on-explains-in-TimesAsObject.ensures
+    (acted _ _ _ _ _ _ _ _ TimingAsObject asked (in_short done.result) _ c.more_on-more-in-TimesAsObject.ensures
     done.ensures.done c.report-in-TimesAsObject.ensures)
 
 pub returns-in-Tests-clause-acts : goal.returns-in-Tests-clause-acts

@@ -1,0 +1,64 @@
+use Rattle.std.proofs.Common.{◌≡◌, List, [], ◌++◌, ap, ◌∙◌, sym}
+use Rattle.std.specs.Prelude.{Bool, false}
+use Rattle.types.specs.Code.{Code, Codes}
+use Rattle.types.specs.Translation.{codes, code as plain_code, procedure}
+use Rattle.types.proofs.Blocks.{code_Async, code_Finish, code_If, code_Parts, code_Split, code_While}
+use Rattle.effects.proofs.Appending.{in_two_steps}
+use Rattle.warnings.specs.Warnings.{block_warnings, inner_warnings}
+use Rattle.warnings.specs.declared.warning.Warning.{Warning}
+use Rattle.warnings.proofs.finding.+within.Goals as goal
+
+pub push_inner-returns-in_ok-push_block-in-If-2 : goal.push_inner-returns-in_ok-push_block-in-If-2
+push_inner-returns-in_ok-push_block-in-If-2 t c =
+    let f = procedure c.args.scope.procedure.now in
+    let before = c.args.found.now.items in
+    let first = c.push_block.new.found.items in
+    in_two_steps before first _ _ _ _
+    (c.in_ok-push_block-in-If.ensures
+    ∙ ap (λ d. before ++ block_warnings f d (codes c.deref.result.now)) c.is_never.ensures
+    ∙ ap (λ b. before ++ block_warnings f _ (codes b)) c.deref.ensures.value)
+    (c.in_ok-push_block-in-If-2.ensures
+    ∙ ap (λ d. first ++ block_warnings f d (codes c.deref-in-If.result.now)) c.is_always.ensures
+    ∙ ap (λ b. first ++ block_warnings f _ (codes b)) c.deref-in-If.ensures.value)
+    (ap (inner_warnings f) (ap plain_code c.in-If.is ∙ code_If c.in-If.guard c.in-If.body c.in-If.other))
+
+pub push_inner-returns-in_ok-push_block-in-While : goal.push_inner-returns-in_ok-push_block-in-While
+push_inner-returns-in_ok-push_block-in-While t c =
+    let f = procedure c.args.scope.procedure.now in
+    let before = c.args.found.now.items in
+    c.in_ok-push_block-in-While.ensures
+    ∙ ap (λ d. before ++ block_warnings f d (codes c.deref-in-While.result.now)) c.is_never-in-While.ensures
+    ∙ ap (λ b. before ++ block_warnings f _ (codes b)) c.deref-in-While.ensures.value
+    ∙ ap (λ k. before ++ inner_warnings f k) (sym (ap plain_code c.in-While.is ∙ code_While c.in-While.guard c.in-While.body))
+
+pub push_inner-returns-in_ok-push_block-in-Split : goal.push_inner-returns-in_ok-push_block-in-Split
+push_inner-returns-in_ok-push_block-in-Split t c =
+    let f = procedure c.args.scope.procedure.now in
+    let before = c.args.found.now.items in
+    c.in_ok-push_block-in-Split.ensures
+    ∙ ap (λ b. before ++ block_warnings f false (codes b)) c.deref-in-Split.ensures.value
+    ∙ ap (λ k. before ++ inner_warnings f k) (sym (ap plain_code c.in-Split.is ∙ code_Split c.in-Split.sides c.in-Split.body))
+
+pub push_inner-returns-in_ok-push_block-in-Parts : goal.push_inner-returns-in_ok-push_block-in-Parts
+push_inner-returns-in_ok-push_block-in-Parts t c =
+    let f = procedure c.args.scope.procedure.now in
+    let before = c.args.found.now.items in
+    c.in_ok-push_block-in-Parts.ensures
+    ∙ ap (λ b. before ++ block_warnings f false (codes b)) c.deref-in-Parts.ensures.value
+    ∙ ap (λ k. before ++ inner_warnings f k) (sym (ap plain_code c.in-Parts.is ∙ code_Parts c.in-Parts.pieces c.in-Parts.body))
+
+pub push_inner-returns-in_ok-push_block-in-Async : goal.push_inner-returns-in_ok-push_block-in-Async
+push_inner-returns-in_ok-push_block-in-Async t c =
+    let f = procedure c.args.scope.procedure.now in
+    let before = c.args.found.now.items in
+    c.in_ok-push_block-in-Async.ensures
+    ∙ ap (λ b. before ++ block_warnings f false (codes b)) c.deref-in-Async.ensures.value
+    ∙ ap (λ k. before ++ inner_warnings f k) (sym (ap plain_code c.in-Async.is ∙ code_Async c.in-Async.body))
+
+pub push_inner-returns-in_ok-push_block-in-Finish : goal.push_inner-returns-in_ok-push_block-in-Finish
+push_inner-returns-in_ok-push_block-in-Finish t c =
+    let f = procedure c.args.scope.procedure.now in
+    let before = c.args.found.now.items in
+    c.in_ok-push_block-in-Finish.ensures
+    ∙ ap (λ b. before ++ block_warnings f false (codes b)) c.deref-in-Finish.ensures.value
+    ∙ ap (λ k. before ++ inner_warnings f k) (sym (ap plain_code c.in-Finish.is ∙ code_Finish c.in-Finish.body))
