@@ -1,6 +1,7 @@
 -- Requests: what the arguments of a command line ask for.
 use Rattle.std.specs.Prelude.{ℕ, ◌≡◌, ◌<◌, ◌≤◌, ◌^◌, List, [], ◌∷◌, codes, Bool, true, false, not, Option}
-use Rattle.std.specs.Prelude.{None, Some, nat_eq, IsTrue, IfSome, option_map, unwrap_or, if◌then◌else◌}
+use Rattle.std.specs.Prelude.{None, Some, nat_eq, IsTrue, IfSome, map, option_map, unwrap_or, if◌then◌else◌}
+use Rattle.std.specs.String.{string_bytes}
 use Rattle.std.specs.Fmt.{decimal}
 use Rattle.types.specs.Outcome.{Budget}
 use Rattle.types.specs.Translation.{budget as budget_of}
@@ -24,7 +25,7 @@ use Rattle.command_line.specs.declared.request.Choosing.{Choosing as rChoosing}
 use Rattle.command_line.specs.declared.request.Choosing.TheVariants.{Listed as rListed, InFile as rInFile}
 use Rattle.command_line.specs.declared.request.Choosing.TheVariants.{Random as rRandom}
 use Rattle.command_line.specs.declared.request.InputSource.{InputSource as rSource}
-use Rattle.command_line.specs.declared.request.InputSource.TheVariants.{File as rFile, Elements as rElements}
+use Rattle.command_line.specs.declared.request.InputSource.TheVariants.{File as rFile, Lists as rLists}
 use Rattle.command_line.specs.declared.request.InputSource.TheVariants.{Bytes as rBytes}
 use Rattle.command_line.specs.declared.request.RunOptions.{RunOptions as rSettings}
 use Rattle.command_line.specs.declared.request.Request.{Request}
@@ -42,23 +43,23 @@ choosing (rListed text) = Listed text.now
 choosing (rInFile name) = InFile name.now
 choosing (rRandom seed) = Random seed
 
--- where the initial contents of the arrays come from: the JSON text in a file with this name; these elements
--- of the array with this name; or the bytes of a file with this name, for the array with that name
+-- where the initial contents of the arrays come from: the JSON text in a file with this name; the lists
+-- among these arguments; or the bytes of a file with this name, for the array with that name
 pub data Source : Type 0 where
   FromFile : (name : List ℕ) → Source
-  FromElements : (name elements : List ℕ) → Source
+  FromLists : (words : List (List ℕ)) → Source
   FromBytes : (name file : List ℕ) → Source
 
 abbrev pub source : rSource → Source
 source (rFile name) = FromFile name.now
-source (rElements name elements) = FromElements name.now elements.now
+source (rLists words) = FromLists (map string_bytes words.now)
 source (rBytes name file) = FromBytes name.now file.now
 
 -- the file of a source, if it has one
 abbrev pub source_file : Option Source → Option (List ℕ)
 source_file None = None
 source_file (Some (FromFile name)) = Some name
-source_file (Some (FromElements name elements)) = None
+source_file (Some (FromLists words)) = None
 source_file (Some (FromBytes name file)) = Some file
 
 -- how a run uses worker threads: its maximum of tasks, the weight that a scope issues at a time, and its

@@ -134,10 +134,11 @@ pub enum Action {
 pub enum InputSource<'w> {
     /// `--input FILE`: the JSON text in this file.
     File(&'w str),
-    /// `--set NAME=1,2,3`: the elements of one array. The others are zeros.
-    Elements { name: &'w str, elements: &'w str },
-    /// `--text NAME=FILE`: the bytes of this file are the elements of one array. The others are
-    /// zeros.
+    /// `--set NAME=1,2,3`, once or more often: the lists among these arguments are the elements of
+    /// some arrays. The other arrays are zeros.
+    Lists(&'w [String]),
+    /// `--text NAME=FILE`: the bytes of this file are the elements of one array. The other arrays
+    /// are zeros.
     Bytes { name: &'w str, file: &'w str },
 }
 

@@ -3,6 +3,7 @@
 use crate::order::{Order, SeveralTests, Subject};
 use clap::error::ErrorKind;
 use clap::{ArgMatches, Error};
+use command_line::lists::{awaits, list_of};
 use command_line::request::{
     Action, Choosing, Color, Command, Explain, InputSource, Request, RunOptions, Spread, Telling,
 };
@@ -17,7 +18,7 @@ pub fn order_by_clap<'w>(alloc: Global, words: &'w [String]) -> Result<Order<'w>
     let asked = matches.subcommand();
     match replied(alloc, asked)? {
         Some(reply) => Err(reply),
-        None => Ok(written_so(words, asked, ordered(alloc, asked)?)),
+        None => Ok(written_so(words, asked, ordered(alloc, words, asked)?)),
     }
 }
 
@@ -73,11 +74,16 @@ fn described(alloc: Global, given: Option<&ArgMatches<'_>>) -> Result<Reply, All
 }
 
 /// Returns the order of another command.
-fn ordered<'w>(alloc: Global, asked: Option<(&str, &ArgMatches<'w>)>) -> Result<Order<'w>, Error> {
+fn ordered<'w>(
+    alloc: Global,
+    words: &'w [String],
+    asked: Option<(&str, &ArgMatches<'w>)>,
+) -> Result<Order<'w>, Error> {
+    let run = Action::Answer(Command::Run);
     match asked {
-        Some(("bench", given)) => Ok(timing(given, request(alloc, Command::Run, given)?)),
-        Some(("test", given)) => Ok(Order::Tests(request(alloc, Command::Run, given)?)),
-        asked => Ok(told(asked, request_asked(alloc, asked)?)),
+        Some(("bench", given)) => Ok(timing(given, asking(alloc, words, run, given)?)),
+        Some(("test", given)) => Ok(Order::Tests(asking(alloc, words, run, given)?)),
+        asked => Ok(told(asked, request_asked(alloc, words, asked)?)),
     }
 }
 
@@ -105,13 +111,14 @@ fn told<'w>(asked: Option<(&str, &ArgMatches<'w>)>, request: Request<'w>) -> Ord
 /// Returns the request of a command for a program.
 fn request_asked<'w>(
     alloc: Global,
+    words: &'w [String],
     asked: Option<(&str, &ArgMatches<'w>)>,
 ) -> Result<Request<'w>, Error> {
     let Some((word, given)) = asked else {
         return Err(mistake(alloc, ErrorKind::MissingSubcommand, "no command")?);
     };
     match action_asked(word, given) {
-        Some(action) => asking(alloc, action, given),
+        Some(action) => asking(alloc, words, action, given),
         None => Err(mistake(alloc, ErrorKind::MissingSubcommand, "no command")?),
     }
 }
@@ -205,22 +212,18 @@ fn viewing(given: &ArgMatches<'_>) -> Command {
     }
 }
 
-/// Returns the request of a command that was parsed.
-fn request<'w>(
+/// Returns the request with an action.
+fn asking<'w>(
     alloc: Global,
-    command: Command,
+    words: &'w [String],
+    action: Action,
     given: &ArgMatches<'w>,
 ) -> Result<Request<'w>, Error> {
-    asking(alloc, Action::Answer(command), given)
-}
-
-/// Returns the request with an action.
-fn asking<'w>(alloc: Global, action: Action, given: &ArgMatches<'w>) -> Result<Request<'w>, Error> {
     Ok(Request {
         action,
         file: file(given),
         settings: RunOptions {
-            input: source(alloc, given)?,
+            input: source(alloc, words, given)?,
             budget: budget(alloc, given)?,
             spread: spread(alloc, given)?,
             choices: choosing(given),
@@ -233,33 +236,87 @@ fn asking<'w>(alloc: Global, action: Action, given: &ArgMatches<'w>) -> Result<R
     })
 }
 
-/// Returns the source of an input. `clap` has checked that at most one option names it.
-fn source<'w>(alloc: Global, given: &ArgMatches<'w>) -> Result<Option<InputSource<'w>>, Error> {
+/// Returns the source of an input. `clap` has checked that at most one kind of option names it.
+fn source<'w>(
+    alloc: Global,
+    words: &'w [String],
+    given: &ArgMatches<'w>,
+) -> Result<Option<InputSource<'w>>, Error> {
     if let Some(file) = given.get_str("input") {
         return Ok(Some(InputSource::File(file)));
     }
-    if let Some(word) = given.get_str("set") {
-        return match word.split_once('=') {
-            Some((name, elements)) if is_name(name) && are_numbers(elements) => {
-                Ok(Some(InputSource::Elements { name, elements }))
-            }
-            _ => Err(mistake(alloc, ErrorKind::ValueValidation, SET_MISTAKE)?),
+    if let Some(lists) = given.get_strs("set") {
+        return match mistake_in(words, lists) {
+            None => Ok(Some(InputSource::Lists(words))),
+            Some(wrong) => Err(mistake(alloc, ErrorKind::ValueValidation, wrong)?),
         };
     }
     match given.get_str("text") {
         Some(word) => match word.split_once('=') {
             Some((name, file)) if is_name(name) => Ok(Some(InputSource::Bytes { name, file })),
-            _ => Err(mistake(alloc, ErrorKind::ValueValidation, TEXT_MISTAKE)?),
+            _ => Err(mistake(alloc, ErrorKind::ValueValidation, NO_FILE_OF_BYTES)?),
         },
         None => Ok(None),
     }
 }
 
-const SET_MISTAKE: &str =
+const NO_FILE_OF_BYTES: &str =
+    "--text takes NAME=FILE: the name of an array, and a file whose bytes are its elements";
+
+const NO_LIST: &str =
     "--set takes NAME=1,2,3: the name of an array, and its elements in digits with commas between them";
 
-const TEXT_MISTAKE: &str =
-    "--text takes NAME=FILE: the name of an array, and a file whose bytes are its elements";
+const TWO_LISTS: &str = "--set gives the elements of an array only once";
+
+const OTHER_LISTS: &str = "write --set as an option only, and not as a value or the name of a file";
+
+/// Returns what is wrong with the lists that `clap` found, if something is: one isn't a list, two
+/// are of one array, or they aren't those that the arguments have in the order of the text.
+fn mistake_in(words: &[String], lists: &[&str]) -> Option<&'static str> {
+    for index in 0..lists.len() {
+        let Some((name, elements)) = lists[index].split_once('=') else {
+            return Some(NO_LIST);
+        };
+        if !is_name(name) || !are_numbers(elements) {
+            return Some(NO_LIST);
+        }
+        if has_list_of(name, &lists[..index]) {
+            return Some(TWO_LISTS);
+        }
+    }
+    if are_lists(words, lists) {
+        None
+    } else {
+        Some(OTHER_LISTS)
+    }
+}
+
+/// Returns whether one of these lists is of the array with this name.
+fn has_list_of(name: &str, lists: &[&str]) -> bool {
+    for list in lists {
+        let (other, _) = list.split_once('=').unwrap_or((list, ""));
+        if other == name {
+            return true;
+        }
+    }
+    false
+}
+
+/// Returns whether these are the lists among the arguments.
+fn are_lists(words: &[String], lists: &[&str]) -> bool {
+    let mut left = lists;
+    let mut awaited = false;
+    for word in words {
+        if let Some(list) = list_of(awaited, word.as_str()) {
+            match left {
+                [first, others @ ..] if *first == list => left = others,
+                _ => return false,
+            }
+        }
+        awaited = awaits(awaited, word.as_str());
+    }
+    left.is_empty()
+}
 
 /// Returns whether this can be a part of a name. Then JSON spells it without escapes.
 fn is_name(name: &str) -> bool {

@@ -31,7 +31,7 @@ fn file_of_input<'w>(input: Option<InputSource<'w>>) -> Option<&'w str>
 {
     match input? {
         InputSource::File(name) => Some(name),
-        InputSource::Elements { .. } => None,
+        InputSource::Lists(_) => None,
         InputSource::Bytes { file, .. } => Some(file),
     }
 }

@@ -6,7 +6,7 @@ use crate::programs::typed_of;
 use command_line::request::InputSource;
 use explanations::input_errors::{Form, GivenInput, explained_input};
 use files::file_source::FileSource;
-use files::input_file::{array_text, joined};
+use files::input_file::{bytes_text, lists_text};
 use run_explanations::headings::heading_of;
 use std::alloc::{AllocError, Global};
 use types::input_error::InputError;
@@ -24,8 +24,8 @@ pub fn input_explained<F: FileSource>(
 {
     match source {
         Some(InputSource::File(name)) => json_explained(alloc, files, text, name, error),
-        Some(InputSource::Elements { name, elements }) => {
-            let input = array_text(alloc, name, elements)?;
+        Some(InputSource::Lists(words)) => {
+            let input = lists_text(alloc, words)?;
             let given = GivenInput {
                 text: input.as_str(),
                 form: Form::Numbers,
@@ -36,8 +36,7 @@ pub fn input_explained<F: FileSource>(
             let Ok(bytes) = files.read(file) else {
                 return Ok(String::new(alloc));
             };
-            let elements = joined(alloc, &bytes)?;
-            let input = array_text(alloc, name, elements.as_str())?;
+            let input = bytes_text(alloc, name, &bytes)?;
             let given = GivenInput {
                 text: input.as_str(),
                 form: Form::Bytes,

@@ -1,9 +1,9 @@
 -- What is known about files, and what reading them returns.
 use Rattle.std.specs.Prelude.{ℕ, ℤ, pos, ◌≡◌, ◌≢◌, ◌<◌, ◌≤◌, List, [], ◌∷◌, ◌++◌, codes, length, map}
-use Rattle.std.specs.Prelude.{replicate, take}
+use Rattle.std.specs.Prelude.{Bool, nat_eq, replicate, take}
 use Rattle.std.specs.Prelude.{Option, None, Some, Result, Ok, Err, IfSome}
 use Rattle.std.specs.Fmt.{decimal}
-use Rattle.std.specs.List.{flat_map}
+use Rattle.std.specs.List.{after_first, before_first, flat_map}
 use Rattle.std.specs.Str.{IsUtf8}
 use Rattle.std.specs.String.{string_bytes}
 use Rattle.syntax.specs.declared.error.SyntaxError.TheVariants.{TooLong}
@@ -11,7 +11,8 @@ use Rattle.types.specs.Code.{Array}
 use Rattle.types.specs.InputErrors.{told}
 use Rattle.types.specs.Inputs.{text_says}
 use Rattle.types.specs.declared.input_error.InputError.{InputError}
-use Rattle.command_line.specs.Requests.{Source, FromFile, FromElements, FromBytes, source_file}
+use Rattle.command_line.specs.Lists.{lists_in}
+use Rattle.command_line.specs.Requests.{Source, FromFile, FromLists, FromBytes, source_file}
 use Rattle.failures.specs.declared.failure.Failure.{Failure}
 use Rattle.failures.specs.declared.failure.Failure.TheVariants.{CannotRead, NotUtf8, Syntax, Input, NoMemory}
 use Rattle.files.specs.declared.file_source.FileError.{FileError}
@@ -96,16 +97,50 @@ abbrev pub joined : List ℕ → List ℕ
 joined [] = []
 joined (n ∷ ns) = decimal n ++ flat_map after_comma ns
 
--- the JSON text of one array with these elements: `{"a":[1,2,3]}`
-abbrev pub array_text : (name elements : List ℕ) → List ℕ
-array_text name elements = codes "{\"" ++ (name ++ (codes "\":[" ++ (elements ++ codes "]}")))
+-- an array with these elements, as a member of a JSON object: `"a":[1,2,3]`
+abbrev pub member_of : (name elements : List ℕ) → List ℕ
+member_of name elements = codes "\"" ++ (name ++ (codes "\":[" ++ (elements ++ codes "]")))
 
--- this is the JSON text of a source: that of its file, or that of one array with its elements
+abbrev pub is_equals : ℕ → Bool
+is_equals b = nat_eq b 61
+
+-- the same of a list: `a=1,2,3`
+abbrev pub member : (list : List ℕ) → List ℕ
+member l = member_of (before_first is_equals l) (after_first is_equals l)
+
+-- the member of a list after this text, if there is a list, and the text before the next member
+abbrev pub shown : (before : List ℕ) → (list : Option (List ℕ)) → List ℕ
+shown before None = []
+shown before (Some l) = before ++ member l
+
+abbrev pub behind_list : (before : List ℕ) → (list : Option (List ℕ)) → List ℕ
+behind_list before None = before
+behind_list before (Some l) = codes ","
+
+-- the members of lists, the first after this text and the others after commas
+abbrev pub members : (before : List ℕ) → (lists : List (List ℕ)) → List ℕ
+members before [] = []
+members before (l ∷ ls) = before ++ (member l ++ members (codes ",") ls)
+
+-- the JSON text of an object with these members
+abbrev pub object_text : (members : List ℕ) → List ℕ
+object_text ms = codes "{" ++ (ms ++ codes "}")
+
+-- the JSON text of the lists among arguments: `{"a":[1,2,3],"b":[4]}` of `--set a=1,2,3 --set b=4`
+abbrev pub lists_text : (words : List (List ℕ)) → List ℕ
+lists_text words = object_text (members [] (lists_in words))
+
+-- the JSON text of one array whose elements are these bytes
+abbrev pub bytes_text : (name bytes : List ℕ) → List ℕ
+bytes_text name bytes = object_text (member_of name (joined bytes))
+
+-- this is the JSON text of a source: that of its file, that of its lists, or that of one array with the bytes
+-- of its file
 abbrev pub HasJson : Held → Source → (text : List ℕ) → Type 0
 HasJson held (FromFile name) text = HasText held name text
-HasJson held (FromElements name elements) text = text ≡ array_text name elements
+HasJson held (FromLists words) text = text ≡ lists_text words
 HasJson held (FromBytes name file) text =
-    (bytes : List ℕ) × IsGiven (held file) (Ok bytes) × (text ≡ array_text name (joined bytes))
+    (bytes : List ℕ) × IsGiven (held file) (Ok bytes) × (text ≡ bytes_text name bytes)
 
 -- a JSON text has these lists for the arrays
 abbrev pub SaysText : (text : List ℕ) → List Array → (lists : List (List ℤ)) → Type 0

@@ -41,6 +41,8 @@ enum Takes {
     Text(&'static str),
     /// An option with a text value that conflicts with these options.
     TextBut(&'static str, &'static [&'static str]),
+    /// An option as `TextBut`, which can be given more than once.
+    TextsBut(&'static str, &'static [&'static str]),
     /// An option whose value is one of these words. The help shows this name for the value.
     OneOf(&'static str, &'static [&'static str]),
     /// An option as `OneOf`, which needs this other option.
@@ -124,13 +126,13 @@ const INPUT: Entry = Entry {
 
 const SET: Entry = Entry {
     name: "set",
-    help: "Initial contents of one array, as in a=1,2,3; the others are zeros",
-    takes: Takes::TextBut("NAME=LIST", &["input", "text"]),
+    help: "Initial contents of an array, as in a=1,2,3, once for each array; all others are zeros",
+    takes: Takes::TextsBut("NAME=LIST", &["input", "text"]),
 };
 
 const TEXT: Entry = Entry {
     name: "text",
-    help: "File whose bytes are the initial contents of one array, as in p=words.txt; the others are zeros",
+    help: "File whose bytes are the initial contents of an array, as in p=words.txt; all others are zeros",
     takes: Takes::TextBut("NAME=FILE", &["input"]),
 };
 
@@ -652,6 +654,12 @@ fn argument<'w>(alloc: Global, entry: Entry) -> Result<Arg<'w>, AllocError> {
         Takes::TextBut(value, others) => {
             let argument = argument.long(entry.name).value_name(value);
             argument.conflicts_with_all(others)?
+        }
+        Takes::TextsBut(value, others) => {
+            let argument = argument.long(entry.name).value_name(value);
+            argument
+                .action(ArgAction::Append)
+                .conflicts_with_all(others)?
         }
         Takes::OneOf(value, words) => argument
             .long(entry.name)

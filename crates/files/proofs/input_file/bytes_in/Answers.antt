@@ -3,7 +3,7 @@ use Rattle.std.proofs.lemmas.Result.{IfErr-weaker, IfOk-weaker}
 use Rattle.shared_lemmas.proofs.Results.{err_passed}
 use Rattle.types.specs.Typed.{code_of}
 use Rattle.command_line.specs.Requests.{FromBytes}
-use Rattle.files.specs.Held.{HasJson, TellsNoInput, array_text, joined}
+use Rattle.files.specs.Held.{HasJson, TellsNoInput, bytes_text}
 use Rattle.files.proofs.Inputs.{mistaken, said, unread_no_bytes}
 use Rattle.files.proofs.input_file.bytes_in.Goals as goal
 
@@ -20,27 +20,27 @@ returns-in-Ok-clause-says g c =
     let held = g.F.FileSource.held c.args.files.now in
     let arrays = (code_of c.args.typed.now).arrays in
     let name = c.args.name.now in let file = c.args.file.now in
-    let text = array_text name c.as_str.result.now in
+    let text = c.as_str.result.now in
     let has : HasJson held (FromBytes name file) text = (
       c.in_ok-bytes.bytes.items,
       (
         c.in_ok-bytes.ensures.given,
-        ap (array_text name) (c.as_str.ensures.value ∙ c.in-Ok.ensures ∙ ap joined c.deref.ensures.value),
+        c.as_str.ensures.value ∙ c.in-Ok.ensures ∙ ap (bytes_text name) c.deref.ensures.value,
       ),
     ) in
-    IfOk-weaker c.input_by.result _ _ (λ i says. said held (FromBytes name file) text arrays _ has says) c.input_by.ensures.says
+    IfOk-weaker c.read.result _ _ (λ i says. said held (FromBytes name file) text arrays _ has says) c.read.ensures.says
 
 pub returns-in-Ok-clause-why : goal.returns-in-Ok-clause-why
 returns-in-Ok-clause-why g c =
     let held = g.F.FileSource.held c.args.files.now in
     let arrays = (code_of c.args.typed.now).arrays in
     let name = c.args.name.now in let file = c.args.file.now in
-    let text = array_text name c.as_str.result.now in
+    let text = c.as_str.result.now in
     let has : HasJson held (FromBytes name file) text = (
       c.in_ok-bytes.bytes.items,
       (
         c.in_ok-bytes.ensures.given,
-        ap (array_text name) (c.as_str.ensures.value ∙ c.in-Ok.ensures ∙ ap joined c.deref.ensures.value),
+        c.as_str.ensures.value ∙ c.in-Ok.ensures ∙ ap (bytes_text name) c.deref.ensures.value,
       ),
     ) in
-    IfErr-weaker c.input_by.result _ _ (λ f mistake. mistaken held (FromBytes name file) text arrays f has mistake) c.input_by.ensures.why
+    IfErr-weaker c.read.result _ _ (λ f mistake. mistaken held (FromBytes name file) text arrays f has mistake) c.read.ensures.why

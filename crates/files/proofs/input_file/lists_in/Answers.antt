@@ -3,7 +3,7 @@ use Rattle.std.specs.Prelude.{IfErr, IfOk}
 use Rattle.types.specs.Translation.{input as lists_of}
 use Rattle.types.specs.Typed.{code_of}
 use Rattle.files.specs.Held.{HasMistakeIn, SaysText}
-use Rattle.files.proofs.input_file.input_by.Goals as goal
+use Rattle.files.proofs.input_file.lists_in.Goals as goal
 
 pub returns-in-Ok-clause-says : goal.returns-in-Ok-clause-says
 returns-in-Ok-clause-says c =
