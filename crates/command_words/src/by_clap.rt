@@ -18,12 +18,13 @@ pub fn order_by_clap<'w>(alloc: Global, words: &'w [String]) -> Result<Order<'w>
     let asked = matches.subcommand();
     match replied(alloc, asked)? {
         Some(reply) => Err(reply),
-        None => Ok(written_so(words, asked, ordered(alloc, words, asked)?)),
+        None => Ok(tested_so(words, asked, ordered(alloc, words, asked)?)),
     }
 }
 
-/// Returns an order, with `test --write` that of writing.
-fn written_so<'w>(
+/// Returns an order, with `test --write` that of writing, and with `test --format json` that of an
+/// object.
+fn tested_so<'w>(
     words: &'w [String],
     asked: Option<(&str, &ArgMatches<'w>)>,
     order: Order<'w>,
@@ -31,12 +32,17 @@ fn written_so<'w>(
     let Order::Tests(request) = order else {
         return order;
     };
-    match asked {
-        Some((_, given)) if given.get_flag("write") => Order::TestsEach(SeveralTests {
-            names: name_among(words, request.file),
-            settings: request.settings,
-            writes: true,
-        }),
+    let Some((_, given)) = asked else {
+        return order;
+    };
+    let tests = SeveralTests {
+        names: name_among(words, request.file),
+        settings: request.settings,
+        writes: given.get_flag("write"),
+    };
+    match given.get_str("format") {
+        Some("json") => Order::TestsAsObject(tests),
+        _ if tests.writes => Order::TestsEach(tests),
         _ => order,
     }
 }

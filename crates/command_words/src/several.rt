@@ -12,15 +12,26 @@ pub fn each_in<'w>(words: &'w [String]) -> Option<Order<'w>> {
     match words {
         [] => None,
         [command, behind @ ..] => if command.as_str() == "test" {
-            Some(Order::TestsEach(tests_behind(behind)?))
+            tests_in(behind)
         } else {
             Some(Order::Each(several_behind(command.as_str(), behind)?))
         },
     }
 }
 
-/// Returns the programs and folders that are tested: with `--write` one or more, else several.
-fn tests_behind<'w>(behind: &'w [String]) -> Option<SeveralTests<'w>> {
+/// Returns the order of tests: with `--format json` for an object.
+fn tests_in<'w>(behind: &'w [String]) -> Option<Order<'w>> {
+    let (form, words) = take("--format", behind);
+    match form {
+        None => Some(Order::TestsEach(tests_behind(words, 2)?)),
+        Some("json") => Some(Order::TestsAsObject(tests_behind(words, 1)?)),
+        Some(_) => None,
+    }
+}
+
+/// Returns the programs and folders that are tested: with `--write` one or more, else this many or
+/// more.
+fn tests_behind<'w>(behind: &'w [String], fewest: usize) -> Option<SeveralTests<'w>> {
     let (writes, words) = take_flag("--write", behind);
     let (steps, words) = take("--steps", words);
     let (nest, words) = take("--nest", words);
@@ -35,7 +46,7 @@ fn tests_behind<'w>(behind: &'w [String]) -> Option<SeveralTests<'w>> {
         workers,
         ..Texts::none()
     };
-    let fewest = if writes { 1 } else { 2 };
+    let fewest = if writes { 1 } else { fewest };
     if names.len() < fewest || !are_files(names) {
         return None;
     }

@@ -8,7 +8,8 @@ use Rattle.test_and_bench.specs.Folders.{Folders}
 use Rattle.driver.specs.More.{more_of, nothing_more}
 use Rattle.driver.specs.declared.more.More.{More}
 use Rattle.driver.specs.Acts.{Reports}
-use Rattle.driver.specs.Orders.{ActsOn, ActsWith, DoesWith, ReadsAnd, TellsUnread, TestsAll, on_text, without_text}
+use Rattle.driver.specs.Orders.{ActsOn, ActsWith, DoesWith, ReadsAnd, TellsTestsAs, TellsUnread, TestsAll, on_text, without_text}
+use Rattle.test_and_bench.specs.TestsObject.{TellsTests}
 use Rattle.test_and_bench.specs.Trials.{DoesTest}
 use Rattle.driver.specs.declared.doing.TextOrder.{TextOrder}
 
@@ -54,6 +55,11 @@ module _ (named : Folders) (held later : Held) (old new err_old err_new : Option
       → DoesTest named held names writes s later old new r → Reports nothing_more err_old err_new r status
       → TestsAll names writes s named held later old new err_old err_new status
   tested_as names writes s r does reports = record { result = r; does = does; reports = reports }
+
+  pub told_as : (names : List (List ℕ)) (writes : Bool) (s : Settings) (r : Result ℕ Failure)
+      → TellsTests named held names writes s later old new r → Reports nothing_more err_old err_new r status
+      → TellsTestsAs names writes s named held later old new err_old err_new status
+  told_as names writes s r does reports = record { result = r; does = does; reports = reports }
 
   -- one order is another
   pub ordered : (at_terminal : Bool) (o p : Order) → o ≡ p

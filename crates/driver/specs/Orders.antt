@@ -10,7 +10,8 @@ use Rattle.failures.specs.declared.failure.Failure.{Failure}
 use Rattle.printing.specs.Appending.{AppendsBeginning}
 use Rattle.printing.specs.Reasons.{escaped}
 use Rattle.json_answers.specs.Failing.{IsToldAsObject, TellsFailure}
-use Rattle.command_words.specs.Orders.{Order, AsText, AsObject, Times, TimesAsObject, Tests, TestsEach, Each}
+use Rattle.command_words.specs.Orders.{Order, AsText, AsObject, Times, TimesAsObject, Tests, TestsEach}
+use Rattle.command_words.specs.Orders.{TestsAsObject, Each}
 use Rattle.command_words.specs.declared.order.Subject.{Subject}
 use Rattle.driver.specs.More.{more_of, nothing_more}
 use Rattle.driver.specs.declared.more.More.{More}
@@ -21,6 +22,7 @@ use Rattle.driver.specs.declared.doing.TextOrder.{TextOrder}
 use Rattle.driver.specs.declared.doing.TextOrder.TheVariants.{Answering, Describing, Timing, TimingAsObject}
 use Rattle.driver.specs.declared.loaded.Loaded.{Loaded}
 use Rattle.test_and_bench.specs.Folders.{Folders}
+use Rattle.test_and_bench.specs.TestsObject.{TellsTests}
 use Rattle.test_and_bench.specs.Trials.{DoesTest}
 
 -- this was done with the text of a program: the command was answered, or it was answered as one object, or
@@ -109,6 +111,12 @@ abbrev pub TestsAs : (a : Asked) → Folders → (held later : Held) → (old ne
 TestsAs a named held later old new err_old err_new status =
     TestsAll (a.file ∷ []) false a.settings named held later old new err_old err_new status
 
+-- the same, with the results as one object
+abbrev pub TellsTestsAs : (names : List (List ℕ)) → (writes : Bool) → Settings → Folders → (held later : Held)
+    → (old new : Option (List ℕ)) → (err_old err_new : Option (List ℕ)) → (status : ℕ) → Type 0
+TellsTestsAs names writes s named held later old new err_old err_new status =
+    ActsBy (TellsTests named held names writes s later old new) nothing_more err_old err_new status
+
 -- ---- several files, one after the other
 
 -- the request for one of the files, under the default settings
@@ -157,5 +165,7 @@ ActsOn at_terminal (Tests a) named held later old new err_old err_new status =
     TestsAs a named held later old new err_old err_new status
 ActsOn at_terminal (TestsEach writes names s) named held later old new err_old err_new status =
     TestsAll names writes s named held later old new err_old err_new status
+ActsOn at_terminal (TestsAsObject writes names s) named held later old new err_old err_new status =
+    TellsTestsAs names writes s named held later old new err_old err_new status
 ActsOn at_terminal (Each x files t) named held later old new err_old err_new status =
     ActsOnEach (more_of x t at_terminal) x t held old err_old files later new err_new status

@@ -23,7 +23,7 @@ use crate::refusal::Refusal;
 use crate::reporting::report;
 use crate::several::do_with_each;
 use crate::terminal::{Terminal, more_on};
-use crate::trying::{test_each, test_one};
+use crate::trying::{test_as_object, test_each, test_one};
 use command_words::order::Order;
 use command_words::words::order_of;
 use failures::failure::Failure;
@@ -147,6 +147,10 @@ fn carry_out<R: Threads + Wait + Sync, F: FolderSource, O: Write, E: Write, T: T
         }
         Order::TestsEach(tests) => {
             let done = test_each(rt, alloc, tests, files, out);
+            report(done, More::nothing(), err)
+        }
+        Order::TestsAsObject(tests) => {
+            let done = test_as_object(rt, alloc, tests, files, out);
             report(done, More::nothing(), err)
         }
         Order::Each(several) => do_with_each(rt, alloc, several, files, out, err, terminal),

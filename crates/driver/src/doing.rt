@@ -114,7 +114,7 @@ fn tell_unread<R: Threads + Sync, F: FileSource, O: Write>(
 
 /// Writes the object that tells why a file gives no text, with its explanation, if there is memory
 /// for both.
-fn tell_unread_file<R: Threads + Sync, F: FileSource, O: Write>(
+pub(crate) fn tell_unread_file<R: Threads + Sync, F: FileSource, O: Write>(
     rt: &R,
     alloc: Global,
     file: &str,

@@ -347,6 +347,7 @@ threads, and passes if each run prints exactly the contents of NAME.out. NAME.js
 if present, has its options, each word on a line. With NAME.err, the program is to be refused with exactly that message.
 
 Example: afx test examples/tested
+Example: afx test --format json examples/tested
 Example: afx test --write examples/tested/total.afx";
 
 const EXPLORE_EXAMPLE: &str =
@@ -448,7 +449,7 @@ const TESTED: Row = Row {
     name: "test",
     about: "Run programs, or those in a folder, and compare their output with the expected output",
     example: TEST_EXAMPLE,
-    entries: &[TESTS, WRITE_OUTPUT, STEPS, NEST, TASKS, W0, WORKERS],
+    entries: &[TESTS, WRITE_OUTPUT, STEPS, NEST, TASKS, W0, WORKERS, FORMAT],
 };
 
 const EXPLORED: Row = Row {

@@ -29,7 +29,7 @@ const ROWS: &[(&str, &str)] = &[
         "bench",
         " input set text steps nest tasks w0 workers format explain color",
     ),
-    ("test", " write steps nest tasks w0 workers"),
+    ("test", " write steps nest tasks w0 workers format"),
     (
         "explore",
         " input set text choices choices-from random arrays explain color",

@@ -2,11 +2,12 @@ use Rattle.std.proofs.Common.{◌∷◌, [], ap, map, refl, sym}
 use Rattle.std.specs.Prelude.{false}
 use Rattle.command_line.specs.Requests.{asked_of, settings}
 use Rattle.std.specs.String.{string_bytes}
-use Rattle.command_words.specs.Orders.{AsText, AsObject, Times, TimesAsObject, Tests, TestsEach, Each, command_of, order}
+use Rattle.command_words.specs.Orders.{AsText, AsObject, Times, TimesAsObject, Tests, TestsEach, TestsAsObject, Each}
+use Rattle.command_words.specs.Orders.{command_of, order}
 use Rattle.driver.specs.Acts.{in_short}
 use Rattle.driver.specs.Watching.{is_watched, is_watched_by}
 use Rattle.driver.specs.declared.doing.TextOrder.TheVariants.{Answering, Describing, Timing, TimingAsObject}
-use Rattle.driver.proofs.Ordered.{acted, ordered, tested_as}
+use Rattle.driver.proofs.Ordered.{acted, ordered, tested_as, told_as}
 use Rattle.driver.proofs.Watched.{reported_watched, watched_as}
 use Rattle.driver.proofs.act.carry_out.Goals as goal
 
@@ -54,6 +55,14 @@ returns-in-TestsEach-clause-acts g c =
     (tested_as _ _ _ _ _ _ _ _ names tests.writes s (in_short c.test_each-done.result) c.test_each-done.ensures.done
     c.report-in-TestsEach.ensures)
 
+pub returns-in-TestsAsObject-clause-acts : goal.returns-in-TestsAsObject-clause-acts
+returns-in-TestsAsObject-clause-acts g c =
+    let tests = c.in-TestsAsObject.tests in
+    let names = map string_bytes tests.names.now in let s = settings tests.settings in
+    ordered _ _ _ _ _ _ _ _ _ (TestsAsObject tests.writes names s) (order c.args.order) (sym (ap order c.in-TestsAsObject.is))
+    (told_as _ _ _ _ _ _ _ _ names tests.writes s (in_short c.test_as_object-done.result) c.test_as_object-done.ensures.done
+    c.report-in-TestsAsObject.ensures)
+
 pub returns-in-AsText-clause-watched : goal.returns-in-AsText-clause-watched
 returns-in-AsText-clause-watched g c =
     let asked = asked_of c.in-AsText.request in let done = c.read_and_do-done in
@@ -87,6 +96,12 @@ returns-in-TestsEach-clause-watched g c =
     let tests = c.in-TestsEach.tests in
     watched_as g.T.Watch.Told _ _ (TestsEach tests.writes (map string_bytes tests.names.now) (settings tests.settings))
     (order c.args.order) (sym (ap order c.in-TestsEach.is)) _ refl
+
+pub returns-in-TestsAsObject-clause-watched : goal.returns-in-TestsAsObject-clause-watched
+returns-in-TestsAsObject-clause-watched g c =
+    let tests = c.in-TestsAsObject.tests in
+    watched_as g.T.Watch.Told _ _ (TestsAsObject tests.writes (map string_bytes tests.names.now) (settings tests.settings))
+    (order c.args.order) (sym (ap order c.in-TestsAsObject.is)) _ refl
 
 pub returns-in-Each-clause-acts : goal.returns-in-Each-clause-acts
 returns-in-Each-clause-acts g c =
