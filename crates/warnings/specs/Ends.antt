@@ -1,4 +1,4 @@
--- Statements after which their task does not go on, and blocks that start no task.
+-- Statements after which their task doesn't continue, and blocks that start no task.
 use Rattle.std.specs.Prelude.{Bool, true, false, not, ◌&&◌, ◌||◌, if◌then◌else◌}
 use Rattle.types.specs.Code.{Truth, Constant, Compare, Not, Both, Either, Primitive, Skip, Assign, Store}
 use Rattle.types.specs.Code.{Print, Raise}
@@ -27,7 +27,7 @@ is_fault (Store s i e) = false
 is_fault (Print es) = false
 
 abbrev mutual
-  -- whatever its numbers are, the task doesn't go on after it: it faults, or a loop has no end
+  -- whatever its numbers are, the task doesn't continue after it: it faults, or a loop has no end
   pub stops : Code → Bool
   stops (Do p) = is_fault p
   stops (If t b c) = (is_never t || block_stops b) && (is_always t || block_stops c)
@@ -60,8 +60,8 @@ abbrev mutual
   block_may_leave End = false
   block_may_leave (Then l s rest) = may_leave s || block_may_leave rest
 
--- the last statement of a block is an async, and no statement before it may leave a task: nothing runs beside
--- it
+-- the last statement of a block is an async, and no statement before it may leave a task: a finish around the
+-- block waits for that task at once
 abbrev pub is_async : Code → Bool
 is_async (Async b) = true
 is_async _ = false

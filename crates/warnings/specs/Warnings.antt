@@ -18,7 +18,7 @@ use Rattle.warnings.specs.declared.uses.Thing.TheVariants.{ScalarIn, SectionOf, 
 use Rattle.warnings.specs.declared.warning.Warning.{Warning}
 use Rattle.warnings.specs.declared.warning.Warning.TheVariants.{UnusedProcedure, UnusedParameter}
 use Rattle.warnings.specs.declared.warning.Warning.TheVariants.{UnreadVariable}
-use Rattle.warnings.specs.declared.warning.Warning.TheVariants.{IdleFinish, LoneTask, TooLarge, Unreached}
+use Rattle.warnings.specs.declared.warning.Warning.TheVariants.{IdleFinish, LoneTask, NeverFits, Unreached}
 
 -- a warning, if this holds
 abbrev pub warn_if : Bool → Warning → List Warning
@@ -40,7 +40,7 @@ is_positive (Length s) = false
 is_positive (Negative e) = false
 is_positive (Chain e rest) = false
 
--- a constant that no element of this type holds
+-- a constant that doesn't fit in an element of this type
 abbrev pub cannot_hold : ElementType → Number → Bool
 cannot_hold t (Literal v) = not (holds_number t v)
 cannot_hold t (Negative e) = is_positive e && not (holds_number t (negsuc 0))
@@ -61,12 +61,12 @@ section_cannot_hold f s e = root_cannot_hold (slice_get f.parameters (root_of f.
 -- the warnings of a statement of one step: its variable is never read, or its constant doesn't fit
 abbrev pub step_warnings : Procedure → (label : ℕ) → Primitive → List Warning
 step_warnings f l (Assign x e) = unused (ScalarIn x) f.body (UnreadVariable l)
-step_warnings f l (Store s i e) = warn_if (section_cannot_hold f s e) (TooLarge l)
+step_warnings f l (Store s i e) = warn_if (section_cannot_hold f s e) (NeverFits l)
 step_warnings f l Skip = []
 step_warnings f l (Print es) = []
 step_warnings f l (Raise e) = []
 
--- those of a finish: nothing runs beside its only task, or there is no task that it waits for
+-- those of a finish: it waits at once for its only task, or there is no task that it waits for
 abbrev pub finish_warnings : (label : ℕ) → Codes → List Warning
 finish_warnings l b =
     if is_lone_task b then LoneTask l ∷ [] else warn_if (not (block_may_leave b)) (IdleFinish l)

@@ -1,4 +1,4 @@
-//! Statements after which their task does not go on, and blocks that start no task.
+//! Statements after which their task doesn't continue, and blocks that start no task.
 
 ghost use Rattle.std.specs.Prelude.{◌≡◌};
 ghost use Rattle.types.specs.Translation.{code as plain_code, codes as codes_of, primitive as primitive_of};
@@ -49,7 +49,7 @@ fn is_fault(primitive: &Primitive) -> bool
     }
 }
 
-/// Returns whether a task doesn't go on after a statement, whatever its numbers are.
+/// Returns whether a task doesn't continue after a statement, whatever its numbers are.
 #[cycle(stops)]
 pub fn stops(kind: &StmtKind) -> bool
     ensures { result ≡ ends (plain_code kind.now) }
@@ -70,7 +70,7 @@ pub fn stops(kind: &StmtKind) -> bool
     }
 }
 
-/// Returns whether a task doesn't go on after a statement of a block.
+/// Returns whether a task doesn't continue after a statement of a block.
 #[cycle(stops)]
 fn block_stops(block: &[Stmt]) -> bool
     ensures { result ≡ ends_in (codes_of block.now) }
@@ -115,7 +115,7 @@ pub fn block_may_leave(block: &[Stmt]) -> bool
 }
 
 /// Returns whether the last statement of a block is an async, and no statement before it may leave a
-/// task: then nothing runs beside it.
+/// task: then a finish around the block waits for that task at once.
 pub fn is_lone_task(block: &[Stmt]) -> bool
     ensures { result ≡ lone_task (codes_of block.now) }
 {

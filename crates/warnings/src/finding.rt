@@ -293,7 +293,7 @@ fn push_step(
         }
         Primitive::Store { section, value, .. } => {
             let wrong = cannot_hold_there(scope, *section, value);
-            push_if(wrong, Warning::TooLarge(label), found)
+            push_if(wrong, Warning::NeverFits(label), found)
         }
         Primitive::Skip => Ok(()),
         Primitive::Print { .. } => Ok(()),
@@ -301,7 +301,7 @@ fn push_step(
     }
 }
 
-/// Returns whether a number is a constant that no element of a section holds.
+/// Returns whether a number is a constant that doesn't fit in an element of a section.
 fn cannot_hold_there(scope: Scope<'_>, section: SectionId, number: &Number) -> bool
     requires { HasRoots scope.entry.procedure.now scope.entry.roots.now }
     ensures { result ≡ section_cannot_hold (procedure_of scope.entry.procedure.now) section.number
@@ -317,7 +317,7 @@ fn cannot_hold_there(scope: Scope<'_>, section: SectionId, number: &Number) -> b
     }
 }
 
-/// Returns whether a number is a constant that no element of this type holds.
+/// Returns whether a number is a constant that doesn't fit in an element of this type.
 fn cannot_hold(element: ElementType, number: &Number) -> bool
     ensures { result ≡ holds_none element (number_of number.now) }
 {
@@ -345,8 +345,8 @@ fn is_positive(number: &Number) -> bool
     }
 }
 
-/// Adds the warning of a finish: nothing runs beside its only task, or there is no task that it waits
-/// for.
+/// Adds the warning of a finish: it waits at once for its only task, or there is no task that it
+/// waits for.
 fn push_finish(label: Label, body: &[Stmt], found: &mut Vec<Warning>) -> Result<(), AllocError>
     ensures { OnOk result (found.new.items
         ≡ found.old.items ++ finish_warnings label (codes_of body.now)) }

@@ -1,5 +1,10 @@
 //! The text of warnings.
 
+ghost use Rattle.std.specs.Prelude.{◌≡◌, [], IfOk};
+ghost use Rattle.std.specs.String.{string_bytes};
+ghost use Rattle.types.specs.Typed.{code_of, program_of};
+ghost use Rattle.warnings.specs.Warnings.{program_warnings};
+
 use crate::finding::warnings_of;
 use crate::warning::Warning;
 use excerpts::heading::Heading;
@@ -20,7 +25,10 @@ pub fn warnings_text(
     text: &str,
     typed: &Typed,
     file: &str,
-) -> Result<String, AllocError> {
+) -> Result<String, AllocError>
+    ensures quiet { program_warnings (program_of typed.now) (code_of typed.now) ≡ []
+        → IfOk result (λ told. string_bytes told ≡ []) }
+{
     let mut told = String::new(alloc);
     let Some(statements) = PlacedStatements::of(alloc, text)? else {
         return Ok(told);
@@ -28,7 +36,8 @@ pub fn warnings_text(
     if statements.places.len() > MOST_STATEMENTS {
         return Ok(told);
     }
-    for warning in &warnings_of(alloc, typed)? {
+    let found = warnings_of(alloc, typed)?;
+    for warning in &found {
         push_warning(alloc, &mut told, &statements, file, *warning)?;
     }
     Ok(told)
@@ -66,10 +75,8 @@ fn about_of(alloc: Global, warning: Warning, token: &Spanned) -> Result<String, 
         Warning::UnusedParameter(_, _) => format!(in alloc; "`{name}` is never used"),
         Warning::UnreadVariable(_) => format!(in alloc; "`{name}` is never read"),
         Warning::IdleFinish(_) => format!(in alloc; "this `finish` has no task to wait for"),
-        Warning::LoneTask(_) => format!(in alloc;
-            "nothing runs beside the only task of this `finish`"
-        ),
-        Warning::TooLarge(_) => format!(in alloc; "no byte holds this number"),
+        Warning::LoneTask(_) => format!(in alloc; "this `finish` waits at once for its only task"),
+        Warning::NeverFits(_) => format!(in alloc; "this number doesn't fit in a byte"),
         Warning::Unreached(_) => format!(in alloc; "no run reaches this statement"),
     }
 }
@@ -84,8 +91,8 @@ fn help_of(warning: Warning) -> &'static str {
         Warning::LoneTask(_) => {
             "help: remove the `finish` and the `async`, or put what can run in parallel after the `async`.\n"
         }
-        Warning::TooLarge(_) =>
-            "help: a byte holds 0 to 255; the statement is a fault (see `afx explain F4`).\n",
+        Warning::NeverFits(_) =>
+            "help: a byte stores 0 to 255; the statement is a fault (see `afx explain F4`).\n",
         Warning::Unreached(_) =>
             "help: remove it, or the condition, fault or endless loop before it.\n",
     }
@@ -101,7 +108,7 @@ fn token_of<'s>(statements: &'s PlacedStatements<'_>, warning: Warning) -> Optio
         Warning::UnreadVariable(label) => variable(statement(statements, label)?),
         Warning::IdleFinish(label)
         | Warning::LoneTask(label)
-        | Warning::TooLarge(label)
+        | Warning::NeverFits(label)
         | Warning::Unreached(label) => statement(statements, label)?.first(),
     }
 }

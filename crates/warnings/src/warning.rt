@@ -13,10 +13,10 @@ pub enum Warning {
     UnreadVariable(Label),
     /// `finish { a[0] = 1; }`: no task that it waits for is started in it.
     IdleFinish(Label),
-    /// `finish { async { .. } }`: nothing runs beside its only task, which is started last.
+    /// `finish { async { .. } }`: it waits at once for its only task, which is started last.
     LoneTask(Label),
-    /// `b[0] = 256;`: no element of bytes holds this constant.
-    TooLarge(Label),
+    /// `b[0] = 256;`: the constant doesn't fit in an element of bytes.
+    NeverFits(Label),
     /// `fault 1; skip;`: no run reaches this statement.
     Unreached(Label),
 }

@@ -24,8 +24,8 @@ returns-in-Ok g c =
     })
     c.write.ensures.text c.write.ensures.status c.write.ensures.failure c.in_ok-tested.ensures.keeps
 
-pub returns-in-Err : goal.returns-in-Err
-returns-in-Err g c =
+pub returns : goal.returns
+returns g c =
     let testing = c.args.testing.now in
     test_without_memory (g.F.FolderSource.named c.args.files.now) (g.F.FileSource.held c.args.files.now)
     (map string_bytes c.args.names.now) testing.writes (settings testing.settings) _ _ _ _ refl refl

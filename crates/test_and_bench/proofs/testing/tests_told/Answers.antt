@@ -19,5 +19,5 @@ returns-in-Ok-clause-object g c = record {
   status_is = rw c.deref-in-Ok.ensures.value at c.status_of.ensures;
 }
 
-pub returns-in-Err-clause-why : goal.returns-in-Err-clause-why
-returns-in-Err-clause-why g c = without_memory refl c.in_ok-tested.ensures.keeps
+pub returns-clause-why : goal.returns-clause-why
+returns-clause-why g c = without_memory refl c.in_ok-tested.ensures.keeps
