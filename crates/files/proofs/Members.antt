@@ -1,7 +1,7 @@
 -- The JSON members of the lists among arguments.
 use Rattle.std.proofs.Common.{◌≡◌, ◌∷◌, ◌++◌, ◌+◌, ◌<◌, ℕ, List, [], Option, Some, None, Bor, String, Global}
-use Rattle.std.proofs.Common.{arith, refl, ap, ap₂, sym, subst, ◌∙◌, length, map, drop, take, get_or}
-use Rattle.std.proofs.lemmas.List.{append_assoc, drop_all, drop_more, take_all}
+use Rattle.std.proofs.Common.{append_assoc, arith, refl, ap, ap₂, sym, ◌∙◌, length, map, drop, take, take_all, get_or}
+use Rattle.std.proofs.lemmas.List.{drop_all, drop_more}
 use Rattle.std.proofs.lemmas.Str.Pattern.{split_once_first}
 use Rattle.std.specs.Prelude.{Bool}
 use Rattle.std.specs.List.{position_or_len}

@@ -1,7 +1,7 @@
 -- Programs, tested one after the other.
-use Rattle.std.proofs.Common.{◌≡◌, ℕ, ◌+◌, ◌-◌, ◌<◌, List, [], ◌∷◌, ◌++◌, length, map, take, drop, get_or, String, Global}
-use Rattle.std.proofs.Common.{arith, refl, sym, ap, ap₂, ◌∙◌, subst, string_bytes}
-use Rattle.std.proofs.lemmas.List.{append_assoc, drop_more, map-append, take_more}
+use Rattle.std.proofs.Common.{◌≡◌, ℕ, ◌+◌, ◌<◌, List, [], ◌∷◌, ◌++◌, length, map, take, drop, get_or, String, Global}
+use Rattle.std.proofs.Common.{append_assoc, arith, refl, sym, ap, ◌∙◌, subst, string_bytes}
+use Rattle.std.proofs.lemmas.List.{drop_more, map-append, take_more}
 use Rattle.std.specs.List.{flat_map}
 use Rattle.std.specs.Prelude.{Bool, true, false}
 use Rattle.command_line.specs.Requests.{Settings}

@@ -4,6 +4,7 @@
 
 pub mod ends;
 pub mod finding;
+pub mod laws;
 pub mod telling;
 pub mod uses;
 pub mod warning;

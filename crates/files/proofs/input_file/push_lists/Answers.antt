@@ -1,4 +1,4 @@
-use Rattle.std.proofs.Common.{◌∙◌, arith, option_map, ap, string_bytes}
+use Rattle.std.proofs.Common.{◌∙◌, arith, ap}
 use Rattle.command_line.specs.Lists.{awaits, list_in}
 use Rattle.files.proofs.Members.{one_more}
 use Rattle.files.proofs.input_file.push_lists.Goals as goal
