@@ -2,21 +2,21 @@
 use Rattle.std.proofs.Common.{◌≡◌, ℕ, true≢false}
 use Rattle.std.proofs.lemmas.Bool.{or_parts}
 use Rattle.std.specs.Prelude.{false}
-use Rattle.types.specs.Code.{Code, If, While, Split, Parts, Begun, Do, Call, Async, Finish, Codes, End, Then, Program}
+use Rattle.types.specs.Code.{Code, Async, Codes, Then, Program}
 use Rattle.effects.specs.Effects.{Inner, Subject, PendingOf, Pending}
 use Rattle.warnings.specs.Ends.{block_may_leave, may_leave}
 
 module _ (p : Program) (subject : Subject) where
   mutual
     nothing_of : (s : Code) (x : subject.Item) → may_leave s ≡ false → PendingOf p subject s x → ⊥
-    nothing_of (If t b c) x no (PendingOf.inner {x = y} (Inner.if_body) pending is) =
+    nothing_of s x no (PendingOf.inner {x = y} (Inner.if_body {b = b} {c = c}) pending is) =
         nothing_in b y (or_parts (block_may_leave b) (block_may_leave c) no).0 pending
-    nothing_of (If t b c) x no (PendingOf.inner {x = y} (Inner.if_other) pending is) =
+    nothing_of s x no (PendingOf.inner {x = y} (Inner.if_other {b = b} {c = c}) pending is) =
         nothing_in c y (or_parts (block_may_leave b) (block_may_leave c) no).1 pending
-    nothing_of (While t b) x no (PendingOf.inner {x = y} (Inner.while) pending is) = nothing_in b y no pending
-    nothing_of (Split s e l r b) x no (PendingOf.inner {x = y} (Inner.split) pending is) = nothing_in b y no pending
-    nothing_of (Parts s e q i b) x no (PendingOf.inner {x = y} (Inner.parts) pending is) = nothing_in b y no pending
-    nothing_of (Call f es ss) x no (PendingOf.inner (Inner.call) pending is) = true≢false no
+    nothing_of s x no (PendingOf.inner {x = y} (Inner.while {b = b}) pending is) = nothing_in b y no pending
+    nothing_of s x no (PendingOf.inner {x = y} (Inner.split {b = b}) pending is) = nothing_in b y no pending
+    nothing_of s x no (PendingOf.inner {x = y} (Inner.parts {b = b}) pending is) = nothing_in b y no pending
+    nothing_of s x no (PendingOf.inner Inner.call pending is) = true≢false no
     nothing_of (Async b) x no (PendingOf.async all) = true≢false no
 
     nothing_in : (b : Codes) (x : subject.Item) → block_may_leave b ≡ false → Pending p subject b x → ⊥
