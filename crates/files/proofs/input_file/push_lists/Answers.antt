@@ -8,6 +8,6 @@ loop-word-preserved c =
     one_more c.args.words.now c.loop-word.word-index c.word-item.result _ c.loop-word.awaited _ _ _ _ _ _
     (omega arith) c.word-item.is
     (c.list_of-list.ensures ∙ ap (list_in c.loop-word.awaited) c.as_str.ensures.value)
-    (c.awaits.ensures ∙ ap (awaits c.loop-word.awaited) c.as_str-2.ensures.value)
-    c.in_ok-push_if_list.ensures.added c.in_ok-push_if_list.ensures.behind
+    (c.awaits-awaited.ensures ∙ ap (awaits c.loop-word.awaited) c.as_str-2.ensures.value)
+    c.in_ok-before.ensures.added c.in_ok-before.ensures.behind
     ∙ c.loop-word.invariant
