@@ -1,3 +1,4 @@
 pub mod Bools
 pub mod Idle
 pub mod Stopping
+pub mod Unfitting

@@ -1,6 +1,6 @@
 -- No task continues after a statement that stops.
 use Rattle.std.proofs.Common.{◌≡◌, ◌≢◌, ℕ, zero, suc, ◌+◌, List, [], ◌∷◌, ◌++◌, Ok, Err, map, refl, sym, ap, ◌∙◌, true≢false}
-use Rattle.std.specs.Prelude.{Bool, true, false, not, ◌&&◌, ◌||◌, ℤ, ok_or}
+use Rattle.std.specs.Prelude.{Bool, true, false, ◌&&◌, ◌||◌, ℤ, ok_or}
 use Rattle.sections.specs.Place.{Place, sides_of, has_piece}
 use Rattle.types.specs.declared.fault.FaultKind.{FaultKind}
 use Rattle.types.specs.declared.fault.FaultKind.TheVariants.{SplitPoint, PieceSize, Raised}
@@ -33,21 +33,13 @@ stopped_on e = cc
 
 -- ---- booleans
 
-or_else : (a b : Bool) → (a || b) ≡ true → a ≡ false → b ≡ true
-or_else true b either no = absurd (true≢false no)
-or_else false b either no = either
-
-both_first : (a b : Bool) → (a && b) ≡ true → a ≡ true
+pub both_first : (a b : Bool) → (a && b) ≡ true → a ≡ true
 both_first true b both = refl
 both_first false b both = both
 
-both_second : (a b : Bool) → (a && b) ≡ true → b ≡ true
+pub both_second : (a b : Bool) → (a && b) ≡ true → b ≡ true
 both_second true b both = both
 both_second false b both = absurd (true≢false (sym both))
-
-not_true : (a : Bool) → not a ≡ true → a ≡ false
-not_true true no = absurd (true≢false (sym no))
-not_true false no = refl
 
 -- ---- a fault is listed
 

@@ -1,11 +1,12 @@
 //! Theorems about warnings, each stated as the contract of an empty function.
 
 ghost use Rattle.std.specs.Prelude.{ℕ, ◌≡◌, ◌≢◌, true, false};
-ghost use Rattle.types.specs.Code.{Code, Codes, Program, End, Then};
+ghost use Rattle.types.specs.Code.{Code, Codes, Number, Program, End, Store, Then};
 ghost use Rattle.types.specs.Meaning.{one};
-ghost use Rattle.types.specs.Run.{State, Block, On};
+ghost use Rattle.types.specs.Run.{State, Block, Faulted, On, array_of, primitive, window_at};
 ghost use Rattle.effects.specs.Effects.{Subject, Pending};
 ghost use Rattle.warnings.specs.Ends.{block_may_leave, stops};
+ghost use Rattle.warnings.specs.Warnings.{cannot_hold};
 
 /// States that a task doesn't continue after a statement that stops, on one thread and under any
 /// budget. So no run reaches the statement after it.
@@ -19,4 +20,12 @@ pub fn stopping_statements_end_their_task()
 pub fn idle_finishes_wait_for_nothing()
     ensures { (p : Program) (subject : Subject) (b : Codes) (x : subject.Item)
         → block_may_leave b ≡ false → Pending p subject b x → ⊥ }
+{}
+
+/// States that a store of a constant that doesn't fit in the elements of the array is a fault,
+/// whatever the index is.
+pub fn unfitting_constants_are_faults()
+    ensures { (p : Program) (l s : ℕ) (i e : Number) (st : State (Unit {0}))
+        → cannot_hold (array_of p (window_at st s).array).element e ≡ true
+        → (primitive p l (Store s i e) st).flow ≡ Faulted }
 {}
