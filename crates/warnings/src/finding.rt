@@ -46,17 +46,22 @@ pub fn warnings_of(alloc: Global, typed: &Typed) -> Result<Vec<Warning>, AllocEr
         found.items ≡ program_warnings (program_of typed.now) (code_of typed.now)) }
 {
     let mut found = Vec::new(alloc);
-    push_procedures(alloc, typed, &mut found)?;
+    push_procedures(alloc, typed, &typed.code().procedures, &mut found)?;
     push_body(alloc, &typed.code().main, &mut found)?;
     Ok(found)
 }
 
-/// Adds the warnings of all procedures.
-fn push_procedures(alloc: Global, typed: &Typed, found: &mut Vec<Warning>) -> Result<(), AllocError>
-    ensures { OnOk result (found.new.items ≡ found.old.items
-        ++ warnings_from (program_of typed.now) (code_of typed.now) 0 (code_of typed.now).procedures) }
+/// Adds the warnings of these procedures, which are numbered from 0.
+fn push_procedures(
+    alloc: Global,
+    typed: &Typed,
+    procedures: &[Procedure],
+    found: &mut Vec<Warning>,
+) -> Result<(), AllocError>
+    ensures { OnOk result (found.new.items ≡ found.old.items ++ warnings_from
+        (program_of typed.now) (code_of typed.now) 0 (map procedure_of procedures.now)) }
 {
-    for (number, procedure) in typed.code().procedures.iter().enumerate() {
+    for (number, procedure) in procedures.iter().enumerate() {
         push_procedure(alloc, typed, number, procedure, found)?;
     }
     Ok(())

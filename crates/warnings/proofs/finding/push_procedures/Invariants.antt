@@ -1,12 +1,11 @@
-use Rattle.std.proofs.Common.{◌≡◌, ◌++◌, drop}
+use Rattle.std.proofs.Common.{◌≡◌, ◌++◌}
 use Rattle.types.specs.Typed.{code_of, program_of}
-use Rattle.warnings.specs.Warnings.{warnings_from}
+use Rattle.warnings.proofs.Found.{of_procedures}
 use Rattle.warnings.proofs.finding.push_procedures.Given as goal
 
 -- with those of the remaining procedures, all are found
 abbrev pub invariant-loop-number : goal.invariant-loop-number
 invariant-loop-number l =
-    let tree = program_of l.typed in
-    let code = code_of l.typed in
-    l.found.items ++ warnings_from tree code l.number (drop l.number code.procedures)
-    ≡ l.initial.found.items ++ warnings_from tree code 0 code.procedures
+    let t = program_of l.typed in let p = code_of l.typed in
+    l.found.items ++ of_procedures t p l.procedures l.number
+    ≡ l.initial.found.items ++ of_procedures t p l.procedures 0
