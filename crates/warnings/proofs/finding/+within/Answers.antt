@@ -1,12 +1,18 @@
-use Rattle.std.proofs.Common.{◌≡◌, List, [], ◌++◌, ap, ◌∙◌, sym}
-use Rattle.std.specs.Prelude.{Bool, false}
-use Rattle.types.specs.Code.{Code, Codes}
+use Rattle.std.proofs.Common.{◌++◌, ap, arith, ◌∙◌, sym}
+use Rattle.std.specs.Prelude.{false}
 use Rattle.types.specs.Translation.{codes, code as plain_code, procedure}
 use Rattle.types.proofs.Blocks.{code_Async, code_Finish, code_If, code_Parts, code_Split, code_While}
 use Rattle.effects.proofs.Appending.{in_two_steps}
 use Rattle.warnings.specs.Warnings.{block_warnings, inner_warnings}
-use Rattle.warnings.specs.declared.warning.Warning.{Warning}
+use Rattle.warnings.proofs.Found.{one_statement}
 use Rattle.warnings.proofs.finding.+within.Goals as goal
+
+pub push_block-loop-stmt-preserved : goal.push_block-loop-stmt-preserved
+push_block-loop-stmt-preserved t c =
+    one_statement (procedure c.args.scope.procedure.now) c.args.block.now c.loop-stmt.stmt-index c.stmt-item.result _
+    c.loop-stmt.unreached _ _ _ _ _ (omega arith) c.stmt-item.is c.in_ok-push_if.ensures c.in_ok-push_own.ensures
+    c.in_ok-push_inner.ensures c.stops-unreached.ensures
+    ∙ c.loop-stmt.invariant
 
 pub push_inner-returns-in_ok-push_block-in-If-2 : goal.push_inner-returns-in_ok-push_block-in-If-2
 push_inner-returns-in_ok-push_block-in-If-2 t c =
