@@ -200,7 +200,7 @@ fn push_block(
     block: &[Stmt],
     found: &mut Vec<Warning>,
 ) -> Result<(), AllocError>
-    requires { HasRoots scope.entry.procedure.now scope.entry.roots.now }
+    requires { HasRoots scope.procedure.now scope.roots.now }
     ensures { OnOk result (found.new.items ≡ found.old.items
         ++ block_warnings (procedure_of scope.entry.procedure.now) dead (codes_of block.now)) }
 {
@@ -217,7 +217,7 @@ fn push_block(
 /// Adds the warnings inside a statement.
 #[cycle(within)]
 fn push_inner(scope: Scope<'_>, kind: &StmtKind, found: &mut Vec<Warning>) -> Result<(), AllocError>
-    requires { HasRoots scope.entry.procedure.now scope.entry.roots.now }
+    requires { HasRoots scope.procedure.now scope.roots.now }
     ensures { OnOk result (found.new.items ≡ found.old.items
         ++ inner_warnings (procedure_of scope.entry.procedure.now) (plain_code kind.now)) }
 {
@@ -259,7 +259,7 @@ fn push_own(
     kind: &StmtKind,
     found: &mut Vec<Warning>,
 ) -> Result<(), AllocError>
-    requires { HasRoots scope.entry.procedure.now scope.entry.roots.now }
+    requires { HasRoots scope.procedure.now scope.roots.now }
     ensures { OnOk result (found.new.items ≡ found.old.items
         ++ own_warnings (procedure_of scope.entry.procedure.now) label (plain_code kind.now)) }
 {
@@ -282,7 +282,7 @@ fn push_step(
     primitive: &Primitive,
     found: &mut Vec<Warning>,
 ) -> Result<(), AllocError>
-    requires { HasRoots scope.entry.procedure.now scope.entry.roots.now }
+    requires { HasRoots scope.procedure.now scope.roots.now }
     ensures { OnOk result (found.new.items ≡ found.old.items
         ++ step_warnings (procedure_of scope.entry.procedure.now) label (primitive_of primitive.now)) }
 {
@@ -308,7 +308,7 @@ fn push_step(
 
 /// Returns whether a number is a constant that doesn't fit in an element of a section.
 fn cannot_hold_there(scope: Scope<'_>, section: SectionId, number: &Number) -> bool
-    requires { HasRoots scope.entry.procedure.now scope.entry.roots.now }
+    requires { HasRoots scope.procedure.now scope.roots.now }
     ensures { result ≡ section_cannot_hold (procedure_of scope.entry.procedure.now) section.number
         (number_of number.now) }
 {

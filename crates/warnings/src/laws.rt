@@ -4,7 +4,8 @@ ghost use Rattle.std.specs.Prelude.{ℕ, ◌≡◌, ◌≢◌, true, false};
 ghost use Rattle.types.specs.Code.{Code, Codes, Number, Program, End, Store, Then};
 ghost use Rattle.types.specs.Meaning.{one};
 ghost use Rattle.types.specs.Run.{State, Block, Faulted, On, array_of, primitive, window_at};
-ghost use Rattle.effects.specs.Effects.{Subject, Pending};
+ghost use Rattle.effects.specs.Accesses.{Access};
+ghost use Rattle.effects.specs.Effects.{Pending, accesses, labels};
 ghost use Rattle.warnings.specs.Ends.{block_may_leave, stops};
 ghost use Rattle.warnings.specs.Warnings.{cannot_hold};
 
@@ -18,8 +19,10 @@ pub fn stopping_statements_end_their_task()
 /// States that a block leaves nothing pending if it may leave no task. So a finish around it has no
 /// task to wait for.
 pub fn idle_finishes_wait_for_nothing()
-    ensures { (p : Program) (subject : Subject) (b : Codes) (x : subject.Item)
-        → block_may_leave b ≡ false → Pending p subject b x → ⊥ }
+    ensures labels { (p : Program) (b : Codes) (x : ℕ) → block_may_leave b ≡ false
+        → Pending p labels b x → ⊥ }
+    ensures accesses { (p : Program) (b : Codes) (x : Access) → block_may_leave b ≡ false
+        → Pending p accesses b x → ⊥ }
 {}
 
 /// States that a store of a constant that doesn't fit in the elements of the array is a fault,
