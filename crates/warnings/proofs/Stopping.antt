@@ -7,7 +7,7 @@ use Rattle.types.specs.declared.fault.FaultKind.TheVariants.{SplitPoint, PieceSi
 use Rattle.types.specs.Code.{Truth, Constant, Compare, Not, Both, Either, Primitive, Skip, Assign, Store, Print, Raise}
 use Rattle.types.specs.Code.{Code, Do, If, While, Split, Parts, Begun, Call, Async, Finish, Codes, End, Then, Program}
 use Rattle.types.specs.Value.{Valued, element_of, holds_number}
-use Rattle.types.specs.Run.{Flow, On, Faulted, Stopped, Fault, State, Work, Block, Turn, Pieces, at_flow, go_on, stopped}
+use Rattle.types.specs.Run.{Flow, On, Faulted, Stopped, Fault, State, Work, Rules, Block, Turn, Pieces, at_flow, go_on, stopped}
 use Rattle.types.specs.Run.{spend, in_turn, piece_size, with_step, fault, with_value, assign, print, put, choose, number_at}
 use Rattle.types.specs.Run.{numbers_at, truth_at, window_at, entry, with_sides, array_of, procedure_of, primitive, counted}
 use Rattle.types.specs.Run.{act, block, work, within}
@@ -74,7 +74,7 @@ flow_tells Stopped st go is here next = here
 
 spend_tells : (n : ℕ) (st : S) (go : S → S) → ((m : ℕ) → Tells (go (record st { steps = m }))) → Tells (spend n st go)
 spend_tells zero st go h is = absurd (stopped_faulted is)
-spend_tells (suc n) st go h = h n
+spend_tells (suc n) st go h is = h n is
 
 choose_tells : (b : Bool) (go to : S → S) (st : S) → Tells (go st) → Tells (to st) → Tells (choose go to b st)
 choose_tells true go to st h k = h
@@ -113,7 +113,7 @@ value_over l (Ok a) go st h = h a refl
 value_over l (Err f) go st h = faulted_on
 
 flow_over : (f : Flow) (st : S) (go : S → S) → st.flow ≡ f → (st.flow ≡ On → IsOver (go st)) → IsOver (at_flow f st go)
-flow_over On st go is next = next is
+flow_over On st go is next e = next is e
 flow_over Faulted st go is next e = faulted_on (sym is ∙ e)
 flow_over Stopped st go is next e = stopped_on (sym is ∙ e)
 
@@ -128,7 +128,8 @@ finish_over Faulted (g ∷ gs) over tells = faulted_on
 finish_over Stopped faults over tells = stopped_on
 
 module _ (p : Program) (begin : Codes → S → S) (begun : (b : Codes) (st : S) → Tells (begin b st)) where
-  abbrev r = one_rules_by begin
+  abbrev r : Rules (Unit {0})
+  r = one_rules_by begin
 
   primitive_tells : (l : ℕ) (s : Primitive) (st : S) → st.flow ≡ On → Tells (primitive p l s st)
   primitive_tells l Skip st on = on_tells st on
@@ -223,9 +224,9 @@ module _ (p : Program) (begin : Codes → S → S) (begun : (b : Codes) (st : S)
       always_false (Either ts) st always is = true≢false (sym always)
 
       -- a branch that is taken stops
-      taken : (b stops : Bool) → (b || stops) ≡ true → (b ≡ true → ⊥) → stops ≡ true
-      taken true stops either no = absurd (no refl)
-      taken false stops either no = either
+      taken : (b ends : Bool) → (b || ends) ≡ true → (b ≡ true → ⊥) → ends ≡ true
+      taken true ends either never = absurd (never refl)
+      taken false ends either never = either
 
       mutual
         act_over : (s : Code) (l : ℕ) (st : S) → stops s ≡ true → st.flow ≡ On → IsOver (act p r d l s st)

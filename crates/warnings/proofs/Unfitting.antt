@@ -16,8 +16,8 @@ abbrev S : Type 0
 S = State (Unit {0})
 
 not_true : (a : Bool) → not a ≡ true → a ≡ false
-not_true true no = absurd (true≢false (sym no))
-not_true false no = refl
+not_true true unfit = absurd (true≢false (sym unfit))
+not_true false unfit = refl
 
 same_value : (v w : ℤ) → (let r : Valued ℤ = Ok v in r) ≡ Ok w → v ≡ w
 same_value v w is = cc
@@ -35,21 +35,21 @@ negative (pos (suc n)) w positive is = by (fits_64_bits (negsuc n)) is
 
 unfit_value : (t : ElementType) (e : Number) (v : ℤ) (l : ℕ) (st : S) → cannot_hold t e ≡ true → number_at st e ≡ Ok v
     → holds_number t v ≡ false
-unfit_value t (Literal n) v l st no is =
-    ap (holds_number t) (sym (same_value n v is)) ∙ not_true (holds_number t n) no
-unfit_value Byte (Negative (Literal n)) v l st no is =
-    negative n v (both_first (int_lt (pos 0) n) (not (holds_number Byte (negsuc zero))) no) is
-unfit_value Int (Negative (Literal n)) v l st no is =
-    absurd (true≢false (sym (both_second (int_lt (pos 0) n) (not (holds_number Int (negsuc zero))) no)))
-unfit_value t (Negative (Scalar x)) v l st no is = absurd (true≢false (sym no))
-unfit_value t (Negative (Element s i)) v l st no is = absurd (true≢false (sym no))
-unfit_value t (Negative (Length s)) v l st no is = absurd (true≢false (sym no))
-unfit_value t (Negative (Negative e)) v l st no is = absurd (true≢false (sym no))
-unfit_value t (Negative (Chain e rest)) v l st no is = absurd (true≢false (sym no))
-unfit_value t (Scalar x) v l st no is = absurd (true≢false (sym no))
-unfit_value t (Element s i) v l st no is = absurd (true≢false (sym no))
-unfit_value t (Length s) v l st no is = absurd (true≢false (sym no))
-unfit_value t (Chain e rest) v l st no is = absurd (true≢false (sym no))
+unfit_value t (Literal n) v l st unfit is =
+    ap (holds_number t) (sym (same_value n v is)) ∙ not_true (holds_number t n) unfit
+unfit_value Byte (Negative (Literal n)) v l st unfit is =
+    negative n v (both_first (int_lt (pos 0) n) (not (holds_number Byte (negsuc zero))) unfit) is
+unfit_value Int (Negative (Literal n)) v l st unfit is =
+    absurd (true≢false (sym (both_second (int_lt (pos 0) n) (not (holds_number Int (negsuc zero))) unfit)))
+unfit_value t (Negative (Scalar x)) v l st unfit is = absurd (true≢false (sym unfit))
+unfit_value t (Negative (Element s i)) v l st unfit is = absurd (true≢false (sym unfit))
+unfit_value t (Negative (Length s)) v l st unfit is = absurd (true≢false (sym unfit))
+unfit_value t (Negative (Negative e)) v l st unfit is = absurd (true≢false (sym unfit))
+unfit_value t (Negative (Chain e rest)) v l st unfit is = absurd (true≢false (sym unfit))
+unfit_value t (Scalar x) v l st unfit is = absurd (true≢false (sym unfit))
+unfit_value t (Element s i) v l st unfit is = absurd (true≢false (sym unfit))
+unfit_value t (Length s) v l st unfit is = absurd (true≢false (sym unfit))
+unfit_value t (Chain e rest) v l st unfit is = absurd (true≢false (sym unfit))
 
 -- ---- the store faults
 
@@ -64,11 +64,11 @@ put_faults l false q v st is = refl
 
 pub store_faults : (p : Program) (l s : ℕ) (i e : Number) (st : S)
     → cannot_hold (array_of p (window_at st s).array).element e ≡ true → (primitive p l (Store s i e) st).flow ≡ Faulted
-store_faults p l s i e st no =
+store_faults p l s i e st unfit =
     value_faults l (number_at st i) _ st (λ at _.
     value_faults l (number_at st e) _ st (λ v is.
     value_faults l (element_of (window_at st s) at) _ st (λ q here.
     let inside = element_in (window_at st s) at q here in
     put_faults l (holds_number (array_of p q.array).element v) q v st
     (ap (λ (a : ℕ). holds_number (array_of p a).element v) inside.array
-    ∙ unfit_value (array_of p (window_at st s).array).element e v l st no is))))
+    ∙ unfit_value (array_of p (window_at st s).array).element e v l st unfit is))))
