@@ -1,8 +1,9 @@
 use Rattle.std.proofs.Common.{◌++◌, ap, arith, ◌∙◌, sym}
 use Rattle.std.specs.Prelude.{false}
-use Rattle.types.specs.Translation.{codes, code as plain_code, procedure}
+use Rattle.types.specs.Translation.{codes, code as plain_code, procedure, truth}
 use Rattle.types.proofs.Blocks.{code_Async, code_Finish, code_If, code_Parts, code_Split, code_While}
 use Rattle.effects.proofs.Appending.{in_two_steps}
+use Rattle.warnings.specs.Ends.{is_always, is_never}
 use Rattle.warnings.specs.Warnings.{block_warnings, inner_warnings}
 use Rattle.warnings.proofs.Found.{one_statement}
 use Rattle.warnings.proofs.finding.+within.Goals as goal
@@ -14,6 +15,12 @@ push_block-loop-stmt-preserved t c =
     c.in_ok-push_inner.ensures c.stops-unreached.ensures
     ∙ c.loop-stmt.invariant
 
+pub push_inner-push_block-requires : goal.push_inner-push_block-requires
+push_inner-push_block-requires t c = ?
+
+pub push_inner-push_block-requires-in-If : goal.push_inner-push_block-requires-in-If
+push_inner-push_block-requires-in-If t c = ?
+
 pub push_inner-returns-in_ok-push_block-in-If-2 : goal.push_inner-returns-in_ok-push_block-in-If-2
 push_inner-returns-in_ok-push_block-in-If-2 t c =
     let f = procedure c.args.scope.procedure.now in
@@ -22,10 +29,10 @@ push_inner-returns-in_ok-push_block-in-If-2 t c =
     in_two_steps before first _ _ _ _
     (c.in_ok-push_block-in-If.ensures
     ∙ ap (λ d. before ++ block_warnings f d (codes c.deref.result.now)) c.is_never.ensures
-    ∙ ap (λ b. before ++ block_warnings f _ (codes b)) c.deref.ensures.value)
+    ∙ ap (λ b. before ++ block_warnings f (is_never (truth c.in-If.guard)) (codes b)) c.deref.ensures.value)
     (c.in_ok-push_block-in-If-2.ensures
     ∙ ap (λ d. first ++ block_warnings f d (codes c.deref-in-If.result.now)) c.is_always.ensures
-    ∙ ap (λ b. first ++ block_warnings f _ (codes b)) c.deref-in-If.ensures.value)
+    ∙ ap (λ b. first ++ block_warnings f (is_always (truth c.in-If.guard)) (codes b)) c.deref-in-If.ensures.value)
     (ap (inner_warnings f) (ap plain_code c.in-If.is ∙ code_If c.in-If.guard c.in-If.body c.in-If.other))
 
 pub push_inner-returns-in_ok-push_block-in-While : goal.push_inner-returns-in_ok-push_block-in-While
@@ -34,7 +41,7 @@ push_inner-returns-in_ok-push_block-in-While t c =
     let before = c.args.found.now.items in
     c.in_ok-push_block-in-While.ensures
     ∙ ap (λ d. before ++ block_warnings f d (codes c.deref-in-While.result.now)) c.is_never-in-While.ensures
-    ∙ ap (λ b. before ++ block_warnings f _ (codes b)) c.deref-in-While.ensures.value
+    ∙ ap (λ b. before ++ block_warnings f (is_never (truth c.in-While.guard)) (codes b)) c.deref-in-While.ensures.value
     ∙ ap (λ k. before ++ inner_warnings f k) (sym (ap plain_code c.in-While.is ∙ code_While c.in-While.guard c.in-While.body))
 
 pub push_inner-returns-in_ok-push_block-in-Split : goal.push_inner-returns-in_ok-push_block-in-Split

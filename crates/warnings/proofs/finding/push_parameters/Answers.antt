@@ -7,14 +7,14 @@ use Rattle.warnings.proofs.finding.push_parameters.Goals as goal
 pub loop-number-preserved : goal.loop-number-preserved
 loop-number-preserved c =
     let f = c.args.procedure in let b = codes c.args.body.now in let xs = c.args.parameters.now in
-    let n = c.loop-number.number in let x = c.loop-number-item.result in
+    let n = c.loop-number.number in let x = c.index-parameters-number.result in
     let old = c.loop-number.before in let new = c.counted-before.ensures in
     record {
       counted = ap₂ (λ a s. a + s) new.scalars new.sections ∙ one_more_counted (parameter x) old.scalars old.sections
           ∙ ap (λ k. k + 1) c.loop-number.invariant.counted;
       found = ap₂ (λ a s. c.in_ok-push_unused.new.found.items ++ of_parameters f b xs (n + 1) a s) new.scalars new.sections
           ∙ one_parameter f b xs n old.scalars old.sections x _ _ _ (omega (arith, c.loop-number-test.true))
-          c.loop-number-item.is c.in_ok-push_unused.ensures
+          c.index-parameters-number.is c.in_ok-push_unused.ensures
           ∙ c.loop-number.invariant.found;
     }
 

@@ -6,8 +6,8 @@ use Rattle.warnings.proofs.finding.push_procedures.Goals as goal
 pub loop-number-preserved : goal.loop-number-preserved
 loop-number-preserved c =
     let typed = c.args.typed.now in
-    one_procedure (program_of typed) (code_of typed) c.args.procedures.now c.loop-number.number c.loop-number-item.result _ _ _
-    (omega (arith, c.loop-number-test.true)) c.loop-number-item.is c.in_ok-push_procedure.ensures
+    one_procedure (program_of typed) (code_of typed) c.args.procedures.now c.loop-number.number c.index-procedures-number.result _ _ _
+    (omega (arith, c.loop-number-test.true)) c.index-procedures-number.is c.in_ok-push_procedure.ensures
     ∙ c.loop-number.invariant
 
 pub returns : goal.returns
