@@ -24,6 +24,7 @@ module _ (p : Program) (subject : Subject) where
         nothing_of s x (or_parts (may_leave s) (block_may_leave rest) lacks).0 pending
     nothing_in (Then l s rest) x lacks (Pending.later pending) =
         nothing_in rest x (or_parts (may_leave s) (block_may_leave rest) lacks).1 pending
+    nothing_in End x lacks pending = elim pending [ ]
 
 pub nothing : (p : Program) (subject : Subject) (b : Codes) (x : subject.Item) → block_may_leave b ≡ false
     → Pending p subject b x → ⊥

@@ -190,13 +190,15 @@ module _ (p : Program) (begin : Codes → S → S) (begun : (b : Codes) (st : S)
       block_tells End st on = on_tells st on
       block_tells (Then l s rest) st on =
           flow_tells _ (with_step (λ st. act p r d l s (counted r l s st)) st) (block p r d rest) refl
-          (step_tells l s st on) (λ more. block_tells rest _ more)
+          (spend_tells st.steps st (λ st. act p r d l s (counted r l s st)) (λ m.
+          act_tells s l (counted r l s (record st { steps = m })) (counted_on l s (record st { steps = m }) on)))
+          (λ more. block_tells rest _ more)
 
-      step_tells : (l : ℕ) (s : Code) (st : S) → st.flow ≡ On
-          → Tells (with_step (λ st. act p r d l s (counted r l s st)) st)
-      step_tells l s st on =
-          spend_tells st.steps st (λ st. act p r d l s (counted r l s st)) (λ m.
-          act_tells s l (counted r l s (record st { steps = m })) (counted_on l s (record st { steps = m }) on))
+    step_tells : (l : ℕ) (s : Code) (st : S) → st.flow ≡ On
+        → Tells (with_step (λ st. act p r d l s (counted r l s st)) st)
+    step_tells l s st on =
+        spend_tells st.steps st (λ st. act p r d l s (counted r l s st)) (λ m.
+        act_tells s l (counted r l s (record st { steps = m })) (counted_on l s (record st { steps = m }) on))
 
     work_tells : (w : Work) (st : S) → st.flow ≡ On → Tells (work p r d w st)
     work_tells (Block b) st on = block_tells b st on
@@ -228,13 +230,35 @@ module _ (p : Program) (begin : Codes → S → S) (begun : (b : Codes) (st : S)
       taken true ends either never = absurd (never refl)
       taken false ends either never = either
 
+      -- whether the first statement stops or a later one
+      by_first : (l : ℕ) (s : Code) (rest : Codes) (st : S) (b : Bool) → stops s ≡ b → (b || block_stops rest) ≡ true
+          → (stops s ≡ true → IsOver (with_step (λ st. act p r d l s (counted r l s st)) st))
+          → (block_stops rest ≡ true → (let after = with_step (λ st. act p r d l s (counted r l s st)) st in
+          after.flow ≡ On → IsOver (block p r d rest after)))
+          → IsOver (block p r d (Then l s rest) st)
+      by_first l s rest st true first is here later =
+          flow_over _ (with_step (λ st. act p r d l s (counted r l s st)) st) (block p r d rest) refl
+          (λ more. absurd (here first more))
+      by_first l s rest st false first is here later =
+          flow_over _ (with_step (λ st. act p r d l s (counted r l s st)) st) (block p r d rest) refl (later is)
+
+      -- the branch for a value of the condition
+      branch : (t : Truth) (b c : Codes) (st : S) → (is_never t || block_stops b) ≡ true → (is_always t || block_stops c) ≡ true
+          → (block_stops b ≡ true → IsOver (block p r d b st)) → (block_stops c ≡ true → IsOver (block p r d c st))
+          → (v : Bool) → truth_at st t ≡ Ok v → IsOver (choose (block p r d b) (block p r d c) v st)
+      branch t b c st first second of_first of_second true value =
+          of_first (taken (is_never t) (block_stops b) first (λ never. never_true t st never value))
+      branch t b c st first second of_first of_second false value =
+          of_second (taken (is_always t) (block_stops c) second (λ always. always_false t st always value))
+
       mutual
         act_over : (s : Code) (l : ℕ) (st : S) → stops s ≡ true → st.flow ≡ On → IsOver (act p r d l s st)
         act_over (Do s) l st is on = primitive_over l s st is
         act_over (If t b c) l st is on =
             let first = both_first (is_never t || block_stops b) (is_always t || block_stops c) is in
             let second = both_second (is_never t || block_stops b) (is_always t || block_stops c) is in
-            value_over l (truth_at st t) _ st (λ v. branch t b c st first second on v)
+            value_over l (truth_at st t) _ st
+            (branch t b c st first second (λ is. block_over b st is on) (λ is. block_over c st is on))
         act_over (While (Constant true) b) l st is on =
             flow_over _ (block p r d b st) (d (Turn l (Constant true) b)) refl (λ more. ends l b _ more)
         act_over (While (Constant false) b) l st is on = absurd (true≢false (sym is))
@@ -252,36 +276,22 @@ module _ (p : Program) (begin : Codes → S → S) (begun : (b : Codes) (st : S)
         act_over (Finish b) l st is on =
             finish_over _ (block p r d b (hushed st)).faults (block_over b (hushed st) is on) (block_tells b (hushed st) on)
 
-        -- the branch for a value of the condition
-        branch : (t : Truth) (b c : Codes) (st : S) → (is_never t || block_stops b) ≡ true → (is_always t || block_stops c) ≡ true
-            → st.flow ≡ On → (v : Bool) → truth_at st t ≡ Ok v → IsOver (choose (block p r d b) (block p r d c) v st)
-        branch t b c st first second on true value =
-            block_over b st (taken (is_never t) (block_stops b) first (λ never. never_true t st never value)) on
-        branch t b c st first second on false value =
-            block_over c st (taken (is_always t) (block_stops c) second (λ always. always_false t st always value)) on
-
         block_over : (b : Codes) (st : S) → block_stops b ≡ true → st.flow ≡ On → IsOver (block p r d b st)
         block_over End st is on = absurd (true≢false (sym is))
-        block_over (Then l s rest) st is on = by_first l s rest st on (stops s) refl is
+        block_over (Then l s rest) st is on =
+            by_first l s rest st (stops s) refl is
+            (λ first. spend_over st.steps st (λ st. act p r d l s (counted r l s st)) (λ m.
+            act_over s l (counted r l s (record st { steps = m })) first (counted_on l s (record st { steps = m }) on)))
+            (λ later more. block_over rest _ later more)
 
-        -- whether the first statement stops or a later one
-        by_first : (l : ℕ) (s : Code) (rest : Codes) (st : S) → st.flow ≡ On → (b : Bool) → stops s ≡ b
-            → (b || block_stops rest) ≡ true → IsOver (block p r d (Then l s rest) st)
-        by_first l s rest st on true first is =
-            let over = step_over l s st first on in
-            flow_over _ (with_step (λ st. act p r d l s (counted r l s st)) st) (block p r d rest) refl (λ more. absurd (over more))
-        by_first l s rest st on false first is =
-            flow_over _ (with_step (λ st. act p r d l s (counted r l s st)) st) (block p r d rest) refl
-            (λ more. block_over rest _ is more)
-
-        step_over : (l : ℕ) (s : Code) (st : S) → stops s ≡ true → st.flow ≡ On
-            → IsOver (with_step (λ st. act p r d l s (counted r l s st)) st)
-        step_over l s st is on =
-            spend_over st.steps st (λ st. act p r d l s (counted r l s st)) (λ m.
-            act_over s l (counted r l s (record st { steps = m })) is (counted_on l s (record st { steps = m }) on))
+      step_over : (l : ℕ) (s : Code) (st : S) → stops s ≡ true → st.flow ≡ On
+          → IsOver (with_step (λ st. act p r d l s (counted r l s st)) st)
+      step_over l s st is on =
+          spend_over st.steps st (λ st. act p r d l s (counted r l s st)) (λ m.
+          act_over s l (counted r l s (record st { steps = m })) is (counted_on l s (record st { steps = m }) on))
 
   within_tells : (k : ℕ) (w : Work) (st : S) → st.flow ≡ On → Tells (within p r k w st)
-  within_tells zero w st on is = absurd (stopped_faulted is)
+  within_tells zero w st on = λ is. absurd (stopped_faulted is)
   within_tells (suc k) w st on = work_tells (within p r k) (within_tells k) w st on
 
   -- a loop without end doesn't come to its end

@@ -12,7 +12,7 @@ loop-number-preserved c =
     record {
       counted = ap₂ (λ a s. a + s) new.scalars new.sections ∙ one_more_counted (parameter x) old.scalars old.sections
           ∙ ap (λ k. k + 1) c.loop-number.invariant.counted;
-      found = ap₂ (λ a s. c.in_ok-push_unused.new.found.items ++ of_parameters f b xs (n + 1) a s) new.scalars new.sections
+      found = ap₂ (λ a s. c.push_unused.new.found.items ++ of_parameters f b xs (n + 1) a s) new.scalars new.sections
           ∙ one_parameter f b xs n old.scalars old.sections x _ _ _ (omega (arith, c.loop-number-test.true))
           c.index-parameters-number.is c.in_ok-push_unused.ensures
           ∙ c.loop-number.invariant.found;
