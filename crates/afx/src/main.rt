@@ -10,14 +10,17 @@ use driver::ticker::{Erasing, Ticker};
 use std::env::VarError;
 use std::io::{BufWriter, IsTerminal, Stderr};
 use std::process::ExitCode;
+use std::sync::Wait;
+use std::thread::Threads;
+use std::time::Clock;
 use std::{env, io, thread};
 
 /// Carries out the arguments after the program's name.
 fn main(rt: HostRuntime) -> ExitCode {
     let status = match words(&rt) {
         Ok(words) => match terminal(&rt) {
-            Some(seen) if shows_time(&words) => with_time(&rt, &words, seen),
-            _ => carried_out(&rt, &words, None),
+            Some(seen) if shows_time(&words) => with_time(&rt, &rt, &words, seen),
+            _ => carried_out(&rt, &rt, &words, None),
         },
         Err(error) => refuse_words(rt.alloc(), &error, &mut rt.stderr()),
     };
@@ -38,21 +41,31 @@ fn shows_time(words: &[String]) -> bool {
 
 /// Carries out the arguments, and shows at the terminal how long that takes. If there is no thread
 /// for the line, it isn't shown.
-fn with_time(rt: &HostRuntime, words: &[String], seen: Stderr) -> u8 {
+fn with_time<R: Threads + Wait + Clock + Sync>(
+    rt: &HostRuntime,
+    threads: &R,
+    words: &[String],
+    seen: Stderr,
+) -> u8 {
     let ticker = Ticker::new(seen);
-    thread::scope(thread::scope_env(), rt, |scope| -> u8 {
-        let _ = scope.spawn(|| ticker.tick(rt, "afx"));
-        let status = carried_out(rt, words, Some(&ticker));
-        ticker.end(rt);
+    thread::scope(thread::scope_env(), threads, |scope| -> u8 {
+        let _ = scope.spawn(|| ticker.tick(threads, "afx"));
+        let status = carried_out(rt, threads, words, Some(&ticker));
+        ticker.end(threads);
         status
     })
 }
 
 /// Carries out the arguments. The line of a ticker is erased before anything is written.
-fn carried_out(rt: &HostRuntime, words: &[String], ticker: Option<&Ticker<Stderr>>) -> u8 {
+fn carried_out<R: Threads + Wait + Sync>(
+    rt: &HostRuntime,
+    threads: &R,
+    words: &[String],
+    ticker: Option<&Ticker<Stderr>>,
+) -> u8 {
     let alloc = rt.alloc();
-    let mut err = Erasing::new(rt, ticker, rt.stderr());
-    let mut out = match BufWriter::new(alloc, Erasing::new(rt, ticker, rt.stdout())) {
+    let mut err = Erasing::new(threads, ticker, rt.stderr());
+    let mut out = match BufWriter::new(alloc, Erasing::new(threads, ticker, rt.stdout())) {
         Ok(out) => out,
         Err(error) => return refuse_words(alloc, &error, &mut err),
     };
@@ -64,7 +77,7 @@ fn carried_out(rt: &HostRuntime, words: &[String], ticker: Option<&Ticker<Stderr
     };
     let mut progress = WatchedTerminal::new(Progress::new(alloc, rt, seen), sight, rt);
     act(
-        rt,
+        threads,
         alloc,
         words,
         &mut files,

@@ -2,7 +2,7 @@
 use Rattle.std.proofs.Common.{◌≡◌, ℕ, true≢false}
 use Rattle.std.proofs.lemmas.Bool.{or_parts}
 use Rattle.std.specs.Prelude.{false}
-use Rattle.types.specs.Code.{Code, Async, Codes, Then, Program}
+use Rattle.types.specs.Code.{Code, Async, Codes, End, Then, Program}
 use Rattle.effects.specs.Effects.{Inner, Subject, PendingOf, Pending}
 use Rattle.warnings.specs.Ends.{block_may_leave, may_leave}
 

@@ -1,9 +1,8 @@
-use Rattle.std.proofs.Common.{◌++◌, ap, arith, refl, ◌∙◌, sym}
+use Rattle.std.proofs.Common.{◌++◌, ap, arith, ◌∙◌, sym}
 use Rattle.std.specs.Prelude.{false}
 use Rattle.types.specs.Translation.{codes, code as plain_code, procedure, truth}
 use Rattle.types.proofs.Blocks.{code_Async, code_Finish, code_If, code_Parts, code_Split, code_While}
 use Rattle.effects.proofs.Appending.{in_two_steps}
-use Rattle.effects.proofs.Statements.{is_If, size_in}
 use Rattle.warnings.specs.Ends.{is_always, is_never}
 use Rattle.warnings.specs.Warnings.{block_warnings, inner_warnings}
 use Rattle.warnings.proofs.Found.{one_statement}
@@ -17,14 +16,10 @@ push_block-loop-stmt-preserved t c =
     ∙ c.loop-stmt.invariant
 
 pub push_inner-push_block-requires : goal.push_inner-push_block-requires
-push_inner-push_block-requires t c =
-    let is = is_If _ c.in-If.guard c.in-If.body c.in-If.other c.deref.result.now c.in-If.other.items c.in-If.is c.deref.ensures.value refl in
-    (omega (arith, ap size_in is), c.requires)
+push_inner-push_block-requires t c = (search, c.requires)
 
 pub push_inner-push_block-requires-in-If : goal.push_inner-push_block-requires-in-If
-push_inner-push_block-requires-in-If t c =
-    let is = is_If _ c.in-If.guard c.in-If.body c.in-If.other c.in-If.body.items c.deref-in-If.result.now c.in-If.is refl c.deref-in-If.ensures.value in
-    (omega (arith, ap size_in is), c.requires)
+push_inner-push_block-requires-in-If t c = (search, c.requires)
 
 pub push_inner-returns-in_ok-push_block-in-If-2 : goal.push_inner-returns-in_ok-push_block-in-If-2
 push_inner-returns-in_ok-push_block-in-If-2 t c =

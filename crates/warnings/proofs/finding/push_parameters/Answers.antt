@@ -1,6 +1,9 @@
 use Rattle.std.proofs.Common.{ap, ap₂, arith, ◌∙◌, ◌+◌, ◌++◌}
 use Rattle.syntax_tree.specs.Tree.{parameter}
 use Rattle.types.specs.Translation.{codes}
+use Rattle.warnings.specs.Warnings.{unused}
+use Rattle.warnings.specs.declared.uses.Thing.{Thing}
+use Rattle.warnings.specs.declared.warning.Warning.TheVariants.{UnusedParameter}
 use Rattle.warnings.proofs.Found.{all_parameters, of_parameters, one_more_counted, one_parameter}
 use Rattle.warnings.proofs.finding.push_parameters.Goals as goal
 
@@ -14,7 +17,9 @@ loop-number-preserved c =
           ∙ ap (λ k. k + 1) c.loop-number.invariant.counted;
       found = ap₂ (λ a s. c.push_unused.new.found.items ++ of_parameters f b xs (n + 1) a s) new.scalars new.sections
           ∙ one_parameter f b xs n old.scalars old.sections x _ _ _ (omega (arith, c.loop-number-test.true))
-          c.index-parameters-number.is c.in_ok-push_unused.ensures
+          c.index-parameters-number.is
+          (c.in_ok-push_unused.ensures
+          ∙ ap (λ (thing : Thing). c.loop-number.found.items ++ unused thing b (UnusedParameter f n)) c.thing_of-thing.ensures)
           ∙ c.loop-number.invariant.found;
     }
 
