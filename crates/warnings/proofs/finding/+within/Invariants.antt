@@ -1,5 +1,6 @@
-use Rattle.std.proofs.Common.{◌≡◌, ◌++◌, drop}
-use Rattle.types.specs.Translation.{codes, procedure}
+use Rattle.std.proofs.Common.{◌≡◌, ◌+◌, ◌*◌, ◌++◌, drop}
+use Rattle.types.specs.Translation.{code, codes, procedure}
+use Rattle.effects.proofs.Statements.{size, size_in}
 use Rattle.warnings.specs.Warnings.{block_warnings}
 use Rattle.warnings.proofs.finding.+within.Given as goal
 
@@ -9,3 +10,9 @@ invariant-push_block-loop-stmt l =
     let f = procedure l.scope.procedure.now in
     l.found.items ++ block_warnings f l.unreached (codes (drop l.stmt-index l.block))
     ≡ l.initial.found.items ++ block_warnings f l.dead (codes l.block)
+
+abbrev pub decreases-push_block : goal.decreases-push_block
+decreases-push_block l = 2 * size (codes l.block.now)
+
+abbrev pub decreases-push_inner : goal.decreases-push_inner
+decreases-push_inner l = 2 * size_in (code l.kind.now) + 1
