@@ -23,16 +23,16 @@ starts w whole =
 -- one that doesn't
 lacks : (w : List ℕ) → ((more : List ℕ) → w ≢ front ++ more) → (b : Bool) → bytes_eq (take 6 w) front ≡ b
     → None ≡ attached_by b w
-lacks w no true is =
-    absurd (no (drop 6 w) (sym (take-append-drop 6 w)
+lacks w without true is =
+    absurd (without (drop 6 w) (sym (take-append-drop 6 w)
     ∙ ap (λ (t : List ℕ). t ++ drop 6 w) ((bytes_eq-Decides (take 6 w) front).0 is)))
-lacks w no false is = refl
+lacks w without false is = refl
 
 -- what `strip_prefix` returns
 pub prefix_stripped : (w : List ℕ) (r : Option (Bor (List ℕ)))
     → MatchOption r (FindsTextPrefix front w None) (λ x. StripsPrefix (FindsTextPrefix front) w x.now)
     → option_map (λ l. l.now) r ≡ attached w
-prefix_stripped w None none = lacks w none (bytes_eq (take 6 w) front) refl
+prefix_stripped w None without = lacks w without (bytes_eq (take 6 w) front) refl
 prefix_stripped w (Some x) found =
     let six = found.1.0 in
     let whole : w ≡ front ++ drop 6 w = found.1.1 ∙ ap (λ (n : ℕ). front ++ drop n w) six in

@@ -5,7 +5,7 @@ use crate::order::{Order, Several, SeveralTests};
 use crate::plain::{Texts, is_file_name};
 use crate::settings::settings_in;
 use crate::taking::{take, take_flag};
-use command_line::request::{Action, Command};
+use command_line::request::{Action, Command, Explain};
 
 /// Returns the order for several files, which come after the options of a command.
 pub fn each_in<'w>(words: &'w [String]) -> Option<Order<'w>> {
@@ -57,10 +57,15 @@ fn tests_behind<'w>(behind: &'w [String], fewest: usize) -> Option<SeveralTests<
     })
 }
 
-/// Returns the action for several files, which come after the reporting options and an option of
-/// `fmt`. The standard input isn't one of several files.
+/// Returns the action for several files, which come after the reporting options and `--warn` of
+/// `check` or an option of `fmt`. The standard input isn't one of several files.
 fn several_behind<'w>(command: &str, behind: &'w [String]) -> Option<Several<'w>> {
     let (manner, behind) = manner_in(behind)?;
+    let mut telling = manner.telling();
+    let (warns, behind) = warns_in(command, behind);
+    if warns {
+        telling.warn = Explain::Always;
+    }
     let (action, files) = action_in(command, behind)?;
     if files.len() < 2 || !are_files(files) {
         return None;
@@ -68,8 +73,17 @@ fn several_behind<'w>(command: &str, behind: &'w [String]) -> Option<Several<'w>
     Some(Several {
         action,
         files,
-        telling: manner.telling(),
+        telling,
     })
+}
+
+/// Returns whether `check` warns about each program, and the arguments after this option.
+fn warns_in<'w>(command: &str, behind: &'w [String]) -> (bool, &'w [String]) {
+    if command == "check" {
+        take_flag("--warn", behind)
+    } else {
+        (false, behind)
+    }
 }
 
 /// Returns the action of a command, and the arguments after its option.
