@@ -1,5 +1,5 @@
 -- Programs, tested one after the other.
-use Rattle.std.proofs.Common.{◌≡◌, ℕ, ◌+◌, ◌<◌, List, [], ◌∷◌, ◌++◌, length, map, take, drop, get_or, String, Global}
+use Rattle.std.proofs.Common.{◌≡◌, ℕ, ◌+◌, ◌<◌, List, [], ◌∷◌, ◌++◌, length, map, take, drop, get_or}
 use Rattle.std.proofs.Common.{append_assoc, arith, refl, sym, ap, ◌∙◌, subst, string_bytes}
 use Rattle.std.proofs.lemmas.List.{drop_more, map-append, take_more}
 use Rattle.std.specs.List.{flat_map}

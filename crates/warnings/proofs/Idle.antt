@@ -1,5 +1,5 @@
 -- A block that may leave no task leaves nothing pending.
-use Rattle.std.proofs.Common.{◌≡◌, ℕ, true≢false}
+use Rattle.std.proofs.Common.{◌≡◌, true≢false}
 use Rattle.std.proofs.lemmas.Bool.{or_parts}
 use Rattle.std.specs.Prelude.{false}
 use Rattle.types.specs.Code.{Code, Async, Codes, End, Then, Program}

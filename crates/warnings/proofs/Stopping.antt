@@ -7,11 +7,11 @@ use Rattle.types.specs.declared.fault.FaultKind.TheVariants.{SplitPoint, PieceSi
 use Rattle.types.specs.Code.{Truth, Constant, Compare, Not, Both, Either, Primitive, Skip, Assign, Store, Print, Raise}
 use Rattle.types.specs.Code.{Code, Do, If, While, Split, Parts, Begun, Call, Async, Finish, Codes, End, Then, Program}
 use Rattle.types.specs.Value.{Valued, element_of, holds_number}
-use Rattle.types.specs.Run.{Flow, On, Faulted, Stopped, Fault, State, Work, Rules, Block, Turn, Pieces, at_flow, go_on, stopped}
+use Rattle.types.specs.Run.{Flow, On, Faulted, Stopped, Fault, State, Work, Rules, Block, Turn, Pieces, at_flow, go_on}
 use Rattle.types.specs.Run.{spend, in_turn, piece_size, with_step, fault, with_value, assign, print, put, choose, number_at}
 use Rattle.types.specs.Run.{numbers_at, truth_at, window_at, entry, with_sides, array_of, procedure_of, primitive, counted}
 use Rattle.types.specs.Run.{act, block, work, within}
-use Rattle.types.specs.Meaning.{after_async, after_finish, begin_one, hushed, one, one_rules, one_rules_by}
+use Rattle.types.specs.Meaning.{after_async, after_finish, begin_one, hushed, one, one_rules_by}
 use Rattle.warnings.specs.Ends.{block_stops, is_always, is_fault, is_never, stops}
 
 abbrev S : Type 0

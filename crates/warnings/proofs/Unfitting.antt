@@ -1,6 +1,6 @@
 -- A store of a constant that doesn't fit always faults.
 use Rattle.std.proofs.Common.{◌≡◌, ℕ, zero, suc, Ok, Err, refl, sym, ap, ◌∙◌, true≢false}
-use Rattle.std.specs.Prelude.{Bool, true, false, not, ◌&&◌, ℤ, pos, negsuc, neg_ℤ, int_lt, if◌then◌else◌}
+use Rattle.std.specs.Prelude.{Bool, true, false, not, ℤ, pos, negsuc, neg_ℤ, int_lt, if◌then◌else◌}
 use Rattle.sections.specs.Place.{Place}
 use Rattle.syntax_tree.specs.declared.tree.ElementType.{ElementType}
 use Rattle.syntax_tree.specs.declared.tree.ElementType.TheVariants.{Byte, Int}

@@ -1,4 +1,4 @@
-use Rattle.std.proofs.Common.{◌∙◌, map, string_bytes}
+use Rattle.std.proofs.Common.{map, string_bytes}
 use Rattle.command_line.specs.Requests.{settings}
 use Rattle.driver.proofs.Tried.{object_of_tests, object_untested}
 use Rattle.driver.proofs.trying.tell_tests.Goals as goal

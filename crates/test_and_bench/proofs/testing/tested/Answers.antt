@@ -1,4 +1,4 @@
-use Rattle.std.proofs.Common.{List, [], map, ap, arith, subst, sym, ◌∙◌}
+use Rattle.std.proofs.Common.{List, map, ap, arith, subst, sym, ◌∙◌}
 use Rattle.command_line.specs.Requests.{settings}
 use Rattle.test_and_bench.specs.Trials.{Judged, judged}
 use Rattle.test_and_bench.proofs.Tested.{HaveTested, kept, none_tested, one_more}

@@ -1,4 +1,4 @@
-use Rattle.std.proofs.Common.{ap, arith, length, sym, ◌∙◌}
+use Rattle.std.proofs.Common.{ap, arith, length, ◌∙◌}
 use Rattle.warnings.proofs.telling.warnings_text.Goals as goal
 
 pub loop-warning-preserved : goal.loop-warning-preserved
