@@ -78,6 +78,8 @@ def refusals(command):
 def is_shorter(case, ended):
     """Whether the answer is right, but an explanation or an object of it lacks for memory, or tells that."""
     status, out, err = case.right
+    if "--warn" in case.words:
+        return (ended.status, ended.out) == (status, out) and ended.err in (b"", err)
     if "--explain" in case.words:
         # (there may be another explanation, which needs less memory)
         begins = ended.err.partition(b"\n")[0] == err.partition(b"\n")[0]
@@ -223,6 +225,7 @@ def cases_of(name, text, given, shared, alone):
     options = ["--input", f"{name}.json"] if given else []
     for command in ("check", "mhp", "list", "fmt"):
         yield Case(name, [command, file])
+    yield Case(name, ["check", file, "--warn"])
     yield Case(name, ["mhp", file, "--accesses"])
     yield Case(name, ["mhp", file, "--by-line"])
     yield Case(name, ["fmt", file, "--write"], file, text.encode())
@@ -271,7 +274,7 @@ def check_right(sweep, case, ended):
         wanted = (status, out.encode(), b"")
     if case.name == "readers_race" and case.words[0] in ("check", "run", "explore", "view"):
         wanted = (1, b"", RACE.encode())
-    if "--explain" in case.words or "json" in case.words:
+    if {"--explain", "--warn", "json"} & set(case.words):
         # (the rows of crates/examples say what these print)
         wanted = None
     fault = str(ended) if ended.is_bad() or (wanted and ended.key() != wanted) else None

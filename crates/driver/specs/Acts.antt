@@ -1,6 +1,6 @@
 -- What the program does with the files that its arguments name, and how it reports that.
 use Rattle.std.specs.Prelude.{ℕ, ◌≡◌, ◌≤◌, List, [], ◌++◌, Option, Result, Ok, Err, codes, IfOk, IfErr}
-use Rattle.std.specs.Prelude.{Bool, false}
+use Rattle.std.specs.Prelude.{false}
 use Rattle.std.specs.String.{string_bytes}
 use Rattle.std.specs.Io.KnownBytes.{Keeps}
 use Rattle.commands.specs.Answers.{Answer, Answers, Done, Explains}
@@ -24,8 +24,10 @@ use Rattle.command_line.specs.declared.request.Command.TheVariants.{Cost, CostBy
 use Rattle.command_line.specs.declared.request.Command.TheVariants.{PairsByLine, ViewByLine, SummaryByLine}
 use Rattle.failures.specs.declared.failure.Failure.{Failure}
 use Rattle.failures.specs.declared.failure.Failure.TheVariants.{CannotWriteOutput}
+use Rattle.driver.specs.More.{may_follow}
 use Rattle.driver.specs.Traced.{TracesRun}
 use Rattle.driver.specs.declared.answered.Answered.{Answered}
+use Rattle.driver.specs.declared.more.More.{More}
 use Rattle.driver.specs.declared.refusal.Refusal.{Refusal}
 
 -- the text written, with its status, answers the command for a program's text, or for a trace of its run
@@ -115,24 +117,23 @@ pub record Performs (x : Action) (file : List ℕ) (s : Settings) (text : List �
   pub leaves : LeavesTo x file s text held later r
 
 -- the line of a failure was appended as far as it was accepted; an explanation follows if there should be one
-pub record IsTold (explain : Bool) (old new : Option (List ℕ)) (f : Failure) : Type 0 where
+pub record IsTold (m : More) (old new : Option (List ℕ)) (f : Failure) : Type 0 where
   pub more : List ℕ
-  pub bare : explain ≡ false → more ≡ []
+  pub bare : m.explains ≡ false → more ≡ []
   pub told : AppendsBeginning old new ((failure_text f ++ codes "\n") ++ more)
 
--- nothing is written after an answer, unless there should be an explanation and a run ended with faults or was
--- stopped: then the explanation of its outcome was appended, as far as it was accepted
-pub record IsFollowed (explain : Bool) (answered : ℕ) (old new : Option (List ℕ)) : Type 0 where
+-- nothing is written after an answer, unless something may follow: then it was appended, as far as it was
+-- accepted
+pub record IsFollowed (m : More) (answered : ℕ) (old new : Option (List ℕ)) : Type 0 where
   pub more : List ℕ
-  pub bare : explain ≡ false → more ≡ []
-  pub calm : answered ≤ 1 → more ≡ []
+  pub bare : may_follow m answered ≡ false → more ≡ []
   pub told : AppendsBeginning old new more
 
 -- the status of an answer; or that of a failure, which is reported
-abbrev pub Reports : (explain : Bool) → (old new : Option (List ℕ)) → Result ℕ Failure → (status : ℕ)
+abbrev pub Reports : More → (old new : Option (List ℕ)) → Result ℕ Failure → (status : ℕ)
     → Type 0
-Reports explain old new (Ok answered) status = (status ≡ answered) × IsFollowed explain answered old new
-Reports explain old new (Err f) status = (status ≡ failure_status f) × IsTold explain old new f
+Reports m old new (Ok answered) status = (status ≡ answered) × IsFollowed m answered old new
+Reports m old new (Err f) status = (status ≡ failure_status f) × IsTold m old new f
 
 -- a mistake in the arguments was reported with status 1: a text was appended to the error output as far as
 -- it was accepted, and the other output is unchanged
@@ -153,9 +154,7 @@ IsHandedOn (Ok status) old new r =
     Keeps old new × (IfOk r (λ n. n ≡ status) × IfErr r (λ f. f ≡ CannotWriteOutput))
 IsHandedOn (Err f) old new r = (new ≡ old) × (r ≡ Err f)
 
--- a refusal and an answer are explained only if they should be; an answer with status 0 or 1 is never
--- explained
-pub record IsSaid (explain : Bool) (r : Result Answered Refusal) : Type 0 where
-  pub bare : IfErr r (λ refusal. explain ≡ false → string_bytes refusal.more ≡ [])
-  pub quiet : IfOk r (λ answered. explain ≡ false → string_bytes answered.more ≡ [])
-  pub calm : IfOk r (λ answered. answered.status ≤ 1 → string_bytes answered.more ≡ [])
+-- a refusal is explained only if it should be, and something follows an answer only if it may
+pub record IsSaid (m : More) (r : Result Answered Refusal) : Type 0 where
+  pub bare : IfErr r (λ refusal. m.explains ≡ false → string_bytes refusal.more ≡ [])
+  pub quiet : IfOk r (λ answered. may_follow m answered.status ≡ false → string_bytes answered.more ≡ [])

@@ -11,8 +11,8 @@ use Rattle.command_line.specs.declared.request.Command.TheVariants.{CheckFormat,
 use Rattle.command_line.specs.declared.request.Command.TheVariants.{Page, Schedules}
 use Rattle.command_line.specs.declared.request.Command.TheVariants.{Cost, CostByLabel, CostByProcedure}
 use Rattle.command_line.specs.declared.request.Command.TheVariants.{PairsByLine, ViewByLine, SummaryByLine}
-use Rattle.command_words.specs.Orders.{Order, AsText, AsObject, Times, TimesAsObject, Tests, TestsEach, Each}
-use Rattle.command_words.specs.Orders.{command_of}
+use Rattle.command_words.specs.Orders.{Order, AsText, AsObject, Times, TimesAsObject, Tests, TestsEach}
+use Rattle.command_words.specs.Orders.{TestsAsObject, Each, command_of}
 use Rattle.driver.specs.declared.doing.TextOrder.{TextOrder}
 use Rattle.driver.specs.declared.doing.TextOrder.TheVariants.{Answering, Describing, Timing, TimingAsObject}
 
@@ -69,4 +69,5 @@ module _ {W : Type 0} (Told : List ℕ → W → W → Type 0) where
   WatchesOrder (TimesAsObject a) status old new = Unit {0}
   WatchesOrder (Tests a) status old new = new ≡ old
   WatchesOrder (TestsEach writes names s) status old new = new ≡ old
+  WatchesOrder (TestsAsObject writes names s) status old new = new ≡ old
   WatchesOrder (Each x files t) status old new = Unit {0}
