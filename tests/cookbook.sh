@@ -1,8 +1,9 @@
 #!/bin/sh
 # Checks that each program in docs/COOKBOOK.md is the file in examples/ that its heading names, without the comment of that
-# file. Checks that each name there is a file, that `afx check` accepts the programs, and that it reports for those in
-# examples/refused/ what the page says, and the same for docs/DATARACE.md and examples/datarace/. Prints a line for each that
-# is wrong; the last line is `N passed, M failed`. tests/all.sh runs it.
+# file. Checks that each name there is a file, that `afx check` accepts the programs, that it reports for those in
+# examples/refused/ what the page says, and that its first suggestion names the page of `explain` in the table. Checks the
+# reports for docs/DATARACE.md and examples/datarace/ in the same way. Prints a line for each that is wrong; the last line is
+# `N passed, M failed`. tests/all.sh runs it.
 #
 #     sh tests/cookbook.sh      AFX='./afx' names another program
 set -eu
@@ -47,6 +48,18 @@ for file in examples/refused/*.afx; do
     name=$(basename "$file" .afx)
     count "$name isn't on the page" grep -q "^$name " "$folder/lines"
 done
+
+# The first suggestion names the page of the table, or none.
+suggested() {
+    ! $afx check "examples/refused/$1.afx" --explain >/dev/null 2>"$folder/err" || return 1
+    named=$(grep -m1 '^help: ' "$folder/err" | sed -n 's/.*`afx explain \([a-z_]*\)`.*/\1/p')
+    [ "$named" = "$2" ]
+}
+sed -n '/^## Refused/,$s/^| `\([^`]*\)` | `.*| *`*\([a-z_]*\)`* *|$/\1 \2/p' $page >"$folder/pages"
+count "no program has a page" [ -s "$folder/pages" ]
+while read -r name about; do
+    count "$name: another page than $about is suggested" suggested "$name" "$about"
+done <"$folder/pages"
 
 # The programs of docs/DATARACE.md: what is reported for each, and its accepted form.
 verdict() {

@@ -232,7 +232,7 @@ def folders(tests):
     for words in (["run", "t.afx", "--trace", "folder"], ["run", "t.afx", "--trace", "folder/"], ["run", "t.afx", "--trace", ""],
                   ["run", "t.afx", "--trace", "none/x"], ["view", "t.afx", "t.trace", "--svg", "folder"],
                   ["view", "t.afx", "t.trace", "--chrome", "folder"], ["run", "t.afx", "--trace", "/proc/x"],
-                  ["view", "t.afx", "t.trace", "--html", "folder"],
+                  ["view", "t.afx", "t.trace", "--html", "folder"], ["explore", "t.afx", "--html", "folder"],
                   ["run", "t.afx", "--trace", "t.afx/x"], ["run", "t.afx", "--trace", "x" * 300]):
         tests.expect(words, 1, "", f"cannot write {words[-1]}\n")
 
@@ -561,7 +561,7 @@ def full_files(tests):
     full = device(tests, "full", 7)
     for words in (["run", "t.afx", "--trace", full], ["view", "loop.afx", "loop.trace", "--svg", full],
                   ["view", "loop.afx", "loop.trace", "--chrome", full],
-                  ["view", "loop.afx", "loop.trace", "--html", full]):
+                  ["view", "loop.afx", "loop.trace", "--html", full], ["explore", "t.afx", "--html", full]):
         tests.expect(words, 1, "", f"cannot write {full}\n")
     tests.judge(f"{full} stays a device", None if (tests.room / full).is_char_device() else "it is a file now")
     # No file may be longer than 4,096 bytes: the device of a small disk, for those who aren't root too.

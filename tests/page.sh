@@ -1,14 +1,15 @@
 #!/bin/sh
-# Tests the page that `afx view P T --html FILE` writes, in the Chromium of Debian. Nothing is downloaded.
+# Tests the pages that `afx view P T --html FILE` and `afx explore P --html FILE` write, in the Chromium of Debian. Nothing is
+# downloaded.
 #
-#     sh tests/page.sh [NAME..]      AFX='./afx' names another program, WRITER='..' another writer of the page
+#     sh tests/page.sh [NAME..]      AFX='./afx' names another program, WRITER='..' and EXPLORER='..' other writers of pages
 #
 # Checks that `before.rt` and `after.rt` are what build.py writes. Lints the page's code with the eslint of Debian, if it is
 # installed. Then tests/page/check.py opens pages: of the doubling on 4 workers, of a run with steals and gathered faults, of
 # a stopped run, of pieces of arrays, of one event and of none, of a program whose text looks like markup, of one with 20,000
-# statements, and of a million events. It steps, clicks, zooms, searches and chooses steps there, and compares what the page
-# says with what `afx` prints. NAME is one of its tests:
-# doubling, faults, stopped, unformatted, parts, values, looks, one, none, hostile, long, large.
+# statements, and of a million events; and pages of schedules. It steps, clicks, zooms, searches and chooses steps there, and
+# compares what the page says with what `afx` prints. NAME is one of its tests:
+# doubling, faults, stopped, unformatted, parts, explored, values, looks, one, none, hostile, long, large.
 #
 # PAGE_SECONDS and PAGE_FRAMES are the limits for a million events (3 and 30). The browser gets two processors.
 # PICTURES=docs/pictures keeps screenshots there. The last line is `N passed, M failed`.

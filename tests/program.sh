@@ -65,6 +65,7 @@ expect 0 '7 8' '' run examples/two_arrays.afx --trace "$room/run.trace"
 expect 0 '' '' view examples/two_arrays.afx "$room/run.trace" --svg "$room/run.svg"
 expect 0 '' '' view examples/two_arrays.afx "$room/run.trace" --chrome "$room/run.json"
 expect 0 '' '' view examples/two_arrays.afx "$room/run.trace" --html "$room/run.html"
+expect 0 '' '' explore examples/two_arrays.afx --html "$room/steps.html"
 begins() {
     if [ "$(head -c ${#2} "$1")" = "$2" ]; then
         passed=$((passed + 1))
@@ -75,7 +76,12 @@ begins() {
 }
 begins "$room/run.svg" '<svg '
 begins "$room/run.html" '<!doctype html>'
+begins "$room/steps.html" '<!doctype html>'
 begins "$room/run.json" '{"traceEvents":['
+# Standard output by its name.
+$afx view examples/two_arrays.afx "$room/run.trace" --html /dev/stdout >"$room/told.html"
+begins "$room/told.html" '<!doctype html>'
+cmp -s "$room/run.html" "$room/told.html" || { failed=$((failed + 1)); echo "a page on standard output differs"; }
 
 # `bench` reads the clock before and after each run: ten million steps take more than a millisecond.
 echo 'main { var k = 0; while k < 5000000 { k = k + 1; } }' >"$room/slow.afx"

@@ -80,6 +80,8 @@ def refusals(command):
 def is_shorter(case, ended):
     """Whether the answer is right, but an explanation or an object of it lacks for memory, or tells that."""
     status, out, err = case.right
+    if "--warn" in case.words:
+        return (ended.status, ended.out) == (status, out) and ended.err in (b"", err)
     if "--explain" in case.words:
         # (there may be another explanation, which needs less memory)
         begins = ended.err.partition(b"\n")[0] == err.partition(b"\n")[0]
@@ -225,6 +227,7 @@ def cases_of(name, text, given, shared, alone):
     options = ["--input", f"{name}.json"] if given else []
     for command in ("check", "mhp", "list", "fmt"):
         yield Case(name, [command, file])
+    yield Case(name, ["check", file, "--warn"])
     yield Case(name, ["mhp", file, "--accesses"])
     yield Case(name, ["mhp", file, "--by-line"])
     yield Case(name, ["fmt", file, "--write"], file, text.encode())
@@ -248,6 +251,7 @@ def cases_of(name, text, given, shared, alone):
     yield Case(name, ["view", file, trace, *options, "--summary", "--by-line"])
     yield Case(name, ["view", file, trace, *options, "--svg", "new.svg"], "new.svg")
     yield Case(name, ["view", file, trace, *options, "--html", "new.html"], "new.html")
+    yield Case(name, ["explore", file, *options, "--html", "new.html"], "new.html")
 
 
 def lay_out(program):
@@ -272,7 +276,7 @@ def check_right(sweep, case, ended):
         wanted = (status, out.encode(), b"")
     if case.name == "readers_race" and case.words[0] in ("check", "run", "explore", "view"):
         wanted = (1, b"", RACE.encode())
-    if "--explain" in case.words or "json" in case.words:
+    if {"--explain", "--warn", "json"} & set(case.words):
         # (the rows of crates/examples say what these print)
         wanted = None
     fault = str(ended) if ended.is_bad() or (wanted and ended.key() != wanted) else None

@@ -1,6 +1,6 @@
 #!/usr/bin/env python3
-"""Runs the program with its standard error at a pseudo-terminal, at a pipe, and with each word of `--explain`, and compares
-what it writes: only at a terminal explanations are written by default. No contract says that `main` finds a terminal, and
+"""Runs the program with its standard error at a pseudo-terminal, at a pipe, and with each word of `--explain` or `--warn`,
+and compares what it writes: only at a terminal explanations and warnings are written by default. No contract says that `main` finds a terminal, and
 the rows of examples/rows have none. Prints each run that differs; the last line is `N passed, M failed`.
 
     python3 tests/terminal.py      AFX=./afx names another program
@@ -8,6 +8,7 @@ the rows of examples/rows have none. Prints each run that differs; the last line
 import os
 import pathlib
 import pty
+import re
 import subprocess
 import sys
 import tempfile
@@ -52,9 +53,19 @@ endless.afx:1:8: stopped: step or nesting limit exceeded
 Task 0 had used all of its 1000 steps before this statement, label 1.
 help: raise the limit with `--steps 2000`, or look for an infinite loop or recursion.
 """
-FILES = {"refused.afx": REFUSED, "faulty.afx": FAULTY, "endless.afx": ENDLESS, "right.afx": b"main { print 1; }\n"}
+IDLE = b"main { finish { print 1; } }\n"
+IDLE_MORE = b"""
+idle.afx:1:8: warning: this `finish` has no task to wait for
+     1 | main { finish { print 1; } }
+       |        ^
+help: remove the `finish`, or start tasks in it with `async`.
+"""
+SLOW = b"main { var i = 0; while i < 200000000 { i = i + 1; } print 1; }\n"
+TIME = re.compile(rb"(?:\rafx: [0-9]+ s)+\r\x1b\[K")
+FILES = {"slow.afx": SLOW, "refused.afx": REFUSED, "faulty.afx": FAULTY, "endless.afx": ENDLESS, "idle.afx": IDLE,
+         "right.afx": b"main { print 1; }\n"}
 
-# The words of a run, its output, the line that it writes in any case, its explanation, and its status.
+# The words of a run, its output, the line that it writes in any case, its explanation or warnings, and its status.
 RUNS = (
     (["check", "refused.afx"], b"", REFUSED_LINE, REFUSED_MORE, 1),
     (["run", "refused.afx"], b"", REFUSED_LINE, REFUSED_MORE, 1),
@@ -62,11 +73,18 @@ RUNS = (
     (["run", "faulty.afx", "--workers", "2"], b"fault 0 at 2: F1\n", b"", FAULTY_MORE, 2),
     (["serial", "endless.afx", "--steps", "1000"], b"stopped\n", b"", ENDLESS_MORE, 3),
     (["run", "right.afx"], b"1\n", b"", b"", 0),
+    (["run", "idle.afx"], b"1\n", b"", b"", 0),
+)
+WARNED = (
+    (["check", "idle.afx"], b"accepted: 0 procedures, 2 labels\n", b"", IDLE_MORE, 0),
+    (["check", "right.afx"], b"accepted: 0 procedures, 1 labels\n", b"", b"", 0),
+    (["check", "--explain=never", "refused.afx"], b"", REFUSED_LINE, b"", 1),
 )
 
 
-def at_terminal(words, room, env):
-    """Returns the output, the standard error and the status of a run whose standard error is a terminal."""
+def at_terminal(words, room, env, keeps_time=False):
+    """Returns the output, the standard error and the status of a run whose standard error is a terminal. The line that shows
+    how long the command has worked is left out, unless it should be kept: a busy machine may show it for any command."""
     ours, theirs = pty.openpty()
     ran = subprocess.Popen([AFX, *words], cwd=room, env=env, stdin=subprocess.DEVNULL, stdout=subprocess.PIPE, stderr=theirs)
     os.close(theirs)
@@ -81,7 +99,8 @@ def at_terminal(words, room, env):
         told += piece
     out = ran.stdout.read()
     os.close(ours)
-    return out, told.replace(b"\r\n", b"\n"), ran.wait()
+    told = told.replace(b"\r\n", b"\n")
+    return out, told if keeps_time else TIME.sub(b"", told), ran.wait()
 
 
 def at_pipe(words, room, env):
@@ -96,11 +115,12 @@ def main():
     with tempfile.TemporaryDirectory() as room:
         for name, text in FILES.items():
             (pathlib.Path(room) / name).write_bytes(text)
-        for words, out, line, more, status in RUNS:
-            for option in ([], ["--explain"], ["--explain=auto"], ["--explain=always"], ["--explain=never"]):
+        for name, run in [("--explain", run) for run in RUNS] + [("--warn", run) for run in WARNED]:
+            words, out, line, more, status = run
+            for option in ([], [name], [name + "=auto"], [name + "=always"], [name + "=never"]):
                 for way in (at_terminal, at_pipe):
-                    is_explained = option in (["--explain"], ["--explain=always"]) or (
-                        option != ["--explain=never"] and way is at_terminal)
+                    is_explained = option in ([name], [name + "=always"]) or (
+                        option != [name + "=never"] and way is at_terminal)
                     wanted = (out, line + more * is_explained, status)
                     told = way([words[0], *option, *words[1:]], room, env)
                     if told == wanted:
@@ -117,6 +137,20 @@ def main():
             else:
                 failed += 1
                 print(f"{way.__name__}: colours: {told}")
+        # A command that takes more than a second shows the time, at a terminal alone, and erases it.
+        for words, is_shown in ((["serial", "slow.afx", "--steps", "1000000000"], True),
+                                (["serial", "slow.afx", "--steps", "1000000000", "--progress"], False)):
+            told = at_terminal(words, room, env, keeps_time=True)
+            if told[0] == b"1\n" and bool(TIME.search(told[1])) == is_shown and (not is_shown or not TIME.sub(b"", told[1])):
+                passed += 1
+            else:
+                failed += 1
+                print(f"the time: afx {' '.join(words)}\n  {told}")
+        if at_pipe(["serial", "slow.afx", "--steps", "1000000000"], room, env) == (b"1\n", b"", 0):
+            passed += 1
+        else:
+            failed += 1
+            print("the time is shown at a pipe")
     print(f"{passed} passed, {failed} failed")
     sys.exit(1 if failed else 0)
 

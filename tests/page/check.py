@@ -3,7 +3,8 @@
 
     check.py [--pictures FOLDER] [--only NAME..]
 
-AFX names the program. WRITER is a command that writes a page: it gets `PROGRAM TRACE [--input FILE] --html OUT`.
+AFX names the program. WRITER is a command that writes a page: it gets `PROGRAM TRACE [--input FILE] --html OUT`. EXPLORER is
+one that writes a page of schedules: it gets `PROGRAM [--input FILE] --html OUT`.
 Prints each wrong answer; the last line is `N passed, M failed`.
 """
 import json
@@ -23,6 +24,7 @@ HERE = pathlib.Path("tests/page")
 os.chdir(TOP)
 AFX = os.environ.get("AFX", str(TOP / "afx")).split()
 WRITER = os.environ.get("WRITER", "").split() or AFX + ["view"]
+EXPLORER = os.environ.get("EXPLORER", "").split() or AFX + ["explore"]
 SECONDS = float(os.environ.get("PAGE_SECONDS", "3"))
 FRAMES = float(os.environ.get("PAGE_FRAMES", "30"))
 passed, failed = 0, 0
@@ -60,6 +62,18 @@ class Case:
         self.table = ask("view", program, trace, *self.input).split("\n")[:-1]
         summary = ask("view", program, trace, "--summary", *self.input).split("\n")[:-1]
         self.summary = dict(line.split(": ") for line in summary)
+
+
+class Explored:
+    """A program, and a page of its schedules."""
+
+    def __init__(self, folder, name, program, given=None):
+        self.name, self.program = name, program
+        self.input = ["--input", str(given)] if given else []
+        self.page = folder / f"{name}.html"
+        got = subprocess.run(EXPLORER + [str(program)] + self.input + ["--html", str(self.page)], capture_output=True, text=True)
+        if got.returncode != 0 or got.stdout != "":
+            sys.exit(f"no page of schedules of {program}: {got.stdout}{got.stderr}")
 
 
 # What the page knows of each event, in the form of the table that `view` prints.
@@ -194,7 +208,8 @@ def check_outcome(browser, case):
 def check_labels(browser, case):
     """The table of labels has the numbers of `cost`, or those of the trace."""
     cost = ask("cost", case.program, "--by-line", *case.input, *case.budget)
-    wanted = re.findall(r"^label (\d+): work (\d+), span (\d+)$", cost, re.M)
+    wanted = re.findall(r"^(?:\d+:\d+ )?label (\d+): work (\d+), span (\d+)", cost, re.M)
+    holds(f"{case.name}: costs of labels", wanted != [] or not cost.startswith("work: "), cost[:200])
     browser.press("#tab-labels")
     rows = browser.run("Array.from(document.querySelectorAll('#labels tbody tr'), r => Array.from(r.cells, c => c.textContent))")
     got = [(a, b.replace(",", ""), c.replace(",", "")) for a, b, c, _ in rows]
@@ -272,6 +287,16 @@ def check_marks(browser, case):
         browser.key("n")
         seen.append(browser.run("view.at"))
     same(f"{name}: executions", seen, browser.run(f"Array.from(itemsOf(run.stepsAt, {label})).slice(0, {min(steps, 5)})"))
+    browser.key("0")
+    drawn = browser.run("Array.from({length: run.lanes}, (_, w) => { readMarks(); const all = []; for (let i = nextMark(w, 0); "
+                        "i < marks.byWorker.start[w + 1]; i++) all.push(marks.items[marks.byWorker.items[i]]); return all; })")
+    same(f"{name}: marks in lanes", sorted(e for own in drawn for e in own)[:5], seen)
+    same(f"{name}: lanes of marks", browser.run(f"{json.dumps(drawn)}.every((own, w) => own.every(e => run.worker[e] === w))"), True)
+    never = browser.run("stepsByLabel.findIndex((steps, label) => label > 0 && steps === 0)")
+    if never > 0:
+        browser.run(f"markLabel({never})")
+        browser.frames()
+        same(f"{name}: no marks of a statement without steps", browser.run("[view.label, marks.items.length]"), [never, 0])
     browser.key("Escape")
     same(f"{name}: nothing marked", browser.count(".head.hit"), 0)
     browser.key("/")
@@ -331,6 +356,10 @@ def check_zoom(browser, case):
     same(f"{name}: a link restores the view",
          browser.run("[view.at, Math.round(view.from), Math.round(view.to), view.label, view.task, view.chain, view.rows]"), before)
     same(f"{name}: a link restores the words", browser.text("#say"), said)
+    browser.open(case.page, f"#at={n - 2}&rows=tree")
+    browser.frames(3)
+    row = browser.run("[rowOf(taskAtCursor()) * ROW, byId('rows').scrollTop, sizes.rows, sizes.rowsTop]")
+    holds(f"{name}: a link shows the row of the cursor's task", row[1] == row[3] and row[1] <= row[0] <= row[1] + row[2] - 18, row)
     browser.key("Escape")
 
 
@@ -341,7 +370,7 @@ def check_panels(browser, case):
     for at in sorted({0, n // 3, n // 2, n - 1}):
         browser.run(f"go({at})")
         browser.frames()
-        note = browser.text("#workers-note")
+        note = browser.text("#task-counts")
         counts = [int(x.replace(",", "")) for x in re.findall(r"[\d,]+", note)]
         spawned = 1 + sum(line[9:14] == "spawn" for line in case.table[:at + 1])
         same(f"{name}: tasks at {at}", sum(counts), spawned)
@@ -355,9 +384,34 @@ def check_panels(browser, case):
         same(f"{name}: running tasks at {at}", counts[0], len(hands))
         shown = set(browser.run("Array.from(document.querySelectorAll('#workers [data-worker] .top [data-task]'), e => e.textContent)"))
         same(f"{name}: workers at {at}", shown, hands)
+        check_task_rows(browser, case, at)
         opened = 1 + sum(line[9:13] == "open" for line in case.table[:at + 1])
         passes = sum(line[9:13] == "pass" for line in case.table[:at + 1])
         same(f"{name}: open finishes at {at}", browser.text("#scopes-note"), f"{opened - passes} open")
+
+
+def check_task_rows(browser, case, at):
+    """The tree of tasks after an event has each task that was spawned; those that are live are there by name."""
+    live, ended, children = {"0"}, 0, {}
+    for line in case.table[:at + 1]:
+        kind, task = line[9:18].strip(), line[25:].strip()
+        if kind == "spawn":
+            children[task] = children.get(task, 0) + 1
+            live.add(f"{task}.{children[task]}")
+        elif kind == "end" or kind == "pass" and task == "0#0":
+            live.discard(task.split("#")[0])
+            ended += 1
+    if len(live) > 200:
+        return
+    browser.press("#tab-tasks")
+    rows = browser.run("Array.from(document.querySelectorAll('#tasks .task'), e => [e.querySelector('.link').textContent, "
+                       "e.dataset.state, Number(e.dataset.count)])")
+    same(f"{case.name}: live tasks at {at}", {path for path, state, _ in rows if state != "has ended"}, live)
+    same(f"{case.name}: ended tasks at {at}", sum(n for _, state, n in rows if state == "has ended"), ended)
+    same(f"{case.name}: counts of tasks at {at}", browser.text("#tasks-note"), f"{len(live)} live, {ended} ended")
+    paths = [[int(x) for x in path.split(".")] for path, _, _ in rows]
+    same(f"{case.name}: order of tasks at {at}", paths, sorted(paths))
+    browser.press("#tab-scopes")
 
 
 def check_values(browser, case):
@@ -482,8 +536,9 @@ def check_schedules(browser, case):
         if not any(x.startswith("fault") for x in wanted):
             same(f"{name}: arrays of schedule {seed}", numbers, [x for x in wanted if x.startswith("array ")])
         command = browser.text("#command")
+        given = " --input .." if case.input else ""
         same(f"{name}: command of schedule {seed}", command,
-             f"afx explore {case.program} --choices {','.join(map(str, choices))}")
+             f"afx explore {case.program}{given} --choices {','.join(map(str, choices))}")
         browser.run("byId('schedules').close()")
     check_choosing(browser, case)
     same(f"{name}: nothing wrong in schedules", browser.wrong(), [])
@@ -518,6 +573,51 @@ def check_choosing(browser, case):
     browser.open(case.page, link)
     same(f"{name}: choices of a link", browser.run("byId('schedules').open && schedule.choices.length"), 3)
     browser.run("byId('schedules').close()")
+
+
+STEPS = "main {\n  var i = 0;\n  while i < %d { i = i + 1; }\n}\n"
+
+
+def check_explored(browser, folder):
+    """A page of `explore --html` opens with its schedules, which are those of `explore`. It says why it has none."""
+    long, endless = folder / "steps.afx", folder / "endless.afx"
+    long.write_text(STEPS % 1100)
+    endless.write_text("main { while true { finish { async { skip; } } } }\n")
+    for program, given in (("examples/two_arrays.afx", None), ("examples/doubling.afx", "examples/doubling.json"),
+                           (HERE / "faults.afx", None)):
+        made = Explored(folder, pathlib.Path(program).stem, program, given)
+        name = f"explored {made.name}"
+        browser.open(made.page)
+        same(f"{name}: opens with its schedules", browser.run("byId('schedules').open"), True)
+        same(f"{name}: nothing is chosen", browser.run("schedule.choices"), [])
+        same(f"{name}: the first choice has the focus", browser.run("document.activeElement.id"), "tree")
+        same(f"{name}: title", browser.text("h1"), f"afx explore {program}")
+        browser.key("0")
+        same(f"{name}: a step by key", browser.run("schedule.choices"), [0])
+        browser.key("Backspace")
+        browser.press("#tree [data-choice='0']")
+        same(f"{name}: a step by click", browser.text("#command").split(" ")[-2:], ["--choices", "0"])
+        made.summary = {"steps": browser.run("String(run.summary.steps)")}
+        made.name = name
+        run_of = ask("run", program, *made.input, "--workers", "1").split("\n")[:-1]
+        browser.run("byId('schedules').close()")
+        browser.key("End")
+        browser.press("#tab-output")
+        same(f"{name}: output of its run", browser.texts("#output .output"), run_of)
+        check_schedules(browser, made)
+    for program, why in ((long, r"The run takes 2,2\d\d steps\. At most 2,000 can be explored\."),
+                         (endless, r"The run takes more than 2,000 steps\.")):
+        made = Explored(folder, program.stem, program)
+        browser.open(made.page)
+        told = browser.text("#schedules-why")
+        holds(f"explored {made.name}: says that it is too long", re.fullmatch(why, told), told)
+        same(f"explored {made.name}: no choices", browser.run("byId('schedules-all').hidden"), True)
+        browser.key("Escape")
+        same(f"explored {made.name}: closed", browser.run("byId('schedules').open"), False)
+        same(f"explored {made.name}: text", len(browser.texts("#text .line")), len(program.read_text().split("\n")) - 1)
+        for key in ("End", "Home", "ArrowRight", "m", "r", "s", "l", "t", "t", "x"):
+            browser.key(key)
+        same(f"explored {made.name}: nothing wrong", browser.wrong(), [])
 
 
 def check_looks(browser, case):
@@ -703,6 +803,8 @@ def main():
                     made = Case(folder, example, program, trace)
                     check_all(browser, made)
                     check_schedules(browser, made)
+            if wanted("explored"):
+                check_explored(browser, folder)
             if wanted("values"):
                 made = Case(folder, "values", HERE / "faults.afx", HERE / "faults.trace")
                 check_values(browser, made)

@@ -1,6 +1,7 @@
 -- Requests: what the arguments of a command line ask for.
 use Rattle.std.specs.Prelude.{ℕ, ◌≡◌, ◌<◌, ◌≤◌, ◌^◌, List, [], ◌∷◌, codes, Bool, true, false, not, Option}
-use Rattle.std.specs.Prelude.{None, Some, nat_eq, IsTrue, IfSome, option_map, unwrap_or, if◌then◌else◌}
+use Rattle.std.specs.Prelude.{None, Some, nat_eq, IsTrue, IfSome, map, option_map, unwrap_or, if◌then◌else◌}
+use Rattle.std.specs.String.{string_bytes}
 use Rattle.std.specs.Fmt.{decimal}
 use Rattle.types.specs.Outcome.{Budget}
 use Rattle.types.specs.Translation.{budget as budget_of}
@@ -8,7 +9,7 @@ use Rattle.command_line.specs.declared.request.Command.{Command}
 use Rattle.command_line.specs.declared.request.Command.TheVariants.{Run, Serial, Check, Pairs, Explore}
 use Rattle.command_line.specs.declared.request.Command.TheVariants.{Places, Listing, Labels, Format, Meetings}
 use Rattle.command_line.specs.declared.request.Command.TheVariants.{CheckFormat, View, Summary, Draw, Chrome}
-use Rattle.command_line.specs.declared.request.Command.TheVariants.{Page}
+use Rattle.command_line.specs.declared.request.Command.TheVariants.{Page, Schedules}
 use Rattle.command_line.specs.declared.request.Command.TheVariants.{Cost, CostByLabel, CostByProcedure}
 use Rattle.command_line.specs.declared.request.Command.TheVariants.{PairsByLine, ViewByLine, SummaryByLine}
 use Rattle.command_line.specs.declared.request.Action.{Action}
@@ -23,6 +24,9 @@ use Rattle.command_line.specs.declared.request.Telling.{Telling}
 use Rattle.command_line.specs.declared.request.Choosing.{Choosing as rChoosing}
 use Rattle.command_line.specs.declared.request.Choosing.TheVariants.{Listed as rListed, InFile as rInFile}
 use Rattle.command_line.specs.declared.request.Choosing.TheVariants.{Random as rRandom}
+use Rattle.command_line.specs.declared.request.InputSource.{InputSource as rSource}
+use Rattle.command_line.specs.declared.request.InputSource.TheVariants.{File as rFile, Lists as rLists}
+use Rattle.command_line.specs.declared.request.InputSource.TheVariants.{Bytes as rBytes}
 use Rattle.command_line.specs.declared.request.RunOptions.{RunOptions as rSettings}
 use Rattle.command_line.specs.declared.request.Request.{Request}
 use Rattle.command_line.specs.declared.request.Spread.{Spread as rSpread}
@@ -39,6 +43,25 @@ choosing (rListed text) = Listed text.now
 choosing (rInFile name) = InFile name.now
 choosing (rRandom seed) = Random seed
 
+-- where the initial contents of the arrays come from: the JSON text in a file with this name; the lists
+-- among these arguments; or the bytes of a file with this name, for the array with that name
+pub data Source : Type 0 where
+  FromFile : (name : List ℕ) → Source
+  FromLists : (words : List (List ℕ)) → Source
+  FromBytes : (name file : List ℕ) → Source
+
+abbrev pub source : rSource → Source
+source (rFile name) = FromFile name.now
+source (rLists words) = FromLists (map string_bytes words.now)
+source (rBytes name file) = FromBytes name.now file.now
+
+-- the file of a source, if it has one
+abbrev pub source_file : Option Source → Option (List ℕ)
+source_file None = None
+source_file (Some (FromFile name)) = Some name
+source_file (Some (FromLists words)) = None
+source_file (Some (FromBytes name file)) = Some file
+
 -- how a run uses worker threads: its maximum of tasks, the weight that a scope issues at a time, and its
 -- number of workers
 pub record Spread : Type 0 where
@@ -49,12 +72,12 @@ pub record Spread : Type 0 where
 abbrev pub spread : rSpread → Spread
 spread s = record { tasks = s.tasks; w0 = s.w0; workers = s.workers }
 
--- the settings of a run: the file of the initial contents of its arrays, if one is named; its budget; its
+-- the settings of a run: the source of the initial contents of its arrays, if there is one; its budget; its
 -- worker threads; the source of its choices, if there is one; the file of its trace, to be written or
--- shown, and that of a picture of it, if they are named; whether the arrays are shown; whether its progress
--- is reported
+-- shown, and that of a picture or a page of it, if they are named; whether the arrays are shown; whether its
+-- progress is reported
 pub record Settings : Type 0 where
-  pub input : Option (List ℕ)
+  pub input : Option Source
   pub budget : Budget
   pub spread : Spread
   pub choices : Option Choosing
@@ -72,7 +95,7 @@ pub record Asked : Type 0 where
 
 abbrev pub settings : rSettings → Settings
 settings s = record {
-  input = option_map (λ name. name.now) s.input;
+  input = option_map source s.input;
   budget = budget_of s.budget;
   spread = spread s.spread;
   choices = option_map choosing s.choices;
@@ -114,9 +137,9 @@ usual = record {
 
 -- how a command line reports by default
 abbrev pub usual_telling : Telling
-usual_telling = record { explain = AtTerminal; all = false; color = Auto }
+usual_telling = record { explain = AtTerminal; all = false; warn = AtTerminal; color = Auto }
 
--- whether explanations follow, by whether the standard error is a terminal
+-- whether explanations, or warnings, follow, by whether the standard error is a terminal
 abbrev pub is_explained : Explain → (at_terminal : Bool) → Bool
 is_explained AtTerminal at_terminal = at_terminal
 is_explained Explained at_terminal = true
@@ -330,7 +353,7 @@ pub record AreForMeasuring (o : Options) : Type 0 where
 -- the settings that they specify; the default is used for all others
 abbrev pub settings_by : Options → Settings
 settings_by o = record {
-  input = o.input;
+  input = option_map FromFile o.input;
   budget = record { steps = unwrap_or o.steps 1000000; nest = unwrap_or o.nest 100 };
   spread = record {
     tasks = unwrap_or o.tasks 65536;
@@ -400,6 +423,16 @@ viewing_words v = v.trace ∷ valued (codes "--input") v.input (showing_words v.
 abbrev pub viewing_options : Viewing → Options
 viewing_options v =
     record no_options { input = v.input; trace = Some v.trace; picture = picture_of v.shown }
+
+-- ---- a page in which each step is chosen
+
+-- the arguments after the file of its program, in this order: `--input FILE --html OUT`
+abbrev pub schedule_words : (input : Option (List ℕ)) → (out : List ℕ) → List (List ℕ)
+schedule_words input out = valued (codes "--input") input (codes "--html" ∷ out ∷ [])
+
+-- the options that they specify
+abbrev pub schedule_options : (input : Option (List ℕ)) → (out : List ℕ) → Options
+schedule_options input out = record no_options { input = input; picture = Some out }
 
 -- ---- the shares of a run that is measured
 
@@ -484,6 +517,10 @@ pub data AsksPlainly (words : List (List ℕ)) (a : Asked) : Type 0 where
   to_explore : (file : List ℕ) (o : Options) → IsTrue (is_file_name file) → AreForExplore o
       → words ≡ codes "explore" ∷ file ∷ choosing_words_of (texts_by o) → a ≡ optioned Explore file o
       → AsksPlainly words a
+  to_choose : (file : List ℕ) (input : Option (List ℕ)) (out : List ℕ) → IsTrue (is_file_name file)
+      → AreRight (schedule_options input out)
+      → words ≡ codes "explore" ∷ file ∷ schedule_words input out
+      → a ≡ optioned Schedules file (schedule_options input out) → AsksPlainly words a
   to_view : (file : List ℕ) (v : Viewing) → IsTrue (is_file_name file) → AreRight (viewing_options v)
       → words ≡ codes "view" ∷ file ∷ viewing_words v
       → a ≡ optioned (command_for v.shown) file (viewing_options v) → AsksPlainly words a
@@ -510,6 +547,7 @@ abbrev pub telling_by : Manner → Telling
 telling_by m = record {
   explain = if m.explain then Explained else AtTerminal;
   all = false;
+  warn = AtTerminal;
   color = unwrap_or m.color Auto;
 }
 

@@ -2,5 +2,6 @@
 
 #![tactic(auto)]
 
+pub mod lists;
 pub mod manner;
 pub mod request;

@@ -37,6 +37,7 @@ impl Manner {
                 usual.explain
             },
             all: usual.all,
+            warn: usual.warn,
             color: self.color.unwrap_or(usual.color),
         }
     }

@@ -51,6 +51,8 @@ pub enum Command {
     Chrome,
     /// `view --html OUT`: write a page in which a trace can be explored.
     Page,
+    /// `explore --html OUT`: write a page in which each step can be chosen.
+    Schedules,
 }
 
 /// When explanations have colors.
@@ -64,21 +66,22 @@ pub enum Color {
     Never,
 }
 
-/// When the line of a failure, or an outcome, is followed by where and why it occurred.
+/// When something follows the line of a failure or an answer: where and why it occurred, or
+/// warnings.
 #[derive(Clone, Copy, PartialEq, Eq, Debug)]
 pub enum Explain {
-    /// `--explain=auto`: if the standard error is a terminal.
+    /// `--explain=auto`, `--warn=auto`: if the standard error is a terminal.
     AtTerminal,
-    /// `--explain` or `--explain=always`
+    /// `--explain` or `--explain=always`, `--warn` or `--warn=always`
     Always,
-    /// `--explain=never`
+    /// `--explain=never`, `--warn=never`
     Never,
 }
 
 impl Explain {
     ghost use Rattle.command_line.specs.Requests.{is_explained};
 
-    /// Returns whether explanations follow if the standard error is a terminal, or isn't.
+    /// Returns whether this follows if the standard error is a terminal, or isn't.
     pub fn explains(self, at_terminal: bool) -> bool
         ensures { result ≡ is_explained self at_terminal }
     {
@@ -97,6 +100,8 @@ pub struct Telling {
     pub explain: Explain,
     /// `check --all`: the explanation of a race is followed by all races.
     pub all: bool,
+    /// `check --warn` or `--warn=WHEN`: whether warnings follow the answer for an accepted program.
+    pub warn: Explain,
     /// `--color WHEN`
     pub color: Color,
 }
@@ -104,13 +109,14 @@ pub struct Telling {
 impl Telling {
     ghost use Rattle.command_line.specs.Requests.{usual_telling};
 
-    /// Returns the default: explanations and colors at a terminal.
+    /// Returns the default: explanations, warnings and colors at a terminal.
     pub fn usual() -> Telling
         ensures { result ≡ usual_telling }
     {
         Telling {
             explain: Explain::AtTerminal,
             all: false,
+            warn: Explain::AtTerminal,
             color: Color::Auto,
         }
     }
@@ -123,6 +129,19 @@ pub enum Action {
     Answer(Command),
     /// `fmt --write`: its text is formatted in the file.
     Rewrite,
+}
+
+/// Where the initial contents of the arrays come from.
+#[derive(Clone, Copy, PartialEq, Eq, Debug)]
+pub enum InputSource<'w> {
+    /// `--input FILE`: the JSON text in this file.
+    File(&'w str),
+    /// `--set NAME=1,2,3`, once or more often: the lists among these arguments are the elements of
+    /// some arrays. The other arrays are zeros.
+    Lists(&'w [String]),
+    /// `--text NAME=FILE`: the bytes of this file are the elements of one array. The other arrays
+    /// are zeros.
+    Bytes { name: &'w str, file: &'w str },
 }
 
 /// The source of choices: which leaves step.
@@ -193,9 +212,9 @@ const MOST_WORKERS: u64 = 64;
 /// The settings of a run.
 #[derive(Clone, Copy, PartialEq, Eq, Debug)]
 pub struct RunOptions<'w> {
-    /// `--input FILE`: the JSON text of the initial contents of the arrays. Without it they are
-    /// zeros.
-    pub input: Option<&'w str>,
+    /// `--input FILE`, `--set NAME=LIST` or `--text NAME=FILE`: the source of the initial contents
+    /// of the arrays. Without it they are zeros.
+    pub input: Option<InputSource<'w>>,
     /// `--steps N` and `--nest N`
     pub budget: Budget,
     /// `--tasks N`, `--w0 N` and `--workers N`
@@ -206,7 +225,8 @@ pub struct RunOptions<'w> {
     /// `--trace FILE` of `run`: the file that the run's trace is written to. `TRACE` of `view`: the
     /// file that contains it, which these arguments always name.
     pub trace: Option<&'w str>,
-    /// `--svg OUT`, `--chrome OUT` or `--html OUT`: the file that the picture is written to.
+    /// `--svg OUT`, `--chrome OUT` or `--html OUT`: the file that the picture or the page is written
+    /// to.
     pub picture: Option<&'w str>,
     /// `--arrays`: the arrays are shown after the outcome.
     pub arrays: bool,

@@ -6,7 +6,8 @@ use Rattle.std.specs.String.{string_bytes}
 use Rattle.std.proofs.Common.{true≢false, Global, String}
 use Rattle.std.proofs.lemmas.Slice.Eq.{bytes_eq-Decides}
 use Rattle.command_line.specs.Requests.{Asked, Asks}
-use Rattle.command_words.specs.Orders.{Order, AsText, AsObject, Times, TimesAsObject, Tests, TestsEach, Each, Orders}
+use Rattle.command_words.specs.Orders.{Order, AsText, AsObject, Times, TimesAsObject, Tests, TestsEach, TestsAsObject, Each}
+use Rattle.command_words.specs.Orders.{Orders}
 use Rattle.command_words.specs.Orders.{AsksForObject, AsksToTest, AsksToTimeAsObject, IsTested, IsTimed}
 use Rattle.command_words.specs.Orders.{subject_of}
 use Rattle.command_words.specs.Reading.{taken}
@@ -114,6 +115,7 @@ none_asked (Times a) p = absurd (none_begins (codes "bench") p.behind p.words_ar
 none_asked (TimesAsObject a) p = absurd (none_begins (codes "bench") (codes "--format" ∷ codes "json" ∷ p.behind) p.words_are)
 none_asked (Tests a) p = absurd (none_begins (codes "test") p.behind p.words_are)
 none_asked (TestsEach writes names s) p = absurd p
+none_asked (TestsAsObject writes names s) p = absurd p
 none_asked (Each x files t) p = absurd p
 
 pub no_words : (ws : List (String Global)) → length ws < 1 → map string_bytes ws ≡ []
@@ -137,6 +139,7 @@ module _ (command : List ℕ) (behind : List (List ℕ)) where
   orders_else P nothing times objects tests (TimesAsObject a) p = objects a p
   orders_else P nothing times objects tests (Tests a) p = tests a p
   orders_else P nothing times objects tests (TestsEach writes names s) p = absurd p
+  orders_else P nothing times objects tests (TestsAsObject writes names s) p = absurd p
   orders_else P nothing times objects tests (Each x files t) p = absurd p
 
   -- `bench` orders a timing
@@ -180,4 +183,5 @@ module _ (command : List ℕ) (behind : List (List ℕ)) where
   told_only P no_test no_bench text object (Tests a) p =
       absurd (no_test (head_is command (codes "test") behind p.behind p.words_are))
   told_only P no_test no_bench text object (TestsEach writes names s) p = absurd p
+  told_only P no_test no_bench text object (TestsAsObject writes names s) p = absurd p
   told_only P no_test no_bench text object (Each x files t) p = absurd p

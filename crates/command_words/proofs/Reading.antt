@@ -15,7 +15,7 @@ use Rattle.command_line.specs.declared.request.Action.{Action}
 use Rattle.command_line.specs.declared.request.Action.TheVariants.{Answer, Rewrite}
 use Rattle.command_line.specs.declared.request.Command.TheVariants.{Run, Serial, Check, Listing, Pairs, Meetings, Explore}
 use Rattle.command_line.specs.declared.request.Command.TheVariants.{Labels, Places, Format, CheckFormat, Cost}
-use Rattle.command_line.specs.declared.request.Command.TheVariants.{PairsByLine}
+use Rattle.command_line.specs.declared.request.Command.TheVariants.{PairsByLine, Schedules}
 use Rattle.command_line.specs.declared.request.Color.{Color}
 use Rattle.command_line.specs.declared.request.Color.TheVariants.{Auto, Always, Never}
 use Rattle.command_line.specs.declared.manner.Manner.{Manner}
@@ -24,12 +24,13 @@ use Rattle.command_words.specs.Reading.{Line, bare, flag_taken, line_of, no_text
 use Rattle.std.proofs.Common.{true≢false}
 use Rattle.std.proofs.lemmas.Slice.Eq.{bytes_eq-Decides}
 use Rattle.command_words.specs.Reading.{told_line, manner_if, read_by, read_color, read_manner, read_rest}
-use Rattle.command_words.specs.Reading.{either, measured_if, read_cost, read_flagged, read_parts}
+use Rattle.command_words.specs.Reading.{chosen_if, either, measured_if, read_cost, read_explore, read_flagged, read_parts}
 use Rattle.command_words.specs.Reading.{read_optioned, read_serial_texts, read_showing, read_texts, read_view, shown_if, taken}
 use Rattle.command_line.specs.Requests.{AreForExplore, AreForRun, AreForSerial, AreRight, Asked, Asks, AsksPlainly, Options, Texts}
 use Rattle.command_line.specs.Requests.{AsPage, AsPicture, AsTable, ByLine, ByNumbers, ForViewer, NumbersByLine, Showing}
 use Rattle.command_line.specs.Requests.{Viewing, command_for, no_options}
 use Rattle.command_line.specs.Requests.{picture_of, showing_words, to_view, viewing_options, viewing_words}
+use Rattle.command_line.specs.Requests.{schedule_options, schedule_words, to_choose}
 use Rattle.command_line.specs.Requests.{is_file_name, flagged, valued, by_command}
 use Rattle.command_line.specs.Requests.{color_word, manner_words, no_manner, told_so}
 use Rattle.command_line.specs.Requests.{acting, to_rewrite, to_rewrite_behind, to_cost, to_cost_by}
@@ -186,6 +187,37 @@ module _ (arrays : Bool) where
       (lacks_flagged (codes "--random") (codes "--arrays") arrays [] refl refl))
       (rw (takes_flag (codes "--arrays") arrays [] refl refl) refl))))
 
+  -- no page is among them
+  chosen_without_page : (file : List ℕ) (input : Option (List ℕ)) (choices : Option Choosing)
+      → (let t : Texts = record no_texts {
+        input = input;
+        choices = list_of choices;
+        choices_from = file_of choices;
+        random = option_map decimal (seed_of choices);
+        arrays = arrays;
+      } in
+      read_explore file (choosing_words_of t)
+      ≡ read_optioned (Answer Explore) file (read_choosing (choosing_words_of t)))
+  chosen_without_page file input choices =
+      let random = option_map decimal (seed_of choices) in
+      let random_words = valued (codes "--random") random arrays_words in
+      let file_words = valued (codes "--choices-from") (file_of choices) random_words in
+      let list_words = valued (codes "--choices") (list_of choices) file_words in
+      ap (λ (taken_input : Option (List ℕ) × List (List ℕ)).
+      let page = taken (codes "--html") taken_input.1 in
+      chosen_if file taken_input.0 page.0 page.1 (valued (codes "--input") input list_words))
+      (takes_value (codes "--input") input list_words refl
+      (lacks_valued (codes "--input") (codes "--choices") (list_of choices) file_words refl
+      (lacks_valued (codes "--input") (codes "--choices-from") (file_of choices) random_words refl
+      (lacks_valued (codes "--input") (codes "--random") random arrays_words refl
+      (lacks_flagged (codes "--input") (codes "--arrays") arrays [] refl refl)))))
+      ∙ ap (λ (page : Option (List ℕ) × List (List ℕ)).
+      chosen_if file input page.0 page.1 (valued (codes "--input") input list_words))
+      (lacks_valued (codes "--html") (codes "--choices") (list_of choices) file_words refl
+      (lacks_valued (codes "--html") (codes "--choices-from") (file_of choices) random_words refl
+      (lacks_valued (codes "--html") (codes "--random") random arrays_words refl
+      (lacks_flagged (codes "--html") (codes "--arrays") arrays [] refl refl))))
+
   module _ (progress : Bool) where
     abbrev flags_words : List (List ℕ)
     flags_words = flagged (codes "--arrays") arrays (flagged (codes "--progress") progress [])
@@ -268,6 +300,22 @@ explore_options : (o : Options) → AreForExplore o → read_choosing (choosing_
 explore_options o for =
     rw (for.budget.steps, for.budget.nest, for.spread.tasks, for.spread.w0, for.spread.workers)
     (rw (for.trace.trace, for.trace.picture, for.progress) (read_choosing_words o.arrays o.input o.choices))
+
+-- these aren't for a page
+explore_without_page : (file : List ℕ) (o : Options) → AreForExplore o
+    → read_explore file (choosing_words_of (texts_by o))
+    ≡ read_optioned (Answer Explore) file (read_choosing (choosing_words_of (texts_by o)))
+explore_without_page file o for =
+    rw (for.budget.steps, for.budget.nest, for.spread.tasks, for.spread.w0, for.spread.workers)
+    (rw (for.trace.trace, for.trace.picture, for.progress) (chosen_without_page o.arrays file o.input o.choices))
+
+-- a page in which each step is chosen
+read_schedules : (file : List ℕ) (input : Option (List ℕ)) (out : List ℕ) → IsTrue (is_file_name file)
+    → read_explore file (schedule_words input out)
+    ≡ Some (line (Answer Schedules) file (texts_by (schedule_options input out)))
+read_schedules file input out named =
+    rw (takes_value (codes "--input") input (codes "--html" ∷ out ∷ []) refl refl)
+    (read_with (Answer Schedules) file (texts_by (schedule_options input out)) _ named refl)
 
 -- of a run that is measured
 measured_options : (file : List ℕ) (last : List (List ℕ)) → IsLast last → (o : Options) → AreForMeasuring o
@@ -458,7 +506,11 @@ asks_line words a (to_run_on_one_thread file o named for is asked) =
     (ap read_plain is ∙ read_with (Answer Serial) file (texts_by o) _ named (serial_options o for)) asked
 asks_line words a (to_explore file o named for is asked) =
     line_with words a (Answer Explore) file o for.right
-    (ap read_plain is ∙ read_with (Answer Explore) file (texts_by o) _ named (explore_options o for)) asked
+    (ap read_plain is ∙ explore_without_page file o for
+    ∙ read_with (Answer Explore) file (texts_by o) _ named (explore_options o for)) asked
+asks_line words a (to_choose file input out named right is asked) =
+    line_with words a (Answer Schedules) file (schedule_options input out) right
+    (ap read_plain is ∙ read_schedules file input out named) asked
 asks_line words a (to_view file v named right is asked) =
     line_with words a (Answer (command_for v.shown)) file (viewing_options v) right
     (ap read_plain is ∙ read_viewing file v named) asked
@@ -555,6 +607,7 @@ plainly_begun words a (to_run_on_one_thread file o named for is asked) = begins 
 plainly_begun words a (to_cost file o named for is asked) = begins words _ file _ named is
 plainly_begun words a (to_cost_by file o parts named for is asked) = begins words _ file _ named is
 plainly_begun words a (to_explore file o named for is asked) = begins words _ file _ named is
+plainly_begun words a (to_choose file input out named right is asked) = begins words _ file _ named is
 plainly_begun words a (to_view file v named right is asked) = begins words _ file _ named is
 plainly_begun words a (to_check file named is asked) = begins words _ file _ named is
 plainly_begun words a (to_list_behind file named is asked) = begins words _ file _ named is

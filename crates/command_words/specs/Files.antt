@@ -2,7 +2,7 @@
 use Rattle.std.specs.Prelude.{ℕ, List, [], ◌∷◌, Bool, true, false, not, ◌&&◌, ◌||◌, Option, None, Some}
 use Rattle.std.specs.Prelude.{nat_eq, if◌then◌else◌}
 use Rattle.std.specs.Str.{bytes_eq}
-use Rattle.command_line.specs.Requests.{Asked, file_of}
+use Rattle.command_line.specs.Requests.{Asked, file_of, source_file}
 
 -- a name without all `./` in front: it names the same file
 abbrev pub plain_name : List ℕ → List ℕ
@@ -27,7 +27,7 @@ all_differ (Some name ∷ others) = not (is_among name others) && all_differ oth
 -- a picture
 abbrev pub files_of : Asked → List (Option (List ℕ))
 files_of a =
-    let s = a.settings in Some a.file ∷ s.input ∷ file_of s.choices ∷ s.trace ∷ s.picture ∷ []
+    let s = a.settings in Some a.file ∷ source_file s.input ∷ file_of s.choices ∷ s.trace ∷ s.picture ∷ []
 
 -- no name is given twice, with or without `./` in front: no file is both read and written, and the standard
 -- input is read once

@@ -1,6 +1,6 @@
--- Orders of command lines: to answer for one program, as text or as one object; to time its runs, told in the
--- same two ways; to test a program or a folder, or several of both; or to answer for several programs, one after
--- the other.
+-- Orders of command lines: to answer for one program, as text or as one object; to time its runs, in the same two
+-- ways; to test a program or a folder, or several of both, in the same two ways; or to answer for several
+-- programs, one after the other.
 use Rattle.std.specs.Prelude.{ℕ, ◌≡◌, Bool, true, false, List, [], ◌∷◌, Option, None, Some, IsTrue, codes, map}
 use Rattle.std.specs.String.{string_bytes}
 use Rattle.types.specs.Translation.{budget as budget_of}
@@ -17,6 +17,7 @@ use Rattle.command_words.specs.declared.order.Order.TheVariants.{AsText as rAsTe
 use Rattle.command_words.specs.declared.order.Order.TheVariants.{Times as rTimes, Tests as rTests, Each as rEach}
 use Rattle.command_words.specs.declared.order.Order.TheVariants.{TimesAsObject as rTimesAsObject}
 use Rattle.command_words.specs.declared.order.Order.TheVariants.{TestsEach as rTestsEach}
+use Rattle.command_words.specs.declared.order.Order.TheVariants.{TestsAsObject as rTestsAsObject}
 use Rattle.command_words.specs.declared.limits.Limits.{Limits}
 use Rattle.command_words.specs.declared.order.Subject.{Subject}
 use Rattle.command_words.specs.declared.order.Subject.TheVariants.{Run as RunTold, Serial as SerialTold}
@@ -33,6 +34,7 @@ pub data Order : Type 0 where
   TimesAsObject : (a : Asked) → Order
   Tests : (a : Asked) → Order
   TestsEach : (writes : Bool) → (names : List (List ℕ)) → (s : Settings) → Order
+  TestsAsObject : (writes : Bool) → (names : List (List ℕ)) → (s : Settings) → Order
   Each : (x : Action) → (files : List (List ℕ)) → (t : Telling) → Order
 
 abbrev pub order : rOrder → Order
@@ -42,6 +44,8 @@ order (rTimes request) = Times (asked_of request)
 order (rTimesAsObject request) = TimesAsObject (asked_of request)
 order (rTests request) = Tests (asked_of request)
 order (rTestsEach tests) = TestsEach tests.writes (map string_bytes tests.names.now) (settings tests.settings)
+order (rTestsAsObject tests) =
+    TestsAsObject tests.writes (map string_bytes tests.names.now) (settings tests.settings)
 order (rEach several) = Each several.action (map string_bytes several.files.now) several.telling
 
 -- a command whose answer can be written as one object
@@ -127,6 +131,7 @@ Orders words (TimesAsObject a) = AsksToTimeAsObject words a
 Orders words (Tests a) = AsksToTest words a
 -- which arguments order these isn't specified
 Orders words (TestsEach writes names s) = ⊥
+Orders words (TestsAsObject writes names s) = ⊥
 Orders words (Each x files t) = ⊥
 
 -- it gives no two files the same name
@@ -137,4 +142,5 @@ names_once (Times a) = asks_once a
 names_once (TimesAsObject a) = asks_once a
 names_once (Tests a) = asks_once a
 names_once (TestsEach writes names s) = true
+names_once (TestsAsObject writes names s) = true
 names_once (Each x files t) = true

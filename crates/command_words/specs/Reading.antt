@@ -13,6 +13,7 @@ use Rattle.command_line.specs.declared.request.Command.TheVariants.{Run, Serial,
 use Rattle.command_line.specs.declared.request.Command.TheVariants.{Listing, Chrome, Labels, Format, Meetings}
 use Rattle.command_line.specs.declared.request.Command.TheVariants.{CheckFormat, CostByLabel, Summary, View}
 use Rattle.command_line.specs.declared.request.Command.TheVariants.{Cost, CostByProcedure, Places, Draw, Page}
+use Rattle.command_line.specs.declared.request.Command.TheVariants.{Schedules}
 use Rattle.command_line.specs.declared.request.Command.TheVariants.{PairsByLine, ViewByLine, SummaryByLine}
 use Rattle.command_words.specs.declared.plain.PlainLine.{PlainLine as rLine}
 use Rattle.command_words.specs.declared.plain.Texts.{Texts as rTexts}
@@ -224,6 +225,21 @@ read_view file (trace ∷ options) =
     let input = taken (codes "--input") options in
     shown_if file trace input.0 (read_showing input.1)
 
+-- the arguments after the file of a program whose steps are chosen: with a file that was named for a page of
+-- schedules, nothing else may follow; without one, options for the choices
+abbrev pub chosen_if : (file : List ℕ) → (input page : Option (List ℕ)) → (left behind : List (List ℕ))
+    → Option Line
+chosen_if file input None left behind = read_optioned (Answer Explore) file (read_choosing behind)
+chosen_if file input (Some out) left behind =
+    read_optioned (Answer Schedules) file
+    (read_whole (record no_texts { input = input; picture = Some out }) left)
+
+abbrev pub read_explore : (file : List ℕ) → (behind : List (List ℕ)) → Option Line
+read_explore file behind =
+    let input = taken (codes "--input") behind in
+    let page = taken (codes "--html") input.1 in
+    chosen_if file input.0 page.0 page.1 behind
+
 -- which shares of a cost are shown, as arguments specify it
 abbrev pub read_parts : List (List ℕ) → Option Action
 read_parts [] = Some (Answer Cost)
@@ -257,8 +273,7 @@ read_behind command file behind =
     then read_flaggable (Answer Labels) (codes "--lines") (Answer Places) file behind else
     (if bytes_eq command (codes "mhp") then read_pairs file behind else
     (if bytes_eq command (codes "fmt") then read_format file behind else
-    (if bytes_eq command (codes "explore")
-    then read_optioned (Answer Explore) file (read_choosing behind) else
+    (if bytes_eq command (codes "explore") then read_explore file behind else
     (if bytes_eq command (codes "view") then read_view file behind else
     (if bytes_eq command (codes "cost") then read_cost file behind else None))))))))
 

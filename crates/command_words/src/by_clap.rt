@@ -1,10 +1,11 @@
 //! Arguments of a command line that `clap` parses.
 
+use crate::inputs::source_among;
 use crate::order::{Order, SeveralTests, Subject};
 use clap::error::ErrorKind;
 use clap::{ArgMatches, Error};
 use command_line::request::{
-    Action, Choosing, Color, Command, Explain, Request, RunOptions, Spread, Telling,
+    Action, Choosing, Color, Command, Explain, InputSource, Request, RunOptions, Spread, Telling,
 };
 use options::reply::{self, Reply};
 use options::table::{CLOSING, commands};
@@ -17,12 +18,13 @@ pub fn order_by_clap<'w>(alloc: Global, words: &'w [String]) -> Result<Order<'w>
     let asked = matches.subcommand();
     match replied(alloc, asked)? {
         Some(reply) => Err(reply),
-        None => Ok(written_so(words, asked, ordered(alloc, asked)?)),
+        None => Ok(tested_so(words, asked, ordered(alloc, words, asked)?)),
     }
 }
 
-/// Returns an order, with `test --write` that of writing.
-fn written_so<'w>(
+/// Returns an order, with `test --write` that of writing, and with `test --format json` that of an
+/// object.
+fn tested_so<'w>(
     words: &'w [String],
     asked: Option<(&str, &ArgMatches<'w>)>,
     order: Order<'w>,
@@ -30,12 +32,17 @@ fn written_so<'w>(
     let Order::Tests(request) = order else {
         return order;
     };
-    match asked {
-        Some((_, given)) if given.get_flag("write") => Order::TestsEach(SeveralTests {
-            names: name_among(words, request.file),
-            settings: request.settings,
-            writes: true,
-        }),
+    let Some((_, given)) = asked else {
+        return order;
+    };
+    let tests = SeveralTests {
+        names: name_among(words, request.file),
+        settings: request.settings,
+        writes: given.get_flag("write"),
+    };
+    match given.get_str("format") {
+        Some("json") => Order::TestsAsObject(tests),
+        _ if tests.writes => Order::TestsEach(tests),
         _ => order,
     }
 }
@@ -73,11 +80,16 @@ fn described(alloc: Global, given: Option<&ArgMatches<'_>>) -> Result<Reply, All
 }
 
 /// Returns the order of another command.
-fn ordered<'w>(alloc: Global, asked: Option<(&str, &ArgMatches<'w>)>) -> Result<Order<'w>, Error> {
+fn ordered<'w>(
+    alloc: Global,
+    words: &'w [String],
+    asked: Option<(&str, &ArgMatches<'w>)>,
+) -> Result<Order<'w>, Error> {
+    let run = Action::Answer(Command::Run);
     match asked {
-        Some(("bench", given)) => Ok(timing(given, request(alloc, Command::Run, given)?)),
-        Some(("test", given)) => Ok(Order::Tests(request(alloc, Command::Run, given)?)),
-        asked => Ok(told(asked, request_asked(alloc, asked)?)),
+        Some(("bench", given)) => Ok(timing(given, asking(alloc, words, run, given)?)),
+        Some(("test", given)) => Ok(Order::Tests(asking(alloc, words, run, given)?)),
+        asked => Ok(told(asked, request_asked(alloc, words, asked)?)),
     }
 }
 
@@ -105,13 +117,14 @@ fn told<'w>(asked: Option<(&str, &ArgMatches<'w>)>, request: Request<'w>) -> Ord
 /// Returns the request of a command for a program.
 fn request_asked<'w>(
     alloc: Global,
+    words: &'w [String],
     asked: Option<(&str, &ArgMatches<'w>)>,
 ) -> Result<Request<'w>, Error> {
     let Some((word, given)) = asked else {
         return Err(mistake(alloc, ErrorKind::MissingSubcommand, "no command")?);
     };
     match action_asked(word, given) {
-        Some(action) => asking(alloc, action, given),
+        Some(action) => asking(alloc, words, action, given),
         None => Err(mistake(alloc, ErrorKind::MissingSubcommand, "no command")?),
     }
 }
@@ -126,7 +139,7 @@ fn action_asked(word: &str, given: &ArgMatches<'_>) -> Option<Action> {
         "list" => Action::Answer(listing(given)),
         "mhp" => Action::Answer(pairing(given)),
         "cost" => Action::Answer(costing(given)),
-        "explore" => Action::Answer(Command::Explore),
+        "explore" => Action::Answer(exploring(given)),
         "view" => Action::Answer(viewing(given)),
         _ => return None,
     })
@@ -183,6 +196,15 @@ fn costing(given: &ArgMatches<'_>) -> Command {
     }
 }
 
+/// Returns which command `explore` is.
+fn exploring(given: &ArgMatches<'_>) -> Command {
+    if given.get_str("html").is_some() {
+        Command::Schedules
+    } else {
+        Command::Explore
+    }
+}
+
 /// Returns which command `view` is. `clap` has checked that at most one option selects it.
 fn viewing(given: &ArgMatches<'_>) -> Command {
     let by_line = given.get_flag("by-line");
@@ -205,22 +227,18 @@ fn viewing(given: &ArgMatches<'_>) -> Command {
     }
 }
 
-/// Returns the request of a command that was parsed.
-fn request<'w>(
+/// Returns the request with an action.
+fn asking<'w>(
     alloc: Global,
-    command: Command,
+    words: &'w [String],
+    action: Action,
     given: &ArgMatches<'w>,
 ) -> Result<Request<'w>, Error> {
-    asking(alloc, Action::Answer(command), given)
-}
-
-/// Returns the request with an action.
-fn asking<'w>(alloc: Global, action: Action, given: &ArgMatches<'w>) -> Result<Request<'w>, Error> {
     Ok(Request {
         action,
         file: file(given),
         settings: RunOptions {
-            input: given.get_str("input"),
+            input: source(alloc, words, given)?,
             budget: budget(alloc, given)?,
             spread: spread(alloc, given)?,
             choices: choosing(given),
@@ -233,6 +251,18 @@ fn asking<'w>(alloc: Global, action: Action, given: &ArgMatches<'w>) -> Result<R
     })
 }
 
+/// Returns the source of an input.
+fn source<'w>(
+    alloc: Global,
+    words: &'w [String],
+    given: &ArgMatches<'w>,
+) -> Result<Option<InputSource<'w>>, Error> {
+    match source_among(words, given) {
+        Ok(source) => Ok(source),
+        Err(wrong) => Err(mistake(alloc, ErrorKind::ValueValidation, wrong)?),
+    }
+}
+
 /// Returns the file of a program, or the name of what is tested.
 fn file<'w>(given: &ArgMatches<'w>) -> &'w str {
     given.get_str("FILE").unwrap_or("-")
@@ -243,18 +273,27 @@ fn file<'w>(given: &ArgMatches<'w>) -> &'w str {
 fn telling(given: &ArgMatches<'_>) -> Telling {
     let all = given.get_flag("all");
     Telling {
-        explain: match given.get_str("explain") {
-            _ if all => Explain::Always,
-            Some("always") => Explain::Always,
-            Some("never") => Explain::Never,
-            _ => Explain::AtTerminal,
+        explain: if all {
+            Explain::Always
+        } else {
+            when(given.get_str("explain"))
         },
         all,
+        warn: when(given.get_str("warn")),
         color: match given.get_str("color") {
             Some("always") => Color::Always,
             Some("never") => Color::Never,
             _ => Color::Auto,
         },
+    }
+}
+
+/// Returns when something is reported.
+fn when(word: Option<&str>) -> Explain {
+    match word {
+        Some("always") => Explain::Always,
+        Some("never") => Explain::Never,
+        _ => Explain::AtTerminal,
     }
 }
 

@@ -1,12 +1,12 @@
 //! The file names in a request.
 
 ghost use Rattle.std.specs.Prelude.{◌≡◌, map, option_map};
-ghost use Rattle.command_line.specs.Requests.{asked_of, choosing, file_of};
+ghost use Rattle.command_line.specs.Requests.{asked_of, choosing, file_of, source, source_file};
 ghost use Rattle.std.specs.Str.{bytes_eq};
 ghost use Rattle.command_words.specs.Files.{all_differ as all_differ_in, is_among as is_among_in};
 ghost use Rattle.command_words.specs.Files.{names_once as is_named_once, plain_name as plain_name_in};
 
-use command_line::request::{Choosing, Request};
+use command_line::request::{Choosing, InputSource, Request};
 
 /// Returns whether a request gives no name twice, including `-`. Then no file is both read and
 /// written, and the standard input is read once. `run a.afx --trace ./a.afx` would overwrite the
@@ -18,11 +18,22 @@ pub fn names_once(request: &Request<'_>) -> bool
     let settings = &request.settings;
     all_differ(&[
         Some(request.file),
-        settings.input,
+        file_of_input(settings.input),
         file_of_choices(settings.choices),
         settings.trace,
         settings.picture,
     ])
+}
+
+/// Returns the file from which an input is read, if one is named.
+fn file_of_input<'w>(input: Option<InputSource<'w>>) -> Option<&'w str>
+    ensures { option_map (λ name. name.now) result ≡ source_file (option_map source input.entry) }
+{
+    match input? {
+        InputSource::File(name) => Some(name),
+        InputSource::Lists(_) => None,
+        InputSource::Bytes { file, .. } => Some(file),
+    }
 }
 
 /// Returns the file from which choices are read, if one is named.

@@ -4,6 +4,7 @@
 
 pub mod by_clap;
 mod files;
+mod inputs;
 pub mod limits;
 pub mod manners;
 pub mod order;

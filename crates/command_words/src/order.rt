@@ -22,6 +22,8 @@ pub enum Order<'w> {
     Tests(Request<'w>),
     /// `test` of several programs and folders, or `test --write`.
     TestsEach(SeveralTests<'w>),
+    /// `test --format json`: the results are written as one object.
+    TestsAsObject(SeveralTests<'w>),
     /// `check` or `fmt` of several files, one after the other.
     Each(Several<'w>),
 }
@@ -54,7 +56,7 @@ impl Order<'_> {
             | Order::Times(request)
             | Order::TimesAsObject(request)
             | Order::Tests(request) => names_once(request),
-            Order::TestsEach(_) | Order::Each(_) => true,
+            Order::TestsEach(_) | Order::TestsAsObject(_) | Order::Each(_) => true,
         }
     }
 }

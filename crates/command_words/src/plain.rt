@@ -3,11 +3,11 @@
 ghost use Rattle.std.specs.Prelude.{◌≡◌, ◌∷◌, [], map, option_map, Some};
 ghost use Rattle.std.specs.String.{string_bytes};
 ghost use Rattle.command_words.specs.Reading.{bare as bare_line, line_of, read, told_line, read_behind};
-ghost use Rattle.command_words.specs.Reading.{read_choosing, read_rest, read_cost, read_format, read_parts};
+ghost use Rattle.command_words.specs.Reading.{read_choosing, read_explore, read_rest, read_cost, read_format};
 ghost use Rattle.command_words.specs.Reading.{no_texts, read_file, read_flaggable, read_flagged};
 ghost use Rattle.command_words.specs.Reading.{read_optioned, read_serial_texts, read_texts, read_whole};
-ghost use Rattle.command_words.specs.Reading.{read_pairs, read_showing, read_view, shown_by_one, shown_by_two};
-ghost use Rattle.command_words.specs.Reading.{shown_of, texts_of};
+ghost use Rattle.command_words.specs.Reading.{read_pairs, read_parts, read_showing, read_view, shown_by_one};
+ghost use Rattle.command_words.specs.Reading.{shown_by_two, shown_of, texts_of};
 ghost use Rattle.command_line.specs.Requests.{is_file_name as names_file};
 
 use crate::manners::manner_in;
@@ -121,7 +121,7 @@ fn line_behind<'w>(command: &str, file: &'w str, behind: &'w [String]) -> Option
     } else if command == "fmt" {
         format_line(file, behind)
     } else if command == "explore" {
-        optioned_line(Answer(Command::Explore), file, choosing_texts_in(behind))
+        explore_line(file, behind)
     } else if command == "view" {
         view_line(file, behind)
     } else if command == "cost" {
@@ -262,6 +262,26 @@ fn serial_texts_in<'w>(words: &'w [String]) -> Option<Texts<'w>>
         ..Texts::none()
     };
     whole(texts, words)
+}
+
+/// Returns a line of `explore`. After the file come `--input FILE`, which is optional, and `--html
+/// OUT`; or options for choices.
+fn explore_line<'w>(file: &'w str, behind: &'w [String]) -> Option<PlainLine<'w>>
+    ensures { option_map line_of result ≡ read_explore file.now (map string_bytes behind.now) }
+{
+    let (input, words) = take("--input", behind);
+    let (picture, words) = take("--html", words);
+    match picture {
+        Some(_) => {
+            let texts = Texts {
+                input,
+                picture,
+                ..Texts::none()
+            };
+            optioned_line(Answer(Command::Schedules), file, whole(texts, words))
+        }
+        None => optioned_line(Answer(Command::Explore), file, choosing_texts_in(behind)),
+    }
 }
 
 /// Returns the values of the options `--input FILE --choices LIST --choices-from FILE --random SEED

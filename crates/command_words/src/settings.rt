@@ -7,10 +7,11 @@ ghost use Rattle.command_words.specs.Reading.{texts_of};
 ghost use Rattle.command_line.specs.Requests.{AreRight, Options, is_file_name as names_file};
 ghost use Rattle.command_line.specs.Requests.{Choosing as ChoosingOf, IsRightChoosing, file_of, list_of};
 ghost use Rattle.command_line.specs.Requests.{choosing as choosing_of, seed_of, settings as settings_of};
-ghost use Rattle.command_line.specs.Requests.{settings_by, texts_by, spread as spread_of};
+ghost use Rattle.command_line.specs.Requests.{FromFile, settings_by, source as source_of, texts_by};
+ghost use Rattle.command_line.specs.Requests.{spread as spread_of};
 
 use crate::plain::{Texts, is_file_name};
-use command_line::request::{Choosing, RunOptions, Spread};
+use command_line::request::{Choosing, InputSource, RunOptions, Spread};
 use types::budget::Budget;
 
 /// Returns the settings that option values specify, if the values are correct.
@@ -18,7 +19,7 @@ pub fn settings_in<'w>(texts: Texts<'w>) -> Option<RunOptions<'w>>
     ensures { (o : Options) → AreRight o → texts_of texts.entry ≡ texts_by o
         → IsSomeAnd result (λ s. settings_of s ≡ settings_by o) }
 {
-    let input = file_or_none(texts.input)?;
+    let input = source_in(file_or_none(texts.input)?);
     let steps = number_or(texts.steps, 1_000_000)?;
     let nest = number_or(texts.nest, 100)?;
     let budget = Budget::new(steps, nest)?;
@@ -36,6 +37,16 @@ pub fn settings_in<'w>(texts: Texts<'w>) -> Option<RunOptions<'w>>
         arrays: texts.arrays,
         progress: texts.progress,
     })
+}
+
+/// Returns the file as the source of an input, if one is named.
+fn source_in<'w>(file: Option<&'w str>) -> Option<InputSource<'w>>
+    ensures { option_map source_of result ≡ option_map FromFile (option_map (λ n. n.now) file.entry) }
+{
+    match file {
+        Some(name) => Some(InputSource::File(name)),
+        None => None,
+    }
 }
 
 /// Returns the tasks, weight and workers, if these numbers are correct.

@@ -5,22 +5,33 @@ use crate::order::{Order, Several, SeveralTests};
 use crate::plain::{Texts, is_file_name};
 use crate::settings::settings_in;
 use crate::taking::{take, take_flag};
-use command_line::request::{Action, Command};
+use command_line::request::{Action, Command, Explain};
 
 /// Returns the order for several files, which come after the options of a command.
 pub fn each_in<'w>(words: &'w [String]) -> Option<Order<'w>> {
     match words {
         [] => None,
         [command, behind @ ..] => if command.as_str() == "test" {
-            Some(Order::TestsEach(tests_behind(behind)?))
+            tests_in(behind)
         } else {
             Some(Order::Each(several_behind(command.as_str(), behind)?))
         },
     }
 }
 
-/// Returns the programs and folders that are tested: with `--write` one or more, else several.
-fn tests_behind<'w>(behind: &'w [String]) -> Option<SeveralTests<'w>> {
+/// Returns the order of tests: with `--format json` for an object.
+fn tests_in<'w>(behind: &'w [String]) -> Option<Order<'w>> {
+    let (form, words) = take("--format", behind);
+    match form {
+        None => Some(Order::TestsEach(tests_behind(words, 2)?)),
+        Some("json") => Some(Order::TestsAsObject(tests_behind(words, 1)?)),
+        Some(_) => None,
+    }
+}
+
+/// Returns the programs and folders that are tested: with `--write` one or more, else this many or
+/// more.
+fn tests_behind<'w>(behind: &'w [String], fewest: usize) -> Option<SeveralTests<'w>> {
     let (writes, words) = take_flag("--write", behind);
     let (steps, words) = take("--steps", words);
     let (nest, words) = take("--nest", words);
@@ -35,7 +46,7 @@ fn tests_behind<'w>(behind: &'w [String]) -> Option<SeveralTests<'w>> {
         workers,
         ..Texts::none()
     };
-    let fewest = if writes { 1 } else { 2 };
+    let fewest = if writes { 1 } else { fewest };
     if names.len() < fewest || !are_files(names) {
         return None;
     }
@@ -46,10 +57,15 @@ fn tests_behind<'w>(behind: &'w [String]) -> Option<SeveralTests<'w>> {
     })
 }
 
-/// Returns the action for several files, which come after the reporting options and an option of
-/// `fmt`. The standard input isn't one of several files.
+/// Returns the action for several files, which come after the reporting options and `--warn` of
+/// `check` or an option of `fmt`. The standard input isn't one of several files.
 fn several_behind<'w>(command: &str, behind: &'w [String]) -> Option<Several<'w>> {
     let (manner, behind) = manner_in(behind)?;
+    let mut telling = manner.telling();
+    let (warns, behind) = warns_in(command, behind);
+    if warns {
+        telling.warn = Explain::Always;
+    }
     let (action, files) = action_in(command, behind)?;
     if files.len() < 2 || !are_files(files) {
         return None;
@@ -57,8 +73,17 @@ fn several_behind<'w>(command: &str, behind: &'w [String]) -> Option<Several<'w>
     Some(Several {
         action,
         files,
-        telling: manner.telling(),
+        telling,
     })
+}
+
+/// Returns whether `check` warns about each program, and the arguments after this option.
+fn warns_in<'w>(command: &str, behind: &'w [String]) -> (bool, &'w [String]) {
+    if command == "check" {
+        take_flag("--warn", behind)
+    } else {
+        (false, behind)
+    }
 }
 
 /// Returns the action of a command, and the arguments after its option.

@@ -58,7 +58,7 @@ use Rattle.command_line.specs.declared.request.Command.{Command}
 use Rattle.command_line.specs.declared.request.Command.TheVariants.{Run, Serial, Check, Listing, Pairs}
 use Rattle.command_line.specs.declared.request.Command.TheVariants.{Meetings, Explore, Labels, Places, Format}
 use Rattle.command_line.specs.declared.request.Command.TheVariants.{CheckFormat, View, Summary, Draw, Chrome}
-use Rattle.command_line.specs.declared.request.Command.TheVariants.{Page}
+use Rattle.command_line.specs.declared.request.Command.TheVariants.{Page, Schedules}
 use Rattle.command_line.specs.declared.request.Command.TheVariants.{Cost, CostByLabel, CostByProcedure}
 use Rattle.command_line.specs.declared.request.Command.TheVariants.{PairsByLine, ViewByLine, SummaryByLine}
 
@@ -93,6 +93,7 @@ IsRunBy SummaryByLine code = IsAccepted code
 IsRunBy Draw code = IsAccepted code
 IsRunBy Chrome code = IsAccepted code
 IsRunBy Page code = IsAccepted code
+IsRunBy Schedules code = IsAccepted code
 IsRunBy Serial code = Unit {0}
 IsRunBy Cost code = Unit {0}
 IsRunBy CostByLabel code = Unit {0}
@@ -282,8 +283,8 @@ pub record AnswersExplore (s : Settings) (held : Held) (text told : List ℕ) (s
   pub told_is : explored_text explores.run.code.arrays s.arrays comes_to ≡ Some told
   pub status_is : status ≡ explored_status comes_to
 
--- the text written, with its status, answers the command for a program's text; answers for a trace are in
--- `viewing`
+-- the text written, with its status, answers the command for a program's text; answers for a trace, and a page of
+-- schedules, are in `viewing`
 abbrev pub Answers : Command → Settings → Held → (text told : List ℕ) → (status : ℕ) → Type 0
 Answers Run s held text told status = AnswersRun s held text told status
 Answers Serial s held text told status = AnswersSerial s held text told status
@@ -307,6 +308,7 @@ Answers SummaryByLine s held text told status = ⊥
 Answers Draw s held text told status = ⊥
 Answers Chrome s held text told status = ⊥
 Answers Page s held text told status = ⊥
+Answers Schedules s held text told status = ⊥
 
 -- ---- failures
 
@@ -340,6 +342,7 @@ TestsRules SummaryByLine = Unit {0}
 TestsRules Draw = Unit {0}
 TestsRules Chrome = Unit {0}
 TestsRules Page = Unit {0}
+TestsRules Schedules = Unit {0}
 
 -- why a text has no code, unless memory runs out: it spells no program, or one that breaks a rule
 abbrev pub TellsNoCode : (text : List ℕ) → Failure → Type 0
@@ -373,6 +376,7 @@ LooksForRaces SummaryByLine = Unit {0}
 LooksForRaces Draw = Unit {0}
 LooksForRaces Chrome = Unit {0}
 LooksForRaces Page = Unit {0}
+LooksForRaces Schedules = Unit {0}
 LooksForRaces Serial = ⊥
 LooksForRaces Pairs = ⊥
 LooksForRaces Meetings = ⊥

@@ -3,6 +3,7 @@
 ghost use Rattle.std.specs.Prelude.{◌≡◌, ◌≤◌, [], IfOk};
 ghost use Rattle.std.specs.String.{string_bytes};
 
+use crate::misfit::input_explained;
 use crate::programs::typed_of;
 use crate::question::Question;
 use crate::unchosen::{choices_explained, no_leaf_explained, open_explained};
@@ -10,7 +11,6 @@ use crate::unlaid::layout_explained;
 use crate::unread::{reread_explained, unreadable_explained, unwritten_explained};
 use command_line::request::{Command, Request, RunOptions};
 use excerpts::heading::Heading;
-use explanations::input_errors::explained_input;
 use explanations::races::explained_race;
 use explanations::syntax_errors::explained_syntax;
 use explanations::told::{explained, push_races};
@@ -28,7 +28,6 @@ use std::alloc::{AllocError, Global};
 use std::thread::Threads;
 use trace_text::error::TraceError;
 use types::budget::{Budget, MOST_NEST, MOST_STEPS};
-use types::input_error::InputError;
 use witness::witness::witness_of;
 
 /// Returns what went wrong, why, and what would be right: in the text of a program, in the file of
@@ -58,10 +57,7 @@ pub fn explanation<R: Threads + Sync, F: FileSource>(
             let heading = heading_of(file, "C1");
             race_explained(rt, alloc, text, accesses, heading, request.telling.all)
         }
-        Failure::Input(error) => match settings.input {
-            Some(name) => input_explained(alloc, files, text, name, error),
-            None => Ok(String::new(alloc)),
-        },
+        Failure::Input(error) => input_explained(alloc, files, text, settings.input, error),
         Failure::Run(RunError::TooManyTasks(_)) => {
             let question = Question { text, settings };
             tasks_explained(alloc, files, file, question)
@@ -109,7 +105,7 @@ fn file_explained<F: FileSource>(
     ensures { F.held files.new ≡ F.held files.old }
 {
     match failure {
-        Failure::CannotRead { name } => unreadable_explained(alloc, name.as_str()),
+        Failure::CannotRead { name } => unreadable_explained(alloc, files, name.as_str()),
         Failure::NotUtf8 { name } => reread_explained(alloc, files, name.as_str()),
         Failure::CannotWrite { name } => unwritten_explained(alloc, name.as_str()),
         _ => Ok(String::new(alloc)),
@@ -141,29 +137,6 @@ fn race_explained<R: Threads + Sync>(
         },
         _ => explained_race(alloc, text, first, second, heading),
     }
-}
-
-/// Explains what is wrong with the file of an input. It reads the file again.
-fn input_explained<F: FileSource>(
-    alloc: Global,
-    files: &mut F,
-    text: &str,
-    name: &str,
-    error: &InputError,
-) -> Result<String, AllocError>
-    ensures { F.held files.new ≡ F.held files.old }
-{
-    let Ok(typed) = typed_of(alloc, text) else {
-        return Ok(String::new(alloc));
-    };
-    let Ok(bytes) = files.read(name) else {
-        return Ok(String::new(alloc));
-    };
-    let Ok(input) = std::str::from_utf8(&bytes) else {
-        return Ok(String::new(alloc));
-    };
-    let heading = heading_of(name, error.code());
-    explained_input(alloc, &typed.code().arrays, input, error, heading)
 }
 
 /// Explains what is wrong with the file of a trace. It reads the file again.

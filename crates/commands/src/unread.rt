@@ -4,7 +4,7 @@ ghost use Rattle.std.specs.Prelude.{◌≡◌};
 
 use excerpts::heading::Heading;
 use failures::failure::Failure;
-use files::file_source::FileSource;
+use files::file_source::{FileSource, Unreadable};
 use run_explanations::headings::heading_of;
 use std::alloc::{AllocError, Global};
 use syntax::TextPlace;
@@ -14,8 +14,20 @@ use syntax::parser::MOST_BYTES;
 /// The maximum number of bytes that are read of a text that is too long, to count its bytes.
 const MOST_COUNTED: usize = 16_777_216;
 
-const UNREAD: &str = "The file doesn't exist, is a folder, can't be read, or has more than 1 GiB.
+const MISSING: &str = "There is no file with this name.
 help: check the name: it is relative to the current folder. `-` is standard input.
+";
+
+const FOLDER: &str = "This is a folder.
+help: name a file in it. `afx test` takes folders.
+";
+
+const FORBIDDEN: &str = "You may not read this file.
+help: give yourself the permission to read it, with `chmod u+r`.
+";
+
+const UNREAD: &str = "The file can't be read, or has more than 1 GiB.
+help: check the file, and its name. `-` is standard input.
 ";
 
 const UNWRITTEN: &str =
@@ -43,7 +55,7 @@ pub fn unread_explanation<F: FileSource>(
     ensures { F.held files.new ≡ F.held files.old }
 {
     match failure {
-        Failure::CannotRead { .. } => unreadable_explained(alloc, name),
+        Failure::CannotRead { .. } => unreadable_explained(alloc, files, name),
         Failure::Syntax(SyntaxError::TooLong) => {
             let many = bytes_of(files, name);
             too_long_explained(alloc, name, many)
@@ -162,9 +174,19 @@ pub fn place_behind(text: &str) -> TextPlace {
     TextPlace { line, column }
 }
 
-/// Explains why a file can't be read.
-pub fn unreadable_explained(alloc: Global, name: &str) -> Result<String, AllocError> {
-    headed(alloc, heading_of(name, "cannot-read"), UNREAD)
+/// Explains why a file can't be read. It looks at the file again.
+pub fn unreadable_explained<F: FileSource>(
+    alloc: Global,
+    files: &F,
+    name: &str,
+) -> Result<String, AllocError> {
+    let why = match files.unreadable(name) {
+        Unreadable::Missing => MISSING,
+        Unreadable::Folder => FOLDER,
+        Unreadable::Forbidden => FORBIDDEN,
+        Unreadable::Otherwise => UNREAD,
+    };
+    headed(alloc, heading_of(name, "cannot-read"), why)
 }
 
 /// Explains why a file can't be written.

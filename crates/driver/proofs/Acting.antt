@@ -4,6 +4,8 @@ use Rattle.std.specs.Prelude.{Bool, false}
 use Rattle.std.specs.String.{string_bytes}
 use Rattle.failures.specs.FailureStatus.{failure_status}
 use Rattle.failures.specs.Messages.{failure_text}
+use Rattle.driver.specs.More.{may_follow}
+use Rattle.driver.specs.declared.more.More.{More}
 use Rattle.driver.specs.declared.answered.Answered.{Answered}
 use Rattle.driver.specs.declared.refusal.Refusal.{Refusal}
 use Rattle.std.proofs.Common.{◌≡◌, ℕ, ◌≤◌, List, [], Option, Result, Ok, Err, IfOk, IfErr, sym, subst}
@@ -17,13 +19,13 @@ use Rattle.driver.specs.Traced.{IsTraceOfText}
 use Rattle.driver.proofs.Leaving.{told_behind}
 use Rattle.commands.specs.Answers.{Answer, Done, Wrote}
 use Rattle.commands.specs.Rewriting.{LeavesLaidOut, LeavesRewritten}
-use Rattle.viewing.specs.Views.{IsDrawn, IsPageOf, picture_name}
+use Rattle.viewing.specs.Views.{IsDrawn, IsPageOf, IsSchedulesPage, picture_name}
 use Rattle.viewing.proofs.Written.{wrote_anyway}
 use Rattle.printing.specs.Appending.{AppendsBeginning}
 use Rattle.files.specs.Held.{Held}
 use Rattle.command_line.specs.Requests.{Settings}
 use Rattle.command_line.specs.declared.request.Command.{Command}
-use Rattle.command_line.specs.declared.request.Command.TheVariants.{Run, View, Summary, Draw, Chrome, Page}
+use Rattle.command_line.specs.declared.request.Command.TheVariants.{Run, View, Summary, Draw, Chrome, Page, Schedules}
 use Rattle.failures.specs.declared.failure.Failure.{Failure}
 use Rattle.failures.specs.declared.failure.Failure.TheVariants.{CannotWriteOutput}
 
@@ -60,6 +62,7 @@ may_fail Summary s held text = tt
 may_fail Draw s held text = tt
 may_fail Chrome s held text = tt
 may_fail Page s held text = tt
+may_fail Schedules s held text = tt
 may_fail _ s held text = tt
 
 -- files are unchanged then
@@ -76,6 +79,8 @@ leaves_by : (c : Command) (file : List ℕ) (s : Settings) (text : List ℕ) (he
     → IfErr r (λ f. f ≡ CannotWriteOutput) → LeavesBy c file s text held later (Ok status) → LeavesBy c file s text held later r
 leaves_by Page file s text held later status r only w =
     wrote_anyway (picture_name s) (IsPageOf file s held text) held later r w only
+leaves_by Schedules file s text held later status r only w =
+    wrote_anyway (picture_name s) (IsSchedulesPage file s held text) held later r w only
 leaves_by c file s text held later status r only w = leaves_on c s text held later status r only w
 
 -- nor is there more than was written
@@ -121,21 +126,21 @@ handed_over x file s text held later old mid new done r performs on = record {
 }
 
 -- a refusal that was reported
-pub reported : (explain : Bool) (old new : Option (List ℕ)) (r : Refusal) (status : ℕ)
-    → (explain ≡ false → string_bytes r.more ≡ []) → status ≡ failure_status r.failure
+pub reported : (m : More) (old new : Option (List ℕ)) (r : Refusal) (status : ℕ)
+    → (m.explains ≡ false → string_bytes r.more ≡ []) → status ≡ failure_status r.failure
     → AppendsBeginning old new ((failure_text r.failure ++ codes "\n") ++ string_bytes r.more)
-    → Reports explain old new (Err r.failure) status
-reported explain old new r status bare is told = (is, record { more = string_bytes r.more; bare = bare; told = told })
+    → Reports m old new (Err r.failure) status
+reported m old new r status bare is told = (is, record { more = string_bytes r.more; bare = bare; told = told })
 
--- an answer, and its explanation
-pub followed : (explain : Bool) (old new : Option (List ℕ)) (a : Answered) (status : ℕ)
-    → (explain ≡ false → string_bytes a.more ≡ []) → (a.status ≤ 1 → string_bytes a.more ≡ []) → status ≡ a.status
-    → AppendsBeginning old new (string_bytes a.more) → Reports explain old new (Ok a.status) status
-followed explain old new a status bare calm is told =
-    (is, record { more = string_bytes a.more; bare = bare; calm = calm; told = told })
+-- an answer, and what follows it
+pub followed : (m : More) (old new : Option (List ℕ)) (a : Answered) (status : ℕ)
+    → (may_follow m a.status ≡ false → string_bytes a.more ≡ []) → status ≡ a.status
+    → AppendsBeginning old new (string_bytes a.more) → Reports m old new (Ok a.status) status
+followed m old new a status bare is told =
+    (is, record { more = string_bytes a.more; bare = bare; told = told })
 
 -- what is reported for a result is reported for an equal one
-pub reported_by : (explain : Bool) (old new : Option (List ℕ)) (r s : Result Answered Refusal) (status : ℕ) → r ≡ s
-    → Reports explain old new (in_short s) status → Reports explain old new (in_short r) status
-reported_by explain old new r s status same reports =
-    subst (λ (t : Result Answered Refusal). Reports explain old new (in_short t) status) (sym same) reports
+pub reported_by : (m : More) (old new : Option (List ℕ)) (r s : Result Answered Refusal) (status : ℕ) → r ≡ s
+    → Reports m old new (in_short s) status → Reports m old new (in_short r) status
+reported_by m old new r s status same reports =
+    subst (λ (t : Result Answered Refusal). Reports m old new (in_short t) status) (sym same) reports

@@ -2,7 +2,7 @@
 use Rattle.std.proofs.Common.{◌≡◌, inl, inr, ℕ, List, Option, Some, None, Result, Ok, Err, refl, subst, sym}
 use Rattle.std.specs.Prelude.{IfErr, IsErrAnd}
 use Rattle.types.specs.Code.{Array}
-use Rattle.command_line.specs.Requests.{Settings}
+use Rattle.command_line.specs.Requests.{Settings, Source}
 use Rattle.files.specs.Held.{Held, TellsNoInput}
 use Rattle.failures.specs.declared.failure.Failure.{Failure}
 use Rattle.failures.specs.declared.failure.Failure.TheVariants.{NoMemory}
@@ -41,7 +41,7 @@ early_not_accepted text CannotWriteOutput told = told
 early_not_accepted text (CannotWrite name) told = told
 early_not_accepted text _ told = tt
 
-early_no_input : (input : Option (List ℕ)) (held : Held) (arrays : List Array) (f : Failure)
+early_no_input : (input : Option Source) (held : Held) (arrays : List Array) (f : Failure)
     → TellsNoInput input held arrays f → IsEarly f
 early_no_input input held arrays CannotWriteOutput told = told
 early_no_input input held arrays (CannotWrite name) told = told

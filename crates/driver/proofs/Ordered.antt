@@ -1,12 +1,15 @@
 -- From a program that is read to what was ordered.
-use Rattle.std.proofs.Common.{◌≡◌, ℕ, ◌≤◌, length, List, Option, Result, Err, sym, subst, Bool, false}
-use Rattle.command_line.specs.Requests.{Asked, Settings, is_explained}
+use Rattle.std.proofs.Common.{◌≡◌, ℕ, ◌≤◌, length, List, Option, Result, Err, sym, subst, Bool}
+use Rattle.command_line.specs.Requests.{Asked, Settings}
 use Rattle.files.specs.Held.{Held, HasText, TellsNoProgram}
 use Rattle.failures.specs.declared.failure.Failure.{Failure}
 use Rattle.command_words.specs.Orders.{Order}
 use Rattle.test_and_bench.specs.Folders.{Folders}
+use Rattle.driver.specs.More.{more_of, nothing_more}
+use Rattle.driver.specs.declared.more.More.{More}
 use Rattle.driver.specs.Acts.{Reports}
-use Rattle.driver.specs.Orders.{ActsOn, ActsWith, DoesWith, ReadsAnd, TellsUnread, TestsAll, on_text, without_text}
+use Rattle.driver.specs.Orders.{ActsOn, ActsWith, DoesWith, ReadsAnd, TellsTestsAs, TellsUnread, TestsAll, on_text, without_text}
+use Rattle.test_and_bench.specs.TestsObject.{TellsTests}
 use Rattle.test_and_bench.specs.Trials.{DoesTest}
 use Rattle.driver.specs.declared.doing.TextOrder.{TextOrder}
 
@@ -37,21 +40,26 @@ module _ (d : TextOrder) (a : Asked) (held : Held) (old new : Option (List ℕ))
 -- ---- what was ordered
 
 module _ (held later : Held) (old new err_old err_new : Option (List ℕ)) (status : ℕ) where
-  pub acted : (at_terminal : Bool) (d : TextOrder) (a : Asked) (r : Result ℕ Failure) (explains : Bool)
-      → explains ≡ is_explained a.telling.explain at_terminal → ReadsAnd d a held later old new r
-      → Reports explains err_old err_new r status
+  pub acted : (at_terminal : Bool) (d : TextOrder) (a : Asked) (r : Result ℕ Failure) (m : More)
+      → m ≡ more_of a.action a.telling at_terminal → ReadsAnd d a held later old new r
+      → Reports m err_old err_new r status
       → ActsWith at_terminal d a held later old new err_old err_new status
-  acted at_terminal d a r explains is does reports = record {
+  acted at_terminal d a r m is does reports = record {
     result = r;
     does = does;
-    reports = subst (λ (e : Bool). Reports e err_old err_new r status) is reports;
+    reports = subst (λ (n : More). Reports n err_old err_new r status) is reports;
   }
 
 module _ (named : Folders) (held later : Held) (old new err_old err_new : Option (List ℕ)) (status : ℕ) where
   pub tested_as : (names : List (List ℕ)) (writes : Bool) (s : Settings) (r : Result ℕ Failure)
-      → DoesTest named held names writes s later old new r → Reports false err_old err_new r status
+      → DoesTest named held names writes s later old new r → Reports nothing_more err_old err_new r status
       → TestsAll names writes s named held later old new err_old err_new status
   tested_as names writes s r does reports = record { result = r; does = does; reports = reports }
+
+  pub told_as : (names : List (List ℕ)) (writes : Bool) (s : Settings) (r : Result ℕ Failure)
+      → TellsTests named held names writes s later old new r → Reports nothing_more err_old err_new r status
+      → TellsTestsAs names writes s named held later old new err_old err_new status
+  told_as names writes s r does reports = record { result = r; does = does; reports = reports }
 
   -- one order is another
   pub ordered : (at_terminal : Bool) (o p : Order) → o ≡ p

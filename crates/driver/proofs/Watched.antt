@@ -16,6 +16,7 @@ use Rattle.failures.specs.declared.failure.Failure.{Failure}
 use Rattle.failures.specs.declared.failure.Failure.TheVariants.{Syntax, Types, NoMemoryInCheck}
 use Rattle.failures.specs.declared.failure.Failure.TheVariants.{Input, Run, Trace, NoMemory}
 use Rattle.command_words.specs.Orders.{Order}
+use Rattle.driver.specs.declared.more.More.{More}
 use Rattle.driver.specs.Acts.{IsHandedOn, Reports}
 use Rattle.driver.specs.Watching.{WatchesDoing, WatchesOrder, WatchesTo}
 use Rattle.driver.specs.declared.doing.TextOrder.{TextOrder}
@@ -50,11 +51,11 @@ module _ {W : Type 0} (Told : List ℕ → W → W → Type 0) (old new : W) whe
   handed_watched asked written later (Err f) r on told =
       subst (λ (s : Result ℕ Failure). Watches Told asked s old new) (sym on.1) told
 
-  pub reported_watched : (asked explain : Bool) (err_old err_new : Option (List ℕ)) (r : Result ℕ Failure) (status : ℕ)
-      → Watches Told asked r old new → Reports explain err_old err_new r status → WatchesTo Told asked status old new
-  reported_watched false explain err_old err_new r status told reports = told
-  reported_watched true explain err_old err_new (Ok n) status told reports = (inr told, λ _ _. told)
-  reported_watched true explain err_old err_new (Err f) status told reports = (
+  pub reported_watched : (asked : Bool) (m : More) (err_old err_new : Option (List ℕ)) (r : Result ℕ Failure) (status : ℕ)
+      → Watches Told asked r old new → Reports m err_old err_new r status → WatchesTo Told asked status old new
+  reported_watched false m err_old err_new r status told reports = told
+  reported_watched true m err_old err_new (Ok n) status told reports = (inr told, λ _ _. told)
+  reported_watched true m err_old err_new (Err f) status told reports = (
     told,
     λ other small.
         absurd (of_failure f (λ same. other (reports.0 ∙ same)) (subst (λ n. n ≤ 3) reports.0 small)),

@@ -1,12 +1,13 @@
 -- What the program does with the files that its arguments name, and how it reports that.
 use Rattle.std.specs.Prelude.{ℕ, ◌≡◌, ◌≤◌, List, [], ◌++◌, Option, Result, Ok, Err, codes, IfOk, IfErr}
-use Rattle.std.specs.Prelude.{Bool, false}
+use Rattle.std.specs.Prelude.{false}
 use Rattle.std.specs.String.{string_bytes}
 use Rattle.std.specs.Io.KnownBytes.{Keeps}
 use Rattle.commands.specs.Answers.{Answer, Answers, Done, Explains}
 use Rattle.commands.specs.Rewriting.{AnswersRewrite, ExplainsRewrite, LeavesRewritten}
 use Rattle.viewing.specs.Files.{WritesTo}
-use Rattle.viewing.specs.Views.{AnswersTrace, ExplainsTrace, IsDrawn, IsPageOf, picture_name}
+use Rattle.viewing.specs.Views.{AnswersSchedules, AnswersTrace, ExplainsSchedules, ExplainsTrace, IsDrawn}
+use Rattle.viewing.specs.Views.{IsPageOf, IsSchedulesPage, picture_name}
 use Rattle.printing.specs.Appending.{AppendsBeginning}
 use Rattle.failures.specs.FailureStatus.{failure_status}
 use Rattle.files.specs.Held.{Held}
@@ -18,13 +19,15 @@ use Rattle.command_line.specs.declared.request.Command.{Command}
 use Rattle.command_line.specs.declared.request.Command.TheVariants.{Run, Serial, Check, Listing, Pairs}
 use Rattle.command_line.specs.declared.request.Command.TheVariants.{Meetings, Explore, Labels, Places, Format}
 use Rattle.command_line.specs.declared.request.Command.TheVariants.{CheckFormat, View, Summary, Draw, Chrome}
-use Rattle.command_line.specs.declared.request.Command.TheVariants.{Page}
+use Rattle.command_line.specs.declared.request.Command.TheVariants.{Page, Schedules}
 use Rattle.command_line.specs.declared.request.Command.TheVariants.{Cost, CostByLabel, CostByProcedure}
 use Rattle.command_line.specs.declared.request.Command.TheVariants.{PairsByLine, ViewByLine, SummaryByLine}
 use Rattle.failures.specs.declared.failure.Failure.{Failure}
 use Rattle.failures.specs.declared.failure.Failure.TheVariants.{CannotWriteOutput}
+use Rattle.driver.specs.More.{may_follow}
 use Rattle.driver.specs.Traced.{TracesRun}
 use Rattle.driver.specs.declared.answered.Answered.{Answered}
+use Rattle.driver.specs.declared.more.More.{More}
 use Rattle.driver.specs.declared.refusal.Refusal.{Refusal}
 
 -- the text written, with its status, answers the command for a program's text, or for a trace of its run
@@ -36,6 +39,7 @@ AnswersAny SummaryByLine s held text = AnswersTrace SummaryByLine s held text
 AnswersAny Draw s held text = AnswersTrace Draw s held text
 AnswersAny Chrome s held text = AnswersTrace Chrome s held text
 AnswersAny Page s held text = AnswersTrace Page s held text
+AnswersAny Schedules s held text = AnswersSchedules s held text
 AnswersAny c s held text = Answers c s held text
 
 -- a failure is one of this command
@@ -47,6 +51,7 @@ ExplainsAny SummaryByLine s held text = ExplainsTrace SummaryByLine s held text
 ExplainsAny Draw s held text = ExplainsTrace Draw s held text
 ExplainsAny Chrome s held text = ExplainsTrace Chrome s held text
 ExplainsAny Page s held text = ExplainsTrace Page s held text
+ExplainsAny Schedules s held text = ExplainsSchedules s held text
 ExplainsAny c s held text = Explains c s held text
 
 -- the contents of files after a command: the trace of a run in the file that was named for it, a picture in
@@ -56,6 +61,7 @@ Leaves Run s text held later r = TracesRun s text held later r
 Leaves Draw s text held later r = WritesTo (picture_name s) (IsDrawn s held text) held later r
 Leaves Chrome s text held later r = WritesTo (picture_name s) (IsDrawn s held text) held later r
 Leaves Page s text held later r = ⊥
+Leaves Schedules s text held later r = ⊥
 Leaves Serial s text held later r = later ≡ held
 Leaves Check s text held later r = later ≡ held
 Leaves Listing s text held later r = later ≡ held
@@ -80,6 +86,8 @@ abbrev pub LeavesBy : Command → (file : List ℕ) → Settings → (text : Lis
     → Result ℕ Failure
     → Type 0
 LeavesBy Page file s text held later r = WritesTo (picture_name s) (IsPageOf file s held text) held later r
+LeavesBy Schedules file s text held later r =
+    WritesTo (picture_name s) (IsSchedulesPage file s held text) held later r
 LeavesBy c file s text held later r = Leaves c s text held later r
 
 -- ---- what is done with a file
@@ -109,24 +117,23 @@ pub record Performs (x : Action) (file : List ℕ) (s : Settings) (text : List �
   pub leaves : LeavesTo x file s text held later r
 
 -- the line of a failure was appended as far as it was accepted; an explanation follows if there should be one
-pub record IsTold (explain : Bool) (old new : Option (List ℕ)) (f : Failure) : Type 0 where
+pub record IsTold (m : More) (old new : Option (List ℕ)) (f : Failure) : Type 0 where
   pub more : List ℕ
-  pub bare : explain ≡ false → more ≡ []
+  pub bare : m.explains ≡ false → more ≡ []
   pub told : AppendsBeginning old new ((failure_text f ++ codes "\n") ++ more)
 
--- nothing is written after an answer, unless there should be an explanation and a run ended with faults or was
--- stopped: then the explanation of its outcome was appended, as far as it was accepted
-pub record IsFollowed (explain : Bool) (answered : ℕ) (old new : Option (List ℕ)) : Type 0 where
+-- nothing is written after an answer, unless something may follow: then it was appended, as far as it was
+-- accepted
+pub record IsFollowed (m : More) (answered : ℕ) (old new : Option (List ℕ)) : Type 0 where
   pub more : List ℕ
-  pub bare : explain ≡ false → more ≡ []
-  pub calm : answered ≤ 1 → more ≡ []
+  pub bare : may_follow m answered ≡ false → more ≡ []
   pub told : AppendsBeginning old new more
 
 -- the status of an answer; or that of a failure, which is reported
-abbrev pub Reports : (explain : Bool) → (old new : Option (List ℕ)) → Result ℕ Failure → (status : ℕ)
+abbrev pub Reports : More → (old new : Option (List ℕ)) → Result ℕ Failure → (status : ℕ)
     → Type 0
-Reports explain old new (Ok answered) status = (status ≡ answered) × IsFollowed explain answered old new
-Reports explain old new (Err f) status = (status ≡ failure_status f) × IsTold explain old new f
+Reports m old new (Ok answered) status = (status ≡ answered) × IsFollowed m answered old new
+Reports m old new (Err f) status = (status ≡ failure_status f) × IsTold m old new f
 
 -- a mistake in the arguments was reported with status 1: a text was appended to the error output as far as
 -- it was accepted, and the other output is unchanged
@@ -147,9 +154,7 @@ IsHandedOn (Ok status) old new r =
     Keeps old new × (IfOk r (λ n. n ≡ status) × IfErr r (λ f. f ≡ CannotWriteOutput))
 IsHandedOn (Err f) old new r = (new ≡ old) × (r ≡ Err f)
 
--- a refusal and an answer are explained only if they should be; an answer with status 0 or 1 is never
--- explained
-pub record IsSaid (explain : Bool) (r : Result Answered Refusal) : Type 0 where
-  pub bare : IfErr r (λ refusal. explain ≡ false → string_bytes refusal.more ≡ [])
-  pub quiet : IfOk r (λ answered. explain ≡ false → string_bytes answered.more ≡ [])
-  pub calm : IfOk r (λ answered. answered.status ≤ 1 → string_bytes answered.more ≡ [])
+-- a refusal is explained only if it should be, and something follows an answer only if it may
+pub record IsSaid (m : More) (r : Result Answered Refusal) : Type 0 where
+  pub bare : IfErr r (λ refusal. m.explains ≡ false → string_bytes refusal.more ≡ [])
+  pub quiet : IfOk r (λ answered. may_follow m answered.status ≡ false → string_bytes answered.more ≡ [])

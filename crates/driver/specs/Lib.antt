@@ -1,4 +1,5 @@
 pub mod Acts
+pub mod More
 pub mod Objects
 pub mod Orders
 pub mod Traced

@@ -2,7 +2,7 @@
 use Rattle.std.specs.Prelude.{ℕ, ◌≤◌, Bool, false, List, [], ◌∷◌, ◌++◌, codes, length, Option, Result, Ok, Err}
 use Rattle.std.specs.Prelude.{IsErrAnd, ◌≡◌, nat_lt, if◌then◌else◌}
 use Rattle.std.specs.Io.KnownBytes.{Keeps}
-use Rattle.command_line.specs.Requests.{Asked, Settings, asked_of, is_explained, usual}
+use Rattle.command_line.specs.Requests.{Asked, Settings, asked_of, usual}
 use Rattle.command_line.specs.declared.request.Action.{Action}
 use Rattle.command_line.specs.declared.request.Telling.{Telling}
 use Rattle.files.specs.Held.{Held, HasText, TellsNoProgram}
@@ -10,8 +10,11 @@ use Rattle.failures.specs.declared.failure.Failure.{Failure}
 use Rattle.printing.specs.Appending.{AppendsBeginning}
 use Rattle.printing.specs.Reasons.{escaped}
 use Rattle.json_answers.specs.Failing.{IsToldAsObject, TellsFailure}
-use Rattle.command_words.specs.Orders.{Order, AsText, AsObject, Times, TimesAsObject, Tests, TestsEach, Each}
+use Rattle.command_words.specs.Orders.{Order, AsText, AsObject, Times, TimesAsObject, Tests, TestsEach}
+use Rattle.command_words.specs.Orders.{TestsAsObject, Each}
 use Rattle.command_words.specs.declared.order.Subject.{Subject}
+use Rattle.driver.specs.More.{more_of, nothing_more}
+use Rattle.driver.specs.declared.more.More.{More}
 use Rattle.driver.specs.Acts.{Performs, Reports}
 use Rattle.driver.specs.Objects.{TellsObject}
 use Rattle.driver.specs.Trying.{TellsTimes, TimesRuns}
@@ -19,6 +22,7 @@ use Rattle.driver.specs.declared.doing.TextOrder.{TextOrder}
 use Rattle.driver.specs.declared.doing.TextOrder.TheVariants.{Answering, Describing, Timing, TimingAsObject}
 use Rattle.driver.specs.declared.loaded.Loaded.{Loaded}
 use Rattle.test_and_bench.specs.Folders.{Folders}
+use Rattle.test_and_bench.specs.TestsObject.{TellsTests}
 use Rattle.test_and_bench.specs.Trials.{DoesTest}
 
 -- this was done with the text of a program: the command was answered, or it was answered as one object, or
@@ -58,18 +62,18 @@ pub data ReadsAnd (d : TextOrder) (a : Asked) (held later : Held) (old new : Opt
   without_text : IsErrAnd r (HasNone d held a.file old new) → later ≡ held → ReadsAnd d a held later old new r
 
 -- this was done, with a result that was reported
-pub record ActsBy (Does : Result ℕ Failure → Type 0) (explain : Bool)
+pub record ActsBy (Does : Result ℕ Failure → Type 0) (m : More)
     (err_old err_new : Option (List ℕ)) (status : ℕ) : Type 0 where
   pub result : Result ℕ Failure
   pub does : Does result
-  pub reports : Reports explain err_old err_new result status
+  pub reports : Reports m err_old err_new result status
 
--- this was done with the file of a program, and reported: with explanations on request, and by default if
--- the standard error is a terminal
+-- this was done with the file of a program, and reported: with explanations and warnings on request, and by
+-- default if the standard error is a terminal
 abbrev pub ActsWith : (at_terminal : Bool) → TextOrder → (a : Asked) → (held later : Held) → (old new : Option (List ℕ))
     → (err_old err_new : Option (List ℕ)) → (status : ℕ) → Type 0
 ActsWith at_terminal d a held later old new err_old err_new status =
-    ActsBy (ReadsAnd d a held later old new) (is_explained a.telling.explain at_terminal) err_old err_new status
+    ActsBy (ReadsAnd d a held later old new) (more_of a.action a.telling at_terminal) err_old err_new status
 
 -- the request was carried out, and reported
 abbrev pub Acts : (at_terminal : Bool) → (a : Asked) → (held later : Held) → (old new : Option (List ℕ))
@@ -99,13 +103,19 @@ TellsTimesAs at_terminal a held later old new err_old err_new status =
 abbrev pub TestsAll : (names : List (List ℕ)) → (writes : Bool) → Settings → Folders → (held later : Held)
     → (old new : Option (List ℕ)) → (err_old err_new : Option (List ℕ)) → (status : ℕ) → Type 0
 TestsAll names writes s named held later old new err_old err_new status =
-    ActsBy (DoesTest named held names writes s later old new) false err_old err_new status
+    ActsBy (DoesTest named held names writes s later old new) nothing_more err_old err_new status
 
 -- the program with the name of the request, or those of the folder with this name
 abbrev pub TestsAs : (a : Asked) → Folders → (held later : Held) → (old new : Option (List ℕ))
     → (err_old err_new : Option (List ℕ)) → (status : ℕ) → Type 0
 TestsAs a named held later old new err_old err_new status =
     TestsAll (a.file ∷ []) false a.settings named held later old new err_old err_new status
+
+-- the same, with the results as one object
+abbrev pub TellsTestsAs : (names : List (List ℕ)) → (writes : Bool) → Settings → Folders → (held later : Held)
+    → (old new : Option (List ℕ)) → (err_old err_new : Option (List ℕ)) → (status : ℕ) → Type 0
+TellsTestsAs names writes s named held later old new err_old err_new status =
+    ActsBy (TellsTests named held names writes s later old new) nothing_more err_old err_new status
 
 -- ---- several files, one after the other
 
@@ -118,27 +128,27 @@ abbrev pub Names : (file : List ℕ) → Result ℕ Failure → (old new : Optio
 Names file (Ok status) old new = new ≡ old
 Names file (Err f) old new = AppendsBeginning old new (escaped file ++ codes ": ")
 
--- this was done with one of several files, and reported, with explanations if there should be some
-pub record ActsOnOne (explain : Bool) (d : TextOrder) (a : Asked) (held later : Held)
+-- this was done with one of several files, and reported, with what should follow
+pub record ActsOnOne (m : More) (d : TextOrder) (a : Asked) (held later : Held)
     (old new err_old err_new : Option (List ℕ)) (status : ℕ) : Type 0 where
   pub result : Result ℕ Failure
   pub does : ReadsAnd d a held later old new result
   pub named : Option (List ℕ)
   pub names : Names a.file result err_old named
-  pub reports : Reports explain named err_new result status
+  pub reports : Reports m named err_new result status
 
 -- the larger of two statuses
 abbrev pub larger : ℕ → ℕ → ℕ
 larger s t = if nat_lt s t then t else s
 
 -- this was done with these files, one after the other; the status is the largest
-pub data ActsOnEach (explain : Bool) (x : Action) (t : Telling) (held : Held) (old err_old : Option (List ℕ))
+pub data ActsOnEach (m : More) (x : Action) (t : Telling) (held : Held) (old err_old : Option (List ℕ))
     : (files : List (List ℕ)) → (later : Held) → (new err_new : Option (List ℕ)) → (status : ℕ) → Type 0 where
-  none : ActsOnEach explain x t held old err_old [] held old err_old 0
+  none : ActsOnEach m x t held old err_old [] held old err_old 0
   more : (fs : List (List ℕ)) (f : List ℕ) (mid later : Held) (between new err_between err_new : Option (List ℕ))
-      (s n : ℕ) → ActsOnEach explain x t held old err_old fs mid between err_between s
-      → ActsOnOne explain Answering (asked_for x t f) mid later between new err_between err_new n
-      → ActsOnEach explain x t held old err_old (fs ++ f ∷ []) later new err_new (larger s n)
+      (s n : ℕ) → ActsOnEach m x t held old err_old fs mid between err_between s
+      → ActsOnOne m Answering (asked_for x t f) mid later between new err_between err_new n
+      → ActsOnEach m x t held old err_old (fs ++ f ∷ []) later new err_new (larger s n)
 
 -- an order was carried out
 abbrev pub ActsOn : (at_terminal : Bool) → Order → Folders → (held later : Held) → (old new : Option (List ℕ))
@@ -155,5 +165,7 @@ ActsOn at_terminal (Tests a) named held later old new err_old err_new status =
     TestsAs a named held later old new err_old err_new status
 ActsOn at_terminal (TestsEach writes names s) named held later old new err_old err_new status =
     TestsAll names writes s named held later old new err_old err_new status
+ActsOn at_terminal (TestsAsObject writes names s) named held later old new err_old err_new status =
+    TellsTestsAs names writes s named held later old new err_old err_new status
 ActsOn at_terminal (Each x files t) named held later old new err_old err_new status =
-    ActsOnEach (is_explained t.explain at_terminal) x t held old err_old files later new err_new status
+    ActsOnEach (more_of x t at_terminal) x t held old err_old files later new err_new status

@@ -8,11 +8,11 @@ use Rattle.command_line.specs.declared.request.Command.{Command}
 use Rattle.command_line.specs.declared.request.Command.TheVariants.{Run, Serial, Check, Listing, Pairs}
 use Rattle.command_line.specs.declared.request.Command.TheVariants.{Meetings, Explore, Labels, Places, Format}
 use Rattle.command_line.specs.declared.request.Command.TheVariants.{CheckFormat, View, Summary, Draw, Chrome}
-use Rattle.command_line.specs.declared.request.Command.TheVariants.{Page}
+use Rattle.command_line.specs.declared.request.Command.TheVariants.{Page, Schedules}
 use Rattle.command_line.specs.declared.request.Command.TheVariants.{Cost, CostByLabel, CostByProcedure}
 use Rattle.command_line.specs.declared.request.Command.TheVariants.{PairsByLine, ViewByLine, SummaryByLine}
-use Rattle.command_words.specs.Orders.{Order, AsText, AsObject, Times, TimesAsObject, Tests, TestsEach, Each}
-use Rattle.command_words.specs.Orders.{command_of}
+use Rattle.command_words.specs.Orders.{Order, AsText, AsObject, Times, TimesAsObject, Tests, TestsEach}
+use Rattle.command_words.specs.Orders.{TestsAsObject, Each, command_of}
 use Rattle.driver.specs.declared.doing.TextOrder.{TextOrder}
 use Rattle.driver.specs.declared.doing.TextOrder.TheVariants.{Answering, Describing, Timing, TimingAsObject}
 
@@ -40,6 +40,7 @@ is_watched SummaryByLine s = false
 is_watched Draw s = false
 is_watched Chrome s = false
 is_watched Page s = false
+is_watched Schedules s = false
 
 abbrev pub is_watched_by : Action → Settings → Bool
 is_watched_by (AnswerBy c) s = is_watched c s
@@ -68,4 +69,5 @@ module _ {W : Type 0} (Told : List ℕ → W → W → Type 0) where
   WatchesOrder (TimesAsObject a) status old new = Unit {0}
   WatchesOrder (Tests a) status old new = new ≡ old
   WatchesOrder (TestsEach writes names s) status old new = new ≡ old
+  WatchesOrder (TestsAsObject writes names s) status old new = new ≡ old
   WatchesOrder (Each x files t) status old new = Unit {0}

@@ -3,6 +3,7 @@
 ghost use Rattle.std.specs.Prelude.{ℕ, ◌≡◌, ◌≤◌, ◌⊎◌, List, codes, true, false, map, Err};
 ghost use Rattle.std.specs.String.{string_bytes};
 ghost use Rattle.driver.specs.Acts.{Reports, TellsMistake};
+ghost use Rattle.driver.specs.More.{nothing_more};
 ghost use Rattle.failures.specs.Failures.{TellsNotUtf8};
 ghost use Rattle.failures.specs.declared.failure.Failure.{Failure as FailureOf};
 ghost use Rattle.command_line.specs.Requests.{Asked, Asks};
@@ -17,11 +18,12 @@ ghost use Rattle.options.specs.Replies.{IsMistake};
 ghost use Rattle.printing.specs.Appending.{AppendsBeginning};
 
 use crate::doing::{Ordered, TextOrder, read_and_do};
+use crate::more::More;
 use crate::refusal::Refusal;
 use crate::reporting::report;
 use crate::several::do_with_each;
-use crate::terminal::{Terminal, explains_on};
-use crate::trying::{test_each, test_one};
+use crate::terminal::{Terminal, more_on};
+use crate::trying::{test_as_object, test_each, test_one};
 use command_words::order::Order;
 use command_words::words::order_of;
 use failures::failure::Failure;
@@ -97,55 +99,59 @@ fn carry_out<R: Threads + Wait + Sync, F: FolderSource, O: Write, E: Write, T: T
     match order {
         Order::AsText(request) => {
             let doing = TextOrder::Answering;
-            let explains = explains_on(request.telling, terminal);
+            let more = more_on(request.action, request.telling, terminal);
             let ordered = Ordered {
                 doing,
                 request,
-                explains,
+                more,
             };
             let done = read_and_do(rt, alloc, ordered, files, out, terminal);
-            report(done, explains, err)
+            report(done, more, err)
         }
         Order::AsObject(subject, request) => {
             let doing = TextOrder::Describing(subject);
-            let explains = explains_on(request.telling, terminal);
+            let more = more_on(request.action, request.telling, terminal);
             let ordered = Ordered {
                 doing,
                 request,
-                explains,
+                more,
             };
             let done = read_and_do(rt, alloc, ordered, files, out, terminal);
-            report(done, explains, err)
+            report(done, more, err)
         }
         Order::Times(request) => {
             let doing = TextOrder::Timing;
-            let explains = explains_on(request.telling, terminal);
+            let more = more_on(request.action, request.telling, terminal);
             let ordered = Ordered {
                 doing,
                 request,
-                explains,
+                more,
             };
             let done = read_and_do(rt, alloc, ordered, files, out, terminal);
-            report(done, explains, err)
+            report(done, more, err)
         }
         Order::TimesAsObject(request) => {
             let doing = TextOrder::TimingAsObject;
-            let explains = explains_on(request.telling, terminal);
+            let more = more_on(request.action, request.telling, terminal);
             let ordered = Ordered {
                 doing,
                 request,
-                explains,
+                more,
             };
             let done = read_and_do(rt, alloc, ordered, files, out, terminal);
-            report(done, explains, err)
+            report(done, more, err)
         }
         Order::Tests(request) => {
             let done = test_one(rt, alloc, request, files, out);
-            report(done, false, err)
+            report(done, More::nothing(), err)
         }
         Order::TestsEach(tests) => {
             let done = test_each(rt, alloc, tests, files, out);
-            report(done, false, err)
+            report(done, More::nothing(), err)
+        }
+        Order::TestsAsObject(tests) => {
+            let done = test_as_object(rt, alloc, tests, files, out);
+            report(done, More::nothing(), err)
         }
         Order::Each(several) => do_with_each(rt, alloc, several, files, out, err, terminal),
     }
@@ -155,7 +161,7 @@ fn carry_out<R: Threads + Wait + Sync, F: FolderSource, O: Write, E: Write, T: T
 /// memory ran out.
 pub fn refuse_words<E: Write>(alloc: Global, error: &io::Error, err: &mut E) -> u8
     ensures { (f : FailureOf) × TellsNotUtf8 (codes "command line") f
-        × Reports false (E.contents err.old) (E.contents err.new) (Err f) result }
+        × Reports nothing_more (E.contents err.old) (E.contents err.new) (Err f) result }
 {
     let failure = match error.kind() {
         ErrorKind::OutOfMemory => Failure::NoMemory,

@@ -11,6 +11,7 @@ use crate::answered::Answered;
 use crate::as_object::told;
 use crate::handing::handed_on;
 use crate::loaded::Loaded;
+use crate::more::More;
 use crate::opening::source_of;
 use crate::performing;
 use crate::refusal::Refusal;
@@ -43,12 +44,12 @@ pub enum TextOrder {
     TimingAsObject,
 }
 
-/// An order for the text of a program, its request, and whether failures and outcomes are explained.
+/// An order for the text of a program, its request, and what follows an answer or a failure.
 #[derive(Clone, Copy)]
 pub struct Ordered<'o> {
     pub doing: TextOrder,
     pub request: Request<'o>,
-    pub explains: bool,
+    pub more: More,
 }
 
 /// Reads a program, and carries out the order on its text.
@@ -63,16 +64,16 @@ pub fn read_and_do<R: Threads + Wait + Sync, F: FileSource, O: Write, T: Termina
     ensures done { ReadsAnd ordered.entry.doing (asked_of ordered.entry.request)
         (F.held files.old) (F.held files.new)
         (O.contents out.old) (O.contents out.new) (in_short result) }
-    ensures said { IsSaid ordered.entry.explains result }
+    ensures said { IsSaid ordered.entry.more result }
     ensures watched { WatchesDoing T.Told ordered.entry.doing (asked_of ordered.entry.request)
         (in_short result) terminal.old terminal.new }
 {
     let Ordered {
         doing,
         request,
-        explains,
+        more,
     } = ordered;
-    let source = match source_of(alloc, files, request, explains, terminal) {
+    let source = match source_of(alloc, files, request, more, terminal) {
         Ok(source) => source,
         Err(refusal) => {
             tell_unread(rt, alloc, ordered, files, &refusal.failure, out);
@@ -113,7 +114,7 @@ fn tell_unread<R: Threads + Sync, F: FileSource, O: Write>(
 
 /// Writes the object that tells why a file gives no text, with its explanation, if there is memory
 /// for both.
-fn tell_unread_file<R: Threads + Sync, F: FileSource, O: Write>(
+pub(crate) fn tell_unread_file<R: Threads + Sync, F: FileSource, O: Write>(
     rt: &R,
     alloc: Global,
     file: &str,
@@ -177,7 +178,7 @@ fn explained<R: Threads + Sync, F: FileSource>(
     done: Result<u8, Failure>,
 ) -> Result<Answered, Refusal>
     ensures same { in_short result ≡ done }
-    ensures said { IsSaid source.now.explains result }
+    ensures said { IsSaid source.now.more result }
     ensures keeps { F.held files.new ≡ F.held files.old }
 {
     match done {

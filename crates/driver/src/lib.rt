@@ -8,6 +8,7 @@ mod as_object;
 mod doing;
 mod handing;
 mod loaded;
+mod more;
 mod opening;
 mod performing;
 mod refusal;
@@ -16,6 +17,7 @@ mod said;
 mod several;
 mod source;
 pub mod terminal;
+pub mod ticker;
 mod tracing;
 mod trying;
 

@@ -6,6 +6,7 @@ ghost use Rattle.files.specs.Held.{HasText, TellsNoProgram};
 ghost use Rattle.command_line.specs.declared.request.Color.TheVariants.{Always, Never};
 ghost use Rattle.excerpts.specs.declared.paint.Paint.TheVariants.{Coloured, Plain};
 
+use crate::more::More;
 use crate::refusal::Refusal;
 use crate::source::ProgramSource;
 use crate::terminal::Terminal;
@@ -21,7 +22,7 @@ pub(crate) fn source_of<F: FileSource, T: Terminal>(
     alloc: Global,
     files: &mut F,
     request: Request<'_>,
-    explains: bool,
+    more: More,
     terminal: &T,
 ) -> Result<ProgramSource, Refusal>
     ensures text { IfOk result
@@ -30,20 +31,16 @@ pub(crate) fn source_of<F: FileSource, T: Terminal>(
     ensures why { IfErr result
         (λ refusal. TellsNoProgram (F.held files.old) request.entry.file.now refusal.failure) }
     ensures bare { IfErr result
-        (λ refusal. explains ≡ false → string_bytes refusal.more ≡ []) }
-    ensures explains { IfOk result (λ source. source.explains ≡ explains) }
+        (λ refusal. more.explains ≡ false → string_bytes refusal.more ≡ []) }
+    ensures more { IfOk result (λ source. source.more ≡ more) }
     ensures keeps { F.held files.new ≡ F.held files.old }
 {
     let paint = paint_of(request.telling, terminal);
     match text_in(alloc, files, request.file) {
-        Ok(text) => Ok(ProgramSource {
-            text,
-            explains,
-            paint,
-        }),
+        Ok(text) => Ok(ProgramSource { text, more, paint }),
         Err(failure) => {
             let file = request.file;
-            Err(Refusal::unread(alloc, files, file, explains, paint, failure))
+            Err(Refusal::unread(alloc, files, file, more.explains, paint, failure))
         }
     }
 }

@@ -27,6 +27,7 @@ use std::io::Write;
 use std::sync::Wait;
 use std::thread::Threads;
 use viewing::drawing::{Form, draw};
+use viewing::schedules::write_schedules;
 use viewing::tables::{Look, view};
 
 /// Carries out a command on the text of a program.
@@ -79,6 +80,7 @@ pub fn perform<R: Threads + Wait + Sync, F: FileSource, O: Write, W: Watch>(
                 let program = request.file;
                 draw(rt, alloc, Form::Html { program }, question, files, out)
             }
+            Command::Schedules => write_schedules(rt, alloc, request.file, question, files, out),
         },
     }
 }

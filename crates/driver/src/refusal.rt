@@ -49,10 +49,10 @@ impl Refusal {
         failure: Failure,
     ) -> Refusal
         ensures failure { result.failure ≡ failure }
-        ensures more { source.now.explains ≡ false → string_bytes result.more ≡ [] }
+        ensures more { source.now.more.explains ≡ false → string_bytes result.more ≡ [] }
         ensures keeps { F.held files.new ≡ F.held files.old }
     {
-        if !source.explains {
+        if !source.more.explains {
             return Refusal::bare(alloc, failure);
         }
         let text = source.text.as_str();

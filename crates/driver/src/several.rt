@@ -2,8 +2,9 @@
 
 ghost use Rattle.std.specs.Prelude.{◌≡◌, ◌++◌, codes, map};
 ghost use Rattle.std.specs.String.{string_bytes};
-ghost use Rattle.command_line.specs.Requests.{asked_of, is_explained};
+ghost use Rattle.command_line.specs.Requests.{asked_of};
 ghost use Rattle.driver.specs.Acts.{in_short};
+ghost use Rattle.driver.specs.More.{more_of};
 ghost use Rattle.driver.specs.Orders.{ActsOnEach, ActsOnOne, Names, asked_for, larger as larger_of};
 ghost use Rattle.driver.specs.declared.doing.TextOrder.TheVariants.{Answering};
 ghost use Rattle.printing.specs.Appending.{Writes};
@@ -11,9 +12,10 @@ ghost use Rattle.printing.specs.Reasons.{escaped};
 
 use crate::answered::Answered;
 use crate::doing::{Ordered, TextOrder, read_and_do};
+use crate::more::More;
 use crate::refusal::Refusal;
 use crate::reporting::report;
-use crate::terminal::{Terminal, explains_on};
+use crate::terminal::{Terminal, more_on};
 use command_line::request::{Request, RunOptions};
 use command_words::order::Several;
 use files::file_source::FileSource;
@@ -35,15 +37,15 @@ pub fn do_with_each<R: Threads + Wait + Sync, F: FileSource, O: Write, E: Write,
     err: &mut E,
     terminal: &mut T,
 ) -> u8
-    ensures { ActsOnEach (is_explained several.entry.telling.explain (T.seen terminal.old))
+    ensures { ActsOnEach (more_of several.entry.action several.entry.telling (T.seen terminal.old))
         several.entry.action several.entry.telling (F.held files.old)
         (O.contents out.old) (E.contents err.old) (map string_bytes several.entry.files.now)
         (F.held files.new) (O.contents out.new) (E.contents err.new) result }
 {
-    let explains = explains_on(several.telling, terminal);
+    let more = more_on(several.action, several.telling, terminal);
     let mut worst = 0;
     for file in several.files {
-        let ordered = ordered_for(several, file.as_str(), explains);
+        let ordered = ordered_for(several, file.as_str(), more);
         let status = do_with_one(rt, alloc, ordered, files, out, err, terminal);
         worst = larger(worst, status);
     }
@@ -51,11 +53,11 @@ pub fn do_with_each<R: Threads + Wait + Sync, F: FileSource, O: Write, E: Write,
 }
 
 /// Returns the order for one of several files.
-fn ordered_for<'w>(several: Several<'w>, file: &'w str, explains: bool) -> Ordered<'w>
+fn ordered_for<'w>(several: Several<'w>, file: &'w str, more: More) -> Ordered<'w>
     ensures answers { result.doing ≡ Answering }
     ensures asks { asked_of result.request
         ≡ asked_for several.entry.action several.entry.telling file.now }
-    ensures explains { result.explains ≡ explains }
+    ensures more { result.more ≡ more }
 {
     let request = Request {
         action: several.action,
@@ -66,7 +68,7 @@ fn ordered_for<'w>(several: Several<'w>, file: &'w str, explains: bool) -> Order
     Ordered {
         doing: TextOrder::Answering,
         request,
-        explains,
+        more,
     }
 }
 
@@ -80,14 +82,14 @@ fn do_with_one<R: Threads + Wait + Sync, F: FileSource, O: Write, E: Write, T: T
     err: &mut E,
     terminal: &mut T,
 ) -> u8
-    ensures { ActsOnOne ordered.entry.explains ordered.entry.doing (asked_of ordered.entry.request)
+    ensures { ActsOnOne ordered.entry.more ordered.entry.doing (asked_of ordered.entry.request)
         (F.held files.old) (F.held files.new)
         (O.contents out.old) (O.contents out.new)
         (E.contents err.old) (E.contents err.new) result }
 {
     let done = read_and_do(rt, alloc, ordered, files, out, terminal);
     name_failure(ordered.request.file, &done, err);
-    report(done, ordered.explains, err)
+    report(done, ordered.more, err)
 }
 
 /// Writes the name of a file if there is a failure, as far as it is accepted.

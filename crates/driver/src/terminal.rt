@@ -1,9 +1,10 @@
 //! The terminal at which a user watches a run, and reads explanations.
 
 ghost use Rattle.std.specs.Prelude.{◌≡◌, Bool, false};
-ghost use Rattle.command_line.specs.Requests.{is_explained};
+ghost use Rattle.driver.specs.More.{more_of};
 
-use command_line::request::Telling;
+use crate::more::More;
+use command_line::request::{Action, Telling};
 use statement_steps::watch::{Unwatched, Watch};
 use std::time::Clock;
 use test_and_bench::clock::Stopwatch;
@@ -22,11 +23,11 @@ pub trait Terminal: Watch + Stopwatch {
     fn has_colours(&self) -> bool;
 }
 
-/// Returns whether failures and outcomes are explained on this terminal.
-pub fn explains_on<T: Terminal>(telling: Telling, terminal: &T) -> bool
-    ensures { result ≡ is_explained telling.explain (T.seen terminal.now) }
+/// Returns what follows an action on this terminal.
+pub fn more_on<T: Terminal>(action: Action, telling: Telling, terminal: &T) -> More
+    ensures { result ≡ more_of action telling (T.seen terminal.now) }
 {
-    telling.explain.explains(terminal.is_terminal())
+    More::of(action, telling, terminal.is_terminal())
 }
 
 /// Without a user there is no terminal, and there are no colors.

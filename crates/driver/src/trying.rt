@@ -4,11 +4,14 @@ ghost use Rattle.std.specs.Prelude.{◌≡◌, ◌∷◌, [], false, map, IfOk};
 ghost use Rattle.std.specs.String.{string_bytes};
 ghost use Rattle.command_line.specs.Requests.{asked_of, settings as settings_of};
 ghost use Rattle.driver.specs.Acts.{IsSaid, in_short};
+ghost use Rattle.driver.specs.More.{nothing_more};
 ghost use Rattle.driver.specs.Trying.{TellsTimes, TimesRuns};
+ghost use Rattle.test_and_bench.specs.TestsObject.{TellsTests, failed_name};
 ghost use Rattle.test_and_bench.specs.Trials.{DoesTest};
 
 use crate::answered::Answered;
 use crate::as_object::tell_explained;
+use crate::doing::tell_unread_file;
 use crate::handing::handed_on;
 use crate::loaded::Loaded;
 use crate::refusal::Refusal;
@@ -28,7 +31,7 @@ use test_and_bench::clock::Stopwatch;
 use test_and_bench::describing::times_told;
 use test_and_bench::folders::FolderSource;
 use test_and_bench::runs::Runs;
-use test_and_bench::testing::{Testing, test_names};
+use test_and_bench::testing::{Testing, test_names, tests_told};
 use test_and_bench::timing::{Timing, bench};
 use types::input::Input;
 use types::outcome::Outcome;
@@ -122,7 +125,7 @@ pub fn test_one<R: Threads + Wait + Sync, F: FolderSource, O: Write>(
     ensures done { let a = asked_of request.entry in DoesTest (F.named files.old) (F.held files.old)
         (a.file ∷ []) false a.settings (F.held files.new)
         (O.contents out.old) (O.contents out.new) (in_short result) }
-    ensures said { IsSaid false result }
+    ensures said { IsSaid nothing_more result }
 {
     let Ok(names) = list_of_one(alloc, request.file) else {
         return Err(Refusal::bare(alloc, Failure::NoMemory));
@@ -155,7 +158,7 @@ pub fn test_each<R: Threads + Wait + Sync, F: FolderSource, O: Write>(
     ensures done { DoesTest (F.named files.old) (F.held files.old)
         (map string_bytes tests.entry.names.now) tests.entry.writes (settings_of tests.entry.settings)
         (F.held files.new) (O.contents out.old) (O.contents out.new) (in_short result) }
-    ensures said { IsSaid false result }
+    ensures said { IsSaid nothing_more result }
 {
     let testing = Testing {
         alloc,
@@ -164,7 +167,71 @@ pub fn test_each<R: Threads + Wait + Sync, F: FolderSource, O: Write>(
         writes: tests.writes,
     };
     let done = test_names(rt, &testing, tests.names, files, out);
-    match handed_on(out, done) {
+    let done = handed_on(out, done);
+    without_more(alloc, done)
+}
+
+/// Tests programs, and the programs of folders. Writes the results as one object, or the reason why
+/// there are none.
+pub fn test_as_object<R: Threads + Wait + Sync, F: FolderSource, O: Write>(
+    rt: &R,
+    alloc: Global,
+    tests: SeveralTests<'_>,
+    files: &mut F,
+    out: &mut O,
+) -> Result<Answered, Refusal>
+    ensures done { TellsTests (F.named files.old) (F.held files.old)
+        (map string_bytes tests.entry.names.now) tests.entry.writes (settings_of tests.entry.settings)
+        (F.held files.new) (O.contents out.old) (O.contents out.new) (in_short result) }
+    ensures said { IsSaid nothing_more result }
+{
+    let done = tell_tests(rt, alloc, tests, files, out);
+    without_more(alloc, done)
+}
+
+/// Tests programs, and writes the object of the results, or of the reason why there are none.
+fn tell_tests<R: Threads + Wait + Sync, F: FolderSource, O: Write>(
+    rt: &R,
+    alloc: Global,
+    tests: SeveralTests<'_>,
+    files: &mut F,
+    out: &mut O,
+) -> Result<u8, Failure>
+    ensures { TellsTests (F.named files.old) (F.held files.old)
+        (map string_bytes tests.entry.names.now) tests.entry.writes (settings_of tests.entry.settings)
+        (F.held files.new) (O.contents out.old) (O.contents out.new) result }
+{
+    let testing = Testing {
+        alloc,
+        runs: &OnThreads,
+        settings: tests.settings,
+        writes: tests.writes,
+    };
+    match tests_told(rt, &testing, tests.names, files) {
+        Ok(told) => answer_object(out, &told),
+        Err(failure) => {
+            tell_unread_file(rt, alloc, name_in(&failure), files, &failure, out);
+            Err(failure)
+        }
+    }
+}
+
+/// Returns the name in a failure, if it is that of a folder that can't be read.
+fn name_in(failure: &Failure) -> &str
+    ensures { result.now ≡ failed_name failure.now }
+{
+    match failure {
+        Failure::CannotRead { name } => name.as_str(),
+        _ => "",
+    }
+}
+
+/// Returns a result that nothing follows.
+fn without_more(alloc: Global, done: Result<u8, Failure>) -> Result<Answered, Refusal>
+    ensures same { in_short result ≡ done }
+    ensures said { IsSaid nothing_more result }
+{
+    match done {
         Ok(status) => Ok(Answered {
             status,
             more: String::new(alloc),

@@ -1,7 +1,7 @@
 //! Characters that no token starts with, and what to write instead.
 
 use crate::brackets::without_comment;
-use crate::habits::{COMMENT, FOR};
+use crate::habits::{COMMENT, FOR, PARALLEL_LOOP};
 use excerpts::source::line_of;
 use syntax::TextPlace;
 
@@ -56,7 +56,7 @@ fn mend_of_bits(line: &str, before: usize, character: char, next: Option<char>) 
 /// Handles a point: a range, a fraction, or a field.
 fn mend_of_point(line: &str, before: usize, next: Option<char>) -> &'static str {
     if next == Some('.') {
-        return if has_for(line) { FOR } else { RANGE };
+        return mend_of_range(line);
     }
     match last_before(line, before) {
         Some(last) if last.is_ascii_digit() => "use an integer; there are no fractions",
@@ -92,14 +92,16 @@ fn last_before(line: &str, many: usize) -> Option<char> {
     last
 }
 
-/// Returns whether a line has the word `for`.
-fn has_for(line: &str) -> bool {
+/// Handles a range: in a loop as in other languages, or in place of a part.
+fn mend_of_range(line: &str) -> &'static str {
     for word in line.split(' ') {
-        if word == "for" {
-            return true;
+        match word {
+            "for" => return FOR,
+            "parallel_for" | "cilk_for" | "parfor" | "forall" | "coforall" => return PARALLEL_LOOP,
+            _ => {}
         }
     }
-    false
+    RANGE
 }
 
 /// Returns whether a place is after a `/*` that no `*/` has followed.

@@ -11,6 +11,10 @@ pub const BLOCK: &str = "start the block with `{`";
 /// What to write instead of a loop that counts.
 pub const FOR: &str = "there is no `for`: write `var i = 0; while i < n { .. i = i + 1; }`";
 
+/// What to write instead of a parallel loop as in other languages.
+pub const PARALLEL_LOOP: &str =
+    "write a parallel loop as `parts a by 1 as p, i { async { .. } }`; see `afx explain parallel_loop`";
+
 /// What to write instead of a comment between marks.
 pub const COMMENT: &str =
     "there are no comments between `/*` and `*/`: start a comment with `//`; it ends with its line";
@@ -286,9 +290,9 @@ fn mend_of_name(token: Option<&Token>) -> Option<&'static str> {
 fn mend_of_statement_name(name: &str) -> Option<&'static str> {
     match name {
         "cilk_spawn" | "cilk_sync" | "cilk_scope" | "cobegin" => Some(TASKS),
-        "parallel_for" | "cilk_for" | "parallel" | "parfor" | "forall" | "coforall" => Some(
-            "write a parallel loop as `parts a by 1 as p, i { async { .. } }`; see `afx explain parallel_loop`",
-        ),
+        "parallel_for" | "cilk_for" | "parallel" | "parfor" | "forall" | "coforall" => {
+            Some(PARALLEL_LOOP)
+        }
         "atomic" | "critical" | "mutex" | "lock" | "synchronized" => Some(
             "there are no locks or atomics: give each task its own result, and read them after the finish; see `afx explain answers`",
         ),

@@ -12,16 +12,35 @@ use syntax_tree::tree::ElementType;
 use types::code::Array;
 use types::input_error::InputError;
 
-/// Returns the text after the line of an input error: where, why, and how to fix it. The text is
-/// that of the input; the arrays are those of the program.
+/// How an input is given.
+#[derive(Clone, Copy, PartialEq, Eq, Debug)]
+pub enum Form {
+    /// A file has its JSON text.
+    Json,
+    /// `--set` has the elements of an array.
+    Numbers,
+    /// `--text` names a file whose bytes are the elements of an array.
+    Bytes,
+}
+
+/// The JSON text of an input, and how that is given.
+#[derive(Clone, Copy)]
+pub struct GivenInput<'i> {
+    pub text: &'i str,
+    pub form: Form,
+}
+
+/// Returns the text after the line of an input error: where, why, and how to fix it. The arrays are
+/// those of the program.
 pub fn explained_input(
     alloc: Global,
     arrays: &[Array],
-    text: &str,
+    given: GivenInput<'_>,
     error: &InputError,
     heading: Heading<'_>,
 ) -> Result<String, AllocError> {
     let mut told = String::new(alloc);
+    let GivenInput { text, form } = given;
     let value = match Value::from_str(alloc, text) {
         Ok(value) => value,
         Err(wrong) => {
@@ -37,8 +56,8 @@ pub fn explained_input(
     heading.push(&mut told, None)?;
     match error {
         InputError::NotAnObject => told.push_str(NO_OBJECT)?,
-        InputError::UnknownArray { name } => push_unknown(alloc, &mut told, arrays, name)?,
-        InputError::WrongLength { name } => push_length(&mut told, arrays, &value, name)?,
+        InputError::UnknownArray { name } => push_unknown(alloc, &mut told, arrays, name, form)?,
+        InputError::WrongLength { name } => push_length(&mut told, arrays, &value, name, form)?,
         InputError::WrongElement { name } => push_element(alloc, &mut told, arrays, &value, name)?,
         _ => {}
     }
@@ -139,12 +158,13 @@ fn element_text(element: ElementType) -> &'static str {
     }
 }
 
-/// Explains a member that names no array.
+/// Explains a name that no array has.
 fn push_unknown(
     alloc: Global,
     told: &mut String,
     arrays: &[Array],
     name: &str,
+    form: Form,
 ) -> Result<(), AllocError> {
     let shown = Escaped(name);
     write!(told, "The program has no array `{shown}`.")?;
@@ -153,7 +173,11 @@ fn push_unknown(
         None => told.push('\n')?,
     }
     push_arrays(told, arrays)?;
-    told.push_str("help: remove the member, or rename it to an array.\n")
+    told.push_str(match form {
+        Form::Json => "help: remove the member, or rename it to an array.\n",
+        Form::Numbers => "help: write the name of an array before the `=`.\n",
+        Form::Bytes => "help: write the name of an array before the `=`.\n",
+    })
 }
 
 /// Returns the name of the array that is spelled most like a name.
@@ -185,32 +209,67 @@ fn push_length(
     arrays: &[Array],
     value: &Value,
     name: &str,
+    form: Form,
 ) -> Result<(), AllocError> {
-    if let Some(array) = array_of(arrays, name) {
-        let wanted = array.length;
-        match value.get(name).and_then(Value::as_array) {
-            Some(list) => {
-                let given = list.len();
-                let elements = noun(wanted, "element", "elements");
-                write!(
-                    told,
-                    "The array `{name}` has {wanted} {elements}, but the list has {given}.\n"
-                )?;
-            }
-            None => {
-                let numbers = noun(wanted, "number", "numbers");
-                write!(
-                    told,
-                    "The array `{name}` needs a list of {wanted} {numbers}.\n"
-                )?;
-            }
-        }
-    }
-    told.push_str(if value.get(name).and_then(Value::as_str).is_some() {
-        "help: write a list with the code of each letter, as in [107, 105]: there are no strings.\n"
-    } else {
-        "help: write one number for each element; an omitted array starts with zeros.\n"
+    let Some(array) = array_of(arrays, name) else {
+        return Ok(());
+    };
+    let wanted = array.length;
+    let Some(list) = value.get(name).and_then(Value::as_array) else {
+        return push_no_list(told, value, name, wanted);
+    };
+    let elements = noun(wanted, "element", "elements");
+    let (giver, given) = (giver_of(form), list.len());
+    write!(
+        told,
+        "The array `{name}` has {wanted} {elements}, but {giver} {given}.\n"
+    )?;
+    told.push_str(match form {
+        Form::Json =>
+            "help: write one number for each element; an omitted array starts with zeros.\n",
+        Form::Numbers => "help: write one number for each element.\n",
+        Form::Bytes if ends_line(list) =>
+            "help: leave out the line end at the end of the file, as `printf` does.\n",
+        Form::Bytes => "help: name a file with one byte for each element.\n",
     })
+}
+
+/// Returns what gives so many elements.
+fn giver_of(form: Form) -> &'static str {
+    match form {
+        Form::Json => "the list has",
+        Form::Numbers => "`--set` gives",
+        Form::Bytes => "the file has",
+    }
+}
+
+/// Returns whether the last of these bytes is a line end.
+fn ends_line(bytes: &[Value]) -> bool {
+    bytes.last().and_then(Value::as_i64) == Some(10)
+}
+
+/// Adds that an array with this number of elements needs a list.
+fn push_no_list(
+    told: &mut String,
+    value: &Value,
+    name: &str,
+    wanted: usize,
+) -> Result<(), AllocError> {
+    let numbers = noun(wanted, "number", "numbers");
+    write!(
+        told,
+        "The array `{name}` needs a list of {wanted} {numbers}.\n"
+    )?;
+    if value.get(name).and_then(Value::as_str).is_some() {
+        write!(
+            told,
+            "help: write the code of each letter, as in [107, 105]; if no other array has an input, use `--text {name}=FILE`.\n"
+        )
+    } else {
+        told.push_str(
+            "help: write one number for each element; an omitted array starts with zeros.\n",
+        )
+    }
 }
 
 /// Adds which element doesn't fit in an array.

@@ -1,4 +1,5 @@
 pub mod Inputs
+pub mod Members
 pub mod Programs
 pub mod ReadChoices
 pub mod Zeros

@@ -1,6 +1,9 @@
 -- What is known about files, and what reading them returns.
-use Rattle.std.specs.Prelude.{ℕ, ℤ, pos, ◌≡◌, ◌≢◌, ◌<◌, ◌≤◌, List, length, map, replicate, take}
+use Rattle.std.specs.Prelude.{ℕ, ℤ, pos, ◌≡◌, ◌≢◌, ◌<◌, ◌≤◌, List, [], ◌∷◌, ◌++◌, codes, length, map}
+use Rattle.std.specs.Prelude.{Bool, nat_eq, replicate, take}
 use Rattle.std.specs.Prelude.{Option, None, Some, Result, Ok, Err, IfSome}
+use Rattle.std.specs.Fmt.{decimal}
+use Rattle.std.specs.List.{after_first, before_first, flat_map}
 use Rattle.std.specs.Str.{IsUtf8}
 use Rattle.std.specs.String.{string_bytes}
 use Rattle.syntax.specs.declared.error.SyntaxError.TheVariants.{TooLong}
@@ -8,6 +11,8 @@ use Rattle.types.specs.Code.{Array}
 use Rattle.types.specs.InputErrors.{told}
 use Rattle.types.specs.Inputs.{text_says}
 use Rattle.types.specs.declared.input_error.InputError.{InputError}
+use Rattle.command_line.specs.Lists.{lists_in}
+use Rattle.command_line.specs.Requests.{Source, FromFile, FromLists, FromBytes, source_file}
 use Rattle.failures.specs.declared.failure.Failure.{Failure}
 use Rattle.failures.specs.declared.failure.Failure.TheVariants.{CannotRead, NotUtf8, Syntax, Input, NoMemory}
 use Rattle.files.specs.declared.file_source.FileError.{FileError}
@@ -83,37 +88,108 @@ TellsNoProgram held name _ = ⊥
 abbrev pub zeros : List Array → List (List ℤ)
 zeros arrays = map (λ a. replicate a.length (pos 0)) arrays
 
--- the file with this name has a JSON text with these lists for the arrays
-pub record Says (held : Held) (name : List ℕ) (arrays : List Array) (lists : List (List ℤ))
+-- a number in decimal after a comma
+abbrev pub after_comma : ℕ → List ℕ
+after_comma n = codes "," ++ decimal n
+
+-- numbers in decimal, with commas between them
+abbrev pub joined : List ℕ → List ℕ
+joined [] = []
+joined (n ∷ ns) = decimal n ++ flat_map after_comma ns
+
+-- an array with these elements, as a member of a JSON object: `"a":[1,2,3]`
+abbrev pub member_of : (name elements : List ℕ) → List ℕ
+member_of name elements = codes "\"" ++ (name ++ (codes "\":[" ++ (elements ++ codes "]")))
+
+abbrev pub is_equals : ℕ → Bool
+is_equals b = nat_eq b 61
+
+-- the same of a list: `a=1,2,3`
+abbrev pub member : (list : List ℕ) → List ℕ
+member l = member_of (before_first is_equals l) (after_first is_equals l)
+
+-- the member of a list after this text, if there is a list, and the text before the next member
+abbrev pub shown : (before : List ℕ) → (list : Option (List ℕ)) → List ℕ
+shown before None = []
+shown before (Some l) = before ++ member l
+
+abbrev pub behind_list : (before : List ℕ) → (list : Option (List ℕ)) → List ℕ
+behind_list before None = before
+behind_list before (Some l) = codes ","
+
+-- the members of lists, the first after this text and the others after commas
+abbrev pub members : (before : List ℕ) → (lists : List (List ℕ)) → List ℕ
+members before [] = []
+members before (l ∷ ls) = before ++ (member l ++ members (codes ",") ls)
+
+-- the JSON text of an object with these members
+abbrev pub object_text : (members : List ℕ) → List ℕ
+object_text ms = codes "{" ++ (ms ++ codes "}")
+
+-- the JSON text of the lists among arguments: `{"a":[1,2,3],"b":[4]}` of `--set a=1,2,3 --set b=4`
+abbrev pub lists_text : (words : List (List ℕ)) → List ℕ
+lists_text words = object_text (members [] (lists_in words))
+
+-- the JSON text of one array whose elements are these bytes
+abbrev pub bytes_text : (name bytes : List ℕ) → List ℕ
+bytes_text name bytes = object_text (member_of name (joined bytes))
+
+-- this is the JSON text of a source: that of its file, that of its lists, or that of one array with the bytes
+-- of its file
+abbrev pub HasJson : Held → Source → (text : List ℕ) → Type 0
+HasJson held (FromFile name) text = HasText held name text
+HasJson held (FromLists words) text = text ≡ lists_text words
+HasJson held (FromBytes name file) text =
+    (bytes : List ℕ) × IsGiven (held file) (Ok bytes) × (text ≡ bytes_text name bytes)
+
+-- a JSON text has these lists for the arrays
+abbrev pub SaysText : (text : List ℕ) → List Array → (lists : List (List ℤ)) → Type 0
+SaysText text arrays lists = text_says arrays text ≡ Ok lists
+
+-- a JSON text has this error, or memory ran out
+abbrev pub HasMistakeIn : (text : List ℕ) → List Array → Failure → Type 0
+HasMistakeIn text arrays (Input e) = IfSome (told e) (λ m. text_says arrays text ≡ Err m)
+HasMistakeIn text arrays NoMemory = Unit {0}
+HasMistakeIn text arrays _ = ⊥
+
+-- a source has a JSON text with these lists for the arrays
+pub record Says (held : Held) (source : Source) (arrays : List Array) (lists : List (List ℤ))
     : Type 0 where
   pub text : List ℕ
-  pub has_text : HasText held name text
-  pub says : text_says arrays text ≡ Ok lists
+  pub has_text : HasJson held source text
+  pub says : SaysText text arrays lists
 
--- the initial contents of the arrays: zeros, or the lists in the input file
-abbrev pub BeginsWith : (input : Option (List ℕ)) → Held → List Array → List (List ℤ) → Type 0
+-- the initial contents of the arrays: zeros, or the lists of the source
+abbrev pub BeginsWith : (input : Option Source) → Held → List Array → List (List ℤ) → Type 0
 BeginsWith None held arrays lists = lists ≡ zeros arrays
-BeginsWith (Some name) held arrays lists = Says held name arrays lists
+BeginsWith (Some source) held arrays lists = Says held source arrays lists
 
--- the file with this name has a text with this error, or memory ran out
-pub record HasMistake (held : Held) (name : List ℕ) (arrays : List Array) (e : InputError)
+-- a source has a text with this error, or memory ran out
+pub record HasMistake (held : Held) (source : Source) (arrays : List Array) (e : InputError)
     : Type 0 where
   pub text : List ℕ
-  pub has_text : HasText held name text
+  pub has_text : HasJson held source text
   pub mistake : IfSome (told e) (λ m. text_says arrays text ≡ Err m)
 
--- there is an input file, and this is true of its name
-pub record NamesInput (input : Option (List ℕ)) (P : List ℕ → Type 0) : Type 0 where
+-- there is a source of an input, and this is true of it
+pub record HasSource (input : Option Source) (P : Source → Type 0) : Type 0 where
+  pub source : Source
+  pub given : input ≡ Some source
+  pub fact : P source
+
+-- it names a file, and this is true of its name
+pub record NamesFile (input : Option Source) (P : List ℕ → Type 0) : Type 0 where
   pub name : List ℕ
-  pub named : input ≡ Some name
+  pub named : source_file input ≡ Some name
   pub fact : P name
 
 -- the failure says why there is no input, unless memory runs out
-abbrev pub TellsNoInput : (input : Option (List ℕ)) → Held → List Array → Failure → Type 0
+abbrev pub TellsNoInput : (input : Option Source) → Held → List Array → Failure → Type 0
 TellsNoInput input held arrays (CannotRead told) =
-    NamesInput input (λ name. TellsNoText held name (CannotRead told))
+    NamesFile input (λ name. TellsNoText held name (CannotRead told))
 TellsNoInput input held arrays (NotUtf8 told) =
-    NamesInput input (λ name. TellsNoText held name (NotUtf8 told))
-TellsNoInput input held arrays (Input e) = NamesInput input (λ name. HasMistake held name arrays e)
+    HasSource input (λ source. (name : List ℕ) × (source ≡ FromFile name)
+    × TellsNoText held name (NotUtf8 told))
+TellsNoInput input held arrays (Input e) = HasSource input (λ source. HasMistake held source arrays e)
 TellsNoInput input held arrays NoMemory = Unit {0}
 TellsNoInput input held arrays _ = ⊥

@@ -2,7 +2,7 @@
 
 ghost use Rattle.std.specs.Prelude.{◌≡◌, ◌≤◌, length, Option, None, option_map};
 ghost use Rattle.std.specs.Prelude.{IfOk, IfErr, MatchResult, OnOk};
-ghost use Rattle.failures.specs.Failures.{TellsUnwritten};
+ghost use Rattle.failures.specs.Failures.{TellsUnread, TellsUnwritten};
 ghost use Rattle.files.specs.Held.{Held, IsGiven, KeepsOthers, TellsNoProgram, TellsNoText, first};
 
 use crate::replacing::{FileNumber, number_of, replace};
@@ -31,6 +31,19 @@ pub enum FileError {
     NoMemory,
 }
 
+/// Why a file can't be read, as far as the machine says.
+#[derive(Clone, Copy, PartialEq, Eq, Debug)]
+pub enum Unreadable {
+    /// There is no file with this name, as with `nowhere.afx`.
+    Missing,
+    /// It is a folder, as with `examples`.
+    Folder,
+    /// It may not be read, as after `chmod 000 a.afx`.
+    Forbidden,
+    /// It is too long, or there is another reason.
+    Otherwise,
+}
+
 /// Files by their names.
 pub trait FileSource {
     /// What is known about the contents of each name. None if nothing is known, as for the
@@ -54,6 +67,9 @@ pub trait FileSource {
     fn write(&mut self, name: &str, bytes: &[u8]) -> Result<(), FileError>
         ensures written { OnOk result (IsGiven (held self.new name.now) (Ok bytes.now)) }
         ensures others { KeepsOthers name.now (held self.old) (held self.new) };
+
+    /// Returns why a file couldn't be read, to explain that.
+    fn unreadable(&self, name: &str) -> Unreadable;
 }
 
 /// Returns the contents of a file, or the failure that says why they can't be read.
@@ -64,6 +80,7 @@ pub fn read_file<F: FileSource>(
 ) -> Result<Vec<u8>, Failure>
     ensures given { IfOk result (λ v. IsGiven (F.held files.old name.now) (Ok v.items)) }
     ensures why { IfErr result (TellsNoText (F.held files.old) name.now) }
+    ensures unread { IfErr result (TellsUnread name.now) }
     ensures keeps { F.held files.new ≡ F.held files.old }
 {
     match files.read(name) {
@@ -243,6 +260,20 @@ impl<R: Files + Input + AllocGlobal> FileSource for MachineFiles<'_, R> {
         }
         self.last = None;
         replace(self.rt, name, bytes).map_err(|error| file_error(&error))
+    }
+
+    fn unreadable(&self, name: &str) -> Unreadable {
+        match fs::open(self.rt, name) {
+            Ok(file) => match file.metadata() {
+                Ok(found) if found.is_dir() => Unreadable::Folder,
+                _ => Unreadable::Otherwise,
+            },
+            Err(error) => match error.kind() {
+                ErrorKind::NotFound => Unreadable::Missing,
+                ErrorKind::PermissionDenied => Unreadable::Forbidden,
+                _ => Unreadable::Otherwise,
+            },
+        }
     }
 }
 

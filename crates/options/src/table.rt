@@ -41,6 +41,8 @@ enum Takes {
     Text(&'static str),
     /// An option with a text value that conflicts with these options.
     TextBut(&'static str, &'static [&'static str]),
+    /// An option as `TextBut`, which can be given more than once.
+    TextsBut(&'static str, &'static [&'static str]),
     /// An option whose value is one of these words. The help shows this name for the value.
     OneOf(&'static str, &'static [&'static str]),
     /// An option as `OneOf`, which needs this other option.
@@ -120,6 +122,18 @@ const INPUT: Entry = Entry {
     name: "input",
     help: "JSON file with the initial contents of the arrays [default: zeros]",
     takes: Takes::Text("JSON"),
+};
+
+const SET: Entry = Entry {
+    name: "set",
+    help: "Initial contents of an array, as in a=1,2,3, once for each array; all others are zeros",
+    takes: Takes::TextsBut("NAME=LIST", &["input", "text"]),
+};
+
+const TEXT: Entry = Entry {
+    name: "text",
+    help: "File whose bytes are the initial contents of an array, as in p=words.txt; all others are zeros",
+    takes: Takes::TextBut("NAME=FILE", &["input"]),
 };
 
 const STEPS: Entry = Entry {
@@ -242,6 +256,12 @@ const ALL: Entry = Entry {
     takes: Takes::NothingBut(&["format"]),
 };
 
+const WARN: Entry = Entry {
+    name: "warn",
+    help: "Print warnings about an accepted program [default: auto, on a terminal; always without a value]",
+    takes: Takes::MaybeOneOf("WHEN", &["auto", "always", "never"], "always"),
+};
+
 const EXPLAIN: Entry = Entry {
     name: "explain",
     help: "Explain an error, a fault or a stopped run [default: auto, on a terminal; always without a value]",
@@ -327,6 +347,7 @@ threads, and passes if each run prints exactly the contents of NAME.out. NAME.js
 if present, has its options, each word on a line. With NAME.err, the program is to be refused with exactly that message.
 
 Example: afx test examples/tested
+Example: afx test --format json examples/tested
 Example: afx test --write examples/tested/total.afx";
 
 const EXPLORE_EXAMPLE: &str =
@@ -354,7 +375,8 @@ const RUN: Row = Row {
     about: "Run a program in parallel",
     example: RUN_EXAMPLE,
     entries: &[
-        FILE, INPUT, STEPS, NEST, TASKS, W0, WORKERS, TRACED, ARRAYS, FORMAT, EXPLAIN, COLOR,
+        FILE, INPUT, SET, TEXT, STEPS, NEST, TASKS, W0, WORKERS, TRACED, ARRAYS, FORMAT, EXPLAIN,
+        COLOR,
     ],
 };
 
@@ -363,7 +385,7 @@ const SERIAL: Row = Row {
     about: "Run a program on one thread",
     example: SERIAL_EXAMPLE,
     entries: &[
-        FILE, INPUT, STEPS, NEST, ARRAYS, PROGRESS, FORMAT, EXPLAIN, COLOR,
+        FILE, INPUT, SET, TEXT, STEPS, NEST, ARRAYS, PROGRESS, FORMAT, EXPLAIN, COLOR,
     ],
 };
 
@@ -371,7 +393,7 @@ const CHECKED: Row = Row {
     name: "check",
     about: "Check a program for errors and races",
     example: CHECK_EXAMPLE,
-    entries: &[FILES, LIST, ALL, FORMAT, EXPLAIN, COLOR],
+    entries: &[FILES, LIST, ALL, WARN, FORMAT, EXPLAIN, COLOR],
 };
 
 const LISTED: Row = Row {
@@ -402,6 +424,8 @@ const COSTED: Row = Row {
     entries: &[
         FILE,
         INPUT,
+        SET,
+        TEXT,
         STEPS,
         NEST,
         BY_LINE,
@@ -417,7 +441,7 @@ const BENCHED: Row = Row {
     about: "Time a program serially and in parallel on 1, 2 and 4 threads, or up to --workers",
     example: BENCH_EXAMPLE,
     entries: &[
-        FILE, INPUT, STEPS, NEST, TASKS, W0, WORKERS, FORMAT, EXPLAIN, COLOR,
+        FILE, INPUT, SET, TEXT, STEPS, NEST, TASKS, W0, WORKERS, FORMAT, EXPLAIN, COLOR,
     ],
 };
 
@@ -425,7 +449,13 @@ const TESTED: Row = Row {
     name: "test",
     about: "Run programs, or those in a folder, and compare their output with the expected output",
     example: TEST_EXAMPLE,
-    entries: &[TESTS, WRITE_OUTPUT, STEPS, NEST, TASKS, W0, WORKERS],
+    entries: &[TESTS, WRITE_OUTPUT, STEPS, NEST, TASKS, W0, WORKERS, FORMAT],
+};
+
+const SCHEDULES: Entry = Entry {
+    name: "html",
+    help: "Write a page to this HTML file in which each step can be chosen in a browser",
+    takes: Takes::TextBut("OUT", &["choices", "choices-from", "random", "arrays"]),
 };
 
 const EXPLORED: Row = Row {
@@ -435,10 +465,13 @@ const EXPLORED: Row = Row {
     entries: &[
         FILE,
         INPUT,
+        SET,
+        TEXT,
         CHOICES,
         CHOICES_FROM,
         RANDOM,
         ARRAYS,
+        SCHEDULES,
         EXPLAIN,
         COLOR,
     ],
@@ -452,6 +485,8 @@ const VIEWED: Row = Row {
         FILE,
         TRACE,
         INPUT,
+        SET,
+        TEXT,
         SUMMARY,
         EVENTS_BY_LINE,
         SVG,
@@ -627,6 +662,12 @@ fn argument<'w>(alloc: Global, entry: Entry) -> Result<Arg<'w>, AllocError> {
         Takes::TextBut(value, others) => {
             let argument = argument.long(entry.name).value_name(value);
             argument.conflicts_with_all(others)?
+        }
+        Takes::TextsBut(value, others) => {
+            let argument = argument.long(entry.name).value_name(value);
+            argument
+                .action(ArgAction::Append)
+                .conflicts_with_all(others)?
         }
         Takes::OneOf(value, words) => argument
             .long(entry.name)

@@ -1,7 +1,7 @@
--- The object of durations, and objects that were written.
-use Rattle.std.proofs.Common.{◌≡◌, ◌≤◌, ℕ, List, Option, Result, Ok, Err, IfOk, IfErr, arith, refl, subst, sym}
+-- The objects of durations and of the results of tests, and objects that were written.
+use Rattle.std.proofs.Common.{◌≡◌, ◌≤◌, ℕ, List, Option, Result, Ok, Err, IfOk, IfErr, map, arith, ap, ◌∙◌, refl, subst, sym}
 use Rattle.std.specs.Prelude.{MatchResult}
-use Rattle.serde_json.specs.Data.{depth}
+use Rattle.serde_json.specs.Data.{Data, depth}
 use Rattle.serde_json.specs.Read.{max_depth}
 use Rattle.types.specs.Code.{Array}
 use Rattle.types.specs.Outcome.{Outcome}
@@ -12,11 +12,16 @@ use Rattle.failures.specs.declared.failure.Failure.TheVariants.{CannotWriteOutpu
 use Rattle.commands.specs.Answers.{Answer, Wrote}
 use Rattle.json_answers.specs.Failing.{FailedAsObject}
 use Rattle.json_answers.specs.Objects.{TellsOutcome}
-use Rattle.json_answers.proofs.NoFloats.{HasNoFloat, object_has_none, or_null_has_none}
-use Rattle.json_answers.proofs.Shallow.{Within, object_within, or_null_within}
+use Rattle.json_answers.specs.Pieces.{list_by, object_of}
+use Rattle.json_answers.proofs.NoFloats.{HasNoFloat, list_has_none, object_has_none, or_null_has_none}
+use Rattle.json_answers.proofs.Seen.{list_by-map}
+use Rattle.json_answers.proofs.Shallow.{Within, list_within, object_within, or_null_within}
+use Rattle.test_and_bench.specs.TestsObject.{judged_json, tests_json, tests_members}
 use Rattle.test_and_bench.specs.TimesObject.{five_json, times_json, times_members}
+use Rattle.test_and_bench.specs.Trials.{Judged, failed_of, judged, passed_of}
 use Rattle.test_and_bench.specs.declared.times.Times.{Times}
 use Rattle.test_and_bench.specs.declared.times.Timed.{Timed}
+use Rattle.test_and_bench.specs.declared.trial.Tested.{Tested as rTested}
 
 -- ---- durations
 
@@ -60,6 +65,32 @@ times_within t c =
       ),
     ) in
     omega arith
+
+-- ---- results of tests
+
+judged_has_none : (j : Judged) → HasNoFloat (judged_json j)
+judged_has_none j = refl
+
+pub tests_have_none : (js : List Judged) → HasNoFloat (tests_json js)
+tests_have_none js =
+    object_has_none (tests_members (list_by judged_json js) (passed_of js) (failed_of js))
+    (refl, (refl, (list_has_none judged_json js judged_has_none, (refl, tt))))
+
+judged_within : (j : Judged) → Within 1 (judged_json j)
+judged_within j = omega arith
+
+pub tests_within : (js : List Judged) → depth (tests_json js) ≤ max_depth
+tests_within js =
+    let whole = object_within 2 (tests_members (list_by judged_json js) (passed_of js) (failed_of js))
+    (omega arith, (omega arith, (list_within 1 judged_json js judged_within, (omega arith, tt)))) in
+    omega arith
+
+-- with the list of the results
+pub tests_with : (ts : List rTested) (programs : Data) → programs ≡ list_by (λ t. judged_json (judged t)) ts
+    → (let js = map judged ts in object_of (tests_members programs (passed_of js) (failed_of js)) ≡ tests_json js)
+tests_with ts programs is =
+    let js = map judged ts in
+    ap (λ (d : Data). object_of (tests_members d (passed_of js) (failed_of js))) (is ∙ sym (list_by-map judged_json judged ts))
 
 -- ---- outcomes
 

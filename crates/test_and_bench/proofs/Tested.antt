@@ -1,20 +1,22 @@
 -- Programs, tested one after the other.
-use Rattle.std.proofs.Common.{◌≡◌, ℕ, ◌+◌, ◌<◌, List, [], ◌∷◌, ◌++◌, length, map, take, get_or}
-use Rattle.std.proofs.Common.{refl, sym, ap, ◌∙◌, subst}
-use Rattle.std.proofs.lemmas.List.{map-append, take_more}
-use Rattle.std.specs.Prelude.{Bool, false, if◌then◌else◌}
+use Rattle.std.proofs.Common.{◌≡◌, ℕ, ◌+◌, ◌<◌, List, [], ◌∷◌, ◌++◌, length, map, take, drop, get_or}
+use Rattle.std.proofs.Common.{append_assoc, arith, refl, sym, ap, ◌∙◌, subst, string_bytes}
+use Rattle.std.proofs.lemmas.List.{drop_more, map-append, take_more}
+use Rattle.std.specs.List.{flat_map}
+use Rattle.std.specs.Prelude.{Bool, true, false}
 use Rattle.command_line.specs.Requests.{Settings}
 use Rattle.files.specs.Held.{Held}
 use Rattle.test_and_bench.specs.Listing.{Listed, listed}
-use Rattle.test_and_bench.specs.Trials.{AreTested, HasVerdict, more, none}
+use Rattle.test_and_bench.specs.Trials.{AreTested, IsJudged, Judged, counted, judged, more, none, passed_of}
 use Rattle.test_and_bench.specs.declared.listed.Listed.{Listed as rListed}
+use Rattle.test_and_bench.specs.declared.trial.Tested.{Tested as rTested}
 
 module _ (writes : Bool) (under : Settings) (held : Held) (ps : List rListed) where
   -- the first n of them are tested
-  abbrev pub HaveTested : (now : Held) → (n : ℕ) → (lines : List ℕ) → (passed failed : ℕ) → Type 0
-  HaveTested now n lines passed failed = AreTested writes under held (map listed (take n ps)) lines passed failed now
+  abbrev pub HaveTested : (now : Held) → (n : ℕ) → (js : List Judged) → Type 0
+  HaveTested now n js = AreTested writes under held (map listed (take n ps)) js now
 
-  pub none_tested : HaveTested held 0 [] 0 0
+  pub none_tested : HaveTested held 0 []
   none_tested = none
 
   taken_more : (n : ℕ) (p d : rListed) → n < length ps → p ≡ get_or ps n d
@@ -24,34 +26,57 @@ module _ (writes : Bool) (under : Settings) (held : Held) (ps : List rListed) wh
       ∙ sym (map-append listed (take n ps) (get_or ps n d ∷ [])) ∙ sym (ap (map listed) (take_more ps n d inside))
 
   -- one more
-  pub one_more : (mid now : Held) (n : ℕ) (p d : rListed) (lines told longer : List ℕ) (a b q k : ℕ) (passes : Bool)
-      → n < length ps → p ≡ get_or ps n d → HaveTested mid n lines a b
-      → HasVerdict writes mid (record { program = listed p; settings = under }) now passes told
-      → (longer ≡ lines ++ told) × (q ≡ (if passes then a + 1 else a)) × (k ≡ (if passes then b else b + 1))
-      → HaveTested now (n + 1) longer q k
-  one_more mid now n p d lines told longer a b q k passes inside is so_far verdict counts =
-      let both = if passes then b else b + 1 in
-      subst (λ (xs : List Listed). AreTested writes under held xs longer q k now) (taken_more n p d inside is)
-      (subst (λ (m : ℕ). AreTested writes under held (map listed (take n ps) ++ listed p ∷ []) longer q m now) (sym counts.2)
-      (subst (λ (m : ℕ). AreTested writes under held (map listed (take n ps) ++ listed p ∷ []) longer m both now) (sym counts.1)
-      (subst (λ (l : List ℕ). AreTested writes under held (map listed (take n ps) ++ listed p ∷ []) l
-      (if passes then a + 1 else a) both now) (sym counts.0)
-      (more (map listed (take n ps)) (listed p) lines told a b mid now passes so_far verdict))))
+  pub one_more : (mid now : Held) (n : ℕ) (p d : rListed) (js longer : List Judged) (j : Judged) → n < length ps
+      → p ≡ get_or ps n d → HaveTested mid n js
+      → IsJudged writes mid (record { program = listed p; settings = under }) now j → longer ≡ js ++ j ∷ []
+      → HaveTested now (n + 1) longer
+  one_more mid now n p d js longer j inside is so_far verdict added =
+      subst (λ (ks : List Judged). HaveTested now (n + 1) ks) (sym added)
+      (subst (λ (xs : List Listed). AreTested writes under held xs (js ++ j ∷ []) now) (taken_more n p d inside is)
+      (more (map listed (take n ps)) (listed p) js j mid now so_far verdict))
 
 -- files are unchanged if nothing is written
 module _ (under : Settings) (held : Held) where
-  kept_so : {later : Held} {ps : List Listed} {lines : List ℕ} {a b : ℕ} → AreTested false under held ps lines a b later
-      → later ≡ held
+  kept_so : {later : Held} {ps : List Listed} {js : List Judged} → AreTested false under held ps js later → later ≡ held
   kept_so none = refl
-  kept_so (more ps p lines told n m mid later passes so_far verdict) = verdict.0 ∙ kept_so so_far
+  kept_so (more ps p js j mid later so_far judged) = judged.verdict.0 ∙ kept_so so_far
 
-  pub kept : (writes : Bool) (later : Held) (ps : List Listed) (lines : List ℕ) (a b : ℕ)
-      → AreTested writes under held ps lines a b later → writes ≡ false → later ≡ held
-  kept writes later ps lines a b tested is =
-      kept_so (subst (λ (w : Bool). AreTested w under held ps lines a b later) is tested)
+  pub kept : (writes : Bool) (later : Held) (ps : List Listed) (js : List Judged) → AreTested writes under held ps js later
+      → writes ≡ false → later ≡ held
+  kept writes later ps js tested is = kept_so (subst (λ (w : Bool). AreTested w under held ps js later) is tested)
 
 -- for files with the same contents before
-pub tested_after : (writes : Bool) (under : Settings) (mid held : Held) (ps : List Listed) (lines : List ℕ) (a b : ℕ) (later : Held)
-    → mid ≡ held → AreTested writes under mid ps lines a b later → AreTested writes under held ps lines a b later
-tested_after writes under mid held ps lines a b later same tested =
-    subst (λ (h : Held). AreTested writes under h ps lines a b later) same tested
+pub tested_after : (writes : Bool) (under : Settings) (mid held : Held) (ps : List Listed) (js : List Judged) (later : Held)
+    → mid ≡ held → AreTested writes under mid ps js later → AreTested writes under held ps js later
+tested_after writes under mid held ps js later same tested =
+    subst (λ (h : Held). AreTested writes under h ps js later) same tested
+
+-- ---- how many passed, and their lines
+
+counted_so : (b : Bool) (n m : ℕ) → counted b n + m ≡ n + counted b m
+counted_so true n m = omega arith
+counted_so false n m = refl
+
+module _ (ts : List rTested) where
+  -- those from the n-th on
+  abbrev pub left : (n : ℕ) → List Judged
+  left n = map judged (drop n ts)
+
+  left_more : (n : ℕ) (t d : rTested) → n < length ts → t ≡ get_or ts n d → left n ≡ judged t ∷ left (n + 1)
+  left_more n t d inside is =
+      ap (map judged) (drop_more ts n d inside ∙ ap (λ (x : rTested). x ∷ drop (n + 1) ts) (sym is))
+
+  pub one_counted : (n passed more : ℕ) (t d : rTested) → n < length ts → t ≡ get_or ts n d
+      → more ≡ counted t.verdict.passes passed → passed_of (left (n + 1)) + more ≡ passed_of (left n) + passed
+  one_counted n passed more t d inside is counts =
+      ap (λ (m : ℕ). passed_of (left (n + 1)) + m) counts
+      ∙ sym (counted_so t.verdict.passes (passed_of (left (n + 1))) passed)
+      ∙ sym (ap (λ (js : List Judged). passed_of js + passed) (left_more n t d inside is))
+
+  pub one_shown : (n : ℕ) (text longer : List ℕ) (t d : rTested) → n < length ts → t ≡ get_or ts n d
+      → longer ≡ text ++ string_bytes t.verdict.lines
+      → longer ++ flat_map (λ j. j.lines) (left (n + 1)) ≡ text ++ flat_map (λ j. j.lines) (left n)
+  one_shown n text longer t d inside is added =
+      ap (λ (l : List ℕ). l ++ flat_map (λ j. j.lines) (left (n + 1))) added
+      ∙ append_assoc text (string_bytes t.verdict.lines) (flat_map (λ j. j.lines) (left (n + 1)))
+      ∙ sym (ap (λ (js : List Judged). text ++ flat_map (λ j. j.lines) js) (left_more n t d inside is))

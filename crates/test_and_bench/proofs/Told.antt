@@ -13,7 +13,7 @@ use Rattle.commands.proofs.Answering.{IsOther, answered, other_failure, passed_o
 use Rattle.test_and_bench.specs.Folders.{Folders, TellsNoFolder}
 use Rattle.test_and_bench.specs.Listing.{TellsUnlisted, TellsUnlistedName, no_folder, no_program}
 use Rattle.test_and_bench.specs.Times.{AnswersTimes}
-use Rattle.test_and_bench.specs.Trials.{AnswersTest, DoesTest, ExplainsTest, LeavesTested}
+use Rattle.test_and_bench.specs.Trials.{AnswersTest, DoesTest, ExplainsTest, IsUntested, LeavesTested, unlisted, without_memory}
 
 -- ---- failures
 
@@ -42,7 +42,7 @@ no_memory_unread : (e : Failure) (name : String Global) → e ≡ NoMemory
     → (let r : Result ℕ Failure = Err e in r) ≡ Err (CannotRead name) → ⊥
 no_memory_unread e name is same = cc
 
-output_unread : (r : Result ℕ Failure) → IfErr r (λ f. f ≡ CannotWriteOutput) → (name : String Global)
+pub output_unread : (r : Result ℕ Failure) → IfErr r (λ f. f ≡ CannotWriteOutput) → (name : String Global)
     → r ≡ Err (CannotRead name) → ⊥
 output_unread (Ok n) only name is = cc
 output_unread (Err f) only name is = cc
@@ -94,13 +94,6 @@ module _ (named : Folders) (held : Held) (names : List (List ℕ)) (writes : Boo
   failed_with b r f is why other leaves =
       record { done = passed_on Is (ExplainsTest named names) b r f is why (other_failure f other); leaves = leaves }
 
-  -- a name without programs
-  pub test_unlisted : (b : Option (List ℕ)) (r : Result ℕ Failure) (f : Failure) → IsErrAnd r (λ y. y ≡ f)
-      → TellsUnlisted named names f → later ≡ held → DoesTest named held names writes under later b b r
-  test_unlisted b r f is why same =
-      failed_with b r f is (unlisted_explained named names f why) (unlisted_other named names f why)
-      (leaves_unlisted writes held later r same)
-
   -- no memory
   pub test_without_memory : (b : Option (List ℕ)) (r : Result ℕ Failure) (f : Failure) → IsErrAnd r (λ y. y ≡ f)
       → f ≡ NoMemory → (writes ≡ false → later ≡ held) → DoesTest named held names writes under later b b r
@@ -108,6 +101,14 @@ module _ (named : Folders) (held : Held) (names : List (List ℕ)) (writes : Boo
   test_without_memory b (Err e) f is memory keeps =
       failed_with b (Err e) f is (subst (ExplainsTest named names) (sym memory) tt) (memory_other f memory)
       (leaves_tested writes held later (Err e) keeps (λ name same. no_memory_unread e name (is ∙ memory) same))
+
+  -- no results
+  pub test_without_results : (b : Option (List ℕ)) (r : Result ℕ Failure) (f : Failure) → IsErrAnd r (λ y. y ≡ f)
+      → IsUntested named held names writes later f → DoesTest named held names writes under later b b r
+  test_without_results b r f is (unlisted why same) =
+      failed_with b r f is (unlisted_explained named names f why) (unlisted_other named names f why)
+      (leaves_unlisted writes held later r same)
+  test_without_results b r f is (without_memory memory keeps) = test_without_memory b r f is memory keeps
 
   -- what was written to the output
   pub test_told : (old new : Option (List ℕ)) (r : Result ℕ Failure) (told : List ℕ) (status : ℕ)
@@ -118,3 +119,18 @@ module _ (named : Folders) (held : Held) (names : List (List ℕ)) (writes : Boo
     done = answered Is (ExplainsTest named names) old new r told status tt answers written is only;
     leaves = leaves_tested writes held later r keeps (output_unread r only);
   }
+
+-- why there are no results, as a failure of `test`
+pub untested_explained : (named : Folders) (held : Held) (names : List (List ℕ)) (writes : Bool) (later : Held) (f : Failure)
+    → IsUntested named held names writes later f
+    → ExplainsTest named names f × IsOther f × (let r : Result ℕ Failure = Err f in LeavesTested writes held later r)
+untested_explained named held names writes later f (unlisted why same) = (
+  unlisted_explained named names f why,
+  unlisted_other named names f why,
+  leaves_unlisted writes held later (Err f) same,
+)
+untested_explained named held names writes later f (without_memory memory keeps) = (
+  subst (ExplainsTest named names) (sym memory) tt,
+  memory_other f memory,
+  leaves_tested writes held later (Err f) keeps (λ name same. no_memory_unread f name memory same),
+)

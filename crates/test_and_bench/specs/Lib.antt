@@ -4,6 +4,7 @@ pub mod Folders
 pub mod Hunks
 pub mod Listing
 pub mod Runs
+pub mod TestsObject
 pub mod Times
 pub mod TimesObject
 pub mod Trials

@@ -1,8 +1,10 @@
 -- The expected output of programs, and what is printed about them.
-use Rattle.std.specs.Prelude.{ℕ, zero, suc, ℤ, ◌≡◌, ◌≢◌, ◌+◌, ◌&&◌, not, Bool, true, false, if◌then◌else◌, List, []}
-use Rattle.std.specs.Prelude.{◌∷◌, ◌++◌, codes, Option, None, Some, Result, Ok, Err, MatchOption, MatchBool, String}
+use Rattle.std.specs.Prelude.{ℕ, zero, suc, ℤ, ◌≡◌, ◌≢◌, ◌+◌, ◌-◌, ◌&&◌, not, Bool, true, false, List, [], ◌∷◌}
+use Rattle.std.specs.Prelude.{if◌then◌else◌, ◌++◌, codes, length, Option, None, Some, Result, Ok, Err}
+use Rattle.std.specs.Prelude.{MatchOption, MatchBool, String}
 use Rattle.std.specs.Fmt.{decimal}
 use Rattle.std.specs.Global.{Global}
+use Rattle.std.specs.List.{flat_map}
 use Rattle.std.specs.Str.{bytes_eq}
 use Rattle.std.specs.Str.Lines.{lines}
 use Rattle.std.specs.String.{string_bytes}
@@ -12,7 +14,7 @@ use Rattle.types.specs.Translation.{budget as budget_of, input as lists_of}
 use Rattle.types.specs.Typed.{code_of}
 use Rattle.printing.specs.OutcomeText.{outcome_text}
 use Rattle.printing.specs.Reasons.{escaped}
-use Rattle.command_line.specs.Requests.{Asked, Settings, Spread, settings}
+use Rattle.command_line.specs.Requests.{Asked, FromFile, Settings, Source, Spread, settings}
 use Rattle.command_line.specs.declared.request.Command.TheVariants.{Run}
 use Rattle.command_words.specs.Orders.{AsksToTest}
 use Rattle.files.specs.Held.{Bytes, Held, HasText, IsGiven, KeepsOthers, TellsNoProgram, TellsNoText}
@@ -26,9 +28,8 @@ use Rattle.test_and_bench.specs.Differences.{difference}
 use Rattle.test_and_bench.specs.Folders.{Folders}
 use Rattle.test_and_bench.specs.Listing.{AreAllNamed, Listed, TellsUnlisted, listed}
 use Rattle.test_and_bench.specs.declared.outcomes.Case.{Case}
-use Rattle.test_and_bench.specs.declared.testing.Found.{Found}
+use Rattle.test_and_bench.specs.declared.trial.Tested.{Tested}
 use Rattle.test_and_bench.specs.declared.trial.Trial.{Trial as rTrial}
-use Rattle.test_and_bench.specs.declared.trial.Verdict.{Verdict}
 
 -- ---- its files
 
@@ -45,8 +46,8 @@ abbrev pub file : Trial → (ending : List ℕ) → List ℕ
 file t ending = t.program.base ++ ending
 
 -- the file of its input, if there is one
-abbrev pub input_file : Trial → Option (List ℕ)
-input_file t = if t.program.has_input then Some (file t (codes ".json")) else None
+abbrev pub input_file : Trial → Option Source
+input_file t = if t.program.has_input then Some (FromFile (file t (codes ".json"))) else None
 
 -- ---- its options
 
@@ -274,27 +275,60 @@ HasVerdict writes held t later passes lines =
 
 -- ---- all of them
 
--- under these settings, with `--write` or without it, this many of these programs passed and this many failed, one
--- after the other, with these lines
-pub data AreTested (writes : Bool) (under : Settings) (held : Held)
-    : (ps : List Listed) → (lines : List ℕ) → (passed failed : ℕ) → (later : Held) → Type 0 where
-  none : AreTested writes under held [] [] 0 0 held
-  more : (ps : List Listed) (p : Listed) (lines told : List ℕ) (n m : ℕ) (mid later : Held) (passes : Bool)
-      → AreTested writes under held ps lines n m mid
-      → HasVerdict writes mid (record { program = p; settings = under }) later passes told
-      → AreTested writes under held (ps ++ p ∷ []) (lines ++ told) (if passes then n + 1 else n)
-      (if passes then m else m + 1) later
+-- the result for one program: the name of its file, whether it passes, and its lines
+pub record Judged : Type 0 where
+  pub file : List ℕ
+  pub passes : Bool
+  pub lines : List ℕ
 
--- one more program is counted, and its lines follow the others
-abbrev pub Counts : Verdict → (old new : Found) → Type 0
-Counts v old new =
-    (string_bytes new.lines ≡ string_bytes old.lines ++ string_bytes v.lines)
-    × (new.passed ≡ (if v.passes then old.passed + 1 else old.passed))
-    × (new.failed ≡ (if v.passes then old.failed else old.failed + 1))
+abbrev pub judged : Tested → Judged
+judged t = record {
+  file = string_bytes t.file;
+  passes = t.verdict.passes;
+  lines = string_bytes t.verdict.lines;
+}
+
+-- this is the result for a program, with `--write` or without it
+pub record IsJudged (writes : Bool) (held : Held) (t : Trial) (later : Held) (j : Judged) : Type 0 where
+  pub file_is : j.file ≡ file t (codes ".afx")
+  pub verdict : HasVerdict writes held t later j.passes j.lines
+
+-- these are the results for these programs under these settings, one after the other
+pub data AreTested (writes : Bool) (under : Settings) (held : Held)
+    : (ps : List Listed) → (js : List Judged) → (later : Held) → Type 0 where
+  none : AreTested writes under held [] [] held
+  more : (ps : List Listed) (p : Listed) (js : List Judged) (j : Judged) (mid later : Held)
+      → AreTested writes under held ps js mid
+      → IsJudged writes mid (record { program = p; settings = under }) later j
+      → AreTested writes under held (ps ++ p ∷ []) (js ++ j ∷ []) later
+
+-- these are the results for the programs of these names
+pub record AreResults (named : Folders) (held : Held) (names : List (List ℕ)) (writes : Bool) (under : Settings)
+    (later : Held) (js : List Judged) : Type 0 where
+  pub programs : List Listed
+  pub all : AreAllNamed named names programs
+  pub tested : AreTested writes under held programs js later
+
+-- one more, if it counts
+abbrev pub counted : (counts : Bool) → ℕ → ℕ
+counted true n = n + 1
+counted false n = n
+
+-- how many passed, and how many failed
+abbrev pub passed_of : List Judged → ℕ
+passed_of [] = 0
+passed_of (j ∷ js) = counted j.passes (passed_of js)
+
+abbrev pub failed_of : List Judged → ℕ
+failed_of js = length js - passed_of js
 
 -- the last line: `2 passed, 1 failed`
 abbrev pub closing : (passed failed : ℕ) → List ℕ
 closing n m = decimal n ++ (codes " passed, " ++ (decimal m ++ codes " failed\n"))
+
+-- all lines
+abbrev pub results_text : List Judged → List ℕ
+results_text js = flat_map (λ j. j.lines) js ++ closing (passed_of js) (failed_of js)
 
 -- 0 if none failed
 abbrev pub tested_status : (failed : ℕ) → ℕ
@@ -304,20 +338,22 @@ tested_status (suc n) = 1
 -- the programs of these names were tested under these settings, and the results are printed
 pub record AnswersTest (named : Folders) (held : Held) (names : List (List ℕ)) (writes : Bool) (under : Settings)
     (later : Held) (told : List ℕ) (status : ℕ) : Type 0 where
-  pub programs : List Listed
-  pub all : AreAllNamed named names programs
-  pub lines : List ℕ
-  pub passed : ℕ
-  pub failed : ℕ
-  pub tested : AreTested writes under held programs lines passed failed later
-  pub told_is : told ≡ lines ++ closing passed failed
-  pub status_is : status ≡ tested_status failed
+  pub judged : List Judged
+  pub results : AreResults named held names writes under later judged
+  pub told_is : told ≡ results_text judged
+  pub status_is : status ≡ tested_status (failed_of judged)
 
 -- why none was tested
 abbrev pub ExplainsTest : Folders → (names : List (List ℕ)) → Failure → Type 0
 ExplainsTest named names CannotWriteOutput = Unit {0}
 ExplainsTest named names NoMemory = Unit {0}
 ExplainsTest named names f = TellsUnlisted named names f
+
+-- a failure says why there are no results: a name has no programs, or memory ran out
+pub data IsUntested (named : Folders) (held : Held) (names : List (List ℕ)) (writes : Bool) (later : Held)
+    (f : Failure) : Type 0 where
+  unlisted : TellsUnlisted named names f → later ≡ held → IsUntested named held names writes later f
+  without_memory : f ≡ NoMemory → (writes ≡ false → later ≡ held) → IsUntested named held names writes later f
 
 -- files are unchanged without `--write`, and if there is a name without programs
 abbrev pub LeavesTested : (writes : Bool) → (held later : Held) → Result ℕ Failure → Type 0

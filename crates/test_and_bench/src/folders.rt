@@ -5,7 +5,7 @@ ghost use Rattle.std.specs.String.{string_bytes};
 ghost use Rattle.test_and_bench.specs.Folders.{AreGiven, Folders, TellsNoFolder};
 
 use failures::failure::Failure;
-use files::file_source::{FileError, FileSource, MachineFiles};
+use files::file_source::{FileError, FileSource, MachineFiles, Unreadable};
 use std::alloc::Global;
 use std::io::ErrorKind;
 use std::rt::Files;
@@ -74,6 +74,10 @@ impl<R: Files + Input + AllocGlobal> FileSource for MachineFolders<'_, R> {
 
     fn write(&mut self, name: &str, bytes: &[u8]) -> Result<(), FileError> {
         self.files.write(name, bytes)
+    }
+
+    fn unreadable(&self, name: &str) -> Unreadable {
+        self.files.unreadable(name)
     }
 }
 

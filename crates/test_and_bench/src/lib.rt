@@ -3,6 +3,7 @@
 #![tactic(auto)]
 
 pub mod clock;
+mod counting;
 pub mod describing;
 mod differences;
 pub mod folders;
@@ -13,6 +14,7 @@ mod own_options;
 pub mod runs;
 pub mod stems;
 pub mod testing;
+mod tests_object;
 pub mod times;
 pub mod times_object;
 pub mod timing;

@@ -1,19 +1,25 @@
 //! `test`: programs, and their expected output.
 
-ghost use Rattle.std.specs.Prelude.{◌≡◌, ◌+◌, ◌++◌, false, map, IfErr, IfOk, OnOk};
+ghost use Rattle.std.specs.Prelude.{◌≡◌, ◌++◌, ◌∷◌, [], false, map, IfErr, IfOk, OnOk};
+ghost use Rattle.std.specs.List.{flat_map};
 ghost use Rattle.std.specs.String.{string_bytes};
 ghost use Rattle.command_line.specs.Requests.{settings as settings_of};
 ghost use Rattle.printing.specs.Appending.{Writes};
 ghost use Rattle.test_and_bench.specs.Listing.{listed};
-ghost use Rattle.test_and_bench.specs.Trials.{AreTested, Counts, DoesTest, closing, tested_status};
+ghost use Rattle.test_and_bench.specs.TestsObject.{ObjectOfTests};
+ghost use Rattle.test_and_bench.specs.Trials.{AreResults, AreTested, DoesTest, IsUntested, judged};
+ghost use Rattle.test_and_bench.specs.Trials.{results_text};
 
+use crate::counting::{failed_in, passed_in, status_of};
 use crate::folders::FolderSource;
 use crate::listed::{Listed, programs_of};
 use crate::runs::Runs;
-use crate::trial::{Trial, Verdict};
+use crate::tests_object::tests_object;
+use crate::trial::{Tested, Trial};
 use command_line::request::RunOptions;
 use failures::failure::Failure;
 use files::file_source::FileSource;
+use json_answers::object_line::ObjectLine;
 use printing::emit::append;
 use std::alloc::{AllocError, Global};
 use std::io::Write;
@@ -46,112 +52,112 @@ pub fn test_names<R: Threads + Wait + Sync, F: FolderSource, O: Write, W: Runs>(
         testing.now.writes (settings_of testing.now.settings) (F.held files.new)
         (O.contents out.old) (O.contents out.new) result }
 {
-    let alloc = testing.alloc;
-    let programs = programs_of(alloc, files, names)?;
-    let found = tested(rt, testing, files, &programs)?;
-    let text = found.text(alloc)?;
-    write(out, text.as_str(), found.status())
-}
-
-/// The results of some programs.
-#[derive(Drop)]
-struct Found {
-    /// The lines about them.
-    lines: String,
-    passed: u64,
-    failed: u64,
-}
-
-impl Found {
-    /// Counts one more program.
-    fn add(&mut self, verdict: &Verdict) -> Result<(), Failure>
-        ensures added { OnOk result (Counts verdict.now self.old self.new) }
-        ensures why { IfErr result (λ f. f ≡ Failure.NoMemory) }
-    {
-        add(&mut self.lines, verdict.lines.as_str())?;
-        if verdict.passes {
-            self.passed = one_more(self.passed)?;
-        } else {
-            self.failed = one_more(self.failed)?;
-        }
-        Ok(())
-    }
-
-    /// Returns the lines, followed by how many passed and failed.
-    fn text(&self, alloc: Global) -> Result<String, Failure>
-        ensures text { IfOk result (λ text. string_bytes text
-            ≡ string_bytes self.now.lines ++ closing self.now.passed self.now.failed) }
-        ensures why { IfErr result (λ f. f ≡ Failure.NoMemory) }
-    {
-        let Found {
-            lines,
-            passed,
-            failed,
-        } = self;
-        match format!(in alloc; "{lines}{passed} passed, {failed} failed\n") {
-            Ok(text) => Ok(text),
-            Err(AllocError) => Err(Failure::NoMemory),
-        }
-    }
-
-    /// Returns the exit status.
-    fn status(&self) -> u8
-        ensures { result ≡ tested_status self.now.failed }
-    {
-        if self.failed == 0 { 0 } else { 1 }
+    let tested = results(rt, testing, names, files)?;
+    match text_of(testing.alloc, &tested) {
+        Ok(text) => write(out, text.as_str(), status_of(&tested)),
+        Err(AllocError) => Err(Failure::NoMemory),
     }
 }
 
-/// Runs these programs, one after the other.
+/// Does what `test_names` does, and returns the object of the results.
+pub fn tests_told<R: Threads + Wait + Sync, F: FolderSource, W: Runs>(
+    rt: &R,
+    testing: &Testing<'_, W>,
+    names: &[String],
+    files: &mut F,
+) -> Result<ObjectLine, Failure>
+    ensures object { IfOk result (λ t. ObjectOfTests (F.named files.old) (F.held files.old)
+        (map string_bytes names.now) testing.now.writes (settings_of testing.now.settings)
+        (F.held files.new) (string_bytes t.line) t.status) }
+    ensures why { IfErr result (IsUntested (F.named files.old) (F.held files.old)
+        (map string_bytes names.now) testing.now.writes (F.held files.new)) }
+    ensures keeps { testing.now.writes ≡ false → F.held files.new ≡ F.held files.old }
+{
+    let tested = results(rt, testing, names, files)?;
+    match tests_object(testing.alloc, &tested) {
+        Ok(line) => Ok(ObjectLine {
+            line,
+            status: status_of(&tested),
+        }),
+        Err(AllocError) => Err(Failure::NoMemory),
+    }
+}
+
+/// Returns the results for the programs of these names.
+fn results<R: Threads + Wait + Sync, F: FolderSource, W: Runs>(
+    rt: &R,
+    testing: &Testing<'_, W>,
+    names: &[String],
+    files: &mut F,
+) -> Result<Vec<Tested>, Failure>
+    ensures results { IfOk result (λ v. AreResults (F.named files.old) (F.held files.old)
+        (map string_bytes names.now) testing.now.writes (settings_of testing.now.settings)
+        (F.held files.new) (map judged v.items)) }
+    ensures why { IfErr result (IsUntested (F.named files.old) (F.held files.old)
+        (map string_bytes names.now) testing.now.writes (F.held files.new)) }
+    ensures keeps { testing.now.writes ≡ false → F.held files.new ≡ F.held files.old }
+{
+    let programs = programs_of(testing.alloc, files, names)?;
+    tested(rt, testing, files, &programs)
+}
+
+/// Tests these programs, one after the other.
 fn tested<R: Threads + Wait + Sync, F: FileSource, W: Runs>(
     rt: &R,
     testing: &Testing<'_, W>,
     files: &mut F,
     programs: &[Listed],
-) -> Result<Found, Failure>
-    ensures tested { IfOk result (λ f. AreTested testing.now.writes (settings_of testing.now.settings)
-        (F.held files.old) (map listed programs.now) (string_bytes f.lines) f.passed f.failed
-        (F.held files.new)) }
+) -> Result<Vec<Tested>, Failure>
+    ensures tested { IfOk result (λ v. AreTested testing.now.writes (settings_of testing.now.settings)
+        (F.held files.old) (map listed programs.now) (map judged v.items) (F.held files.new)) }
     ensures why { IfErr result (λ f. f ≡ Failure.NoMemory) }
     ensures keeps { testing.now.writes ≡ false → F.held files.new ≡ F.held files.old }
 {
-    let alloc = testing.alloc;
-    let mut found = Found {
-        lines: String::new(alloc),
-        passed: 0,
-        failed: 0,
-    };
+    let mut found = Vec::new(testing.alloc);
     for program in programs {
         let trial = Trial {
             program,
             settings: testing.settings,
         };
-        let verdict = trial.verdict(rt, alloc, testing.runs, files, testing.writes)?;
-        found.add(&verdict)?;
+        let one = trial.tested(rt, testing.alloc, testing.runs, files, testing.writes)?;
+        add(&mut found, one)?;
     }
     Ok(found)
 }
 
-/// Adds 1 to a number. If the result is too large, reports that memory ran out.
-fn one_more(number: u64) -> Result<u64, Failure>
-    ensures more { IfOk result (λ n. n ≡ number + 1) }
+/// Adds the result for one more program.
+fn add(found: &mut Vec<Tested>, one: Tested) -> Result<(), Failure>
+    ensures added { OnOk result (map judged found.new.items
+        ≡ map judged found.old.items ++ judged one ∷ []) }
     ensures why { IfErr result (λ f. f ≡ Failure.NoMemory) }
 {
-    match number.checked_add(1) {
-        Some(more) => Ok(more),
-        None => Err(Failure::NoMemory),
+    match found.push(one) {
+        Ok(()) => Ok(()),
+        Err(_) => Err(Failure::NoMemory),
     }
 }
 
-/// Adds a line to others.
-fn add(lines: &mut String, line: &str) -> Result<(), Failure>
-    ensures lines { OnOk result (string_bytes lines.new ≡ string_bytes lines.old ++ line.now) }
-    ensures why { IfErr result (λ f. f ≡ Failure.NoMemory) }
+/// Returns the lines of these results, followed by how many passed and failed.
+fn text_of(alloc: Global, tested: &[Tested]) -> Result<String, AllocError>
+    ensures { IfOk result
+        (λ text. string_bytes text ≡ results_text (map judged tested.now)) }
 {
-    match lines.push_str(line) {
-        Ok(()) => Ok(()),
-        Err(AllocError) => Err(Failure::NoMemory),
+    let (passed, failed) = (passed_in(tested), failed_in(tested));
+    let mut text = String::new(alloc);
+    push_lines(&mut text, tested)?;
+    write!(&mut text, "{passed} passed, {failed} failed\n")?;
+    Ok(text)
+}
+
+/// Adds the lines of these results.
+fn push_lines(text: &mut String, tested: &[Tested]) -> Result<(), AllocError>
+    ensures { OnOk result (string_bytes text.new
+        ≡ string_bytes text.old ++ flat_map (λ j. j.lines) (map judged tested.now)) }
+{
+    for one in tested {
+        text.push_str(one.verdict.lines.as_str())?;
     }
+    Ok(())
 }
 
 /// Writes the results.

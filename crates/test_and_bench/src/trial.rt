@@ -9,18 +9,18 @@ ghost use Rattle.types.specs.Typed.{code_of};
 ghost use Rattle.commands.specs.Answers.{HasInput, TellsNotBegun};
 ghost use Rattle.commands.specs.Outcomes.{Fits};
 ghost use Rattle.files.specs.Held.{BeginsWith, HasText, IsGiven, TellsNoInput, TellsNoText};
-ghost use Rattle.test_and_bench.specs.Trials.{HasLine, HasVerdict, IsBegun, IsCompared, IsLimited};
+ghost use Rattle.test_and_bench.specs.Trials.{HasLine, HasVerdict, IsBegun, IsCompared, IsJudged, IsLimited};
 ghost use Rattle.test_and_bench.specs.Trials.{IsLineOfOutput, IsLineOfRefusal, IsMessage};
 ghost use Rattle.test_and_bench.specs.Trials.{Fulfils, IsLineOfRun, IsPrinted, IsPrintedSo, IsRefused, IsRefusedAs};
 ghost use Rattle.test_and_bench.specs.Trials.{IsUncompared, LacksOptions, TellsNoOptions};
-ghost use Rattle.test_and_bench.specs.Trials.{file as file_of, input_file, settings_of, trial as trial_of};
+ghost use Rattle.test_and_bench.specs.Trials.{file as file_of, input_file, judged, settings_of, trial as trial_of};
 
 use crate::listed::Listed;
 use crate::outcomes::Case;
 use crate::own_options::limits_of;
 use crate::runs::Runs;
 use crate::trial_lines::message_of;
-use command_line::request::RunOptions;
+use command_line::request::{InputSource, RunOptions};
 use commands::programs::accepted_of;
 use commands::question::Begun;
 use failures::failure::Failure;
@@ -59,10 +59,37 @@ impl Verdict {
     }
 }
 
+/// A program that was tested, and the result.
+#[derive(Drop)]
+pub struct Tested {
+    /// The name of its file.
+    pub file: String,
+    pub verdict: Verdict,
+}
+
 impl<'f> Trial<'f> {
+    /// Tests a program, or with `writes` writes its output, unless it is to be refused.
+    pub fn tested<R: Threads + Wait + Sync, F: FileSource, W: Runs>(
+        &self,
+        rt: &R,
+        alloc: Global,
+        runs: &W,
+        files: &mut F,
+        writes: bool,
+    ) -> Result<Tested, Failure>
+        ensures judged { IfOk result (λ t. IsJudged writes (F.held files.old) (trial_of self.now)
+            (F.held files.new) (judged t)) }
+        ensures why { IfErr result (λ f. f ≡ Failure.NoMemory) }
+        ensures keeps { writes ≡ false → F.held files.new ≡ F.held files.old }
+    {
+        let file = self.file(alloc, ".afx")?;
+        let verdict = self.verdict(rt, alloc, runs, files, writes)?;
+        Ok(Tested { file, verdict })
+    }
+
     /// Returns whether a program passes, and the lines about it: it is compared with its expected
     /// output, or with `writes` its output is written, unless it is to be refused.
-    pub fn verdict<R: Threads + Wait + Sync, F: FileSource, W: Runs>(
+    fn verdict<R: Threads + Wait + Sync, F: FileSource, W: Runs>(
         &self,
         rt: &R,
         alloc: Global,
@@ -377,7 +404,7 @@ impl<'f> Trial<'f> {
             return input_of(alloc, files, typed, None);
         }
         let name = self.file(alloc, ".json")?;
-        input_of(alloc, files, typed, Some(name.as_str()))
+        input_of(alloc, files, typed, Some(InputSource::File(name.as_str())))
     }
 
     /// Returns the contents of its file with this ending.

@@ -4,7 +4,7 @@
 ghost use Rattle.std.specs.Prelude.{◌≤◌, IfOk, length};
 
 use crate::bytes::{not_understood, push_spelled};
-use files::file_source::{FileError, FileSource};
+use files::file_source::{FileError, FileSource, Unreadable};
 use std::alloc::{AllocError, Global};
 use std::io;
 use std::rt::Files;
@@ -186,6 +186,14 @@ impl<R: Files + Input + AllocGlobal> FileSource for TestFiles<'_, R> {
             None | Some(Contents::Bytes(_)) => keep(self.alloc, &mut self.written, name, bytes),
             Some(Contents::NoMemory) => Err(FileError::NoMemory),
             Some(Contents::Endless) => Err(FileError::Failed),
+        }
+    }
+
+    /// Only a file of the machine is missing, is a folder or may not be read.
+    fn unreadable(&self, name: &str) -> Unreadable {
+        match contents_of(&self.files, name) {
+            None => self.machine.unreadable(name),
+            Some(_) => Unreadable::Otherwise,
         }
     }
 }

@@ -381,6 +381,7 @@ readColors(matchMedia('(prefers-color-scheme: dark)').matches);
 measure();
 if (run.tasks > 2000) view.rows = 'packed';
 follow(location.hash);
+if (run.data.isExplored) openSchedules();
 setRows(view.rows);
 setChain(view.chain);
 setTab('program', 'text');

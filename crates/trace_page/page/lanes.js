@@ -1,8 +1,9 @@
 // The overview of the whole run, and the lanes of workers.
 
-const laneHeight = run.lanes <= 6 ? 36 : run.lanes <= 12 ? 26 : run.lanes <= 24 ? 18 : 12;
+const laneHeight = run.lanes <= 6 ? 36 : run.lanes <= 12 ? 26 : run.lanes <= 24 ? 18 : 13;
 const SIGNS = ['▷', '⇐', '', '◆', '[', '+', '‖', ']', '◇', '▷'];
 const MOST_ARCS = 300;
+const MANY_ARCS = 60;        // more arcs than these in view are drawn thinner
 
 // ---- the overview
 
@@ -17,7 +18,7 @@ function drawOverview() {
   keepHeight(element, height);
   const [base, top] = element.children;
   const plot = width - GUTTER - EDGE;
-  if (view.changed & (LOOK | WINDOW)) drawOverviewBase(penOf(base, width, height), plot, height);
+  if (view.changed & LOOK) drawOverviewBase(penOf(base, width, height), plot, height);
   const pen = penOf(top, width, height);
   const x = event => GUTTER + event / SPAN * plot;
   tint(pen, colors.cursor, 0.12);
@@ -118,12 +119,12 @@ function drawLanes() {
     pen.clip();
     drawSpells(pen, width);
     if (perEvent() < 1.5) drawShares(pen, width); else drawEvents(pen);
-    drawNames(pen, width);
     drawSteals(pen, width);
+    drawNames(pen, width);
     drawMarks(pen);
     pen.restore();
   }
-  drawLaneTop(penOf(top, width, height), width, height);
+  drawLaneTop(penOf(top, width, height), width);
 }
 
 function drawTicks(pen, y, width) {
@@ -246,7 +247,7 @@ function drawEvents(pen) {
     const width = Math.max(1, size - (size > 4 ? 1 : 0.4));
     const solid = takesStep(run.kind[e]);
     tint(pen, colorOf(worker), solid ? 0.95 : 0.8);
-    if (solid) pen.fillRect(x, y + 8, width, laneHeight - 14);
+    if (solid) pen.fillRect(x, y + (laneHeight < 26 ? 3 : 8), width, laneHeight - (laneHeight < 26 ? 6 : 14));
     else pen.fillRect(x, y + laneHeight / 2 - 2, width, 4);
     if (view.chain && run.chain[e]) {
       tint(pen, colors.gold, 1);
@@ -306,6 +307,7 @@ function drawSteals(pen, width) {
   const first = Math.max(0, lastUpTo(run.steals, view.from));
   const last = lastUpTo(run.steals, view.to) + 1;
   pen.globalAlpha = 1;
+  byId('steals-note').textContent = last - first > MOST_ARCS ? 'marks at the top: steals' : 'arrows: steals';
   if (last - first > MOST_ARCS) {
     const counts = new Int32Array(Math.ceil((width - GUTTER) / 3) + 1);
     let most = 1;
@@ -318,8 +320,10 @@ function drawSteals(pen, width) {
     pen.globalAlpha = 1;
     return;
   }
+  const many = last - first > MANY_ARCS;
   pen.strokeStyle = pen.fillStyle = colors.ink;
-  pen.lineWidth = 1.5;
+  pen.lineWidth = many ? 1 : 1.5;
+  pen.globalAlpha = many ? 0.55 : 1;
   for (let i = first; i < last; i++) {
     const e = run.steals[i];
     const x = xOf(e + 0.5);
@@ -332,53 +336,69 @@ function drawSteals(pen, width) {
     pen.quadraticCurveTo(x - Math.min(14, 8 + perEvent()), (y0 + y1) / 2, x, y1 - down * 3);
     pen.stroke();
     pen.beginPath();
-    pen.arc(x, y0, 2.5, 0, 7);
+    pen.arc(x, y0, many ? 1.5 : 2.5, 0, 7);
     pen.fill();
+    const size = many ? 0.7 : 1;
     pen.beginPath();
     pen.moveTo(x, y1);
-    pen.lineTo(x - 4, y1 - down * 7);
-    pen.lineTo(x + 3.5, y1 - down * 7);
+    pen.lineTo(x - 4 * size, y1 - down * 7 * size);
+    pen.lineTo(x + 3.5 * size, y1 - down * 7 * size);
     pen.fill();
+  }
+  pen.globalAlpha = 1;
+}
+
+// The executions of the marked label by workers.
+const marks = {label: 0, items: null, byWorker: null};
+
+function readMarks() {
+  if (marks.label === view.label) return;
+  marks.label = view.label;
+  marks.items = itemsOf(run.stepsAt, view.label);
+  marks.byWorker = groups(integers(marks.items.length, i => run.worker[marks.items[i]]), run.lanes);
+}
+
+// A triangle below each execution of the marked label. Of those at one pixel, one is drawn.
+function drawMarks(pen) {
+  if (view.label === 0) return;
+  readMarks();
+  tint(pen, colors.hit, 1);
+  for (let worker = 0; worker < run.lanes; worker++) {
+    const y = (worker + 1) * laneHeight - 2;
+    const end = marks.byWorker.start[worker + 1];
+    for (let i = nextMark(worker, view.from); i < end;) {
+      const e = marks.items[marks.byWorker.items[i]];
+      if (e >= view.to) break;
+      const x = xOf(e + 0.5);
+      pen.beginPath();
+      pen.moveTo(x, y - 7);
+      pen.lineTo(x - 4, y);
+      pen.lineTo(x + 4, y);
+      pen.fill();
+      i = Math.max(i + 1, nextMark(worker, eventAt(x + 2) - 0.5));
+    }
   }
 }
 
-// Executions of the marked label: a triangle above each of them.
-function drawMarks(pen) {
-  if (view.label === 0) return;
-  const all = run.stepsAt;
-  const low = all.start[view.label];
-  const high = all.start[view.label + 1];
-  tint(pen, colors.hit, 1);
-  const last = new Float64Array(run.lanes).fill(-9);
-  for (let i = Math.max(low, lastUpTo(all.items, view.from, low, high)); i < high && all.items[i] < view.to; i++) {
-    const e = all.items[i];
-    const worker = run.worker[e];
-    if (worker < 0 || e < view.from) continue;
-    const x = xOf(e + 0.5);
-    if (x - last[worker] < 2) continue;
-    last[worker] = x;
-    const y = (worker + 1) * laneHeight - 2;
-    pen.beginPath();
-    pen.moveTo(x, y - 7);
-    pen.lineTo(x - 4, y);
-    pen.lineTo(x + 4, y);
-    pen.fill();
-  }
+// The position of a worker's first execution of the marked label from an event on.
+function nextMark(worker, event) {
+  const before = lastOf(marks.byWorker, worker, marks.items, Math.ceil(event) - 1);
+  return before < 0 ? marks.byWorker.start[worker] : before + 1;
 }
 
 // What moves with the cursor: names and tasks of workers, the selected task, the cursor, the pointer.
-function drawLaneTop(pen, width, height) {
+function drawLaneTop(pen, width) {
   if (view.task >= 0) drawSelected(pen, width);
   for (let worker = 0; worker < run.lanes; worker++) {
     const y = worker * laneHeight + laneHeight / 2;
     drawChip(pen, worker, y);
     const spell = spellAt(run, worker, view.at);
-    pen.font = CODE;
+    pen.font = laneHeight < 16 ? TINY_CODE : CODE;
     pen.fillStyle = spell >= 0 ? colors.ink : colors.soft;
     const text = spell >= 0 ? pathOf(run, run.spellTask[spell]) : 'idle';
     pen.fillText(cut(text, 12), 38, y + 0.5);
   }
-  drawCursor(pen, width, height);
+  drawCursor(pen, width, run.lanes * laneHeight);
 }
 
 function drawChip(pen, worker, y) {
@@ -389,7 +409,7 @@ function drawChip(pen, worker, y) {
   pen.roundRect(12, y - height / 2, width, height, 4);
   pen.fill();
   pen.fillStyle = colors.on;
-  pen.font = '700 11px system-ui, "DejaVu Sans", sans-serif';
+  pen.font = `700 ${laneHeight < 16 ? 10 : 11}px system-ui, "DejaVu Sans", sans-serif`;
   pen.textAlign = 'center';
   pen.fillText(worker, 12 + width / 2, y + 0.5);
   pen.textAlign = 'left';

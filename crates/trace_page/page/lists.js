@@ -26,6 +26,13 @@ const count = (n, noun) => num(n) + ' ' + noun + (n === 1 ? '' : 's');
 
 const clamp = (n, least, most) => Math.max(least, Math.min(most, n));
 
+// A list of so many integers, each made of its position. Typed arrays make lists of a function more slowly.
+function integers(n, of) {
+  const list = new Int32Array(n);
+  for (let i = 0; i < n; i++) list[i] = of(i);
+  return list;
+}
+
 // The position of the last number of a sorted list that is at most `limit`, between two positions; `from - 1` if none is.
 function lastUpTo(list, limit, from = 0, to = list.length) {
   let low = from;

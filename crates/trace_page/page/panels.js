@@ -16,8 +16,7 @@ const MOST_LINES_AT_ONCE = 1500;    // of a longer text only the lines around th
 
 const textLines = program.text.replace(/\n$/, '').split('\n');
 const firstLabels = labelsByLine();
-const stepsByLabel = Array.from({length: program.labels + 1}, (_, label) =>
-  (label + 1 < run.stepsAt.start.length ? run.stepsAt.start[label + 1] - run.stepsAt.start[label] : 0));
+const stepsByLabel = Array.from({length: program.labels + 1}, (_, label) => itemsOf(run.stepsAt, label).length);
 const mostSteps = largest(stepsByLabel);
 
 const heads = [];           // for each label the elements of its head, on the lines that are there
@@ -281,11 +280,10 @@ function drawWorkers() {
     else if (state === RUNS) runs++;
   }
   const begun = lastUpTo(run.spawned, view.at) + 1;
-  byId('workers-note').textContent = `${num(runs)} run · ${num(queued)} queued · ${num(waiting.length)} wait · ` +
-    `${num(begun - live.length)} ended`;
+  const counts = `${num(runs)} run · ${num(queued)} queued · ${num(waiting.length)} wait · ${num(begun - live.length)} ended`;
   const list = (tasks, most) => tasks.slice(-most).flatMap(task => [taskLink(task), ' '])
     .concat(tasks.length > most ? [`and ${num(tasks.length - most)} more`] : []);
-  const rows = [];
+  const rows = [make('div', {class: 'item', id: 'task-counts'}, small(counts))];
   for (let worker = 0; worker < run.lanes; worker++) {
     const spell = spellAt(run, worker, view.at);
     const step = spell < 0 ? NONE : lastStep(run, run.spellTask[spell], view.at);
@@ -299,29 +297,77 @@ function drawWorkers() {
   fill(byId('workers'), ...rows);
 }
 
-// ---- the tree of live tasks
+// ---- the tree of tasks
 
 const MOST_TASKS = 200;
 const SIGN_OF = ['·', '≡', '▶', '‖', '✓'];
 
+// The tasks that are there after an event, in the order of their paths: a row for each task that is live or has live tasks
+// below it, and one for neighbours that have ended with all tasks below them.
+function taskRows(event) {
+  const begun = lastUpTo(run.spawned, event) + 1;
+  const live = new Int32Array(begun);
+  const size = new Int32Array(begun).fill(1);
+  for (let task = begun - 1; task >= 0; task--) {
+    if (!run.isOver[task] || run.ended[task] > event) live[task]++;
+    if (task === 0) break;
+    live[run.parent[task]] += live[task];
+    size[run.parent[task]] += size[task];
+  }
+  const rows = [];
+  const stack = [0];
+  while (stack.length > 0) {
+    const task = stack.pop();
+    const before = rows[rows.length - 1];
+    if (live[task] > 0) {
+      rows.push({task, last: task, ended: 0});
+      const {start, items} = run.children;
+      for (let i = start[task + 1] - 1; i >= start[task]; i--) if (items[i] < begun) stack.push(items[i]);
+    } else if (before && before.ended > 0 && run.parent[before.task] === run.parent[task]) {
+      before.last = task;
+      before.ended += size[task];
+    } else {
+      rows.push({task, last: task, ended: size[task]});
+    }
+  }
+  return rows;
+}
+
 function drawTasks() {
-  const live = liveTasks(run, view.at).sort((a, b) => treeRow[a] - treeRow[b]);
-  const at = lastUpTo(live.map(task => treeRow[task]), treeRow[taskAtCursor()]);
-  const first = clamp(at - MOST_TASKS / 2, 0, Math.max(0, live.length - MOST_TASKS));
-  const rows = live.slice(first, first + MOST_TASKS).map(task => {
-    const {state, worker} = whereIs(run, task, view.at);
-    const label = state === RUNS ? labelOfTask(task, view.at) : 0;
-    const row = make('div', {class: task === taskAtCursor() ? 'task now' : 'task', 'data-state': STATES[state]},
-      make('span', {class: 'sign'}, SIGN_OF[state]), taskLink(task), small(STATES[state] + (state === QUEUED || state === RUNS
-        ? ', worker ' + worker : '')), label > 0 ? make('code', null, `${label} ${statement(program, label)}`) : null);
-    row.style.paddingLeft = 12 + 10 * Math.min(run.depth[task], 12) + 'px';
-    row.firstChild.style.color = colorOf(worker);
-    return row;
+  const all = taskRows(view.at);
+  const at = lastUpTo(all.map(row => treeRow[row.task]), treeRow[taskAtCursor()]);
+  const first = clamp(at - MOST_TASKS / 2, 0, Math.max(0, all.length - MOST_TASKS));
+  const rows = all.slice(first, first + MOST_TASKS).map((row, i) => {
+    const element = row.ended > 0 ? endedRow(row) : liveRow(row.task);
+    if (first + i === at) element.classList.add('now');
+    element.style.paddingLeft = 12 + 10 * Math.min(run.depth[row.task], 12) + 'px';
+    return element;
   });
+  const live = all.reduce((sum, row) => sum + (row.ended === 0 && whereIs(run, row.task, view.at).state !== ENDED), 0);
   const begun = lastUpTo(run.spawned, view.at) + 1;
-  const more = live.length - rows.length;
-  fill(byId('tasks'), ...rows, more > 0 ? small(`and ${num(more)} more before and after these`) : null);
-  byId('tasks-note').textContent = `${num(live.length)} live, ${num(begun - live.length)} ended`;
+  const more = all.length - rows.length;
+  fill(byId('tasks'), ...rows, more > 0 ? small(`and ${num(more)} more rows before and after these`) : null);
+  byId('tasks-note').textContent = `${num(live)} live, ${num(begun - live)} ended`;
+}
+
+function liveRow(task) {
+  const {state, worker} = whereIs(run, task, view.at);
+  const label = state === RUNS ? labelOfTask(task, view.at) : 0;
+  const row = make('div', {class: 'task', 'data-state': STATES[state], 'data-count': '1'},
+    make('span', {class: 'sign'}, SIGN_OF[state]), taskLink(task), small(STATES[state] + (state === QUEUED || state === RUNS
+      ? ', worker ' + worker : '')), label > 0 ? make('code', null, `${label} ${statement(program, label)}`) : null);
+  row.firstChild.style.color = state === ENDED ? colors.soft : colorOf(worker);
+  return row;
+}
+
+// Tasks that have ended with all below them.
+function endedRow({task, last, ended}) {
+  const below = ended > 1 ? `${num(ended)} have ended` : 'has ended';
+  const row = make('div', {class: 'task', 'data-state': STATES[ENDED], 'data-count': String(ended)},
+    make('span', {class: 'sign'}, SIGN_OF[ENDED]), taskLink(task), last === task ? null : small('to '),
+    last === task ? null : taskLink(last), small(below));
+  row.firstChild.style.color = colors.soft;
+  return row;
 }
 
 // ---- values of the task at the cursor
@@ -454,8 +500,9 @@ function writeFacts() {
     ['most live tasks', num(summary.most_live_tasks)], ['deepest nest', num(summary.deepest_nest)], ['steps by worker', by]];
   fill(byId('facts'), ...facts.map(([name, value]) => make('div', null, make('dt', null, name), make('dd', null, value))));
   byId('name').textContent = run.data.name;
-  byId('name').title = 'trace: ' + run.data.trace;
-  document.title = 'afx trace of ' + run.data.name;
+  byId('name').title = run.data.isExplored ? 'a run by one worker' : 'trace: ' + run.data.trace;
+  byId('what').textContent = run.data.isExplored ? 'afx explore' : 'afx trace';
+  document.title = (run.data.isExplored ? 'afx explore ' : 'afx trace of ') + run.data.name;
 }
 
 function drawPanels() {

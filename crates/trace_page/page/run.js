@@ -51,7 +51,7 @@ function readTasks(run, tasks) {
   run.row = tasks.row;
   run.children = groups(run.parent, n);
   run.eventsOf = groups(run.task, n);
-  run.stepsAt = groups(labelsOfSteps(run), largest(run.label) + 1);
+  run.stepsAt = groups(labelsOfSteps(run), Math.max(largest(run.label), run.data.places.line.length) + 1);
   run.spawned = new Int32Array(n).fill(-1);
   run.ended = new Int32Array(n).fill(run.events);
   run.depth = new Int32Array(n);
@@ -160,8 +160,8 @@ function readScopes(run, data) {
   run.scopesOf = groups(run.scopeOwner, run.tasks);
   run.scopeNumber = scopes.number;
   run.scopeAt = Int32Array.from(scopes.at);
-  run.scopeParked = Int32Array.from(scopes.parked, at => (at === null ? run.events : at));
-  run.scopePassed = Int32Array.from(scopes.passed, at => (at === null ? run.events : at));
+  run.scopeParked = integers(run.scopes, s => (scopes.parked[s] === null ? run.events : scopes.parked[s]));
+  run.scopePassed = integers(run.scopes, s => (scopes.passed[s] === null ? run.events : scopes.passed[s]));
   run.scopeRow = scopes.row;
   run.finishEvents = [];
   if (run.scopePassed[0] < run.events) {
@@ -269,22 +269,26 @@ function readValues(run, data) {
     run.arrayStart.push(elements);
     elements += array.length;
   }
-  const places = Int32Array.from(data.stores.index, (index, i) => run.arrayStart[data.stores.array[i]] + index);
+  const {array, index} = data.stores;
+  const places = integers(index.length, i => run.arrayStart[array[i]] + index[i]);
   run.storeAt = Int32Array.from(data.stores.at);
   run.storeValue = data.stores.value;
   run.storesOf = groups(places, places.length > 0 ? elements : 0);
-  run.storesBy = groups(Int32Array.from(run.storeAt, e => run.task[e]), run.tasks);
+  run.storesBy = groups(tasksAt(run, run.storeAt), run.tasks);
   run.givenTo = groups(Int32Array.from(data.given.task), run.tasks);
   run.lineAt = Int32Array.from(data.lines.at);
   run.faultAt = Int32Array.from(data.faults.at);
   run.flowAt = Int32Array.from(data.flows.at);
-  run.flowsOf = groups(Int32Array.from(run.flowAt, e => run.task[e]), run.tasks);
+  run.flowsOf = groups(tasksAt(run, run.flowAt), run.tasks);
   run.gatheredAt = Int32Array.from(data.gathered.at);
-  const isLine = new Map();
-  run.lineAt.forEach((e, i) => isLine.set(e, i));
-  run.faultAt.forEach((e, i) => isLine.set(e, i));
-  run.inOrder = isLine.size > 0 ? depthFirst(run, isLine) : [];
+  const tells = new Uint8Array(run.events);
+  for (const e of run.lineAt) tells[e] = 1;
+  for (const e of run.faultAt) tells[e] = 1;
+  run.inOrder = run.lineAt.length + run.faultAt.length > 0 ? depthFirst(run, tells) : [];
 }
+
+// The task of each of some events.
+const tasksAt = (run, events) => integers(events.length, i => run.task[events[i]]);
 
 // Changes by task and slot. Each task has as many groups as its largest slot needs.
 function bySlot(run, at, slots) {
@@ -295,7 +299,7 @@ function bySlot(run, at, slots) {
   }
   const offset = new Int32Array(run.tasks + 1);
   for (let task = 0; task < run.tasks; task++) offset[task + 1] = offset[task] + most[task];
-  const keys = Int32Array.from(at, (e, i) => offset[run.task[e]] + slots[i]);
+  const keys = integers(at.length, i => offset[run.task[at[i]]] + slots[i]);
   return {offset, groups: groups(keys, offset[run.tasks])};
 }
 
@@ -326,7 +330,7 @@ function depthFirst(run, wanted) {
     if (run.kind[e] === SPAWN) {
       const child = run.children.items[top.child++];
       stack.push({task: child, next: run.eventsOf.start[child], child: run.children.start[child]});
-    } else if (wanted.has(e)) {
+    } else if (wanted[e] === 1) {
       order.push(e);
     }
   }

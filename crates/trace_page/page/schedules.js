@@ -72,6 +72,7 @@ const treeNow = () => schedule.trees[schedule.trees.length - 1];
 
 // Why schedules of this run can't be explored, or an empty text.
 function whyNoSchedules() {
+  if (run.events === 0 && run.data.isExplored) return `The run takes more than ${num(MOST_STEPS)} steps.`;
   if (run.events === 0 || !run.isOver[0]) return 'The trace ends before the run.';
   if (run.data.flows.flow.includes('s')) return 'The run is stopped: a task is over its budget.';
   const {steps} = run.summary;
@@ -151,7 +152,7 @@ function stepRow(event, i) {
   const effect = effectOf(run, program, event);
   const last = i === schedule.events.length - 1;
   return make('div', {class: last ? 'event now' : 'event', 'data-back': String(i + 1), title: 'go back to this step'},
-    make('span', {class: 'mono'}, String(i)), make('span', null, String(schedule.choices[i])),
+    make('span', {class: 'mono'}, String(i)), make('span', {class: 'choice-number'}, String(schedule.choices[i])),
     make('span', null, [brief(run, program, event).replace(/;$/, '')].concat(effect).join('; ')));
 }
 
@@ -201,10 +202,17 @@ function drawSchedule() {
   const told = toldIn(tree);
   fill(byId('reached'), ...run.data.arrays.map((array, i) => arrayRow(array, i, values)), ...told.map(toldRow),
     tree.done ? small('Each schedule of this program comes to this outcome.') : null);
-  byId('command').textContent = `afx explore ${program.name} --choices ${schedule.choices.join(',')}`;
+  byId('command').textContent = commandNow();
   byId('undo').disabled = schedule.choices.length === 0;
   byId('random').disabled = byId('leftmost').disabled = tree.done;
   keepLink();
+}
+
+// The command that takes these choices. A page doesn't know the name of the input.
+function commandNow() {
+  const given = run.data.arrays.some(array => array.initial.length > 0) ? ' --input ..' : '';
+  const choices = schedule.choices.length > 0 ? ' --choices ' + schedule.choices.join(',') : '';
+  return `afx explore ${program.name}${given}${choices}`;
 }
 
 const CHOOSING = {

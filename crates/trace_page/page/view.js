@@ -1,6 +1,6 @@
 // What is shown: the cursor, the part of the events in view, marks, colours; and the link that restores it.
 
-const run = readRun(readData(JSON.parse(byId('data').textContent)));
+const run = readRun(readData(byId('data').textContent));
 const program = readProgram(run.data);
 
 const view = {
@@ -177,6 +177,7 @@ function follow(link) {
   const number = name => (/^[0-9]{1,9}$/.test(parts.get(name) || '') ? Number(parts.get(name)) : null);
   if (parts.has('theme')) readColors(parts.get('theme') === 'dark');
   if (['tree', 'packed', 'finishes'].includes(parts.get('rows'))) view.rows = parts.get('rows');
+  keepHeight(byId('tall'), heightOfRows());
   view.chain = parts.get('chain') === '1';
   view.task = parts.has('task') ? taskAt(run, parts.get('task')) : NONE;
   const label = number('label');
@@ -221,6 +222,7 @@ const TEXT = '12px system-ui, "DejaVu Sans", sans-serif';
 const SMALL = '11px system-ui, "DejaVu Sans", sans-serif';
 const BOLD = '600 11px system-ui, "DejaVu Sans", sans-serif';
 const CODE = '12px ui-monospace, "DejaVu Sans Mono", monospace';
+const TINY_CODE = '10px ui-monospace, "DejaVu Sans Mono", monospace';
 
 const perEvent = () => (sizes.lanes - GUTTER - EDGE) / (view.to - view.from);
 const xOf = event => GUTTER + (event - view.from) * perEvent();

@@ -30,6 +30,13 @@ const count = (n, noun) => num(n) + ' ' + noun + (n === 1 ? '' : 's');
 
 const clamp = (n, least, most) => Math.max(least, Math.min(most, n));
 
+// A list of so many integers, each made of its position. Typed arrays make lists of a function more slowly.
+function integers(n, of) {
+  const list = new Int32Array(n);
+  for (let i = 0; i < n; i++) list[i] = of(i);
+  return list;
+}
+
 // The position of the last number of a sorted list that is at most `limit`, between two positions; `from - 1` if none is.
 function lastUpTo(list, limit, from = 0, to = list.length) {
   let low = from;
@@ -76,12 +83,26 @@ function byColumns(rows, names) {
   return lists;
 }
 
-function readData({layout, program, trace}) {
+// Most of the data is the list of changes. It is read from its text: a list of JSON for each event would take longer to make
+// than all the rest. No string of JSON contains these texts, because its quotes are escaped.
+const BEFORE_CHANGES = '\"trace\":{\"changes\":[';
+const AFTER_CHANGES = '],\"header\":';
+
+function readData(text) {
+  const from = text.indexOf(BEFORE_CHANGES) + BEFORE_CHANGES.length;
+  const to = text.indexOf(AFTER_CHANGES, from);
+  const data = readParts(JSON.parse(text.slice(0, from) + text.slice(to)));
+  readChanges(data, text, from, to);
+  return data;
+}
+
+// A page of `explore --html` shows events of no trace's file.
+function readParts({layout, program, trace}) {
   const data = {
     name: program.name, text: program.text, places: byColumns(program.places, ['line', 'column']),
     arrays: program.arrays.map((array, i) => ({...array, initial: trace.initial[i]})),
     cost: program.cost && {work: program.cost.work.slice(1), span: program.cost.span.slice(1)},
-    trace: trace.name, header: trace.header, summary: trace.summary,
+    trace: trace.name, isExplored: trace.name === '', header: trace.header, summary: trace.summary,
     events: {kinds: trace.kinds, labels: trace.labels, tasks: trace.tasks},
     tasks: tasksOf(trace), chain: onChain(layout.chain), steals: byColumns(layout.steals, ['at', 'worker', 'from']),
   };
@@ -94,7 +115,6 @@ function readData({layout, program, trace}) {
   data.scopes.row = layout.finish_rows;
   data.lanes = 1 + Math.max(trace.header.workers - 1, largest(data.spells.worker), largest(data.steals.worker),
     largest(data.steals.from));
-  readChanges(data, trace);
   return data;
 }
 
@@ -118,8 +138,49 @@ function tasksOf({kinds, tasks}) {
   return {parent, number};
 }
 
-// What the events change, each kind of change in lists of its own.
-function readChanges(data, {changes, tasks}) {
+const [QUOTE, COMMA, MINUS, ZERO, NINE, LIST, LIST_END, TRUE, FALSE] = Array.from('\",-09[]tf', c => c.charCodeAt(0));
+
+// Reads the values of a JSON text without spaces one after the other. Its strings have no escapes.
+function valuesIn(text, from) {
+  const reader = {at: from};
+  reader.next = () => {
+    const code = text.charCodeAt(reader.at);
+    if (code === QUOTE) return string();
+    if (code === LIST) return list();
+    if (code !== TRUE && code !== FALSE) return number(code === MINUS);
+    reader.at += code === TRUE ? 4 : 5;
+    return code === TRUE;
+  };
+  const string = () => {
+    const first = reader.at + 1;
+    const last = text.indexOf('\"', first);
+    reader.at = last + 1;
+    return text.slice(first, last);
+  };
+  const number = isBelow0 => {
+    if (isBelow0) reader.at++;
+    let n = 0;
+    for (let code = text.charCodeAt(reader.at); code >= ZERO && code <= NINE; code = text.charCodeAt(++reader.at)) {
+      n = 10 * n + code - ZERO;
+    }
+    return isBelow0 ? -n : n;
+  };
+  const list = () => {
+    const all = [];
+    reader.at++;
+    while (text.charCodeAt(reader.at) !== LIST_END) {
+      all.push(reader.next());
+      if (text.charCodeAt(reader.at) === COMMA) reader.at++;
+    }
+    reader.at++;
+    return all;
+  };
+  return reader;
+}
+
+// What the events change, each kind of change in lists of its own. The text has a list of changes for each event.
+function readChanges(data, text, from, to) {
+  const {kinds, tasks} = data.events;
   const books = data.books = {issued: [], returned: []};
   const weights = data.weights = {own: [], child: []};
   const scalars = data.scalars = {at: [], slot: [], value: []};
@@ -138,20 +199,30 @@ function readChanges(data, {changes, tasks}) {
   };
   const at = {x: scalars.at, s: windows.at, f: flows.at, e: stores.at, p: lines.at, q: faults.at, g: gathered.at};
   const flowOfTask = [];
+  const reader = valuesIn(text, from);
   let child = 0;
-  for (let e = 0; e < changes.length; e++) {
-    if (data.events.kinds[e] === 'w') child++;
-    for (const change of changes[e]) {
-      const kind = change[0];
-      if (kind === 'f') {
-        if ((flowOfTask[tasks[e]] || 'o') === change[1]) continue;
-        flowOfTask[tasks[e]] = change[1];
+  for (let e = 0; reader.at < to; e++) {
+    if (kinds[e] === 'w') child++;
+    reader.at++;                                        // the list of the event
+    while (text.charCodeAt(reader.at) !== LIST_END) {
+      const kind = text[reader.at + 2];                 // as in `[\"x\",0,1]`
+      reader.at += 4;
+      const list = lists[kind];
+      const length = list[0].length;
+      for (let i = 0; i < list.length; i++) {
+        reader.at++;
+        list[i].push(reader.next());
       }
+      reader.at += text.charCodeAt(reader.at + 1) === COMMA ? 2 : 1;
+      if (kind === 'f' && (flowOfTask[tasks[e]] || 'o') === flows.flow[length]) {
+        flows.flow.length = length;                     // a flow that the task had
+        continue;
+      }
+      if (kind === 'f') flowOfTask[tasks[e]] = flows.flow[length];
       if (kind === 'n') given.task.push(child);
       else if (at[kind]) at[kind].push(e);
-      const list = lists[kind];
-      for (let i = 0; i < list.length; i++) list[i].push(change[i + 1]);
     }
+    reader.at += 2;
   }
 }
 // The text of the program: its tokens, the head of each statement, and where each name is in scope.
@@ -330,7 +401,7 @@ function readTasks(run, tasks) {
   run.row = tasks.row;
   run.children = groups(run.parent, n);
   run.eventsOf = groups(run.task, n);
-  run.stepsAt = groups(labelsOfSteps(run), largest(run.label) + 1);
+  run.stepsAt = groups(labelsOfSteps(run), Math.max(largest(run.label), run.data.places.line.length) + 1);
   run.spawned = new Int32Array(n).fill(-1);
   run.ended = new Int32Array(n).fill(run.events);
   run.depth = new Int32Array(n);
@@ -439,8 +510,8 @@ function readScopes(run, data) {
   run.scopesOf = groups(run.scopeOwner, run.tasks);
   run.scopeNumber = scopes.number;
   run.scopeAt = Int32Array.from(scopes.at);
-  run.scopeParked = Int32Array.from(scopes.parked, at => (at === null ? run.events : at));
-  run.scopePassed = Int32Array.from(scopes.passed, at => (at === null ? run.events : at));
+  run.scopeParked = integers(run.scopes, s => (scopes.parked[s] === null ? run.events : scopes.parked[s]));
+  run.scopePassed = integers(run.scopes, s => (scopes.passed[s] === null ? run.events : scopes.passed[s]));
   run.scopeRow = scopes.row;
   run.finishEvents = [];
   if (run.scopePassed[0] < run.events) {
@@ -548,22 +619,26 @@ function readValues(run, data) {
     run.arrayStart.push(elements);
     elements += array.length;
   }
-  const places = Int32Array.from(data.stores.index, (index, i) => run.arrayStart[data.stores.array[i]] + index);
+  const {array, index} = data.stores;
+  const places = integers(index.length, i => run.arrayStart[array[i]] + index[i]);
   run.storeAt = Int32Array.from(data.stores.at);
   run.storeValue = data.stores.value;
   run.storesOf = groups(places, places.length > 0 ? elements : 0);
-  run.storesBy = groups(Int32Array.from(run.storeAt, e => run.task[e]), run.tasks);
+  run.storesBy = groups(tasksAt(run, run.storeAt), run.tasks);
   run.givenTo = groups(Int32Array.from(data.given.task), run.tasks);
   run.lineAt = Int32Array.from(data.lines.at);
   run.faultAt = Int32Array.from(data.faults.at);
   run.flowAt = Int32Array.from(data.flows.at);
-  run.flowsOf = groups(Int32Array.from(run.flowAt, e => run.task[e]), run.tasks);
+  run.flowsOf = groups(tasksAt(run, run.flowAt), run.tasks);
   run.gatheredAt = Int32Array.from(data.gathered.at);
-  const isLine = new Map();
-  run.lineAt.forEach((e, i) => isLine.set(e, i));
-  run.faultAt.forEach((e, i) => isLine.set(e, i));
-  run.inOrder = isLine.size > 0 ? depthFirst(run, isLine) : [];
+  const tells = new Uint8Array(run.events);
+  for (const e of run.lineAt) tells[e] = 1;
+  for (const e of run.faultAt) tells[e] = 1;
+  run.inOrder = run.lineAt.length + run.faultAt.length > 0 ? depthFirst(run, tells) : [];
 }
+
+// The task of each of some events.
+const tasksAt = (run, events) => integers(events.length, i => run.task[events[i]]);
 
 // Changes by task and slot. Each task has as many groups as its largest slot needs.
 function bySlot(run, at, slots) {
@@ -574,7 +649,7 @@ function bySlot(run, at, slots) {
   }
   const offset = new Int32Array(run.tasks + 1);
   for (let task = 0; task < run.tasks; task++) offset[task + 1] = offset[task] + most[task];
-  const keys = Int32Array.from(at, (e, i) => offset[run.task[e]] + slots[i]);
+  const keys = integers(at.length, i => offset[run.task[at[i]]] + slots[i]);
   return {offset, groups: groups(keys, offset[run.tasks])};
 }
 
@@ -605,7 +680,7 @@ function depthFirst(run, wanted) {
     if (run.kind[e] === SPAWN) {
       const child = run.children.items[top.child++];
       stack.push({task: child, next: run.eventsOf.start[child], child: run.children.start[child]});
-    } else if (wanted.has(e)) {
+    } else if (wanted[e] === 1) {
       order.push(e);
     }
   }
@@ -910,7 +985,7 @@ function wholeTale(run, program, event) {
 }
 // What is shown: the cursor, the part of the events in view, marks, colours; and the link that restores it.
 
-const run = readRun(readData(JSON.parse(byId('data').textContent)));
+const run = readRun(readData(byId('data').textContent));
 const program = readProgram(run.data);
 
 const view = {
@@ -1087,6 +1162,7 @@ function follow(link) {
   const number = name => (/^[0-9]{1,9}$/.test(parts.get(name) || '') ? Number(parts.get(name)) : null);
   if (parts.has('theme')) readColors(parts.get('theme') === 'dark');
   if (['tree', 'packed', 'finishes'].includes(parts.get('rows'))) view.rows = parts.get('rows');
+  keepHeight(byId('tall'), heightOfRows());
   view.chain = parts.get('chain') === '1';
   view.task = parts.has('task') ? taskAt(run, parts.get('task')) : NONE;
   const label = number('label');
@@ -1131,6 +1207,7 @@ const TEXT = '12px system-ui, \"DejaVu Sans\", sans-serif';
 const SMALL = '11px system-ui, \"DejaVu Sans\", sans-serif';
 const BOLD = '600 11px system-ui, \"DejaVu Sans\", sans-serif';
 const CODE = '12px ui-monospace, \"DejaVu Sans Mono\", monospace';
+const TINY_CODE = '10px ui-monospace, \"DejaVu Sans Mono\", monospace';
 
 const perEvent = () => (sizes.lanes - GUTTER - EDGE) / (view.to - view.from);
 const xOf = event => GUTTER + (event - view.from) * perEvent();
@@ -1154,9 +1231,10 @@ function workerBar(pen, worker, x, y, width, height, alpha) {
 }
 // The overview of the whole run, and the lanes of workers.
 
-const laneHeight = run.lanes <= 6 ? 36 : run.lanes <= 12 ? 26 : run.lanes <= 24 ? 18 : 12;
+const laneHeight = run.lanes <= 6 ? 36 : run.lanes <= 12 ? 26 : run.lanes <= 24 ? 18 : 13;
 const SIGNS = ['▷', '⇐', '', '◆', '[', '+', '‖', ']', '◇', '▷'];
 const MOST_ARCS = 300;
+const MANY_ARCS = 60;        // more arcs than these in view are drawn thinner
 
 // ---- the overview
 
@@ -1171,7 +1249,7 @@ function drawOverview() {
   keepHeight(element, height);
   const [base, top] = element.children;
   const plot = width - GUTTER - EDGE;
-  if (view.changed & (LOOK | WINDOW)) drawOverviewBase(penOf(base, width, height), plot, height);
+  if (view.changed & LOOK) drawOverviewBase(penOf(base, width, height), plot, height);
   const pen = penOf(top, width, height);
   const x = event => GUTTER + event / SPAN * plot;
   tint(pen, colors.cursor, 0.12);
@@ -1272,12 +1350,12 @@ function drawLanes() {
     pen.clip();
     drawSpells(pen, width);
     if (perEvent() < 1.5) drawShares(pen, width); else drawEvents(pen);
-    drawNames(pen, width);
     drawSteals(pen, width);
+    drawNames(pen, width);
     drawMarks(pen);
     pen.restore();
   }
-  drawLaneTop(penOf(top, width, height), width, height);
+  drawLaneTop(penOf(top, width, height), width);
 }
 
 function drawTicks(pen, y, width) {
@@ -1400,7 +1478,7 @@ function drawEvents(pen) {
     const width = Math.max(1, size - (size > 4 ? 1 : 0.4));
     const solid = takesStep(run.kind[e]);
     tint(pen, colorOf(worker), solid ? 0.95 : 0.8);
-    if (solid) pen.fillRect(x, y + 8, width, laneHeight - 14);
+    if (solid) pen.fillRect(x, y + (laneHeight < 26 ? 3 : 8), width, laneHeight - (laneHeight < 26 ? 6 : 14));
     else pen.fillRect(x, y + laneHeight / 2 - 2, width, 4);
     if (view.chain && run.chain[e]) {
       tint(pen, colors.gold, 1);
@@ -1460,6 +1538,7 @@ function drawSteals(pen, width) {
   const first = Math.max(0, lastUpTo(run.steals, view.from));
   const last = lastUpTo(run.steals, view.to) + 1;
   pen.globalAlpha = 1;
+  byId('steals-note').textContent = last - first > MOST_ARCS ? 'marks at the top: steals' : 'arrows: steals';
   if (last - first > MOST_ARCS) {
     const counts = new Int32Array(Math.ceil((width - GUTTER) / 3) + 1);
     let most = 1;
@@ -1472,8 +1551,10 @@ function drawSteals(pen, width) {
     pen.globalAlpha = 1;
     return;
   }
+  const many = last - first > MANY_ARCS;
   pen.strokeStyle = pen.fillStyle = colors.ink;
-  pen.lineWidth = 1.5;
+  pen.lineWidth = many ? 1 : 1.5;
+  pen.globalAlpha = many ? 0.55 : 1;
   for (let i = first; i < last; i++) {
     const e = run.steals[i];
     const x = xOf(e + 0.5);
@@ -1486,53 +1567,69 @@ function drawSteals(pen, width) {
     pen.quadraticCurveTo(x - Math.min(14, 8 + perEvent()), (y0 + y1) / 2, x, y1 - down * 3);
     pen.stroke();
     pen.beginPath();
-    pen.arc(x, y0, 2.5, 0, 7);
+    pen.arc(x, y0, many ? 1.5 : 2.5, 0, 7);
     pen.fill();
+    const size = many ? 0.7 : 1;
     pen.beginPath();
     pen.moveTo(x, y1);
-    pen.lineTo(x - 4, y1 - down * 7);
-    pen.lineTo(x + 3.5, y1 - down * 7);
+    pen.lineTo(x - 4 * size, y1 - down * 7 * size);
+    pen.lineTo(x + 3.5 * size, y1 - down * 7 * size);
     pen.fill();
+  }
+  pen.globalAlpha = 1;
+}
+
+// The executions of the marked label by workers.
+const marks = {label: 0, items: null, byWorker: null};
+
+function readMarks() {
+  if (marks.label === view.label) return;
+  marks.label = view.label;
+  marks.items = itemsOf(run.stepsAt, view.label);
+  marks.byWorker = groups(integers(marks.items.length, i => run.worker[marks.items[i]]), run.lanes);
+}
+
+// A triangle below each execution of the marked label. Of those at one pixel, one is drawn.
+function drawMarks(pen) {
+  if (view.label === 0) return;
+  readMarks();
+  tint(pen, colors.hit, 1);
+  for (let worker = 0; worker < run.lanes; worker++) {
+    const y = (worker + 1) * laneHeight - 2;
+    const end = marks.byWorker.start[worker + 1];
+    for (let i = nextMark(worker, view.from); i < end;) {
+      const e = marks.items[marks.byWorker.items[i]];
+      if (e >= view.to) break;
+      const x = xOf(e + 0.5);
+      pen.beginPath();
+      pen.moveTo(x, y - 7);
+      pen.lineTo(x - 4, y);
+      pen.lineTo(x + 4, y);
+      pen.fill();
+      i = Math.max(i + 1, nextMark(worker, eventAt(x + 2) - 0.5));
+    }
   }
 }
 
-// Executions of the marked label: a triangle above each of them.
-function drawMarks(pen) {
-  if (view.label === 0) return;
-  const all = run.stepsAt;
-  const low = all.start[view.label];
-  const high = all.start[view.label + 1];
-  tint(pen, colors.hit, 1);
-  const last = new Float64Array(run.lanes).fill(-9);
-  for (let i = Math.max(low, lastUpTo(all.items, view.from, low, high)); i < high && all.items[i] < view.to; i++) {
-    const e = all.items[i];
-    const worker = run.worker[e];
-    if (worker < 0 || e < view.from) continue;
-    const x = xOf(e + 0.5);
-    if (x - last[worker] < 2) continue;
-    last[worker] = x;
-    const y = (worker + 1) * laneHeight - 2;
-    pen.beginPath();
-    pen.moveTo(x, y - 7);
-    pen.lineTo(x - 4, y);
-    pen.lineTo(x + 4, y);
-    pen.fill();
-  }
+// The position of a worker's first execution of the marked label from an event on.
+function nextMark(worker, event) {
+  const before = lastOf(marks.byWorker, worker, marks.items, Math.ceil(event) - 1);
+  return before < 0 ? marks.byWorker.start[worker] : before + 1;
 }
 
 // What moves with the cursor: names and tasks of workers, the selected task, the cursor, the pointer.
-function drawLaneTop(pen, width, height) {
+function drawLaneTop(pen, width) {
   if (view.task >= 0) drawSelected(pen, width);
   for (let worker = 0; worker < run.lanes; worker++) {
     const y = worker * laneHeight + laneHeight / 2;
     drawChip(pen, worker, y);
     const spell = spellAt(run, worker, view.at);
-    pen.font = CODE;
+    pen.font = laneHeight < 16 ? TINY_CODE : CODE;
     pen.fillStyle = spell >= 0 ? colors.ink : colors.soft;
     const text = spell >= 0 ? pathOf(run, run.spellTask[spell]) : 'idle';
     pen.fillText(cut(text, 12), 38, y + 0.5);
   }
-  drawCursor(pen, width, height);
+  drawCursor(pen, width, run.lanes * laneHeight);
 }
 
 function drawChip(pen, worker, y) {
@@ -1543,7 +1640,7 @@ function drawChip(pen, worker, y) {
   pen.roundRect(12, y - height / 2, width, height, 4);
   pen.fill();
   pen.fillStyle = colors.on;
-  pen.font = '700 11px system-ui, \"DejaVu Sans\", sans-serif';
+  pen.font = `700 ${laneHeight < 16 ? 10 : 11}px system-ui, \"DejaVu Sans\", sans-serif`;
   pen.textAlign = 'center';
   pen.fillText(worker, 12 + width / 2, y + 0.5);
   pen.textAlign = 'left';
@@ -1902,8 +1999,7 @@ const MOST_LINES_AT_ONCE = 1500;    // of a longer text only the lines around th
 
 const textLines = program.text.replace(/\\n$/, '').split('\\n');
 const firstLabels = labelsByLine();
-const stepsByLabel = Array.from({length: program.labels + 1}, (_, label) =>
-  (label + 1 < run.stepsAt.start.length ? run.stepsAt.start[label + 1] - run.stepsAt.start[label] : 0));
+const stepsByLabel = Array.from({length: program.labels + 1}, (_, label) => itemsOf(run.stepsAt, label).length);
 const mostSteps = largest(stepsByLabel);
 
 const heads = [];           // for each label the elements of its head, on the lines that are there
@@ -2167,11 +2263,10 @@ function drawWorkers() {
     else if (state === RUNS) runs++;
   }
   const begun = lastUpTo(run.spawned, view.at) + 1;
-  byId('workers-note').textContent = `${num(runs)} run · ${num(queued)} queued · ${num(waiting.length)} wait · ` +
-    `${num(begun - live.length)} ended`;
+  const counts = `${num(runs)} run · ${num(queued)} queued · ${num(waiting.length)} wait · ${num(begun - live.length)} ended`;
   const list = (tasks, most) => tasks.slice(-most).flatMap(task => [taskLink(task), ' '])
     .concat(tasks.length > most ? [`and ${num(tasks.length - most)} more`] : []);
-  const rows = [];
+  const rows = [make('div', {class: 'item', id: 'task-counts'}, small(counts))];
   for (let worker = 0; worker < run.lanes; worker++) {
     const spell = spellAt(run, worker, view.at);
     const step = spell < 0 ? NONE : lastStep(run, run.spellTask[spell], view.at);
@@ -2185,29 +2280,77 @@ function drawWorkers() {
   fill(byId('workers'), ...rows);
 }
 
-// ---- the tree of live tasks
+// ---- the tree of tasks
 
 const MOST_TASKS = 200;
 const SIGN_OF = ['·', '≡', '▶', '‖', '✓'];
 
+// The tasks that are there after an event, in the order of their paths: a row for each task that is live or has live tasks
+// below it, and one for neighbours that have ended with all tasks below them.
+function taskRows(event) {
+  const begun = lastUpTo(run.spawned, event) + 1;
+  const live = new Int32Array(begun);
+  const size = new Int32Array(begun).fill(1);
+  for (let task = begun - 1; task >= 0; task--) {
+    if (!run.isOver[task] || run.ended[task] > event) live[task]++;
+    if (task === 0) break;
+    live[run.parent[task]] += live[task];
+    size[run.parent[task]] += size[task];
+  }
+  const rows = [];
+  const stack = [0];
+  while (stack.length > 0) {
+    const task = stack.pop();
+    const before = rows[rows.length - 1];
+    if (live[task] > 0) {
+      rows.push({task, last: task, ended: 0});
+      const {start, items} = run.children;
+      for (let i = start[task + 1] - 1; i >= start[task]; i--) if (items[i] < begun) stack.push(items[i]);
+    } else if (before && before.ended > 0 && run.parent[before.task] === run.parent[task]) {
+      before.last = task;
+      before.ended += size[task];
+    } else {
+      rows.push({task, last: task, ended: size[task]});
+    }
+  }
+  return rows;
+}
+
 function drawTasks() {
-  const live = liveTasks(run, view.at).sort((a, b) => treeRow[a] - treeRow[b]);
-  const at = lastUpTo(live.map(task => treeRow[task]), treeRow[taskAtCursor()]);
-  const first = clamp(at - MOST_TASKS / 2, 0, Math.max(0, live.length - MOST_TASKS));
-  const rows = live.slice(first, first + MOST_TASKS).map(task => {
-    const {state, worker} = whereIs(run, task, view.at);
-    const label = state === RUNS ? labelOfTask(task, view.at) : 0;
-    const row = make('div', {class: task === taskAtCursor() ? 'task now' : 'task', 'data-state': STATES[state]},
-      make('span', {class: 'sign'}, SIGN_OF[state]), taskLink(task), small(STATES[state] + (state === QUEUED || state === RUNS
-        ? ', worker ' + worker : '')), label > 0 ? make('code', null, `${label} ${statement(program, label)}`) : null);
-    row.style.paddingLeft = 12 + 10 * Math.min(run.depth[task], 12) + 'px';
-    row.firstChild.style.color = colorOf(worker);
-    return row;
+  const all = taskRows(view.at);
+  const at = lastUpTo(all.map(row => treeRow[row.task]), treeRow[taskAtCursor()]);
+  const first = clamp(at - MOST_TASKS / 2, 0, Math.max(0, all.length - MOST_TASKS));
+  const rows = all.slice(first, first + MOST_TASKS).map((row, i) => {
+    const element = row.ended > 0 ? endedRow(row) : liveRow(row.task);
+    if (first + i === at) element.classList.add('now');
+    element.style.paddingLeft = 12 + 10 * Math.min(run.depth[row.task], 12) + 'px';
+    return element;
   });
+  const live = all.reduce((sum, row) => sum + (row.ended === 0 && whereIs(run, row.task, view.at).state !== ENDED), 0);
   const begun = lastUpTo(run.spawned, view.at) + 1;
-  const more = live.length - rows.length;
-  fill(byId('tasks'), ...rows, more > 0 ? small(`and ${num(more)} more before and after these`) : null);
-  byId('tasks-note').textContent = `${num(live.length)} live, ${num(begun - live.length)} ended`;
+  const more = all.length - rows.length;
+  fill(byId('tasks'), ...rows, more > 0 ? small(`and ${num(more)} more rows before and after these`) : null);
+  byId('tasks-note').textContent = `${num(live)} live, ${num(begun - live)} ended`;
+}
+
+function liveRow(task) {
+  const {state, worker} = whereIs(run, task, view.at);
+  const label = state === RUNS ? labelOfTask(task, view.at) : 0;
+  const row = make('div', {class: 'task', 'data-state': STATES[state], 'data-count': '1'},
+    make('span', {class: 'sign'}, SIGN_OF[state]), taskLink(task), small(STATES[state] + (state === QUEUED || state === RUNS
+      ? ', worker ' + worker : '')), label > 0 ? make('code', null, `${label} ${statement(program, label)}`) : null);
+  row.firstChild.style.color = state === ENDED ? colors.soft : colorOf(worker);
+  return row;
+}
+
+// Tasks that have ended with all below them.
+function endedRow({task, last, ended}) {
+  const below = ended > 1 ? `${num(ended)} have ended` : 'has ended';
+  const row = make('div', {class: 'task', 'data-state': STATES[ENDED], 'data-count': String(ended)},
+    make('span', {class: 'sign'}, SIGN_OF[ENDED]), taskLink(task), last === task ? null : small('to '),
+    last === task ? null : taskLink(last), small(below));
+  row.firstChild.style.color = colors.soft;
+  return row;
 }
 
 // ---- values of the task at the cursor
@@ -2340,8 +2483,9 @@ function writeFacts() {
     ['most live tasks', num(summary.most_live_tasks)], ['deepest nest', num(summary.deepest_nest)], ['steps by worker', by]];
   fill(byId('facts'), ...facts.map(([name, value]) => make('div', null, make('dt', null, name), make('dd', null, value))));
   byId('name').textContent = run.data.name;
-  byId('name').title = 'trace: ' + run.data.trace;
-  document.title = 'afx trace of ' + run.data.name;
+  byId('name').title = run.data.isExplored ? 'a run by one worker' : 'trace: ' + run.data.trace;
+  byId('what').textContent = run.data.isExplored ? 'afx explore' : 'afx trace';
+  document.title = (run.data.isExplored ? 'afx explore ' : 'afx trace of ') + run.data.name;
 }
 
 function drawPanels() {
@@ -2432,6 +2576,7 @@ const treeNow = () => schedule.trees[schedule.trees.length - 1];
 
 // Why schedules of this run can't be explored, or an empty text.
 function whyNoSchedules() {
+  if (run.events === 0 && run.data.isExplored) return `The run takes more than ${num(MOST_STEPS)} steps.`;
   if (run.events === 0 || !run.isOver[0]) return 'The trace ends before the run.';
   if (run.data.flows.flow.includes('s')) return 'The run is stopped: a task is over its budget.';
   const {steps} = run.summary;
@@ -2511,7 +2656,7 @@ function stepRow(event, i) {
   const effect = effectOf(run, program, event);
   const last = i === schedule.events.length - 1;
   return make('div', {class: last ? 'event now' : 'event', 'data-back': String(i + 1), title: 'go back to this step'},
-    make('span', {class: 'mono'}, String(i)), make('span', null, String(schedule.choices[i])),
+    make('span', {class: 'mono'}, String(i)), make('span', {class: 'choice-number'}, String(schedule.choices[i])),
     make('span', null, [brief(run, program, event).replace(/;$/, '')].concat(effect).join('; ')));
 }
 
@@ -2561,10 +2706,17 @@ function drawSchedule() {
   const told = toldIn(tree);
   fill(byId('reached'), ...run.data.arrays.map((array, i) => arrayRow(array, i, values)), ...told.map(toldRow),
     tree.done ? small('Each schedule of this program comes to this outcome.') : null);
-  byId('command').textContent = `afx explore ${program.name} --choices ${schedule.choices.join(',')}`;
+  byId('command').textContent = commandNow();
   byId('undo').disabled = schedule.choices.length === 0;
   byId('random').disabled = byId('leftmost').disabled = tree.done;
   keepLink();
+}
+
+// The command that takes these choices. A page doesn't know the name of the input.
+function commandNow() {
+  const given = run.data.arrays.some(array => array.initial.length > 0) ? ' --input ..' : '';
+  const choices = schedule.choices.length > 0 ? ' --choices ' + schedule.choices.join(',') : '';
+  return `afx explore ${program.name}${given}${choices}`;
 }
 
 const CHOOSING = {
@@ -2980,6 +3132,7 @@ readColors(matchMedia('(prefers-color-scheme: dark)').matches);
 measure();
 if (run.tasks > 2000) view.rows = 'packed';
 follow(location.hash);
+if (run.data.isExplored) openSchedules();
 setRows(view.rows);
 setChain(view.chain);
 setTab('program', 'text');

@@ -5,7 +5,7 @@ pub const BEFORE: &str = "<!doctype html>
 <html lang=\"en\">
 <head>
 <meta charset=\"utf-8\">
-<meta http-equiv=\"Content-Security-Policy\" content=\"default-src 'none'; script-src 'sha256-bdtZjzye7ac/8C9ujSbS3eTIL3mTyta9TuGFuwwaLs0='; style-src 'sha256-fGIBzfFWw/94qK1AI9BiXQKvZLf4zKCDtpQ4uZRKDrs='; base-uri 'none'; form-action 'none'; require-trusted-types-for 'script'; trusted-types 'none'\">
+<meta http-equiv=\"Content-Security-Policy\" content=\"default-src 'none'; script-src 'sha256-gFLqaHGg2Nwn1jKWXNCktPbdsi1y/XjCU/NbC29p/2A='; style-src 'sha256-p7zXVitUQ+pEb1t1T0UVlndHR1yue4GWKdlop4UbWcc='; base-uri 'none'; form-action 'none'; require-trusted-types-for 'script'; trusted-types 'none'\">
 <meta name=\"viewport\" content=\"width=device-width, initial-scale=1\">
 <meta name=\"referrer\" content=\"no-referrer\">
 <title>afx trace</title>
@@ -33,7 +33,7 @@ code, pre, .mono { font-family: ui-monospace, \"Cascadia Mono\", \"DejaVu Sans M
 /* the head of the page */
 header { display: flex; align-items: center; gap: 4px 18px; flex-wrap: wrap; padding: 7px 14px 5px; }
 h1 { font-size: 16px; margin: 0; font-weight: 650; letter-spacing: .01em; }
-h1 span { color: var(--soft); font-weight: 400; overflow-wrap: anywhere; }
+#name { color: var(--soft); font-weight: 400; overflow-wrap: anywhere; }
 .facts { display: flex; gap: 2px 16px; flex-wrap: wrap; flex: 1 0 100%; margin: 0; }
 .facts div { white-space: nowrap; }
 .facts dt { display: inline; color: var(--soft); font-size: 12.5px; }
@@ -89,7 +89,8 @@ main { display: grid; grid-template-columns: minmax(280px, 32%) minmax(0, 1fr); 
 .line .number { color: var(--soft); text-align: right; font-size: 11.5px; user-select: none; }
 .line .label { text-align: right; font-size: 11.5px; font-weight: 600; user-select: none; }
 .line .heat { margin: 7px 0 6px 6px; height: 6px; border-radius: 0 3px 3px 0; background: var(--gold); opacity: .75; }
-.line .who { display: flex; gap: 2px; padding: 2px 0 0 10px; position: sticky; right: 8px; }
+.line .who { display: flex; gap: 2px; padding: 2px 0 0 10px; position: sticky; right: 0; }
+.line .who:not(:empty) { padding-right: 12px; margin-right: -12px; background: var(--panel); box-shadow: -8px 0 6px var(--panel); }
 .head { border-radius: 3px; cursor: pointer; }
 .head:hover { background: var(--shade); }
 .head.near { background: var(--shade); }
@@ -128,7 +129,7 @@ table { border-collapse: collapse; }
 #rows canvas { display: block; position: absolute; top: 0; left: 0; }
 
 /* lists */
-.event { display: grid; grid-template-columns: 66px 22px 1fr; gap: 4px; padding: 0 10px; line-height: 20px; cursor: pointer; white-space: nowrap; }
+.event { display: grid; grid-template-columns: 66px 22px 1fr; gap: 4px; align-items: center; padding: 0 10px; line-height: 20px; cursor: pointer; white-space: nowrap; }
 .event span:last-child { overflow: hidden; text-overflow: ellipsis; white-space: pre; }
 .event .mono { color: var(--soft); text-align: right; font-size: 12px; }
 .event:hover { background: var(--shade); }
@@ -191,7 +192,9 @@ kbd {
 .leaf span.link { border: 0; }
 .body { margin: 2px 0 2px 10px; border-left: 3px solid var(--line); }
 .body > small { padding: 0 10px; }
-#chosen .event { grid-template-columns: 40px 22px 1fr; }
+#chosen .event { grid-template-columns: 40px 28px 1fr; column-gap: 8px; }
+.choice-number { justify-self: end; min-width: 22px; padding: 0 4px; border: 1px solid var(--line); border-radius: 4px;
+  line-height: 16px; text-align: center; font-variant-numeric: tabular-nums; }
 
 /* narrow windows, and large ones at 200 % */
 @media (max-width: 900px), (max-height: 520px) {
@@ -227,7 +230,7 @@ kbd {
 </head>
 <body>
 <header>
-<h1>afx trace <span id=\"name\"></span></h1>
+<h1><span id=\"what\">afx trace</span> <span id=\"name\"></span></h1>
 <div class=\"tools\">
 <input id=\"find\" type=\"search\" placeholder=\"path, label, @event, text\" aria-label=\"Search by path, label, event or text\" autocomplete=\"off\" spellcheck=\"false\">
 <output id=\"found\" for=\"find\"></output>
@@ -246,7 +249,7 @@ kbd {
 <div id=\"labels\" class=\"scroll\" tabindex=\"0\" role=\"tabpanel\" aria-labelledby=\"tab-labels\" hidden></div>
 </section>
 <div class=\"right\">
-<section class=\"panel\" aria-label=\"Workers over events\"><h2>Workers <small><span id=\"range\"></span> · arrows: steals</small></h2>
+<section class=\"panel\" aria-label=\"Workers over events\"><h2>Workers <small><span id=\"range\"></span> · <span id=\"steals-note\"></span></small></h2>
 <div class=\"drawing\" id=\"over\"><canvas></canvas><canvas></canvas></div>
 <div class=\"lanes\"><div class=\"drawing\" id=\"lanes\" tabindex=\"0\" role=\"slider\" aria-label=\"Event under the cursor\" aria-valuemin=\"0\"><canvas></canvas><canvas></canvas></div></div></section>
 <section class=\"panel\" aria-label=\"Tasks over events\"><h2>Tasks <span class=\"choice\"><button id=\"rows-tree\" type=\"button\" title=\"tasks in the order of their paths (r)\">tree</button><button id=\"rows-packed\" type=\"button\" title=\"tasks in as few rows as possible (r)\">packed</button><button id=\"rows-finishes\" type=\"button\" title=\"finishes (r)\">finishes</button></span><small id=\"rows-note\"></small></h2>
@@ -256,7 +259,7 @@ kbd {
 <div class=\"scroll\" id=\"log\" role=\"tabpanel\" aria-labelledby=\"tab-log\" tabindex=\"0\"></div><div class=\"scroll\" id=\"output\" role=\"tabpanel\" aria-labelledby=\"tab-output\" tabindex=\"0\" hidden></div></section>
 <section class=\"panel\"><h2 data-tabs=\"second\"><span role=\"tablist\"><button role=\"tab\" id=\"tab-scopes\" aria-controls=\"scopes\" type=\"button\">Finishes</button><button role=\"tab\" id=\"tab-tasks\" aria-controls=\"tasks\" type=\"button\">Tasks</button></span><small id=\"scopes-note\"></small><small id=\"tasks-note\" hidden></small></h2>
 <div class=\"scroll\" id=\"scopes\" role=\"tabpanel\" aria-labelledby=\"tab-scopes\" tabindex=\"0\"></div><div class=\"scroll\" id=\"tasks\" role=\"tabpanel\" aria-labelledby=\"tab-tasks\" tabindex=\"0\" hidden></div></section>
-<section class=\"panel\"><h2 data-tabs=\"third\"><span role=\"tablist\"><button role=\"tab\" id=\"tab-workers\" aria-controls=\"workers\" type=\"button\">Workers</button><button role=\"tab\" id=\"tab-values\" aria-controls=\"values\" type=\"button\">Values</button></span><small id=\"workers-note\"></small><small id=\"values-note\" hidden></small></h2>
+<section class=\"panel\"><h2 data-tabs=\"third\"><span role=\"tablist\"><button role=\"tab\" id=\"tab-workers\" aria-controls=\"workers\" type=\"button\">Workers</button><button role=\"tab\" id=\"tab-values\" aria-controls=\"values\" type=\"button\">Values</button></span><small id=\"values-note\" hidden></small></h2>
 <div class=\"scroll\" id=\"workers\" role=\"tabpanel\" aria-labelledby=\"tab-workers\" tabindex=\"0\"></div><div class=\"scroll\" id=\"values\" role=\"tabpanel\" aria-labelledby=\"tab-values\" tabindex=\"0\" hidden></div></section>
 </div></div>
 </main>
@@ -293,10 +296,10 @@ kbd {
 <dialog id=\"schedules\" aria-labelledby=\"schedules-title\"><h2 id=\"schedules-title\">Which task takes the next step?</h2>
 <p id=\"schedules-why\"></p>
 <div id=\"schedules-all\"><div class=\"columns\">
-<section><h3>Tasks <small id=\"tree-note\"></small></h3><div id=\"tree\" class=\"scroll\" tabindex=\"0\"></div></section>
-<section><h3>Steps so far <small id=\"chosen-note\"></small></h3><div id=\"chosen\" class=\"scroll\" tabindex=\"0\"></div></section>
+<section><h3>Tasks <small id=\"tree-note\"></small></h3><div id=\"tree\" class=\"scroll\" tabindex=\"0\" autofocus></div></section>
+<section><h3>Steps so far, with their choices <small id=\"chosen-note\"></small></h3><div id=\"chosen\" class=\"scroll\" tabindex=\"0\"></div></section>
 <section><h3>Arrays and output</h3><div id=\"reached\" class=\"scroll\" tabindex=\"0\"></div></section></div>
 <p class=\"mono\" id=\"command\"></p>
 <p class=\"tools\"><button id=\"undo\" data-choosing=\"Backspace\" type=\"button\" title=\"Backspace\">Back one step</button><button data-choosing=\"Home\" type=\"button\" title=\"Home\">Start again</button><button id=\"random\" data-choosing=\"r\" type=\"button\" title=\"r\">Random step</button><button id=\"leftmost\" data-choosing=\"End\" type=\"button\" title=\"End: the first task takes each step\">To the end</button></p></div>
-<form method=\"dialog\" class=\"close\"><button autofocus>Close</button></form></dialog>
+<form method=\"dialog\" class=\"close\"><button>Close</button></form></dialog>
 <script type=\"application/json\" id=\"data\">";

@@ -1,3 +1,4 @@
 pub mod Remarked
+pub mod Scheduled
 pub mod Viewing
 pub mod Written

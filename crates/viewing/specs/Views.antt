@@ -1,19 +1,20 @@
 -- The answers for the trace of a run, and the reasons why there is none.
-use Rattle.std.specs.Prelude.{ℕ, ℤ, ◌≡◌, ◌⊎◌, ◌+◌, ◌++◌, List, [], ◌∷◌, Option, Result, codes, map}
-use Rattle.std.specs.Prelude.{option_map, slice_get, slice_index, unwrap_or}
+use Rattle.std.specs.Prelude.{ℕ, ℤ, ◌≡◌, ◌⊎◌, ◌+◌, ◌++◌, List, [], ◌∷◌, Option, Result, codes, length, map}
+use Rattle.std.specs.Prelude.{false, option_map, slice_get, slice_index, true, unwrap_or}
 use Rattle.std.specs.Str.Lines.{lines}
 use Rattle.std.specs.String.{string_bytes}
 use Rattle.types.specs.Code.{Program}
+use Rattle.types.specs.Outcome.{Budget}
 use Rattle.types.specs.Translation.{budget, input as lists_in}
 use Rattle.types.specs.Typed.{code_of}
 use Rattle.events.specs.Events.{event as event_of}
 use Rattle.events.specs.declared.event.Event.{Event}
-use Rattle.event_worlds.specs.World.{World}
-use Rattle.event_worlds.specs.Worlds.{IsFirstIllegal, LeadsTo}
+use Rattle.event_worlds.specs.World.{World, has_passed, root_scope}
+use Rattle.event_worlds.specs.Worlds.{IsFirstIllegal, IsSpent, LeadsTo}
 use Rattle.trace_numbers.specs.Summary.{IsSummary}
 use Rattle.trace_numbers.specs.Text.{summary_text}
 use Rattle.trace_numbers.specs.declared.summary.TraceSummary.{TraceSummary as SummaryOf}
-use Rattle.trace_text.specs.Headers.{header_of}
+use Rattle.trace_text.specs.Headers.{TraceHeader, header_of}
 use Rattle.trace_text.specs.Reading.{IsRefusal, IsTrace}
 use Rattle.trace_text.specs.Table.{table_text}
 use Rattle.trace_text.specs.declared.error.TraceError.{TraceError}
@@ -23,14 +24,14 @@ use Rattle.command_line.specs.declared.request.Command.{Command}
 use Rattle.command_line.specs.declared.request.Command.TheVariants.{Run, Serial, Check, Listing, Pairs}
 use Rattle.command_line.specs.declared.request.Command.TheVariants.{Meetings, Explore, Labels, Places, Format}
 use Rattle.command_line.specs.declared.request.Command.TheVariants.{CheckFormat, View, Summary, Draw, Chrome}
-use Rattle.command_line.specs.declared.request.Command.TheVariants.{Page}
+use Rattle.command_line.specs.declared.request.Command.TheVariants.{Page, Schedules}
 use Rattle.command_line.specs.declared.request.Command.TheVariants.{Cost, CostByLabel, CostByProcedure}
 use Rattle.command_line.specs.declared.request.Command.TheVariants.{PairsByLine, ViewByLine, SummaryByLine}
 use Rattle.files.specs.Held.{Held, HasText, TellsNoText}
 use Rattle.failures.specs.declared.failure.Failure.{Failure}
 use Rattle.failures.specs.declared.failure.Failure.TheVariants.{CannotRead, NotUtf8, Input, Trace, Illegal}
 use Rattle.failures.specs.declared.failure.Failure.TheVariants.{CannotWrite, CannotWriteOutput, NoMemory}
-use Rattle.commands.specs.Answers.{Done, IsExplored, LacksInput, TellsNotAccepted}
+use Rattle.commands.specs.Answers.{Done, IsExplored, LacksInput, TellsNotAccepted, TellsNotBegun}
 use Rattle.trace_page.specs.Pages.{IsPage, Traced}
 use Rattle.viewing.specs.declared.drawing.Form.{Form}
 use Rattle.viewing.specs.declared.drawing.Form.TheVariants.{Html, Picture, Spans}
@@ -122,6 +123,7 @@ TellsTrace SummaryByLine h es told = IsSummaryByLine h.workers es told
 TellsTrace Draw h es told = told ≡ []
 TellsTrace Chrome h es told = told ≡ []
 TellsTrace Page h es told = told ≡ []
+TellsTrace Schedules h es told = ⊥
 TellsTrace Run h es told = ⊥
 TellsTrace Serial h es told = ⊥
 TellsTrace Check h es told = ⊥
@@ -199,6 +201,7 @@ abbrev pub Draws : Command → Type 0
 Draws Draw = Unit {0}
 Draws Chrome = Unit {0}
 Draws Page = Unit {0}
+Draws Schedules = ⊥
 Draws View = ⊥
 Draws ViewByLine = ⊥
 Draws Summary = ⊥
@@ -301,3 +304,76 @@ abbrev pub IsDrawnAs : Form → Settings → Held → (text bytes : List ℕ) �
 IsDrawnAs Picture s held text bytes = IsDrawn s held text bytes
 IsDrawnAs Spans s held text bytes = IsDrawn s held text bytes
 IsDrawnAs (Html program) s held text bytes = IsPageOf program.now s held text bytes
+
+-- ---- schedules
+
+-- the settings of the run that a page of schedules shows: one worker, and asyncs nested as deeply as a budget can
+-- allow
+abbrev pub schedule_header : TraceHeader
+schedule_header = record { steps = 1000000; nest = 1000; w0 = 1048576; workers = 1 }
+
+-- the settings of a page that shows no run
+abbrev pub runless_header : TraceHeader
+runless_header = record { steps = 1; nest = 0; w0 = 1048576; workers = 1 }
+
+abbrev pub budget_in : TraceHeader → Budget
+budget_in h = record { steps = h.steps; nest = h.nest }
+
+module _ (p : Program) (input : List (List ℤ)) where
+  -- events of a run under some settings, from its start to the world in which main has passed
+  pub record AreWhole (h : TraceHeader) (es : List Event) : Type 0 where
+    pub world : World
+    pub legal : LeadsTo p h.w0 input (budget_in h) (map event_of es) world
+    pub passed : has_passed root_scope world ≡ true
+
+  -- a run has not come to its end after 8,003 events, more than those of 2,000 steps; or a task needs weight from
+  -- a scope that has issued 2^31 times
+  pub record IsTooLong (h : TraceHeader) : Type 0 where
+    pub events : List Event
+    pub world : World
+    pub legal : LeadsTo p h.w0 input (budget_in h) (map event_of events) world
+    pub goes_on : has_passed root_scope world ≡ false
+    pub so_far : IsSpent p h.w0 (budget_in h) world ⊎ (length events ≡ 8003)
+
+  -- what a page of schedules shows: a whole run, whichever; or none, if the run is too long
+  pub data AreShown (h : Header) (es : List Event) : Type 0 where
+    a_run : header_of h ≡ schedule_header → AreWhole schedule_header es → AreShown h es
+    no_run : header_of h ≡ runless_header → es ≡ [] → IsTooLong schedule_header → AreShown h es
+
+-- a page of events that are of no trace's file
+pub record ShowsSchedules (name text : List ℕ) (t : JudgedTrace) (bytes : List ℕ) : Type 0 where
+  pub labels : List ℕ
+  pub page : IsPage (traced_of t name text [] labels) bytes
+
+-- the page of a run of the text's program on the input, by the name of the program's file. A task takes the same
+-- steps in each run, so one whole run has the steps of all schedules
+pub record IsSchedulesPage (name : List ℕ) (s : Settings) (held : Held) (text bytes : List ℕ) : Type 0 where
+  pub run : IsExplored s held text
+  pub header : Header
+  pub events : List Event
+  pub shown : AreShown run.code run.input header events
+  pub labels : List ℕ
+  pub page : IsPage (record {
+    name = name;
+    text = text;
+    trace = [];
+    code = run.code;
+    input = run.input;
+    header = header;
+    events = events;
+    labels = labels;
+  })
+      bytes
+
+-- `explore --html` writes nothing to the standard output
+pub record AnswersSchedules (s : Settings) (held : Held) (text told : List ℕ) (status : ℕ) : Type 0 where
+  pub run : IsExplored s held text
+  pub told_is : told ≡ []
+  pub status_is : status ≡ 0
+
+-- why there is no page of schedules; only out of memory needs no reason
+abbrev pub ExplainsSchedules : Settings → Held → (text : List ℕ) → Failure → Type 0
+ExplainsSchedules s held text (CannotWrite name) = IsExplored s held text × (string_bytes name ≡ picture_name s)
+ExplainsSchedules s held text CannotWriteOutput = Unit {0}
+ExplainsSchedules s held text NoMemory = Unit {0}
+ExplainsSchedules s held text f = TellsNotBegun s held text f

@@ -7,7 +7,7 @@ ghost use Rattle.commands.specs.Outcomes.{Fits};
 ghost use Rattle.viewing.specs.Files.{WritesTo};
 ghost use Rattle.trace_page.specs.Pages.{IsPage};
 ghost use Rattle.viewing.specs.Views.{IsDrawnAs, ShowsTrace, Views, command_of};
-ghost use Rattle.viewing.specs.Views.{picture_name as name_of_picture, trace_name as name_of_trace, traced_of};
+ghost use Rattle.viewing.specs.Views.{picture_name as name_of_picture, traced_of};
 
 use crate::statements::statements_of;
 use crate::traces::{JudgedTrace, trace_name, trace_of};
@@ -57,7 +57,7 @@ pub fn draw<R: Threads + Sync, F: FileSource, O: Write>(
 }
 
 /// Returns the name of the picture's file.
-fn picture_name<'w>(settings: RunOptions<'w>) -> &'w str
+pub fn picture_name<'w>(settings: RunOptions<'w>) -> &'w str
     ensures { result.now ≡ name_of_picture (settings_of settings.entry) }
 {
     match settings.picture {
@@ -91,30 +91,33 @@ fn drawn(
         Form::Html { program } => page_of(
             alloc,
             program,
-            question,
+            trace_name(question.settings),
+            question.text,
             judged,
             statements.lent().labels,
         ),
     }
 }
 
-/// Returns the page of a trace, with the labels of the statements at its events.
-fn page_of(
+/// Returns the page of a trace, by the names of both files, with the labels of the statements at its
+/// events.
+pub fn page_of(
     alloc: Global,
     program: &str,
-    question: Question<'_>,
+    name: &str,
+    text: &str,
     judged: &JudgedTrace,
     labels: &[Label],
 ) -> Result<String, AllocError>
     requires { Fits judged.now.given.accepted.typed judged.now.given.input }
-    ensures { IfOk result (λ text. IsPage (traced_of judged.now program.now question.entry.text.now
-        (name_of_trace (settings_of question.entry.settings)) labels.now) (string_bytes text)) }
+    ensures { IfOk result (λ page. IsPage
+        (traced_of judged.now program.now text.now name.now labels.now) (string_bytes page)) }
 {
     let JudgedTrace { given, trace } = judged;
     let run = TracedRun {
         name: program,
-        text: question.text,
-        trace: trace_name(question.settings),
+        text,
+        trace: name,
         accepted: &given.accepted,
         input: &given.input,
         header: &trace.header,
@@ -122,7 +125,7 @@ fn page_of(
         labels,
     };
     match page(alloc, run) {
-        Ok(text) => Ok(text),
+        Ok(page) => Ok(page),
         // Its events are legal, so the only possible error is out of memory.
         Err(_) => Err(AllocError),
     }

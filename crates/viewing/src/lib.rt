@@ -5,6 +5,7 @@
 pub mod drawing;
 pub mod objects;
 pub mod remarks;
+pub mod schedules;
 mod statements;
 pub mod tables;
 mod traces;

@@ -11,32 +11,32 @@ use std::rt::HostRuntime;
 const ROWS: &[(&str, &str)] = &[
     (
         "run",
-        " input steps nest tasks w0 workers trace arrays format explain color",
+        " input set text steps nest tasks w0 workers trace arrays format explain color",
     ),
     (
         "serial",
-        " input steps nest arrays progress format explain color",
+        " input set text steps nest arrays progress format explain color",
     ),
-    ("check", " list all format explain color"),
+    ("check", " list all warn format explain color"),
     ("list", " lines format explain color"),
     ("fmt", " check write format explain color"),
     ("mhp", " accesses by-line format explain color"),
     (
         "cost",
-        " input steps nest by-line by-procedure format explain color",
+        " input set text steps nest by-line by-procedure format explain color",
     ),
     (
         "bench",
-        " input steps nest tasks w0 workers format explain color",
+        " input set text steps nest tasks w0 workers format explain color",
     ),
-    ("test", " write steps nest tasks w0 workers"),
+    ("test", " write steps nest tasks w0 workers format"),
     (
         "explore",
-        " input choices choices-from random arrays explain color",
+        " input set text choices choices-from random arrays html explain color",
     ),
     (
         "view",
-        " input summary by-line svg chrome html format explain color",
+        " input set text summary by-line svg chrome html format explain color",
     ),
     ("explain", " list"),
     ("completions", ""),

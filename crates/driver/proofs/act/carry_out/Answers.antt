@@ -2,11 +2,12 @@ use Rattle.std.proofs.Common.{◌∷◌, [], ap, map, refl, sym}
 use Rattle.std.specs.Prelude.{false}
 use Rattle.command_line.specs.Requests.{asked_of, settings}
 use Rattle.std.specs.String.{string_bytes}
-use Rattle.command_words.specs.Orders.{AsText, AsObject, Times, TimesAsObject, Tests, TestsEach, Each, command_of, order}
+use Rattle.command_words.specs.Orders.{AsText, AsObject, Times, TimesAsObject, Tests, TestsEach, TestsAsObject, Each}
+use Rattle.command_words.specs.Orders.{command_of, order}
 use Rattle.driver.specs.Acts.{in_short}
 use Rattle.driver.specs.Watching.{is_watched, is_watched_by}
 use Rattle.driver.specs.declared.doing.TextOrder.TheVariants.{Answering, Describing, Timing, TimingAsObject}
-use Rattle.driver.proofs.Ordered.{acted, ordered, tested_as}
+use Rattle.driver.proofs.Ordered.{acted, ordered, tested_as, told_as}
 use Rattle.driver.proofs.Watched.{reported_watched, watched_as}
 use Rattle.driver.proofs.act.carry_out.Goals as goal
 
@@ -14,7 +15,7 @@ pub returns-in-AsText-clause-acts : goal.returns-in-AsText-clause-acts
 returns-in-AsText-clause-acts g c =
     let asked = asked_of c.in-AsText.request in let done = c.read_and_do-done in
     ordered _ _ _ _ _ _ _ _ _ (AsText asked) (order c.args.order) (sym (ap order c.in-AsText.is))
-    (acted _ _ _ _ _ _ _ _ Answering asked (in_short done.result) _ c.explains_on-explains.ensures done.ensures.done
+    (acted _ _ _ _ _ _ _ _ Answering asked (in_short done.result) _ c.more_on-more.ensures done.ensures.done
     c.report.ensures)
 
 pub returns-in-AsObject-clause-acts : goal.returns-in-AsObject-clause-acts
@@ -22,21 +23,21 @@ returns-in-AsObject-clause-acts g c =
     let x = c.in-AsObject.subject in let asked = asked_of c.in-AsObject.request in
     let done = c.read_and_do-done-in-AsObject in
     ordered _ _ _ _ _ _ _ _ _ (AsObject x asked) (order c.args.order) (sym (ap order c.in-AsObject.is))
-    (acted _ _ _ _ _ _ _ _ (Describing x) asked (in_short done.result) _ c.explains_on-explains-in-AsObject.ensures
+    (acted _ _ _ _ _ _ _ _ (Describing x) asked (in_short done.result) _ c.more_on-more-in-AsObject.ensures
     done.ensures.done c.report-in-AsObject.ensures)
 
 pub returns-in-Times-clause-acts : goal.returns-in-Times-clause-acts
 returns-in-Times-clause-acts g c =
     let asked = asked_of c.in-Times.request in let done = c.read_and_do-done-in-Times in
     ordered _ _ _ _ _ _ _ _ _ (Times asked) (order c.args.order) (sym (ap order c.in-Times.is))
-    (acted _ _ _ _ _ _ _ _ Timing asked (in_short done.result) _ c.explains_on-explains-in-Times.ensures done.ensures.done
+    (acted _ _ _ _ _ _ _ _ Timing asked (in_short done.result) _ c.more_on-more-in-Times.ensures done.ensures.done
     c.report-in-Times.ensures)
 
 pub returns-in-TimesAsObject-clause-acts : goal.returns-in-TimesAsObject-clause-acts
 returns-in-TimesAsObject-clause-acts g c =
     let asked = asked_of c.in-TimesAsObject.request in let done = c.read_and_do-done-in-TimesAsObject in
     ordered _ _ _ _ _ _ _ _ _ (TimesAsObject asked) (order c.args.order) (sym (ap order c.in-TimesAsObject.is))
-    (acted _ _ _ _ _ _ _ _ TimingAsObject asked (in_short done.result) _ c.explains_on-explains-in-TimesAsObject.ensures
+    (acted _ _ _ _ _ _ _ _ TimingAsObject asked (in_short done.result) _ c.more_on-more-in-TimesAsObject.ensures
     done.ensures.done c.report-in-TimesAsObject.ensures)
 
 pub returns-in-Tests-clause-acts : goal.returns-in-Tests-clause-acts
@@ -53,6 +54,14 @@ returns-in-TestsEach-clause-acts g c =
     ordered _ _ _ _ _ _ _ _ _ (TestsEach tests.writes names s) (order c.args.order) (sym (ap order c.in-TestsEach.is))
     (tested_as _ _ _ _ _ _ _ _ names tests.writes s (in_short c.test_each-done.result) c.test_each-done.ensures.done
     c.report-in-TestsEach.ensures)
+
+pub returns-in-TestsAsObject-clause-acts : goal.returns-in-TestsAsObject-clause-acts
+returns-in-TestsAsObject-clause-acts g c =
+    let tests = c.in-TestsAsObject.tests in
+    let names = map string_bytes tests.names.now in let s = settings tests.settings in
+    ordered _ _ _ _ _ _ _ _ _ (TestsAsObject tests.writes names s) (order c.args.order) (sym (ap order c.in-TestsAsObject.is))
+    (told_as _ _ _ _ _ _ _ _ names tests.writes s (in_short c.test_as_object-done.result) c.test_as_object-done.ensures.done
+    c.report-in-TestsAsObject.ensures)
 
 pub returns-in-AsText-clause-watched : goal.returns-in-AsText-clause-watched
 returns-in-AsText-clause-watched g c =
@@ -87,6 +96,12 @@ returns-in-TestsEach-clause-watched g c =
     let tests = c.in-TestsEach.tests in
     watched_as g.T.Watch.Told _ _ (TestsEach tests.writes (map string_bytes tests.names.now) (settings tests.settings))
     (order c.args.order) (sym (ap order c.in-TestsEach.is)) _ refl
+
+pub returns-in-TestsAsObject-clause-watched : goal.returns-in-TestsAsObject-clause-watched
+returns-in-TestsAsObject-clause-watched g c =
+    let tests = c.in-TestsAsObject.tests in
+    watched_as g.T.Watch.Told _ _ (TestsAsObject tests.writes (map string_bytes tests.names.now) (settings tests.settings))
+    (order c.args.order) (sym (ap order c.in-TestsAsObject.is)) _ refl
 
 pub returns-in-Each-clause-acts : goal.returns-in-Each-clause-acts
 returns-in-Each-clause-acts g c =

@@ -2,9 +2,9 @@ use Rattle.std.proofs.Common.{List, ℕ, ◌≤◌, ◌∙◌, length, Result, s
 use Rattle.files.specs.Held.{HasText}
 use Rattle.failures.specs.declared.failure.Failure.{Failure}
 use Rattle.command_line.specs.Requests.{asked_of}
-use Rattle.std.specs.Prelude.{Bool}
 use Rattle.driver.specs.Acts.{IsSaid, in_short}
 use Rattle.driver.specs.Watching.{WatchesDoing}
+use Rattle.driver.specs.declared.more.More.{More}
 use Rattle.driver.proofs.Ordered.{read_on_text, read_without_text}
 use Rattle.driver.proofs.Watched.{unread_watched}
 use Rattle.driver.proofs.doing.read_and_do.Goals as goal
@@ -39,4 +39,4 @@ returns-clause-watched g c =
 
 pub returns-clause-said : goal.returns-clause-said
 returns-clause-said g c =
-    subst (λ (e : Bool). IsSaid e c.explained.result) c.in-Ok.ensures.explains c.explained.ensures.said
+    subst (λ (m : More). IsSaid m c.explained.result) c.in-Ok.ensures.more c.explained.ensures.said

@@ -12,6 +12,6 @@ loop-file-preserved g c =
     one_more _ c.args.several.action c.args.several.telling (g.F.FileSource.held c.args.files.now)
     (g.O.Write.contents c.args.out.now) (g.E.Write.contents c.args.err.now) c.args.several.files.now
     c.loop-file.file-index c.file-item.result _ _ _ _ _ _ _ _ _ _ _ _ _ _ (omega arith) c.file-item.is
-    c.as_str.ensures.value (c.ordered_for-ordered.ensures.explains ∙ c.explains_on-explains.ensures)
+    c.as_str.ensures.value (c.ordered_for-ordered.ensures.more ∙ c.more_on-more.ensures)
     c.ordered_for-ordered.ensures.answers c.ordered_for-ordered.ensures.asks c.loop-file.invariant
     c.do_with_one-status.ensures c.larger-worst.ensures

@@ -1,5 +1,6 @@
-use Rattle.std.proofs.Common.{ℕ, List, arith, subst, sym, ◌∙◌}
+use Rattle.std.proofs.Common.{List, map, ap, arith, subst, sym, ◌∙◌}
 use Rattle.command_line.specs.Requests.{settings}
+use Rattle.test_and_bench.specs.Trials.{Judged, judged}
 use Rattle.test_and_bench.proofs.Tested.{HaveTested, kept, none_tested, one_more}
 use Rattle.test_and_bench.proofs.testing.tested.Goals as goal
 
@@ -7,29 +8,29 @@ pub loop-program-init : goal.loop-program-init
 loop-program-init g c =
     let held = g.F.FileSource.held c.args.files.now in
     let testing = c.args.testing.now in let under = settings testing.settings in
-    subst (λ (l : List ℕ). HaveTested testing.writes under held c.args.programs.now held 0 l 0 0) (sym c.new.ensures.bytes)
-    (none_tested testing.writes under held c.args.programs.now)
+    subst (λ (js : List Judged). HaveTested testing.writes under held c.args.programs.now held 0 js)
+    (sym (ap (map judged) c.new.ensures.items)) (none_tested testing.writes under held c.args.programs.now)
 
 pub loop-program-preserved : goal.loop-program-preserved
 loop-program-preserved g c =
     let testing = c.args.testing.now in
     one_more testing.writes (settings testing.settings) (g.F.FileSource.held c.args.files.now) c.args.programs.now
-    (g.F.FileSource.held c.loop-program.files) _ c.loop-program.program-index c.program-item.result _ _ _ _ _ _ _ _ _
-    (omega arith) c.program-item.is c.loop-program.invariant c.in_ok-verdict.ensures.verdict c.in_ok-add.ensures.added
+    (g.F.FileSource.held c.loop-program.files) _ c.loop-program.program-index c.program-item.result _ _ _ _
+    (omega arith) c.program-item.is c.loop-program.invariant c.in_ok-one.ensures.judged c.in_ok-add.ensures.added
 
-pub returns-in_err-verdict-clause-keeps : goal.returns-in_err-verdict-clause-keeps
-returns-in_err-verdict-clause-keeps g c is =
+pub returns-in_err-one-clause-keeps : goal.returns-in_err-one-clause-keeps
+returns-in_err-one-clause-keeps g c is =
     let testing = c.args.testing.now in
-    c.in_err-verdict.ensures.keeps is
-    ∙ kept (settings testing.settings) (g.F.FileSource.held c.args.files.now) testing.writes _ _ _ _ _ c.loop-program.invariant is
+    c.in_err-one.ensures.keeps is
+    ∙ kept (settings testing.settings) (g.F.FileSource.held c.args.files.now) testing.writes _ _ _ c.loop-program.invariant is
 
 pub returns-in_err-add-clause-keeps : goal.returns-in_err-add-clause-keeps
 returns-in_err-add-clause-keeps g c is =
     let testing = c.args.testing.now in
-    c.in_ok-verdict.ensures.keeps is
-    ∙ kept (settings testing.settings) (g.F.FileSource.held c.args.files.now) testing.writes _ _ _ _ _ c.loop-program.invariant is
+    c.in_ok-one.ensures.keeps is
+    ∙ kept (settings testing.settings) (g.F.FileSource.held c.args.files.now) testing.writes _ _ _ c.loop-program.invariant is
 
 pub returns-clause-keeps : goal.returns-clause-keeps
 returns-clause-keeps g c is =
     let testing = c.args.testing.now in
-    kept (settings testing.settings) (g.F.FileSource.held c.args.files.now) testing.writes _ _ _ _ _ c.loop-program.invariant is
+    kept (settings testing.settings) (g.F.FileSource.held c.args.files.now) testing.writes _ _ _ c.loop-program.invariant is

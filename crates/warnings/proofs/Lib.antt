@@ -1,0 +1,5 @@
+pub mod Bools
+pub mod Found
+pub mod Idle
+pub mod Stopping
+pub mod Unfitting

@@ -1,0 +1,4 @@
+pub mod Ends
+pub mod Scopes
+pub mod Uses
+pub mod Warnings
