@@ -12,7 +12,7 @@ in_hand path = Ends path ∷ Parks path ∷ Opens path ∷ Replenish path ∷ Sp
 -- parked: its innermost scope may pass, or a worker may take it
 abbrev pub when_parked : (worker : ℕ) (path : List ℕ) → List Stake → List Event
 when_parked worker path [] = []
-when_parked worker path (s ∷ outer) = Pass s.scope ∷ Resume worker path ∷ []
+when_parked worker path (s ∷ outer) = Pass s.scope ∷ Resume worker path None ∷ []
 
 -- anywhere; steals are left out
 abbrev pub candidates : (worker : ℕ) (path : List ℕ) → Whereabouts → List Stake → List Event

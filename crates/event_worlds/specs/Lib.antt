@@ -3,6 +3,7 @@ pub mod Candidates
 pub mod Courses
 pub mod Ending
 pub mod Events
+pub mod Gathered
 pub mod History
 pub mod Jobs
 pub mod Leaving

@@ -74,9 +74,9 @@ impl<'p> World<'p> {
 
     /// Returns whether a task is parked at a passed scope, and this worker's hand is free.
     fn may_resume(&self, worker: WorkerId, path: &Path) -> bool
-        ensures legal { OnTrue result (IsLegal self.now (IsResume worker path.now.turns.items)) }
+        ensures legal { OnTrue result (IsLegal self.now (IsResume worker path.now.turns.items None)) }
         ensures illegal { OnFalse result
-            (IsIllegal self.now (IsResume worker path.now.turns.items)) }
+            (IsIllegal self.now (IsResume worker path.now.turns.items None)) }
     {
         if self.hands.contains(&worker) {
             return false;
