@@ -1,7 +1,7 @@
 -- The events that a live task may do next, depending on its location. Until the root's scope has
 -- passed, one of these is legal for some task, or a task needs weight from a scope that has issued
 -- 2^31 times.
-use Rattle.std.specs.Prelude.{ℕ, List, [], ◌∷◌}
+use Rattle.std.specs.Prelude.{ℕ, List, [], ◌∷◌, None}
 use Rattle.event_worlds.specs.World.{Stake, Whereabouts, Queue, Hand, Parked}
 use Rattle.event_worlds.specs.Events.{Event, Take, Steps, Replenish, Spawns, Opens, Parks, Ends, Pass, Resume}
 

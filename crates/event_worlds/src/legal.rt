@@ -1,6 +1,6 @@
 //! Whether an event is legal, found without memory.
 
-ghost use Rattle.std.specs.Prelude.{◌≤◌, MatchOption};
+ghost use Rattle.std.specs.Prelude.{◌≤◌, MatchOption, None};
 ghost use Rattle.std.specs.Bool.{OnFalse, OnTrue};
 ghost use Rattle.event_worlds.specs.Events.{Ends as IsEnd, Opens as IsOpen, Parks as IsPark};
 ghost use Rattle.event_worlds.specs.Events.{Pass as IsPass, Replenish as IsReplenish};

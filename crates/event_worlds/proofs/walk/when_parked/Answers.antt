@@ -1,4 +1,4 @@
-use Rattle.std.proofs.Common.{ℕ, [], ◌∷◌, ◌∙◌, List, ap, map, sym}
+use Rattle.std.proofs.Common.{None, ℕ, [], ◌∷◌, ◌∙◌, List, ap, map, sym}
 use Rattle.shared_lemmas.proofs.Lists.{same_elements}
 use Rattle.event_worlds.specs.Candidates.{when_parked}
 use Rattle.event_worlds.specs.Events.{Pass, Resume}

@@ -1,4 +1,4 @@
-use Rattle.std.proofs.Common.{◌∙◌, ap, refl, subst, sym}
+use Rattle.std.proofs.Common.{◌∙◌, None, ap, refl, subst, sym}
 use Rattle.std.specs.HashSet.{contains}
 use Rattle.std.specs.Prelude.{if◌then◌else◌, nat_eq, true}
 use Rattle.event_worlds.specs.Events.{Resume}

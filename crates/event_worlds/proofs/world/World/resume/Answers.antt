@@ -1,4 +1,4 @@
-use Rattle.std.proofs.Common.{◌∙◌, sym, subst}
+use Rattle.std.proofs.Common.{◌∙◌, None, sym, subst}
 use Rattle.event_worlds.specs.Events.{Resume}
 use Rattle.event_worlds.specs.Shown.{Refuses}
 use Rattle.event_worlds.specs.declared.world.World.{World as rWorld}
