@@ -97,7 +97,13 @@ module _ (j : Job) (ok : IsJob j) (c : Course) (q : Paused) (made : Made) (at : 
 
 -- ---- a parked task
 emptied : (s : rScope) → s.passed ≡ true → (b : Scope) → IsBookOf s b → IsBookOf (record s { results = None }) b
-emptied s e b h = record { issued = h.issued; returned = h.returned; passed = h.passed; results = sym h.passed ∙ e }
+emptied s e b h = record {
+  issued = h.issued;
+  returned = h.returned;
+  passed = h.passed;
+  results = sym h.passed ∙ e;
+  faults = h.faults;
+}
 
 pub results_of : (o : _) (rs : _) (b : Scope) → o ≡ Some rs → AreResultsOf o b → map task_result rs.items ≡ b.results
 results_of None rs b e h = absurd (none-some _ e)

@@ -11,6 +11,7 @@ pub mod NextKinds
 pub mod Replay
 pub mod Replaying
 pub mod Shown
+pub mod Telling
 pub mod Walks
 pub mod Weights
 pub mod World

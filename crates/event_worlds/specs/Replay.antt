@@ -46,7 +46,7 @@ module _ (p : Program) (needs : Codes → Needs) (fresh w0 : ℕ) where
       and_then (task path world.live) (λ t.
       and_then (innermost t.stakes) (λ id.
       and_then (scope id world.scopes) (λ s.
-      Some (faults_in (hands_on t.start t.receipts) + faults_of s.results))))
+      Some (faults_of s.results + faults_in (hands_on t.start t.receipts)))))
 
   -- if a resume has a number of faults, it is that number
   abbrev pub tells : Event → World → Bool
