@@ -546,7 +546,7 @@ pub fn commands<'w>(alloc: Global) -> Result<Command<'w>, AllocError> {
         .bin_name("afx")?
         .about("Check and run task-parallel programs")
         .after_help(STATUSES)
-        .version("0.2.0 (reads trace format 1)")
+        .version("0.2.0 (reads trace formats 1 and 2)")
         .no_binary_name(true)
         .subcommand_required(true);
     for row in ROWS {

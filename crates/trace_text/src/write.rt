@@ -36,7 +36,7 @@ pub fn fits(header: &Header, events: &[Event]) -> bool
 }
 
 /// Returns whether an event has a number of faults as the format wants it.
-fn suits(format: Format, event: &Event) -> bool
+pub fn suits(format: Format, event: &Event) -> bool
     ensures { result ≡ suits_in format (event_of event.now) }
 {
     match event {
