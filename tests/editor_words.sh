@@ -26,7 +26,7 @@ sed -n 's/^syn match *afx\(Operator\|Bracket\) *"\(.*\)"$/\2/p' $vim | alternati
 sed -n 's/.*"match": "\\\\b(\([a-z|]*\))\\\\b".*/\1/p' $vscode | alternatives >"$folder/words.vscode"
 sed -n 's/.*"\(keyword.operator\|punctuation\).afx", "match": "\(.*\)" }.*/\2/p' $vscode | alternatives >"$folder/marks.vscode"
 tr '\n' ' ' <$page | sed 's/.*Reserved words\*\*[^`]*`\([^`]*\)`.*/\1/' | tr -s ' ' '\n' >"$folder/words.page"
-sed -n '/rule: "/,/^$/p' $explained | sed 's/.*rule: "//' | tr -s ' ' '\n' | sed '/^$/d' >"$folder/words.explained"
+sed -n '/rule: "/,/",$/p' $explained | sed -e 's/.*rule: "//' -e 's/",$//' | tr -s ' ' '\n' | sed '/^$/d' >"$folder/words.explained"
 sed -n 's/^- \*\*Marks\*\*: `\(.*\)`\.$/\1/p' $page | tr ' ' '\n' >"$folder/marks.page"
 
 awk -v folder="$folder" '

@@ -9,7 +9,8 @@ OPERATORS = ["+", "-", "*", "/", "%", "<", "<=", ">", ">=", "==", "!=", "and", "
 STATEMENTS = ["skip;", "print 1;", "fault 3;", "async { skip; }", "finish { }", "async { print 5; }", "var fresh = 4;",
               "finish { async { print 2; } print 3; }", "if true { skip; } else { fault 1; }", "async { fault 2; }",
               "while false { }", "print 1, 2 / 0;", "fault 9223372036854775807 + 1;",
-              "parts a by 2 as piece, turn { async { piece[0] = turn; } }"]
+              "parts a by 2 as piece, turn { async { piece[0] = turn; } }",
+              "finish { async { fault 1; } } rescue n { print n; }"]
 WORDS = ["async", "finish", "if", "while", "else", "split", "at", "as", "len", "not", "true", "false", "mut", "read", "int",
          "byte", "array", "proc", "main", "parts", "by", "rescue", "print", "fault", "var"]
 BYTES = "{}()[];,=+-*/%<>!x0 \n\"@\u00e9\0"

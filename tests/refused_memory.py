@@ -58,6 +58,8 @@ PROGRAMS = {
     "readers_race": (READERS.replace("HERE", "a[0] = 1;"), '{"a":[4]}', [], [], "4 4\n", 0),
     "faults": ("main { finish { async { fault 1; } async { fault 2; } fault 3; } print 9; }\n", None, [], [],
                "fault 0.1 at 3: F6 1\nfault 0.2 at 5: F6 2\nfault 0 at 6: F6 3\n", 2),
+    "handled": ("main { finish { async { fault 1; } async { print 2; } fault 3; } rescue n { print n; async { fault 4; } }"
+                " print 9; }\n", None, [], [], "2\n2\n9\nfault 0.3 at 9: F6 4\n", 2),
     "three": ("main { finish { async { skip; } async { skip; } async { skip; } } }\n", None, [], ["--w0", "1"], "", 0),
     "nested_tasks": (None, None, [], [], "1\n2\n3\n", 0),
     "pieces": (PIECES, None, [], [], "1 4 2 4 3 2\n", 0),

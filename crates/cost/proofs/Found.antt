@@ -3,12 +3,14 @@ use Rattle.std.proofs.Common.{◌≡◌, ◌⊎◌, ℕ, zero, suc, List, [], �
 use Rattle.std.proofs.lemmas.Bool.{eqb-true, eq-eqb}
 use Rattle.std.proofs.lemmas.Option.{same_Some}
 use Rattle.std.specs.Prelude.{Bool, true, false, nat_eq, if◌then◌else◌, slice_index_or}
-use Rattle.types.specs.Code.{Code, Do, If, While, Split, Parts, Begun, Call, Async, Finish, Codes, End, Then, Procedure}
+use Rattle.types.specs.Code.{Code, Do, If, While, Split, Parts, Begun, Call, Async, Finish, Rescue, Codes, End, Then}
+use Rattle.types.specs.Code.{Procedure}
 use Rattle.types.specs.Code.{Program}
 use Rattle.types.specs.Run.{no_procedure}
 use Rattle.effects.specs.AsyncNeeds.{IsNeedAt}
 use Rattle.effects.specs.Needs.{Needs}
-use Rattle.effects.specs.Statements.{Block, HasStatement, Stands, if_body, if_other, while, split, parts, async, finish}
+use Rattle.effects.specs.Statements.{Block, HasStatement, Stands, if_body, if_other, while, split, parts, async}
+use Rattle.effects.specs.Statements.{finish, rescued, handler}
 use Rattle.effects.specs.Statements.{here, inside, later, in_procedure, in_main}
 use Rattle.cost.specs.Asyncs.{body_at, body_in, body_in_all, body_inside, body_of_async, first_of}
 use Rattle.cost.specs.Copied.{written_at, written_in}
@@ -34,6 +36,7 @@ found_here l m (Parts s n q i b) rest c e = absurd cc
 found_here l m (Begun s n k q i b) rest c e = absurd cc
 found_here l m (Call f es ss) rest c e = absurd cc
 found_here l m (Finish b) rest c e = absurd cc
+found_here l m (Rescue b x d) rest c e = absurd cc
 found_here l m (Async b) rest c e = by_test (nat_eq l m) refl e
   where
     by_test : (t : Bool) → nat_eq l m ≡ t → (if t then Some b else None) ≡ Some c → Stands (Then m (Async b) rest) l (Async c)
@@ -56,6 +59,10 @@ mutual
   found_inside l (Begun s n k q i b) c e = absurd cc
   found_inside l (Async b) c e = record { body = b; block = async; stands = found_in l b c e }
   found_inside l (Finish b) c e = record { body = b; block = finish; stands = found_in l b c e }
+  found_inside l (Rescue b x d) c e = elim (first_cases (body_in l b) (body_in l d) c e) [
+    | inl h ↦ record { body = b; block = rescued; stands = found_in l b c h }
+    | inr h ↦ record { body = d; block = handler; stands = found_in l d c h }
+  ]
 
   found_in : (l : ℕ) (b c : Codes) → body_in l b ≡ Some c → Stands b l (Async c)
   found_in l End c e = absurd cc
@@ -114,6 +121,8 @@ mutual
   misses_inside l (Begun s n k q i b) x c block h = elim block [ ]
   misses_inside l (Async b) x c async h = misses_in l b c h
   misses_inside l (Finish b) x c finish h = misses_in l b c h
+  misses_inside l (Rescue b n d) x c rescued h = found_first (body_in l b) (body_in l d) (misses_in l b c h)
+  misses_inside l (Rescue b n d) x c handler h = found_second (body_in l b) (body_in l d) (misses_in l d c h)
 
   misses_in : (l : ℕ) (b c : Codes) → Stands b l (Async c) → body_in l b ≡ None → ⊥
   misses_in l End c h = elim h [ ]

@@ -14,6 +14,7 @@ pub mod Turns
 pub mod Owners
 pub mod Frames
 pub mod TurnFrames
+pub mod Rescues
 pub mod Waiting
 pub mod MachineLemmas
 pub mod EndLemmas

@@ -27,6 +27,7 @@ module _ {X Y : Type 0} (less : X → Y) where
         (λ l go to h i st.
         inr (ap (λ out. s.leave (seen st) out) (ap to (keeps.enter l st) ∙ surely (h tt (r.enter l st)))
         ∙ keeps.leave st (go (r.enter l st))))
+        (λ i x y. refl)
 
     pub run-seen : (w : Work) (st : State X) → run p s w (seen st) ≡ seen (run p r w st)
     run-seen w st = surely (within_follows p r s by_less Never view (st.steps + 1) w tt st)

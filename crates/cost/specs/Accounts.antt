@@ -4,7 +4,7 @@
 -- counts.
 use Rattle.std.specs.Prelude.{ℕ, ◌+◌, List, [], length, replicate, ℤ, if◌then◌else◌}
 use Rattle.std.specs.Prelude.{nat_lt, slice_index, slice_set}
-use Rattle.types.specs.Code.{Code, Do, If, While, Split, Parts, Begun, Call, Async, Finish, Program}
+use Rattle.types.specs.Code.{Code, Do, If, While, Split, Parts, Begun, Call, Async, Finish, Rescue, Program}
 use Rattle.types.specs.Contents.{held_by}
 use Rattle.types.specs.Outcome.{Budget, start}
 use Rattle.types.specs.Run.{State, Rules, Work, Block}
@@ -86,6 +86,7 @@ leaves_behind ended ns a = record a {
 abbrev pub counted_at : (label : ℕ) → Code → Account → Account
 counted_at l (Async b) a = a
 counted_at l (Finish b) a = a
+counted_at l (Rescue b x c) a = a
 counted_at l (Do s) a = steps_at l a
 counted_at l (If g b c) a = steps_at l a
 counted_at l (While g b) a = steps_at l a

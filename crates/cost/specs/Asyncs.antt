@@ -1,6 +1,7 @@
 -- The async with a given label.
 use Rattle.std.specs.Prelude.{ℕ, List, [], ◌∷◌, Option, None, Some, nat_eq, if◌then◌else◌}
-use Rattle.types.specs.Code.{Code, Do, If, While, Split, Parts, Begun, Call, Async, Finish, Codes, End, Then}
+use Rattle.types.specs.Code.{Code, Do, If, While, Split, Parts, Begun, Call, Async, Finish, Rescue, Codes}
+use Rattle.types.specs.Code.{End, Then}
 use Rattle.types.specs.Code.{Procedure, Program}
 
 -- the first value if there is one, else the second
@@ -19,6 +20,7 @@ body_at l m (Parts s e q i b) = None
 body_at l m (Begun s n k q i b) = None
 body_at l m (Call f es ss) = None
 body_at l m (Finish b) = None
+body_at l m (Rescue b x c) = None
 
 abbrev mutual
   -- the body of the async with a label inside a statement, and in a list
@@ -32,6 +34,7 @@ abbrev mutual
   body_inside l (Call f es ss) = None
   body_inside l (Async b) = body_in l b
   body_inside l (Finish b) = body_in l b
+  body_inside l (Rescue b x c) = first_of (body_in l b) (body_in l c)
 
   pub body_in : (label : ℕ) → Codes → Option Codes
   body_in l End = None

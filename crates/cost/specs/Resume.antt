@@ -1,15 +1,17 @@
 -- The meaning of the frames of a run: a function from the current position to the final one.
-use Rattle.std.specs.Prelude.{ℕ, List, [], ◌∷◌, ◌++◌, map, ℤ}
-use Rattle.types.specs.Code.{Code, Program}
+use Rattle.std.specs.Prelude.{ℕ, List, [], ◌∷◌, ◌++◌, map, ℤ, Option, Some, None}
+use Rattle.types.specs.Code.{Code, Finish, Rescue, Codes, Program}
 use Rattle.types.specs.Meaning.{after_async, after_finish}
-use Rattle.types.specs.Run.{Fault, State, Work, Block, Turn, go_on, act, keeping}
+use Rattle.types.specs.Run.{Fault, State, Work, Block, Turn, go_on, act, keeping, rescued}
 use Rattle.types.specs.Translation.{codes, truth, environment, fault}
 use Rattle.statement_steps.specs.declared.store.Store.{Store}
 use Rattle.statement_steps.specs.declared.thread.Thread.{Thread}
 use Rattle.statement_steps.specs.Standing.{state_of}
 use Rattle.statement_steps.specs.Turns.{pieces}
 use Rattle.cost.specs.declared.frame.CostFrame.{CostFrame}
-use Rattle.cost.specs.declared.frame.CostFrame.TheVariants.{Rest, Again, Turns, EndFinish, EndAsync, EndCall}
+use Rattle.cost.specs.declared.frame.CostFrame.TheVariants.{Rest, Again, Turns, EndFinish, EndRescue}
+use Rattle.cost.specs.declared.frame.CostFrame.TheVariants.{EndAsync, EndCall}
+use Rattle.cost.specs.declared.frame.Handler.{Handler}
 use Rattle.cost.specs.declared.frame.OuterCosts.{OuterCosts}
 use Rattle.cost.specs.declared.frame.OwnerCosts.{OwnerCosts}
 use Rattle.cost.specs.declared.frame.OutputSoFar.{OutputSoFar}
@@ -35,6 +37,16 @@ lines_in o = map (λ v. v.items) o.lines.items
 
 abbrev pub faults_in : OutputSoFar → List Fault
 faults_in o = map fault o.faults.items
+
+-- a finish with a handler, or without
+abbrev pub finish_of : Option Handler → Codes → Code
+finish_of None b = Finish b
+finish_of (Some h) b = Rescue b h.faults.number (codes h.block.now)
+
+-- the frame at its end
+abbrev pub end_of : OuterCosts → Option Handler → CostFrame
+end_of o None = EndFinish o
+end_of o (Some h) = EndRescue o h
 
 -- a finish at its end, with the output before it
 abbrev pub end_finish : OuterCosts → State Account → State Account
@@ -77,6 +89,10 @@ module _ (p : Program) (fresh : ℕ) where
   frame (Again l t b) s = doing (Turn l (truth t.now) (codes b.now)) s
   frame (Turns t) s = doing (pieces t) s
   frame (EndFinish o) s = record s { state = end_finish o s.state }
+  frame (EndRescue o h) s = record s {
+    state = rescued h.faults.number (accounted p fresh s.nest (Block (codes h.block.now)))
+        (faults_in o.told) (end_finish o s.state);
+  }
   frame (EndAsync owner) s =
       record { state = end_async owner.value s.state; nest = owner.value.nest }
   frame (EndCall env) s = record s { state = record s.state { environment = environment env } }

@@ -1,6 +1,7 @@
 -- The total that a table by label has for the statements of a block.
 use Rattle.std.specs.Prelude.{ℕ, ◌+◌, List, slice_index}
-use Rattle.types.specs.Code.{Code, Do, If, While, Split, Parts, Begun, Call, Async, Finish, Codes, End, Then}
+use Rattle.types.specs.Code.{Code, Do, If, While, Split, Parts, Begun, Call, Async, Finish, Rescue, Codes}
+use Rattle.types.specs.Code.{End, Then}
 
 abbrev mutual
   -- the total of the statements inside a statement, and that of a block including all statements
@@ -15,6 +16,7 @@ abbrev mutual
   share_inside ns (Call f es ss) = 0
   share_inside ns (Async b) = share_of ns b
   share_inside ns (Finish b) = share_of ns b
+  share_inside ns (Rescue b x c) = share_of ns b + share_of ns c
 
   pub share_of : (table : List ℕ) → Codes → ℕ
   share_of ns End = 0

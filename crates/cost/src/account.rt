@@ -44,7 +44,7 @@ impl Account {
             (account self.new ≡ counted_at label (plain_code kind.now) (account self.old)) }
     {
         match kind {
-            StmtKind::Async { .. } | StmtKind::Finish { .. } => Ok(()),
+            StmtKind::Async { .. } | StmtKind::Finish { .. } | StmtKind::Rescue { .. } => Ok(()),
             StmtKind::Do(_)
             | StmtKind::If { .. }
             | StmtKind::While { .. }

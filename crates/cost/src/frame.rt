@@ -3,6 +3,7 @@
 use statement_steps::turns::TurnsToCome;
 use types::code::{Label, Stmt, Truth};
 use types::fault::Fault;
+use types::ids::Slot;
 use types::path::Path;
 use types::value::Environment;
 
@@ -23,6 +24,11 @@ pub enum CostFrame<'p> {
     EndFinish {
         outer: OuterCosts,
     },
+    /// The end of a finish with a handler.
+    EndRescue {
+        outer: OuterCosts,
+        handler: Handler<'p>,
+    },
     /// The end of an async's body. Its owner continues as it was. The owner is in a box, since the
     /// other variants are smaller.
     EndAsync {
@@ -32,6 +38,14 @@ pub enum CostFrame<'p> {
     EndCall {
         environment: Environment,
     },
+}
+
+/// What a task does if the finish has gathered faults.
+#[derive(Clone, Copy)]
+pub struct Handler<'p> {
+    /// In the block, this scalar is the number of the faults.
+    pub faults: Slot,
+    pub block: &'p [Stmt],
 }
 
 /// The state before a finish.

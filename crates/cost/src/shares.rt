@@ -53,5 +53,8 @@ fn in_statement(table: &[u64], kind: &StmtKind) -> u64
         StmtKind::Call { .. } => 0,
         StmtKind::Async { body } => in_block(table, body),
         StmtKind::Finish { body } => in_block(table, body),
+        StmtKind::Rescue { body, handler, .. } => {
+            in_block(table, body).saturating_add(in_block(table, handler))
+        }
     }
 }

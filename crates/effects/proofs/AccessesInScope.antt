@@ -122,6 +122,7 @@ module _ (p : Program) where
     through (Inner.call {f = f} {ss = ss}) x deeper g scope numbered k =
         let callee = sound.procedures f in
         past_call_allowed g scope f ss callee k.passes x (deeper (procedure_of p f) (parameters_of (procedure_of p f)) callee.numbered callee.body)
+    through Inner.handler x deeper g scope numbered k = deeper g scope numbered k.2
 
     mutual
       -- what a statement may access is in scope, and is written only if that is allowed
@@ -133,6 +134,7 @@ module _ (p : Program) where
           subst (Allowed g scope) (sym e) (through i x (allowed h) g scope numbered k)
       allowed_of (AllOf.async h) g scope numbered o k = allowed h g scope numbered k
       allowed_of (AllOf.finish h) g scope numbered o k = allowed h g scope numbered k
+      allowed_of (AllOf.rescued h) g scope numbered o k = allowed h g scope numbered k.0
 
       pub allowed : {b : Codes} {x : Access} → All p accesses b x
           → (g : Procedure) (scope : List ℕ) → IsNumbered g.sections → Follows p g scope b → Allowed g scope x

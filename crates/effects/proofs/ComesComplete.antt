@@ -7,7 +7,7 @@ use Rattle.shared_lemmas.proofs.Truths.{false_true}
 use Rattle.sections.specs.Member.{Member, first, next}
 use Rattle.sections.specs.Overlap.{root_of}
 use Rattle.sections.proofs.Lines.{root_of-root}
-use Rattle.types.specs.Code.{Number, Code, Call, Async, Finish, Codes, End, Then, Procedure, Program}
+use Rattle.types.specs.Code.{Number, Code, Call, Async, Finish, Rescue, Codes, End, Then, Procedure, Program}
 use Rattle.types.specs.Run.{procedure_of}
 use Rattle.types.specs.declared.ids.ProcedureId.{ProcedureId}
 use Rattle.effects.specs.Accesses.{Access}
@@ -132,10 +132,14 @@ module _ (p : Program) (sound : IsSound p) where
           (subst (to false k) (brings.top (procedure_of p k) (sound.procedures k) x a)
           (down false k (procedure_of p k) (callee k h.there) Open (λ e. false_true e) (procedure_of p k).body
           (parameters_of (procedure_of p k)) (sound.procedures k).body (λ v m. m) a)))
+      down_of c f g st w begun l s scope h here part (AllOf.inner (Inner.handler {b = b} {c = d}) a e) =
+          same_item c f g e (down c f g st w begun d scope h.2 (λ v m. part v (in_right (visits_in (in_finish w) b) m)) a)
       down_of c f g st w begun l (Async b) scope h here part (AllOf.async a) =
           down c f g st (in_async w) (λ i. ap in_async (begun i)) b scope h part a
       down_of c f g st w begun l (Finish b) scope h here part (AllOf.finish a) =
           down c f g st (in_finish w) (λ i. ap in_finish (begun i)) b scope h part a
+      down_of c f g st w begun l (Rescue b n d) scope h here part (AllOf.rescued a) =
+          down c f g st (in_finish w) (λ i. ap in_finish (begun i)) b scope h.0 (λ v m. part v (in_left (visits_in w d) m)) a
 
     -- what statements of a procedure's own task leave pending
     mutual
@@ -171,6 +175,8 @@ module _ (p : Program) (sound : IsSound p) where
           (subst (to true k) (brings.top_pending (procedure_of p k) (sound.procedures k) x a)
           (left_down k (procedure_of p k) (callee k h.there) (procedure_of p k).body
           (parameters_of (procedure_of p k)) (sound.procedures k).body (λ v m. m) a)))
+      left_of f g st l s scope h here part (PendingOf.inner (Inner.handler {b = b} {c = d}) a e) =
+          same_item true f g e (left_down f g st d scope h.2 (λ v m. part v (in_right (visits_in Awaited b) m)) a)
       left_of f g st l (Async b) scope h here part (PendingOf.async a) =
           down true f g st Begun (λ e. refl) b scope h part a
 

@@ -7,7 +7,8 @@ use Rattle.std.proofs.lemmas.Option.{get_or_from_slice_get}
 use Rattle.sections.specs.Member.{Member, first, next}
 use Rattle.sections.specs.Overlap.{root_of}
 use Rattle.sections.proofs.Lines.{root_of-root}
-use Rattle.types.specs.Code.{Number, Code, Do, If, While, Split, Parts, Begun, Call, Async, Finish, Codes, Procedure, Program}
+use Rattle.types.specs.Code.{Number, Code, Do, If, While, Split, Parts, Begun, Call, Async, Finish, Rescue, Codes, Procedure}
+use Rattle.types.specs.Code.{Program}
 use Rattle.types.specs.Run.{procedure_of, no_procedure}
 use Rattle.types.specs.declared.ids.ProcedureId.{ProcedureId}
 use Rattle.effects.specs.Accesses.{Access, own_accesses}
@@ -285,6 +286,7 @@ module _ (p : Program) (sound : IsSound p) (g : Procedure) (here : IsSoundIn p g
       (brings.0, λ l d. brings.2 l (subst (λ (b : Codes). Derived p b x.from l) body d))
   code_carries caller w k (Async b) m h = elim h [ ]
   code_carries caller w k (Finish b) m h = elim h [ ]
+  code_carries caller w k (Rescue b n c) m h = elim h [ ]
 
   flows_carry : (caller : ProcedureId) {x : CallFlow} → Member x (flows_in (length p.procedures) caller g) → Carries caller x
   flows_carry caller m =

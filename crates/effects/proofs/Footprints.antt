@@ -6,7 +6,7 @@ use Rattle.sections.specs.Place.{Place, Window, In, sides_of, piece_of, nowhere}
 use Rattle.sections.specs.Member.{Member}
 use Rattle.sections.proofs.Pieces.{piece_inside}
 use Rattle.sections.proofs.Windows.{sides_of-cut, left_inside, right_inside}
-use Rattle.types.specs.Code.{Number, Do, If, While, Split, Parts, Begun, Call, Async, Finish, Codes, End, Then, Program}
+use Rattle.types.specs.Code.{Number, Do, If, While, Split, Parts, Begun, Call, Async, Finish, Rescue, Codes, End, Then, Program}
 use Rattle.types.specs.Indexed.{indexed}
 use Rattle.types.specs.Value.{Environment}
 use Rattle.types.specs.Run.{procedure_of, entry, with_sides, with_piece}
@@ -42,6 +42,7 @@ turns_write_touch p env (Then l (Parts s e x i b) rest) q h = turns_write_touch 
 turns_write_touch p env (Then l (Call f es ss) rest) q h = turns_write_touch p env rest q h
 turns_write_touch p env (Then l (Async b) rest) q h = turns_write_touch p env rest q h
 turns_write_touch p env (Then l (Finish b) rest) q h = turns_write_touch p env rest q h
+turns_write_touch p env (Then l (Rescue b n c) rest) q h = turns_write_touch p env rest q h
 
 -- Renaming, and places
 

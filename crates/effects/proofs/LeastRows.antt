@@ -2,7 +2,7 @@
 use Rattle.std.proofs.Common.{◌≡◌, ◌⊎◌, inl, inr, ℕ, refl, sym, subst}
 use Rattle.std.specs.Prelude.{◌↔◌, Bool, true}
 use Rattle.sections.specs.Member.{Member}
-use Rattle.types.specs.Code.{Code, Do, If, While, Split, Parts, Begun, Call, Async, Finish, Codes, End, Then, Program}
+use Rattle.types.specs.Code.{Code, Do, If, While, Split, Parts, Begun, Call, Async, Finish, Rescue, Codes, End, Then, Program}
 use Rattle.effects.specs.Effects.{Inner, Subject, AllOf, All, PendingOf, Pending}
 use Rattle.effects.specs.Rows.{Inside, AllInside, LeftBy, SolvesAll, SolvesPending}
 
@@ -20,12 +20,14 @@ module _ (p : Program) (subject : Subject) where
   inside has Inner.split x h = record { item = x; among = h; same = refl }
   inside has Inner.parts x h = record { item = x; among = h; same = refl }
   inside has Inner.call x h = record { item = x; among = h; same = refl }
+  inside has (Inner.handler {c = c}) x h = inr (as_kept (has c) x h)
 
   from_all_of : {l : ℕ} {s : Code} {x : subject.Item} → AllOf p subject l s x → Member x (subject.own l s) ⊎ AllInside p subject s x
   from_all_of (AllOf.own_access h) = inl h
   from_all_of (AllOf.inner {s = s} {x = x} i h e) = inr (subst (AllInside p subject s) (sym e) (inside (All p subject) i x h))
   from_all_of (AllOf.async h) = inr h
   from_all_of (AllOf.finish h) = inr h
+  from_all_of (AllOf.rescued h) = inr (inl h)
 
   to_all_of : (l : ℕ) (s : Code) (x : subject.Item) → AllInside p subject s x → AllOf p subject l s x
   to_all_of l (Do s) x h = absurd h
@@ -38,23 +40,26 @@ module _ (p : Program) (subject : Subject) where
   to_all_of l (Call f es ss) x h = AllOf.inner Inner.call h.among h.same
   to_all_of l (Async b) x h = AllOf.async h
   to_all_of l (Finish b) x h = AllOf.finish h
+  to_all_of l (Rescue b n c) x (inl h) = AllOf.rescued h
+  to_all_of l (Rescue b n c) x (inr h) = AllOf.inner Inner.handler h (sym (subject.kept x))
 
   pub all_rows : (l : ℕ) (s : Code) (x : subject.Item) → AllOf p subject l s x ↔ (Member x (subject.own l s) ⊎ AllInside p subject s x)
   all_rows l s x = (from_all_of, λ h. elim h [ inl k ↦ AllOf.own_access k | inr k ↦ to_all_of l s x k ])
 
-  -- no statement that has a block inside it is an async or a finish
-  inside_left : {s : Code} {b : Codes} {out : ℕ → ℕ} → Inner p s b out → (x : subject.Item)
-      → Inside p subject (Pending p subject) s x → LeftBy p subject s x
-  inside_left Inner.if_body x h = h
-  inside_left Inner.if_other x h = h
-  inside_left Inner.while x h = h
-  inside_left Inner.split x h = h
-  inside_left Inner.parts x h = h
-  inside_left Inner.call x h = h
+  -- what a block leaves pending, in the names around the statement
+  left_inside : {s : Code} {b : Codes} {out : ℕ → ℕ} → Inner p s b out → (x : subject.Item) → Pending p subject b x
+      → LeftBy p subject s (subject.renamed out x)
+  left_inside (Inner.if_body {b = b} {c = c}) x h = inl (as_kept (Pending p subject b) x h)
+  left_inside (Inner.if_other {b = b} {c = c}) x h = inr (as_kept (Pending p subject c) x h)
+  left_inside (Inner.while {b = b}) x h = as_kept (Pending p subject b) x h
+  left_inside Inner.split x h = record { item = x; among = h; same = refl }
+  left_inside Inner.parts x h = record { item = x; among = h; same = refl }
+  left_inside Inner.call x h = record { item = x; among = h; same = refl }
+  left_inside (Inner.handler {c = c}) x h = as_kept (Pending p subject c) x h
 
   from_pending_of : {s : Code} {x : subject.Item} → PendingOf p subject s x → LeftBy p subject s x
-  from_pending_of (PendingOf.inner {s = s} {out = out} {x = x} i h e) =
-      subst (LeftBy p subject s) (sym e) (inside_left i (subject.renamed out x) (inside (Pending p subject) i x h))
+  from_pending_of (PendingOf.inner {s = s} {x = x} i h e) =
+      subst (LeftBy p subject s) (sym e) (left_inside i x h)
   from_pending_of (PendingOf.async h) = h
 
   to_pending_of : (s : Code) (x : subject.Item) → LeftBy p subject s x → PendingOf p subject s x
@@ -68,6 +73,7 @@ module _ (p : Program) (subject : Subject) where
   to_pending_of (Call f es ss) x h = PendingOf.inner Inner.call h.among h.same
   to_pending_of (Async b) x h = PendingOf.async h
   to_pending_of (Finish b) x h = absurd h
+  to_pending_of (Rescue b n c) x h = PendingOf.inner Inner.handler h (sym (subject.kept x))
 
   pub pending_rows : (s : Code) (x : subject.Item) → PendingOf p subject s x ↔ LeftBy p subject s x
   pending_rows s x = (from_pending_of, to_pending_of s x)
@@ -101,6 +107,7 @@ module _ (p : Program) (subject : Subject) where
           subst (λ y. has (Then l s rest) y ≡ true) (sym e) (solves.inner l s b rest out x i (least h))
       least_of (AllOf.async {l = l} {b = b} {x = x} h) rest = solves.async l b rest x (least h)
       least_of (AllOf.finish {l = l} {b = b} {x = x} h) rest = solves.finish l b rest x (least h)
+      least_of (AllOf.rescued {l = l} {n = n} {b = b} {c = c} {x = x} h) rest = solves.rescued l n b c rest x (least h)
 
       -- every solution contains all of All
       pub least : {b : Codes} {x : subject.Item} → All p subject b x → has b x ≡ true

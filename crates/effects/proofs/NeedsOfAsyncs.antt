@@ -4,7 +4,7 @@ use Rattle.std.proofs.lemmas.Bool.{eqb-true, eq-eqb}
 use Rattle.std.specs.Prelude.{Bool, true, false, nat_eq, if◌then◌else◌}
 use Rattle.sections.specs.Member.{Member, first, next}
 use Rattle.sections.proofs.Members.{any_member, member_any}
-use Rattle.types.specs.Code.{Code, Do, If, While, Split, Parts, Begun, Call, Async, Finish, Codes, End, Then, Program}
+use Rattle.types.specs.Code.{Code, Do, If, While, Split, Parts, Begun, Call, Async, Finish, Rescue, Codes, End, Then, Program}
 use Rattle.types.specs.Run.{procedure_of}
 use Rattle.effects.specs.Accesses.{Access}
 use Rattle.effects.specs.Tables.{Table, all_in, IsDerived, IsStable}
@@ -198,6 +198,7 @@ module _ (p : Program) (table : Table accesses) (is_derived : IsDerived p access
     provides_of (Call f es ss) = tt
     provides_of (Async b) = (are_needs b, provides_in b)
     provides_of (Finish b) = provides_in b
+    provides_of (Rescue b n c) = (provides_in b, provides_in c)
 
     pub provides_in : (b : Codes) → ProvidesIn p (needs_in table) b
     provides_in End = tt

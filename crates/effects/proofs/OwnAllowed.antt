@@ -6,7 +6,8 @@ use Rattle.shared_lemmas.proofs.Truths.{false_true}
 use Rattle.sections.specs.Member.{Member, first, next}
 use Rattle.types.specs.Code.{Number, Literal, Scalar, Element, Length, Negative, Chain, Links, Done, Link, Truth}
 use Rattle.types.specs.Code.{Constant, Compare, Not, Both, Either, Truths, NoMore, Also, Primitive, Skip, Assign, Store}
-use Rattle.types.specs.Code.{Print, Raise, Code, Do, If, While, Split, Parts, Begun, Call, Async, Finish, Procedure, Program}
+use Rattle.types.specs.Code.{Print, Raise, Code, Do, If, While, Split, Parts, Begun, Call, Async, Finish, Rescue, Procedure}
+use Rattle.types.specs.Code.{Program}
 use Rattle.types.specs.Indexed.{indexed, indexed_links, indexed_truth, indexed_truths}
 use Rattle.types.specs.Sound.{NumberFollows, LinksFollow, TruthFollows, TruthsFollow, StoresWell, PrimitiveFollows, FollowsOf}
 use Rattle.effects.specs.Accesses.{Access, reads, own_primitive, own_accesses}
@@ -97,3 +98,4 @@ module _ (p : Program) (g : Procedure) where
   own_allowed scope l (Call f es ss) k x m = reads_allowed g scope l (flat_map indexed es) (numbers_indexed g scope es k.values) x m
   own_allowed scope l (Async b) k x m = elim m [ ]
   own_allowed scope l (Finish b) k x m = elim m [ ]
+  own_allowed scope l (Rescue b n c) k x m = elim m [ ]

@@ -4,7 +4,8 @@ use Rattle.std.proofs.Common.{ap, ◌∙◌, subst, inl, inr, arith}
 use Rattle.std.proofs.lemmas.Bool.{ltb-true, ltb-false}
 use Rattle.std.specs.Prelude.{Bool, true, false, nat_lt, slice_index_or}
 use Rattle.sections.specs.Member.{Member}
-use Rattle.types.specs.Code.{Code, Do, If, While, Split, Parts, Begun, Call, Async, Finish, Codes, End, Then, Procedure, Program}
+use Rattle.types.specs.Code.{Code, Do, If, While, Split, Parts, Begun, Call, Async, Finish, Rescue, Codes, End, Then, Procedure}
+use Rattle.types.specs.Code.{Program}
 use Rattle.types.specs.Run.{procedure_of, no_procedure}
 use Rattle.effects.specs.Accesses.{Access, own_accesses}
 use Rattle.types.specs.Sound.{passed_for}
@@ -43,6 +44,9 @@ module _ (table more : Table accesses) (grows : (f : ℕ) (x : Access) → Membe
     inside_more (Call f es ss) x m = map_more (renamed (passed_for ss)) (table f) (more f) (grows f) x m
     inside_more (Async b) x m = all_more b x m
     inside_more (Finish b) x m = all_more b x m
+    inside_more (Rescue b n c) x m =
+        parts (all_in accesses table b) (λ k. in_left (all_in accesses more c) (all_more b x k))
+        (λ k. in_right (all_in accesses more b) (all_more c x k)) m
 
     pub all_more : (b : Codes) (x : Access) → Member x (all_in accesses table b) → Member x (all_in accesses more b)
     all_more End x m = m
@@ -70,6 +74,7 @@ module _ (alls table more : Table accesses) (grows : (f : ℕ) (x : Access) → 
     by_more (Call f es ss) x m = map_more table more grows (renamed (passed_for ss)) (table f) (more f) (grows f) x m
     by_more (Async b) x m = m
     by_more (Finish b) x m = m
+    by_more (Rescue b n c) x m = left_more c x m
 
     left_more : (b : Codes) (x : Access) → Member x (left_in accesses alls table b) → Member x (left_in accesses alls more b)
     left_more End x m = m
@@ -151,6 +156,8 @@ module _ (p : Program) where
   through (Inner.parts {s = s} {q = q} {b = b}) x k = moved (past_parts s q) (all_in accesses none b) x k
   through (Inner.call {f = f}) x k = let h =
       either_of_body f x k in inr (record { access = h.access; among = h.among; label = h.label; write = h.write })
+  through (Inner.handler {b = b} {c = c}) x k =
+      from_more (all_in accesses none c) (all_in accesses none b ++ all_in accesses none c) x (λ y m. in_right (all_in accesses none b) m) k
 
   mutual
     from_of : {l : ℕ} {s : Code} {x : Access} → AllOf p accesses l s x → IsFrom (own_accesses l s ++ all_inside accesses none s) x
@@ -162,6 +169,9 @@ module _ (p : Program) where
         (λ y m. in_right (own_accesses l s) m) (through i x (from_all h)))
     from_of (AllOf.async h) = from_all h
     from_of (AllOf.finish h) = from_all h
+    from_of (AllOf.rescued {b = b} {c = c} {x = x} h) =
+        from_more (all_in accesses none b) (all_in accesses none b ++ all_in accesses none c) x
+        (λ y m. in_left (all_in accesses none c) m) (from_all h)
 
     from_all : {b : Codes} {x : Access} → All p accesses b x → IsFrom (all_in accesses none b) x
     from_all (All.here {l = l} {s = s} {rest = rest} {x = x} h) =

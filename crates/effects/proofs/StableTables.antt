@@ -2,7 +2,7 @@
 use Rattle.std.proofs.Common.{inl, inr, ℕ, zero, suc, List, ◌++◌, map, sym, subst}
 use Rattle.std.specs.Prelude.{◌↔◌}
 use Rattle.sections.specs.Member.{Member}
-use Rattle.types.specs.Code.{Code, Do, If, While, Split, Parts, Begun, Call, Async, Finish, Codes, End, Then, Program}
+use Rattle.types.specs.Code.{Code, Do, If, While, Split, Parts, Begun, Call, Async, Finish, Rescue, Codes, End, Then, Program}
 use Rattle.types.specs.Run.{procedure_of}
 use Rattle.types.specs.Sound.{passed_for}
 use Rattle.effects.specs.Effects.{past_parts, past_split, Inner, Subject, AllOf, All, PendingOf, Pending}
@@ -40,6 +40,9 @@ module _ (p : Program) (subject : Subject) (table : Table subject) where
       listed_of (Call f es ss) l x h = renames (Call f es ss) l (procedure_of p f).body (passed_for ss) Inner.call (table f) (derived f) x h
       listed_of (Async b) l x h = AllOf.async (listed b x h)
       listed_of (Finish b) l x h = AllOf.finish (listed b x h)
+      listed_of (Rescue b n c) l x h =
+          parts (all_in subject table b) (λ k. AllOf.rescued (listed b x k))
+          (λ k. AllOf.inner Inner.handler (listed c x k) (sym (subject.kept x))) h
 
       -- what is listed is derived
       pub listed : (b : Codes) (x : subject.Item) → Member x (all_in subject table b) → All p subject b x
@@ -58,6 +61,8 @@ module _ (p : Program) (subject : Subject) (table : Table subject) where
     inner_listed (Inner.split {s = s} {l = l} {r = r}) x h = in_map (subject.renamed (past_split s l r)) h
     inner_listed (Inner.parts {s = s} {q = q}) x h = in_map (subject.renamed (past_parts s q)) h
     inner_listed (Inner.call {f = f} {ss = ss}) x h = in_map (subject.renamed (passed_for ss)) (stable f x h)
+    inner_listed (Inner.handler {b = b} {c = c}) x h =
+        kept subject (all_in subject table b ++ all_in subject table c) x (in_right (all_in subject table b) h)
 
     mutual
       pub derived_of : {l : ℕ} {s : Code} {x : subject.Item} → AllOf p subject l s x
@@ -68,6 +73,8 @@ module _ (p : Program) (subject : Subject) (table : Table subject) where
           (in_right (subject.own l s) (inner_listed i x (derived h)))
       derived_of (AllOf.async {l = l} {b = b} h) = in_right (subject.own l (Async b)) (derived h)
       derived_of (AllOf.finish {l = l} {b = b} h) = in_right (subject.own l (Finish b)) (derived h)
+      derived_of (AllOf.rescued {l = l} {n = n} {b = b} {c = c} h) =
+          in_right (subject.own l (Rescue b n c)) (in_left (all_in subject table c) (derived h))
 
       -- what is derived is listed
       pub derived : {b : Codes} {x : subject.Item} → All p subject b x → Member x (all_in subject table b)
@@ -99,6 +106,7 @@ module _ (p : Program) (subject : Subject) (alls pendings : Table subject) (deri
           renames_left (Call f es ss) (procedure_of p f).body (passed_for ss) Inner.call (pendings f) (derived_pendings f) x h
       left_of (Async b) x h = PendingOf.async (listed p subject alls derived_alls b x h)
       left_of (Finish b) x h = elim h [ ]
+      left_of (Rescue b n c) x h = PendingOf.inner Inner.handler (left c x h) (sym (subject.kept x))
 
       -- what is listed as pending is derived
       pub left : (b : Codes) (x : subject.Item) → Member x (left_in subject alls pendings b) → Pending p subject b x
@@ -117,6 +125,7 @@ module _ (p : Program) (subject : Subject) (alls pendings : Table subject) (deri
     inner_left (Inner.split {s = s} {l = l} {r = r}) x h = in_map (subject.renamed (past_split s l r)) h
     inner_left (Inner.parts {s = s} {q = q}) x h = in_map (subject.renamed (past_parts s q)) h
     inner_left (Inner.call {f = f} {ss = ss}) x h = in_map (subject.renamed (passed_for ss)) (stable f x h)
+    inner_left (Inner.handler {c = c}) x h = kept subject (left_in subject alls pendings c) x h
 
     mutual
       pub pending_of : {s : Code} {x : subject.Item} → PendingOf p subject s x → Member x (left_by subject alls pendings s)

@@ -5,7 +5,8 @@ use Rattle.std.proofs.lemmas.List.{map-append}
 use Rattle.std.specs.List.{range_with_len}
 use Rattle.std.specs.Prelude.{slice_index_or}
 use Rattle.sections.specs.Member.{Member, first, next}
-use Rattle.types.specs.Code.{Number, Code, Do, If, While, Split, Parts, Begun, Call, Async, Finish, Codes, End, Then, Procedure, Program}
+use Rattle.types.specs.Code.{Number, Code, Do, If, While, Split, Parts, Begun, Call, Async, Finish, Rescue, Codes, End, Then}
+use Rattle.types.specs.Code.{Procedure, Program}
 use Rattle.types.specs.Labels.{labels_of, labels_inside, labels_of_procedures}
 use Rattle.types.specs.Run.{procedure_of, no_procedure}
 use Rattle.types.specs.Sound.{IsText, IsTextOf}
@@ -43,6 +44,8 @@ text_inside Block.split h = h
 text_inside Block.parts h = h
 text_inside Block.async h = h
 text_inside Block.finish h = h
+text_inside Block.rescued h = h.0
+text_inside Block.handler h = h.1
 
 stands_text : {b : Codes} {l : ℕ} {s : Code} → Stands b l s → IsText b → IsTextOf s
 stands_text Stands.here h = h.0
@@ -61,6 +64,8 @@ block_small Block.split = omega arith
 block_small Block.parts = omega arith
 block_small Block.async = omega arith
 block_small Block.finish = omega arith
+block_small Block.rescued = omega arith
+block_small Block.handler = omega arith
 
 module _ (p : Program) where
   has_through : {b : Codes} {l m : ℕ} {s t : Code} → HasStatement p l s → Block s b → Stands b m t → HasStatement p m t
@@ -118,6 +123,8 @@ module _ (p : Program) (g : Procedure) where
   block_follows (Block.parts {s} {e} {q} {i} {b}) scope h = record { scope = q ∷ scope; follows = h.2 }
   block_follows Block.async scope h = record { scope = scope; follows = h }
   block_follows Block.finish scope h = record { scope = scope; follows = h }
+  block_follows Block.rescued scope h = record { scope = scope; follows = h.0 }
+  block_follows Block.handler scope h = record { scope = scope; follows = h.2 }
 
   follows_there : {c : Codes} {l : ℕ} {s : Code} → Stands c l s → (scope : List ℕ) → Follows p g scope c → FollowsThere p g s
   follows_there Stands.here scope h = record { scope = scope; follows = h.0 }
@@ -152,6 +159,7 @@ abbrev mutual
   listed_inside (Begun s n k q i b) = listed b
   listed_inside (Async b) = listed b
   listed_inside (Finish b) = listed b
+  listed_inside (Rescue b n c) = listed b ++ listed c
   listed_inside _ = []
 
   listed : Codes → List (ℕ × Code)
@@ -180,6 +188,8 @@ mutual
   keys_inside (Begun s n k q i b) = keys_in b
   keys_inside (Async b) = keys_in b
   keys_inside (Finish b) = keys_in b
+  keys_inside (Rescue b n c) =
+      keys_joined (listed b) (listed c) ∙ ap (λ ks. ks ++ keys_of (listed c)) (keys_in b) ∙ ap (λ ks. labels_of b ++ ks) (keys_in c)
   keys_inside _ = refl
 
   keys_in : (b : Codes) → keys_of (listed b) ≡ labels_of b
@@ -201,6 +211,8 @@ listed_in_block Block.split h = h
 listed_in_block Block.parts h = h
 listed_in_block Block.async h = h
 listed_in_block Block.finish h = h
+listed_in_block (Block.rescued {c = c}) h = in_left (listed c) h
+listed_in_block (Block.handler {b = b}) h = in_right (listed b) h
 
 stands_listed : {b : Codes} {l : ℕ} {s : Code} → Stands b l s → Member (l, s) (listed b)
 stands_listed Stands.here = first
@@ -284,6 +296,10 @@ mutual
   visited_inside w (Call f es ss) v m = elim m [ ]
   visited_inside w (Async b) v m = record { block = b; inside = Block.async; stands = visited (in_async w) b v m }
   visited_inside w (Finish b) v m = record { block = b; inside = Block.finish; stands = visited (in_finish w) b v m }
+  visited_inside w (Rescue b n c) v m = elim (in_parts (visits_in (in_finish w) b) m) [
+    | inl k ↦ record { block = b; inside = Block.rescued; stands = visited (in_finish w) b v k }
+    | inr k ↦ record { block = c; inside = Block.handler; stands = visited w c v k }
+  ]
 
   -- what a visit finds is in the block
   pub visited : (w : Standing) (b : Codes) (v : Visit) → Member v (visits_in w b) → Stands b v.label v.code
@@ -317,6 +333,11 @@ visited_in_block w m t Block.split h = h w
 visited_in_block w m t Block.parts h = h w
 visited_in_block w m t Block.async h = h (in_async w)
 visited_in_block w m t Block.finish h = h (in_finish w)
+visited_in_block w m t (Block.rescued {b = b} {c = c}) h =
+    visited_in_more (visits_in (in_finish w) b) (visits_in (in_finish w) b ++ visits_in w c) m t (λ v a. in_left (visits_in w c) a)
+    (h (in_finish w))
+visited_in_block w m t (Block.handler {b = b} {c = c}) h =
+    visited_in_more (visits_in w c) (visits_in (in_finish w) b ++ visits_in w c) m t (λ v a. in_right (visits_in (in_finish w) b) a) (h w)
 
 pub is_visited : (w : Standing) {b : Codes} {m : ℕ} {t : Code} → Stands b m t → IsVisited (visits_in w b) m t
 is_visited w (Stands.here {l} {s} {rest}) =

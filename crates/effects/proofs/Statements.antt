@@ -2,15 +2,17 @@
 use Rattle.std.proofs.Common.{◌≡◌, ℕ, zero, suc, ◌+◌, ◌-◌, ◌<◌, ◌≤◌, arith, List, [], ◌∷◌, drop, length, Vec, Global, sym, ap, ◌∙◌, add-one}
 use Rattle.std.proofs.Math.Seq.{drop-cons}
 use Rattle.std.specs.Prelude.{slice_index_or}
-use Rattle.types.specs.Code.{Code, Do, If, While, Split, Parts, Begun, Call, Async, Finish, Codes, End, Then}
+use Rattle.types.specs.Code.{Code, Do, If, While, Split, Parts, Begun, Call, Async, Finish, Rescue, Codes, End, Then}
 use Rattle.types.specs.Translation.{number, truth, code, codes}
 use Rattle.types.specs.declared.code.Pieces.{Pieces}
 use Rattle.types.specs.declared.code.Sides.{Sides}
 use Rattle.types.specs.declared.code.Truth.{Truth}
 use Rattle.types.specs.declared.code.Stmt.{Stmt}
 use Rattle.types.specs.declared.code.StmtKind.{StmtKind}
+use Rattle.types.specs.declared.ids.Slot.{Slot}
 use Rattle.types.specs.declared.code.StmtKind.TheVariants.{If as rIf, While as rWhile, Split as rSplit, Parts as rParts, Async as rAsync, Finish as rFinish}
-use Rattle.types.proofs.Blocks.{code_If, code_While, code_Split, code_Parts, code_Async, code_Finish}
+use Rattle.types.specs.declared.code.StmtKind.TheVariants.{Rescue as rRescue}
+use Rattle.types.proofs.Blocks.{code_If, code_While, code_Split, code_Parts, code_Async, code_Finish, code_Rescue}
 
 pub is_If : (k : StmtKind) (t : Truth) (v w : Vec Stmt Global) (b d : List Stmt) → k ≡ rIf t v w → b ≡ v.items → d ≡ w.items
     → code k ≡ If (truth t) (codes b) (codes d)
@@ -37,6 +39,12 @@ is_Async k v b is e = ap code is ∙ code_Async v ∙ ap (λ b. Async (codes b))
 pub is_Finish : (k : StmtKind) (v : Vec Stmt Global) (b : List Stmt) → k ≡ rFinish v → b ≡ v.items → code k ≡ Finish (codes b)
 is_Finish k v b is e = ap code is ∙ code_Finish v ∙ ap (λ b. Finish (codes b)) (sym e)
 
+pub is_Rescue : (k : StmtKind) (v : Vec Stmt Global) (x : Slot) (w : Vec Stmt Global) (b d : List Stmt) → k ≡ rRescue v x w → b ≡ v.items
+    → d ≡ w.items → code k ≡ Rescue (codes b) x.number (codes d)
+is_Rescue k v x w b d is e f =
+    ap code is ∙ code_Rescue v x w ∙ ap (λ b. Rescue (codes b) x.number (codes w.items)) (sym e)
+    ∙ ap (λ d. Rescue (codes b) x.number (codes d)) (sym f)
+
 -- a statement of a list and those after it
 pub codes_at : (xs : List Stmt) (i : ℕ) (x : Stmt) → i < length xs → x ≡ slice_index_or xs i x
     → codes (drop i xs) ≡ Then x.label (code x.kind) (codes (drop (i + 1) xs))
@@ -55,6 +63,7 @@ abbrev mutual
   size_in (Call f es ss) = 0
   size_in (Async b) = size b
   size_in (Finish b) = size b
+  size_in (Rescue b x c) = size b + size c
 
   pub size : Codes → ℕ
   size End = 0

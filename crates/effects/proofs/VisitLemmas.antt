@@ -1,7 +1,8 @@
 -- What a statement of a body may do, the body may do, up to the names of sides.
 use Rattle.std.proofs.Common.{◌≡◌, inl, inr, ℕ, List, ◌∷◌, ◌++◌, refl, sym, ap, subst, ◌∙◌}
 use Rattle.sections.specs.Member.{Member, first, next}
-use Rattle.types.specs.Code.{Number, Code, Do, If, While, Split, Parts, Begun, Call, Async, Finish, Codes, End, Then, Procedure, Program}
+use Rattle.types.specs.Code.{Number, Code, Do, If, While, Split, Parts, Begun, Call, Async, Finish, Rescue, Codes, End, Then}
+use Rattle.types.specs.Code.{Procedure, Program}
 use Rattle.types.specs.Translation.{codes}
 use Rattle.types.specs.declared.code.Stmt.{Stmt}
 use Rattle.effects.specs.Effects.{Inner, Subject, AllOf, All, PendingOf, Pending, past_parts, past_split}
@@ -75,6 +76,10 @@ module _ (p : Program) (subject : Subject) (g : Procedure) (root : ℕ → ℕ)
     up_inside w l (Call f es ss) scope h v m x a = elim m [ ]
     up_inside w l (Async b) scope h v m x a = like (λ y. AllOf.async) (up (in_async w) b scope h v m x a)
     up_inside w l (Finish b) scope h v m x a = like (λ y. AllOf.finish) (up (in_finish w) b scope h v m x a)
+    up_inside w l (Rescue b n c) scope h v m x a = elim (in_parts (visits_in (in_finish w) b) m) [
+      | inl k ↦ like (λ y. AllOf.rescued) (up (in_finish w) b scope h.0 v k x a)
+      | inr k ↦ within_if Inner.handler (up w c scope h.2 v k x a)
+    ]
 
 -- inside an async or a finish, all statements have its position
 mutual
@@ -100,6 +105,10 @@ mutual
   standing_inside w a f (Call g es ss) v m = elim m [ ]
   standing_inside w a f (Async b) v m = standing_in w a f b v (subst (λ (u : Standing). Member v (visits_in u b)) a m)
   standing_inside w a f (Finish b) v m = standing_in w a f b v (subst (λ (u : Standing). Member v (visits_in u b)) f m)
+  standing_inside w a f (Rescue b n c) v m = elim (in_parts (visits_in (in_finish w) b) m) [
+    | inl k ↦ standing_in w a f b v (subst (λ (u : Standing). Member v (visits_in u b)) f k)
+    | inr k ↦ standing_in w a f c v k
+  ]
 
 module _ (p : Program) (subject : Subject) (g : Procedure) (root : ℕ → ℕ)
     (past : (scope : List ℕ) (s l r : ℕ) → Divides g scope s l r → (x : subject.Item)
@@ -159,3 +168,7 @@ module _ (p : Program) (subject : Subject) (g : Procedure) (root : ℕ → ℕ)
         left_within (λ y. PendingOf.async) (up p subject g root past Begun b scope h v m x all)
     left_inside (Finish b) scope h v m x a =
         absurd (subst (λ (w : Standing). Leaves w v x) (standing_in Awaited refl refl b v m) a)
+    left_inside (Rescue b n c) scope h v m x a = elim (in_parts (visits_in Awaited b) m) [
+      | inl k ↦ absurd (subst (λ (w : Standing). Leaves w v x) (standing_in Awaited refl refl b v k) a)
+      | inr k ↦ left_within (λ y q. PendingOf.inner Inner.handler q (sym (subject.kept y))) (left_up c scope h.2 v k x a)
+    ]

@@ -5,12 +5,12 @@ use Rattle.sections.specs.Place.{Place, sides_of, has_piece, piece_at}
 use Rattle.sections.specs.Member.{next}
 use Rattle.types.specs.declared.fault.FaultKind.TheVariants.{SplitPoint, PieceSize}
 use Rattle.types.specs.Code.{Truth, Primitive, Skip, Assign, Store, Print, Raise, Code, Do, If, While, Split, Parts, Begun, Call}
-use Rattle.types.specs.Code.{Async, Finish, Codes, End, Then, Procedure, Program}
+use Rattle.types.specs.Code.{Async, Finish, Rescue, Codes, End, Then, Procedure, Program}
 use Rattle.types.specs.Value.{Valued, element_of, holds_number}
-use Rattle.types.specs.Run.{Flow, On, Faulted, Stopped, State, Rules, Work, Block, Turn, Pieces, at_flow, go_on, spend}
+use Rattle.types.specs.Run.{Flow, On, Faulted, Stopped, Fault, State, Rules, Work, Block, Turn, Pieces, at_flow, go_on, spend}
 use Rattle.types.specs.Run.{with_step, with_value, number_at, numbers_at, truth_at, window_at, assign, print, put}
 use Rattle.types.specs.Run.{fault, choose, in_environment, primitive, counted, act, block, work, within, run}
-use Rattle.types.specs.Run.{with_sides, array_of, entry, procedure_of, in_turn, piece_size}
+use Rattle.types.specs.Run.{with_sides, array_of, entry, procedure_of, in_turn, piece_size, caught, rescued, rescued_by}
 use Rattle.types.specs.Meaning.{begin_one, one_rules}
 use Rattle.effects.specs.Sound.{CutsWell, Follows, FollowsOf}
 use Rattle.effects.specs.Fits.{Fits}
@@ -38,6 +38,12 @@ module _ {X : Type 0} where
   at_flow_keeps scope On st go k = k st
   at_flow_keeps scope Faulted st go k = λ s m. refl
   at_flow_keeps scope Stopped st go k = λ s m. refl
+
+  rescue_keeps : (scope : List ℕ) (f : Flow) (x : ℕ) (go : State X → State X) (before : List Fault) (out : State X) → Keeps scope go
+      → Keep scope out (rescued_by f x go before out)
+  rescue_keeps scope On x go before out k = λ s m. refl
+  rescue_keeps scope Faulted x go before out k = k (caught x before out)
+  rescue_keeps scope Stopped x go before out k = λ s m. refl
 
   spend_keeps : (scope : List ℕ) (n : ℕ) (st : State X) (go : State X → State X) → Keeps scope go → Keep scope st (spend n st go)
   spend_keeps scope zero st go k = λ s m. refl
@@ -76,6 +82,7 @@ module _ (p : Program) {X : Type 0} where
     counted_keeps : (scope : List ℕ) (l : ℕ) (s : Code) (st : State X) → Keep scope st (counted r l s st)
     counted_keeps scope l (Async b) st = λ s m. refl
     counted_keeps scope l (Finish b) st = λ s m. refl
+    counted_keeps scope l (Rescue b x c) st = λ s m. refl
     counted_keeps scope l (Do s) st = λ s m. refl
     counted_keeps scope l (If t b c) st = λ s m. refl
     counted_keeps scope l (While t b) st = λ s m. refl
@@ -138,6 +145,12 @@ module _ (p : Program) {X : Type 0} where
         act_keeps (Finish b) l scope k st = λ s m.
             ap (λ w. w s) (sym (keeps.enter l st)) ∙ block_keeps b scope k (r.enter l st) s m
             ∙ ap (λ w. w s) (sym (keeps.leave st (block p r deeper b (r.enter l st))))
+        act_keeps (Rescue b x c) l scope k st =
+            let out = r.leave st (block p r deeper b (r.enter l st)) in
+            then_keep scope st out (rescued x (block p r deeper c) st.faults out)
+            (λ s m. ap (λ w. w s) (sym (keeps.enter l st)) ∙ block_keeps b scope k.0 (r.enter l st) s m
+            ∙ ap (λ w. w s) (sym (keeps.leave st (block p r deeper b (r.enter l st)))))
+            (rescue_keeps scope out.flow x (block p r deeper c) st.faults out (block_keeps c scope k.2))
 
         pub block_keeps : (b : Codes) (scope : List ℕ) → Follows p g scope b → Keeps scope (block p r deeper b)
         block_keeps End scope k st = λ s m. refl

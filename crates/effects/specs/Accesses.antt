@@ -1,7 +1,7 @@
 -- What a statement does to sections by its own expressions.
 use Rattle.std.specs.Prelude.{ℕ, List, [], ◌∷◌, ◌++◌, map, flat_map, Bool, true, false}
 use Rattle.types.specs.Code.{Primitive, Skip, Assign, Store, Print, Raise, Code, Do, If, While}
-use Rattle.types.specs.Code.{Split, Parts, Begun, Call, Async, Finish}
+use Rattle.types.specs.Code.{Split, Parts, Begun, Call, Async, Finish, Rescue}
 use Rattle.types.specs.Indexed.{indexed, indexed_truth}
 
 -- the statement with this label may read, or write, elements of a section
@@ -35,3 +35,4 @@ own_accesses l (Begun s n k q i b) = []
 own_accesses l (Call f es ss) = reads l (flat_map indexed es)
 own_accesses l (Async b) = []
 own_accesses l (Finish b) = []
+own_accesses l (Rescue b n c) = []

@@ -2,7 +2,8 @@
 use Rattle.std.specs.Prelude.{ℕ, ◌≡◌, List, [], ◌∷◌, nat_eq, Bool, false, ◌||◌, ◌&&◌, if◌then◌else◌}
 use Rattle.std.proofs.Common.{refl}
 use Rattle.sections.specs.Member.{Member}
-use Rattle.types.specs.Code.{Number, Truth, Code, If, While, Split, Parts, Call, Async, Finish, Codes, Then, Program}
+use Rattle.types.specs.Code.{Number, Truth, Code, If, While, Split, Parts, Call, Async, Finish, Rescue, Codes}
+use Rattle.types.specs.Code.{Then, Program}
 use Rattle.types.specs.Run.{procedure_of}
 use Rattle.types.specs.Sound.{passed_for}
 use Rattle.effects.specs.Accesses.{Access, own_accesses}
@@ -69,6 +70,7 @@ module _ (p : Program) where
         → Inner (Parts s e q i b) b (past_parts s q)
     call : {f : ℕ} {es : List Number} {ss : List ℕ}
         → Inner (Call f es ss) (procedure_of p f).body (passed_for ss)
+    handler : {n : ℕ} {b c : Codes} → Inner (Rescue b n c) c (λ x. x)
 
 module _ (p : Program) (subject : Subject) where
   mutual
@@ -79,6 +81,7 @@ module _ (p : Program) (subject : Subject) where
           → Inner p s b out → All b x → y ≡ subject.renamed out x → AllOf l s y
       async : {l : ℕ} {b : Codes} {x : subject.Item} → All b x → AllOf l (Async b) x
       finish : {l : ℕ} {b : Codes} {x : subject.Item} → All b x → AllOf l (Finish b) x
+      rescued : {l n : ℕ} {b c : Codes} {x : subject.Item} → All b x → AllOf l (Rescue b n c) x
 
     -- everything that a list of statements may do
     pub data All : Codes → subject.Item → Type 0 where

@@ -1,7 +1,7 @@
 -- What calls bring from the rows of the called procedures into those of the caller.
 use Rattle.std.specs.Prelude.{ℕ, ◌+◌, List, [], ◌∷◌, ◌++◌, Bool, true, false, nat_lt, if◌then◌else◌}
 use Rattle.sections.specs.declared.id.SectionId.{SectionId}
-use Rattle.types.specs.Code.{Code, Do, If, While, Split, Parts, Begun, Call, Async, Finish}
+use Rattle.types.specs.Code.{Code, Do, If, While, Split, Parts, Begun, Call, Async, Finish, Rescue}
 use Rattle.types.specs.declared.ids.ProcedureId.{ProcedureId}
 use Rattle.effects.specs.Visits.{Visit}
 use Rattle.effects.specs.declared.flows.CallFlow.{CallFlow}
@@ -57,6 +57,7 @@ module _ (caller : ProcedureId) where
     flows_of_code w (Call f es ss) = flows_of_call w f ss
     flows_of_code w (Async b) = []
     flows_of_code w (Finish b) = []
+    flows_of_code w (Rescue b n c) = []
 
     abbrev pub flows_of : Visit → List CallFlow
     flows_of v = flows_of_code v.standing v.code

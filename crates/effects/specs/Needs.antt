@@ -2,7 +2,8 @@
 use Rattle.std.specs.Prelude.{ℕ, ◌≡◌, List, [], ◌∷◌, ◌++◌, Bool, true, nat_eq, nat_lt, if◌then◌else◌}
 use Rattle.std.specs.List.{list_any}
 use Rattle.sections.specs.Member.{Member}
-use Rattle.types.specs.Code.{Code, Do, If, While, Split, Parts, Begun, Call, Async, Finish, Codes, End, Then, Program}
+use Rattle.types.specs.Code.{Code, Do, If, While, Split, Parts, Begun, Call, Async, Finish, Rescue, Codes}
+use Rattle.types.specs.Code.{End, Then, Program}
 use Rattle.types.specs.Run.{procedure_of}
 use Rattle.effects.specs.Accesses.{Access}
 use Rattle.effects.specs.Effects.{accesses, All}
@@ -47,6 +48,7 @@ module _ (p : Program) (needs : Codes → Needs) where
     ProvidesOf (Call f es ss) = Unit {0}
     ProvidesOf (Async b) = AreNeeds p b (needs b) × ProvidesIn b
     ProvidesOf (Finish b) = ProvidesIn b
+    ProvidesOf (Rescue b n c) = ProvidesIn b × ProvidesIn c
 
     -- `needs` gives what each async in a list of statements needs
     pub ProvidesIn : Codes → Type 0

@@ -1,7 +1,8 @@
 -- The rows of the table for All and Pending, as a reader would write them.
 use Rattle.std.specs.Prelude.{ℕ, ◌≡◌, ◌⊎◌, ◌↔◌, Bool, true}
 use Rattle.sections.specs.Member.{Member}
-use Rattle.types.specs.Code.{Code, Do, If, While, Split, Parts, Begun, Call, Async, Finish, Codes, End, Then, Program}
+use Rattle.types.specs.Code.{Code, Do, If, While, Split, Parts, Begun, Call, Async, Finish, Rescue, Codes}
+use Rattle.types.specs.Code.{End, Then, Program}
 use Rattle.types.specs.Run.{procedure_of}
 use Rattle.types.specs.Sound.{passed_for}
 use Rattle.effects.specs.Effects.{past_parts, past_split, Inner, Subject, AllOf, All, PendingOf, Pending}
@@ -24,16 +25,18 @@ module _ (p : Program) (subject : Subject) where
   Inside has (Call f es ss) x = Renamed (passed_for ss) (has (procedure_of p f).body) x
   Inside has (Async b) x = has b x
   Inside has (Finish b) x = has b x
+  Inside has (Rescue b n c) x = has b x ⊎ has c x
 
   -- what the blocks of a statement and its call may do
   abbrev pub AllInside : Code → subject.Item → Type 0
   AllInside s x = Inside (All p subject) s x
 
-  -- what a statement leaves pending: an async leaves all of its body, a finish nothing, and any
-  -- other statement what is left inside it
+  -- what a statement leaves pending: an async leaves all of its body, a finish nothing, or what its
+  -- handler leaves, and any other statement what is left inside it
   abbrev pub LeftBy : Code → subject.Item → Type 0
   LeftBy (Async b) x = All p subject b x
   LeftBy (Finish b) x = ⊥
+  LeftBy (Rescue b n c) x = Pending p subject c x
   LeftBy s x = Inside (Pending p subject) s x
 
   -- a set for each list of statements that contains everything that the rows require of All
@@ -48,6 +51,8 @@ module _ (p : Program) (subject : Subject) where
         → has b x ≡ true → has (Then l (Async b) rest) x ≡ true
     pub finish : (l : ℕ) (b rest : Codes) (x : subject.Item)
         → has b x ≡ true → has (Then l (Finish b) rest) x ≡ true
+    pub rescued : (l n : ℕ) (b c rest : Codes) (x : subject.Item)
+        → has b x ≡ true → has (Then l (Rescue b n c) rest) x ≡ true
 
   -- a set that contains everything that the rows require of Pending
   pub record SolvesPending (has : Codes → subject.Item → Bool) : Type 0 where

@@ -1,6 +1,7 @@
 -- The statements of a program, at any depth.
 use Rattle.std.specs.Prelude.{ℕ}
-use Rattle.types.specs.Code.{Number, Truth, Code, If, While, Split, Parts, Async, Finish, Codes, Then, Program}
+use Rattle.types.specs.Code.{Number, Truth, Code, If, While, Split, Parts, Async, Finish, Rescue, Codes, Then}
+use Rattle.types.specs.Code.{Program}
 use Rattle.types.specs.Run.{procedure_of}
 
 -- the blocks inside a statement; what a call runs is in its procedure
@@ -12,6 +13,8 @@ pub data Block : Code → Codes → Type 0 where
   parts : {s : ℕ} {e : Number} {q i : ℕ} {b : Codes} → Block (Parts s e q i b) b
   async : {b : Codes} → Block (Async b) b
   finish : {b : Codes} → Block (Finish b) b
+  rescued : {n : ℕ} {b c : Codes} → Block (Rescue b n c) b
+  handler : {n : ℕ} {b c : Codes} → Block (Rescue b n c) c
 
 -- a statement with this label is in a list, or inside a statement of the list
 pub data Stands : Codes → (label : ℕ) → Code → Type 0 where

@@ -1,7 +1,8 @@
 -- All and Pending as lists, over tables of what each procedure's body contains.
 use Rattle.std.specs.Prelude.{ℕ, zero, suc, List, [], ◌++◌, map, ◌↔◌}
 use Rattle.sections.specs.Member.{Member}
-use Rattle.types.specs.Code.{Code, Do, If, While, Split, Parts, Begun, Call, Async, Finish, Codes, End, Then, Program}
+use Rattle.types.specs.Code.{Code, Do, If, While, Split, Parts, Begun, Call, Async, Finish, Rescue, Codes}
+use Rattle.types.specs.Code.{End, Then, Program}
 use Rattle.types.specs.Run.{procedure_of}
 use Rattle.types.specs.Sound.{passed_for}
 use Rattle.effects.specs.Effects.{past_parts, past_split, Subject, All, Pending}
@@ -23,6 +24,7 @@ module _ (subject : Subject) (table : Table subject) where
     all_inside (Call f es ss) = map (subject.renamed (passed_for ss)) (table f)
     all_inside (Async b) = all_in b
     all_inside (Finish b) = all_in b
+    all_inside (Rescue b n c) = all_in b ++ all_in c
 
     -- what a list of statements may do
     pub all_in : Codes → List subject.Item
@@ -46,6 +48,7 @@ module _ (subject : Subject) (alls pendings : Table subject) where
     left_by (Call f es ss) = map (subject.renamed (passed_for ss)) (pendings f)
     left_by (Async b) = all_in subject alls b
     left_by (Finish b) = []
+    left_by (Rescue b n c) = left_in c
 
     -- what a list of statements leaves pending
     pub left_in : Codes → List subject.Item

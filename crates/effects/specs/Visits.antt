@@ -1,6 +1,7 @@
 -- The statements of a body, at any depth, each with its position relative to asyncs and finishes.
 use Rattle.std.specs.Prelude.{ℕ, List, [], ◌∷◌, ◌++◌}
-use Rattle.types.specs.Code.{Code, Do, If, While, Split, Parts, Begun, Call, Async, Finish, Codes, End, Then}
+use Rattle.types.specs.Code.{Code, Do, If, While, Split, Parts, Begun, Call, Async, Finish, Rescue, Codes}
+use Rattle.types.specs.Code.{End, Then}
 use Rattle.types.specs.Translation.{code}
 use Rattle.effects.specs.declared.visits.Standing.{Standing}
 use Rattle.effects.specs.declared.visits.Standing.TheVariants.{Open, Begun, Awaited}
@@ -45,6 +46,7 @@ abbrev mutual
   visits_inside w (Call f es ss) = []
   visits_inside w (Async b) = visits_in (in_async w) b
   visits_inside w (Finish b) = visits_in (in_finish w) b
+  visits_inside w (Rescue b n c) = visits_in (in_finish w) b ++ visits_in w c
 
   -- the statements of a list of statements
   pub visits_in : Standing → Codes → List Visit

@@ -67,6 +67,10 @@ fn add_inside(
             add_block(alloc, code, table, body, into)?;
             add_block(alloc, code, table, other, into)
         }
+        StmtKind::Rescue { body, handler, .. } => {
+            add_block(alloc, code, table, body, into)?;
+            add_block(alloc, code, table, handler, into)
+        }
         StmtKind::While { body, .. } | StmtKind::Async { body } | StmtKind::Finish { body } => {
             add_block(alloc, code, table, body, into)
         }

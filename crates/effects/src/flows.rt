@@ -58,6 +58,7 @@ pub fn flow_visit(
         }
         StmtKind::Async { .. } => Ok(()),
         StmtKind::Finish { .. } => Ok(()),
+        StmtKind::Rescue { .. } => Ok(()),
     }
 }
 

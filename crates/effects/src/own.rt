@@ -27,6 +27,7 @@ pub fn own_accesses(alloc: Global, label: Label, kind: &StmtKind) -> Result<Vec<
         StmtKind::Call { values, .. } => all_reads(alloc, label, values),
         StmtKind::Async { .. } => Ok(Vec::new(alloc)),
         StmtKind::Finish { .. } => Ok(Vec::new(alloc)),
+        StmtKind::Rescue { .. } => Ok(Vec::new(alloc)),
     }
 }
 

@@ -108,5 +108,10 @@ fn visit_inside<'p>(
             visit_block(standing.in_finish(), body, into)?;
             Ok(())
         }
+        StmtKind::Rescue { body, handler, .. } => {
+            visit_block(standing.in_finish(), body, into)?;
+            visit_block(standing, handler, into)?;
+            Ok(())
+        }
     }
 }

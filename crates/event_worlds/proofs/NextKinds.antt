@@ -6,8 +6,8 @@ use Rattle.std.proofs.lemmas.Bool.{eqb-true}
 use Rattle.std.proofs.lemmas.Option.{same_Some}
 use Rattle.shared_lemmas.proofs.Truths.{false_true, true_false}
 use Rattle.sections.specs.Place.{Window, has_piece, piece_of}
-use Rattle.types.specs.Code.{Code, Do, If, While, Split, Parts, Begun, Call, Async, Finish, Codes, End, Then, Program}
-use Rattle.types.specs.Run.{State, Flow as Going, On, Stopped, counted, stopped, window_at}
+use Rattle.types.specs.Code.{Code, Do, If, While, Split, Parts, Begun, Call, Async, Finish, Rescue, Codes, End, Then, Program}
+use Rattle.types.specs.Run.{State, Flow as Going, On, Stopped, Fault, caught, counted, stopped, window_at}
 use Rattle.types.specs.Value.{Environment}
 use Rattle.effects.specs.Needs.{Needs}
 use Rattle.effects.specs.Rounds.{needs_of}
@@ -15,7 +15,7 @@ use Rattle.statement_steps.specs.Standing.{flow as flow_of}
 use Rattle.statement_steps.proofs.Pieces.{has_none, has_one}
 use Rattle.statement_steps.specs.declared.flow.Flow.{Flow}
 use Rattle.statement_steps.specs.declared.flow.Flow.TheVariants.{On as rOn, Faulted as rFaulted, Stopped as rStopped}
-use Rattle.task_run.specs.Frames.{Frame, Rest, Again, Further, AtEnd, Back, Standing, done_at, done_by, done_in, turn, paid, by_flow}
+use Rattle.task_run.specs.Frames.{Frame, Rest, Again, Further, AtEnd, OnFault, Back, Standing, handled, done_at, done_by, done_in, turn, paid, by_flow}
 use Rattle.task_run.specs.Given.{in_truth}
 use Rattle.task_run.specs.OwnRun.{Own, Start, Action, Step, Spawn, EnterFinish, EndFinish, child_of, own_rules, last_action}
 use Rattle.task_run.specs.Results.{Settled}
@@ -31,7 +31,7 @@ use Rattle.task_run.proofs.RunTops.{none_stacked, on_top}
 use Rattle.task_run.specs.Jobs.{IsJob, program_of, budget_of}
 use Rattle.task_run.specs.declared.job.Job.{Job}
 use Rattle.event_worlds.specs.Courses.{Course, HasCome, IsFresh, IsNext, IsRunOf}
-use Rattle.event_worlds.specs.NextKinds.{IsLeft, IsOfKind, HasNext, kind_by, is_step, does, does_nested, block_does, top_does, after_frame}
+use Rattle.event_worlds.specs.NextKinds.{IsLeft, NotStopped, IsOfKind, HasNext, kind_by, is_step, does, does_nested, block_does, handler_does, top_does, after_frame}
 use Rattle.event_worlds.specs.declared.next.First.{First}
 use Rattle.event_worlds.specs.declared.next.First.TheVariants.{Acts, Goes}
 use Rattle.event_worlds.specs.declared.next.NextKind.{NextKind}
@@ -80,6 +80,7 @@ module _ (needs : Codes → Needs) (path : List ℕ) where
   shows_nested (suc m) n (Async b) st =
       let child = (child_of (needs b) m b st).start in (Spawn child, refl, (child, refl))
   shows_nested zero n (Finish b) st = (EnterFinish, refl, refl)
+  shows_nested zero n (Rescue b x d) st = (EnterFinish, refl, refl)
   shows_nested zero n (Do s) st = (Step, refl, refl)
   shows_nested zero n (If t b c) st = (Step, refl, refl)
   shows_nested zero n (While t b) st = (Step, refl, refl)
@@ -88,6 +89,7 @@ module _ (needs : Codes → Needs) (path : List ℕ) where
   shows_nested zero n (Begun s m k q i b) st = (Step, refl, refl)
   shows_nested zero n (Call f es ss) st = (Step, refl, refl)
   shows_nested (suc m) n (Finish b) st = (EnterFinish, refl, refl)
+  shows_nested (suc m) n (Rescue b x d) st = (EnterFinish, refl, refl)
   shows_nested (suc m) n (Do s) st = (Step, refl, refl)
   shows_nested (suc m) n (If t b c) st = (Step, refl, refl)
   shows_nested (suc m) n (While t b) st = (Step, refl, refl)
@@ -101,17 +103,26 @@ module _ (needs : Codes → Needs) (path : List ℕ) where
   shows_paid nest (suc n) s st = shows_nested nest n s st
 
   -- a statement, by the flow
-  shows_at : (nest steps : ℕ) (g : Flow) (s : Code) (st : State Own) → st.flow ≡ flow_of g → (g ≡ rOn → st.steps ≡ steps)
+  shows_at : (nest steps : ℕ) (g : Flow) (s : Code) (st : State Own) → st.flow ≡ flow_of g → (NotStopped g → st.steps ≡ steps)
       → ActsSo path (does nest steps g (kind_by s)) (done_at needs nest st.flow s st)
   shows_at nest steps rOn s st e left =
       subst (λ f. ActsSo path (does nest steps rOn (kind_by s)) (done_at needs nest f s st)) (sym e)
-      (subst (λ n. ActsSo path (does nest n rOn (kind_by s)) (done_by needs nest st.steps s st)) (left refl) (shows_paid nest st.steps s st))
+      (subst (λ n. ActsSo path (does nest n rOn (kind_by s)) (done_by needs nest st.steps s st)) (left tt) (shows_paid nest st.steps s st))
   shows_at nest steps rFaulted s st e left = ap (λ f. done_at needs nest f s st) e
   shows_at nest steps rStopped s st e left = ap (λ f. done_at needs nest f s st) e
 
-  -- the top frame, unless it is the end of a finish
-  shows_top : (nest steps : ℕ) (g : Flow) (f : Frame Own) (st : State Own) → st.flow ≡ flow_of g → (g ≡ rOn → st.steps ≡ steps)
-      → ((before : State Own) → f ≡ AtEnd before → ⊥)
+  -- a frame is neither the end of a finish nor a handler
+  abbrev HasActions : Frame Own → Type 0
+  HasActions (Rest b) = Unit {0}
+  HasActions (Again l t b) = Unit {0}
+  HasActions (Further l s n k q i b) = Unit {0}
+  HasActions (AtEnd before) = ⊥
+  HasActions (OnFault before x b) = ⊥
+  HasActions (Back env) = Unit {0}
+
+  -- such a frame on top
+  shows_top : (nest steps : ℕ) (g : Flow) (f : Frame Own) (st : State Own) → st.flow ≡ flow_of g → (NotStopped g → st.steps ≡ steps)
+      → HasActions f
       → ActsSo path (top_does nest steps g st.environment.windows f) (done_in needs nest f st)
   shows_top nest steps g (Rest End) st e left other = refl
   shows_top nest steps g (Rest (Then l s rest)) st e left other = shows_at nest steps g s st e left
@@ -122,7 +133,8 @@ module _ (needs : Codes → Needs) (path : List ℕ) where
           (if more then done_at needs nest st.flow (Begun s n k q i b) st else [])
       by true = shows_at nest steps g (Begun s n k q i b) st e left
       by false = refl
-  shows_top nest steps g (AtEnd before) st e left other = absurd (other before refl)
+  shows_top nest steps g (AtEnd before) st e left other = absurd other
+  shows_top nest steps g (OnFault before x b) st e left other = absurd other
   shows_top nest steps g (Back env) st e left other = refl
 
   module _ (p : Program) (nest : ℕ) (close : State Own → Option Settled) where
@@ -141,6 +153,7 @@ module _ (needs : Codes → Needs) (path : List ℕ) where
         by_code zero (Async b) e = (sym (goes_inj e), (stopped (record st { steps = n }), refl, refl, refl))
         by_code (suc m) (Async b) e = absurd (acts_goes e)
         by_code m (Finish b) e = absurd (acts_goes e)
+        by_code m (Rescue b x d) e = absurd (acts_goes e)
         by_code m (Do s) e = absurd (acts_goes e)
         by_code m (If t b c) e = absurd (acts_goes e)
         by_code m (While t b) e = absurd (acts_goes e)
@@ -150,12 +163,12 @@ module _ (needs : Codes → Needs) (path : List ℕ) where
         by_code m (Call f es ss) e = absurd (acts_goes e)
 
 -- ---- the frames that are left, after those that did nothing
--- it is at frames, with this environment, and did nothing so far
+-- it is at frames, with the windows of this environment, and did nothing so far
 pub record ComesTo (j : Job) (c : Course) (fs : List (Frame Own)) (env : Environment) (now : Flow) (budget : ℕ) : Type 0 where
   pub state : State Own
-  pub environment : state.environment ≡ env
+  pub windows : state.environment.windows ≡ env.windows
   pub flow : state.flow ≡ flow_of now
-  pub steps : now ≡ rOn → state.steps ≡ budget
+  pub steps : NotStopped now → state.steps ≡ budget
   pub come : HasCome j c (record { frames = fs; state = state })
 
 module _ (j : Job) (ok : IsJob j) (c : Course) where
@@ -191,14 +204,14 @@ module _ (j : Job) (ok : IsJob j) (c : Course) where
       → next_of j ok c.start f fs st
       ≡ by_flow p (own_rules (needs_of p) c.start.nest (in_truth p (needs_of p) (budget_of j).steps)) st.flow l s above fs st
       → ((to : State Own) → to.flow ≡ Stopped → HasCome j c (At above to) → HasCome j c (At fs to))
-      → st.flow ≡ flow_of g → (g ≡ rOn → st.steps ≡ steps) → does c.start.nest steps g (kind_by s) ≡ Goes next
+      → st.flow ≡ flow_of g → (NotStopped g → st.steps ≡ steps) → does c.start.nest steps g (kind_by s) ≡ Goes next
       → ComesTo j c fs st.environment next steps
   passes steps f l s above fs st g next h does_so turns_so lands e left is = by_flow_of g next e left is
     where
       turned : Going → Standing Own
       turned o = by_flow p (own_rules (needs_of p) c.start.nest (in_truth p (needs_of p) (budget_of j).steps)) o l s above fs st
 
-      none : (g next : Flow) → st.flow ≡ flow_of g → (g ≡ rOn → st.steps ≡ steps) → does c.start.nest steps g (kind_by s) ≡ Goes next
+      none : (g next : Flow) → st.flow ≡ flow_of g → (NotStopped g → st.steps ≡ steps) → does c.start.nest steps g (kind_by s) ≡ Goes next
           → done_in (needs_of p) c.start.nest f st ≡ []
       none g next e left is =
           does_so
@@ -206,25 +219,25 @@ module _ (j : Job) (ok : IsJob j) (c : Course) where
           (shows_at (needs_of p) c.start.path c.start.nest steps g s st e left)
 
       off : (o : Going) (g : Flow) → st.flow ≡ o → o ≡ flow_of g → done_in (needs_of p) c.start.nest f st ≡ [] → turned o ≡ At fs st
-          → (g ≡ rOn → st.steps ≡ steps) → ComesTo j c fs st.environment g steps
+          → (NotStopped g → st.steps ≡ steps) → ComesTo j c fs st.environment g steps
       off o g e is acts_none to left = record {
         state = st;
-        environment = refl;
+        windows = refl;
         flow = e ∙ is;
         steps = left;
         come = quiet_to f fs st (At fs st) h acts_none (turns_so ∙ ap turned e ∙ to);
       }
 
-      by_flow_of : (g next : Flow) → st.flow ≡ flow_of g → (g ≡ rOn → st.steps ≡ steps) → does c.start.nest steps g (kind_by s) ≡ Goes next
+      by_flow_of : (g next : Flow) → st.flow ≡ flow_of g → (NotStopped g → st.steps ≡ steps) → does c.start.nest steps g (kind_by s) ≡ Goes next
           → ComesTo j c fs st.environment next steps
       by_flow_of rOn next e left is =
           let over = over_stops (needs_of p) c.start.path p c.start.nest (in_truth p (needs_of p) (budget_of j).steps) st.steps l s above st next
-          (ap (λ n. does c.start.nest n rOn (kind_by s)) (left refl) ∙ is) in
+          (ap (λ n. does c.start.nest n rOn (kind_by s)) (left tt) ∙ is) in
           record {
             state = over.1.0;
-            environment = over.1.3;
+            windows = ap (λ (e : Environment). e.windows) over.1.3;
             flow = over.1.2 ∙ ap flow_of (sym over.0);
-            steps = λ on. (let bad : ⊥ = cc (sym over.0 ∙ on) in absurd bad);
+            steps = λ on. absurd (subst NotStopped over.0 on);
             come = lands over.1.0 over.1.2
                 (quiet_to f fs st (At above over.1.0) h (none rOn next e left is) (turns_so ∙ ap turned e ∙ over.1.1));
           }
@@ -235,7 +248,7 @@ module _ (j : Job) (ok : IsJob j) (c : Course) where
 
   -- the turns of a `parts` go away: none is left, or the flow isn't on or no step is left
   turns_go : (steps l s n k q i : ℕ) (b : Codes) (fs : List (Frame Own)) (st : State Own) (g next : Flow)
-      → HasCome j c (At (Further l s n k q i b ∷ fs) st) → st.flow ≡ flow_of g → (g ≡ rOn → st.steps ≡ steps)
+      → HasCome j c (At (Further l s n k q i b ∷ fs) st) → st.flow ≡ flow_of g → (NotStopped g → st.steps ≡ steps)
       → top_does c.start.nest steps g st.environment.windows (Further l s n k q i b) ≡ Goes next
       → ComesTo j c fs st.environment next steps
   turns_go steps l s n k q i b fs st g next h e left is = by (has_piece (window_at st s) n k) refl is
@@ -263,59 +276,114 @@ module _ (j : Job) (ok : IsJob j) (c : Course) where
           let same : g ≡ next = goes_inj is in
           record {
             state = st;
-            environment = refl;
+            windows = refl;
             flow = e ∙ ap flow_of same;
-            steps = λ on. left (same ∙ on);
+            steps = λ on. left (subst NotStopped (sym same) on);
             come = quiet_to (Further l s n k q i b) fs st (At fs st) h (acts_as false m) (turns_as false m);
           }
 
-  -- a frame goes away
-  goes : (steps : ℕ) (f : Frame Own) (fs : List (Frame Own)) (st : State Own) (g next : Flow) → HasCome j c (At (f ∷ fs) st)
-      → st.flow ≡ flow_of g → (g ≡ rOn → st.steps ≡ steps) → top_does c.start.nest steps g st.environment.windows f ≡ Goes next
-      → ComesTo j c fs (after_frame f st.environment) next steps
-  goes steps (Rest End) fs st g next h e left is =
+  -- a block goes away
+  rest_goes : (steps : ℕ) (b : Codes) (fs : List (Frame Own)) (st : State Own) (g next : Flow) → HasCome j c (At (Rest b ∷ fs) st)
+      → st.flow ≡ flow_of g → (NotStopped g → st.steps ≡ steps) → block_does c.start.nest steps g b ≡ Goes next
+      → ComesTo j c fs st.environment next steps
+  rest_goes steps End fs st g next h e left is =
       let same : g ≡ next = goes_inj is in
       record {
         state = st;
-        environment = refl;
+        windows = refl;
         flow = e ∙ ap flow_of same;
-        steps = λ on. left (same ∙ on);
+        steps = λ on. left (subst NotStopped (sym same) on);
         come = quiet (Rest End) fs st h refl;
       }
+  rest_goes steps (Then l s rest) fs st g next h e left is =
+      passes steps (Rest (Then l s rest)) l s (Rest rest ∷ fs) fs st g next h refl refl (λ to off there. drops rest fs to off there) e left is
+
+  -- after a fault the handler of a finish is next
+  catches : (before : List Fault) (x : ℕ) (b : Codes) (fs : List (Frame Own)) (st : State Own)
+      → HasCome j c (At (OnFault before x b ∷ fs) st) → st.flow ≡ flow_of rFaulted
+      → HasCome j c (At (Rest b ∷ fs) (caught x before st))
+  catches before x b fs st h e =
+      quiet_to (OnFault before x b) fs st (At (Rest b ∷ fs) (caught x before st)) h refl (ap (λ w. handled w before x b fs st) e)
+
+  -- otherwise it goes away
+  handler_goes : (steps : ℕ) (before : List Fault) (x : ℕ) (b : Codes) (fs : List (Frame Own)) (st : State Own) (g next : Flow)
+      → HasCome j c (At (OnFault before x b ∷ fs) st) → st.flow ≡ flow_of g → (NotStopped g → st.steps ≡ steps)
+      → handler_does c.start.nest steps g b ≡ Goes next → ComesTo j c fs st.environment next steps
+  handler_goes steps before x b fs st rOn next h e left is =
+      let same : rOn ≡ next = goes_inj is in
+      record {
+        state = st;
+        windows = refl;
+        flow = e ∙ ap flow_of same;
+        steps = λ on. left tt;
+        come = quiet_to (OnFault before x b) fs st (At fs st) h refl (ap (λ w. handled w before x b fs st) e);
+      }
+  handler_goes steps before x b fs st rFaulted next h e left is =
+      let to = rest_goes steps b fs (caught x before st) rOn next (catches before x b fs st h e) refl (λ on. left tt) is in
+      record { state = to.state; windows = to.windows; flow = to.flow; steps = to.steps; come = to.come }
+  handler_goes steps before x b fs st rStopped next h e left is =
+      let same : rStopped ≡ next = goes_inj is in
+      record {
+        state = st;
+        windows = refl;
+        flow = e ∙ ap flow_of same;
+        steps = λ on. left (subst NotStopped (sym same) on);
+        come = quiet_to (OnFault before x b) fs st (At fs st) h refl (ap (λ w. handled w before x b fs st) e);
+      }
+
+  -- a frame goes away
+  goes : (steps : ℕ) (f : Frame Own) (fs : List (Frame Own)) (st : State Own) (g next : Flow) → HasCome j c (At (f ∷ fs) st)
+      → st.flow ≡ flow_of g → (NotStopped g → st.steps ≡ steps) → top_does c.start.nest steps g st.environment.windows f ≡ Goes next
+      → ComesTo j c fs (after_frame f st.environment) next steps
+  goes steps (Rest b) fs st g next h e left is = rest_goes steps b fs st g next h e left is
   goes steps (Back env) fs st g next h e left is =
       let same : g ≡ next = goes_inj is in
       record {
         state = record st { environment = env };
-        environment = refl;
+        windows = refl;
         flow = e ∙ ap flow_of same;
-        steps = λ on. left (same ∙ on);
+        steps = λ on. left (subst NotStopped (sym same) on);
         come = quiet (Back env) fs st h refl;
       }
   goes steps (AtEnd before) fs st g next h e left is = absurd (acts_goes is)
+  goes steps (OnFault before x b) fs st g next h e left is = handler_goes steps before x b fs st g next h e left is
   goes steps (Again l t b) fs st g next h e left is =
       passes steps (Again l t b) l (While t b) fs fs st g next h refl refl (λ to off there. there) e left is
   goes steps (Further l s n k q i b) fs st g next h e left is = turns_go steps l s n k q i b fs st g next h e left is
-  goes steps (Rest (Then l s rest)) fs st g next h e left is =
-      passes steps (Rest (Then l s rest)) l s (Rest rest ∷ fs) fs st g next h refl refl (λ to off there. drops rest fs to off there) e left is
+
+  -- a block does an action
+  rest_acts : (steps : ℕ) (b : Codes) (fs : List (Frame Own)) (st : State Own) (g : Flow) (k : NextKind) → HasCome j c (At (Rest b ∷ fs) st)
+      → st.flow ≡ flow_of g → (NotStopped g → st.steps ≡ steps) → block_does c.start.nest steps g b ≡ Acts k → HasNext j c k
+  rest_acts steps b fs st g k h e left is =
+      let so = subst (λ x. ActsSo c.start.path x (done_in (needs_of p) c.start.nest (Rest b) st)) is
+      (shows_top (needs_of p) c.start.path c.start.nest steps g (Rest b) st e left tt) in
+      record { action = so.0; next = next_is j ok c (Rest b) fs st so.0 h so.1; of = so.2 }
+
+  -- after a fault the handler of a finish does one
+  handler_acts : (steps : ℕ) (before : List Fault) (x : ℕ) (b : Codes) (fs : List (Frame Own)) (st : State Own) (g : Flow) (k : NextKind)
+      → HasCome j c (At (OnFault before x b ∷ fs) st) → st.flow ≡ flow_of g → (NotStopped g → st.steps ≡ steps)
+      → handler_does c.start.nest steps g b ≡ Acts k → HasNext j c k
+  handler_acts steps before x b fs st rOn k h e left is = absurd (acts_goes (sym is))
+  handler_acts steps before x b fs st rFaulted k h e left is =
+      rest_acts steps b fs (caught x before st) rOn k (catches before x b fs st h e) refl (λ on. left tt) is
+  handler_acts steps before x b fs st rStopped k h e left is = absurd (acts_goes (sym is))
 
   -- a frame does an action
   acts : (steps : ℕ) (f : Frame Own) (fs : List (Frame Own)) (st : State Own) (g : Flow) (k : NextKind) → HasCome j c (At (f ∷ fs) st)
-      → st.flow ≡ flow_of g → (g ≡ rOn → st.steps ≡ steps) → top_does c.start.nest steps g st.environment.windows f ≡ Acts k
+      → st.flow ≡ flow_of g → (NotStopped g → st.steps ≡ steps) → top_does c.start.nest steps g st.environment.windows f ≡ Acts k
       → HasNext j c k
   acts steps (AtEnd before) fs st g k h e left is =
       subst (HasNext j c) (acts_inj is) (record { action = EndFinish; next = ends_finish j ok c before fs st h; of = refl })
-  acts steps (Rest b) fs st g k h e left is =
-      let so = subst (λ x. ActsSo c.start.path x (done_in (needs_of p) c.start.nest (Rest b) st)) is
-      (shows_top (needs_of p) c.start.path c.start.nest steps g (Rest b) st e left (λ before bad. (let no : ⊥ = cc bad in no))) in
-      record { action = so.0; next = next_is j ok c (Rest b) fs st so.0 h so.1; of = so.2 }
+  acts steps (OnFault before x b) fs st g k h e left is = handler_acts steps before x b fs st g k h e left is
+  acts steps (Rest b) fs st g k h e left is = rest_acts steps b fs st g k h e left is
   acts steps (Again l t b) fs st g k h e left is =
       let so = subst (λ x. ActsSo c.start.path x (done_in (needs_of p) c.start.nest (Again l t b) st)) is
-      (shows_top (needs_of p) c.start.path c.start.nest steps g (Again l t b) st e left (λ before bad. (let no : ⊥ = cc bad in no))) in
+      (shows_top (needs_of p) c.start.path c.start.nest steps g (Again l t b) st e left tt) in
       record { action = so.0; next = next_is j ok c (Again l t b) fs st so.0 h so.1; of = so.2 }
   acts steps (Further l s n m q i b) fs st g k h e left is =
       let f : Frame Own = Further l s n m q i b in
       let so = subst (λ x. ActsSo c.start.path x (done_in (needs_of p) c.start.nest f st)) is
-      (shows_top (needs_of p) c.start.path c.start.nest steps g f st e left (λ before bad. (let no : ⊥ = cc bad in no))) in
+      (shows_top (needs_of p) c.start.path c.start.nest steps g f st e left tt) in
       record { action = so.0; next = next_is j ok c f fs st so.0 h so.1; of = so.2 }
   acts steps (Back env) fs st g k h e left is = absurd (acts_goes (sym is))
 
@@ -327,17 +395,26 @@ module _ (j : Job) (ok : IsJob j) (c : Course) where
     left = m.frames;
     state = with_own m.own (state_of r.thread);
     stacked = m.shows.frames;
-    environment = refl;
+    windows = refl;
     flow = refl;
     steps = λ on. refl;
     come = m.come;
   }
 
+  -- in an environment with the same windows
+  same_after : (f : Frame Own) (e d : Environment) → e.windows ≡ d.windows → (after_frame f e).windows ≡ (after_frame f d).windows
+  same_after (Back env) e d same = refl
+  same_after (Rest b) e d same = same
+  same_after (Again l t b) e d same = same
+  same_after (Further l s n k q i b) e d same = same
+  same_after (AtEnd before) e d same = same
+  same_after (OnFault before x b) e d same = same
+
   module _ (frames below : List rFrame) (top : rFrame) (are : frames ≡ below ++ top ∷ []) (env : Environment)
       (g : Flow) (steps : ℕ) (i : IsLeft j c frames env g steps) where
     shown_does : (f : Frame Own)
         → top_does c.start.nest steps g i.state.environment.windows f ≡ top_does c.start.nest steps g env.windows f
-    shown_does f = ap (λ (e : Environment). top_does c.start.nest steps g e.windows f) i.environment
+    shown_does f = ap (λ (w : ℕ → Window). top_does c.start.nest steps g w f) i.windows
 
     -- the top frame does nothing
     pub left_below : (after : Environment) (next : Flow) → ((f : Frame Own) → ShowsFrame top f → after ≡ after_frame f env)
@@ -351,7 +428,8 @@ module _ (j : Job) (ok : IsJob j) (c : Course) where
           left = fs;
           state = to.state;
           stacked = stacked;
-          environment = to.environment ∙ ap (after_frame f) i.environment ∙ sym (comes f shown);
+          windows =
+              to.windows ∙ same_after f i.state.environment env i.windows ∙ sym (ap (λ (e : Environment). e.windows) (comes f shown));
           flow = to.flow;
           steps = to.steps;
           come = to.come;

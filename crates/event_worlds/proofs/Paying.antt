@@ -5,13 +5,14 @@ use Rattle.std.proofs.Common.{inr, arith, le_refl}
 use Rattle.std.specs.Prelude.{◌⊎◌, ◌&&◌, Bool, true, false, Option, if◌then◌else◌}
 use Rattle.sections.specs.Place.{has_piece}
 use Rattle.shared_lemmas.proofs.Truths.{false_true}
-use Rattle.types.specs.Code.{Code, Do, If, While, Split, Parts, Begun, Call, Async, Finish, Codes, End, Then, Program}
+use Rattle.types.specs.Code.{Code, Do, If, While, Split, Parts, Begun, Call, Async, Finish, Rescue, Codes, End, Then}
+use Rattle.types.specs.Code.{Program}
 use Rattle.types.specs.Run.{Flow, On, Faulted, Stopped, State, counted, window_at}
 use Rattle.effects.specs.Needs.{Needs}
 use Rattle.task_run.specs.Results.{Settled}
 use Rattle.task_run.specs.OwnRun.{Action, Step, Spawn, EnterFinish, EndFinish, EndTask, Own, own_rules}
-use Rattle.task_run.specs.Frames.{Frame, Rest, Again, Further, AtEnd, Back, Standing, turn, paid, by_flow}
-use Rattle.task_run.specs.Frames.{done_by, done_at, done_in}
+use Rattle.task_run.specs.Frames.{Frame, Rest, Again, Further, AtEnd, OnFault, Back, Standing, handled, turn, paid}
+use Rattle.task_run.specs.Frames.{by_flow, done_by, done_at, done_in}
 use Rattle.task_run.specs.Stops.{is_over, is_next_over, stops}
 use Rattle.types.proofs.Counted.{counted_steps}
 use Rattle.task_run.proofs.TasksEnd.{acted_less}
@@ -53,6 +54,12 @@ module _ (p : Program) (needs : Codes → Needs) (nest : ℕ) (close : State Own
       by true = flow_pays st.flow l c fs fs st
       by false = (le_refl st.steps, inl refl)
   turn_pays (AtEnd before) fs st = (le_refl st.steps, inl refl)
+  turn_pays (OnFault before x b) fs st = by st.flow
+    where
+      by : (g : Flow) → Pays [] (handled g before x b fs st).state st
+      by On = (le_refl st.steps, inl refl)
+      by Faulted = (le_refl st.steps, inl refl)
+      by Stopped = (le_refl st.steps, inl refl)
   turn_pays (Back env) fs st = (le_refl st.steps, inl refl)
 
   -- if a step is left, a statement has an action, or is an async over the budget
@@ -60,6 +67,7 @@ module _ (p : Program) (needs : Codes → Needs) (nest : ℕ) (close : State Own
   acts zero n (Async b) st e k = false_true (sym k)
   acts (suc m) n (Async b) st e k = nil_cons (sym e)
   acts zero n (Finish b) st e k = nil_cons (sym e)
+  acts zero n (Rescue b x d) st e k = nil_cons (sym e)
   acts zero n (Do s) st e k = nil_cons (sym e)
   acts zero n (If t b c) st e k = nil_cons (sym e)
   acts zero n (While t b) st e k = nil_cons (sym e)
@@ -68,6 +76,7 @@ module _ (p : Program) (needs : Codes → Needs) (nest : ℕ) (close : State Own
   acts zero n (Begun s z j x y b) st e k = nil_cons (sym e)
   acts zero n (Call f es ss) st e k = nil_cons (sym e)
   acts (suc m) n (Finish b) st e k = nil_cons (sym e)
+  acts (suc m) n (Rescue b x d) st e k = nil_cons (sym e)
   acts (suc m) n (Do s) st e k = nil_cons (sym e)
   acts (suc m) n (If t b c) st e k = nil_cons (sym e)
   acts (suc m) n (While t b) st e k = nil_cons (sym e)
@@ -108,6 +117,12 @@ module _ (p : Program) (needs : Codes → Needs) (nest : ℕ) (close : State Own
       by true none k = flow_idle st.flow l c fs fs st none k
       by false none k = le_refl st.steps
   turn_idle (AtEnd before) fs st none k = le_refl st.steps
+  turn_idle (OnFault before x b) fs st none k = by st.flow
+    where
+      by : (g : Flow) → st.steps ≤ (handled g before x b fs st).state.steps
+      by On = le_refl st.steps
+      by Faulted = le_refl st.steps
+      by Stopped = le_refl st.steps
   turn_idle (Back env) fs st none k = le_refl st.steps
 
   -- a spawned task has the next path
@@ -124,6 +139,7 @@ module _ (p : Program) (needs : Codes → Needs) (nest : ℕ) (close : State Own
   named_by zero (suc n) (Async b) st = tt
   named_by (suc m) (suc n) (Async b) st = refl
   named_by zero (suc n) (Finish b) st = tt
+  named_by zero (suc n) (Rescue b x d) st = tt
   named_by zero (suc n) (Do s) st = tt
   named_by zero (suc n) (If t b c) st = tt
   named_by zero (suc n) (While t b) st = tt
@@ -132,6 +148,7 @@ module _ (p : Program) (needs : Codes → Needs) (nest : ℕ) (close : State Own
   named_by zero (suc n) (Begun s z j x y b) st = tt
   named_by zero (suc n) (Call f es ss) st = tt
   named_by (suc m) (suc n) (Finish b) st = tt
+  named_by (suc m) (suc n) (Rescue b x d) st = tt
   named_by (suc m) (suc n) (Do s) st = tt
   named_by (suc m) (suc n) (If t b c) st = tt
   named_by (suc m) (suc n) (While t b) st = tt
@@ -155,4 +172,5 @@ module _ (p : Program) (needs : Codes → Needs) (nest : ℕ) (close : State Own
       by true = named_at st.flow (Begun s n k q i b) st
       by false = tt
   turn_names (AtEnd before) st = tt
+  turn_names (OnFault before x b) st = tt
   turn_names (Back env) st = tt

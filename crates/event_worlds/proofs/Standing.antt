@@ -5,7 +5,8 @@ use Rattle.std.proofs.lemmas.Option.{same_Some}
 use Rattle.std.proofs.lemmas.List.{append-nil, length_push}
 use Rattle.std.specs.Prelude.{◌⊎◌, Bool, true, false, if◌then◌else◌}
 use Rattle.sections.specs.Place.{has_piece}
-use Rattle.types.specs.Code.{Code, Do, If, While, Split, Parts, Begun, Call, Async, Finish, Codes, End, Then, Program}
+use Rattle.types.specs.Code.{Code, Do, If, While, Split, Parts, Begun, Call, Async, Finish, Rescue, Codes, End, Then}
+use Rattle.types.specs.Code.{Program}
 use Rattle.types.specs.Run.{Flow, On, Faulted, Stopped, State, window_at}
 use Rattle.effects.specs.Needs.{Needs, Provides}
 use Rattle.race_checker.specs.Scope.{IsScoped}
@@ -16,8 +17,8 @@ use Rattle.task_run.specs.Lists.{Each}
 use Rattle.task_run.specs.OwnRun.{Start, Action, Step, Spawn, EnterFinish, EndFinish, EndTask, Own, result_of}
 use Rattle.task_run.specs.OwnRun.{own_rules, last_action, next_action}
 use Rattle.task_run.specs.Given.{in_truth, IsOwn}
-use Rattle.task_run.specs.Frames.{Frame, Rest, Again, Further, AtEnd, Back, Standing, turn, handed, done_by, done_at, done_in}
-use Rattle.task_run.specs.Frames.{Follows}
+use Rattle.task_run.specs.Frames.{Frame, Rest, Again, Further, AtEnd, OnFault, Back, Standing, turn, handed, done_by}
+use Rattle.task_run.specs.Frames.{done_at, done_in, Follows}
 use Rattle.task_run.specs.Holds.{MayBegin}
 use Rattle.task_run.specs.Reached.{Reached, turns, leaves}
 use Rattle.task_run.proofs.NextAction.{next_is_done, next_is_end, next_is_last}
@@ -56,6 +57,7 @@ module _ (needs : Codes → Needs) where
   done_by_little zero (suc n) (Async b) st = inl refl
   done_by_little (suc m) (suc n) (Async b) st = one_does (Spawn _) tt
   done_by_little zero (suc n) (Finish b) st = one_does EnterFinish tt
+  done_by_little zero (suc n) (Rescue b x d) st = one_does EnterFinish tt
   done_by_little zero (suc n) (Do s) st = one_does Step tt
   done_by_little zero (suc n) (If t b c) st = one_does Step tt
   done_by_little zero (suc n) (While t b) st = one_does Step tt
@@ -64,6 +66,7 @@ module _ (needs : Codes → Needs) where
   done_by_little zero (suc n) (Begun s m k q i b) st = one_does Step tt
   done_by_little zero (suc n) (Call f es ss) st = one_does Step tt
   done_by_little (suc m) (suc n) (Finish b) st = one_does EnterFinish tt
+  done_by_little (suc m) (suc n) (Rescue b x d) st = one_does EnterFinish tt
   done_by_little (suc m) (suc n) (Do s) st = one_does Step tt
   done_by_little (suc m) (suc n) (If t b c) st = one_does Step tt
   done_by_little (suc m) (suc n) (While t b) st = one_does Step tt
@@ -87,6 +90,7 @@ module _ (needs : Codes → Needs) where
       by true = done_at_little nest st.flow (Begun s n k q i b) st
       by false = inl refl
   done_in_little nest (AtEnd before) st = inl refl
+  done_in_little nest (OnFault before x b) st = inl refl
   done_in_little nest (Back env) st = inl refl
 
 module _ (p : Program) (needs : Codes → Needs) (scoped : IsScoped p) (calm : IsCalm p) (provided : Provides p needs) (fresh : ℕ)

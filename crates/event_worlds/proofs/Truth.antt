@@ -8,11 +8,13 @@ use Rattle.std.proofs.lemmas.Bool.{and_parts}
 use Rattle.shared_lemmas.proofs.Truths.{false_true}
 use Rattle.sections.specs.Place.{has_piece, sides_of}
 use Rattle.types.specs.declared.fault.FaultKind.TheVariants.{SplitPoint, PieceSize}
-use Rattle.types.specs.Code.{Code, Do, If, While, Split, Parts, Begun, Call, Async, Finish, Codes, End, Then, Program}
+use Rattle.types.specs.Code.{Code, Do, If, While, Split, Parts, Begun, Call, Async, Finish, Rescue, Codes, End, Then}
+use Rattle.types.specs.Code.{Program}
 use Rattle.types.specs.Value.{Environment, Valued}
-use Rattle.types.specs.Run.{Flow, On, Faulted, Stopped, State, Work, Block, Turn, Pieces, Rules, stopped, at_flow, go_on}
-use Rattle.types.specs.Run.{spend, with_step, fault, with_value, choose, number_at, numbers_at, truth_at, window_at}
-use Rattle.types.specs.Run.{entry, with_sides, in_turn, piece_size, procedure_of, primitive, counted, act, block, work, within}
+use Rattle.types.specs.Run.{Flow, On, Faulted, Stopped, Fault, State, Work, Block, Turn, Pieces, Rules, stopped}
+use Rattle.types.specs.Run.{at_flow, go_on, spend, with_step, fault, with_value, choose, caught, rescued, rescued_by}
+use Rattle.types.specs.Run.{number_at, numbers_at, truth_at, window_at, entry, with_sides, in_turn, piece_size}
+use Rattle.types.specs.Run.{procedure_of, primitive, counted, act, block, work, within}
 use Rattle.types.proofs.Keeps.{primitive_keeps, counted_keeps}
 use Rattle.effects.specs.Needs.{Needs}
 use Rattle.task_run.specs.Apart.{is_stopped}
@@ -193,6 +195,38 @@ module _ (p : Program) (needs : Codes → Needs) (fresh : ℕ) (root s : Start) 
             prefix = record { rest = i.prefix.rest ++ g.rest; is = g.is ∙ ap (λ l. l ++ g.rest) i.prefix.is ∙ append_assoc a.extra.actions i.prefix.rest g.rest };
           }))
 
+  -- ---- the handler of a finish
+  flow_rescues : (w : Flow) (x : ℕ) (fs : List Fault) (st : State Own) (f g : State Own → State Own) → Follow f g
+      → Moves st (rescued_by w x f fs st) (rescued_by w x g fs st)
+  flow_rescues On x fs st f g h = idle st st refl refl refl
+  flow_rescues Faulted x fs st f g h =
+      let to = caught x fs st in first st to (f to) (g to) (idle_tells s.nest st to refl refl refl) (h to)
+  flow_rescues Stopped x fs st f g h = idle st st refl refl refl
+
+  -- a waiting run handles nothing
+  stays_off : (a : State Own) (x : ℕ) (fs : List Fault) (f : State Own → State Own) → is_waiting a ≡ true → rescued x f fs a ≡ a
+  stays_off a x fs f h = by_flow a.flow (and_parts (is_stopped a.flow) a.extra.waits h).0
+    where
+      by_flow : (w : Flow) → is_stopped w ≡ true → rescued_by w x f fs a ≡ a
+      by_flow On e = absurd (false_true e)
+      by_flow Faulted e = absurd (false_true e)
+      by_flow Stopped e = refl
+
+  rescue_moves : (x : ℕ) (fs : List Fault) (st a b : State Own) (f g : State Own → State Own) → Moves st a b → Follow f g
+      → Moves st (rescued x f fs a) (rescued x g fs b)
+  rescue_moves x fs st a b f g h k =
+      let n = flow_rescues b.flow x fs b f g k in
+      record {
+        tells = (tells s.nest needs (in_truth p needs fresh)).further st b (rescued x g fs b) h.tells n.tells;
+        rel = λ d e. by_rel n d e (h.rel d (shorter b (rescued x g fs b) n.tells e));
+      }
+    where
+      by_rel : Moves b (rescued x f fs b) (rescued x g fs b) → Good st → Prefix (rescued x g fs b).extra.actions Z → Rel a b
+          → Rel (rescued x f fs a) (rescued x g fs b)
+      by_rel n d e (inl i) = subst (λ v. Rel (rescued x f fs v) (rescued x g fs b)) (sym i) (n.rel (good st b h.tells d) e)
+      by_rel n d e (inr i) =
+          inr (subst (λ v. Behind v (rescued x g fs b)) (sym (stays_off a x fs f i.waits)) (goes_on a b (rescued x g fs b) i n.tells))
+
   -- ---- statements
   counted_same : (l : ℕ) (c : Code) (st : State Own) → counted r1 l c st ≡ counted r2 l c st
   counted_same l (Do x) st = refl
@@ -232,6 +266,11 @@ module _ (p : Program) (needs : Codes → Needs) (fresh : ℕ) (root s : Start) 
           back st.environment st (d1 w inner) (d2 w inner) (first st inner (d1 w inner) (d2 w inner) (idle_tells s.nest st inner refl refl refl) (h w inner)))
       act_moves (Async b) l st = both st (r2.begin l b st) (begin_tells s.nest needs (in_truth p needs fresh) s.nest refl b st)
       act_moves (Finish b) l st = finish_moves l st (block p r1 d1 b (r1.enter l st)) (block p r2 d2 b (r2.enter l st)) (block_moves b (r1.enter l st))
+      act_moves (Rescue b x c) l st =
+          rescue_moves x st.faults st (r1.leave st (block p r1 d1 b (r1.enter l st))) (r2.leave st (block p r2 d2 b (r2.enter l st)))
+          (block p r1 d1 c) (block p r2 d2 c)
+          (finish_moves l st (block p r1 d1 b (r1.enter l st)) (block p r2 d2 b (r2.enter l st)) (block_moves b (r1.enter l st)))
+          (block_moves c)
 
       block_moves : (b : Codes) → Follow (block p r1 d1 b) (block p r2 d2 b)
       block_moves End st = idle st st refl refl refl

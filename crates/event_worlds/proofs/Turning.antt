@@ -9,7 +9,8 @@ use Rattle.types.specs.Run.{State}
 use Rattle.types.specs.Translation.{program}
 use Rattle.effects.specs.Rounds.{needs_of}
 use Rattle.task_run.specs.Copies.{IsCopy}
-use Rattle.task_run.specs.Frames.{Frame, Rest, Again, Further, AtEnd, Back, Standing, done_in, turn, IsTask, Follows}
+use Rattle.task_run.specs.Frames.{Frame, Rest, Again, Further, AtEnd, OnFault, Back, Standing, done_in, turn, IsTask}
+use Rattle.task_run.specs.Frames.{Follows}
 use Rattle.task_run.specs.Given.{in_truth}
 use Rattle.task_run.specs.Left.{left_after, left_of}
 use Rattle.task_run.specs.MayRun.{MayRun, Stays}
@@ -252,6 +253,8 @@ module _ (j : Job) (ok : IsJob j) where
     by_frames t (Again l g b ∷ fs) st steps come stay h = by_turn r c (Again l g b) fs st is nest steps come t stay h
     by_frames t (Further l s n k q i b ∷ fs) st steps come stay h =
         by_turn r c (Further l s n k q i b) fs st is nest steps come t stay h
+    by_frames t (OnFault before x b ∷ fs) st steps come stay h =
+        by_turn r c (OnFault before x b) fs st is nest steps come t stay h
     by_frames t (Back env ∷ fs) st steps come stay h = by_turn r c (Back env) fs st is nest steps come t stay h
     by_frames (EndsFinish w x) (AtEnd before ∷ fs) st steps come stay h = (
       ends_finish c before fs st come,

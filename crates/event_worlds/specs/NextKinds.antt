@@ -2,14 +2,15 @@
 use Rattle.std.specs.Prelude.{ℕ, ◌≡◌, ◌≤◌, ◌<◌, ◌*◌, List, ◌∷◌, Bool, true, false, not, if◌then◌else◌}
 use Rattle.std.specs.Prelude.{Some, None}
 use Rattle.std.specs.HashMap.{get}
-use Rattle.types.specs.Code.{Code, Do, If, While, Split, Parts, Begun, Call, Async, Finish, Codes, End, Then}
+use Rattle.types.specs.Code.{Code, Do, If, While, Split, Parts, Begun, Call, Async, Finish, Rescue, Codes}
+use Rattle.types.specs.Code.{End, Then}
 use Rattle.types.specs.Run.{State}
 use Rattle.types.specs.Value.{Environment}
 use Rattle.sections.specs.Place.{Window, has_piece}
 use Rattle.statement_steps.specs.Standing.{flow as flow_of}
 use Rattle.statement_steps.specs.declared.flow.Flow.{Flow}
 use Rattle.statement_steps.specs.declared.flow.Flow.TheVariants.{On, Faulted, Stopped}
-use Rattle.task_run.specs.Frames.{Frame, Rest, Again, Further, AtEnd, Back}
+use Rattle.task_run.specs.Frames.{Frame, Rest, Again, Further, AtEnd, OnFault, Back}
 use Rattle.task_run.specs.OwnRun.{Own, Start, Action, Step, Spawn, EnterFinish, EndFinish, last_action}
 use Rattle.task_run.specs.Standings.{Stacked}
 use Rattle.task_run.specs.Stops.{is_none}
@@ -57,16 +58,22 @@ pub record StepsInHand (j : Job) (k : WorldTask) : Type 0 where
   pub hand : hand_of (whereabouts k.place) ≡ Some worker
   pub next : IsNextKind j k.doing ToStep
 
--- a task has reached these frames, the last one on top, with this environment, this flow and, if it is
--- on, this number of steps
+-- a flow isn't stopped
+abbrev pub NotStopped : Flow → Type 0
+NotStopped On = Unit {0}
+NotStopped Faulted = Unit {0}
+NotStopped Stopped = ⊥
+
+-- a task has reached these frames, the last one on top, with the windows of this environment, this
+-- flow and, unless it is stopped, this number of steps
 pub record IsLeft (j : Job) (c : Course) (frames : List rFrame) (env : Environment) (now : Flow)
     (budget : ℕ) : Type 0 where
   pub left : List (Frame Own)
   pub state : State Own
   pub stacked : Stacked frames left
-  pub environment : state.environment ≡ env
+  pub windows : state.environment.windows ≡ env.windows
   pub flow : state.flow ≡ flow_of now
-  pub steps : now ≡ On → state.steps ≡ budget
+  pub steps : NotStopped now → state.steps ≡ budget
   pub come : HasCome j c (record { frames = left; state = state })
 
 -- ---- tests
@@ -133,6 +140,7 @@ module _ (r : World) (path : Path) where
 abbrev pub kind_by : Code → NextKind
 kind_by (Async b) = ToSpawn
 kind_by (Finish b) = ToOpen
+kind_by (Rescue b x c) = ToOpen
 kind_by (Do s) = ToStep
 kind_by (If t b c) = ToStep
 kind_by (While t b) = ToStep
@@ -160,6 +168,12 @@ abbrev pub block_does : (nest steps : ℕ) → Flow → Codes → First
 block_does nest steps flow End = Goes flow
 block_does nest steps flow (Then l s rest) = does nest steps flow (kind_by s)
 
+-- the handler of a finish, which is next if the task has faulted
+abbrev pub handler_does : (nest steps : ℕ) → Flow → Codes → First
+handler_does nest steps On b = Goes On
+handler_does nest steps Faulted b = block_does nest steps On b
+handler_does nest steps Stopped b = Goes Stopped
+
 -- the top frame, where sections have these windows; a `parts` without a turn left does nothing
 abbrev pub top_does : (nest steps : ℕ) → Flow → (windows : ℕ → Window) → Frame Own → First
 top_does nest steps flow w (Rest b) = block_does nest steps flow b
@@ -167,12 +181,14 @@ top_does nest steps flow w (Again l t b) = does nest steps flow ToStep
 top_does nest steps flow w (Further l s n k q i b) =
     if has_piece (w s) n k then does nest steps flow ToStep else Goes flow
 top_does nest steps flow w (AtEnd before) = Acts ToFinish
+top_does nest steps flow w (OnFault before x b) = handler_does nest steps flow b
 top_does nest steps flow w (Back env) = Goes flow
 
--- the environment after a frame that does nothing
+-- the environment after a frame that does nothing, except for scalars
 abbrev pub after_frame : Frame Own → Environment → Environment
 after_frame (Back env) e = env
 after_frame (Rest b) e = e
 after_frame (Again l t b) e = e
 after_frame (Further l s n k q i b) e = e
 after_frame (AtEnd before) e = e
+after_frame (OnFault before x b) e = e

@@ -5,7 +5,7 @@ ghost use Rattle.task_run.specs.Jobs.{IsJob};
 ghost use Rattle.task_run.specs.declared.job.Job.{Job as AnyJob};
 ghost use Rattle.event_worlds.specs.Courses.{Course, IsRunOf};
 ghost use Rattle.event_worlds.specs.NextKinds.{HasNext, IsLeft, IsNextKind, after_frame, block_does, does};
-ghost use Rattle.event_worlds.specs.NextKinds.{does_nested, kind_by, top_does};
+ghost use Rattle.event_worlds.specs.NextKinds.{does_nested, handler_does, kind_by, top_does};
 ghost use Rattle.task_run.specs.Frames.{Frame as Left};
 ghost use Rattle.task_run.specs.OwnRun.{Own};
 ghost use Rattle.task_run.specs.Standings.{ShowsFrame, further};
@@ -164,7 +164,8 @@ fn kind_of_frames(
     NextKind::End
 }
 
-/// Returns the environment after a frame that does nothing: the end of a call restores the caller's.
+/// Returns the environment after a frame that does nothing, except for scalars: the end of a call
+/// restores the caller's.
 fn environment_after<'a>(frame: &'a TaskFrame, environment: &'a Environment) -> &'a Environment
     ensures { (f : Left Own) → ShowsFrame frame.entry.now f
         → environment_of result.now ≡ after_frame f (environment_of environment.entry.now) }
@@ -176,7 +177,8 @@ fn environment_after<'a>(frame: &'a TaskFrame, environment: &'a Environment) -> 
         TaskFrame::Rest(_)
         | TaskFrame::Again { .. }
         | TaskFrame::Turns(_)
-        | TaskFrame::EndFinish(_) => environment,
+        | TaskFrame::EndFinish(_)
+        | TaskFrame::OnFault { .. } => environment,
     }
 }
 
@@ -196,6 +198,7 @@ fn first_of(
         TaskFrame::Again { .. } => first_by(NextKind::Step, flow, steps, nest),
         TaskFrame::Turns(turns) => first_turn(*turns, environment, flow, steps, nest),
         TaskFrame::EndFinish(_) => First::Acts(NextKind::Finish),
+        TaskFrame::OnFault { handler, .. } => first_handled(handler, flow, steps, nest),
         TaskFrame::EndCall { .. } => First::Goes(flow),
     }
 }
@@ -214,6 +217,17 @@ fn first_turn(
     match turns.next_piece(environment) {
         None => First::Goes(flow),
         Some(_) => first_by(NextKind::Step, flow, steps, nest),
+    }
+}
+
+/// Returns what the handler of a finish does.
+fn first_handled(handler: &[Stmt], flow: Flow, steps: u32, nest: u32) -> First
+    ensures { result ≡ handler_does nest steps flow (codes_of handler.now) }
+{
+    match flow {
+        Flow::On => First::Goes(Flow::On),
+        Flow::Faulted => first_in(handler, Flow::On, steps, nest),
+        Flow::Stopped => First::Goes(Flow::Stopped),
     }
 }
 
@@ -270,6 +284,7 @@ fn kind_of(kind: &StmtKind) -> NextKind
     match kind {
         StmtKind::Async { .. } => NextKind::Spawn,
         StmtKind::Finish { .. } => NextKind::Open,
+        StmtKind::Rescue { .. } => NextKind::Open,
         StmtKind::Do(_) => NextKind::Step,
         StmtKind::If { .. } => NextKind::Step,
         StmtKind::While { .. } => NextKind::Step,

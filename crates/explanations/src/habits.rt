@@ -179,6 +179,9 @@ impl<'t> TokensAround<'t> {
             (_, Some(Token::Word(Word::Finish))) => {
                 Some("put the body of the finish in braces, as in `finish { f(a); }`")
             }
+            (_, Some(Token::Word(Word::Rescue))) => {
+                Some("name the number of faults, as in `rescue n { print n; }`")
+            }
             (Some(Token::Word(Word::Int)), Some(Token::Mark(Mark::LeftBracket)))
             | (Some(Token::Word(Word::Byte)), Some(Token::Mark(Mark::LeftBracket))) => Some(LENGTH),
             _ => None,

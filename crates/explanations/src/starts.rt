@@ -80,7 +80,7 @@ fn work_of(way: &[WayStep]) -> Start {
 fn start_behind(way: &[WayStep], enters_task: bool) -> Start {
     for (number, step) in way.iter().enumerate() {
         match step.rule {
-            Rule::Body | Rule::Other | Rule::Turn | Rule::Side | Rule::Piece => {}
+            Rule::Body | Rule::Other | Rule::Turn | Rule::Side | Rule::Piece | Rule::Handler => {}
             Rule::Begin if enters_task => {}
             Rule::Own => return Start::Access,
             Rule::Begin => return Start::Task,

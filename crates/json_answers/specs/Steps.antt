@@ -4,7 +4,8 @@ use Rattle.serde_json.specs.Data.{Data, string}
 use Rattle.syntax.specs.declared.place.TextPlace.{TextPlace}
 use Rattle.types.specs.Code.{Program}
 use Rattle.witness.specs.declared.step.Rule.{Rule}
-use Rattle.witness.specs.declared.step.Rule.TheVariants.{Own, Body, Other, Turn, Side, Piece, Enter, Begin, Await}
+use Rattle.witness.specs.declared.step.Rule.TheVariants.{Own, Body, Other, Turn, Side, Piece, Enter, Begin}
+use Rattle.witness.specs.declared.step.Rule.TheVariants.{Await, Handler}
 use Rattle.witness.specs.declared.step.WayStep.{WayStep}
 use Rattle.failures.specs.Failures.{kind_of, section_name, told_procedure}
 use Rattle.json_answers.specs.Pieces.{list_by, natural, object_of, or_null}
@@ -21,6 +22,7 @@ step_word write Piece = codes "parts"
 step_word write (Enter f) = codes "call"
 step_word write Begin = codes "async"
 step_word write Await = codes "finish"
+step_word write Handler = codes "rescue"
 
 -- the procedure that a step calls
 abbrev pub called_by : Program → Rule → Option (List ℕ)

@@ -87,6 +87,7 @@ fn word_of(write: bool, rule: Rule) -> &'static str
         Rule::Enter { .. } => "call",
         Rule::Begin => "async",
         Rule::Await => "finish",
+        Rule::Handler => "rescue",
     }
 }
 

@@ -111,15 +111,15 @@ fn is_right_brace(token: &Token) -> bool
     }
 }
 
-/// Returns whether a token starts a line in the canonical text. Only `else` continues a line that
-/// was ended.
+/// Returns whether a token starts a line in the canonical text. Only `else` and `rescue`
+/// continue a line that was ended.
 fn begins_line(left: Left, token: &Token) -> bool
     ensures { result ≡ begins_line left (token_tree token.now) }
 {
     match left {
         Left::Margin => true,
         Left::Ended => match token {
-            Token::Word(Word::Else) => false,
+            Token::Word(Word::Else | Word::Rescue) => false,
             _ => true,
         },
         Left::Opening | Left::Called | Left::Operand | Left::Other => false,

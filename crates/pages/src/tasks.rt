@@ -7,7 +7,7 @@ pub(crate) fn pages() -> &'static [Page] {
     PAGES
 }
 
-/// `async`, `finish`, `split`, `parts` and `budget`
+/// `async`, `finish`, `rescue`, `split`, `parts` and `budget`
 const PAGES: &[Page] = &[
     page! {
         name: "async",
@@ -54,6 +54,28 @@ call inside a finish. The fewer things a finish encloses, the fewer run in paral
             "}",
         ],
         tells: "run program.afx" => "7",
+    },
+    page! {
+        name: "rescue",
+        others: ["try", "catch"],
+        about: "continue after faults",
+        rule: "`finish { .. } rescue n { .. }` waits like a finish. If there were faults in it, they are dropped, and the second block
+runs: `n` is the number of the faults. Without faults the block is skipped. What was printed, stored and assigned before
+a fault remains. The block is outside of the finish, so a fault in it ends the task as usual.",
+        program: [
+            "main {",
+            "  array a: int[1];",
+            "  finish {",
+            "    async {",
+            "      a[0] = 7;",
+            "      fault 1;",
+            "    }",
+            "  } rescue n {",
+            "    print a[0], n;",
+            "  }",
+            "}",
+        ],
+        tells: "run program.afx" => "7 1",
     },
     page! {
         name: "split",

@@ -12,9 +12,7 @@ const PAGES: &[Page] = &[page! {
         name: "words",
         about: "reserved words, which can't be used as names",
         rule: "and array as async at by byte else false fault finish if int len main mut
-not or parts print proc read rescue skip split true var while
-
-`rescue` is reserved for future use.",
+not or parts print proc read rescue skip split true var while",
         program: ["main {", "  var at = 1;", "}"],
         tells: "check program.afx" => "S2 at 2:7",
         mend: "Use another name, such as `place`.",

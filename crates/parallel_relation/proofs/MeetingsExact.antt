@@ -2,7 +2,7 @@
 use Rattle.std.proofs.Common.{◌≡◌, inl, inr, ℕ, List, [], ◌∷◌, ◌++◌, map, refl, sym, subst}
 use Rattle.std.specs.Prelude.{◌↔◌, Bool, true, false, if◌then◌else◌}
 use Rattle.sections.specs.Member.{Member, first, next}
-use Rattle.types.specs.Code.{Code, Do, If, While, Split, Parts, Begun, Call, Async, Finish, Codes, End, Then, Program}
+use Rattle.types.specs.Code.{Code, Do, If, While, Split, Parts, Begun, Call, Async, Finish, Rescue, Codes, End, Then, Program}
 use Rattle.effects.specs.Effects.{Subject, AllOf}
 use Rattle.effects.specs.Tables.{Table, all_of, all_in, left_by, left_in, IsDerived, IsDerivedPending, IsStable}
 use Rattle.effects.specs.Tables.{IsStablePending}
@@ -130,6 +130,7 @@ module _ (p : Program) (subject : Subject) (alls pendings : Table subject) where
     turns (Call f es ss) l rest m h = elim h [ ]
     turns (Async b) l rest m h = elim h [ ]
     turns (Finish b) l rest m h = elim h [ ]
+    turns (Rescue b n c) l rest m h = elim h [ ]
 
     -- what a statement adds is added at its label
     adds : (s : Code) (l : ℕ) (rest : Codes) (m : subject.Item × subject.Item) → Member m (added subject alls pendings l s rest)
@@ -161,6 +162,9 @@ module _ (p : Program) (subject : Subject) (alls pendings : Table subject) where
         inside_adds (Call f es ss) l rest m h = elim h [ ]
         inside_adds (Async b) l rest m h = deeper p subject asked l rest m Block.async (list_adds b m h)
         inside_adds (Finish b) l rest m h = deeper p subject asked l rest m Block.finish (list_adds b m h)
+        inside_adds (Rescue b n c) l rest m h = parts (added_in subject alls pendings asked b)
+            (λ k. deeper p subject asked l rest m Block.rescued (list_adds b m k))
+            (λ k. deeper p subject asked l rest m Block.handler (list_adds c m k)) h
 
         -- what is listed is added at a requested label
         pub list_adds : (b : Codes) (m : subject.Item × subject.Item) → Member m (added_in subject alls pendings asked b)
@@ -183,6 +187,8 @@ module _ (p : Program) (subject : Subject) (alls pendings : Table subject) where
     block_adds Block.parts m h = h
     block_adds Block.async m h = h
     block_adds Block.finish m h = h
+    block_adds (Block.rescued {c = c}) m h = in_left (added_in subject alls pendings asked c) h
+    block_adds (Block.handler {b = b}) m h = in_right (added_in subject alls pendings asked b) h
 
     here_listed : (l : ℕ) (s : Code) (rest : Codes) (m : subject.Item × subject.Item) → asked l ≡ true
         → Member m (added subject alls pendings l s rest) → Member m (added_in subject alls pendings asked (Then l s rest))

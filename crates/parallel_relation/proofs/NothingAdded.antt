@@ -1,6 +1,6 @@
 -- A statement that leaves nothing pending adds no pairs.
 use Rattle.std.proofs.Common.{◌≡◌, ℕ, List, [], ◌∷◌, ◌++◌, map, refl, ap, ◌∙◌}
-use Rattle.types.specs.Code.{Code, Do, If, While, Split, Parts, Begun, Call, Async, Finish, Codes}
+use Rattle.types.specs.Code.{Code, Do, If, While, Split, Parts, Begun, Call, Async, Finish, Rescue, Codes}
 use Rattle.effects.specs.Effects.{Subject}
 use Rattle.effects.specs.Tables.{Table, all_in, all_of, left_by}
 use Rattle.parallel_relation.specs.Meetings.{crossed, met_by_turns, turned, added}
@@ -21,6 +21,7 @@ module _ (subject : Subject) (alls pendings : Table subject) where
   nothing_turned l (Call f es ss) e = refl
   nothing_turned l (Async b) e = refl
   nothing_turned l (Finish b) e = refl
+  nothing_turned l (Rescue b n c) e = refl
 
   pub nothing_added : (l : ℕ) (s : Code) (rest : Codes) → left_by subject alls pendings s ≡ []
       → added subject alls pendings l s rest ≡ []

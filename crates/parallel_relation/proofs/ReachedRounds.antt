@@ -5,7 +5,7 @@ use Rattle.std.specs.List.{list_any}
 use Rattle.std.specs.Prelude.{Bool, true}
 use Rattle.sections.specs.Member.{Member}
 use Rattle.sections.proofs.Members.{any_member, member_any}
-use Rattle.types.specs.Code.{Code, Async, Finish, Codes, Program}
+use Rattle.types.specs.Code.{Code, Async, Finish, Rescue, Codes, Program}
 use Rattle.types.specs.Run.{procedure_of}
 use Rattle.types.specs.Sound.{passed_for}
 use Rattle.effects.specs.Effects.{past_parts, past_split, Inner, Subject, AllOf, All, PendingOf, Pending}
@@ -37,6 +37,8 @@ module _ (p : Program) (subject : Subject) where
   inner_reached (Inner.split {s = s} {l = l} {r = r}) x k h = (k, in_map (subject.renamed (past_split s l r)) h)
   inner_reached (Inner.parts {s = s} {q = q}) x k h = (k, in_map (subject.renamed (past_parts s q)) h)
   inner_reached (Inner.call {f = f} {ss = ss}) x k h = (suc k, in_map (subject.renamed (passed_for ss)) h)
+  inner_reached (Inner.handler {b = b} {c = c}) x k h =
+      (k, kept subject (all_in subject (alls k) b ++ all_in subject (alls k) c) x (in_right (all_in subject (alls k) b) h))
 
   mutual
     of_reached : {l : ℕ} {s : Code} {x : subject.Item} → AllOf p subject l s x
@@ -48,6 +50,8 @@ module _ (p : Program) (subject : Subject) where
         (up.0, subst (λ y. Member y (subject.own l s ++ all_inside subject (alls up.0) s)) (sym e) (in_right (subject.own l s) up.1))
     of_reached (AllOf.async {l = l} {b = b} h) = let deep = all_reached h in (deep.0, in_right (subject.own l (Async b)) deep.1)
     of_reached (AllOf.finish {l = l} {b = b} h) = let deep = all_reached h in (deep.0, in_right (subject.own l (Finish b)) deep.1)
+    of_reached (AllOf.rescued {l = l} {n = n} {b = b} {c = c} h) =
+        let deep = all_reached h in (deep.0, in_right (subject.own l (Rescue b n c)) (in_left (all_in subject (alls deep.0) c) deep.1))
 
     all_reached : {b : Codes} {x : subject.Item} → All p subject b x → AllReached b x
     all_reached (All.here {l = l} {s = s} {rest = rest} h) =
@@ -75,6 +79,7 @@ module _ (p : Program) (subject : Subject) where
   inner_left (Inner.split {s = s} {l = l} {r = r}) x k h = (k, in_map (subject.renamed (past_split s l r)) h)
   inner_left (Inner.parts {s = s} {q = q}) x k h = (k, in_map (subject.renamed (past_parts s q)) h)
   inner_left (Inner.call {f = f} {ss = ss}) x k h = (suc k, in_map (subject.renamed (passed_for ss)) h)
+  inner_left (Inner.handler {c = c}) x k h = (k, kept subject (left_in subject (alls k) (pendings k) c) x h)
 
   mutual
     by_reached : {s : Code} {x : subject.Item} → PendingOf p subject s x → (k : ℕ) × Member x (left_by subject (alls k) (pendings k) s)

@@ -1,7 +1,8 @@
 -- The labels of a statement, and their pairs, are those of its parts.
 use Rattle.std.proofs.Common.{◌≡◌, ◌⊎◌, inl, inr, ℕ, refl, sym, subst, [], ◌∷◌}
 use Rattle.sections.specs.Member.{Member, first}
-use Rattle.types.specs.Code.{Number, Code, Do, If, While, Split, Parts, Begun, Call, Async, Finish, Codes, End, Then, Program}
+use Rattle.types.specs.Code.{Number, Code, Do, If, While, Split, Parts, Begun, Call, Async, Finish, Rescue, Codes, End, Then}
+use Rattle.types.specs.Code.{Program}
 use Rattle.types.specs.Run.{procedure_of}
 use Rattle.effects.specs.Effects.{labels, Inner, AllOf, All, PendingOf, Pending}
 use Rattle.parallel_relation.specs.Together.{Block, OfTurn, OfTurns, Together}
@@ -20,6 +21,7 @@ module _ (p : Program) where
   Within has (Call f es ss) x = has (procedure_of p f).body x
   Within has (Async b) x = has b x
   Within has (Finish b) x = has b x
+  Within has (Rescue b n c) x = has b x ⊎ has c x
 
   -- the labels inside a statement, and in its call
   abbrev pub Done : Code → ℕ → Type 0
@@ -29,6 +31,7 @@ module _ (p : Program) where
   abbrev pub Left : Code → ℕ → Type 0
   Left (Async b) x = All p labels b x
   Left (Finish b) x = ⊥
+  Left (Rescue b n c) x = Pending p labels c x
   Left s x = Within (Pending p labels) s x
 
   within_inner : (has : Codes → ℕ → Type 0) {s : Code} {b : Codes} {out : ℕ → ℕ} → Inner p s b out → (x y : ℕ) → has b x → y ≡ x
@@ -39,20 +42,23 @@ module _ (p : Program) where
   within_inner has (Inner.split {b = b}) x y h e = subst (has b) (sym e) h
   within_inner has (Inner.parts {b = b}) x y h e = subst (has b) (sym e) h
   within_inner has (Inner.call {f = f}) x y h e = subst (has (procedure_of p f).body) (sym e) h
+  within_inner has (Inner.handler {c = c}) x y h e = inr (subst (has c) (sym e) h)
 
-  left_within : {s : Code} {b : Codes} {out : ℕ → ℕ} → Inner p s b out → (x : ℕ) → Within (Pending p labels) s x → Left s x
-  left_within Inner.if_body x h = h
-  left_within Inner.if_other x h = h
-  left_within Inner.while x h = h
-  left_within Inner.split x h = h
-  left_within Inner.parts x h = h
-  left_within Inner.call x h = h
+  left_inner : {s : Code} {b : Codes} {out : ℕ → ℕ} → Inner p s b out → (x y : ℕ) → Pending p labels b x → y ≡ x → Left s y
+  left_inner (Inner.if_body {b = b}) x y h e = inl (subst (Pending p labels b) (sym e) h)
+  left_inner (Inner.if_other {c = c}) x y h e = inr (subst (Pending p labels c) (sym e) h)
+  left_inner (Inner.while {b = b}) x y h e = subst (Pending p labels b) (sym e) h
+  left_inner (Inner.split {b = b}) x y h e = subst (Pending p labels b) (sym e) h
+  left_inner (Inner.parts {b = b}) x y h e = subst (Pending p labels b) (sym e) h
+  left_inner (Inner.call {f = f}) x y h e = subst (Pending p labels (procedure_of p f).body) (sym e) h
+  left_inner (Inner.handler {c = c}) x y h e = subst (Pending p labels c) (sym e) h
 
   pub done_of : {l : ℕ} {s : Code} {x : ℕ} → AllOf p labels l s x → (x ≡ l) ⊎ Done s x
   done_of (AllOf.own_access {l = l} {x = x} m) = inl (of_one m)
   done_of (AllOf.inner {x = x} {y = y} i h e) = inr (within_inner (All p labels) i x y h e)
   done_of (AllOf.async h) = inr h
   done_of (AllOf.finish h) = inr h
+  done_of (AllOf.rescued h) = inr (inl h)
 
   pub of_label : (l : ℕ) (s : Code) (x : ℕ) → x ≡ l → AllOf p labels l s x
   of_label l s x e = AllOf.own_access (subst (λ y. Member x (y ∷ [])) e first)
@@ -68,9 +74,11 @@ module _ (p : Program) where
   of_done l (Call f es ss) x h = AllOf.inner Inner.call h refl
   of_done l (Async b) x h = AllOf.async h
   of_done l (Finish b) x h = AllOf.finish h
+  of_done l (Rescue b n c) x (inl h) = AllOf.rescued h
+  of_done l (Rescue b n c) x (inr h) = AllOf.inner Inner.handler h refl
 
   pub left_of : {s : Code} {x : ℕ} → PendingOf p labels s x → Left s x
-  left_of (PendingOf.inner {x = x} {y = y} i h e) = left_within i y (within_inner (Pending p labels) i x y h e)
+  left_of (PendingOf.inner {x = x} {y = y} i h e) = left_inner i x y h e
   left_of (PendingOf.async h) = h
 
   pub of_left : (s : Code) (x : ℕ) → Left s x → PendingOf p labels s x
@@ -84,6 +92,7 @@ module _ (p : Program) where
   of_left (Call f es ss) x h = PendingOf.inner Inner.call h refl
   of_left (Async b) x h = PendingOf.async h
   of_left (Finish b) x h = absurd h
+  of_left (Rescue b n c) x h = PendingOf.inner Inner.handler h refl
 
   -- the pairs inside a statement
   abbrev pub Met : ℕ → Code → ℕ → ℕ → Type 0
@@ -96,6 +105,7 @@ module _ (p : Program) where
   Met l (Call f es ss) x y = ⊥
   Met l (Async b) x y = Together p labels b x y
   Met l (Finish b) x y = Together p labels b x y
+  Met l (Rescue b n c) x y = Together p labels b x y ⊎ Together p labels c x y
 
   met_inside : {s : Code} {b : Codes} → Block s b → (l x y : ℕ) → Together p labels b x y → Met l s x y
   met_inside Block.if_body l x y h = inl h
@@ -105,6 +115,8 @@ module _ (p : Program) where
   met_inside Block.parts l x y h = inr h
   met_inside Block.async l x y h = h
   met_inside Block.finish l x y h = h
+  met_inside Block.rescued l x y h = inl h
+  met_inside Block.handler l x y h = inr h
 
   pub of_met : (l : ℕ) (s : Code) (rest : Codes) (x y : ℕ) → Met l s x y → Together p labels (Then l s rest) x y
   of_met l (Do s) rest x y h = absurd h
@@ -119,6 +131,8 @@ module _ (p : Program) where
   of_met l (Call f es ss) rest x y h = absurd h
   of_met l (Async b) rest x y h = Together.inside Block.async h
   of_met l (Finish b) rest x y h = Together.inside Block.finish h
+  of_met l (Rescue b n c) rest x y (inl h) = Together.inside Block.rescued h
+  of_met l (Rescue b n c) rest x y (inr h) = Together.inside Block.handler h
 
   -- a turn of a `parts` does what the `parts` does
   of_turn : (l s : ℕ) (e : Number) (q i : ℕ) (b : Codes) (y : ℕ) → OfTurn p labels l b y → AllOf p labels l (Parts s e q i b) y
@@ -174,6 +188,8 @@ module _ (p : Program) where
     done_found l (Call f es ss) x y h k = CallMeets.all h k
     done_found l (Async b) x y h k = BlockMeets.all h (inl k)
     done_found l (Finish b) x y h k = BlockMeets.all h k
+    done_found l (Rescue b n c) x y (inl h) k = inl (BlockMeets.all h k)
+    done_found l (Rescue b n c) x y (inr h) k = inr (BlockMeets.all h k)
 
     left_found : (l : ℕ) (s : Code) (x y : ℕ) → Left s x → later y → InsideMeets p everything later l s x y
     left_found l (Do s) x y h k = absurd h
@@ -186,6 +202,7 @@ module _ (p : Program) where
     left_found l (Call f es ss) x y h k = CallMeets.pending h k
     left_found l (Async b) x y h k = BlockMeets.all h (inr k)
     left_found l (Finish b) x y h k = absurd h
+    left_found l (Rescue b n c) x y h k = inr (BlockMeets.pending h k)
 
     met_found : (l : ℕ) (s : Code) (x y : ℕ) → Met l s x y → InsideMeets p everything later l s x y
     met_found l (Do s) x y h = absurd h
@@ -200,6 +217,8 @@ module _ (p : Program) where
     met_found l (Call f es ss) x y h = absurd h
     met_found l (Async b) x y h = BlockMeets.within h
     met_found l (Finish b) x y h = BlockMeets.within h
+    met_found l (Rescue b n c) x y (inl h) = inl (BlockMeets.within h)
+    met_found l (Rescue b n c) x y (inr h) = inr (BlockMeets.within h)
 
     -- the pairs of a statement are those of its label, and those inside
     pub from_one : (l : ℕ) (s : Code) (x y : ℕ) → BlockMeets p everything later (one l s) x y
@@ -254,6 +273,10 @@ module _ (p : Program) where
     inside_one l (Finish b) x y (BlockMeets.all h k) = all_in_one l (Finish b) x y h k
     inside_one l (Finish b) x y (BlockMeets.pending h k) = absurd k
     inside_one l (Finish b) x y (BlockMeets.within h) = met_in_one l (Finish b) x y h
+    inside_one l (Rescue b n c) x y (inl (BlockMeets.all h k)) = all_in_one l (Rescue b n c) x y (inl h) k
+    inside_one l (Rescue b n c) x y (inl (BlockMeets.pending h k)) = absurd k
+    inside_one l (Rescue b n c) x y (inl (BlockMeets.within h)) = met_in_one l (Rescue b n c) x y (inl h)
+    inside_one l (Rescue b n c) x y (inr h) = from_block l (Rescue b n c) c x y (λ k. inr k) (λ k. k) (λ k. inr k) h
 
     -- the pairs of a list: those of the first statement, which meets the others, and those of the
     -- others

@@ -1,6 +1,7 @@
 -- The pairs of labels that statements add at their position.
 use Rattle.std.specs.Prelude.{ℕ, ◌≡◌, ◌⊎◌}
-use Rattle.types.specs.Code.{Code, Do, If, While, Split, Parts, Begun, Call, Async, Finish, Codes, End, Then, Program}
+use Rattle.types.specs.Code.{Code, Do, If, While, Split, Parts, Begun, Call, Async, Finish, Rescue, Codes}
+use Rattle.types.specs.Code.{End, Then, Program}
 use Rattle.types.specs.Run.{procedure_of}
 use Rattle.effects.specs.Effects.{labels, All, Pending}
 use Rattle.parallel_relation.specs.Together.{Together}
@@ -67,3 +68,5 @@ module _ (p : Program) (everything later : ℕ → Type 0) where
   InsideMeets l (Call f es ss) x y = CallMeets p f everything later x y
   InsideMeets l (Async b) x y = BlockMeets p (both everything later) none b x y
   InsideMeets l (Finish b) x y = BlockMeets p everything none b x y
+  InsideMeets l (Rescue b n c) x y =
+      BlockMeets p everything none b x y ⊎ BlockMeets p everything later c x y

@@ -1,7 +1,8 @@
 -- The pairs that may run together as lists, over tables of what each procedure's body contains.
 use Rattle.std.specs.Prelude.{ℕ, List, [], ◌∷◌, ◌++◌, map, Bool, true, if◌then◌else◌, ◌↔◌}
 use Rattle.sections.specs.Member.{Member}
-use Rattle.types.specs.Code.{Code, Do, If, While, Split, Parts, Begun, Call, Async, Finish, Codes, End, Then, Program}
+use Rattle.types.specs.Code.{Code, Do, If, While, Split, Parts, Begun, Call, Async, Finish, Rescue, Codes}
+use Rattle.types.specs.Code.{End, Then, Program}
 use Rattle.effects.specs.Effects.{Subject}
 use Rattle.effects.specs.Tables.{Table, all_of, all_in, left_by, left_in, IsDerived, IsDerivedPending}
 use Rattle.effects.specs.Tables.{IsStable, IsStablePending}
@@ -52,6 +53,7 @@ module _ (subject : Subject) (alls pendings : Table subject) where
       added_inside (Call f es ss) = []
       added_inside (Async b) = added_in b
       added_inside (Finish b) = added_in b
+      added_inside (Rescue b n c) = added_in b ++ added_in c
 
       -- those that they add in a list of statements
       pub added_in : Codes → List (subject.Item × subject.Item)

@@ -67,6 +67,10 @@ pub fn add_labels_of(
             add_labels(code, summaries, body, set)?;
             add_labels(code, summaries, other, set)
         }
+        StmtKind::Rescue { body, handler, .. } => {
+            add_labels(code, summaries, body, set)?;
+            add_labels(code, summaries, handler, set)
+        }
         StmtKind::While { body, .. }
         | StmtKind::Split { body, .. }
         | StmtKind::Parts { body, .. }

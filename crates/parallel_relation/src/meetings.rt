@@ -126,6 +126,10 @@ fn add_meetings_inside(
             add_meetings(alloc, lists, label, body, into)?;
             add_meetings(alloc, lists, label, other, into)
         }
+        StmtKind::Rescue { body, handler, .. } => {
+            add_meetings(alloc, lists, label, body, into)?;
+            add_meetings(alloc, lists, label, handler, into)
+        }
         StmtKind::While { body, .. }
         | StmtKind::Split { body, .. }
         | StmtKind::Parts { body, .. }
@@ -195,6 +199,7 @@ fn add_turned(
         StmtKind::Call { .. } => Ok(()),
         StmtKind::Async { .. } => Ok(()),
         StmtKind::Finish { .. } => Ok(()),
+        StmtKind::Rescue { .. } => Ok(()),
     }
 }
 

@@ -68,6 +68,10 @@ fn add_inside(
             add_block(alloc, lists, body, into)?;
             add_block(alloc, lists, other, into)
         }
+        StmtKind::Rescue { body, handler, .. } => {
+            add_block(alloc, lists, body, into)?;
+            add_block(alloc, lists, handler, into)
+        }
         StmtKind::While { body, .. } | StmtKind::Async { body } | StmtKind::Finish { body } => {
             add_block(alloc, lists, body, into)
         }
@@ -147,6 +151,7 @@ pub fn add_left_by(
         },
         StmtKind::Async { body } => add_block(alloc, lists, body, into),
         StmtKind::Finish { .. } => Ok(()),
+        StmtKind::Rescue { handler, .. } => add_left(alloc, lists, handler, into),
     }
 }
 

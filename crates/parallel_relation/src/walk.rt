@@ -118,5 +118,10 @@ fn walk_inside(
             let none = LabelSet::new(guide.alloc);
             walk(guide, everything, &none, body, found)
         }
+        StmtKind::Rescue { body, handler, .. } => {
+            let none = LabelSet::new(guide.alloc);
+            walk(guide, everything, &none, body, found)?;
+            walk(guide, everything, later, handler, found)
+        }
     }
 }

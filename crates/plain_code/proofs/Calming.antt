@@ -2,7 +2,8 @@
 use Rattle.std.proofs.Common.{◌≡◌, ◌⊎◌, ℕ, List, refl, inl, inr}
 use Rattle.std.proofs.lemmas.Bool.{and_parts, false≢true, true≢false}
 use Rattle.std.specs.Prelude.{◌↔◌, Bool, true, false, ◌&&◌}
-use Rattle.types.specs.Code.{Code, Do, If, While, Split, Parts, Begun, Call, Async, Finish, Codes, End, Then, Program}
+use Rattle.types.specs.Code.{Code, Do, If, While, Split, Parts, Begun, Call, Async, Finish, Rescue, Codes, End, Then}
+use Rattle.types.specs.Code.{Program}
 use Rattle.types.specs.Run.{procedure_of}
 use Rattle.effects.specs.Statements.{Block, Stands}
 use Rattle.plain_code.specs.Calm.{AreCalm, AreMarked, are_plain_by, calm_at, is_plain_by}
@@ -37,6 +38,8 @@ module _ (calm : List Bool) where
   block_plain Block.parts h = h
   block_plain Block.async h = absurd (false≢true h)
   block_plain Block.finish h = absurd (false≢true h)
+  block_plain Block.rescued h = absurd (false≢true h)
+  block_plain Block.handler h = absurd (false≢true h)
 
   stands_plain : {b : Codes} {l : ℕ} {s : Code} → Stands b l s → Plains b → Plain s
   stands_plain (Stands.here {l} {s} {rest}) h = (and_parts (is_plain_by calm s) (are_plain_by calm rest) h).0
@@ -53,6 +56,7 @@ module _ (calm : List Bool) where
     nothing_reached : AreClosed → {b : Codes} → Reaches p b → Plains b → ⊥
     nothing_reached closed (Reaches.async at) h = false≢true (stands_plain at h)
     nothing_reached closed (Reaches.finish at) h = false≢true (stands_plain at h)
+    nothing_reached closed (Reaches.rescue at) h = false≢true (stands_plain at h)
     nothing_reached closed (Reaches.call at r) h = nothing_reached closed r (closed _ (stands_plain at h))
     nothing_reached closed (Reaches.turn at r) h = nothing_reached closed r (stands_plain at h)
 
@@ -73,6 +77,7 @@ module _ (calm : List Bool) where
         statement_reaches l (Call f es ss) rest h = Reaches.call Stands.here (marked f h)
         statement_reaches l (Async b) rest h = Reaches.async Stands.here
         statement_reaches l (Finish b) rest h = Reaches.finish Stands.here
+        statement_reaches l (Rescue b x c) rest h = Reaches.rescue Stands.here
 
         pub block_reaches : (b : Codes) → are_plain_by calm b ≡ false → Reaches p b
         block_reaches End h = absurd (true≢false h)
@@ -97,6 +102,7 @@ module _ (p : Program) (calm : List Bool) (of : AreCalm p calm) where
   not_reached : {b : Codes} → Reaches p b → are_plain_by calm b ≡ true → ⊥
   not_reached (Reaches.async at) h = false≢true (stands_plain calm at h)
   not_reached (Reaches.finish at) h = false≢true (stands_plain calm at h)
+  not_reached (Reaches.rescue at) h = false≢true (stands_plain calm at h)
   not_reached (Reaches.call at r) h = (of.each _).0 (stands_plain calm at h) r
   not_reached (Reaches.turn at r) h = not_reached r (stands_plain calm at h)
 

@@ -4,7 +4,7 @@ use Rattle.std.specs.Prelude.{ℤ, Bool, true, false, map, ok_or}
 use Rattle.sections.specs.Place.{Place, has_piece, sides_of}
 use Rattle.types.specs.declared.fault.FaultKind.TheVariants.{SplitPoint, PieceSize, Raised}
 use Rattle.types.specs.Code.{Primitive, Skip, Assign, Store, Print, Raise, Code, Do, If, While, Split, Parts, Begun, Call}
-use Rattle.types.specs.Code.{Async, Finish, Codes, End, Then, Program}
+use Rattle.types.specs.Code.{Async, Finish, Rescue, Codes, End, Then, Program}
 use Rattle.types.specs.Meaning.{one_rules}
 use Rattle.types.specs.Value.{Environment, Valued, element_of, holds_number}
 use Rattle.types.specs.Run.{Flow, On, Faulted, Stopped, State, Rules, Work, Block, Turn, Pieces, at_flow, go_on, spend, with_step}
@@ -119,6 +119,7 @@ module _ (p : Program) {X : Type 0} (r : Rules X) (once : X → X) (same : (l : 
   told_once l (Call f es ss) i st = ap (λ x. record st { extra = x }) (same l st.extra)
   told_once l (Async b) i st = absurd i
   told_once l (Finish b) i st = absurd i
+  told_once l (Rescue b x c) i st = absurd i
 
   untold : (l : ℕ) (c : Code) (u : U) → counted q l c u ≡ u
   untold l (Do s) u = refl
@@ -130,6 +131,7 @@ module _ (p : Program) {X : Type 0} (r : Rules X) (once : X → X) (same : (l : 
   untold l (Call f es ss) u = refl
   untold l (Async b) u = refl
   untold l (Finish b) u = refl
+  untold l (Rescue b x c) u = refl
 
   step_alike : (d : Work → State X → State X) (e : Work → U → U) (l : ℕ) (c : Code) → Inside p c
       → Alike (act p r d l c) (act p q e l c)
@@ -185,6 +187,7 @@ module _ (p : Program) {X : Type 0} (r : Rules X) (once : X → X) (same : (l : 
           back_alike env st _ _ (deeper (Block (procedure_of p f).body) i (record st { environment = env })))
       act_alike (Async b) l i st = absurd i
       act_alike (Finish b) l i st = absurd i
+      act_alike (Rescue b x c) l i st = absurd i
 
       block_alike : (b : Codes) → ArePlain p b → Alike (block p r d b) (block p q e b)
       block_alike End plain st = still st (bare st) refl

@@ -1,6 +1,7 @@
 -- If a block is plain, so are the statements in it.
 use Rattle.std.proofs.Common.{ℕ}
-use Rattle.types.specs.Code.{Code, Do, If, While, Split, Parts, Begun, Call, Async, Finish, Codes, Then, Program}
+use Rattle.types.specs.Code.{Code, Do, If, While, Split, Parts, Begun, Call, Async, Finish, Rescue, Codes, Then}
+use Rattle.types.specs.Code.{Program}
 use Rattle.types.specs.Run.{procedure_of}
 use Rattle.effects.specs.Statements.{Block, Stands}
 use Rattle.plain_code.specs.Plain.{ArePlain, Reaches}
@@ -10,6 +11,7 @@ module _ (p : Program) where
   reaches_more : {b c : Codes} → ((l : ℕ) (s : Code) → Stands b l s → Stands c l s) → Reaches p b → Reaches p c
   reaches_more h (Reaches.async at) = Reaches.async (h _ _ at)
   reaches_more h (Reaches.finish at) = Reaches.finish (h _ _ at)
+  reaches_more h (Reaches.rescue at) = Reaches.rescue (h _ _ at)
   reaches_more h (Reaches.call at r) = Reaches.call (h _ _ at) r
   reaches_more h (Reaches.turn at r) = Reaches.turn (h _ _ at) r
 
@@ -41,6 +43,7 @@ module _ (p : Program) where
   Inside (Call f es ss) = ArePlain p (procedure_of p f).body
   Inside (Async b) = ⊥
   Inside (Finish b) = ⊥
+  Inside (Rescue b x c) = ⊥
 
   pub inside : (l : ℕ) (s : Code) (rest : Codes) → ArePlain p (Then l s rest) → Inside s
   inside l (Do s) rest plain = tt
@@ -52,3 +55,4 @@ module _ (p : Program) where
   inside l (Call f es ss) rest plain = λ r. plain (Reaches.call Stands.here r)
   inside l (Async b) rest plain = plain (Reaches.async Stands.here)
   inside l (Finish b) rest plain = plain (Reaches.finish Stands.here)
+  inside l (Rescue b x c) rest plain = plain (Reaches.rescue Stands.here)

@@ -2,7 +2,7 @@
 -- calm procedures.
 use Rattle.std.specs.Prelude.{ℕ, ◌+◌, ◌≡◌, ◌↔◌, List, [], ◌∷◌, length, Bool, true, false, ◌&&◌}
 use Rattle.std.specs.Prelude.{slice_index_or}
-use Rattle.types.specs.Code.{Code, Do, If, While, Split, Parts, Begun, Call, Async, Finish}
+use Rattle.types.specs.Code.{Code, Do, If, While, Split, Parts, Begun, Call, Async, Finish, Rescue}
 use Rattle.types.specs.Code.{Codes, End, Then, Program}
 use Rattle.types.specs.Run.{procedure_of}
 use Rattle.plain_code.specs.Plain.{ArePlain, Reaches}
@@ -25,6 +25,7 @@ module _ (calm : List Bool) where
     is_plain_by (Call f es ss) = calm_at calm f
     is_plain_by (Async b) = false
     is_plain_by (Finish b) = false
+    is_plain_by (Rescue b x c) = false
 
     -- whether each statement of a block is plain, if those procedures are calm
     pub are_plain_by : Codes → Bool

@@ -1,6 +1,6 @@
 -- Plain code: no async and no finish can be reached from it, directly or by a call.
 use Rattle.std.specs.Prelude.{ℕ, List}
-use Rattle.types.specs.Code.{Number, Code, Begun, Call, Async, Finish, Codes, End, Then, Program}
+use Rattle.types.specs.Code.{Number, Code, Begun, Call, Async, Finish, Rescue, Codes, End, Then, Program}
 use Rattle.types.specs.Run.{Work, Block, Turn, Pieces, procedure_of}
 use Rattle.effects.specs.Statements.{Stands}
 
@@ -8,6 +8,7 @@ use Rattle.effects.specs.Statements.{Stands}
 pub data Reaches (p : Program) : Codes → Type 0 where
   async : {b : Codes} {l : ℕ} {inner : Codes} → Stands b l (Async inner) → Reaches p b
   finish : {b : Codes} {l : ℕ} {inner : Codes} → Stands b l (Finish inner) → Reaches p b
+  rescue : {b : Codes} {l x : ℕ} {inner handler : Codes} → Stands b l (Rescue inner x handler) → Reaches p b
   call : {b : Codes} {l f : ℕ} {es : List Number} {ss : List ℕ} → Stands b l (Call f es ss)
       → Reaches p (procedure_of p f).body → Reaches p b
   -- a turn of a begun `parts` is still to come

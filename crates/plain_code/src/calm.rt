@@ -70,6 +70,6 @@ pub fn is_plain(calm: &[bool], kind: &StmtKind) -> bool
             Some(is_calm) => *is_calm,
             None => true,
         },
-        StmtKind::Async { .. } | StmtKind::Finish { .. } => false,
+        StmtKind::Async { .. } | StmtKind::Finish { .. } | StmtKind::Rescue { .. } => false,
     }
 }

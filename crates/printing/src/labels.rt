@@ -68,5 +68,8 @@ fn in_statement(kind: &StmtKind) -> u64
         StmtKind::Call { .. } => 1,
         StmtKind::Async { body } => in_block(body).saturating_add(1),
         StmtKind::Finish { body } => in_block(body).saturating_add(1),
+        StmtKind::Rescue { body, handler, .. } => in_block(body)
+            .saturating_add(in_block(handler))
+            .saturating_add(1),
     }
 }

@@ -10,7 +10,8 @@ use Rattle.sections.specs.Placed.{Apart, Placed}
 use Rattle.sections.proofs.Pieces.{pieces_apart}
 use Rattle.sections.proofs.Windows.{disjoint-apart}
 use Rattle.types.proofs.Bindings.{bind_here, bind_other}
-use Rattle.types.specs.Code.{Code, Do, If, While, Split, Parts, Begun, Call, Async, Finish, Codes, End, Then, Procedure, Program}
+use Rattle.types.specs.Code.{Code, Do, If, While, Split, Parts, Begun, Call, Async, Finish, Rescue, Codes, End, Then, Procedure}
+use Rattle.types.specs.Code.{Program}
 use Rattle.types.specs.Value.{Environment}
 use Rattle.types.specs.Run.{entry, procedure_of, with_piece}
 use Rattle.effects.specs.Accesses.{Access, own_accesses}
@@ -187,6 +188,10 @@ module _ (p : Program) (sound : IsSound p) (g : Procedure) (numbered : IsNumbere
     calm_of ls (Call f es ss) l rest o k text h = passes ls (procedure_of p f) ss k.passes
     calm_of ls (Async b) l rest o k text h = calm ls b k text (λ x y r. h x y (Together.inside Block.async r))
     calm_of ls (Finish b) l rest o k text h = calm ls b k text (λ x y r. h x y (Together.inside Block.finish r))
+    calm_of ls (Rescue b n c) l rest o k text h = (
+      calm ls b k.0 text.0 (λ x y r. h x y (Together.inside Block.rescued r)),
+      calm ls c k.2 text.1 (λ x y r. h x y (Together.inside Block.handler r)),
+    )
 
     -- a list of statements without a clash is calm
     pub calm : {sc : Scope} {scope : List ℕ} → Lists g sc scope → (b : Codes)

@@ -9,7 +9,8 @@ use Rattle.rayon.proofs.ListFacts.{IfOk-then}
 use Rattle.sections.specs.Member.{Member, first, next}
 use Rattle.sections.specs.Origins.{Origin}
 use Rattle.types.specs.declared.code.Stmt.{Stmt}
-use Rattle.types.specs.Code.{Number, Truth, Code, Do, If, While, Split, Parts, Begun, Call, Async, Finish, Codes, End, Then}
+use Rattle.types.specs.Code.{Number, Truth, Code, Do, If, While, Split, Parts, Begun, Call, Async, Finish, Rescue, Codes, End}
+use Rattle.types.specs.Code.{Then}
 use Rattle.types.specs.Code.{Primitive, Procedure, Program}
 use Rattle.types.specs.Translation.{code, codes}
 use Rattle.effects.specs.Accesses.{Access, own_accesses}
@@ -112,6 +113,12 @@ module _ (p : Program) (origins : List Origin) where
 
     pub stands_finish : (b : Codes) → k ≡ Finish b → Stands p origins b
     stands_finish b e = let s = at_kind (Finish b) e in record { around = s.around; follows = s.follows }
+
+    pub stands_rescued : (b : Codes) (n : ℕ) (c : Codes) → k ≡ Rescue b n c → Stands p origins b
+    stands_rescued b n c e = let s = at_kind (Rescue b n c) e in record { around = s.around; follows = s.follows.0 }
+
+    pub stands_handler : (b : Codes) (n : ℕ) (c : Codes) → k ≡ Rescue b n c → Stands p origins c
+    stands_handler b n c e = let s = at_kind (Rescue b n c) e in record { around = s.around; follows = s.follows.2 }
 
     pub stands_parts : (s : ℕ) (e : Number) (q i : ℕ) (b : Codes) → k ≡ Parts s e q i b → Stands p origins b
     stands_parts s e q i b is = record {
@@ -254,6 +261,7 @@ module _ (p : Program) where
   in_turn_out l (Call g es ss) b x y h = absurd h
   in_turn_out l (Async c) b x y h = absurd h
   in_turn_out l (Finish c) b x y h = absurd h
+  in_turn_out l (Rescue c n d) b x y h = absurd h
 
   inside_out : (l : ℕ) (s : Code) (b : Codes) (x y : Access) → TogetherInside p s x y → Together p accesses (Then l s b) x y
   inside_out l (Do s) b x y h = absurd h
@@ -265,6 +273,7 @@ module _ (p : Program) where
   inside_out l (Call g es ss) b x y h = absurd h
   inside_out l (Async c) b x y h = Together.inside Block.async h
   inside_out l (Finish c) b x y h = Together.inside Block.finish h
+  inside_out l (Rescue c n d) b x y h = elim h [ inl k ↦ Together.inside Block.rescued k | inr k ↦ Together.inside Block.handler k ]
 
   inside_in : (s : Code) (c : Codes) (x y : Access) → Block s c → Together p accesses c x y → TogetherInside p s x y
   inside_in s c x y Block.if_body h = inl h
@@ -274,6 +283,8 @@ module _ (p : Program) where
   inside_in s c x y Block.parts h = h
   inside_in s c x y Block.async h = h
   inside_in s c x y Block.finish h = h
+  inside_in s c x y Block.rescued h = inl h
+  inside_in s c x y Block.handler h = inr h
 
   -- the pairs of a list with a statement in front
   abbrev pub Fronted : (l : ℕ) → Code → Codes → Access → Access → Type 0
@@ -470,6 +481,26 @@ module _ (p : Program) where
       all_firsts = subst (AreFirsts (All p accesses b)) (ap kept_in (sym all)) h.all_firsts;
       pending_firsts = firsts_of_none (λ x. ⊥) (kept_in outside.pending) pending (λ x h. h);
       least_race = subst (LeastOf (Clashes origins f (Together p accesses b))) (ap race_found (sym race)) h.least_race;
+    }
+
+    -- a finish, whose result is `outside`, with its handler
+    pub found_inside_rescue : (b : Codes) (n : ℕ) (c : Codes) (inside outside other both : Found) → IsFoundIn p origins f b inside
+        → outside.all ≡ inside.all → kept_in outside.pending ≡ [] → outside.race ≡ inside.race → IsFoundIn p origins f c other
+        → IsBoth outside other both → IsFoundInside p origins f (Rescue b n c) both
+    found_inside_rescue b n c inside outside other both h all pending race g e = record {
+      all_firsts = firsts_same (λ x. All p accesses c x ⊎ All p accesses b x) (λ x. All p accesses b x ⊎ All p accesses c x) (kept_in both.all)
+          (λ x k. elim k [ inl a ↦ inr a | inr a ↦ inl a ]) (λ x k. elim k [ inl a ↦ inr a | inr a ↦ inl a ])
+          (firsts_of_firsts (λ x. All p accesses c x ⊎ All p accesses b x) (kept_in other.all ++ kept_in outside.all) (kept_in both.all)
+          (firsts_both (All p accesses c) (All p accesses b) (kept_in other.all) (kept_in outside.all) g.all_firsts
+          (subst (AreFirsts (All p accesses b)) (ap kept_in (sym all)) h.all_firsts)) e.all_of_both);
+      pending_firsts = firsts_same (λ x. Pending p accesses c x ⊎ ⊥) (Pending p accesses c) (kept_in both.pending)
+          (λ x k. elim k [ inl a ↦ a | inr none ↦ absurd none ]) (λ x a. inl a)
+          (firsts_of_firsts (λ x. Pending p accesses c x ⊎ ⊥) (kept_in other.pending ++ kept_in outside.pending) (kept_in both.pending)
+          (firsts_both (Pending p accesses c) (λ x. ⊥) (kept_in other.pending) (kept_in outside.pending) g.pending_firsts
+          (firsts_of_none (λ x. ⊥) (kept_in outside.pending) pending (λ x none. none))) e.pending_of_both);
+      least_race = subst (LeastOf (Clashes origins f (λ x y. Together p accesses b x y ⊎ Together p accesses c x y))) (sym e.race_of_both)
+          (least_pairs origins f (Together p accesses b) (Together p accesses c) (race_found outside.race) (race_found other.race)
+          (subst (LeastOf (Clashes origins f (Together p accesses b))) (ap race_found (sym race)) h.least_race) g.least_race);
     }
 
     module _ (l : ℕ) (s : Code) (inside whole : Found) (h : IsFoundInside p origins f s inside) (e : IsWithOwn (own_accesses l s) inside whole) where

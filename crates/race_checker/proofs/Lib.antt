@@ -7,6 +7,7 @@ pub mod Finding
 pub mod Judging
 pub mod LeastRaces
 pub mod PartsExamples
+pub mod RescueExamples
 pub mod Pieces
 pub mod PieceLists
 pub mod RaceOrder

@@ -7,7 +7,8 @@ use Rattle.shared_lemmas.proofs.Truths.{false_true}
 use Rattle.sections.specs.Origins.{Root, origin_of}
 use Rattle.sections.specs.Member.{Member, first, next}
 use Rattle.sections.specs.Placed.{Placed}
-use Rattle.types.specs.Code.{Code, Do, If, While, Split, Parts, Begun, Call, Async, Finish, Codes, End, Then, Array, Parameter}
+use Rattle.types.specs.Code.{Code, Do, If, While, Split, Parts, Begun, Call, Async, Finish, Rescue, Codes, End, Then, Array}
+use Rattle.types.specs.Code.{Parameter}
 use Rattle.types.specs.Code.{Procedure, Program}
 use Rattle.types.specs.Value.{Environment}
 use Rattle.types.specs.Run.{procedure_of}
@@ -109,6 +110,7 @@ module _ (p : Program) (g : Procedure) where
           (k.passes.in_scope j (let n : length ss ≡ length (procedure_of p f).parameters = k.passes.number in omega (arith, lt, n)))
       scoped_of ls (Async b) k = scoped ls b k
       scoped_of ls (Finish b) k = scoped ls b k
+      scoped_of ls (Rescue b n c) k = (scoped ls b k.0, scoped ls c k.2)
 
       pub scoped : {sc : Scope} {scope : List ℕ} → Lists g sc scope → (b : Codes) → Follows p g scope b → Scoped p sc b
       scoped ls End k = tt

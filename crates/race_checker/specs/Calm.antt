@@ -1,7 +1,8 @@
 -- From names to places: what is pending keeps apart from what is done later, place for place.
 use Rattle.std.specs.Prelude.{ℕ, ◌≡◌, ◌<◌, [], map, true}
 use Rattle.sections.specs.Place.{Place, has_piece, piece_at}
-use Rattle.types.specs.Code.{Code, Do, If, While, Split, Parts, Begun, Call, Async, Finish, Codes, End, Then, Program}
+use Rattle.types.specs.Code.{Code, Do, If, While, Split, Parts, Begun, Call, Async, Finish, Rescue, Codes}
+use Rattle.types.specs.Code.{End, Then, Program}
 use Rattle.types.specs.Value.{Environment}
 use Rattle.types.specs.Run.{entry, procedure_of, with_piece}
 use Rattle.effects.specs.Accesses.{Access}
@@ -49,6 +50,7 @@ module _ (p : Program) where
         → FitsTop (may_writes (procedure_of p f)) (entry [] (map env.windows ss))
     CalmOf sc l (Async b) = Calm sc b
     CalmOf sc l (Finish b) = Calm sc b
+    CalmOf sc l (Rescue b n c) = Calm sc b × Calm sc c
 
     -- and what a statement of a list leaves pending keeps apart from what the later statements do
     pub Calm : Scope → Codes → Type 0

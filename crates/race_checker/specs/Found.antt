@@ -4,7 +4,8 @@ use Rattle.std.specs.Prelude.{ℕ, ◌≡◌, ◌<◌, ◌⊎◌, ◌++◌, List
 use Rattle.std.specs.List.{filter}
 use Rattle.sections.specs.Member.{Member}
 use Rattle.sections.specs.Origins.{Origin, IsNumbered}
-use Rattle.types.specs.Code.{Code, Do, If, While, Split, Parts, Begun, Call, Async, Finish, Codes, Procedure, Program}
+use Rattle.types.specs.Code.{Code, Do, If, While, Split, Parts, Begun, Call, Async, Finish, Rescue, Codes}
+use Rattle.types.specs.Code.{Procedure, Program}
 use Rattle.effects.specs.Accesses.{Access}
 use Rattle.effects.specs.Effects.{accesses, renamed, AllOf, All, PendingOf, Pending}
 use Rattle.effects.specs.Firsts.{AreFirsts, AreFirstsIn, kept_in}
@@ -55,6 +56,7 @@ module _ (p : Program) where
   TogetherInside (Call f es ss) x y = ⊥
   TogetherInside (Async b) x y = Together p accesses b x y
   TogetherInside (Finish b) x y = Together p accesses b x y
+  TogetherInside (Rescue b n c) x y = Together p accesses b x y ⊎ Together p accesses c x y
 
   -- the pairs of a loop, or of a `parts`, with itself
   abbrev pub TogetherInTurn : (label : ℕ) → Code → (x y : Access) → Type 0

@@ -4,8 +4,8 @@ use Rattle.std.specs.Prelude.{Some, Bool, true, false}
 use Rattle.sections.specs.Place.{sides_of, piece_of}
 use Rattle.sections.specs.Member.{Member}
 use Rattle.sections.specs.Placed.{Apart}
-use Rattle.types.specs.Code.{Code, Do, If, While, Split, Parts, Begun, Call, Async, Finish, Codes, End, Then}
-use Rattle.types.specs.Code.{Procedure, Program}
+use Rattle.types.specs.Code.{Code, Do, If, While, Split, Parts, Begun, Call, Async, Finish, Rescue, Codes}
+use Rattle.types.specs.Code.{End, Then, Procedure, Program}
 use Rattle.types.specs.Value.{Environment}
 use Rattle.types.specs.Run.{procedure_of}
 use Rattle.effects.specs.Accesses.{Access, own_accesses}
@@ -74,6 +74,7 @@ module _ (p : Program) where
         (k : ℕ) → k < length (procedure_of p f).parameters → InScope sc (passed_for ss k)
     ScopedOf sc (Async b) = Scoped sc b
     ScopedOf sc (Finish b) = Scoped sc b
+    ScopedOf sc (Rescue b n c) = Scoped sc b × Scoped sc c
 
     -- and each statement of a list accesses only sections in scope
     pub Scoped : Scope → Codes → Type 0

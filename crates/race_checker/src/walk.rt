@@ -227,6 +227,11 @@ fn found_of<R: Threads + Sync>(
             let found = found_in(rt, alloc, code, summaries, procedure, body)?;
             found.in_finish(alloc).with_own(&own)
         }
+        StmtKind::Rescue { body, handler, .. } => {
+            let body = found_in(rt, alloc, code, summaries, procedure, body)?;
+            let handler = found_in(rt, alloc, code, summaries, procedure, handler)?;
+            body.in_finish(alloc).or(handler)?.with_own(&own)
+        }
     }
 }
 

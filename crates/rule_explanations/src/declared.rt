@@ -77,6 +77,7 @@ impl<'t> VisibleNames<'t> {
             Token::Word(Word::Var) => self.declare(behind, NameKind::Scalar)?,
             Token::Word(Word::Split) => self.cut(behind, true)?,
             Token::Word(Word::Parts) => self.cut(behind, false)?,
+            Token::Word(Word::Rescue) => self.declare_inside(behind, NameKind::Scalar, None)?,
             Token::Word(Word::Async) => self.task = Some(first.at),
             Token::Mark(Mark::LeftBrace) => {
                 let task = self.task.take();
@@ -267,6 +268,35 @@ pub fn find<'t>(declared: &[Declared<'t>], name: &str) -> Option<Declared<'t>> {
 fn array_kind(tokens: &[Spanned]) -> NameKind {
     NameKind::Written {
         bytes: is_of_bytes(tokens),
+    }
+}
+
+/// Returns the name after the `rescue` of the `finish` that comes first, with the number of the
+/// name's first character.
+pub fn rescued_name(tokens: &[Spanned]) -> Option<(&str, usize)> {
+    let mut depth: u32 = 0;
+    for (number, spanned) in tokens.iter().enumerate() {
+        match &spanned.token {
+            Token::Mark(Mark::LeftBrace) => depth = depth.saturating_add(1),
+            Token::Mark(Mark::RightBrace) => {
+                depth = depth.saturating_sub(1);
+                if depth == 0 {
+                    return name_after_rescue(tokens.get(number.saturating_add(1)..).unwrap_or(&[]));
+                }
+            }
+            _ => {}
+        }
+    }
+    None
+}
+
+/// Returns the name after a `rescue` that comes first.
+fn name_after_rescue(tokens: &[Spanned]) -> Option<(&str, usize)> {
+    match tokens {
+        [first, behind @ ..] if matches!(&first.token, Token::Word(Word::Rescue)) => {
+            first_name(behind)
+        }
+        _ => None,
     }
 }
 

@@ -1,7 +1,7 @@
 //! Programs that break a rule.
 
 use crate::arguments::{Argument, ParameterHead, ProcedureHead, arguments, procedure_of};
-use crate::declared::{Declared, VisibleNames, find};
+use crate::declared::{Declared, VisibleNames, find, rescued_name};
 use crate::expressions::{ExpressionPart, Value, parts_of, wrong_part};
 use crate::limits::push_over_limit;
 use crate::rule_texts;
@@ -219,20 +219,13 @@ impl<'t> Broken<'t> {
 
     /// Explains a name that is declared while the same name is in scope.
     fn push_declared_twice(&self, told: &mut String) -> Result<(), AllocError> {
-        let mut is_told = false;
-        for named in &self.names {
-            if !is_told && named.role == Role::Declared {
-                if let Some(declared) = self.scope.find(named.name) {
-                    is_told = true;
-                    self.push_at(told, named.at)?;
-                    let name = named.name;
-                    write!(told, "`{name}` is already in scope: it was declared at ")?;
-                    self.push_place(told, declared)?;
-                    told.push_str(".\n")?;
-                }
-            }
-        }
-        if !is_told {
+        if let Some((declared, at)) = self.declared_before() {
+            self.push_at(told, at)?;
+            let name = declared.name;
+            write!(told, "`{name}` is already in scope: it was declared at ")?;
+            self.push_place(told, declared)?;
+            told.push_str(".\n")?;
+        } else {
             self.push_start(told)?;
             told.push_str(if begins_with_word(self.head, Word::Parts) {
                 "The piece and the turn have the same name.\n"
@@ -241,6 +234,21 @@ impl<'t> Broken<'t> {
             })?;
         }
         told.push_str("help: use another name.\n")
+    }
+
+    /// Returns the declaration that is in scope of a name that the statement declares, and where the
+    /// statement declares it.
+    fn declared_before(&self) -> Option<(Declared<'t>, usize)> {
+        for named in &self.names {
+            if named.role == Role::Declared {
+                if let Some(declared) = self.scope.find(named.name) {
+                    return Some((declared, named.at));
+                }
+            }
+        }
+        let (name, at) = rescued_name(self.source.tokens_from(self.place))?;
+        let declared = self.scope.find(name)?;
+        Some((declared, at))
     }
 
     /// Explains a section where a variable is expected or a boolean where a number is expected, or

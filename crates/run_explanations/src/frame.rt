@@ -2,6 +2,7 @@
 
 use statement_steps::turns::TurnsToCome;
 use types::code::{Label, Stmt};
+use types::ids::Slot;
 use types::path::Path;
 use types::value::Environment;
 
@@ -15,11 +16,22 @@ pub enum RepeatedFrame<'p> {
     /// The turns of a `parts` that are still to come.
     Turns(TurnsToCome<'p>),
     /// The end of a call, with the environment of the caller.
-    Call { label: Label, caller: Environment },
+    Call {
+        label: Label,
+        caller: Environment,
+    },
     /// The end of an async's body, with the task that spawned it.
     Task(Parent),
     /// The end of a finish, and the number of faults before it.
-    Finish { faults: u64 },
+    Finish {
+        faults: u64,
+    },
+    /// The end of a finish with a handler, in which this scalar is the number of faults.
+    Rescue {
+        faults: u64,
+        slot: Slot,
+        handler: &'p [Stmt],
+    },
 }
 
 /// A task that waits while the body of its async runs.

@@ -15,7 +15,7 @@ use std::alloc::AllocError;
 use types::child_number::ChildNumber;
 use types::code::{Label, Number, Pieces, Primitive, Sides, Stmt, StmtKind, Truth};
 use types::element::holds;
-use types::ids::ProcedureId;
+use types::ids::{ProcedureId, Slot};
 use types::input::Input;
 
 /// The maximum number of faults that are reported with their causes.
@@ -87,6 +87,11 @@ impl<'p> RepeatedRun<'p> {
             RepeatedFrame::Call { caller, .. } => self.thread.environment = caller,
             RepeatedFrame::Task(parent) => self.end_task(parent),
             RepeatedFrame::Finish { faults } => self.end_finish(faults),
+            RepeatedFrame::Rescue {
+                faults,
+                slot,
+                handler,
+            } => self.end_rescue(faults, slot, handler)?,
         }
         Ok(true)
     }
@@ -116,6 +121,24 @@ impl<'p> RepeatedRun<'p> {
         } else {
             Flow::On
         };
+    }
+
+    /// Ends a finish: if there were faults in it, they are dropped, and the handler is next.
+    fn end_rescue(
+        &mut self,
+        before: u64,
+        slot: Slot,
+        handler: &'p [Stmt],
+    ) -> Result<(), AllocError> {
+        self.thread.flow = Flow::On;
+        let number = self.seen.many.saturating_sub(before);
+        if number == 0 {
+            return Ok(());
+        }
+        self.seen.many = before;
+        self.seen.faults.truncate(before.min(MOST_FAULTS) as usize);
+        self.thread.environment.assign(slot, number as i64)?;
+        self.enter(handler)
     }
 
     // ---- statements
@@ -172,6 +195,18 @@ impl<'p> RepeatedRun<'p> {
             StmtKind::Finish { body } => {
                 let faults = self.seen.many;
                 self.left.push(RepeatedFrame::Finish { faults })?;
+                self.enter(body)
+            }
+            StmtKind::Rescue {
+                body,
+                faults,
+                handler,
+            } => {
+                self.left.push(RepeatedFrame::Rescue {
+                    faults: self.seen.many,
+                    slot: *faults,
+                    handler,
+                })?;
                 self.enter(body)
             }
         }

@@ -1,13 +1,13 @@
 -- The tokens that start a statement are those at which the program's statements start.
 use Rattle.std.proofs.Common.{◌≡◌, Bool, true, false, List, [], ◌∷◌, ◌++◌, Option, Some, None, refl, ap, sym, ◌∙◌, append_assoc, append-nil}
-use Rattle.syntax.specs.declared.token.Word.TheVariants.{Else as WordElse}
+use Rattle.syntax.specs.declared.token.Word.TheVariants.{Else as WordElse, Rescue as WordRescue}
 use Rattle.syntax.specs.declared.token.Mark.TheVariants.{LeftBrace, RightParen, Semicolon, RightBracket, Becomes}
 use Rattle.syntax.specs.Spelling.{expr_then, more_then, stmt_then, block_then, arrays_then, parameter_then}
 use Rattle.syntax.specs.Spelling.{more_parameters_then, parameters_then, procedures_then, main_tokens, spelling}
-use Rattle.syntax.specs.Token.{Token, WordToken, MarkToken}
+use Rattle.syntax.specs.Token.{Token, NameToken, WordToken, MarkToken}
 use Rattle.syntax_tree.specs.Tree.{Stmt, Skip, Var, Assign, Store, Print, Fault, If, IfElse, While}
-use Rattle.syntax_tree.specs.Tree.{Split, Parts, Call, Async, Finish, Block, End, Then, Array, Parameter, Written, Read, Scalar}
-use Rattle.syntax_tree.specs.Tree.{Procedure, Main, Program}
+use Rattle.syntax_tree.specs.Tree.{Split, Parts, Call, Async, Finish, Rescue, Block, End, Then, Array, Parameter, Written, Read}
+use Rattle.syntax_tree.specs.Tree.{Scalar, Procedure, Main, Program}
 use Rattle.statement_places.specs.Starts.{inner_starts, block_starts, procedures_starts, main_starts, starts, token_starts}
 use Rattle.statement_places.proofs.ExprStarts.{expr_starts, more_starts, exprs_starts}
 
@@ -43,6 +43,11 @@ mutual
       ap (λ l. stmt_then (Call f es) r ∷ l) (exprs_starts es (MarkToken RightParen ∷ MarkToken Semicolon ∷ r))
   inner_by_tokens (Async b) r = ap (λ l. stmt_then (Async b) r ∷ l) (block_by_tokens b r)
   inner_by_tokens (Finish b) r = ap (λ l. stmt_then (Finish b) r ∷ l) (block_by_tokens b r)
+  inner_by_tokens (Rescue b x c) r =
+      let handler = WordToken WordRescue ∷ NameToken x ∷ MarkToken LeftBrace ∷ block_then c r in
+      ap (λ l. stmt_then (Rescue b x c) r ∷ l)
+      (block_by_tokens b handler ∙ ap (λ l. block_starts b handler ++ l) (block_by_tokens c r)
+      ∙ sym (append_assoc (block_starts b handler) (block_starts c r) (token_starts true r)))
 
   block_by_tokens : (b : Block) (r : List Token) → token_starts true (block_then b r) ≡ block_starts b r ++ token_starts true r
   block_by_tokens End r = refl

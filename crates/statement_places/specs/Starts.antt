@@ -2,14 +2,15 @@
 -- program's tokens from its first token on.
 use Rattle.std.specs.Prelude.{Bool, true, false, not, ◌&&◌, if◌then◌else◌, List, [], ◌∷◌, ◌++◌}
 use Rattle.std.specs.Prelude.{Option, Some, None}
-use Rattle.syntax.specs.declared.token.Word.TheVariants.{Else as WordElse}
+use Rattle.syntax.specs.declared.token.Word.TheVariants.{Else as WordElse, Rescue as WordRescue}
 use Rattle.syntax.specs.declared.token.Mark.{Mark}
 use Rattle.syntax.specs.declared.token.Mark.TheVariants.{LeftBrace, RightBrace, Semicolon}
-use Rattle.syntax.specs.Canonical.{begins_statement, is_else}
+use Rattle.syntax.specs.Canonical.{begins_statement, continues_line}
 use Rattle.syntax.specs.Spelling.{stmt_then, block_then, procedures_then, main_tokens}
 use Rattle.syntax.specs.Token.{Token, NameToken, NumberToken, WordToken, MarkToken}
 use Rattle.syntax_tree.specs.Tree.{Stmt, Skip, Var, Assign, Store, Print, Fault, If, IfElse, While, Split}
-use Rattle.syntax_tree.specs.Tree.{Parts, Call, Async, Finish, Block, End, Then, Procedure, Main, Program}
+use Rattle.syntax_tree.specs.Tree.{Parts, Call, Async, Finish, Rescue, Block, End, Then, Procedure, Main}
+use Rattle.syntax_tree.specs.Tree.{Program}
 
 unfoldable mutual
   -- the statements inside a statement, with other tokens after it
@@ -29,6 +30,9 @@ unfoldable mutual
   inner_starts (Call f es) r = []
   inner_starts (Async b) r = block_starts b r
   inner_starts (Finish b) r = block_starts b r
+  inner_starts (Rescue b x c) r =
+      block_starts b (WordToken WordRescue ∷ NameToken x ∷ MarkToken LeftBrace ∷ block_then c r)
+      ++ block_starts c r
 
   -- the statements of a block: a statement starts with its spelling, before those inside it
   pub block_starts : Block → List Token → List (List Token)
@@ -66,7 +70,7 @@ ends_line (WordToken w) = false
 
 -- a statement starts with this token, if a line may start there
 abbrev pub begins_if_line : Token → Bool
-begins_if_line t = begins_statement t && not (is_else t)
+begins_if_line t = begins_statement t && not (continues_line t)
 
 -- the tokens from the start of each statement on; the boolean states whether a line ended before
 -- the first token

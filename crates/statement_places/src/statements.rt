@@ -66,7 +66,7 @@ fn begins_statement(token: &Token) -> bool
         Token::Name(_) => true,
         Token::Number(_) => true,
         Token::Word(word) => match word {
-            Word::Proc | Word::Main | Word::Array | Word::Else => false,
+            Word::Proc | Word::Main | Word::Array | Word::Else | Word::Rescue => false,
             _ => true,
         },
         Token::Mark(mark) => match mark {

@@ -7,11 +7,11 @@ use Rattle.types.specs.Code.{Program}
 use Rattle.types.specs.Contents.{Contents}
 use Rattle.types.specs.Run.{Fault}
 use Rattle.types.specs.Outcome.{Ended}
-use Rattle.types.specs.Trees.{Leaf, Tree, Single, AndThen, Beside, all_done, ready, lines_of, faults_of, rightmost, task_environment, unless_faulted, closed, and_then}
+use Rattle.types.specs.Trees.{Leaf, Handler, Tree, Single, AndThen, Beside, all_done, ready, lines_of, faults_of, rightmost, task_environment, after_faults, closed, and_then}
 use Rattle.types.specs.TreeRuns.{Ends, Open, tree_ending, told, goes_on, explored_from}
 use Rattle.types.specs.TreeSteps.{step}
 use Rattle.types.specs.Value.{Environment}
-use Rattle.step_trees.specs.Translation.{leaf_of}
+use Rattle.step_trees.specs.Translation.{leaf_of, handler_of}
 use Rattle.step_trees.specs.declared.tree.Around.{Around}
 use Rattle.step_trees.specs.declared.tree.Around.TheVariants.{Behind, Left, Right}
 use Rattle.step_trees.specs.Alike.{AreAlike}
@@ -53,7 +53,7 @@ alike-done (AreAlike.through g h) = alike-done g ∙ alike-done h
 -- what leaves give from left to right, with `told` for each tree
 
 alike-told : {A : Type 0} (told : Tree → List A) → ((t u : Tree) → told (Beside t u) ≡ told t ++ told u)
-    → ((t : Tree) (k : Leaf) → told (AndThen t k) ≡ told t) → {t u : Tree} → AreAlike t u → told t ≡ told u
+    → ((t : Tree) (x : Handler) (k : Leaf) → told (AndThen t x k) ≡ told t) → {t u : Tree} → AreAlike t u → told t ≡ told u
 alike-told told two one AreAlike.same = refl
 alike-told told two one (AreAlike.left_first {t = t} {u = u} {v = v}) =
     two (Beside t u) v ∙ ap (λ l. l ++ told v) (two t u) ∙ append_assoc (told t) (told u) (told v)
@@ -63,14 +63,15 @@ alike-told told two one (AreAlike.right_first {t = t} {u = u} {v = v}) =
     ∙ ap (λ l. l ++ told v) (sym (two t u)) ∙ sym (two (Beside t u) v)
 alike-told told two one (AreAlike.sides {t = t} {u = u} {v = v} {w = w} g h) =
     two t v ∙ ap (λ l. l ++ told v) (alike-told told two one g) ∙ ap (λ l. told u ++ l) (alike-told told two one h) ∙ sym (two u w)
-alike-told told two one (AreAlike.waits {t = t} {u = u} {k = k} g) = one t k ∙ alike-told told two one g ∙ sym (one u k)
+alike-told told two one (AreAlike.waits {t = t} {u = u} {h = x} {k = k} g) =
+    one t x k ∙ alike-told told two one g ∙ sym (one u x k)
 alike-told told two one (AreAlike.through g h) = alike-told told two one g ∙ alike-told told two one h
 
 alike-lines : {t u : Tree} → AreAlike t u → lines_of t ≡ lines_of u
-alike-lines = alike-told lines_of (λ t u. refl) (λ t k. refl)
+alike-lines = alike-told lines_of (λ t u. refl) (λ t x k. refl)
 
 alike-faults : {t u : Tree} → AreAlike t u → faults_of t ≡ faults_of u
-alike-faults = alike-told faults_of (λ t u. refl) (λ t k. refl)
+alike-faults = alike-told faults_of (λ t u. refl) (λ t x k. refl)
 
 alike-owner : {t u : Tree} → AreAlike t u → rightmost t ≡ rightmost u
 alike-owner AreAlike.same = refl
@@ -81,26 +82,26 @@ alike-owner (AreAlike.waits g) = refl
 alike-owner (AreAlike.through g h) = alike-owner g ∙ alike-owner h
 
 -- what waits for their end continues in the same way
-alike-closed : {t u : Tree} (k : Leaf) → AreAlike t u → closed t k ≡ closed u k
-alike-closed {t} {u} k g =
+alike-closed : {t u : Tree} (x : Handler) (k : Leaf) → AreAlike t u → closed t x k ≡ closed u x k
+alike-closed {t} {u} x k g =
     ap (λ (o : Leaf). with (task_environment o) o.spawned (lines_of t) (faults_of t)) (alike-owner g)
     ∙ ap (λ (ls : List (List ℤ)). with (task_environment (rightmost u)) (rightmost u).spawned ls (faults_of t)) (alike-lines g)
     ∙ ap (λ (fs : List Fault). with (task_environment (rightmost u)) (rightmost u).spawned (lines_of u) fs) (alike-faults g)
   where
     with : Environment → ℕ → List (List ℤ) → List Fault → Leaf
-    with e n ls fs = unless_faulted fs (record k { environment = e; spawned = n; lines = ls; faults = fs })
+    with e n ls fs = after_faults x fs (record k { environment = e; spawned = n; lines = ls; faults = fs })
 
-alike-then : {t u : Tree} (k : Leaf) → AreAlike t u → AreAlike (and_then t k) (and_then u k)
-alike-then {t} {u} k g = subst (λ b. AreAlike (and_then t k) (if b then Single (closed u k) else AndThen u k)) (alike-done g) (by (all_done t))
+alike-then : {t u : Tree} (x : Handler) (k : Leaf) → AreAlike t u → AreAlike (and_then t x k) (and_then u x k)
+alike-then {t} {u} x k g = subst (λ b. AreAlike (and_then t x k) (if b then Single (closed u x k) else AndThen u x k)) (alike-done g) (by (all_done t))
   where
-    by : (b : Bool) → AreAlike (if b then Single (closed t k) else AndThen t k) (if b then Single (closed u k) else AndThen u k)
-    by true = alike-is (ap Single (alike-closed k g))
+    by : (b : Bool) → AreAlike (if b then Single (closed t x k) else AndThen t x k) (if b then Single (closed u x k) else AndThen u x k)
+    by true = alike-is (ap Single (alike-closed x k g))
     by false = AreAlike.waits g
 
 -- within others
 
 alike-within : (x : Around) {t u : Tree} → AreAlike t u → AreAlike (within x t) (within x u)
-alike-within (Behind k) g = alike-then (leaf_of k) g
+alike-within (Behind w) g = alike-then (handler_of w.handler) (leaf_of w.leaf) g
 alike-within (Right r) g = AreAlike.sides g AreAlike.same
 alike-within (Left l) g = AreAlike.sides AreAlike.same g
 
@@ -145,9 +146,9 @@ module _ (p : Program) where
       let r = alike-step h s in let same = alike-ready g in
       let more : n ≡ ready u + m = omega (arith, e, same) in
       record { tree = _; step = Step.right more r.step; alike = AreAlike.sides g r.alike }
-  alike-step (AreAlike.waits {k = k} g) (Step.first s e) =
+  alike-step (AreAlike.waits {h = x} {k = k} g) (Step.first s e) =
       let r = alike-step g s in
-      record { tree = _; step = Step.first r.step refl; alike = subst (λ v. AreAlike v (and_then r.tree k)) (sym e) (alike-then k r.alike) }
+      record { tree = _; step = Step.first r.step refl; alike = subst (λ v. AreAlike v (and_then r.tree x k)) (sym e) (alike-then x k r.alike) }
   alike-step (AreAlike.through g h) s =
       let r = alike-step g s in let q = alike-step h r.step in
       record { tree = q.tree; step = q.step; alike = AreAlike.through r.alike q.alike }

@@ -5,7 +5,7 @@ use Rattle.sections.specs.Member.{Member, first, next}
 use Rattle.sections.specs.Origins.{IsNumbered}
 use Rattle.sections.specs.Place.{Window, has_piece, piece_at}
 use Rattle.types.proofs.Bindings.{bind_here}
-use Rattle.types.specs.Code.{Code, Do, If, While, Split, Parts, Begun, Call, Async, Finish, Codes, End, Then, Procedure, Program}
+use Rattle.types.specs.Code.{Code, Do, If, While, Split, Parts, Begun, Call, Async, Finish, Rescue, Codes, End, Then, Procedure, Program}
 use Rattle.types.specs.Run.{bind, with_piece}
 use Rattle.types.specs.Sound.{IsText, IsTextOf}
 use Rattle.types.specs.Trees.{append}
@@ -40,6 +40,7 @@ module _ (env : Environment) (at : Environment → Codes → Type 0) where
   which_turn l (Call f es ss) rest h = inr h
   which_turn l (Async b) rest h = inr h
   which_turn l (Finish b) rest h = inr h
+  which_turn l (Rescue b x c) rest h = inr h
 
   pub first_turn : (l : ℕ) (s : Code) (rest : Codes) → InTurnOf env at s → InTurnsOf env at (Then l s rest)
   first_turn l (Do s) rest h = absurd h
@@ -51,6 +52,7 @@ module _ (env : Environment) (at : Environment → Codes → Type 0) where
   first_turn l (Call f es ss) rest h = absurd h
   first_turn l (Async b) rest h = absurd h
   first_turn l (Finish b) rest h = absurd h
+  first_turn l (Rescue b x c) rest h = absurd h
 
   pub later_turn : (l : ℕ) (s : Code) (rest : Codes) → InTurnsOf env at rest → InTurnsOf env at (Then l s rest)
   later_turn l (Do s) rest h = h
@@ -62,6 +64,7 @@ module _ (env : Environment) (at : Environment → Codes → Type 0) where
   later_turn l (Call f es ss) rest h = h
   later_turn l (Async b) rest h = h
   later_turn l (Finish b) rest h = h
+  later_turn l (Rescue b x c) rest h = h
 
   -- a text has no turns to come
   text_has_none : (s : Code) → IsTextOf s → InTurnOf env at s → ⊥
@@ -74,6 +77,7 @@ module _ (env : Environment) (at : Environment → Codes → Type 0) where
   text_has_none (Call f es ss) k h = h
   text_has_none (Async b) k h = h
   text_has_none (Finish b) k h = h
+  text_has_none (Rescue b x c) k h = h
 
   pub no_turns : (b : Codes) → IsText b → InTurnsOf env at b → ⊥
   no_turns End k h = h
@@ -123,6 +127,7 @@ module _ (p : Program) where
   turn_in_more f (Call g es ss) h = tt
   turn_in_more f (Async b) h = tt
   turn_in_more f (Finish b) h = tt
+  turn_in_more f (Rescue b x c) h = tt
 
   pub turns_in_more : {small large : List ℕ} → Among small large → (b : Codes) → TurnsIn p small b → TurnsIn p large b
   turns_in_more f End h = tt
@@ -140,6 +145,7 @@ module _ (p : Program) where
     follows_turn_in scope (Call f es ss) k = tt
     follows_turn_in scope (Async b) k = tt
     follows_turn_in scope (Finish b) k = tt
+    follows_turn_in scope (Rescue b x c) k = tt
 
     pub follows_turns_in : (scope : List ℕ) (b : Codes) → Follows p g scope b → TurnsIn p scope b
     follows_turns_in scope End k = tt
@@ -169,6 +175,7 @@ module _ (p : Program) where
     shift_turn scope env other (Call f es ss) h same t = t
     shift_turn scope env other (Async b) h same t = t
     shift_turn scope env other (Finish b) h same t = t
+    shift_turn scope env other (Rescue b x c) h same t = t
 
     pub shift_turns : (scope : List ℕ) (env other : Environment) (b : Codes) → TurnsIn p scope b → SameWindows scope env other
         → InTurnsOf other at b → InTurnsOf env at b

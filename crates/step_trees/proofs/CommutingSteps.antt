@@ -7,13 +7,13 @@ use Rattle.sections.specs.Place.{Place, same_place}
 use Rattle.types.specs.Code.{Codes, Program}
 use Rattle.types.specs.Contents.{Contents, write}
 use Rattle.types.specs.Value.{Environment}
-use Rattle.types.specs.Trees.{Caller, Leaf, Tree, Single, AndThen, Beside, all_done, ready, and_then, closed}
+use Rattle.types.specs.Trees.{Caller, Leaf, Handler, NoHandler, HandledBy, Tree, Single, AndThen, Beside, all_done, ready, and_then, closed}
 use Rattle.types.specs.TreeRuns.{Runs, here, next}
 use Rattle.effects.specs.Sound.{IsSound}
 use Rattle.effects.proofs.Footprints.{overwrites_touch, turns_write_touch}
 use Rattle.race_checker.specs.Clash.{IsAccepted}
 use Rattle.race_checker.proofs.Calming.{is_calm}
-use Rattle.step_trees.specs.Still.{all, waiting, left_of, still}
+use Rattle.step_trees.specs.Still.{all, waiting, left_of, in_handler, still}
 use Rattle.step_trees.proofs.Steps.{Step, tree_or, store_or, step_from, step_to, step_below}
 use Rattle.step_trees.proofs.LocalSteps.{Update, updated, Hits, local}
 use Rattle.step_trees.proofs.GoodTrees.{Good, step_kept}
@@ -66,10 +66,16 @@ left_touch : (p : Program) (k : Leaf) (q : Place) → (left_of p k).writes q →
 left_touch p k q (inl h) = inl (all_touch p k.environment k.rest q h)
 left_touch p k q (inr h) = inr (waiting_touch p k.callers q h)
 
+handler_touch : (p : Program) (env : Environment) (x : Handler) (q : Place) → (in_handler p env x).writes q
+    → (in_handler p env x).touches q
+handler_touch p env NoHandler q h = h
+handler_touch p env (HandledBy x c) q h = all_touch p env c q h
+
 pub writes_touch : (p : Program) (t : Tree) (q : Place) → (still p t).writes q → (still p t).touches q
 writes_touch p (Single k) q h = left_touch p k q h
-writes_touch p (AndThen t k) q (inl h) = inl (writes_touch p t q h)
-writes_touch p (AndThen t k) q (inr h) = inr (left_touch p k q h)
+writes_touch p (AndThen t x k) q (inl h) = inl (writes_touch p t q h)
+writes_touch p (AndThen t x k) q (inr (inl h)) = inr (inl (handler_touch p k.environment x q h))
+writes_touch p (AndThen t x k) q (inr (inr h)) = inr (inr (left_touch p k q h))
 writes_touch p (Beside t u) q (inl h) = inl (writes_touch p t q h)
 writes_touch p (Beside t u) q (inr h) = inr (writes_touch p u q h)
 
@@ -81,9 +87,9 @@ module _ (p : Program) where
       by true e = absurd (let h = step_below p s in let x = done_ready t e in omega arith)
       by false e = e
 
-  still_then : {n : ℕ} {k : Leaf} {t u : Tree} {a b : Contents} (j : Leaf) → Step p n k t a u b
-      → AndThen t j ≡ and_then t j
-  still_then {t = t} j s = ap (λ z. if z then Single (closed t j) else AndThen t j) (sym (not_done s))
+  still_then : {n : ℕ} {k : Leaf} {t u : Tree} {a b : Contents} (x : Handler) (j : Leaf) → Step p n k t a u b
+      → AndThen t x j ≡ and_then t x j
+  still_then {t = t} x j s = ap (λ z. if z then Single (closed t x j) else AndThen t x j) (sym (not_done s))
 
   -- the two orders of a step of k that led to u and b, and a step of j that led to v and c
   pub record Orders (m : ℕ) (k j : Leaf) (u : Tree) (b : Contents) (v : Tree) (c : Contents) : Type 0 where
@@ -98,14 +104,14 @@ module _ (p : Program) where
       → m < n
       → (keep : List ℕ) → Good p keep t → Orders m k j u b v c
   commute (Step.here r e f) (Step.here r2 e2 f2) h keep g = absurd (omega arith)
-  commute (Step.first {n = m} {k = k} {j = i} {b = b} s e) (Step.first {k = j} {b = c} s2 e2) h keep (Good.is_then scope st g same) =
+  commute (Step.first {n = m} {k = k} {x = x} {j = i} {b = b} s e) (Step.first {k = j} {b = c} s2 e2) h keep (Good.is_then scope st handler g same) =
       let o = commute s s2 h scope g in
       record {
-        tree = and_then o.tree i;
+        tree = and_then o.tree x i;
         store = o.store;
         number = o.number;
-        second = subst (λ x. Step p o.number j x b (and_then o.tree i) o.store) (still_then i o.second ∙ sym e) (Step.first o.second refl);
-        first = subst (λ x. Step p m k x c (and_then o.tree i) o.store) (still_then i o.first ∙ sym e2) (Step.first o.first refl);
+        second = subst (λ v. Step p o.number j v b (and_then o.tree x i) o.store) (still_then x i o.second ∙ sym e) (Step.first o.second refl);
+        first = subst (λ v. Step p m k v c (and_then o.tree x i) o.store) (still_then x i o.first ∙ sym e2) (Step.first o.first refl);
       }
   commute (Step.left s) (Step.left s2) h keep (Good.is_beside {other = other} g g2 apart) =
       let o = commute s s2 h other g in

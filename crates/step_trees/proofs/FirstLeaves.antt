@@ -5,7 +5,7 @@ use Rattle.std.proofs.lemmas.Bool.{and_parts}
 use Rattle.shared_lemmas.proofs.Truths.{true_false}
 use Rattle.types.specs.Code.{Codes, End, Then, Program}
 use Rattle.types.specs.Contents.{Contents}
-use Rattle.types.specs.Trees.{Leaf, Tree, Single, AndThen, Beside, is_done, all_done, ready, and_then, closed}
+use Rattle.types.specs.Trees.{Leaf, Handler, Tree, Single, AndThen, Beside, is_done, all_done, ready, and_then, closed}
 use Rattle.types.specs.TreeSteps.{tree_after, store_after}
 use Rattle.types.specs.TreeRuns.{Runs, here, next}
 use Rattle.effects.specs.Sound.{IsSound}
@@ -31,7 +31,7 @@ module _ (p : Program) where
   pub first_step : (t : Tree) (a : Contents) → 0 < ready t
       → (k : Leaf) × (u : Tree) × (b : Contents) × Step p 0 k t a u b
   first_step (Single k) a h = let s = first_leaf k.rest k a refl h in (k, s.0, s.1, s.2)
-  first_step (AndThen t j) a h = let s = first_step t a h in (s.0, and_then s.1 j, s.2, Step.first s.3 refl)
+  first_step (AndThen t x j) a h = let s = first_step t a h in (s.0, and_then s.1 x j, s.2, Step.first s.3 refl)
   first_step (Beside t u) a h = by (ready t) refl (first_step t a) (first_step u a)
     where
       by : (n : ℕ) → ready t ≡ n → (0 < ready t → (k : Leaf) × (v : Tree) × (b : Contents) × Step p 0 k t a v b)
@@ -116,15 +116,15 @@ module _ (p : Program) where
 
   -- A finish
 
-  abbrev pub Finished : (n : ℕ) (t : Tree) (j : Leaf) (a : Contents) (e : Tree) (z : Contents) → Type 0
-  Finished n t j a e z = Ended n t a (λ m u b. LeftRun m (Single (closed u j)) b e z)
+  abbrev pub Finished : (n : ℕ) (t : Tree) (x : Handler) (j : Leaf) (a : Contents) (e : Tree) (z : Contents) → Type 0
+  Finished n t x j a e z = Ended n t a (λ m u b. LeftRun m (Single (closed u x j)) b e z)
 
-  pub finished : (n : ℕ) (t : Tree) (j : Leaf) (b : Bool) → all_done t ≡ b → (a : Contents) (e : Tree) (z : Contents)
-      → LeftRun n (if b then Single (closed t j) else AndThen t j) a e z → all_done e ≡ true → Finished n t j a e z
-  finished n t j true h a e z r d = at_end {Behind = λ m u b. LeftRun m (Single (closed u j)) b e z} refl h r
-  finished zero t j false h a e z ended d = true_false (sym d)
-  finished (suc n) t j false h a e z (goes (Step.first {u = u} {b = b} s q) r) d =
-      one_more s (finished n u j (all_done u) refl b e z (subst (λ w. LeftRun n w b e z) q r) d)
+  pub finished : (n : ℕ) (t : Tree) (x : Handler) (j : Leaf) (b : Bool) → all_done t ≡ b → (a : Contents) (e : Tree) (z : Contents)
+      → LeftRun n (if b then Single (closed t x j) else AndThen t x j) a e z → all_done e ≡ true → Finished n t x j a e z
+  finished n t x j true h a e z r d = at_end {Behind = λ m u b. LeftRun m (Single (closed u x j)) b e z} refl h r
+  finished zero t x j false h a e z ended d = true_false (sym d)
+  finished (suc n) t x j false h a e z (goes (Step.first {u = u} {b = b} s q) r) d =
+      one_more s (finished n u x j (all_done u) refl b e z (subst (λ w. LeftRun n w b e z) q r) d)
 
 module _ (p : Program) (sound : IsSound p) (accepted : IsAccepted p) where
   -- if a run ends, the first leaves lead to the same end in as many steps

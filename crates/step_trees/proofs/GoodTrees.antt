@@ -5,13 +5,13 @@ use Rattle.sections.specs.Place.{Window, sides_of, has_piece, piece_at, piece_of
 use Rattle.sections.specs.Member.{next}
 use Rattle.types.specs.declared.fault.FaultKind.{FaultKind}
 use Rattle.types.specs.declared.fault.FaultKind.TheVariants.{SplitPoint}
-use Rattle.types.specs.Code.{Number, Truth, Code, Do, If, While, Split, Parts, Begun, Call, Async, Finish, Codes, End, Then, Procedure, Program}
+use Rattle.types.specs.Code.{Number, Truth, Code, Do, If, While, Split, Parts, Begun, Call, Async, Finish, Rescue, Codes, End, Then, Procedure, Program}
 use Rattle.types.specs.Contents.{Contents, read}
 use Rattle.types.specs.Value.{Environment, Valued, then_try, number, numbers, truth}
 use Rattle.types.specs.Run.{Flow, On, Faulted, Stopped, Fault, State, primitive, procedure_of, entry, with_sides, with_piece}
 use Rattle.types.specs.Sound.{IsText}
 use Rattle.types.specs.Outcome.{whole_arrays}
-use Rattle.types.specs.Trees.{Caller, Leaf, Tree, Single, AndThen, Beside, append, single, done, failed, task_environment, owner_environment, outermost, returned_by, return_to, before_rest, all_done, faults_of, lines_of, rightmost, unless_faulted, closed, and_then, called, child, parent, inside, held_back}
+use Rattle.types.specs.Trees.{Caller, Leaf, Handler, NoHandler, HandledBy, Tree, Single, AndThen, Beside, append, single, done, failed, task_environment, owner_environment, outermost, returned_by, return_to, before_rest, all_done, faults_of, unless_faulted, handling, after_faults, closed, and_then, called, child, parent, inside, held_back}
 use Rattle.types.specs.TreeSteps.{on_value, as_state, by_flow, size_by, before_turns, in_piece, tree_after, first_leaf, first_tree}
 use Rattle.types.specs.TreeRuns.{Runs, here, next as go_next, Reachable}
 use Rattle.effects.specs.Accesses.{Access}
@@ -30,8 +30,8 @@ use Rattle.step_trees.proofs.Deeds.{primitive_windows}
 use Rattle.step_trees.proofs.ComingTurns.{Among}
 use Rattle.step_trees.proofs.Scopes.{fits_scope}
 use Rattle.step_trees.proofs.Statements.{from_either}
-use Rattle.step_trees.specs.Still.{Footprint, both, Separate, all, waiting, left_of, still}
-use Rattle.step_trees.proofs.Steps.{Step, step_from}
+use Rattle.step_trees.specs.Still.{Footprint, both, Separate, all, waiting, left_of, in_handler, still}
+use Rattle.step_trees.proofs.Steps.{Step, step_from, continuing}
 use Rattle.step_trees.proofs.Footprints.{Within, within_itself, within_trans, first_within, second_within, both_within, beside_within, nothing_within, separate_within, separate_both, separate_nothing, separate_alone, pending, does, leaves, append_all, append_pending, statement_all, rest_all, statement_pending, rest_pending, cons_all, cons_pending, text_all, text_pending, text_does, text_leaves, among, separate_from}
 use Rattle.step_trees.proofs.PlacedStatements.{text_written, IsPlaced, Focus, focus, keep_below, apart_end, end_within, end_placed, same_placed, same_all, same_pending, rest_placed, focused, rest_apart, FitsIn, fits_there, prefixed, alone}
 
@@ -42,12 +42,17 @@ module _ (p : Program) where
   Stack keep scope env c (f ∷ fs) =
       IsPlaced p [] scope env c × Separate (pending p env c) (waiting p (f ∷ fs)) × ((other : List ℕ) × Stack keep other f.environment f.rest fs)
 
+  -- and with the handler of a finish before them
+  abbrev pub HandlerStack : (keep scope : List ℕ) → Handler → Leaf → Type 0
+  HandlerStack keep scope NoHandler k = Unit {0}
+  HandlerStack keep scope (HandledBy n c) k = Stack keep scope k.environment (append c k.rest) k.callers
+
   pub data Good : (keep : List ℕ) → Tree → Type 0 where
     is_leaf : {keep : List ℕ} {k : Leaf} (scope : List ℕ) → Stack keep scope k.environment k.rest k.callers
         → Good keep (Single k)
-    is_then : {keep : List ℕ} {t : Tree} {k : Leaf} (scope : List ℕ) → Stack keep scope k.environment k.rest k.callers
-        → Good scope t
-        → SameWindows scope k.environment (owner_environment t) → Good keep (AndThen t k)
+    is_then : {keep : List ℕ} {t : Tree} {h : Handler} {k : Leaf} (scope : List ℕ)
+        → Stack keep scope k.environment k.rest k.callers → HandlerStack keep scope h k → Good scope t
+        → SameWindows scope k.environment (owner_environment t) → Good keep (AndThen t h k)
     is_beside : {keep other : List ℕ} {t u : Tree} → Good other t → Good keep u → Separate (still p t) (still p u)
         → Good keep (Beside t u)
 
@@ -93,6 +98,28 @@ module _ (p : Program) where
         stack = (m.placed, separate_within m.pending (within_itself _) s.1, s.2);
         within = beside_within m.all (within_itself _);
         same = λ x m. refl;
+        more = x;
+      }
+
+  -- two lists of statements in the place of one, in one scope
+  pub record MovedTwice (keep : List ℕ) (env : Environment) (c d : Codes) (fs : List Caller) (P : List ℕ → Type 0) : Type 0 where
+    pub scope : List ℕ
+    pub first : Stack keep scope env c fs
+    pub second : Stack keep scope env d fs
+    pub more : P scope
+
+  moved_twice : (keep scope : List ℕ) {env : Environment} {c d e : Codes} (P : List ℕ → Type 0) (fs : List Caller)
+      → ((keep : List ℕ) → IsPlaced p keep scope env e
+      → (inner : List ℕ) × Moved keep inner env e env c × Moved keep inner env e env d × P inner)
+      → Stack keep scope env e fs → MovedTwice keep env c d fs P
+  moved_twice keep scope P [] f s =
+      let (inner, m, n, x) = f keep s in record { scope = inner; first = m.placed; second = n.placed; more = x }
+  moved_twice keep scope P (g ∷ gs) f s =
+      let (inner, m, n, x) = f [] s.0 in
+      record {
+        scope = inner;
+        first = (m.placed, separate_within m.pending (within_itself _) s.1, s.2);
+        second = (n.placed, separate_within n.pending (within_itself _) s.1, s.2);
         more = x;
       }
 
@@ -167,28 +194,48 @@ module _ (p : Program) where
     unless_kept keep scope [] k s = one_kept keep scope k s
     unless_kept keep scope (f ∷ fs) k s = done_kept keep scope k.rest k (left_of p k) s
 
-    closed_kept : (keep scope : List ℕ) (t : Tree) (k : Leaf) → Stack keep scope k.environment k.rest k.callers
+    ended_kept : (keep scope : List ℕ) (h : Handler) (fs : List Fault) (t : Tree) (k : Leaf)
+        → Stack keep scope k.environment k.rest k.callers → HandlerStack keep scope h k
         → SameWindows scope k.environment (owner_environment t)
-        → Kept keep (task_environment k) (left_of p k) (Single (closed t k))
-    closed_kept keep scope t k s same =
+        → Kept keep (task_environment k) (both (in_handler p k.environment h) (left_of p k)) (Single (after_faults h fs (continuing t k)))
+    ended_kept keep scope NoHandler fs t k s handler same =
         let m = stack_moved keep scope (λ x. Unit {0}) k.callers (same_moves same) s in
-        kept_trans m.same m.within (unless_kept keep m.scope (faults_of t) (record k {
-          environment = owner_environment t;
-          spawned = (rightmost t).spawned;
-          lines = lines_of t;
-          faults = faults_of t;
-        }) m.stack)
+        kept_trans m.same (within_trans m.within (second_within _ _)) (unless_kept keep m.scope fs (continuing t k) m.stack)
+    ended_kept keep scope (HandledBy n c) [] t k s handler same =
+        let m = stack_moved keep scope (λ x. Unit {0}) k.callers (same_moves same) s in
+        kept_trans m.same (within_trans m.within (second_within _ _)) (one_kept keep m.scope (continuing t k) m.stack)
+    ended_kept keep scope (HandledBy n c) (f ∷ fs) t k s handler same =
+        let j = handling n c (continuing t k) in
+        let there : SameWindows scope k.environment j.environment = same in
+        let m = stack_moved keep scope (λ x. Unit {0}) k.callers (same_moves there) handler in
+        kept_trans m.same
+        (within_trans m.within
+        (both_within
+        (within_trans (append_all p k.environment c k.rest)
+        (beside_within (within_itself _) (first_within (all p k.environment k.rest) (waiting p k.callers))))
+        (within_trans (second_within (all p k.environment k.rest) (waiting p k.callers)) (second_within _ _))))
+        (one_kept keep m.scope j m.stack)
 
-    then_by : (keep scope : List ℕ) (b : Bool) (t : Tree) (k : Leaf) → Stack keep scope k.environment k.rest k.callers
-        → Good scope t → SameWindows scope k.environment (owner_environment t)
-        → Kept keep (task_environment k) (both (still p t) (left_of p k)) (if b then Single (closed t k) else AndThen t k)
-    then_by keep scope true t k s g same = kept_trans (λ x m. refl) (second_within _ _) (closed_kept keep scope t k s same)
-    then_by keep scope false t k s g same = record { good = Good.is_then scope s g same; within = within_itself _; same = λ x m. refl }
+    closed_kept : (keep scope : List ℕ) (t : Tree) (h : Handler) (k : Leaf) → Stack keep scope k.environment k.rest k.callers
+        → HandlerStack keep scope h k → SameWindows scope k.environment (owner_environment t)
+        → Kept keep (task_environment k) (both (in_handler p k.environment h) (left_of p k)) (Single (closed t h k))
+    closed_kept keep scope t h k s handler same = ended_kept keep scope h (faults_of t) t k s handler same
 
-    pub then_kept : (keep scope : List ℕ) (t : Tree) (k : Leaf) → Stack keep scope k.environment k.rest k.callers
+    then_by : (keep scope : List ℕ) (b : Bool) (t : Tree) (h : Handler) (k : Leaf)
+        → Stack keep scope k.environment k.rest k.callers → HandlerStack keep scope h k
         → Good scope t → SameWindows scope k.environment (owner_environment t)
-        → Kept keep (task_environment k) (both (still p t) (left_of p k)) (and_then t k)
-    then_kept keep scope t k = then_by keep scope (all_done t) t k
+        → Kept keep (task_environment k) (both (still p t) (both (in_handler p k.environment h) (left_of p k)))
+        (if b then Single (closed t h k) else AndThen t h k)
+    then_by keep scope true t h k s handler g same =
+        kept_trans (λ x m. refl) (second_within _ _) (closed_kept keep scope t h k s handler same)
+    then_by keep scope false t h k s handler g same =
+        record { good = Good.is_then scope s handler g same; within = within_itself _; same = λ x m. refl }
+
+    pub then_kept : (keep scope : List ℕ) (t : Tree) (h : Handler) (k : Leaf)
+        → Stack keep scope k.environment k.rest k.callers → HandlerStack keep scope h k
+        → Good scope t → SameWindows scope k.environment (owner_environment t)
+        → Kept keep (task_environment k) (both (still p t) (both (in_handler p k.environment h) (left_of p k))) (and_then t h k)
+    then_kept keep scope t h k = then_by keep scope (all_done t) t h k
 
     -- One step of a leaf
 
@@ -691,7 +738,7 @@ module _ (p : Program) where
           }
 
       finish_kept : (keep scope : List ℕ) (l : ℕ) (b : Codes) (k : Leaf) → Before l (Finish b) keep scope k
-          → After l (Finish b) keep k (and_then (single (inside b k)) (held_back k))
+          → After l (Finish b) keep k (and_then (single (inside b k)) NoHandler (held_back k))
       finish_kept keep scope l b k st =
           let s = Finish b in
           let env = k.environment in
@@ -704,8 +751,65 @@ module _ (p : Program) where
           kept_trans m.same
           (both_within
           (within_trans body.within (both_within (within_trans (text_does p env l s b m.more.0 (λ x h. AllOf.finish h)) (within_trans (statement_all p env l s k.rest) (first_within _ _))) (nothing_within _)))
-          m.within)
-          (then_kept keep m.scope (single (inside b k)) (held_back k) m.stack body.good body.same)
+          (both_within (nothing_within _) m.within))
+          (then_kept keep m.scope (single (inside b k)) NoHandler (held_back k) m.stack tt body.good body.same)
+
+      -- a block of a statement before what follows it, in the scope of the statement
+      in_front : {keep : List ℕ} {env : Environment} {l : ℕ} {s : Code} {rest : Codes} (f : Focus p keep env l s rest) (b : Codes)
+          → FitsIn p f.procedure env f.scope b → Within (all p env b) (does p env l s)
+          → Within (pending p env b) (leaves p env s) → Moved keep f.scope env (Then l s rest) env (append b rest)
+      in_front {env = env} {l = l} {s = s} {rest = rest} f b fits done left = record {
+        placed = prefixed p (rest_placed p f) f.scope b (λ x m. m) fits (separate_within left (within_itself _) (rest_apart p f));
+        all = within_trans (append_all p env b rest)
+            (both_within (within_trans done (statement_all p env l s rest)) (rest_all p env l s rest));
+        pending = within_trans (append_pending p env b rest)
+            (both_within (within_trans left (statement_pending p env l s rest)) (rest_pending p env l s rest));
+        same = λ x m. refl;
+      }
+
+      -- what the statement leaves behind it: its body in a tree of its own, and its handler
+      record Rescued (env : Environment) (b c : Codes) (scope : List ℕ) : Type 0 where
+        text : IsText b
+        handler_text : IsText c
+        placed : IsPlaced p scope scope env b
+
+      rescue_kept : (keep scope : List ℕ) (l : ℕ) (b : Codes) (n : ℕ) (c : Codes) (k : Leaf) → Before l (Rescue b n c) keep scope k
+          → After l (Rescue b n c) keep k (and_then (single (inside b k)) (HandledBy n c) (held_back k))
+      rescue_kept keep scope l b n c k st =
+          let s = Rescue b n c in
+          let env = k.environment in
+          let m = moved_twice keep scope {env = env} {c = k.rest} {d = append c k.rest} {e = Then l s k.rest} (Rescued env b c) k.callers
+          (λ keep q.
+          let f = focus p q in
+          let block = f.stands.block in (
+            f.scope,
+            record {
+              placed = rest_placed p f;
+              all = rest_all p env l s k.rest;
+              pending = rest_pending p env l s k.rest;
+              same = λ x m. refl;
+            },
+            in_front f c (fits_there p f block.follows.0.2 block.calm.0.1 (text_written c block.written.0.1))
+                (text_does p env l s c block.written.0.1 (λ x h. AllOf.inner Inner.handler h refl))
+                (text_leaves p env s c block.written.0.1 (λ x h. PendingOf.inner Inner.handler h refl)),
+            record {
+              text = block.written.0.0;
+              handler_text = block.written.0.1;
+              placed = alone p f.scope f.scope env f.procedure b f.is_sound (λ x m. m)
+                  (fits_there p f block.follows.0.0 block.calm.0.0 (text_written b block.written.0.0));
+            },
+          )) st in
+          let body = one_kept m.scope m.scope (inside b k) m.more.placed in
+          let whole : Within (does p env l s) (both (all p env (Then l s k.rest)) (waiting p k.callers)) =
+          within_trans (statement_all p env l s k.rest) (first_within _ _) in
+          kept_trans (λ x h. refl)
+          (both_within
+          (within_trans body.within
+          (both_within (within_trans (text_does p env l s b m.more.text (λ x h. AllOf.rescued h)) whole) (nothing_within _)))
+          (both_within
+          (within_trans (text_does p env l s c m.more.handler_text (λ x h. AllOf.inner Inner.handler h refl)) whole)
+          (beside_within (rest_all p env l s k.rest) (within_itself _))))
+          (then_kept keep m.scope (single (inside b k)) (HandledBy n c) (held_back k) m.first m.second body.good body.same)
 
       after_kept : (keep scope : List ℕ) (l : ℕ) (s : Code) (k : Leaf) (a : Contents) → Before l s keep scope k
           → After l s keep k (tree_after p l s k a)
@@ -729,6 +833,7 @@ module _ (p : Program) where
           (λ vs h. call_kept keep scope l f es ss vs k st)
       after_kept keep scope l (Async b) k a st = async_kept keep scope l b k st
       after_kept keep scope l (Finish b) k a st = finish_kept keep scope l b k st
+      after_kept keep scope l (Rescue b n c) k a st = rescue_kept keep scope l b n c k st
 
       pub step_kept : {n : ℕ} {k : Leaf} {t u : Tree} {a b : Contents} → Step p n k t a u b → (keep : List ℕ)
           → Good keep t → Kept keep (owner_environment t) (still p t) u
@@ -736,10 +841,11 @@ module _ (p : Program) where
           subst (Kept keep (task_environment k) (left_of p k)) (sym e)
           (subst (λ c. Kept keep (task_environment k) (both (all p k.environment c) (waiting p k.callers)) (tree_after p l s (record k { rest = rest }) a)) (sym r)
           (after_kept keep scope l s (record k { rest = rest }) a (subst (λ c. Stack keep scope k.environment c k.callers) r st)))
-      step_kept (Step.first {j = j} {u = u} s e) keep (Good.is_then scope st g same) =
+      step_kept (Step.first {x = y} {j = j} {u = u} s e) keep (Good.is_then scope st handler g same) =
           let m = step_kept s scope g in
           subst (Kept keep (task_environment j) _) (sym e)
-          (kept_trans (λ x h. refl) (beside_within m.within (within_itself _)) (then_kept keep scope u j st m.good (λ x h. same x h ∙ m.same x h)))
+          (kept_trans (λ x h. refl) (beside_within m.within (within_itself _))
+          (then_kept keep scope u y j st handler m.good (λ x h. same x h ∙ m.same x h)))
       step_kept (Step.left s) keep (Good.is_beside {other = other} g h apart) =
           let m = step_kept s other g in
           record { good = Good.is_beside m.good h (separate_within m.within (within_itself _) apart); within = beside_within m.within (within_itself _); same = λ x h. refl }

@@ -5,9 +5,10 @@ use Rattle.std.proofs.lemmas.Bool.{and_from, and_parts}
 use Rattle.std.specs.Prelude.{ℤ, Bool, true, false, nat_eq, map, if◌then◌else◌, Box}
 use Rattle.std.specs.Global.{Global}
 use Rattle.types.specs.declared.fault.Fault.{Fault as rFault}
+use Rattle.types.specs.Code.{Codes}
 use Rattle.types.specs.Run.{Fault}
 use Rattle.types.specs.Translation.{environment, fault}
-use Rattle.types.specs.Trees.{Leaf, Tree, Single, AndThen, Beside, is_done, all_done, ready, lines_of, faults_of, rightmost, done, unless_faulted, closed, task_environment}
+use Rattle.types.specs.Trees.{Leaf, Handler, NoHandler, HandledBy, Tree, Single, AndThen, Beside, is_done, all_done, ready, lines_of, faults_of, rightmost, done, returned, handling, after_faults, closed, task_environment}
 use Rattle.types.specs.Value.{Environment}
 use Rattle.step_trees.specs.declared.leaf.Leaf.{Leaf as rLeaf}
 use Rattle.step_trees.specs.Translation.{leaf_of}
@@ -27,7 +28,7 @@ ready_by k b e = ap (λ (z : Bool). let n : ℕ = if z then 0 else 1 in n) (done
 -- the number of trees and leaves in a tree
 abbrev pub weight : rTree → ℕ
 weight (rSingle k) = 1
-weight (rAndThen p t k n) = suc (weight t)
+weight (rAndThen p t w n) = suc (weight t)
 weight (rBeside p t q u n d s) = suc (weight t + weight u)
 
 abbrev pub weights : List (Box rTree Global) → ℕ
@@ -78,8 +79,9 @@ pub done-first : (bs : List (Box rTree Global)) (t : Tree) → all_done (with_ri
 done-first [] t e = e
 done-first (x ∷ bs) t e = done-first bs t (and_parts (all_done (with_rights bs t)) (all_done (tree_of x.value)) e).0
 
-pub no_then : (bs : List (Box rTree Global)) (t : Tree) (k : Leaf) → all_done (with_rights bs (AndThen t k)) ≡ true → ⊥
-no_then bs t k e = let bad : false ≡ true = done-first bs (AndThen t k) e in cc
+pub no_then : (bs : List (Box rTree Global)) (t : Tree) (x : Handler) (k : Leaf)
+    → all_done (with_rights bs (AndThen t x k)) ≡ true → ⊥
+no_then bs t x k e = let bad : false ≡ true = done-first bs (AndThen t x k) e in cc
 
 -- and what is to the right of it
 pub done-rights : (bs : List (Box rTree Global)) (t u : Tree) → all_done (with_rights bs (Beside t u)) ≡ true → all_done (with_rights bs u) ≡ true
@@ -89,25 +91,48 @@ done-rights (x ∷ bs) t u e =
     and_from (all_done (with_rights bs u)) d (done-rights bs t u (and_parts c d e).0) (and_parts c d e).1
 
 -- what waited for the end of a tree of which this remains
-module _ (t : Tree) (k : Leaf) (r : Remains) (left : IsLeftOf t r) where
+module _ (t : Tree) (x : Handler) (k : Leaf) (r : Remains) (left : IsLeftOf t r) where
   abbrev with : Environment → ℕ → List (List ℤ) → List Fault → Leaf
   with e n ls fs = record k { environment = e; spawned = n; lines = ls; faults = fs }
 
   abbrev pub going_on : Leaf
   going_on = with (environment r.environment) r.spawned (map (λ v. v.items) r.lines.items) (map fault r.faults.items)
 
-  goes_on : unless_faulted (map fault r.faults.items) going_on ≡ closed t k
+  goes_on : after_faults x (map fault r.faults.items) going_on ≡ closed t x k
   goes_on =
       let ls = map (λ v. v.items) r.lines.items in let fs = map fault r.faults.items in
       let env = task_environment (rightmost t) in let n = (rightmost t).spawned in
-      ap (λ (e : Environment). unless_faulted fs (with e r.spawned ls fs)) left.owner
-      ∙ ap (λ (n : ℕ). unless_faulted fs (with env n ls fs)) left.spawned
-      ∙ ap (λ (ls : List (List ℤ)). unless_faulted fs (with env n ls fs)) left.lines
-      ∙ ap (λ (fs : List Fault). unless_faulted fs (with env n (lines_of t) fs)) left.faults
+      ap (λ (e : Environment). after_faults x fs (with e r.spawned ls fs)) left.owner
+      ∙ ap (λ (n : ℕ). after_faults x fs (with env n ls fs)) left.spawned
+      ∙ ap (λ (ls : List (List ℤ)). after_faults x fs (with env n ls fs)) left.lines
+      ∙ ap (λ (fs : List Fault). after_faults x fs (with env n (lines_of t) fs)) left.faults
 
-  faulted_by : (fs : List rFault) (j : Leaf) → nat_eq (length fs) 0 ≡ false → done j ≡ unless_faulted (map fault fs) j
+  -- with faults it is done, or its handler starts
+  faulted_by : (fs : List rFault) (j : Leaf) → nat_eq (length fs) 0 ≡ false → done j ≡ after_faults NoHandler (map fault fs) j
   faulted_by [] j e = absurd (let bad : ⊥ = cc in bad)
-  faulted_by (x ∷ fs) j e = refl
+  faulted_by (f ∷ fs) j e = refl
 
-  pub closed-faulted : nat_eq (length r.faults.items) 0 ≡ false → done going_on ≡ closed t k
-  closed-faulted e = faulted_by r.faults.items going_on e ∙ goes_on
+  handled_by : (n : ℕ) (c : Codes) (fs : List rFault) (j : Leaf) → nat_eq (length fs) 0 ≡ false
+      → returned (handling n c j) ≡ after_faults (HandledBy n c) (map fault fs) j
+  handled_by n c [] j e = absurd (let bad : ⊥ = cc in bad)
+  handled_by n c (f ∷ fs) j e = refl
+
+  pub closed-faulted : x ≡ NoHandler → nat_eq (length r.faults.items) 0 ≡ false → done going_on ≡ closed t x k
+  closed-faulted none e =
+      faulted_by r.faults.items going_on e ∙ ap (λ h. after_faults h (map fault r.faults.items) going_on) (sym none) ∙ goes_on
+
+  pub closed-handled : (n : ℕ) (c : Codes) → x ≡ HandledBy n c → nat_eq (length r.faults.items) 0 ≡ false
+      → returned (handling n c going_on) ≡ closed t x k
+  closed-handled n c some e =
+      handled_by n c r.faults.items going_on e
+      ∙ ap (λ h. after_faults h (map fault r.faults.items) going_on) (sym some) ∙ goes_on
+
+  -- without faults it continues
+  faultless_by : (h : Handler) (fs : List rFault) (j : Leaf) → nat_eq (length fs) 0 ≡ true
+      → returned j ≡ after_faults h (map fault fs) j
+  faultless_by NoHandler [] j e = refl
+  faultless_by (HandledBy n c) [] j e = refl
+  faultless_by h (f ∷ fs) j e = absurd (let bad : ⊥ = cc in bad)
+
+  pub closed-faultless : nat_eq (length r.faults.items) 0 ≡ true → returned going_on ≡ closed t x k
+  closed-faultless e = faultless_by x r.faults.items going_on e ∙ goes_on

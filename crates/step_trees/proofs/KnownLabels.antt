@@ -5,12 +5,12 @@ use Rattle.std.specs.Prelude.{Bool, true, false, pos, ok_or, Ok, Err, if◌then�
 use Rattle.sections.specs.Place.{sides_of, has_piece, piece_at}
 use Rattle.sections.specs.Member.{Member}
 use Rattle.types.specs.declared.fault.FaultKind.TheVariants.{SplitPoint}
-use Rattle.types.specs.Code.{Number, Literal, Truth, Code, Do, If, While, Split, Parts, Begun, Call, Async, Finish, Codes, End, Then, Program}
+use Rattle.types.specs.Code.{Number, Literal, Truth, Code, Do, If, While, Split, Parts, Begun, Call, Async, Finish, Rescue, Codes, End, Then, Program}
 use Rattle.types.specs.Contents.{Contents, read}
 use Rattle.types.specs.Value.{Environment, Valued, then_try, number, numbers, truth}
 use Rattle.types.specs.Run.{Flow, On, Faulted, Stopped, Fault, primitive, procedure_of, entry, with_sides, with_piece}
 use Rattle.types.specs.Sound.{IsText, IsTextOf}
-use Rattle.types.specs.Trees.{Caller, Leaf, Tree, Single, AndThen, Beside, append, single, done, returned_by, return_to, before_rest, all_done, faults_of, unless_faulted, closed, and_then, called, child, parent, inside, held_back}
+use Rattle.types.specs.Trees.{Caller, Leaf, Handler, NoHandler, HandledBy, Tree, Single, AndThen, Beside, append, single, done, returned_by, return_to, before_rest, all_done, faults_of, unless_faulted, handling, after_faults, closed, and_then, called, child, parent, inside, held_back}
 use Rattle.types.specs.TreeSteps.{on_value, as_state, by_flow, size_by, before_turns, in_piece, tree_after, first_leaf, first_tree, leaf_at}
 use Rattle.types.specs.TreeRuns.{Runs, here as no_step, next, Reachable}
 use Rattle.types.specs.TreePlaces.{StandsBefore}
@@ -19,7 +19,7 @@ use Rattle.parallel_relation.specs.Together.{Block, Together, LabelsMeet}
 use Rattle.parallel_relation.proofs.StatementParts.{none_at_end}
 use Rattle.step_trees.specs.Laws.{AreTexts}
 use Rattle.step_trees.proofs.Statements.{either_of, from_either, all_append, pending_append}
-use Rattle.step_trees.proofs.Steps.{Step, step_from, step_below, step_at}
+use Rattle.step_trees.proofs.Steps.{Step, step_from, step_below, step_at, continuing}
 
 abbrev Labels : Type 1
 Labels = ℕ → Type 0
@@ -37,6 +37,7 @@ abbrev mutual
   whole_of (Call f es ss) = Call f es ss
   whole_of (Async b) = Async (whole b)
   whole_of (Finish b) = Finish (whole b)
+  whole_of (Rescue b n c) = Rescue (whole b) n (whole c)
 
   whole : Codes → Codes
   whole End = End
@@ -53,6 +54,7 @@ mutual
   text_of_is_whole (Call f es ss) k = refl
   text_of_is_whole (Async b) k = ap Async (text_is_whole b k)
   text_of_is_whole (Finish b) k = ap Finish (text_is_whole b k)
+  text_of_is_whole (Rescue b n c) k = ap (λ b. Rescue b n (whole c)) (text_is_whole b k.0) ∙ ap (Rescue b n) (text_is_whole c k.1)
 
   text_is_whole : (b : Codes) → IsText b → whole b ≡ b
   text_is_whole End k = refl
@@ -85,18 +87,33 @@ module _ (p : Program) where
   abbrev left_in : Codes → List Caller → Labels
   left_in c fs x = All p labels (whole c) x ⊎ waits fs x
 
+  -- the labels of a handler
+  abbrev in_handler : Handler → Labels
+  in_handler NoHandler x = ⊥
+  in_handler (HandledBy n c) x = All p labels (whole c) x
+
+  -- the labels of what waits for a finish
+  abbrev behind_in : Handler → Leaf → Labels
+  behind_in h k x = in_handler h x ⊎ left_in k.rest k.callers x
+
   abbrev still_in : Tree → Labels
   still_in (Single k) x = left_in k.rest k.callers x
-  still_in (AndThen t k) x = still_in t x ⊎ left_in k.rest k.callers x
+  still_in (AndThen t h k) x = still_in t x ⊎ behind_in h k x
   still_in (Beside t u) x = still_in t x ⊎ still_in u x
 
   abbrev KnownStack : Codes → List Caller → Type 0
   KnownStack c [] = Known c
   KnownStack c (f ∷ fs) = Known c × Meet (Pending p labels (whole c)) (waits (f ∷ fs)) × KnownStack f.rest fs
 
+  -- with the handler of a finish before a leaf's statements
+  abbrev KnownHandler : Handler → Leaf → Type 0
+  KnownHandler NoHandler k = Unit {0}
+  KnownHandler (HandledBy n c) k = KnownStack (append c k.rest) k.callers
+
   data KnownTree : Tree → Type 0 where
     is_leaf : {k : Leaf} → KnownStack k.rest k.callers → KnownTree (Single k)
-    is_then : {t : Tree} {k : Leaf} → KnownStack k.rest k.callers → KnownTree t → KnownTree (AndThen t k)
+    is_then : {t : Tree} {h : Handler} {k : Leaf} → KnownStack k.rest k.callers → KnownHandler h k → KnownTree t
+        → KnownTree (AndThen t h k)
     is_beside : {t u : Tree} → KnownTree t → KnownTree u → Meet (still_in t) (still_in u) → KnownTree (Beside t u)
 
   record KeptKnown (f : Labels) (u : Tree) : Type 0 where
@@ -188,14 +205,27 @@ module _ (p : Program) where
   unless_known [] k s = one_known k s
   unless_known (f ∷ fs) k s = done_known k _
 
-  then_by : (b : Bool) (t : Tree) (k : Leaf) → KnownStack k.rest k.callers → KnownTree t
-      → KeptKnown (λ x. still_in t x ⊎ left_in k.rest k.callers x) (if b then Single (closed t k) else AndThen t k)
-  then_by true t k s g = kept_part (λ x h. inr h) (unless_known (faults_of t) _ s)
-  then_by false t k s g = record { known = KnownTree.is_then s g; part = λ x h. h }
+  after_faults_known : (h : Handler) (fs : List Fault) (k : Leaf) → KnownStack k.rest k.callers → KnownHandler h k
+      → KeptKnown (behind_in h k) (Single (after_faults h fs k))
+  after_faults_known NoHandler fs k s handler = kept_part (λ x i. inr i) (unless_known fs k s)
+  after_faults_known (HandledBy n c) [] k s handler = kept_part (λ x i. inr i) (one_known k s)
+  after_faults_known (HandledBy n c) (f ∷ fs) k s handler = kept_part
+      (λ x. from_either (λ i. from_either (λ i. inl i) (λ i. inr (inl i)) (all_in c k.rest x i)) (λ i. inr (inr i)))
+      (one_known (handling n c k) handler)
 
-  then_known : (t : Tree) (k : Leaf) → KnownStack k.rest k.callers → KnownTree t
-      → KeptKnown (λ x. still_in t x ⊎ left_in k.rest k.callers x) (and_then t k)
-  then_known t k s g = then_by (all_done t) t k s g
+  closed_known : (t : Tree) (h : Handler) (k : Leaf) → KnownStack k.rest k.callers → KnownHandler h k
+      → KeptKnown (behind_in h k) (Single (closed t h k))
+  closed_known t NoHandler k s handler = after_faults_known NoHandler (faults_of t) (continuing t k) s tt
+  closed_known t (HandledBy n c) k s handler = after_faults_known (HandledBy n c) (faults_of t) (continuing t k) s handler
+
+  then_by : (b : Bool) (t : Tree) (h : Handler) (k : Leaf) → KnownStack k.rest k.callers → KnownHandler h k → KnownTree t
+      → KeptKnown (λ x. still_in t x ⊎ behind_in h k x) (if b then Single (closed t h k) else AndThen t h k)
+  then_by true t h k s handler g = kept_part (λ x i. inr i) (closed_known t h k s handler)
+  then_by false t h k s handler g = record { known = KnownTree.is_then s handler g; part = λ x i. i }
+
+  then_known : (t : Tree) (h : Handler) (k : Leaf) → KnownStack k.rest k.callers → KnownHandler h k → KnownTree t
+      → KeptKnown (λ x. still_in t x ⊎ behind_in h k x) (and_then t h k)
+  then_known t h k s handler g = then_by (all_done t) t h k s handler g
 
   -- One step of a leaf
 
@@ -345,14 +375,29 @@ module _ (p : Program) where
       }
 
   finish_known : (l : ℕ) (b : Codes) (k : Leaf) → KnownStack (Then l (Finish b) k.rest) k.callers
-      → KeptKnown (left_in (Then l (Finish b) k.rest) k.callers) (and_then (single (inside b k)) (held_back k))
+      → KeptKnown (left_in (Then l (Finish b) k.rest) k.callers) (and_then (single (inside b k)) NoHandler (held_back k))
   finish_known l b k st =
       let body = one_known (inside b k) (λ x y h. known_of (Then l (Finish b) k.rest) k.callers st x y (Together.inside Block.finish h)) in
       kept_part
       (λ x. from_either
       (λ h. from_either (λ h. inl (All.here (AllOf.finish h))) (λ h. absurd h) (body.part x h))
-      (rest_in l (Finish b) k st x))
-      (then_known (single (inside b k)) (held_back k) (rest_stack l (Finish b) k st) body.known)
+      (from_either (λ h. absurd h) (rest_in l (Finish b) k st x)))
+      (then_known (single (inside b k)) NoHandler (held_back k) (rest_stack l (Finish b) k st) tt body.known)
+
+  rescue_known : (l : ℕ) (b : Codes) (n : ℕ) (c : Codes) (k : Leaf) → KnownStack (Then l (Rescue b n c) k.rest) k.callers
+      → KeptKnown (left_in (Then l (Rescue b n c) k.rest) k.callers) (and_then (single (inside b k)) (HandledBy n c) (held_back k))
+  rescue_known l b n c k st =
+      let s = Rescue b n c in
+      let body = one_known (inside b k) (λ x y h. known_of (Then l s k.rest) k.callers st x y (Together.inside Block.rescued h)) in
+      let handler = stack_to (Then l s k.rest) (append c k.rest) k.callers
+      (λ f. known_append c k.rest (λ x y h. f x y (Together.inside Block.handler h))
+      (λ x y h g. f x y (Together.follows (PendingOf.inner Inner.handler h refl) g)) (λ x y h. f x y (Together.later h)))
+      (λ x h. from_either (λ h. Pending.here (PendingOf.inner Inner.handler h refl)) (λ h. Pending.later h) (pending_in c k.rest x h)) st in
+      kept_part
+      (λ x. from_either
+      (λ h. from_either (λ h. inl (All.here (AllOf.rescued h))) (λ h. absurd h) (body.part x h))
+      (from_either (λ h. inl (All.here (AllOf.inner Inner.handler h refl))) (rest_in l s k st x)))
+      (then_known (single (inside b k)) (HandledBy n c) (held_back k) (rest_stack l s k st) handler body.known)
 
   module _ (texts : (f : ℕ) → IsText (procedure_of p f).body) where
     body_is : (f : ℕ) → whole (procedure_of p f).body ≡ (procedure_of p f).body
@@ -402,6 +447,7 @@ module _ (p : Program) where
         (λ vs. call_known l f es ss (entry vs (map k.environment.windows ss)) k st)
     after_known l (Async b) k a st = async_known l b k st
     after_known l (Finish b) k a st = finish_known l b k st
+    after_known l (Rescue b n c) k a st = rescue_known l b n c k st
 
     step_known : {n : ℕ} {k : Leaf} {t u : Tree} {a b : Contents} → Step p n k t a u b → KnownTree t
         → KeptKnown (still_in t) u
@@ -409,9 +455,9 @@ module _ (p : Program) where
         subst (KeptKnown (left_in k.rest k.callers)) (sym e)
         (subst (λ c. KeptKnown (left_in c k.callers) (tree_after p l s (record k { rest = rest }) a)) (sym r)
         (after_known l s (record k { rest = rest }) a (subst (λ c. KnownStack c k.callers) r st)))
-    step_known (Step.first {j = j} {u = u} s e) (KnownTree.is_then st g) =
+    step_known (Step.first {x = y} {j = j} {u = u} s e) (KnownTree.is_then st handler g) =
         let m = step_known s g in
-        subst (KeptKnown _) (sym e) (kept_part (λ x. either_of (m.part x) (λ h. h)) (then_known u j st m.known))
+        subst (KeptKnown _) (sym e) (kept_part (λ x. either_of (m.part x) (λ h. h)) (then_known u y j st handler m.known))
     step_known (Step.left s) (KnownTree.is_beside g h meet) =
         let m = step_known s g in
         record { known = KnownTree.is_beside m.known h (λ x y i j. meet x y (m.part x i) j); part = λ x. either_of (m.part x) (λ h. h) }
@@ -438,7 +484,7 @@ module _ (p : Program) where
   labels_met : {m n : ℕ} {j k : Leaf} {t u v : Tree} {a b c : Contents} (x y : ℕ) (s s2 : Code) (rest rest2 : Codes)
       → Step p m j t a u b → Step p n k t a v c → m < n → j.rest ≡ Then x s rest → k.rest ≡ Then y s2 rest2 → KnownTree t → Met x y
   labels_met x y s s2 r r2 (Step.here _ _ _) (Step.here _ _ _) h e f g = absurd (omega arith)
-  labels_met x y s s2 r r2 (Step.first i _) (Step.first i2 _) h e f (KnownTree.is_then st g) = labels_met x y s s2 r r2 i i2 h e f g
+  labels_met x y s s2 r r2 (Step.first i _) (Step.first i2 _) h e f (KnownTree.is_then st handler g) = labels_met x y s s2 r r2 i i2 h e f g
   labels_met x y s s2 r r2 (Step.left i) (Step.left i2) h e f (KnownTree.is_beside g g2 meet) = labels_met x y s s2 r r2 i i2 h e f g
   labels_met x y s s2 r r2 (Step.right q i) (Step.right q2 i2) h e f (KnownTree.is_beside g g2 meet) = labels_met x y s s2 r r2 i i2 (omega arith) e f g2
   labels_met x y s s2 r r2 (Step.right q i) (Step.left i2) h e f g = absurd (let z = step_below p i2 in omega arith)

@@ -1,6 +1,6 @@
 -- Statements whose `parts` follow the rules, as a leaf has them.
 use Rattle.std.proofs.Common.{ℕ, List, [], ◌∷◌}
-use Rattle.types.specs.Code.{Code, Do, If, While, Split, Parts, Begun, Call, Async, Finish, Codes, End, Then, Procedure, Program}
+use Rattle.types.specs.Code.{Code, Do, If, While, Split, Parts, Begun, Call, Async, Finish, Rescue, Codes, End, Then, Procedure, Program}
 use Rattle.types.specs.Run.{procedure_of}
 use Rattle.types.specs.Sound.{IsText, IsTextOf}
 use Rattle.types.specs.Trees.{Caller, Leaf, append, return_to, returned, returned_by}
@@ -23,6 +23,7 @@ has_texts (Begun s n m x i b) k = absurd k
 has_texts (Call f es ss) k = k
 has_texts (Async b) k = k
 has_texts (Finish b) k = k
+has_texts (Rescue b x c) k = k
 
 module _ (p : Program) where
   pub record Lawful (s : Code) : Type 0 where
@@ -56,6 +57,7 @@ module _ (p : Program) where
     lawful_of g scope (Call f es ss) k = tt
     lawful_of g scope (Async b) k = lawful_parts g scope b k
     lawful_of g scope (Finish b) k = lawful_parts g scope b k
+    lawful_of g scope (Rescue b x c) k = (lawful_parts g scope b k.0, lawful_parts g scope c k.2)
 
     pub lawful_parts : (g : Procedure) (scope : List ℕ) (b : Codes) → Follows p g scope b → LawfulParts p b
     lawful_parts g scope End k = tt

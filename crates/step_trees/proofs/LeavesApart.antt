@@ -34,7 +34,7 @@ module _ (p : Program) where
       → m < n
       → (keep : List ℕ) → Good p keep t → Separate (left_of p j) (left_of p k)
   leaves_apart (Step.here _ _ _) (Step.here _ _ _) h keep g = absurd (omega arith)
-  leaves_apart (Step.first s _) (Step.first s2 _) h keep (Good.is_then scope st g same) = leaves_apart s s2 h scope g
+  leaves_apart (Step.first s _) (Step.first s2 _) h keep (Good.is_then scope st handler g same) = leaves_apart s s2 h scope g
   leaves_apart (Step.left s) (Step.left s2) h keep (Good.is_beside {other = other} g g2 apart) = leaves_apart s s2 h other g
   leaves_apart (Step.right e s) (Step.right e2 s2) h keep (Good.is_beside g g2 apart) = leaves_apart s s2 (omega arith) keep g2
   leaves_apart (Step.right e s) (Step.left s2) h keep g = absurd (let x = step_below p s2 in omega arith)
@@ -67,7 +67,7 @@ module _ (p : Program) where
   stack_of : {n : ℕ} {k : Leaf} {t u : Tree} {a b : Contents} → Step p n k t a u b → (keep : List ℕ) → Good p keep t
       → (other scope : List ℕ) × Stack p other scope k.environment k.rest k.callers
   stack_of (Step.here _ _ _) keep (Good.is_leaf scope st) = (keep, scope, st)
-  stack_of (Step.first s _) keep (Good.is_then scope st g same) = stack_of s scope g
+  stack_of (Step.first s _) keep (Good.is_then scope st handler g same) = stack_of s scope g
   stack_of (Step.left s) keep (Good.is_beside {other = other} g g2 apart) = stack_of s other g
   stack_of (Step.right e s) keep (Good.is_beside g g2 apart) = stack_of s keep g2
 
@@ -78,10 +78,10 @@ module _ (p : Program) where
 
 module _ (p : Program) (sound : IsSound p) where
   owner_in : {t : Tree} (k : Leaf) {v : Tree} → ThenIn t k v → (keep : List ℕ) → Good p keep v → OwnerKeeps p t k
-  owner_in k ThenIn.here keep (Good.is_then scope st g same) =
+  owner_in k ThenIn.here keep (Good.is_then scope st handler g same) =
       let placed = (placed_of p keep scope k.environment k.rest k.callers st).1 in
       record { scope = scope; in_scope = all_scoped p sound placed; turns_in_scope = turns_scoped p sound placed; same = same }
-  owner_in k (ThenIn.first i) keep (Good.is_then scope st g same) = owner_in k i scope g
+  owner_in k (ThenIn.first i) keep (Good.is_then scope st handler g same) = owner_in k i scope g
   owner_in k (ThenIn.left i) keep (Good.is_beside {other = other} g h apart) = owner_in k i other g
   owner_in k (ThenIn.right i) keep (Good.is_beside g h apart) = owner_in k i keep h
 

@@ -6,7 +6,7 @@ use Rattle.types.proofs.Bindings.{element_in}
 use Rattle.sections.specs.Place.{Place, sides_of}
 use Rattle.sections.specs.Member.{Member, first, next}
 use Rattle.types.specs.declared.fault.FaultKind.TheVariants.{Raised, SplitPoint}
-use Rattle.types.specs.Code.{Number, Primitive, Skip, Assign, Store, Print, Raise, Code, Do, If, While, Split, Parts, Begun, Call, Async, Finish, Codes, End, Then, Program}
+use Rattle.types.specs.Code.{Number, Primitive, Skip, Assign, Store, Print, Raise, Code, Do, If, While, Split, Parts, Begun, Call, Async, Finish, Rescue, Codes, End, Then, Program}
 use Rattle.types.specs.Indexed.{indexed, indexed_truth}
 use Rattle.types.specs.Contents.{Contents, read, write}
 use Rattle.types.specs.Value.{Environment, Valued, then_try, element_of, holds_number, number, numbers}
@@ -210,6 +210,7 @@ module _ (p : Program) where
   }
   local_after l (Async b) k a = record { update = None; writes = tt; store = refl; elsewhere = λ c h. (refl, refl) }
   local_after l (Finish b) k a = record { update = None; writes = tt; store = refl; elsewhere = λ c h. (refl, refl) }
+  local_after l (Rescue b x d) k a = record { update = None; writes = tt; store = refl; elsewhere = λ c h. (refl, refl) }
 
   -- a step of a leaf, over each store with the same numbers where the tree may still touch it
   pub record Local (n : ℕ) (k : Leaf) (t : Tree) (a : Contents) (u : Tree) (b : Contents) : Type 0 where

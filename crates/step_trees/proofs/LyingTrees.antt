@@ -2,17 +2,17 @@
 use Rattle.std.proofs.Common.{◌≡◌, ℕ, ◌+◌, List, [], ◌∷◌, Ok, Err, Option, None, Some, refl, sym, ap, ◌∙◌, subst}
 use Rattle.std.specs.Prelude.{Bool, true, false, map, if◌then◌else◌}
 use Rattle.sections.specs.Place.{Window, has_piece, piece_at, piece_of}
-use Rattle.types.specs.Code.{Code, Do, If, While, Split, Parts, Begun, Call, Async, Finish, Codes, End, Then, Program}
+use Rattle.types.specs.Code.{Code, Do, If, While, Split, Parts, Begun, Call, Async, Finish, Rescue, Codes, End, Then, Program}
 use Rattle.types.specs.Contents.{Contents, read, held_by}
 use Rattle.types.specs.Value.{Environment, Valued, number, numbers, truth}
 use Rattle.types.specs.Run.{Flow, On, Faulted, Stopped, Fault, State, primitive, with_sides, entry, procedure_of}
-use Rattle.types.specs.Trees.{Caller, Leaf, Tree, Single, AndThen, Beside, single, returned_by, return_to, done, outermost, rightmost, owner_environment, all_done, faults_of, lines_of, unless_faulted, closed, and_then, before_rest, called, child, parent, inside, held_back}
+use Rattle.types.specs.Trees.{Caller, Leaf, Handler, NoHandler, HandledBy, Tree, Single, AndThen, Beside, append, single, returned_by, return_to, done, outermost, rightmost, owner_environment, all_done, faults_of, unless_faulted, handling, rescued_from, after_faults, closed, and_then, before_rest, called, child, parent, inside, held_back}
 use Rattle.types.specs.TreeSteps.{on_value, as_state, by_flow, with_state, sides_at, size_by, before_turns, in_piece, tree_after, step, first_leaf, first_tree, leaf_at}
 use Rattle.statement_steps.specs.Bounds.{LiesInArray, LiesInArrays}
 use Rattle.statement_steps.proofs.BoundsLemmas.{halves_lie, with_sides_lies, piece_lies, with_piece_lies, entry_lies, main_lies}
 use Rattle.step_trees.proofs.Deeds.{primitive_windows}
 use Rattle.step_trees.specs.Windows.{CallersLie, LeafLies, TreeLies}
-use Rattle.step_trees.proofs.Steps.{Step, step_from, step_at}
+use Rattle.step_trees.proofs.Steps.{Step, step_from, step_at, continuing}
 
 module _ (p : Program) where
   -- the leaf after a return from calls
@@ -44,7 +44,7 @@ module _ (p : Program) where
   -- the windows at the end of a finish
   rightmost_lies : (t : Tree) → TreeLies p t → LeafLies p (rightmost t)
   rightmost_lies (Single k) h = h
-  rightmost_lies (AndThen t k) h = h.1
+  rightmost_lies (AndThen t x k) h = h.1
   rightmost_lies (Beside t u) h = rightmost_lies u h.1
 
   owner_lies : (t : Tree) → TreeLies p t → LiesInArrays p (owner_environment t)
@@ -56,19 +56,22 @@ module _ (p : Program) where
   unless_lies [] k h = returned_lies k.rest k h
   unless_lies (f ∷ fs) k h = done_lies k h
 
-  closed_lies : (t : Tree) (k : Leaf) → TreeLies p t → LeafLies p k → LeafLies p (closed t k)
-  closed_lies t k h g = unless_lies (faults_of t) (record k {
-    environment = owner_environment t;
-    spawned = (rightmost t).spawned;
-    lines = lines_of t;
-    faults = faults_of t;
-  }) (owner_lies t h, g.1)
+  rescued_lies : (fs : List Fault) (x : ℕ) (c : Codes) (k : Leaf) → LeafLies p k → LeafLies p (rescued_from fs x c k)
+  rescued_lies [] x c k h = returned_lies k.rest k h
+  rescued_lies (f ∷ fs) x c k h = returned_lies (append c k.rest) (handling x c k) h
 
-  then_lies : (t : Tree) (k : Leaf) → TreeLies p t → LeafLies p k → TreeLies p (and_then t k)
-  then_lies t k h g = by (all_done t)
+  after_faults_lies : (x : Handler) (fs : List Fault) (k : Leaf) → LeafLies p k → LeafLies p (after_faults x fs k)
+  after_faults_lies NoHandler fs k h = unless_lies fs k h
+  after_faults_lies (HandledBy x c) fs k h = rescued_lies fs x c k h
+
+  closed_lies : (t : Tree) (x : Handler) (k : Leaf) → TreeLies p t → LeafLies p k → LeafLies p (closed t x k)
+  closed_lies t x k h g = after_faults_lies x (faults_of t) (continuing t k) (owner_lies t h, g.1)
+
+  then_lies : (t : Tree) (x : Handler) (k : Leaf) → TreeLies p t → LeafLies p k → TreeLies p (and_then t x k)
+  then_lies t x k h g = by (all_done t)
     where
-      by : (b : Bool) → TreeLies p (if b then Single (closed t k) else AndThen t k)
-      by true = closed_lies t k h g
+      by : (b : Bool) → TreeLies p (if b then Single (closed t x k) else AndThen t x k)
+      by true = closed_lies t x k h g
       by false = (h, g)
 
   -- of a step
@@ -145,7 +148,10 @@ module _ (p : Program) where
       (λ vs. single (called (procedure_of p f) (entry vs (map k.environment.windows ss)) k)) h (λ vs e.
       single_lies (called (procedure_of p f) (entry vs (map k.environment.windows ss)) k) (entry_lies p vs k.environment ss h.0, (h.0, h.1)))
   after_lies l (Async b) k a h = (single_lies (child b k) (h.0, tt), single_lies (parent k) (h.0, h.1))
-  after_lies l (Finish b) k a h = then_lies (single (inside b k)) (held_back k) (single_lies (inside b k) (h.0, tt)) (h.0, h.1)
+  after_lies l (Finish b) k a h =
+      then_lies (single (inside b k)) NoHandler (held_back k) (single_lies (inside b k) (h.0, tt)) (h.0, h.1)
+  after_lies l (Rescue b x c) k a h =
+      then_lies (single (inside b k)) (HandledBy x c) (held_back k) (single_lies (inside b k) (h.0, tt)) (h.0, h.1)
 
   here_lies : {n : ℕ} {k : Leaf} {t u : Tree} {a b : Contents} → Step p n k t a u b → TreeLies p t → LeafLies p k
   here_lies (Step.here r e f) h = h
@@ -158,7 +164,7 @@ module _ (p : Program) where
 
   stepped_lies : {n : ℕ} {k : Leaf} {t u : Tree} {a b : Contents} → Step p n k t a u b → TreeLies p t → TreeLies p u
   stepped_lies (Step.here {k = k} {l = l} {s = s} {rest = rest} {a = a} r e f) h = subst (TreeLies p) (sym e) (after_lies l s (record k { rest = rest }) a h)
-  stepped_lies (Step.first {j = j} {u = u} s e) h = subst (TreeLies p) (sym e) (then_lies u j (stepped_lies s h.0) h.1)
+  stepped_lies (Step.first {x = x} {j = j} {u = u} s e) h = subst (TreeLies p) (sym e) (then_lies u x j (stepped_lies s h.0) h.1)
   stepped_lies (Step.left s) h = (stepped_lies s h.0, h.1)
   stepped_lies (Step.right e s) h = (h.0, stepped_lies s h.1)
 

@@ -1,11 +1,11 @@
 -- A reachable tree that hasn't ended has a leaf that may step.
 use Rattle.std.proofs.Common.{◌≡◌, ℕ, ◌+◌, ◌<◌, refl, sym, subst, arith}
 use Rattle.std.specs.Prelude.{Bool, true, false, ◌&&◌, if◌then◌else◌, Ok, Err}
-use Rattle.types.specs.Code.{Code, Do, If, While, Split, Parts, Begun, Call, Async, Finish, Codes, End, Then, Program}
+use Rattle.types.specs.Code.{Code, Do, If, While, Split, Parts, Begun, Call, Async, Finish, Rescue, Codes, End, Then, Program}
 use Rattle.types.specs.Contents.{Contents}
 use Rattle.types.specs.Value.{Valued}
 use Rattle.types.specs.Run.{Flow, On, Faulted, Stopped, primitive}
-use Rattle.types.specs.Trees.{Leaf, Tree, Single, AndThen, Beside, single, is_done, all_done, ready, and_then, closed, inside, held_back}
+use Rattle.types.specs.Trees.{Leaf, Handler, NoHandler, HandledBy, Tree, Single, AndThen, Beside, single, is_done, all_done, ready, and_then, closed, inside, held_back}
 use Rattle.types.specs.TreeSteps.{on_value, by_flow, as_state, tree_after, first_tree}
 use Rattle.types.specs.TreeRuns.{Runs, here, next, Reachable}
 use Rattle.step_trees.proofs.Steps.{Step, step_from}
@@ -13,7 +13,7 @@ use Rattle.step_trees.proofs.Steps.{Step, step_from}
 -- no `then` waits for what is done
 pub data Awake : Tree → Type 0 where
   one_is : {k : Leaf} → Awake (Single k)
-  then_is : {t : Tree} {k : Leaf} → all_done t ≡ false → Awake t → Awake (AndThen t k)
+  then_is : {t : Tree} {h : Handler} {k : Leaf} → all_done t ≡ false → Awake t → Awake (AndThen t h k)
   both_are : {t u : Tree} → Awake t → Awake u → Awake (Beside t u)
 
 leaf_ready : (c : Codes) → is_done c ≡ false → 0 < (if is_done c then 0 else 1)
@@ -29,13 +29,13 @@ ready_if t (one_is {k = k}) e = leaf_ready k.rest e
 ready_if t (then_is {t = u} {k = k} h w) e = ready_if u w h
 ready_if t (both_are {t = v} {u = u} w x) e = some_false (all_done v) (all_done u) (ready_if v w) (ready_if u x) e
 
-closes : (b : Bool) (t : Tree) (k : Leaf) → all_done t ≡ b → Awake t
-    → Awake (if b then Single (closed t k) else AndThen t k)
-closes true t k e w = one_is
-closes false t k e w = then_is e w
+closes : (b : Bool) (t : Tree) (h : Handler) (k : Leaf) → all_done t ≡ b → Awake t
+    → Awake (if b then Single (closed t h k) else AndThen t h k)
+closes true t h k e w = one_is
+closes false t h k e w = then_is e w
 
-awake_then : (t : Tree) (k : Leaf) → Awake t → Awake (and_then t k)
-awake_then t k w = closes (all_done t) t k refl w
+awake_then : (t : Tree) (h : Handler) (k : Leaf) → Awake t → Awake (and_then t h k)
+awake_then t h k w = closes (all_done t) t h k refl w
 
 awake_value : {A : Type 0} (l : ℕ) (k : Leaf) (r : Valued A) (go : A → Tree) → ((v : A) → Awake (go v))
     → Awake (on_value l k r go)
@@ -57,11 +57,12 @@ module _ (p : Program) where
   awake_after l (Begun s n m x i b) k a = one_is
   awake_after l (Call f es ss) k a = awake_value l k _ _ (λ v. one_is)
   awake_after l (Async b) k a = both_are one_is one_is
-  awake_after l (Finish b) k a = awake_then (single (inside b k)) (held_back k) one_is
+  awake_after l (Finish b) k a = awake_then (single (inside b k)) NoHandler (held_back k) one_is
+  awake_after l (Rescue b x c) k a = awake_then (single (inside b k)) (HandledBy x c) (held_back k) one_is
 
   pub awake_step : {n : ℕ} {k : Leaf} {t u : Tree} {a b : Contents} → Step p n k t a u b → Awake t → Awake u
   awake_step (Step.here {k = k} {l = l} {s = s} {rest = rest} {a = a} r e f) w = subst Awake (sym e) (awake_after l s (record k { rest = rest }) a)
-  awake_step (Step.first {j = j} {u = u} s e) (then_is h w) = subst Awake (sym e) (awake_then u j (awake_step s w))
+  awake_step (Step.first {x = x} {j = j} {u = u} s e) (then_is h w) = subst Awake (sym e) (awake_then u x j (awake_step s w))
   awake_step (Step.left s) (both_are w x) = both_are (awake_step s w) x
   awake_step (Step.right e s) (both_are w x) = both_are w (awake_step s x)
 

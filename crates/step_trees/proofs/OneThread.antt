@@ -1,15 +1,15 @@
 -- A run in which the first leaf always steps follows the one-thread meaning.
-use Rattle.std.proofs.Common.{◌≡◌, ℕ, zero, suc, ◌+◌, ◌<◌, ◌≤◌, List, [], ◌∷◌, ◌++◌, map, refl, sym, ap, ◌∙◌, subst, arith, append_assoc}
+use Rattle.std.proofs.Common.{◌≡◌, ℕ, zero, suc, ◌+◌, ◌-◌, ◌<◌, ◌≤◌, List, [], ◌∷◌, ◌++◌, length, map, refl, sym, ap, ◌∙◌, subst, arith, append_assoc}
 use Rattle.std.proofs.lemmas.List.{append-nil}
-use Rattle.std.specs.Prelude.{ℤ, Bool, true, false, Ok, Err, ok_or, if◌then◌else◌}
+use Rattle.std.specs.Prelude.{ℤ, pos, Bool, true, false, Ok, Err, ok_or, if◌then◌else◌}
 use Rattle.sections.specs.Member.{next}
 use Rattle.sections.specs.Place.{sides_of, has_piece, piece_at}
 use Rattle.types.specs.declared.fault.FaultKind.{FaultKind}
 use Rattle.types.specs.declared.fault.FaultKind.TheVariants.{SplitPoint, PieceSize}
-use Rattle.types.specs.Code.{Number, Truth, Primitive, Code, Do, If, While, Split, Parts, Begun, Call, Async, Finish, Codes, End, Then, Program}
+use Rattle.types.specs.Code.{Number, Truth, Primitive, Code, Do, If, While, Split, Parts, Begun, Call, Async, Finish, Rescue, Codes, End, Then, Program}
 use Rattle.types.specs.Contents.{Contents, read, held_by}
 use Rattle.types.specs.Value.{Environment, Valued, then_try, number, numbers, truth}
-use Rattle.types.specs.Run.{Flow, On, Faulted, Stopped, Fault, State, Work, Block, Turn, Pieces, at_flow as flow_goes, go_on, with_step, fault, with_value, choose, in_environment, act, block, entry, with_sides, with_piece, piece_size, procedure_of, counted}
+use Rattle.types.specs.Run.{Flow, On, Faulted, Stopped, Fault, State, bind, Work, Block, Turn, Pieces, at_flow as flow_goes, go_on, with_step, fault, with_value, choose, caught, rescued, in_environment, act, block, entry, with_sides, with_piece, piece_size, procedure_of, counted}
 use Rattle.types.specs.Sound.{IsText, IsTextOf}
 use Rattle.types.specs.Meaning.{hushed, joined, child as child_state, after_async, after_body, after_finish, begin_one, one_rules, one as one_run}
 use Rattle.types.specs.Outcome.{Budget, IsLarger, Outcome, Ended, start, outcome_by, outcome_of, outcome}
@@ -17,7 +17,7 @@ use Rattle.types.proofs.Adds.{only_adds}
 use Rattle.types.proofs.Larger.{one_is_thrifty}
 use Rattle.types.proofs.Views.{same_told}
 use Rattle.types.proofs.Solutions.{solves}
-use Rattle.types.specs.Trees.{Caller, Leaf, Tree, Single, Beside, append, single, is_done, done, failed, owner_environment, outermost, returned, returned_by, return_to, before_rest, all_done, faults_of, lines_of, rightmost, unless_faulted, and_then, called, child, parent, inside, held_back}
+use Rattle.types.specs.Trees.{Caller, Leaf, Handler, NoHandler, HandledBy, Tree, Single, Beside, append, single, is_done, done, failed, owner_environment, outermost, returned, returned_by, return_to, before_rest, all_done, faults_of, lines_of, rightmost, handling, after_faults, and_then, called, child, parent, inside, held_back}
 use Rattle.types.specs.TreeSteps.{on_value, as_state, with_state, size_by, before_turns, in_piece, tree_after, store_after, first_leaf, first_tree}
 use Rattle.types.specs.TreeRuns.{tree_ending}
 use Rattle.effects.proofs.EnvironmentsFit.{at_piece}
@@ -145,6 +145,7 @@ module _ (p : Program) (fresh : ℕ) where
   first_text nest l (Call f es ss) k st = refl
   first_text nest l (Async b) k st = refl
   first_text nest l (Finish b) k st = refl
+  first_text nest l (Rescue b x c) k st = refl
 
   -- in a text no `parts` has begun
   list_text : (nest : ℕ) (b : Codes) → IsText b → (st : S) → list nest b st ≡ blk nest b st
@@ -220,6 +221,7 @@ module _ (p : Program) (fresh : ℕ) where
   first_adds nest l (Call f es ss) = step_adds nest l (Call f es ss)
   first_adds nest l (Async b) = step_adds nest l (Async b)
   first_adds nest l (Finish b) = step_adds nest l (Finish b)
+  first_adds nest l (Rescue b x c) = step_adds nest l (Rescue b x c)
 
   list_adds : (nest : ℕ) (b : Codes) → Adds (list nest b)
   list_adds nest End l f st = refl
@@ -297,6 +299,15 @@ module _ (p : Program) (fresh : ℕ) where
   fault_comes n nest steps l f k a t z r =
       done_comes n steps (failed l f k) a Faulted t z (calls nest k.callers (fault l f (state_of k a steps))) faulted_on refl r
       (faulted_calls nest k.callers (fault l f (state_of k a steps)) refl)
+
+  -- what comes after a finish: the handler of its faults, if it has one
+  abbrev ending : ℕ → Handler → S → S
+  ending nest NoHandler out = out
+  ending nest (HandledBy x c) out = rescued x (blk nest c) [] out
+
+  abbrev IsLawfulHandler : Handler → Type 0
+  IsLawfulHandler NoHandler = Unit {0}
+  IsLawfulHandler (HandledBy x c) = AreLawful p c × IsText c
 
   -- the claim about all runs of this number of steps
   abbrev Claim : ℕ → Type 0
@@ -540,20 +551,23 @@ module _ (p : Program) (fresh : ℕ) where
         by zero le = absurd (omega arith)
         by (suc m) le = subst Comes (sym (so m (omega arith))) comes
 
-    finish_comes : (b : Codes) → Lawful p (Finish b) → (a : Contents) → LeftRun p n (and_then (single (inside b k)) (held_back k)) a t z
-        → Comes (doing nest l (Finish b) (state_of k a steps))
-    finish_comes b lawful_body a r = subst Comes (sym (finish_is nest l b (state_of k a steps) faultless ∙ ap left_by body.meaning)) (by (faults_of f.tree) refl f.behind)
+    finish_comes : (b : Codes) → AreLawful p b → IsText b → (h : Handler) → IsLawfulHandler h → (a : Contents)
+        → LeftRun p n (and_then (single (inside b k)) h (held_back k)) a t z
+        → Comes (ending nest h (doing nest l (Finish b) (state_of k a steps)))
+    finish_comes b lawful_body text h lawful_handler a r =
+        subst (λ out. Comes (ending nest h out)) (sym (finish_is nest l b (state_of k a steps) faultless ∙ ap left_by body.meaning))
+        (by h lawful_handler (faults_of f.tree) refl f.behind)
       where
-        f : Finished p n (single (inside b k)) (held_back k) a t z
-        f = finished p n (single (inside b k)) (held_back k) (all_done (single (inside b k))) refl a t z r d
+        f : Finished p n (single (inside b k)) h (held_back k) a t z
+        f = finished p n (single (inside b k)) h (held_back k) (all_done (single (inside b k))) refl a t z r d
 
         first_less : f.first_count ≤ n
         first_less = let c = f.count in omega arith
 
         body : ComesTo f.first_count steps k.path f.tree f.middle (blk nest b (state_of k a steps))
-        body = comes_same (sym (list_text nest b lawful_body.text (state_of k a steps)))
+        body = comes_same (sym (list_text nest b text (state_of k a steps)))
             (deeper f.first_count first_less nest steps (inside b k) a f.tree f.middle (omega (arith, first_less)) (omega (arith, first_less)) (omega (arith, first_less)) faultless
-            (are_lawful p b lawful_body.parts lawful_body.text, tt) f.first f.done)
+            (lawful_body, tt) f.first f.done)
 
         left_by : S → S
         left_by out = record out { flow = after_finish out.flow out.faults }
@@ -576,28 +590,55 @@ module _ (p : Program) (fresh : ℕ) where
         with_flow : Flow → S
         with_flow x = record (state_of j f.middle body.left) { flow = x }
 
-        by : (fs : List Fault) → faults_of f.tree ≡ fs
-            → LeftRun p f.second_count (Single (unless_faulted fs j)) f.middle t z
-            → Comes (with_flow (after_finish body.flow (faults_of f.tree)))
-        by [] e r =
-            let c = deeper f.second_count second_less nest body.left j f.middle t z (omega (arith, second_less)) (omega (arith, second_less)) second_in e lawful r d in
-            subst (λ x. Comes (with_flow x)) (sym (ap (after_finish body.flow) e ∙ finish_on body.flow body.goes)) (record {
-              flow = c.flow;
-              goes = c.goes;
-              left = c.left;
-              enough = (let x = c.enough in let y = body.enough in let w = f.count in omega arith);
-              meaning = c.meaning;
-            })
-        by (x ∷ fs) e r =
-            let c = done_comes f.second_count body.left (done j) f.middle Faulted t z (calls nest k.callers (with_flow Faulted)) faulted_on refl r
-            (faulted_calls nest k.callers (with_flow Faulted) refl) in
-            subst (λ x. Comes (with_flow x)) (sym (ap (after_finish body.flow) e ∙ finish_faulted body.flow body.goes x fs)) (record {
-              flow = c.flow;
-              goes = c.goes;
-              left = c.left;
-              enough = (let x = c.enough in let y = body.enough in let w = f.count in omega arith);
-              meaning = c.meaning;
-            })
+        -- with the steps of the body
+        in_all : (out : S) → ComesTo f.second_count body.left k.path t z (calls nest k.callers (go_on (list nest k.rest) out)) → Comes out
+        in_all out c = record {
+          flow = c.flow;
+          goes = c.goes;
+          left = c.left;
+          enough = (let x = c.enough in let y = body.enough in let w = f.count in omega arith);
+          meaning = c.meaning;
+        }
+
+        -- without faults the leaf continues
+        on_comes : faults_of f.tree ≡ [] → LeftRun p f.second_count (Single (returned j)) f.middle t z → Comes (with_flow On)
+        on_comes e r = in_all (with_flow On)
+            (deeper f.second_count second_less nest body.left j f.middle t z (omega (arith, second_less)) (omega (arith, second_less)) second_in e lawful r d)
+
+        by : (h : Handler) → IsLawfulHandler h → (fs : List Fault) → faults_of f.tree ≡ fs
+            → LeftRun p f.second_count (Single (after_faults h fs j)) f.middle t z
+            → Comes (ending nest h (with_flow (after_finish body.flow (faults_of f.tree))))
+        by NoHandler lawful_handler [] e r =
+            subst (λ x. Comes (with_flow x)) (sym (ap (after_finish body.flow) e ∙ finish_on body.flow body.goes)) (on_comes e r)
+        by NoHandler lawful_handler (x ∷ fs) e r =
+            subst (λ x. Comes (with_flow x)) (sym (ap (after_finish body.flow) e ∙ finish_faulted body.flow body.goes x fs))
+            (in_all (with_flow Faulted)
+            (done_comes f.second_count body.left (done j) f.middle Faulted t z (calls nest k.callers (with_flow Faulted)) faulted_on refl r
+            (faulted_calls nest k.callers (with_flow Faulted) refl)))
+        by (HandledBy y c) lawful_handler [] e r =
+            subst (λ x. Comes (ending nest (HandledBy y c) (with_flow x))) (sym (ap (after_finish body.flow) e ∙ finish_on body.flow body.goes))
+            (on_comes e r)
+        by (HandledBy y c) lawful_handler (x ∷ fs) e r =
+            let i = handling y c j in
+            let st = state_of i f.middle body.left in
+            let whole : length (faults_of f.tree) - 0 ≡ length (faults_of f.tree) = omega arith in
+            let starts : caught y [] (with_flow Faulted) ≡ st =
+            ap (λ (m : ℕ). let to : S = record st { environment = record j.environment { scalars = bind y (pos m) j.environment.scalars } } in to) whole in
+            let enters : list nest (append c k.rest) st ≡ go_on (list nest k.rest) (blk nest c (caught y [] (with_flow Faulted))) =
+            list-append nest c k.rest st refl
+            ∙ ap (go_on (list nest k.rest)) (list_text nest c lawful_handler.1 st ∙ ap (blk nest c) (sym starts)) in
+            subst (λ x. Comes (ending nest (HandledBy y c) (with_flow x))) (sym (ap (after_finish body.flow) e ∙ finish_faulted body.flow body.goes x fs))
+            (in_all (blk nest c (caught y [] (with_flow Faulted)))
+            (comes_same (ap (calls nest k.callers) (sym enters))
+            (deeper f.second_count second_less nest body.left i f.middle t z (omega (arith, second_less)) (omega (arith, second_less)) second_in refl
+            (lawful_append p c k.rest lawful_handler.0 lawful.0, lawful.1) r d)))
+
+    rescue_comes : (b : Codes) (x : ℕ) (c : Codes) → Lawful p (Rescue b x c) → (a : Contents)
+        → LeftRun p n (and_then (single (inside b k)) (HandledBy x c) (held_back k)) a t z
+        → Comes (doing nest l (Rescue b x c) (state_of k a steps))
+    rescue_comes b x c h a r =
+        subst Comes (ap (λ fs. rescued x (blk nest c) fs (doing nest l (Finish b) (state_of k a steps))) (sym faultless))
+        (finish_comes b (are_lawful p b h.parts.0 h.text.0) h.text.0 (HandledBy x c) (are_lawful p c h.parts.1 h.text.1, h.text.1) a r)
 
     -- one more step
     one_more : {out : S} → ComesTo n steps k.path t z out → ComesTo (suc n) (suc steps) k.path t z out
@@ -645,7 +686,8 @@ module _ (p : Program) (fresh : ℕ) where
     statement_comes (Begun s size m x i b) h a r = begun_comes s size m x i b h a r
     statement_comes (Call f es ss) h a r = one_more (call_comes f es ss a r)
     statement_comes (Async b) h a r = one_more (async_comes b h a r)
-    statement_comes (Finish b) h a r = one_more (finish_comes b h a r)
+    statement_comes (Finish b) h a r = one_more (finish_comes b (are_lawful p b h.parts h.text) h.text NoHandler tt a r)
+    statement_comes (Rescue b x c) h a r = one_more (rescue_comes b x c h a r)
 
   is_end : (c : Codes) → is_done c ≡ true → c ≡ End
   is_end End e = refl

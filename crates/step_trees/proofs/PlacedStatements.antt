@@ -2,7 +2,7 @@
 use Rattle.std.proofs.Common.{◌≡◌, inl, inr, ℕ, List, [], ◌∷◌, refl, sym, ap, subst}
 use Rattle.sections.specs.Member.{Member}
 use Rattle.sections.specs.Origins.{IsNumbered}
-use Rattle.types.specs.Code.{Code, Do, If, While, Split, Parts, Begun, Call, Async, Finish, Codes, End, Then, Procedure, Program}
+use Rattle.types.specs.Code.{Code, Do, If, While, Split, Parts, Begun, Call, Async, Finish, Rescue, Codes, End, Then, Procedure, Program}
 use Rattle.types.specs.Sound.{IsText, IsTextOf}
 use Rattle.types.specs.Value.{Environment}
 use Rattle.types.specs.Trees.{append}
@@ -58,6 +58,7 @@ text_written (Then l (Begun s n m q i b) rest) k = absurd k.0
 text_written (Then l (Call f es ss) rest) k = k
 text_written (Then l (Async b) rest) k = k
 text_written (Then l (Finish b) rest) k = k
+text_written (Then l (Rescue b x c) rest) k = k
 
 end_text : (b : Codes) → IsEnd b → IsText b
 end_text End k = tt
@@ -73,6 +74,7 @@ more_text l (Begun s n m q i b) rest k = end_text rest k.1
 more_text l (Call f es ss) rest k = k.1
 more_text l (Async b) rest k = k.1
 more_text l (Finish b) rest k = k.1
+more_text l (Rescue b x c) rest k = k.1
 
 abbrev label_of : Codes → ℕ
 label_of End = 0
@@ -354,6 +356,7 @@ module _ (p : Program) where
   turns_before env l (Call f es ss) rest k = nothing_separate _
   turns_before env l (Async b) rest k = nothing_separate _
   turns_before env l (Finish b) rest k = nothing_separate _
+  turns_before env l (Rescue b x c) rest k = nothing_separate _
 
   -- what the first statement leaves pending keeps apart from what follows
   pub rest_apart : {keep : List ℕ} {env : Environment} {l : ℕ} {s : Code} {rest : Codes} → Focus keep env l s rest

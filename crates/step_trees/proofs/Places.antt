@@ -6,9 +6,9 @@ use Rattle.std.specs.Prelude.{Bool, true, false, ◌&&◌, if◌then◌else◌}
 use Rattle.std.proofs.Math.Bool.{and-false}
 use Rattle.types.specs.Code.{Program}
 use Rattle.types.specs.Contents.{Contents}
-use Rattle.types.specs.Trees.{Leaf, Tree, Single, AndThen, Beside, all_done, ready, closed, and_then}
+use Rattle.types.specs.Trees.{Leaf, Handler, Tree, Single, AndThen, Beside, all_done, ready, closed, and_then}
 use Rattle.types.specs.TreeSteps.{in_tree, step, leaf_at}
-use Rattle.step_trees.specs.Translation.{leaf_of}
+use Rattle.step_trees.specs.Translation.{leaf_of, handler_of}
 use Rattle.step_trees.specs.declared.tree.Around.{Around}
 use Rattle.step_trees.specs.declared.tree.Around.TheVariants.{Behind, Left, Right}
 use Rattle.step_trees.specs.Held.{tree_of, within, inside}
@@ -28,7 +28,7 @@ rights-push (y ∷ xs) x = let more = rights-push xs x in omega (arith, more)
 -- if all leaves are done, none may step
 pub done_ready : (t : Tree) → all_done t ≡ true → ready t ≡ 0
 done_ready (Single k) e = ap (λ (z : Bool). let n : ℕ = if z then 0 else 1 in n) e
-done_ready (AndThen t k) e = absurd (let bad : ⊥ = cc in bad)
+done_ready (AndThen t x k) e = absurd (let bad : ⊥ = cc in bad)
 done_ready (Beside t u) e =
     let both = and_parts (all_done t) (all_done u) e in
     let left = done_ready t both.0 in let right = done_ready u both.1 in
@@ -43,12 +43,12 @@ pub ready_going : (t : Tree) → 0 < ready t → all_done t ≡ false
 ready_going t h = going_by t (all_done t) refl h
 
 -- what waits for the end of such a tree continues to wait
-pub then_going : (t : Tree) (k : Leaf) → all_done t ≡ false → and_then t k ≡ AndThen t k
-then_going t k e = ap (λ (z : Bool). if z then Single (closed t k) else AndThen t k) e
+pub then_going : (t : Tree) (x : Handler) (k : Leaf) → all_done t ≡ false → and_then t x k ≡ AndThen t x k
+then_going t x k e = ap (λ (z : Bool). if z then Single (closed t x k) else AndThen t x k) e
 
 -- what isn't done isn't within others
 pub within_going : (x : Around) (t : Tree) → all_done t ≡ false → all_done (within x t) ≡ false
-within_going (Behind k) t e = ap all_done (then_going t (leaf_of k) e)
+within_going (Behind w) t e = ap all_done (then_going t (handler_of w.handler) (leaf_of w.leaf) e)
 within_going (Right u) t e = ap (λ (z : Bool). z && all_done (tree_of u.value)) e
 within_going (Left u) t e = ap (λ (z : Bool). all_done (tree_of u.value) && z) e ∙ and-false (all_done (tree_of u.value))
 
@@ -57,8 +57,9 @@ inside_going [] t e = e
 inside_going (x ∷ xs) t e = within_going x (inside xs t) (inside_going xs t e)
 
 within_ready : (x : Around) (t : Tree) → all_done t ≡ false → ready (within x t) ≡ (ready_left x + ready t) + ready_right x
-within_ready (Behind k) t e =
-    let same : ready (within (Behind k) t) ≡ ready t = ap ready (then_going t (leaf_of k) e) in omega (arith, same)
+within_ready (Behind w) t e =
+    let same : ready (within (Behind w) t) ≡ ready t = ap ready (then_going t (handler_of w.handler) (leaf_of w.leaf) e) in
+    omega (arith, same)
 within_ready (Right u) t e = omega arith
 within_ready (Left u) t e = omega arith
 
@@ -85,10 +86,11 @@ module _ (m : ℕ) (t : Tree) (below : m < ready t) where
 
   pub inside_leaf : (xs : List Around) → leaf_at (lefts xs + m) (inside xs t) ≡ leaf_at m t
   inside_leaf [] = let none : lefts [] + m ≡ m = omega arith in ap (λ (n : ℕ). leaf_at n t) none
-  inside_leaf (Behind k ∷ xs) =
-      let n = lefts xs + m in let same : lefts (Behind k ∷ xs) + m ≡ n = omega arith in
-      ap (λ (i : ℕ). leaf_at i (and_then (inside xs t) (leaf_of k))) same
-      ∙ ap (leaf_at n) (then_going (inside xs t) (leaf_of k) (going xs))
+  inside_leaf (Behind w ∷ xs) =
+      let n = lefts xs + m in let same : lefts (Behind w ∷ xs) + m ≡ n = omega arith in
+      let x = handler_of w.handler in let k = leaf_of w.leaf in
+      ap (λ (i : ℕ). leaf_at i (and_then (inside xs t) x k)) same
+      ∙ ap (leaf_at n) (then_going (inside xs t) x k (going xs))
       ∙ inside_leaf xs
   inside_leaf (Right u ∷ xs) =
       let n = lefts xs + m in let same : lefts (Right u ∷ xs) + m ≡ n = omega arith in
@@ -109,12 +111,13 @@ module _ (m : ℕ) (t : Tree) (below : m < ready t) where
       by : (o : Option (Tree × Contents)) → o ≡ in_tree (inside []) o
       by None = refl
       by (Some r) = refl
-  inside_step p a (Behind k ∷ xs) =
-      let n = lefts xs + m in let same : lefts (Behind k ∷ xs) + m ≡ n = omega arith in
-      ap (λ (i : ℕ). step p i (and_then (inside xs t) (leaf_of k)) a) same
-      ∙ ap (λ u. step p n u a) (then_going (inside xs t) (leaf_of k) (going xs))
-      ∙ ap (in_tree (λ u. and_then u (leaf_of k))) (inside_step p a xs)
-      ∙ in_tree-in (λ u. and_then u (leaf_of k)) (inside xs) (step p m t a)
+  inside_step p a (Behind w ∷ xs) =
+      let n = lefts xs + m in let same : lefts (Behind w ∷ xs) + m ≡ n = omega arith in
+      let x = handler_of w.handler in let k = leaf_of w.leaf in
+      ap (λ (i : ℕ). step p i (and_then (inside xs t) x k) a) same
+      ∙ ap (λ u. step p n u a) (then_going (inside xs t) x k (going xs))
+      ∙ ap (in_tree (λ u. and_then u x k)) (inside_step p a xs)
+      ∙ in_tree-in (λ u. and_then u x k) (inside xs) (step p m t a)
   inside_step p a (Right u ∷ xs) =
       let n = lefts xs + m in let same : lefts (Right u ∷ xs) + m ≡ n = omega arith in
       let v = tree_of u.value in

@@ -6,7 +6,7 @@ use Rattle.sections.specs.Place.{Place, same_place, sides_of}
 use Rattle.sections.specs.Member.{Member, first}
 use Rattle.types.specs.declared.fault.FaultKind.{FaultKind}
 use Rattle.types.specs.declared.fault.FaultKind.TheVariants.{SplitPoint, Raised}
-use Rattle.types.specs.Code.{Number, Literal, Scalar, Element, Length, Negative, Chain, Links, Done, Link, Truth, Constant, Compare, Not, Both, Either, Truths, NoMore, Also, Primitive, Skip, Assign, Store, Print, Raise, Code, Do, If, While, Split, Parts, Begun, Call, Async, Finish, Codes, End, Then, Program}
+use Rattle.types.specs.Code.{Number, Literal, Scalar, Element, Length, Negative, Chain, Links, Done, Link, Truth, Constant, Compare, Not, Both, Either, Truths, NoMore, Also, Primitive, Skip, Assign, Store, Print, Raise, Code, Do, If, While, Split, Parts, Begun, Call, Async, Finish, Rescue, Codes, End, Then, Program}
 use Rattle.types.specs.Contents.{Contents, read}
 use Rattle.types.specs.Value.{Environment, Valued, then_try, within_64_bits, element_of, operate, holds, holds_number, number, links, numbers, truth, all, any}
 use Rattle.types.specs.Run.{State, array_of, entry, with_sides, procedure_of}
@@ -226,6 +226,7 @@ module _ (p : Program) where
   }
   alike l (Async b) k a c h = record { update = None; writes = tt; tree = refl; one_store = refl; other_store = refl }
   alike l (Finish b) k a c h = record { update = None; writes = tt; tree = refl; one_store = refl; other_store = refl }
+  alike l (Rescue b x d) k a c h = record { update = None; writes = tt; tree = refl; one_store = refl; other_store = refl }
 
   places_of : (u : Update) (a c : Contents) (P : Place → Type 0) → Hits P u → (q : Place)
       → ((updated u a q ≡ a q) × (updated u c q ≡ c q)) ⊎ (P q × (updated u a q ≡ updated u c q))

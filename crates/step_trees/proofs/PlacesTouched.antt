@@ -5,7 +5,7 @@ use Rattle.types.proofs.Bindings.{element_in}
 use Rattle.sections.specs.Place.{Place, In}
 use Rattle.sections.specs.Member.{Member, first, next}
 use Rattle.types.specs.Code.{Number, Literal, Scalar, Element, Length, Negative, Chain, Links, Done, Link, Truth, Constant, Compare, Not, Both, Either, Truths, NoMore, Also, Primitive, Skip, Assign, Store, Print, Raise, Code, Do, If, While, Split, Parts, Begun, Call, Async}
-use Rattle.types.specs.Code.{Finish}
+use Rattle.types.specs.Code.{Finish, Rescue}
 use Rattle.types.specs.Indexed.{indexed, indexed_links, indexed_truth, indexed_truths}
 use Rattle.types.specs.Value.{Environment, Valued, then_try, element_of, operate, number, truth}
 use Rattle.types.specs.TreePlaces.{after, number_reads, links_read, numbers_read, truth_reads, all_read, any_read, primitive_reads, step_reads, step_writes}
@@ -127,6 +127,7 @@ module _ (env : Environment) (contents : Place → ℤ) (q : Place) where
   step_touches l (Call f es ss) h = as_reads l (λ x m. m) (numbers_in es h)
   step_touches l (Async b) h = none_in h
   step_touches l (Finish b) h = none_in h
+  step_touches l (Rescue b x c) h = none_in h
 
   -- what a step writes it may write
   pub step_overwrites : (l : ℕ) (s : Code) → Member q (step_writes env contents s)
@@ -153,3 +154,4 @@ module _ (env : Environment) (contents : Place → ℤ) (q : Place) where
   step_overwrites l (Call f es ss) h = none_in h
   step_overwrites l (Async b) h = none_in h
   step_overwrites l (Finish b) h = none_in h
+  step_overwrites l (Rescue b x c) h = none_in h

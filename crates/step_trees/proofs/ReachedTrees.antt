@@ -22,7 +22,7 @@ use Rattle.step_trees.proofs.OneThread.{left_run_ends}
 apart_in : (p : Program) {t u v : Tree} → ParIn t u v → (keep : List ℕ) → Good p keep v
     → Separate (still p t) (still p u)
 apart_in p ParIn.here keep (Good.is_beside g h apart) = apart
-apart_in p (ParIn.first i) keep (Good.is_then scope st g same) = apart_in p i scope g
+apart_in p (ParIn.first i) keep (Good.is_then scope st handler g same) = apart_in p i scope g
 apart_in p (ParIn.left i) keep (Good.is_beside {other = other} g h apart) = apart_in p i other g
 apart_in p (ParIn.right i) keep (Good.is_beside g h apart) = apart_in p i keep h
 

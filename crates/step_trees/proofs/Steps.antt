@@ -5,10 +5,19 @@ use Rattle.std.proofs.lemmas.Bool.{eqb-true, eq-eqb, lt-ltb, le-ltb}
 use Rattle.std.specs.Prelude.{Bool, true, false, if◌then◌else◌, nat_eq, nat_lt}
 use Rattle.types.specs.Code.{Code, Codes, End, Then, Program}
 use Rattle.types.specs.Contents.{Contents}
-use Rattle.types.specs.Trees.{Leaf, Tree, Single, AndThen, Beside, is_done, ready, and_then}
+use Rattle.types.specs.Trees.{Leaf, Handler, Tree, Single, AndThen, Beside, is_done, ready, lines_of, faults_of, rightmost, owner_environment, and_then}
 use Rattle.types.specs.TreeSteps.{tree_after, store_after, leaf_step, in_tree, step, unless_done, leaf_at}
 use Rattle.step_trees.proofs.Turns.{same_pair, step_here}
 use Rattle.step_trees.specs.Laws.{StepsTo}
+
+-- the leaf `<k>` with what an ended tree gives
+abbrev pub continuing : Tree → Leaf → Leaf
+continuing t k = record k {
+  environment = owner_environment t;
+  spawned = (rightmost t).spawned;
+  lines = lines_of t;
+  faults = faults_of t;
+}
 
 module _ (p : Program) where
   -- the leaf k, the n-th that may step, takes a step
@@ -16,8 +25,8 @@ module _ (p : Program) where
     here : {k : Leaf} {l : ℕ} {s : Code} {rest : Codes} {a b : Contents} {u : Tree}
         → k.rest ≡ Then l s rest → u ≡ tree_after p l s (record k { rest = rest }) a
         → b ≡ store_after p l s (record k { rest = rest }) a → Step 0 k (Single k) a u b
-    first : {n : ℕ} {k j : Leaf} {t u v : Tree} {a b : Contents} → Step n k t a u b → v ≡ and_then u j
-        → Step n k (AndThen t j) a v b
+    first : {n : ℕ} {k : Leaf} {x : Handler} {j : Leaf} {t u v : Tree} {a b : Contents} → Step n k t a u b
+        → v ≡ and_then u x j → Step n k (AndThen t x j) a v b
     left : {n : ℕ} {k : Leaf} {t u v : Tree} {a b : Contents} → Step n k t a u b
         → Step n k (Beside t v) a (Beside u v) b
     right : {n m : ℕ} {k : Leaf} {t v w : Tree} {a b : Contents} → n ≡ ready t + m → Step m k v a w b
@@ -58,8 +67,8 @@ module _ (p : Program) where
           → (k' : Leaf) × Step p n k' (Single k) a u b
       by true h e = (k, subst (λ n. Step p n k (Single k) a u b) (sym (eqb-true n 0 h)) (leaf_from k.rest k a b u refl e))
       by false h e = cc
-  step_from (AndThen t j) n a u b e =
-      let (v, o, f) = taken (λ u. and_then u j) (step p n t a) u b e in
+  step_from (AndThen t x j) n a u b e =
+      let (v, o, f) = taken (λ u. and_then u x j) (step p n t a) u b e in
       let r = step_from t n a v b o in
       (r.0, Step.first r.1 f)
   step_from (Beside t v) n a u b e = by (nat_lt n (ready t)) refl e (step_from t n a) (step_from v (n - ready t) a)
@@ -87,7 +96,7 @@ module _ (p : Program) where
 
   pub step_to : {n : ℕ} {k : Leaf} {t u : Tree} {a b : Contents} → Step p n k t a u b → step p n t a ≡ Some (u, b)
   step_to (Step.here {k = k} {a = a} r e f) = step_here p k.rest k a r ∙ same_pair (sym e) (sym f)
-  step_to (Step.first {j = j} {b = b} s e) = ap (in_tree (λ u. and_then u j)) (step_to s) ∙ ap (λ x. Some (x, b)) (sym e)
+  step_to (Step.first {x = x} {j = j} {b = b} s e) = ap (in_tree (λ u. and_then u x j)) (step_to s) ∙ ap (λ v. Some (v, b)) (sym e)
   step_to (Step.left {n = n} {t = t} {v = v} {a = a} s) =
       ap (λ z. if z then in_tree (λ u. Beside u v) (step p n t a) else in_tree (λ u. Beside t u) (step p (n - ready t) v a)) (lt-ltb n (ready t) (step_below s))
       ∙ ap (in_tree (λ u. Beside u v)) (step_to s)
@@ -131,7 +140,7 @@ module _ (p : Program) where
       by : (z : Bool) → nat_eq n 0 ≡ z → (if z then unless_done j.rest j else None) ≡ Some k → Stepped n k (Single j) a
       by true h e = subst (λ n. Stepped n k (Single j) a) (sym (eqb-true n 0 h)) (leaf_steps j.rest j k a refl e)
       by false h e = cc
-  step_at (AndThen t j) n k a e = let s = step_at t n k a e in record { tree = and_then s.tree j; store = s.store; step = Step.first s.step refl }
+  step_at (AndThen t x j) n k a e = let s = step_at t n k a e in record { tree = and_then s.tree x j; store = s.store; step = Step.first s.step refl }
   step_at (Beside t v) n k a e = by (nat_lt n (ready t)) refl e (step_at t n k a) (step_at v (n - ready t) k a)
     where
       by : (z : Bool) → nat_lt n (ready t) ≡ z → (if z then leaf_at n t else leaf_at (n - ready t) v) ≡ Some k
@@ -150,7 +159,7 @@ leaf_below (Then l s rest) k n h = (k, ap (λ z. if z then Some k else None) (eq
 
 ready_leaf : (t : Tree) (n : ℕ) → n < ready t → (k : Leaf) × (leaf_at n t ≡ Some k)
 ready_leaf (Single k) n h = leaf_below k.rest k n h
-ready_leaf (AndThen t j) n h = ready_leaf t n h
+ready_leaf (AndThen t x j) n h = ready_leaf t n h
 ready_leaf (Beside t v) n h = by (nat_lt n (ready t)) refl (ready_leaf t n) (ready_leaf v (n - ready t))
   where
     by : (z : Bool) → nat_lt n (ready t) ≡ z → (n < ready t → (k : Leaf) × (leaf_at n t ≡ Some k))

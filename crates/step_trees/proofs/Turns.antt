@@ -7,7 +7,7 @@ use Rattle.sections.specs.Place.{Window, has_piece, piece_at, piece_of}
 use Rattle.types.specs.Code.{Code, Codes, Primitive, Procedure, Program, Do, End, Then}
 use Rattle.types.specs.Contents.{Contents, read}
 use Rattle.types.specs.Run.{Flow, On, Faulted, Stopped, State, primitive}
-use Rattle.types.specs.Trees.{Caller, Leaf, Tree, Single, Beside, and_then, single, done, called, child, parent, inside, held_back, returned}
+use Rattle.types.specs.Trees.{Caller, Leaf, Handler, Tree, Single, Beside, and_then, single, done, called, child, parent, inside, held_back, returned}
 use Rattle.types.specs.TreeSteps.{as_state, by_flow, with_state, tree_after, store_after, leaf_step}
 use Rattle.types.specs.Value.{Environment}
 use Rattle.statement_steps.specs.declared.store.Store.{Store}
@@ -127,12 +127,13 @@ spawned_tree b k j path n x a y same path_is n_is x_is a_is y_is =
     (y_is ∙ ap (λ (q : Leaf). returned (record q { spawned = n })) a_is ∙ parent_is)
 
 -- the body of a finish, and the leaf that waits for its end
-pub entered_tree : (b : Codes) (k j : Leaf) (path : List ℕ) (n : ℕ) (x a : Leaf) → j ≡ k → path ≡ k.path → n ≡ k.spawned
-    → x ≡ returned (record (inside b j) { path = path; spawned = n }) → a ≡ held_back j
-    → and_then (Single x) a ≡ and_then (single (inside b k)) (held_back k)
-entered_tree b k j path n x a same path_is n_is x_is a_is =
+pub entered_tree : (b : Codes) (h : Handler) (k j : Leaf) (path : List ℕ) (n : ℕ) (x a : Leaf) → j ≡ k → path ≡ k.path
+    → n ≡ k.spawned → x ≡ returned (record (inside b j) { path = path; spawned = n }) → a ≡ held_back j
+    → and_then (Single x) h a ≡ and_then (single (inside b k)) h (held_back k)
+entered_tree b h k j path n x a same path_is n_is x_is a_is =
     let body_is : returned (record (inside b j) { path = path; spawned = n }) ≡ returned (inside b k) = cc in
-    ap (λ (i : Leaf). and_then (Single i) a) (x_is ∙ body_is) ∙ ap (and_then (single (inside b k))) (a_is ∙ ap held_back same)
+    ap (λ (i : Leaf). and_then (Single i) h a) (x_is ∙ body_is)
+    ∙ ap (and_then (single (inside b k)) h) (a_is ∙ ap held_back same)
 
 -- whether a turn is left, by its piece
 pub has_none : (w : Window) (n k : ℕ) → piece_of w n k ≡ None → has_piece w n k ≡ false

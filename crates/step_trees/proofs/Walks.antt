@@ -7,7 +7,7 @@ use Rattle.types.specs.Code.{Codes, End, Then, Program}
 use Rattle.types.specs.Contents.{Contents}
 use Rattle.types.specs.Trees.{Leaf, Tree, Single, Beside, is_done, ready}
 use Rattle.types.specs.TreeSteps.{leaf_step, in_tree, step, unless_done, leaf_at}
-use Rattle.step_trees.specs.declared.leaf.Leaf.{Leaf as rLeaf}
+use Rattle.step_trees.specs.declared.leaf.Waiting.{Waiting}
 use Rattle.step_trees.specs.declared.tree.Tree.{Tree as rTree}
 use Rattle.step_trees.specs.declared.tree.Tree.TheVariants.{AndThen' as rAndThen, Beside' as rBeside}
 use Rattle.step_trees.specs.declared.tree.Around.{Around}
@@ -89,12 +89,13 @@ module _ (n : ℕ) (whole : Tree) (xs : List Around) (m : ℕ) where
   way-as {ys} {k} {t} {u} e f g w =
       subst (λ ys. Way n whole ys k u) e (subst (λ k. Way n whole xs k u) f (subst (Way n whole xs m) g w))
 
-  pub way-first : (p : _) (f : rTree) (k : rLeaf) (r : ℕ) → Way n whole xs m (rAndThen p f k r) → Way n whole (xs ++ Behind k ∷ []) m f
-  way-first p f k r w = record {
+  pub way-first : (p : _) (f : rTree) (b : Waiting) (r : ℕ) → Way n whole xs m (rAndThen p f b r)
+      → Way n whole (xs ++ Behind b ∷ []) m f
+  way-first p f b r w = record {
     counted = w.counted.0;
     below = w.below;
     leaf = w.leaf;
-    steps = λ p a. w.steps p a ∙ in_tree-push xs (Behind k) (step p m (tree_of f) a);
+    steps = λ p a. w.steps p a ∙ in_tree-push xs (Behind b) (step p m (tree_of f) a);
   }
 
   pub way-left : (p : _) (f : rTree) (q : _) (b : Box rTree Global) (r : ℕ) (d : Bool) (s : ℕ) → m < ready (tree_of f)

@@ -2,13 +2,13 @@
 use Rattle.std.specs.Prelude.{ℕ, ◌+◌, ◌≡◌, ◌⊎◌, List, ◌∷◌, length, true, false, Some, None, slice_get}
 use Rattle.sections.specs.Place.{Place}
 use Rattle.sections.specs.Member.{Member}
-use Rattle.types.specs.Code.{Code, Do, If, While, Split, Parts, Begun, Call, Async, Finish, Codes, End, Then}
-use Rattle.types.specs.Code.{Procedure, Program}
+use Rattle.types.specs.Code.{Code, Do, If, While, Split, Parts, Begun, Call, Async, Finish, Rescue, Codes}
+use Rattle.types.specs.Code.{End, Then, Procedure, Program}
 use Rattle.types.specs.Contents.{Contents}
 use Rattle.types.specs.Outcome.{Outcome, Ended}
 use Rattle.types.specs.Run.{procedure_of}
 use Rattle.types.specs.Sound.{IsText}
-use Rattle.types.specs.Trees.{Leaf, Tree, AndThen, Beside, owner_environment, all_done, ready}
+use Rattle.types.specs.Trees.{Leaf, Handler, Tree, AndThen, Beside, owner_environment, all_done, ready}
 use Rattle.types.specs.TreeSteps.{leaf_step, step, leaf_at}
 use Rattle.types.specs.TreeRuns.{Runs, tree_ending, told, explored_from}
 use Rattle.types.specs.TreePlaces.{next_writes}
@@ -21,14 +21,14 @@ use Rattle.effects.specs.Sound.{CutsWell, Follows}
 -- `t par u` is part of a tree
 pub data ParIn (t u : Tree) : Tree → Type 0 where
   here : ParIn t u (Beside t u)
-  first : {v : Tree} {k : Leaf} → ParIn t u v → ParIn t u (AndThen v k)
+  first : {v : Tree} {h : Handler} {k : Leaf} → ParIn t u v → ParIn t u (AndThen v h k)
   left : {v w : Tree} → ParIn t u v → ParIn t u (Beside v w)
   right : {v w : Tree} → ParIn t u w → ParIn t u (Beside v w)
 
--- `t then <k>` is part of a tree
+-- `t then <k>` is part of a tree, with or without a handler
 pub data ThenIn (t : Tree) (k : Leaf) : Tree → Type 0 where
-  here : ThenIn t k (AndThen t k)
-  first : {v : Tree} {j : Leaf} → ThenIn t k v → ThenIn t k (AndThen v j)
+  here : {h : Handler} → ThenIn t k (AndThen t h k)
+  first : {v : Tree} {h : Handler} {j : Leaf} → ThenIn t k v → ThenIn t k (AndThen v h j)
   left : {v w : Tree} → ThenIn t k v → ThenIn t k (Beside v w)
   right : {v w : Tree} → ThenIn t k w → ThenIn t k (Beside v w)
 
@@ -97,6 +97,7 @@ module _ (p : Program) where
     LawfulPartsOf (Call f es ss) = Unit {0}
     LawfulPartsOf (Async b) = LawfulParts b
     LawfulPartsOf (Finish b) = LawfulParts b
+    LawfulPartsOf (Rescue b x c) = LawfulParts b × LawfulParts c
 
     -- and each one in a list of statements
     pub LawfulParts : Codes → Type 0

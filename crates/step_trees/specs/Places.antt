@@ -11,13 +11,13 @@ use Rattle.step_trees.specs.Held.{tree_of, inside, IsCounted, IsCountedRound, Ar
 
 -- the number of leaves that may step to the left of a position, in one surrounding part
 abbrev pub ready_left : Around → ℕ
-ready_left (Behind k) = 0
+ready_left (Behind w) = 0
 ready_left (Right u) = 0
 ready_left (Left u) = ready (tree_of u.value)
 
 -- the number of leaves that may step to the right of a position, in one surrounding part
 abbrev pub ready_right : Around → ℕ
-ready_right (Behind k) = 0
+ready_right (Behind w) = 0
 ready_right (Right u) = ready (tree_of u.value)
 ready_right (Left u) = 0
 

@@ -3,7 +3,7 @@ use Rattle.std.specs.Prelude.{◌⊎◌, List, [], ◌∷◌}
 use Rattle.sections.specs.Place.{Place}
 use Rattle.types.specs.Code.{Codes, Program}
 use Rattle.types.specs.Value.{Environment}
-use Rattle.types.specs.Trees.{Caller, Leaf, Tree, Single, AndThen, Beside}
+use Rattle.types.specs.Trees.{Caller, Leaf, Handler, NoHandler, HandledBy, Tree, Single, AndThen, Beside}
 use Rattle.effects.specs.Accesses.{Access}
 use Rattle.effects.specs.Effects.{All, accesses}
 use Rattle.effects.specs.Footprint.{Touches, Overwrites, TurnsTouch, TurnsWrite}
@@ -51,8 +51,13 @@ module _ (p : Program) where
   abbrev pub left_of : Leaf → Footprint
   left_of k = both (all k.environment k.rest) (waiting k.callers)
 
-  -- the footprint of all that a tree has left to do, with each `<k>` after a `then`
+  -- the footprint of the handler of a finish that was entered in this environment
+  abbrev pub in_handler : Environment → Handler → Footprint
+  in_handler env NoHandler = nothing
+  in_handler env (HandledBy x c) = all env c
+
+  -- the footprint of all that a tree has left to do, with each `<k>` after a `then` and its handler
   abbrev pub still : Tree → Footprint
   still (Single k) = left_of k
-  still (AndThen t k) = both (still t) (left_of k)
+  still (AndThen t h k) = both (still t) (both (in_handler k.environment h) (left_of k))
   still (Beside t u) = both (still t) (still u)

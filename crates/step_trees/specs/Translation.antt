@@ -3,7 +3,7 @@ use Rattle.std.specs.Prelude.{◌≡◌, List, [], ◌∷◌, ◌++◌, map, Opt
 use Rattle.std.specs.Prelude.{ℕ, if◌then◌else◌}
 use Rattle.sections.specs.Place.{Window, has_piece}
 use Rattle.types.specs.Code.{Code, Codes, End, Then}
-use Rattle.types.specs.Trees.{Caller, Leaf, append}
+use Rattle.types.specs.Trees.{Caller, Leaf, Handler, NoHandler, HandledBy, append}
 use Rattle.types.specs.Translation.{code, codes, environment, fault}
 use Rattle.statement_steps.specs.declared.turns.TurnsToCome.{TurnsToCome}
 use Rattle.statement_steps.specs.Turns.{begun}
@@ -12,6 +12,7 @@ use Rattle.step_trees.specs.declared.rest.NextStep.TheVariants.{Statement, Turn}
 use Rattle.step_trees.specs.declared.rest.RestOfBlock.{RestOfBlock}
 use Rattle.step_trees.specs.declared.rest.RestOfBlock.TheVariants.{Block, Turns}
 use Rattle.step_trees.specs.declared.leaf.Caller.{Caller as rCaller}
+use Rattle.step_trees.specs.declared.leaf.Handler.{Handler as rHandler}
 use Rattle.step_trees.specs.declared.leaf.Leaf.{Leaf as rLeaf}
 
 -- the statements of a block, or the turns to come of a `parts`
@@ -48,6 +49,11 @@ leaf_of k = record {
   lines = map (λ v. v.items) k.lines.items;
   faults = map fault k.faults.items;
 }
+
+-- what a leaf does with the faults of the finish that it waits for
+abbrev pub handler_of : Option rHandler → Handler
+handler_of None = NoHandler
+handler_of (Some h) = HandledBy h.faults.number (codes h.block.now)
 
 -- what is next, as a statement and its label
 abbrev pub next_label : NextStep → ℕ

@@ -16,7 +16,7 @@ use Rattle.step_trees.specs.declared.leaf.Leaf.{Leaf as rLeaf}
 use Rattle.step_trees.specs.declared.turn.Becomes.{Becomes}
 use Rattle.step_trees.specs.declared.turn.Becomes.TheVariants.{Single as rSingle, Spawned, Entered}
 use Rattle.step_trees.specs.declared.turn.LeafTurn.{LeafTurn}
-use Rattle.step_trees.specs.Translation.{blocks, callers, leaf_of}
+use Rattle.step_trees.specs.Translation.{blocks, callers, leaf_of, handler_of}
 
 -- a task in a state, with the remaining statements and callers
 abbrev pub leaf_at : State (Unit {0}) → Codes → List Caller → Leaf
@@ -42,7 +42,7 @@ store_in t = contents_of t.thread.store
 abbrev pub becomes : Becomes → Tree
 becomes (rSingle k) = Single (leaf_of k)
 becomes (Spawned child parent) = Beside (Single (leaf_of child)) (Single (leaf_of parent))
-becomes (Entered body behind) = and_then (Single (leaf_of body)) (leaf_of behind)
+becomes (Entered body w) = and_then (Single (leaf_of body)) (handler_of w.handler) (leaf_of w.leaf)
 
 -- a turn gives a tree and a store, and the arrays keep their lengths
 pub record Comes (t : Tree) (a : Contents) (turn : LeafTurn) (r : Becomes × Store) : Type 0 where

@@ -17,5 +17,5 @@ module _ (p : Program) where
   -- the windows of all leaves of a tree, and of what waits after a `then`, lie in their arrays
   abbrev pub TreeLies : Tree → Type 0
   TreeLies (Single k) = LeafLies k
-  TreeLies (AndThen t k) = TreeLies t × LeafLies k
+  TreeLies (AndThen t h k) = TreeLies t × LeafLies k
   TreeLies (Beside t u) = TreeLies t × TreeLies u

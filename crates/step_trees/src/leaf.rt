@@ -6,7 +6,9 @@ ghost use Rattle.step_trees.specs.Translation.{leaf_of};
 
 use crate::rest::RestOfBlock;
 use std::alloc::Global;
+use types::code::Stmt;
 use types::fault::Fault;
+use types::ids::Slot;
 use types::path::Path;
 use types::value::Environment;
 
@@ -34,6 +36,21 @@ pub struct Leaf<'p> {
     // Its output.
     pub lines: Vec<Vec<i64>>,
     pub faults: Vec<Fault>,
+}
+
+/// What a task does if the finish for which it waits has gathered faults.
+#[derive(Clone, Copy)]
+pub struct Handler<'p> {
+    /// In the block, this scalar is the number of the faults.
+    pub faults: Slot,
+    pub block: &'p [Stmt],
+}
+
+/// The state of a task that waits for the end of a finish.
+#[derive(Drop)]
+pub struct Waiting<'p> {
+    pub leaf: Leaf<'p>,
+    pub handler: Option<Handler<'p>>,
 }
 
 /// Returns from all calls whose bodies are finished. The leaf continues after the call, in its

@@ -2,15 +2,17 @@
 
 ghost use Rattle.std.specs.Prelude.{◌≡◌, ◌<◌, ◌+◌, ◌++◌, ◌∷◌, [], IfOk, OnOk, true};
 ghost use Rattle.types.specs.Trees.{all_done, ready as ready_leaves, and_then as then_tree};
-ghost use Rattle.types.specs.Trees.{closed as closed_leaf, Beside};
-ghost use Rattle.step_trees.specs.Translation.{leaf_of};
+ghost use Rattle.types.specs.Trees.{closed as closed_leaf, handling, returned as returned_leaf, Beside};
+ghost use Rattle.types.specs.Translation.{codes as codes_of};
+ghost use Rattle.step_trees.specs.Translation.{leaf_of, handler_of};
 ghost use Rattle.step_trees.specs.Alike.{AreAlike};
 ghost use Rattle.step_trees.specs.Found.{IsFound};
 ghost use Rattle.step_trees.specs.Held.{tree_of, inside, within as within_round, IsCounted};
 ghost use Rattle.step_trees.specs.Held.{IsCountedRound, IsLeftOf};
 ghost use Rattle.step_trees.specs.Places.{lefts, ready_left, ready_right, IsRound, Pops};
 
-use crate::leaf::{Leaf, done, returned};
+use crate::leaf::{Handler, Leaf, Waiting, done, returned};
+use crate::rest::enter;
 use std::alloc::{AllocError, Global};
 use types::fault::Fault;
 use types::value::Environment;
@@ -22,7 +24,7 @@ pub enum Tree<'p> {
     /// The body of a finish, and what waits for its end.
     AndThen {
         first: Box<Tree<'p>>,
-        behind: Leaf<'p>,
+        behind: Waiting<'p>,
         /// The number of leaves that may step.
         ready: u32,
     },
@@ -55,7 +57,7 @@ pub struct Remains {
 #[derive(Drop)]
 pub enum Around<'p> {
     /// The tree is the body of a finish, and this leaf waits for its end.
-    Behind(Leaf<'p>),
+    Behind(Waiting<'p>),
     /// This tree is to the right.
     Right(Box<Tree<'p>>),
     /// This tree is to the left.
@@ -351,7 +353,7 @@ impl<'p> Around<'p> {
         ensures counted { IfOk result IsCounted }
     {
         match self {
-            Around::Behind(leaf) => and_then(alloc, tree, leaf),
+            Around::Behind(behind) => and_then(alloc, tree, behind),
             Around::Right(right) => balanced(alloc, Box::new(alloc, tree)?, right),
             Around::Left(left) => balanced(alloc, left, Box::new(alloc, tree)?),
         }
@@ -509,10 +511,11 @@ fn together<'p>(
 pub fn and_then<'p>(
     alloc: Global,
     first: Tree<'p>,
-    behind: Leaf<'p>,
+    behind: Waiting<'p>,
 ) -> Result<Tree<'p>, AllocError>
     requires { IsCounted first }
-    ensures tree { IfOk result (λ t. tree_of t ≡ then_tree (tree_of first.entry) (leaf_of behind.entry)) }
+    ensures tree { IfOk result (λ t. tree_of t ≡ then_tree (tree_of first.entry)
+        (handler_of behind.entry.handler) (leaf_of behind.entry.leaf)) }
     ensures counted { IfOk result IsCounted }
 {
     if first.is_done() {
@@ -528,13 +531,19 @@ pub fn and_then<'p>(
     })
 }
 
-/// Returns the leaf that waited for the end of a tree, whose leaves are all done.
-fn closed<'p>(alloc: Global, first: Tree<'p>, behind: Leaf<'p>) -> Result<Leaf<'p>, AllocError>
+/// Returns the leaf that waited for the end of a tree, whose leaves are all done. If there are
+/// faults, it is done, or it continues with its handler.
+fn closed<'p>(alloc: Global, first: Tree<'p>, waiting: Waiting<'p>) -> Result<Leaf<'p>, AllocError>
     requires { all_done (tree_of first) ≡ true }
-    ensures { IfOk result (λ k. leaf_of k ≡ closed_leaf (tree_of first.entry) (leaf_of behind.entry)) }
+    ensures { IfOk result (λ k. leaf_of k ≡ closed_leaf (tree_of first.entry)
+        (handler_of waiting.entry.handler) (leaf_of waiting.entry.leaf)) }
 {
     let remains = first.take_apart(alloc)?;
     let faulted = !remains.faults.is_empty();
+    let Waiting {
+        leaf: behind,
+        handler,
+    } = waiting;
     let leaf = Leaf {
         environment: remains.environment,
         rest: behind.rest,
@@ -545,8 +554,25 @@ fn closed<'p>(alloc: Global, first: Tree<'p>, behind: Leaf<'p>) -> Result<Leaf<'
         faults: remains.faults,
     };
     if faulted {
-        Ok(done(alloc, leaf))
+        match handler {
+            None => Ok(done(alloc, leaf)),
+            Some(handler) => handled(alloc, leaf, handler),
+        }
     } else {
         Ok(returned(leaf))
     }
+}
+
+/// Starts the handler of a finish that has gathered the faults of a leaf. They are dropped.
+fn handled<'p>(alloc: Global, leaf: Leaf<'p>, handler: Handler<'p>) -> Result<Leaf<'p>, AllocError>
+    ensures { IfOk result (λ k. leaf_of k ≡ returned_leaf
+        (handling handler.entry.faults.number (codes_of handler.entry.block.now) (leaf_of leaf.entry))) }
+{
+    let mut leaf = leaf;
+    let number = leaf.faults.len();
+    leaf.environment.assign(handler.faults, number as i64)?;
+    let none = Vec::new(alloc);
+    leaf.faults = none;
+    enter(&mut leaf.rest, handler.block)?;
+    Ok(returned(leaf))
 }

@@ -2,17 +2,17 @@
 
 ghost use Rattle.std.specs.Prelude.{◌≡◌, map, false, IfOk, OnOk};
 ghost use Rattle.sections.specs.Translation.{section as section_of};
-ghost use Rattle.types.specs.Code.{Async, Call, Do, Finish, If, Parts, Split, While};
+ghost use Rattle.types.specs.Code.{Async, Call, Do, If, Parts, Split, While};
 ghost use Rattle.types.specs.Translation.{code as code_of, codes as codes_of, number as number_of};
 ghost use Rattle.types.specs.Translation.{primitive as primitive_of, truth as truth_of};
-ghost use Rattle.types.specs.Trees.{before_rest, done as done_leaf, failed as failed_leaf};
+ghost use Rattle.types.specs.Trees.{and_then, before_rest, done as done_leaf, failed as failed_leaf};
 ghost use Rattle.types.specs.Trees.{held_back, inside as inside_leaf, is_done};
 ghost use Rattle.types.specs.Trees.{returned as returned_leaf, single, Single};
 ghost use Rattle.statement_steps.specs.Turns.{begun};
-ghost use Rattle.step_trees.specs.Translation.{leaf_of, next_label, next_code};
+ghost use Rattle.step_trees.specs.Translation.{handler_of, leaf_of, next_label, next_code};
 ghost use Rattle.step_trees.specs.Turns.{leaf_in, store_in, Comes, After, IsReady, Steps, MayTurn};
 
-use crate::leaf::{Caller, Leaf, done, returned};
+use crate::leaf::{Caller, Handler, Leaf, Waiting, done, returned};
 use crate::rest::{NextStep, RestOfBlock, begin, begin_turns, block_alone, enter, next};
 use sections::id::SectionId;
 use statement_steps::flow::Flow;
@@ -34,7 +34,7 @@ pub enum Becomes<'p> {
     /// The body of an async, in parallel with its parent.
     Spawned { child: Leaf<'p>, parent: Leaf<'p> },
     /// The body of a finish, and the leaf that waits for its end.
-    Entered { body: Leaf<'p>, behind: Leaf<'p> },
+    Entered { body: Leaf<'p>, behind: Waiting<'p> },
 }
 
 /// A leaf that has the store during its step.
@@ -114,7 +114,18 @@ fn statement<'p>(turn: LeafTurn<'p>, stmt: &'p Stmt) -> Result<(Becomes<'p>, Sto
             sections,
         } => call(turn, label, *procedure, values, sections),
         StmtKind::Async { body } => begin_async(turn, body),
-        StmtKind::Finish { body } => begin_finish(turn, body),
+        StmtKind::Finish { body } => begin_finish(turn, body, None),
+        StmtKind::Rescue {
+            body,
+            faults,
+            handler,
+        } => {
+            let handler = Handler {
+                faults: *faults,
+                block: handler,
+            };
+            begin_finish(turn, body, Some(handler))
+        }
     }
 }
 
@@ -293,14 +304,22 @@ fn begin_async<'p>(turn: LeafTurn<'p>, body: &'p [Stmt]) -> Result<(Becomes<'p>,
 fn begin_finish<'p>(
     turn: LeafTurn<'p>,
     body: &'p [Stmt],
+    handler: Option<Handler<'p>>,
 ) -> Result<(Becomes<'p>, Store), AllocError>
-    ensures { IfOk result (After turn.entry 0 (Finish (codes_of body.entry.now))) }
+    ensures { IfOk result (Comes (and_then
+        (single (inside_leaf (codes_of body.entry.now) (leaf_in turn.entry)))
+        (handler_of handler.entry) (held_back (leaf_in turn.entry)))
+        (store_in turn.entry) turn.entry) }
 {
     let alloc = turn.plan.alloc;
     let path = turn.thread.path.copied(alloc)?;
     let spawned = turn.thread.spawned;
     let (mut behind, store) = apart(turn);
     let body = inside(alloc, &mut behind, body, path, spawned)?;
+    let behind = Waiting {
+        leaf: behind,
+        handler,
+    };
     Ok((Becomes::Entered { body, behind }, store))
 }
 

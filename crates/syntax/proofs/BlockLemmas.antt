@@ -4,16 +4,16 @@ use Rattle.std.specs.String.{string_bytes}
 use Rattle.syntax_tree.specs.declared.tree.Expr.{Expr as rExpr}
 use Rattle.syntax_tree.specs.declared.tree.Stmt.{Stmt as rStmt}
 use Rattle.syntax_tree.specs.declared.tree.Stmt.TheVariants.{If as rIf, While as rWhile, Split as rSplit, Parts as rParts}
-use Rattle.syntax_tree.specs.declared.tree.Stmt.TheVariants.{Async as rAsync, Finish as rFinish}
+use Rattle.syntax_tree.specs.declared.tree.Stmt.TheVariants.{Async as rAsync, Finish as rFinish, Rescue as rRescue}
 use Rattle.syntax.specs.declared.token.Word.TheVariants.{As as WordAs, Async as WordAsync, At as WordAt, By as WordBy, Parts as WordParts}
 use Rattle.syntax.specs.declared.token.Word.TheVariants.{Else as WordElse, Finish as WordFinish, If as WordIf}
-use Rattle.syntax.specs.declared.token.Word.TheVariants.{Split as WordSplit, While as WordWhile}
+use Rattle.syntax.specs.declared.token.Word.TheVariants.{Rescue as WordRescue, Split as WordSplit, While as WordWhile}
 use Rattle.syntax.specs.declared.token.Mark.TheVariants.{LeftBrace, RightBrace, Comma}
 use Rattle.syntax.specs.Token.{Token, NameToken, WordToken, MarkToken}
 use Rattle.syntax_tree.specs.Tree.{expr, stmt, block}
 use Rattle.syntax.specs.Spelling.{expr_then, stmt_then, block_then}
 use Rattle.syntax.proofs.ChainLemmas.{read_more}
-use Rattle.syntax_tree.proofs.RowLemmas.{stmt_While, stmt_Async, stmt_Finish, stmt_Split, stmt_Parts, stmt_If, stmt_IfElse}
+use Rattle.syntax_tree.proofs.RowLemmas.{stmt_While, stmt_Async, stmt_Finish, stmt_Rescue, stmt_Split, stmt_Parts, stmt_If, stmt_IfElse}
 
 -- statements without the brace that closes their block
 unfoldable pub stmts_then : List rStmt → List Token → List Token
@@ -77,3 +77,9 @@ pub stmt_then_Finish : (v : Vec rStmt Global) (r : List Token)
     → WordToken WordFinish ∷ MarkToken LeftBrace ∷ block_then (block v.items) r ≡ stmt_then (stmt (rFinish v)) r
 unfolding stmt_then
 stmt_then_Finish v r = ap (λ s. stmt_then s r) (sym (stmt_Finish v))
+
+pub stmt_then_Rescue : (v : Vec rStmt Global) (x : String Global) (w : Vec rStmt Global) (r : List Token)
+    → WordToken WordFinish ∷ MarkToken LeftBrace ∷ block_then (block v.items)
+    (WordToken WordRescue ∷ NameToken (string_bytes x) ∷ MarkToken LeftBrace ∷ block_then (block w.items) r) ≡ stmt_then (stmt (rRescue v x w)) r
+unfolding stmt_then
+stmt_then_Rescue v x w r = ap (λ s. stmt_then s r) (sym (stmt_Rescue v x w))

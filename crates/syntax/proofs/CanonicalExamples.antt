@@ -7,8 +7,8 @@ use Rattle.syntax_tree.specs.declared.tree.Sign.TheVariants.{Minus as MinusSign}
 use Rattle.syntax_tree.specs.declared.tree.Operator.TheVariants.{Times}
 use Rattle.syntax_tree.specs.Tree.{Expr, Or, NoConj, And, NoNeg, Plainly, Alone, Compare, Sum, Add, NoTerm, AddTerm}
 use Rattle.syntax_tree.specs.Tree.{Multiply, NoFactor, MultiplyFactor, Unary, Positive, Negative, Number, Name, Element}
-use Rattle.syntax_tree.specs.Tree.{Length, Parens, Store, Print, IfElse, Call, Async, Finish, Block, End, Then, Array}
-use Rattle.syntax_tree.specs.Tree.{Parameter, Written, Scalar, Procedure, Main, Program}
+use Rattle.syntax_tree.specs.Tree.{Length, Parens, Store, Print, Fault, IfElse, Call, Async, Finish, Rescue, Block, End, Then}
+use Rattle.syntax_tree.specs.Tree.{Array, Parameter, Written, Scalar, Procedure, Main, Program}
 use Rattle.syntax.specs.Spelling.{spelling, procedures_then, main_tokens, arrays_then, parameters_then}
 use Rattle.syntax.specs.Spelling.{more_parameters_then, parameter_then, stmt_then, expr_then, exprs_then, more_then}
 use Rattle.syntax.specs.Canonical.{laid, canonical, listed}
@@ -65,6 +65,18 @@ expr_by u = Or (And (Plainly (Alone u)) NoNeg) NoConj
 
 abbrev name : List ℕ → Expr
 name x = expr_of (Positive (Name x))
+
+-- a finish whose fault is handled; the line of the handler has no label
+abbrev rescued : Program
+rescued =
+    let body = Then (Fault (number 1)) End in
+    let handler = Then (Print (name n) []) End in
+    program_of (main_of [] (Then (Rescue body n handler) (Then (Print (number 9) []) End)))
+
+pub rescued_listed : listed rescued
+    ≡ codes "      main {\n    1   finish {\n    2     fault 1;\n        } rescue n {\n    3     print n;\n        }\n    4   print 9;\n      }\n"
+unfolding digits laid spelling procedures_then main_tokens arrays_then stmt_then expr_then more_then
+rescued_listed = refl
 
 -- a section's length less n, in parentheses, twice
 abbrev twice : Expr

@@ -13,7 +13,7 @@ use Rattle.std.proofs.lemmas.List.Folds.{list_all-append}
 use Rattle.std.proofs.lemmas.Fmt.{decimal_is_IsNumeral}
 use Rattle.std.proofs.lemmas.Str.Parse.{digit_from_value}
 use Rattle.syntax.specs.declared.token.Word.{Word}
-use Rattle.syntax.specs.declared.token.Word.TheVariants.{Else as WordElse, Len as WordLen}
+use Rattle.syntax.specs.declared.token.Word.TheVariants.{Else as WordElse, Len as WordLen, Rescue as WordRescue}
 use Rattle.syntax.specs.declared.token.Mark.{Mark}
 use Rattle.syntax.specs.declared.token.Mark.TheVariants.{LeftParen, RightParen, LeftBrace, RightBrace, LeftBracket}
 use Rattle.syntax.specs.declared.token.Mark.TheVariants.{RightBracket, Comma, Semicolon, Minus}
@@ -150,6 +150,7 @@ word_laid_is_neither : (d : ℕ) (n : Option ℕ) (w : Word) (ts : List Token)
     → IsNeither (laid (record { depth = d; label = n; left = Ended }) (WordToken w ∷ ts))
 unfolding laid
 word_laid_is_neither d n WordElse ts = (refl, refl)
+word_laid_is_neither d n WordRescue ts = (refl, refl)
 word_laid_is_neither d n _ ts = (refl, refl)
 
 laid_is_neither : (d : ℕ) (n : Option ℕ) (left : Left) (ts : List Token) → IsQuiet left

@@ -13,7 +13,7 @@ use Rattle.syntax_tree.specs.declared.tree.ElementType.TheVariants.{Int as IntEl
 use Rattle.syntax_tree.specs.declared.tree.Parameter.{Parameter as rParameter}
 use Rattle.syntax.specs.declared.token.Word.TheVariants.{Array as WordArray, As as WordAs, At as WordAt, By as WordBy, Parts as WordParts}
 use Rattle.syntax.specs.declared.token.Word.TheVariants.{Else as WordElse, Main as WordMain, Print as WordPrint, Proc as WordProc}
-use Rattle.syntax.specs.declared.token.Word.TheVariants.{Split as WordSplit}
+use Rattle.syntax.specs.declared.token.Word.TheVariants.{Rescue as WordRescue, Split as WordSplit}
 use Rattle.syntax.specs.declared.token.Mark.TheVariants.{LeftParen, RightParen, LeftBrace, RightBrace, LeftBracket}
 use Rattle.syntax.specs.declared.token.Mark.TheVariants.{RightBracket, Comma, Semicolon, Colon, Becomes}
 use Rattle.syntax.specs.Canonical.{Place, laid, in_line, indent}
@@ -25,7 +25,7 @@ use Rattle.syntax.specs.Spelling.{expr_then, more_then, exprs_then, stmt_then, b
 use Rattle.syntax.specs.Spelling.{parameters_then, more_parameters_then, procedures_then, main_tokens, element_word}
 use Rattle.syntax.specs.Token.{Token, NameToken, NumberToken, WordToken, MarkToken}
 use Rattle.syntax_tree.specs.Tree.{Expr, Stmt, Skip, Var, Assign, Store, Print, Fault, If, IfElse, While, Split, Parts, Call, Async}
-use Rattle.syntax_tree.specs.Tree.{Finish, Block, End, Then, Array, Parameter, Written, Read, Scalar, Procedure, Main}
+use Rattle.syntax_tree.specs.Tree.{Finish, Rescue, Block, End, Then, Array, Parameter, Written, Read, Scalar, Procedure, Main}
 use Rattle.syntax_tree.specs.Tree.{parameter}
 use Rattle.syntax.specs.Writing.{place, with_rest, Adds, IsCounted}
 use Rattle.syntax.proofs.LaidLemmas.{at_left, line, Follows, append_joined, append_apart, append_under, before_nil}
@@ -88,6 +88,7 @@ stmt_begins d n (Parts s e x i b) r = refl
 stmt_begins d n (Call f es) r = refl
 stmt_begins d n (Async b) r = refl
 stmt_begins d n (Finish b) r = refl
+stmt_begins d n (Rescue b x c) r = refl
 
 -- what follows the end of a line starts a line
 abbrev pub BeginsLine : List Token → Type 0
@@ -110,6 +111,7 @@ stmt_is_line (Parts s e x i b) r d n = refl
 stmt_is_line (Call f es) r d n = refl
 stmt_is_line (Async b) r d n = refl
 stmt_is_line (Finish b) r d n = refl
+stmt_is_line (Rescue b x c) r d n = refl
 
 pub block_is_line : (b : Block) (r : List Token) → BeginsLine (block_then b r)
 unfolding laid block_then
@@ -179,6 +181,19 @@ pub laid_Finish : (at : Place) (b : Block) (r : List Token) → laid (at_left at
     ≡ codes "finish" ++ laid (at_left at Other) (MarkToken LeftBrace ∷ block_then b r)
 unfolding laid stmt_then
 laid_Finish at b r = refl
+
+pub laid_Rescue : (at : Place) (b : Block) (x : List ℕ) (c : Block) (r : List Token)
+    → laid (at_left at Opening) (stmt_then (Rescue b x c) r)
+    ≡ codes "finish" ++ laid (at_left at Other) (MarkToken LeftBrace ∷ block_then b
+    (WordToken WordRescue ∷ NameToken x ∷ MarkToken LeftBrace ∷ block_then c r))
+unfolding laid stmt_then
+laid_Rescue at b x c r = refl
+
+pub laid_handler : (at : Place) (x : List ℕ) (ts : List Token)
+    → laid (at_left at Ended) (WordToken WordRescue ∷ NameToken x ∷ MarkToken LeftBrace ∷ ts)
+    ≡ (codes " rescue " ++ x) ++ laid (at_left at Other) (MarkToken LeftBrace ∷ ts)
+unfolding laid
+laid_handler at x ts = refl
 
 -- an expression and what follows it, after a word
 pub expr_behind : (at : Place) (e : Expr) (r q : List Token) (z : List ℕ) → Follows at r → Follows line q → laid (at_left at Operand) r

@@ -6,10 +6,10 @@ use Rattle.syntax_tree.specs.declared.tree.Expr.{Expr as rExpr}
 use Rattle.syntax_tree.specs.declared.tree.Stmt.{Stmt as rStmt, Skip as rSkip, Var as rVar, Assign as rAssign, Store as rStore}
 use Rattle.syntax_tree.specs.declared.tree.Stmt.{Print as rPrint, Fault as rFault, Call as rCall}
 use Rattle.syntax_tree.specs.declared.tree.Stmt.TheVariants.{If as rIf, While as rWhile, Split as rSplit, Parts as rParts}
-use Rattle.syntax_tree.specs.declared.tree.Stmt.TheVariants.{Async as rAsync, Finish as rFinish}
+use Rattle.syntax_tree.specs.declared.tree.Stmt.TheVariants.{Async as rAsync, Finish as rFinish, Rescue as rRescue}
 use Rattle.syntax_tree.specs.Tree.{Skip, Var, Assign, Store, Print, Fault, Call, expr, exprs, stmt}
 use Rattle.syntax.specs.Writing.{is_simple}
-use Rattle.syntax_tree.proofs.RowLemmas.{stmt_If, stmt_IfElse, stmt_While, stmt_Split, stmt_Parts, stmt_Async, stmt_Finish}
+use Rattle.syntax_tree.proofs.RowLemmas.{stmt_If, stmt_IfElse, stmt_While, stmt_Split, stmt_Parts, stmt_Async, stmt_Finish, stmt_Rescue}
 
 pub stmt_Skip : stmt rSkip ≡ Skip
 unfolding stmt
@@ -70,7 +70,9 @@ pub is_simple-false : (s : rStmt)
     ⊎ (((e : rExpr) × (v : Vec rStmt Global) × (s ≡ rWhile e v))
     ⊎ (((x : String Global) × (e : rExpr) × (y : String Global) × (z : String Global) × (v : Vec rStmt Global) × (s ≡ rSplit x e y z v))
     ⊎ (((x : String Global) × (e : rExpr) × (y : String Global) × (z : String Global) × (v : Vec rStmt Global) × (s ≡ rParts x e y z v))
-    ⊎ (((v : Vec rStmt Global) × (s ≡ rAsync v)) ⊎ ((v : Vec rStmt Global) × (s ≡ rFinish v))))))
+    ⊎ (((v : Vec rStmt Global) × (s ≡ rAsync v))
+    ⊎ (((v : Vec rStmt Global) × (s ≡ rFinish v))
+    ⊎ ((v : Vec rStmt Global) × (x : String Global) × (w : Vec rStmt Global) × (s ≡ rRescue v x w)))))))
     → is_simple (stmt s) ≡ false
 is_simple-false s (inl (e, v, o, is)) = ap (λ t. is_simple (stmt t)) is ∙ conditional_is_not_simple e v o
 is_simple-false s (inr (inl (e, v, is))) = ap (λ t. is_simple (stmt t)) is ∙ ap is_simple (stmt_While e v)
@@ -78,4 +80,5 @@ is_simple-false s (inr (inr (inl (x, e, y, z, v, is)))) = ap (λ t. is_simple (s
 is_simple-false s (inr (inr (inr (inl (x, e, y, z, v, is))))) =
     ap (λ t. is_simple (stmt t)) is ∙ ap is_simple (stmt_Parts x e y z v)
 is_simple-false s (inr (inr (inr (inr (inl (v, is)))))) = ap (λ t. is_simple (stmt t)) is ∙ ap is_simple (stmt_Async v)
-is_simple-false s (inr (inr (inr (inr (inr (v, is)))))) = ap (λ t. is_simple (stmt t)) is ∙ ap is_simple (stmt_Finish v)
+is_simple-false s (inr (inr (inr (inr (inr (inl (v, is))))))) = ap (λ t. is_simple (stmt t)) is ∙ ap is_simple (stmt_Finish v)
+is_simple-false s (inr (inr (inr (inr (inr (inr (v, x, w, is))))))) = ap (λ t. is_simple (stmt t)) is ∙ ap is_simple (stmt_Rescue v x w)

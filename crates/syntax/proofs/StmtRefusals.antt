@@ -6,13 +6,13 @@ use Rattle.syntax.specs.declared.cursor.Stuck.{Stuck}
 use Rattle.syntax.specs.declared.token.Word.{Word}
 use Rattle.syntax.specs.declared.token.Word.TheVariants.{As as WordAs, Async as WordAsync, At as WordAt, By as WordBy, Parts as WordParts}
 use Rattle.syntax.specs.declared.token.Word.TheVariants.{Else as WordElse, Fault as WordFault, Finish as WordFinish}
-use Rattle.syntax.specs.declared.token.Word.TheVariants.{If as WordIf, Print as WordPrint, Skip as WordSkip}
+use Rattle.syntax.specs.declared.token.Word.TheVariants.{If as WordIf, Print as WordPrint, Rescue as WordRescue, Skip as WordSkip}
 use Rattle.syntax.specs.declared.token.Word.TheVariants.{Split as WordSplit, Var as WordVar, While as WordWhile}
 use Rattle.syntax.specs.declared.token.Mark.TheVariants.{LeftParen, RightParen, LeftBrace, RightBrace, LeftBracket}
 use Rattle.syntax.specs.declared.token.Mark.TheVariants.{RightBracket, Comma, Semicolon, Becomes}
 use Rattle.syntax.specs.Token.{Token, NameToken, WordToken, MarkToken}
 use Rattle.syntax_tree.specs.Tree.{Expr, Stmt, Skip, Var, Assign, Store, Print, Fault, If, IfElse, While, Split, Parts, Call, Async}
-use Rattle.syntax_tree.specs.Tree.{Finish, Block, End, Then}
+use Rattle.syntax_tree.specs.Tree.{Finish, Rescue, Block, End, Then}
 use Rattle.syntax.specs.Spelling.{expr_then, more_then, exprs_then, stmt_then, block_then}
 use Rattle.syntax.specs.Reading.{binds, list_level, or_level, else_level, IsRead, IsReadClosed, Refuses, RefusesClosed}
 use Rattle.syntax.proofs.ChainLemmas.{behind}
@@ -141,10 +141,30 @@ unfolding stmt_then
 async_opened (Async b) ts r same = (b, same_rest same)
 async_opened _ ts r same = absurd (eqb-false _ _ refl (ap kind same))
 
-pub finish_opened : OpensBlock WordFinish
+-- a `finish`, up to where its `rescue` can come
+pub record Finishing (ts r : List Token) : Type 0 where
+  pub body : Block
+  pub after : List Token
+  pub spelled : ts ≡ braced body after
+  pub handler : (after ≡ r) ⊎ ((x : List ℕ) × (c : Block) × (after ≡ WordToken WordRescue ∷ NameToken x ∷ braced c r))
+
+pub finish_opened : (s : Stmt) (ts r : List Token) → WordToken WordFinish ∷ ts ≡ stmt_then s r → Finishing ts r
 unfolding stmt_then
-finish_opened (Finish b) ts r same = (b, same_rest same)
+finish_opened (Finish b) ts r same = record { body = b; after = r; spelled = same_rest same; handler = inl refl }
+finish_opened (Rescue b x c) ts r same = record { body = b; after = _; spelled = same_rest same; handler = inr (x, c, refl) }
 finish_opened _ ts r same = absurd (eqb-false _ _ refl (ap kind same))
+
+pub finish_alone : {ts r : List Token} (f : Finishing ts r) (left : List Token)
+    → ((rest : List Token) → left ≢ WordToken WordRescue ∷ rest) → left ≡ f.after → left ≡ r
+finish_alone f left none same = elim f.handler [ inl e ↦ same ∙ e | inr w ↦ absurd (none _ (same ∙ w.2)) ]
+
+pub finish_rescued : {ts r : List Token} (f : Finishing ts r) (left : List Token) → binds r < else_level
+    → WordToken WordRescue ∷ left ≡ f.after → (x : List ℕ) × (c : Block) × (left ≡ NameToken x ∷ braced c r)
+finish_rescued f left ends same =
+    elim f.handler [
+      | inl e ↦ absurd (omega (arith, ends, ap binds (same ∙ e)))
+      | inr w ↦ (w.0, w.1, same_rest (same ∙ w.2))
+    ]
 
 -- a word was read, and a block after it
 pub block_read : {tokens after left : List Token} {first word : Word} {b : Block} {s : Stmt}
@@ -243,6 +263,7 @@ no_statement ts word name (Parts x e y z b) r same = word _ _ same
 no_statement ts word name (Call f es) r same = name _ _ same
 no_statement ts word name (Async b) r same = word _ _ same
 no_statement ts word name (Finish b) r same = word _ _ same
+no_statement ts word name (Rescue b x c) r same = word _ _ same
 
 -- a word comes first that no statement starts with
 pub record BeginsNoStatement (ts : List Token) : Type 0 where
@@ -273,6 +294,7 @@ no_simple ts none (Split x e y z b) r same = none.is_split (cc (none.first))
 no_simple ts none (Parts x e y z b) r same = none.is_parts (cc (none.first))
 no_simple ts none (Async b) r same = none.is_async (cc (none.first))
 no_simple ts none (Finish b) r same = none.is_finish (cc (none.first))
+no_simple ts none (Rescue b x c) r same = none.is_finish (cc (none.first))
 no_simple ts none _ r same = cc (none.first)
 
 pub exprs_closed : (es : List Expr) (ts r : List Token) → MarkToken RightParen ∷ ts ≡ exprs_then es (MarkToken RightParen ∷ r) → ts ≡ r

@@ -1,17 +1,17 @@
--- No two statements, and no two blocks, have the same spelling if no `else` follows them.
+-- No two statements, and no two blocks, have the same spelling if no `else` or `rescue` follows them.
 use Rattle.std.proofs.Common.{◌≡◌, ◌≢◌, ◌<◌, ℕ, List, [], ◌∷◌, refl, ap, sym, arith}
 use Rattle.std.proofs.lemmas.Bool.{eqb-false}
 use Rattle.syntax.specs.declared.token.Word.{Word}
 use Rattle.syntax.specs.declared.token.Word.TheVariants.{As as WordAs, Async as WordAsync, Else as WordElse, Parts as WordParts}
 use Rattle.syntax.specs.declared.token.Word.TheVariants.{Fault as WordFault, Finish as WordFinish, If as WordIf}
-use Rattle.syntax.specs.declared.token.Word.TheVariants.{Print as WordPrint, Skip as WordSkip, Split as WordSplit}
+use Rattle.syntax.specs.declared.token.Word.TheVariants.{Print as WordPrint, Rescue as WordRescue, Skip as WordSkip, Split as WordSplit}
 use Rattle.syntax.specs.declared.token.Word.TheVariants.{Var as WordVar, While as WordWhile}
 use Rattle.syntax.specs.declared.token.Mark.{Mark}
 use Rattle.syntax.specs.declared.token.Mark.TheVariants.{LeftParen, RightParen, LeftBrace, RightBrace, LeftBracket}
 use Rattle.syntax.specs.declared.token.Mark.TheVariants.{RightBracket, Comma, Semicolon, Becomes}
 use Rattle.syntax.specs.Token.{Token, NameToken, WordToken, MarkToken}
 use Rattle.syntax_tree.specs.Tree.{Expr, Stmt, Skip, Var, Assign, Store, Print, Fault, If, IfElse, While, Split, Parts, Call, Async}
-use Rattle.syntax_tree.specs.Tree.{Finish, Block, End, Then}
+use Rattle.syntax_tree.specs.Tree.{Finish, Rescue, Block, End, Then}
 use Rattle.syntax.specs.Spelling.{expr_then, more_then, exprs_then, stmt_then, block_then}
 use Rattle.syntax.specs.Reading.{binds, mark_binds, list_level, or_level, else_level}
 use Rattle.syntax.proofs.ExprSpellings.{begins, expr_begins, expr_one}
@@ -167,6 +167,21 @@ mutual
       let body = block_one b c r s (cc) in (ap Async body.0, body.1)
   stmt_one (Finish b) (Finish c) r s ends other same =
       let body = block_one b c r s (cc) in (ap Finish body.0, body.1)
+  stmt_one (Finish b) (Rescue c y d) r s ends other same =
+      let behind = WordToken WordRescue ∷ NameToken y ∷ MarkToken LeftBrace ∷ block_then d s in
+      let body = block_one b c r behind (cc) in
+      absurd (omega (arith, ends, ap binds body.1))
+  stmt_one (Rescue b x d) (Finish c) r s ends other same =
+      let behind = WordToken WordRescue ∷ NameToken x ∷ MarkToken LeftBrace ∷ block_then d r in
+      let body = block_one b c behind s (cc) in
+      absurd (omega (arith, other, ap binds body.1))
+  stmt_one (Rescue b x d) (Rescue c y g) r s ends other same =
+      let one = WordToken WordRescue ∷ NameToken x ∷ MarkToken LeftBrace ∷ block_then d r in
+      let two = WordToken WordRescue ∷ NameToken y ∷ MarkToken LeftBrace ∷ block_then g s in
+      let body = block_one b c one two (cc) in
+      let word = body.1 in
+      let handler = block_one d g r s (cc) in
+      (cc (body.0, handler.0), handler.1)
   stmt_one _ _ r s ends other same = absurd (eqb-false _ _ refl (ap kind same))
 
   pub block_one : (x y : Block) (r s : List Token) → block_then x r ≡ block_then y s → (x ≡ y) × (r ≡ s)

@@ -9,7 +9,7 @@ use Rattle.syntax.specs.declared.token.Left.TheVariants.{Margin, Opening, Called
 use Rattle.syntax.specs.declared.token.Word.TheVariants.{Array as WordArray, Byte as WordByte}
 use Rattle.syntax.specs.declared.token.Word.TheVariants.{Else as WordElse, False as WordFalse, Int as WordInt}
 use Rattle.syntax.specs.declared.token.Word.TheVariants.{Len as WordLen, Main as WordMain, Proc as WordProc}
-use Rattle.syntax.specs.declared.token.Word.TheVariants.{True as WordTrue}
+use Rattle.syntax.specs.declared.token.Word.TheVariants.{Rescue as WordRescue, True as WordTrue}
 use Rattle.syntax.specs.declared.token.Mark.{Mark}
 use Rattle.syntax.specs.declared.token.Mark.TheVariants.{LeftParen, RightParen, LeftBrace, RightBrace}
 use Rattle.syntax.specs.declared.token.Mark.TheVariants.{LeftBracket, RightBracket, Comma, Semicolon, Colon}
@@ -76,14 +76,15 @@ space Opening t = []
 space Called t = if is_closing t || is_opening t then [] else codes " "
 space _ t = if is_closing t then [] else codes " "
 
-abbrev pub is_else : Token → Bool
-is_else (WordToken WordElse) = true
-is_else _ = false
+-- only `else` and `rescue` continue a line that was ended
+abbrev pub continues_line : Token → Bool
+continues_line (WordToken WordElse) = true
+continues_line (WordToken WordRescue) = true
+continues_line _ = false
 
--- only `else` continues a line that was ended
 abbrev pub begins_line : Left → Token → Bool
 begins_line Margin t = true
-begins_line Ended t = not (is_else t)
+begins_line Ended t = not (continues_line t)
 begins_line _ t = false
 
 -- a token that starts a line starts a statement, except for these

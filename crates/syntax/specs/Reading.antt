@@ -6,7 +6,7 @@ use Rattle.syntax.specs.declared.cursor.Stuck.TheVariants.{OutOfMemory}
 use Rattle.syntax.specs.declared.token.Spanned.{Spanned}
 use Rattle.syntax.specs.declared.token.Word.{Word}
 use Rattle.syntax.specs.declared.token.Word.TheVariants.{And as WordAnd, Array as WordArray, Else as WordElse}
-use Rattle.syntax.specs.declared.token.Word.TheVariants.{Or as WordOr, Proc as WordProc}
+use Rattle.syntax.specs.declared.token.Word.TheVariants.{Or as WordOr, Proc as WordProc, Rescue as WordRescue}
 use Rattle.syntax.specs.declared.token.Mark.{Mark}
 use Rattle.syntax.specs.declared.token.Mark.TheVariants.{LeftBracket, Comma, Plus, Minus, Star}
 use Rattle.syntax.specs.declared.token.Mark.TheVariants.{Slash, Percent, Less}
@@ -52,7 +52,7 @@ operator_level = 6
 abbrev pub bracket_level : ℕ
 bracket_level = 7
 
--- `else`
+-- `else`, `rescue`
 abbrev pub else_level : ℕ
 else_level = 8
 
@@ -63,6 +63,7 @@ word_binds WordProc = list_level
 word_binds WordOr = or_level
 word_binds WordAnd = and_level
 word_binds WordElse = else_level
+word_binds WordRescue = else_level
 word_binds _ = 0
 
 -- how tightly a mark binds to what comes before it

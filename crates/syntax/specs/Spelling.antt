@@ -19,9 +19,9 @@ use Rattle.syntax.specs.declared.token.Word.TheVariants.{Fault as WordFault, Fin
 use Rattle.syntax.specs.declared.token.Word.TheVariants.{If as WordIf, Int as WordInt, Len as WordLen}
 use Rattle.syntax.specs.declared.token.Word.TheVariants.{Main as WordMain, Mut as WordMut, Not as WordNot}
 use Rattle.syntax.specs.declared.token.Word.TheVariants.{Or as WordOr, Print as WordPrint, Proc as WordProc}
-use Rattle.syntax.specs.declared.token.Word.TheVariants.{Read as WordRead, Skip as WordSkip}
-use Rattle.syntax.specs.declared.token.Word.TheVariants.{Split as WordSplit, True as WordTrue, Var as WordVar}
-use Rattle.syntax.specs.declared.token.Word.TheVariants.{While as WordWhile}
+use Rattle.syntax.specs.declared.token.Word.TheVariants.{Read as WordRead, Rescue as WordRescue}
+use Rattle.syntax.specs.declared.token.Word.TheVariants.{Skip as WordSkip, Split as WordSplit}
+use Rattle.syntax.specs.declared.token.Word.TheVariants.{True as WordTrue, Var as WordVar, While as WordWhile}
 use Rattle.syntax.specs.declared.token.Mark.{Mark}
 use Rattle.syntax.specs.declared.token.Mark.TheVariants.{LeftParen, RightParen, LeftBrace, RightBrace}
 use Rattle.syntax.specs.declared.token.Mark.TheVariants.{LeftBracket, RightBracket, Comma, Semicolon, Colon}
@@ -33,8 +33,8 @@ use Rattle.syntax_tree.specs.Tree.{Plainly, Not, Cmp, Alone, Compare, Sum, Add, 
 use Rattle.syntax_tree.specs.Tree.{Multiply, Factors, NoFactor, MultiplyFactor, Unary, Positive, Negative}
 use Rattle.syntax_tree.specs.Tree.{Atom, Number, True, False, Name, Element, Length, Parens, Stmt, Skip, Var}
 use Rattle.syntax_tree.specs.Tree.{Assign, Store, Print, Fault, If, IfElse, While, Split, Parts, Call, Async}
-use Rattle.syntax_tree.specs.Tree.{Finish, Block, End, Then, Array, Parameter, Written, Read, Scalar, Procedure}
-use Rattle.syntax_tree.specs.Tree.{Main, Program}
+use Rattle.syntax_tree.specs.Tree.{Finish, Rescue, Block, End, Then, Array, Parameter, Written, Read, Scalar}
+use Rattle.syntax_tree.specs.Tree.{Procedure, Main, Program}
 
 abbrev pub relation_mark : Relation → Mark
 relation_mark IsLess = Less
@@ -168,8 +168,11 @@ unfoldable mutual
       NameToken f ∷ MarkToken LeftParen ∷ exprs_then es (MarkToken RightParen ∷ MarkToken Semicolon ∷ r)
   -- | "async" block
   stmt_then (Async b) r = WordToken WordAsync ∷ MarkToken LeftBrace ∷ block_then b r
-  -- | "finish" block
+  -- | "finish" block [ "rescue" name block ]
   stmt_then (Finish b) r = WordToken WordFinish ∷ MarkToken LeftBrace ∷ block_then b r
+  stmt_then (Rescue b x c) r =
+      WordToken WordFinish ∷ MarkToken LeftBrace
+      ∷ block_then b (WordToken WordRescue ∷ NameToken x ∷ MarkToken LeftBrace ∷ block_then c r)
 
   -- block = "{" { stmt } "}", its first brace before these
   pub block_then : Block → List Token → List Token

@@ -6,7 +6,7 @@ use Rattle.syntax.specs.Canonical.{Place, laid}
 use Rattle.syntax.specs.declared.token.Left.{Left}
 use Rattle.syntax.specs.Token.{Token}
 use Rattle.syntax_tree.specs.Tree.{Stmt, Skip, Var, Assign, Store, Print, Fault, If, IfElse, While, Split}
-use Rattle.syntax_tree.specs.Tree.{Parts, Call, Async, Finish}
+use Rattle.syntax_tree.specs.Tree.{Parts, Call, Async, Finish, Rescue}
 
 -- the state of the writer, with this to the left
 abbrev pub place : Lines → Left → Place
@@ -36,6 +36,7 @@ is_simple (Split s e x y b) = false
 is_simple (Parts s e x i b) = false
 is_simple (Async b) = false
 is_simple (Finish b) = false
+is_simple (Rescue b x c) = false
 is_simple Skip = true
 is_simple (Var x e) = true
 is_simple (Assign x e) = true

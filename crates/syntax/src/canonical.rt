@@ -323,6 +323,11 @@ fn line(statement: &Stmt, lines: &mut Lines) -> Result<(), AllocError>
             lines.text.push_str("finish")?;
             block(body, lines)
         }
+        Stmt::Rescue {
+            body,
+            faults,
+            handler,
+        } => rescue(body, faults, handler, lines),
         Stmt::Skip
         | Stmt::Var { .. }
         | Stmt::Assign { .. }
@@ -360,6 +365,28 @@ fn conditional(
             block(other, lines)
         }
     }
+}
+
+/// Writes a finish with its rescue.
+#[cycle(stmt)]
+fn rescue(
+    body: &Vec<Stmt>,
+    faults: &String,
+    handler: &Vec<Stmt>,
+    lines: &mut Lines,
+) -> Result<(), AllocError>
+    requires { IsCounted lines.old }
+    ensures counted { OnOk result (IsCounted lines.new) }
+    ensures written { OnOk result ((r : List Token)
+        → with_rest lines.old Opening
+        (stmt_then (stmt_tree (Stmt.Rescue body.now faults.now handler.now)) r)
+        ≡ with_rest lines.new Ended r) }
+{
+    lines.text.push_str("finish")?;
+    block(body, lines)?;
+    lines.text.push_str(" rescue ")?;
+    lines.text.push_str(faults.as_str())?;
+    block(handler, lines)
 }
 
 fn header(word: &str, guard: &Expr, lines: &mut Lines) -> Result<(), AllocError>
@@ -456,7 +483,8 @@ fn simple(statement: &Stmt, lines: &mut Lines) -> Result<(), AllocError>
         | Stmt::Split { .. }
         | Stmt::Parts { .. }
         | Stmt::Async { .. }
-        | Stmt::Finish { .. } => Ok(()),
+        | Stmt::Finish { .. }
+        | Stmt::Rescue { .. } => Ok(()),
     }
 }
 

@@ -72,11 +72,7 @@ fn statement(alloc: Global, tokens: &[Spanned]) -> Result<(Stmt, &[Spanned]), St
             let (body, left) = block(alloc, rest)?;
             Ok((Stmt::Async { body }, left))
         }
-        Word::Finish => {
-            // stmt = "finish" block
-            let (body, left) = block(alloc, rest)?;
-            Ok((Stmt::Finish { body }, left))
-        }
+        Word::Finish => finish(alloc, rest),
         _ => simple(alloc, tokens),
     }
 }
@@ -189,6 +185,34 @@ fn parts(alloc: Global, tokens: &[Spanned]) -> Result<(Stmt, &[Spanned]), Stuck>
         },
         rest,
     ))
+}
+
+#[inline(never)]
+#[cycle(stmt)]
+fn finish(alloc: Global, tokens: &[Spanned]) -> Result<(Stmt, &[Spanned]), Stuck>
+    ensures shorter { IfOk result (λ read. length read.1.now < length tokens.now) }
+    ensures read { IfOk result
+        (ReadsAs stmt stmt_then else_level (WordToken Word.Finish ∷ plain tokens.now)) }
+    ensures refused { IfErr result
+        (Refuses stmt_then else_level (WordToken Word.Finish ∷ plain tokens.now)) }
+{
+    // "finish" block [ "rescue" name block ], its first word read
+    let (body, rest) = block(alloc, tokens)?;
+    match cursor::after_word(rest, Word::Rescue) {
+        None => Ok((Stmt::Finish { body }, rest)),
+        Some(after) => {
+            let (faults, rest) = cursor::name(after)?;
+            let (handler, rest) = block(alloc, rest)?;
+            Ok((
+                Stmt::Rescue {
+                    body,
+                    faults,
+                    handler,
+                },
+                rest,
+            ))
+        }
+    }
 }
 
 /// Reads a statement without a block that starts with a word.

@@ -3,8 +3,8 @@ use Rattle.std.proofs.Common.{◌≡◌, Some, None, Bool, Box, Vec, String, Glo
 use Rattle.std.specs.String.{string_bytes}
 use mathlib.Core.Former.{Count}
 use Rattle.syntax_tree.specs.Tree.{Or, And, Add, Terms, Multiply, OrConj, AndNeg, AddTerm, MultiplyFactor, Alone, Compare}
-use Rattle.syntax_tree.specs.Tree.{Then, If, IfElse, While, Split, Parts, Async, Finish, expr, conj, neg, cmp, compared}
-use Rattle.syntax_tree.specs.Tree.{compared_to, sum, term, prod, unary, atom, negated, negative, conjs, row_conjs, negs}
+use Rattle.syntax_tree.specs.Tree.{Then, If, IfElse, While, Split, Parts, Async, Finish, Rescue, expr, conj, neg, cmp}
+use Rattle.syntax_tree.specs.Tree.{compared, compared_to, sum, term, prod, unary, atom, negated, negative, conjs, row_conjs, negs}
 use Rattle.syntax_tree.specs.Tree.{row_negs, terms, row_terms, factors, row_factors, stmt, conditional, block, row_block}
 use Rattle.syntax_tree.specs.declared.tree.Relation.{Relation}
 use Rattle.syntax_tree.specs.declared.tree.Sign.{Sign}
@@ -25,9 +25,9 @@ use Rattle.syntax_tree.specs.declared.tree.Unary.{Unary as rUnary}
 use Rattle.syntax_tree.specs.declared.tree.Stmt.{Stmt as rStmt, Row_of-Stmt, end_of-Stmt, more_of-Stmt, items-the_row-Stmt}
 use Rattle.syntax_tree.specs.declared.tree.Stmt.{items_hidden-the_row-Stmt-0, Some' as some_else, If' as rIf'}
 use Rattle.syntax_tree.specs.declared.tree.Stmt.{While' as rWhile', Split' as rSplit', Parts' as rParts', Async' as rAsync'}
-use Rattle.syntax_tree.specs.declared.tree.Stmt.{Finish' as rFinish'}
+use Rattle.syntax_tree.specs.declared.tree.Stmt.{Finish' as rFinish', Rescue' as rRescue'}
 use Rattle.syntax_tree.specs.declared.tree.Stmt.TheVariants.{If as rIf, While as rWhile, Split as rSplit, Parts as rParts}
-use Rattle.syntax_tree.specs.declared.tree.Stmt.TheVariants.{Async as rAsync, Finish as rFinish}
+use Rattle.syntax_tree.specs.declared.tree.Stmt.TheVariants.{Async as rAsync, Finish as rFinish, Rescue as rRescue}
 
 conjs_are : (n : Count) (row : Row_of-Conj n) → row_conjs row ≡ conjs (items-the_row-Conj n row)
 unfolding row_conjs
@@ -117,10 +117,12 @@ block_in (rSplit' _ _ _ _ _ b) = (_, b)
 block_in (rParts' _ _ _ _ _ b) = (_, b)
 block_in (rAsync' _ b) = (_, b)
 block_in (rFinish' _ b) = (_, b)
+block_in (rRescue' _ b _ _ _) = (_, b)
 block_in _ = (_, end_of-Stmt)
 
 abbrev other_in : rStmt → (n : Count) × Row_of-Stmt n
 other_in (rIf' _ _ _ (some_else _ b)) = (_, b)
+other_in (rRescue' _ _ _ _ c) = (_, c)
 other_in _ = (_, end_of-Stmt)
 
 pub stmt_While : (e : rExpr) (v : Vec rStmt Global) → stmt (rWhile e v) ≡ While (expr e) (block v.items)
@@ -134,6 +136,15 @@ stmt_Async v = let r = block_in (rAsync v) in ap Async (block_is r.0 r.1 ∙ ap 
 pub stmt_Finish : (v : Vec rStmt Global) → stmt (rFinish v) ≡ Finish (block v.items)
 unfolding stmt
 stmt_Finish v = let r = block_in (rFinish v) in ap Finish (block_is r.0 r.1 ∙ ap block (items_hidden-the_row-Stmt-0 v))
+
+pub stmt_Rescue : (v : Vec rStmt Global) (x : String Global) (w : Vec rStmt Global)
+    → stmt (rRescue v x w) ≡ Rescue (block v.items) (string_bytes x) (block w.items)
+unfolding stmt
+stmt_Rescue v x w =
+    let r = block_in (rRescue v x w) in
+    let q = other_in (rRescue v x w) in
+    ap (λ b. Rescue b (string_bytes x) (row_block q.1)) (block_is r.0 r.1 ∙ ap block (items_hidden-the_row-Stmt-0 v))
+    ∙ ap (Rescue (block v.items) (string_bytes x)) (block_is q.0 q.1 ∙ ap block (items_hidden-the_row-Stmt-0 w))
 
 pub stmt_Split : (s : String Global) (e : rExpr) (x y : String Global) (v : Vec rStmt Global)
     → stmt (rSplit s e x y v) ≡ Split (string_bytes s) (expr e) (string_bytes x) (string_bytes y) (block v.items)

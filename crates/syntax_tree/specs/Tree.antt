@@ -30,6 +30,7 @@ use Rattle.syntax_tree.specs.declared.tree.Stmt.{Skip as rSkip, Var as rVar, Ass
 use Rattle.syntax_tree.specs.declared.tree.Stmt.{Store as rStore, Print as rPrint, Fault as rFault}
 use Rattle.syntax_tree.specs.declared.tree.Stmt.{If' as rIf, While' as rWhile, Split' as rSplit}
 use Rattle.syntax_tree.specs.declared.tree.Stmt.{Parts' as rParts, Call as rCall, Async' as rAsync, Finish' as rFinish}
+use Rattle.syntax_tree.specs.declared.tree.Stmt.{Rescue' as rRescue}
 use Rattle.syntax_tree.specs.declared.tree.Array.{Array as rArray}
 use Rattle.syntax_tree.specs.declared.tree.Parameter.{Parameter as rParameter}
 use Rattle.syntax_tree.specs.declared.tree.Parameter.TheVariants.{Written as rWritten, Read as rRead}
@@ -109,6 +110,7 @@ mutual
     Call : List ℕ → List Expr → Stmt
     Async : Block → Stmt
     Finish : Block → Stmt
+    Rescue : (body : Block) → (faults : List ℕ) → (handler : Block) → Stmt
 
   -- a list of statements
   pub data Block : Type 0 where
@@ -243,6 +245,7 @@ unfoldable mutual
   stmt (rCall f es) = Call (string_bytes f) (exprs es.items)
   stmt (rAsync _ b) = Async (row_block b)
   stmt (rFinish _ b) = Finish (row_block b)
+  stmt (rRescue _ b x _ c) = Rescue (row_block b) (string_bytes x) (row_block c)
 
   pub conditional : Expr → Block → Held-Stmt-If-2 → Stmt
   conditional e b no_else = If e b

@@ -121,6 +121,13 @@ pub enum Stmt {
     Finish {
         body: Vec<Stmt>,
     },
+    /// `finish { fault 1; } rescue n { print n; }`: the handler runs if the body has faults, and sees
+    /// their number.
+    Rescue {
+        body: Vec<Stmt>,
+        faults: String,
+        handler: Vec<Stmt>,
+    },
 }
 
 /// `a < 1 or b < 1`: the first operand, and the operands that follow an `or`.

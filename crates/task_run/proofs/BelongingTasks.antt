@@ -6,7 +6,8 @@ use Rattle.std.specs.Prelude.{ℤ, ◌||◌, true, nat_eq}
 use Rattle.std.specs.Cmp.Lexicographic.{pointwise}
 use Rattle.sections.specs.Covers.{has}
 use Rattle.sections.specs.Place.{Place}
-use Rattle.types.specs.Code.{Code, Do, If, While, Split, Parts, Begun, Call, Async, Finish, Codes, End, Then, Program}
+use Rattle.types.specs.Code.{Code, Do, If, While, Split, Parts, Begun, Call, Async, Finish, Rescue, Codes, End, Then}
+use Rattle.types.specs.Code.{Program}
 use Rattle.types.specs.Contents.{FitsArrays}
 use Rattle.types.specs.Outcome.{Budget}
 use Rattle.types.specs.Run.{State}
@@ -23,7 +24,7 @@ use Rattle.race_checker.proofs.Calming.{is_calm}
 use Rattle.race_checker.proofs.Scoping.{is_scoped}
 use Rattle.task_run.specs.OwnRun.{Start, Child, Own, back_from}
 use Rattle.task_run.specs.Given.{given, in_truth, root_of}
-use Rattle.task_run.specs.Frames.{Frame, Rest, Again, Further, AtEnd, Back, Standing, IsGivenChild}
+use Rattle.task_run.specs.Frames.{Frame, Rest, Again, Further, AtEnd, OnFault, Back, Standing, IsGivenChild}
 use Rattle.task_run.specs.Holds.{MayBegin}
 use Rattle.task_run.specs.Lists.{Each}
 use Rattle.task_run.specs.Reached.{Reached, root_begins, child_begins, turns, leaves}
@@ -58,9 +59,11 @@ module _ (p : Program) where
   knows_first (Rest (Then l (Begun s n j q i b) rest) ∷ fs) k = tt
   knows_first (Rest (Then l (Call f es ss) rest) ∷ fs) k = tt
   knows_first (Rest (Then l (Finish b) rest) ∷ fs) k = tt
+  knows_first (Rest (Then l (Rescue b x c) rest) ∷ fs) k = tt
   knows_first (Again l t b ∷ fs) k = tt
   knows_first (Further l s n j q i b ∷ fs) k = tt
   knows_first (AtEnd before ∷ fs) k = tt
+  knows_first (OnFault before x c ∷ fs) k = tt
   knows_first (Back env ∷ fs) k = tt
 
 module _ (p : Program) (needs : Codes → Needs) (scoped : IsScoped p) (calm : IsCalm p) (provided : Provides p needs) (fresh : ℕ)
@@ -134,6 +137,7 @@ module _ (p : Program) (sound : IsSound p) (accepted : IsAccepted p) (input : Li
   first_is_of (Again l t b ∷ fs) k = tt
   first_is_of (Further l s n j q i b ∷ fs) k = tt
   first_is_of (AtEnd before ∷ fs) k = tt
+  first_is_of (OnFault before x c ∷ fs) k = tt
   first_is_of (Back env ∷ fs) k = tt
 
   pub next_is_of : (r : Run) → MayRun p input b r → NextIsOf p r

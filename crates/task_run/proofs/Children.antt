@@ -3,11 +3,13 @@ use Rattle.std.proofs.Common.{◌≡◌, ℕ, zero, suc, List, [], ◌∷◌}
 use Rattle.std.specs.Prelude.{Bool, true, false, Option, if◌then◌else◌}
 use Rattle.sections.specs.Member.{Member, first}
 use Rattle.sections.specs.Place.{has_piece}
-use Rattle.types.specs.Code.{Code, Codes, Do, If, While, Split, Parts, Begun, Call, Async, Finish, End, Then, Program}
+use Rattle.types.specs.Code.{Code, Codes, Do, If, While, Split, Parts, Begun, Call, Async, Finish, Rescue, End, Then}
+use Rattle.types.specs.Code.{Program}
 use Rattle.types.specs.Run.{Flow, On, Faulted, Stopped, State, counted, window_at}
 use Rattle.effects.specs.Needs.{Needs}
 use Rattle.effects.proofs.Members.{in_right}
-use Rattle.task_run.specs.Frames.{Frame, Rest, Again, Further, AtEnd, Back, Standing, acted, by_flow, done_at, done_by, done_in, paid, turn}
+use Rattle.task_run.specs.Frames.{Frame, Rest, Again, Further, AtEnd, OnFault, Back, Standing, acted, by_flow}
+use Rattle.task_run.specs.Frames.{done_at, done_by, done_in, paid, turn}
 use Rattle.task_run.specs.OwnRun.{Action, Child, Own, Spawn, Start, own_rules}
 use Rattle.task_run.specs.Results.{Settled}
 
@@ -40,6 +42,7 @@ module _ (p : Program) (needs : Codes → Needs) (close : State Own → Option S
   by_code zero m l (Begun x j k y z b) fs st e = absurd (let bad : ⊥ = cc in bad)
   by_code zero m l (Call f es ss) fs st e = absurd (let bad : ⊥ = cc in bad)
   by_code zero m l (Finish b) fs st e = absurd (let bad : ⊥ = cc in bad)
+  by_code zero m l (Rescue b x c) fs st e = absurd (let bad : ⊥ = cc in bad)
   by_code (suc n) m l (Do x) fs st e = absurd (let bad : ⊥ = cc in bad)
   by_code (suc n) m l (If t b c) fs st e = absurd (let bad : ⊥ = cc in bad)
   by_code (suc n) m l (While t b) fs st e = absurd (let bad : ⊥ = cc in bad)
@@ -48,6 +51,7 @@ module _ (p : Program) (needs : Codes → Needs) (close : State Own → Option S
   by_code (suc n) m l (Begun x j k y z b) fs st e = absurd (let bad : ⊥ = cc in bad)
   by_code (suc n) m l (Call f es ss) fs st e = absurd (let bad : ⊥ = cc in bad)
   by_code (suc n) m l (Finish b) fs st e = absurd (let bad : ⊥ = cc in bad)
+  by_code (suc n) m l (Rescue b x c) fs st e = absurd (let bad : ⊥ = cc in bad)
 
   by_steps : (n m l : ℕ) (c : Code) (fs : List (Frame Own)) (st : State Own) → Began (done_by needs n m c st)
       → Lists (paid p (own_rules needs n close) m l c fs st).state s
@@ -76,4 +80,5 @@ module _ (p : Program) (needs : Codes → Needs) (close : State Own → Option S
       by true e = on_flow n st.flow l c fs fs st e
       by false e = absurd (none_spawned e)
   turn_lists n (AtEnd before) fs st e = absurd (none_spawned e)
+  turn_lists n (OnFault before x c) fs st e = absurd (none_spawned e)
   turn_lists n (Back env) fs st e = absurd (none_spawned e)

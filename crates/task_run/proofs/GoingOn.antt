@@ -19,7 +19,7 @@ use Rattle.plain_code.specs.Plain.{IsPlain}
 use Rattle.plain_code.proofs.PlainMeaning.{bare_beside, plain_means}
 use Rattle.task_run.specs.Results.{Settled}
 use Rattle.task_run.specs.OwnRun.{Own, Step, notes, own_rules}
-use Rattle.task_run.specs.Frames.{Frame, Rest, Again, Further, AtEnd, Back, Standing, done_in, turn}
+use Rattle.task_run.specs.Frames.{Frame, Rest, Again, Further, AtEnd, OnFault, Back, Standing, done_in, turn}
 use Rattle.task_run.specs.Left.{left_of}
 use Rattle.task_run.specs.Passed.{HasPiece, IsPassed}
 use Rattle.task_run.specs.Quiet.{IsLittle, Quietly, here, further}
@@ -77,6 +77,7 @@ module _ (needs : Codes → Needs) (close : State Own → Option Settled) (old n
   going (Rest b ∷ fs) st h = goes (Rest b) fs st h.0 h.1.1
   going (Again l t b ∷ fs) st h = goes (Again l t b) fs st h.0 h.1.1
   going (Further l s n k q i b ∷ fs) st h = goes (Further l s n k q i b) fs st h.0 h.1.1
+  going (OnFault before x c ∷ fs) st h = goes (OnFault before x c) fs st h.0 h.1.1
   going (Back env ∷ fs) st h = goes (Back env) fs st h.0 h.1.1
 
   -- or a turn that goes over the budget
@@ -88,6 +89,8 @@ module _ (needs : Codes → Needs) (close : State Own → Option Settled) (old n
       goes (Again l t b) fs st h.0 (inl (over_does_nothing needs old.thread.nest (Again l t b) st h.1))
   over (Further l s n k q i b ∷ fs) st h =
       goes (Further l s n k q i b) fs st h.0 (inl (over_does_nothing needs old.thread.nest (Further l s n k q i b) st h.1))
+  over (OnFault before x c ∷ fs) st h =
+      goes (OnFault before x c) fs st h.0 (inl (over_does_nothing needs old.thread.nest (OnFault before x c) st h.1))
   over (Back env ∷ fs) st h = goes (Back env) fs st h.0 (inl (over_does_nothing needs old.thread.nest (Back env) st h.1))
 
 pub goes_turn : (needs : Codes → Needs) (old new : Run) → IsTurn needs old (Going new) → GoesOn needs old new

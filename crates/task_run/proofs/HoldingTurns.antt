@@ -10,7 +10,7 @@ use Rattle.sections.specs.Place.{Window, Place, In, has_piece, nowhere}
 use Rattle.types.specs.Code.{Truth, Code, While, Begun, Async, Codes, End, Then, Array, Program}
 use Rattle.types.specs.Contents.{FitsArrays, also, IsThere}
 use Rattle.types.specs.Value.{Environment}
-use Rattle.types.specs.Run.{Flow, On, Faulted, Stopped, State, Rules, stopped, counted, entry, window_at}
+use Rattle.types.specs.Run.{Flow, On, Faulted, Stopped, State, Rules, stopped, counted, caught, entry, window_at}
 use Rattle.types.specs.Sound.{IsText, IsTextOf}
 use Rattle.types.specs.Outcome.{whole_arrays}
 use Rattle.effects.specs.Accesses.{Access}
@@ -23,7 +23,9 @@ use Rattle.task_run.specs.Results.{TaskResult, Settled, none_yet, complete}
 use Rattle.task_run.specs.OwnRun.{Action, Start, Own, Step, at_first, result_of, back_from, own_rules}
 use Rattle.task_run.specs.OwnRun.{beginning}
 use Rattle.task_run.specs.Given.{filled, root_of, IsOwn}
-use Rattle.task_run.specs.Frames.{Frame, Rest, Again, Further, AtEnd, Back, Standing, paid, by_flow, turn, handed, IsTask}
+use Rattle.task_run.specs.Frames.{Frame, Rest, Again, Further, AtEnd, OnFault, Back, Standing, handled, paid, by_flow}
+use Rattle.task_run.specs.Frames.{turn}
+use Rattle.task_run.specs.Frames.{handed, IsTask}
 use Rattle.task_run.specs.Holds.{having, locked_after, HasText, Remains, Stack, MayBegin, Carries, Returns, Holds, HasOwn, HasNeeds}
 use Rattle.task_run.specs.Settling.{settle, Parted}
 use Rattle.task_run.specs.Lists.{Each}
@@ -216,6 +218,22 @@ module _ (p : Program) (needs : Codes → Needs) (is_scoped : IsScoped p) (is_ca
             (paid_turn_holds st.steps h.stack.0 h.stack.1 l s n j q i b fs st h.texts.0 (before_further l s n j q i b fs st h) left) below
         by false left = below
     turn_holds (AtEnd before) fs st h = h
+    turn_holds (OnFault before x c) fs st h = by st.flow
+      where
+        below : Holds p needs (record { frames = fs; state = st })
+        below = below_holds st.environment.windows h.stack.0 _ fs st h.stack.3 h.texts.1 h.carried h.parted h.returns
+
+        by : (f : Flow) → Holds p needs (handled f before x c fs st)
+        by On = below
+        by Faulted = record {
+          stack = h.stack;
+          texts = h.texts;
+          carried = h.carried;
+          parted = h.parted;
+          returns = returns_move p needs st (caught x before st)
+              (record { there = λ q. inl; owned = λ q. inl; back = λ q. inr; no_more = λ q i. i }) fs h.returns;
+        }
+        by Stopped = below
     turn_holds (Back env) fs st h = record {
       stack = h.stack;
       texts = h.texts.1;

@@ -9,7 +9,7 @@ use Rattle.sections.specs.Place.{Window, Place, In, has_piece, piece_at, sides_o
 use Rattle.types.specs.declared.fault.FaultKind.{FaultKind}
 use Rattle.types.specs.declared.fault.FaultKind.TheVariants.{PieceSize, SplitPoint, Raised}
 use Rattle.types.specs.Code.{Number, Truth, Primitive, Skip, Assign, Store, Print, Raise, Code, Do, If, While, Split}
-use Rattle.types.specs.Code.{Parts, Begun, Call, Async, Finish, Codes, End, Then, Program}
+use Rattle.types.specs.Code.{Parts, Begun, Call, Async, Finish, Rescue, Codes, End, Then, Program}
 use Rattle.types.specs.Contents.{Contents, IsThere, Extends}
 use Rattle.types.specs.Value.{Environment, Valued, element_of, holds_number}
 use Rattle.types.specs.Run.{State, Rules, stopped, fault, with_value, assign, print, put, number_at, numbers_at}
@@ -18,7 +18,7 @@ use Rattle.types.specs.Run.{primitive}
 use Rattle.types.proofs.Keeps.{still_there}
 use Rattle.effects.specs.Accesses.{Access}
 use Rattle.types.specs.Sound.{IsText, IsTextOf, passed_for}
-use Rattle.effects.specs.Effects.{if_body, if_other, while, AllOf, All, PendingOf, Pending, accesses}
+use Rattle.effects.specs.Effects.{if_body, if_other, while, handler, AllOf, All, PendingOf, Pending, accesses}
 use Rattle.effects.specs.Footprint.{Touches, Overwrites, TurnsStillWrite}
 use Rattle.effects.specs.Needs.{Needs, AreNeeds, Provides, ProvidesIn}
 use Rattle.race_checker.specs.Scope.{Scope, Top, Inside, AtPiece, InScope, FitsScope, may_writes, Scoped, IsScoped}
@@ -28,7 +28,8 @@ use Rattle.task_run.specs.Places.{Places, written, touched}
 use Rattle.task_run.specs.Ready.{Around, Ready}
 use Rattle.task_run.specs.Results.{Listed, Settled}
 use Rattle.task_run.specs.OwnRun.{Child, Own, child_of, list_child, begin_own, back_from, own_rules}
-use Rattle.task_run.specs.Frames.{Frame, Rest, Again, Further, AtEnd, Back, Standing, by_value, chosen, acted}
+use Rattle.task_run.specs.Frames.{Frame, Rest, Again, Further, AtEnd, OnFault, Back, Standing, by_value, chosen}
+use Rattle.task_run.specs.Frames.{acted}
 use Rattle.task_run.specs.Holds.{having, locked_after, HasText, Remains, Stack, Carries, Comes, Returns, Holds}
 use Rattle.task_run.specs.Lists.{Each}
 use Rattle.task_run.specs.Settling.{Parted}
@@ -131,6 +132,7 @@ module _ (p : Program) (needs : Codes → Needs) where
   returns_move st to m (Again l t b ∷ gs) h = returns_move st to m gs h
   returns_move st to m (Further l s n j q i b ∷ gs) h = returns_move st to m gs h
   returns_move st to m (AtEnd before ∷ gs) h = (comes_move st to before m h.0, h.1, h.2, h.3)
+  returns_move st to m (OnFault before x b ∷ gs) h = returns_move st to m gs h
   returns_move st to m (Back env ∷ gs) h = returns_move st to m gs h
 
   -- what comes back doesn't depend on the names of sections
@@ -554,6 +556,47 @@ module _ (p : Program) (needs : Codes → Needs) where
           );
         }
 
+    -- the body of a finish that has a handler
+    rescue_holds : (sc : Scope) (env : Environment) (l : ℕ) (b : Codes) (n : ℕ) (c : Codes) (gs : List (Frame Own)) (st : State Own)
+        → IsText b → IsText c → Before sc env l (Rescue b n c) gs st
+        → Holds p needs (record { frames = Rest b ∷ AtEnd st ∷ OnFault st.faults n c ∷ gs; state = r.enter l st })
+    rescue_holds sc env l b n c gs st text handler_text h =
+        let s = Rescue b n c in
+        let here = x sc env l s gs st h in
+        let m = mid sc env l s gs st h in
+        let ready =
+        part_ready p needs here none m l s c handler_text (λ y i. AllOf.inner handler i refl)
+        (λ y i. PendingOf.inner handler i refl) h.ready.scoped.1 h.ready.calm.1 h.ready.provided.1 h.ready in
+        record {
+          stack = (
+            sc,
+            env,
+            remains_alone _ _ _ b text sc env h.known h.ready.fits h.ready.scoped.0 h.ready.calm.0 h.ready.provided.0
+                (λ q t. h.ready.held q (touches_more env _ _ q (λ y i. AllOf.rescued i) t))
+                (λ q t. h.ready.wrote q (overwrites_more env _ _ q (λ y i. AllOf.rescued i) t)),
+            (
+              sc,
+              env,
+              left_of sc env l s gs st h (InScope sc) c (λ z i. i) ready,
+              lower_for sc env l s gs st h env c ready.added ready.turns_added,
+            ),
+          );
+          texts = (text, (tt, (handler_text, h.texts)));
+          carried = tt;
+          parted = tt;
+          returns = (
+            record {
+              there = λ q. inl;
+              owned = λ q. inl;
+              no_more =
+                  λ q i. elim i as (λ _. st.extra.owned q ≡ true) [ inl k ↦ k | inr k ↦ absurd (false_true k) ];
+            },
+            h.carried,
+            h.parted,
+            h.returns,
+          );
+        }
+
     -- after an async
     async_holds : (n : ℕ) (sc : Scope) (env : Environment) (l : ℕ) (b : Codes) (gs : List (Frame Own)) (st : State Own) → IsText b
         → Before sc env l (Async b) gs st
@@ -674,3 +717,4 @@ module _ (p : Program) (needs : Codes → Needs) where
         value_holds sc env l (Call f es ss) gs st h (numbers_at st es) _ (λ vs _. call_holds sc env l f es ss gs st h vs)
     acted_holds (Async b) text sc env l gs st h = async_holds nest sc env l b gs st text h
     acted_holds (Finish b) text sc env l gs st h = finish_holds sc env l b gs st text h
+    acted_holds (Rescue b n c) text sc env l gs st h = rescue_holds sc env l b n c gs st text.0 text.1 h

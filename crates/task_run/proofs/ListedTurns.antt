@@ -4,7 +4,8 @@ use Rattle.std.specs.Prelude.{Bool, true, false, ◌&&◌, ok_or, if◌then◌el
 use Rattle.shared_lemmas.proofs.Truths.{false_true}
 use Rattle.sections.specs.Place.{has_piece, sides_of}
 use Rattle.types.specs.declared.fault.FaultKind.TheVariants.{SplitPoint, PieceSize}
-use Rattle.types.specs.Code.{Code, Do, If, While, Split, Parts, Begun, Call, Async, Finish, Codes, End, Then, Program, Number}
+use Rattle.types.specs.Code.{Code, Do, If, While, Split, Parts, Begun, Call, Async, Finish, Rescue, Codes, End, Then}
+use Rattle.types.specs.Code.{Program, Number}
 use Rattle.types.specs.Code.{Primitive, Truth}
 use Rattle.types.specs.Value.{Valued}
 use Rattle.types.specs.Run.{Flow, On, Faulted, Stopped, State, piece_size, number_at, numbers_at, truth_at, window_at, Rules}
@@ -12,7 +13,9 @@ use Rattle.types.proofs.Keeps.{primitive_keeps}
 use Rattle.effects.specs.Needs.{Needs}
 use Rattle.task_run.specs.Results.{Settled}
 use Rattle.task_run.specs.OwnRun.{Child, Step, Own, notes, own_rules, child_of}
-use Rattle.task_run.specs.Frames.{Frame, Rest, Again, Further, AtEnd, Back, Standing, by_value, chosen, paid, by_flow, turn}
+use Rattle.task_run.specs.Frames.{Frame, Rest, Again, Further, AtEnd, OnFault, Back, Standing, by_value, chosen}
+use Rattle.task_run.specs.Frames.{handled, paid}
+use Rattle.task_run.specs.Frames.{by_flow, turn}
 use Rattle.task_run.specs.Frames.{done_by, done_at, done_in}
 use Rattle.task_run.specs.Stops.{is_over, is_next_over, stops}
 use Rattle.task_run.specs.Worth.{Lists, around, lists, ListsAs}
@@ -28,6 +31,7 @@ over_by needs nest zero s st e = refl
 over_by needs zero (suc n) (Async b) st e = refl
 over_by needs (suc m) (suc n) (Async b) st e = absurd (false_true e)
 over_by needs nest (suc n) (Finish b) st e = absurd (false_true e)
+over_by needs nest (suc n) (Rescue b x c) st e = absurd (false_true e)
 over_by needs nest (suc n) (Do s) st e = absurd (false_true e)
 over_by needs nest (suc n) (If t b c) st e = absurd (false_true e)
 over_by needs nest (suc n) (While t b) st e = absurd (false_true e)
@@ -57,6 +61,7 @@ over_does_nothing needs nest (Further l s n k q i b) st e = by (has_piece (windo
     by true e = over_at needs nest st.flow c st e
     by false e = refl
 over_does_nothing needs nest (AtEnd before) st e = refl
+over_does_nothing needs nest (OnFault before x c) st e = refl
 over_does_nothing needs nest (Back env) st e = refl
 
 module _ (p : Program) (needs : Codes → Needs) (close : State Own → Option Settled) where
@@ -145,4 +150,10 @@ module _ (p : Program) (needs : Codes → Needs) (close : State Own → Option S
       by true = flow_lists nest st.flow l c fs fs st refl
       by false = refl
   turn_lists nest (AtEnd before) fs st = refl
+  turn_lists nest (OnFault before x c) fs st = by st.flow
+    where
+      by : (g : Flow) → lists (handled g before x c fs st) ≡ listing st.extra.pending (around fs)
+      by On = refl
+      by Faulted = refl
+      by Stopped = refl
   turn_lists nest (Back env) fs st = refl

@@ -6,7 +6,8 @@ use Rattle.std.proofs.lemmas.List.{append-nil}
 use Rattle.std.specs.Prelude.{◌⊎◌, Bool, true, false, map, flat_map, ok_or, if◌then◌else◌}
 use Rattle.sections.specs.Place.{has_piece, sides_of}
 use Rattle.types.specs.declared.fault.FaultKind.TheVariants.{SplitPoint, PieceSize}
-use Rattle.types.specs.Code.{Code, Do, If, While, Split, Parts, Begun, Call, Async, Finish, Codes, End, Then, Program}
+use Rattle.types.specs.Code.{Code, Do, If, While, Split, Parts, Begun, Call, Async, Finish, Rescue, Codes, End, Then}
+use Rattle.types.specs.Code.{Program}
 use Rattle.types.specs.Value.{Valued}
 use Rattle.types.specs.Run.{Flow, On, Faulted, Stopped, State, Rules, number_at, numbers_at, truth_at, window_at}
 use Rattle.types.specs.Run.{piece_size, counted}
@@ -17,7 +18,9 @@ use Rattle.race_checker.specs.Calm.{IsCalm}
 use Rattle.task_run.specs.Results.{TaskResult, Settled, none_yet, complete, and_then}
 use Rattle.task_run.specs.OwnRun.{Start, Child, Own, result_of, own_rules}
 use Rattle.task_run.specs.Given.{filled, in_truth, own, given, below, IsOfOwnRun}
-use Rattle.task_run.specs.Frames.{Frame, Rest, Again, Further, AtEnd, Back, Standing, by_value, chosen, acted, paid, by_flow}
+use Rattle.task_run.specs.Frames.{Frame, Rest, Again, Further, AtEnd, OnFault, Back, Standing, by_value, chosen}
+use Rattle.task_run.specs.Frames.{handled}
+use Rattle.task_run.specs.Frames.{acted, paid, by_flow}
 use Rattle.task_run.specs.Frames.{turn, handed, IsBegun, HasBegun, IsTask, IsGivenChild}
 use Rattle.task_run.specs.Holds.{MayBegin, Holds}
 use Rattle.task_run.specs.Reached.{Reached, root_begins, child_begins, turns, leaves, CanSettle, CanEnd}
@@ -29,7 +32,8 @@ use Rattle.task_run.proofs.CompleteResults.{Stands, fill_complete, settle_comple
 use Rattle.task_run.proofs.TaskRuns.{lists_given, each_if_given}
 use Rattle.task_run.proofs.OnePath.{Once, Names, names, From, own_path, all_once, below_once, shuffled_each}
 use Rattle.task_run.proofs.SettledResults.{lists_true}
-use Rattle.task_run.proofs.TasksEnd.{own_ends, each_below, below_parted, weight, Falls, spends, sheds, flow_falls, turn_falls}
+use Rattle.task_run.proofs.TasksEnd.{own_ends, each_below, below_parted, weight, Falls, spends, sheds, flow_falls}
+use Rattle.task_run.proofs.TasksEnd.{handler_falls, turn_falls}
 use Rattle.task_run.proofs.ReachedTasks.{goes}
 
 -- ---- children have different paths, here and at each finish around
@@ -39,6 +43,7 @@ OnceBelow (Rest b ∷ fs) = OnceBelow fs
 OnceBelow (Again l t b ∷ fs) = OnceBelow fs
 OnceBelow (Further l s n k q i b ∷ fs) = OnceBelow fs
 OnceBelow (AtEnd before ∷ fs) = Once before.extra.pending × OnceBelow fs
+OnceBelow (OnFault before x c ∷ fs) = OnceBelow fs
 OnceBelow (Back env ∷ fs) = OnceBelow fs
 
 pub record Distinct (t : Standing Own) : Type 0 where
@@ -93,6 +98,7 @@ module _ (p : Program) (needs : Codes → Needs) (fresh : ℕ) where
     acted_distinct (Call g es ss) l fs st f o b = value_distinct l (numbers_at st es) _ fs st o b (λ vs. both o b)
     acted_distinct (Async c) l fs st f o b = both (((names nest needs (in_truth p needs fresh)).begin l c st).once f o) b
     acted_distinct (Finish c) l fs st f o b = both tt (o, b)
+    acted_distinct (Rescue c x d) l fs st f o b = both tt (o, b)
 
     paid_distinct : (n l : ℕ) (c : Code) (fs : List (Frame Own)) (st : State Own) → HasBegun nest st → Once st.extra.pending → OnceBelow fs
         → Distinct (paid p r n l c fs st)
@@ -122,6 +128,12 @@ module _ (p : Program) (needs : Codes → Needs) (fresh : ℕ) where
         by true = flow_distinct st.flow l (Begun z n k q i c) fs fs st f d.ours d.around d.around
         by false = both d.ours d.around
     turn_distinct (AtEnd before) fs st f d = d
+    turn_distinct (OnFault before x c) fs st f d = by st.flow
+      where
+        by : (g : Flow) → Distinct (handled g before x c fs st)
+        by On = both d.ours d.around
+        by Faulted = both d.ours d.around
+        by Stopped = both d.ours d.around
     turn_distinct (Back env) fs st f d = both d.ours d.around
 
   -- ---- results are own
@@ -279,6 +291,9 @@ module _ (p : Program) (needs : Codes → Needs) (scoped : IsScoped p) (calm : I
       within n (suc w) deeper (Further l z j k q i b ∷ fs) st le lt a =
           after_turn n w deeper (within n w deeper) (Further l z j k q i b) fs st le a
           (turn_falls p needs scoped calm provided fresh root s l z j k q i b fs st w (omega (arith, lt)))
+      within n (suc w) deeper (OnFault before x c ∷ fs) st le lt a =
+          after_turn n w deeper (within n w deeper) (OnFault before x c) fs st le a
+          (handler_falls p needs scoped calm provided fresh root s st.flow before x c fs st w (omega (arith, lt)))
       within n (suc w) deeper (Back env ∷ fs) st le lt a =
           after_turn n w deeper (within n w deeper) (Back env) fs st le a (sheds (le_refl st.steps) (omega (arith, lt)))
       within n (suc w) deeper (AtEnd before ∷ fs) st le lt a =

@@ -5,7 +5,7 @@ use Rattle.std.specs.Prelude.{◌⊎◌, Bool, true, false, ◌&&◌, ◌||◌, 
 use Rattle.std.proofs.lemmas.Bool.{and_parts}
 use Rattle.shared_lemmas.proofs.Truths.{false_true}
 use Rattle.types.specs.Code.{Codes, Program}
-use Rattle.types.specs.Run.{Flow, On, Faulted, Stopped, Fault, State, Rules, Work, Block, at_flow, go_on, run}
+use Rattle.types.specs.Run.{Flow, On, Faulted, Stopped, Fault, State, Rules, Work, Block, run}
 use Rattle.types.specs.Meaning.{after_finish}
 use Rattle.types.proofs.Views.{View, viewed, same_told, Follows, IsView, within_follows}
 use Rattle.effects.specs.Needs.{Needs}
@@ -51,13 +51,14 @@ module _ (p : Program) (needs : Codes → Needs) (fresh : ℕ) where
   flow_is Faulted h (f ∷ fs) = refl
   flow_is Stopped h fs = refl
 
-  stays_lost : (st : State Own) (go : State Own → State Own) → IsLost st → IsLost (go_on go st)
-  stays_lost st go e = by_flow st.flow refl (and_parts (is_stopped st.flow) st.extra.waits e).0
+  -- what waits is stopped
+  lost_stops : (st : State Own) → IsLost st → st.flow ≡ Stopped
+  lost_stops st e = by_flow st.flow (and_parts (is_stopped st.flow) st.extra.waits e).0
     where
-      by_flow : (f : Flow) → st.flow ≡ f → is_stopped st.flow ≡ true → IsLost (at_flow f st go)
-      by_flow On q y = absurd (false_true (sym (ap is_stopped q) ∙ y))
-      by_flow Faulted q y = absurd (false_true (sym (ap is_stopped q) ∙ y))
-      by_flow Stopped q y = e
+      by_flow : (f : Flow) → is_stopped f ≡ true → f ≡ Stopped
+      by_flow On y = absurd (false_true y)
+      by_flow Faulted y = absurd (false_true y)
+      by_flow Stopped y = refl
 
   module _ (nest : ℕ) where
     abbrev r : Rules Own
@@ -97,10 +98,27 @@ module _ (p : Program) (needs : Codes → Needs) (fresh : ℕ) where
       stepped = λ u l st. refl;
       begin = λ l b u st. inr (begin_settled nest b st);
       finish = finish_settled;
-      lost = stays_lost;
+      earlier = earlier_settled;
+      stops = lost_stops;
       lost_moved = λ st env e. e;
     }
       where
+        -- a finish that doesn't wait lists the earlier children again
+        earlier_settled : (u : Unit {0}) (l : ℕ) (go : State Own → State Own) (st : State Own) → let out = r.leave st (go (r.enter l st)) in
+            IsLost out ⊎ ((come out.extra).faults ≡ (come st.extra).faults)
+        earlier_settled u l go st = by_waiting (is_waiting out) refl
+          where
+            out : State Own
+            out = go (r.enter l st)
+
+            left : State Own
+            left = leave_with st (record out { extra = notes EndFinish out.extra }) (in_truth p needs fresh out)
+
+            by_waiting : (b : Bool) → is_waiting out ≡ b
+                → IsLost (if b then out else left) ⊎ ((come (if b then out else left).extra).faults ≡ (come st.extra).faults)
+            by_waiting true w = inl w
+            by_waiting false w = inr refl
+
         finish_settled : (l : ℕ) (go : State Own → State Own) (to : A → A) → Follows settling IsLost go to
             → Follows settling IsLost (λ st. r.leave st (go (r.enter l st))) (λ st. s.leave st (to (s.enter l st)))
         finish_settled l go to h u st = by_body (h u (r.enter l st))

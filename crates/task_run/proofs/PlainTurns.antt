@@ -4,7 +4,8 @@ use Rattle.std.proofs.Common.{◌≡◌, ℕ, zero, suc, ◌<◌, ◌≤◌, Lis
 use Rattle.std.specs.Prelude.{◌+◌, Bool, true, false, map, ok_or, if◌then◌else◌}
 use Rattle.sections.specs.Place.{has_piece, sides_of}
 use Rattle.types.specs.declared.fault.FaultKind.TheVariants.{SplitPoint, PieceSize}
-use Rattle.types.specs.Code.{Code, Do, If, While, Split, Parts, Begun, Call, Async, Finish, Codes, End, Then, Program}
+use Rattle.types.specs.Code.{Code, Do, If, While, Split, Parts, Begun, Call, Async, Finish, Rescue, Codes, End, Then}
+use Rattle.types.specs.Code.{Program}
 use Rattle.types.specs.Value.{Valued}
 use Rattle.types.specs.Run.{Flow, On, Faulted, Stopped, State, Rules, Work, Block, Turn, Pieces, at_flow, go_on, spend, with_step}
 use Rattle.types.specs.Run.{with_value, choose, number_at, numbers_at, truth_at, window_at, entry, with_sides, procedure_of}
@@ -62,6 +63,7 @@ module _ (p : Program) (needs : Codes → Needs) (nest : ℕ) (close : State Own
   little_by (suc n) (suc k) (Call f es ss) i st = inr refl
   little_by n (suc k) (Async b) i st = absurd i
   little_by n (suc k) (Finish b) i st = absurd i
+  little_by n (suc k) (Rescue b x c) i st = absurd i
 
   little_at : (f : Flow) (c : Code) → Inside p c → (st : State Own) → IsLittle (done_at needs nest f c st)
   little_at On c i st = little_by nest st.steps c i st
@@ -184,6 +186,7 @@ module _ (p : Program) (needs : Codes → Needs) (nest : ℕ) (close : State Own
           (quietly_more (deeper (Block body) i (Back st.environment ∷ gs) to lt) (further (inl refl) here)))
       acted_passes (Async b) l i gs st on lt = absurd i
       acted_passes (Finish b) l i gs st on lt = absurd i
+      acted_passes (Rescue b x c) l i gs st on lt = absurd i
 
       block_passes : (b : Codes) → ArePlain p b → (fs : List (Frame Own)) (st : State Own) → st.steps ≤ k
           → Q (at (Rest b ∷ fs) st) (at fs (go_on (m (Block b)) st))

@@ -1,7 +1,8 @@
 -- In a sound and accepted program each reachable task is its own run, and has all that it touches.
 use Rattle.std.proofs.Common.{◌≡◌, ℕ, List, [], ◌∷◌, Some, sym, ap, ◌∙◌, subst}
 use Rattle.sections.specs.Member.{Member, first, next}
-use Rattle.types.specs.Code.{Code, Do, If, While, Split, Parts, Begun, Call, Async, Finish, Codes, End, Then, Program}
+use Rattle.types.specs.Code.{Code, Do, If, While, Split, Parts, Begun, Call, Async, Finish, Rescue, Codes, End, Then}
+use Rattle.types.specs.Code.{Program}
 use Rattle.types.specs.Run.{State}
 use Rattle.effects.specs.Needs.{Needs, Provides}
 use Rattle.race_checker.specs.Scope.{IsScoped}
@@ -9,7 +10,7 @@ use Rattle.race_checker.specs.Calm.{IsCalm}
 use Rattle.task_run.specs.Results.{TaskResult}
 use Rattle.task_run.specs.OwnRun.{Start, Own, result_of}
 use Rattle.task_run.specs.Given.{own, given, in_truth, IsOfOwnRun, IsOwn}
-use Rattle.task_run.specs.Frames.{Frame, Rest, Again, Further, AtEnd, Back, Standing, IsTask, IsGivenChild}
+use Rattle.task_run.specs.Frames.{Frame, Rest, Again, Further, AtEnd, OnFault, Back, Standing, IsTask, IsGivenChild}
 use Rattle.task_run.specs.Holds.{MayBegin, Carries, Holds}
 use Rattle.task_run.specs.Reached.{Reached, root_begins, child_begins, turns, leaves, IsResult, HasNeedsOf, HasNext}
 use Rattle.task_run.specs.Lists.{Each}
@@ -73,6 +74,7 @@ module _ (p : Program) (needs : Codes → Needs) (scoped : IsScoped p) (calm : I
     needs_of_next s (Call f es ss) l rest fs st h = tt
     needs_of_next s (Async b) l rest fs st h = async_has p needs scoped calm provided s.nest (in_truth p needs fresh) l b rest fs st h
     needs_of_next s (Finish b) l rest fs st h = tt
+    needs_of_next s (Rescue b x c) l rest fs st h = tt
 
     next_has : (s : Start) (fs : List (Frame Own)) (st : State Own) → Holds p needs (record { frames = fs; state = st })
         → HasNext needs st fs
@@ -83,6 +85,7 @@ module _ (p : Program) (needs : Codes → Needs) (scoped : IsScoped p) (calm : I
     next_has s (Again l t b ∷ fs) st h = again_has p needs scoped calm provided s.nest (in_truth p needs fresh) l t b fs st h
     next_has s (Further l z n k q i b ∷ fs) st h = tt
     next_has s (AtEnd before ∷ fs) st h = tt
+    next_has s (OnFault before x c ∷ fs) st h = tt
     next_has s (Back env ∷ fs) st h = tt
 
     pub has_next : (s : Start) (t : Standing Own) → Reached p needs fresh root s t → HasNext needs t.state t.frames

@@ -1,18 +1,20 @@
 -- The effect of statements on a run, once their step has been taken.
-use Rattle.std.proofs.Common.{◌≡◌, ◌≢◌, ℕ, zero, suc, ◌+◌, ◌-◌, List, [], ◌∷◌, ◌++◌, Ok, Err, refl, sym, ap, ◌∙◌, subst, inr, arith}
+use Rattle.std.proofs.Common.{◌≡◌, ◌≢◌, ◌⊎◌, ℕ, zero, suc, ◌+◌, ◌-◌, List, [], ◌∷◌, ◌++◌, Ok, Err, refl, sym, ap, ◌∙◌, subst, inl, inr, arith}
 use Rattle.std.specs.Prelude.{ℤ, Bool, true, false, Option, Result, OnOk}
 use Rattle.sections.specs.Place.{Place}
 use Rattle.types.specs.declared.fault.FaultKind.{FaultKind}
-use Rattle.types.specs.Code.{Code, Codes, Number, Truth, Program, Primitive, Skip, Assign, Store, Print, Raise, Do, If, While, Split, Parts, Begun, Call, Async, Finish}
-use Rattle.types.specs.Run.{State, Rules, Flow, On, fault, primitive, number_at, numbers_at, window_at, with_value, put, array_of, counted}
+use Rattle.types.specs.Code.{Code, Codes, Number, Truth, Program, Primitive, Skip, Assign, Store, Print, Raise, Do, If, While, Split, Parts, Begun, Call, Async, Finish, Rescue}
+use Rattle.types.specs.Run.{State, Fault, Rules, Flow, On, fault, primitive, number_at, numbers_at, window_at, with_value, put, array_of}
+use Rattle.types.specs.Run.{counted}
 use Rattle.types.specs.Translation.{program}
 use Rattle.types.specs.Value.{Valued, element_of, holds_number, then_try}
 use Rattle.effects.specs.Needs.{Needs}
-use Rattle.statement_steps.specs.declared.flow.Flow.TheVariants.{On as rOn}
+use Rattle.statement_steps.specs.declared.flow.Flow.{Flow as rFlow}
+use Rattle.statement_steps.specs.declared.flow.Flow.TheVariants.{On as rOn, Stopped as rStopped}
 use Rattle.statement_steps.specs.declared.thread.Thread.{Thread}
 use Rattle.statement_steps.specs.Standing.{KeepsTask, flow as flow_of}
 use Rattle.statement_steps.proofs.Steps.{on_ok_both}
-use Rattle.task_run.specs.Frames.{Frame, Standing, by_flow, by_value, acted, done_at, done_by, paid}
+use Rattle.task_run.specs.Frames.{Frame, Standing, by_flow, by_value, acted, handled, done_at, done_by, paid}
 use Rattle.task_run.specs.OwnRun.{Own, Action, EnterFinish, Spawn, Step, begin_own, child_of, list_child, notes, own_rules}
 use Rattle.task_run.specs.Results.{Settled}
 use Rattle.task_run.specs.RunTurns.{Acts, CanAct, DidAct, DidNext, DoneAs, Going_on, Turns}
@@ -226,6 +228,25 @@ did_Finish needs l b old new acts = λ close. record {
     entered zero st = refl
     entered (suc n) st = refl
 
+-- nor is that of a finish with a handler
+pub did_Rescue : (needs : Codes → Needs) (l x : ℕ) (b d : Codes) (old new : Run) → Acts l (Rescue b x d) old new
+    → DidAct needs l (Rescue b x d) old Entered new
+did_Rescue needs l x b d old new acts = λ close. record {
+  turns = acts needs close;
+  noted = λ y. (refl, entered old.thread.nest (with_own y (state_of old.thread)));
+}
+  where
+    entered : (nest : ℕ) (st : State Own) → done_by needs nest 1 (Rescue b x d) st ≡ EnterFinish ∷ []
+    entered zero st = refl
+    entered (suc n) st = refl
+
+-- ---- behind a finish
+-- the handler isn't next if the task hasn't faulted
+pub unhandled : (f : rFlow) (before : List Fault) (x : ℕ) (c : Codes) (fs : List (Frame Own)) (st : State Own)
+    → (f ≡ rOn) ⊎ (f ≡ rStopped) → handled (flow_of f) before x c fs st ≡ record { frames = fs; state = st }
+unhandled f before x c fs st (inl e) = ap (λ (f : rFlow). handled (flow_of f) before x c fs st) e
+unhandled f before x c fs st (inr e) = ap (λ (f : rFlow). handled (flow_of f) before x c fs st) e
+
 -- the same statement, for equal code
 pub did_same : (needs : Codes → Needs) (l : ℕ) (c k : Code) (old : Run) (d : Done) (new : Run) → c ≡ k → DidAct needs l c old d new
     → DidAct needs l k old d new
@@ -251,6 +272,7 @@ module _ (needs : Codes → Needs) where
   done_any zero n m (Call f es ss) st = refl
   done_any zero n m (Async b) st = refl
   done_any zero n m (Finish b) st = refl
+  done_any zero n m (Rescue b x c) st = refl
   done_any (suc k) n m (Do s) st = refl
   done_any (suc k) n m (If t b c) st = refl
   done_any (suc k) n m (While t b) st = refl
@@ -260,6 +282,7 @@ module _ (needs : Codes → Needs) where
   done_any (suc k) n m (Call f es ss) st = refl
   done_any (suc k) n m (Async b) st = refl
   done_any (suc k) n m (Finish b) st = refl
+  done_any (suc k) n m (Rescue b x c) st = refl
 
   done_more : (nest n m : ℕ) (c : Code) (st : State Own) → m + 1 ≡ n
       → done_by needs nest n c st ≡ done_by needs nest 1 c (record st { steps = m })
@@ -332,6 +355,7 @@ module _ (needs : Codes → Needs) (IsAsync : ℕ → Codes → Type 0) (old : R
   can_on (Call f es ss) h = h
   can_on (Async b) h = (record { there = h.0.there; owned = h.0.owned }, h.1)
   can_on (Finish b) h = h
+  can_on (Rescue b x c) h = h
 
 -- ---- the start of a task, if a nesting level is left
 

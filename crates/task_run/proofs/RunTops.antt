@@ -8,7 +8,7 @@ use Rattle.std.specs.Vec.{with_item}
 use Rattle.types.proofs.Bindings.{element_in}
 use Rattle.sections.specs.Member.{first}
 use Rattle.sections.specs.Place.{Place, In}
-use Rattle.types.specs.Code.{Code, Codes, Then, Number, Program, Primitive, Skip, Assign, Store, Print, Raise, Do, If, While, Split, Parts, Begun, Call, Async, Finish}
+use Rattle.types.specs.Code.{Code, Codes, Then, Number, Program, Primitive, Skip, Assign, Store, Print, Raise, Do, If, While, Split, Parts, Begun, Call, Async, Finish, Rescue}
 use Rattle.types.specs.Run.{State}
 use Rattle.types.specs.Translation.{program}
 use Rattle.effects.specs.Needs.{Needs}
@@ -123,6 +123,7 @@ module _ (needs : Codes → Needs) (IsAsync : ℕ → Codes → Type 0) (r : Run
     known,
   )
   can_first (Finish b) h known = tt
+  can_first (Rescue b x c) h known = tt
 
 -- if the top frame represents a given one
 pub on_frame : (gs hs : List rFrame) (g t : rFrame) (fs : List (Frame Own)) → gs ≡ hs ++ g ∷ [] → g ≡ t → Stacked gs fs

@@ -9,7 +9,7 @@ use Rattle.types.specs.Translation.{program}
 use Rattle.effects.specs.Rounds.{needs_of}
 use Rattle.effects.specs.Sound.{IsSound}
 use Rattle.race_checker.specs.Clash.{IsAccepted}
-use Rattle.task_run.specs.Frames.{Frame, Rest, Again, Further, AtEnd, Back, Standing, done_in, handed, turn}
+use Rattle.task_run.specs.Frames.{Frame, Rest, Again, Further, AtEnd, OnFault, Back, Standing, done_in, handed, turn}
 use Rattle.task_run.specs.Given.{in_truth, root_of, IsOwn}
 use Rattle.task_run.specs.MayRun.{MayRun, MayStart, MayWait, IsRunOf, Stays}
 use Rattle.task_run.specs.OwnRun.{Own, Spawn, Start, own_rules, result_of}
@@ -88,6 +88,7 @@ module _ (p : Program) (input : List (List ℤ)) (b : Budget) (r : Run) where
   by_frames t s (Rest c ∷ fs) st is nest stands h = goes_on t _ s (Rest c) fs st is nest stands h
   by_frames t s (Again l g c ∷ fs) st is nest stands h = goes_on t _ s (Again l g c) fs st is nest stands h
   by_frames t s (Further l z n k q i c ∷ fs) st is nest stands h = goes_on t _ s (Further l z n k q i c) fs st is nest stands h
+  by_frames t s (OnFault before x c ∷ fs) st is nest stands h = goes_on t _ s (OnFault before x c) fs st is nest stands h
   by_frames t s (Back env ∷ fs) st is nest stands h = goes_on t _ s (Back env) fs st is nest stands h
   by_frames (EndsFinish w x) s (AtEnd before ∷ fs) st is nest stands h = (
     record {

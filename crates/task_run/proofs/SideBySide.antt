@@ -4,7 +4,7 @@ use Rattle.std.proofs.Common.{◌≡◌, ℕ, zero, suc, List, [], ◌∷◌, �
 use Rattle.std.proofs.Common.{subst, arith, unwrap_or}
 use Rattle.std.proofs.lemmas.Bool.{or_right}
 use Rattle.std.proofs.lemmas.List.Elements.{Contains-append_left, Contains-append_right}
-use Rattle.std.specs.Prelude.{ℤ, pos, Bool, true, false, ◌||◌, Contains, flat_map, if◌then◌else◌}
+use Rattle.std.specs.Prelude.{ℤ, ◌-◌, pos, length, Bool, true, false, ◌||◌, Contains, flat_map, if◌then◌else◌}
 use Rattle.sections.proofs.Windows.{places_same}
 use Rattle.sections.specs.Place.{Place, In, same_place}
 use Rattle.types.specs.declared.fault.FaultKind.{FaultKind}
@@ -13,7 +13,8 @@ use Rattle.types.specs.Contents.{Contents, read, write}
 use Rattle.types.specs.Value.{Environment, Valued, then_try, number, truth}
 use Rattle.types.specs.Indexed.{indexed, indexed_truth}
 use Rattle.types.specs.Laws.{SameOn}
-use Rattle.types.specs.Run.{Fault, Flow, On, Faulted, Stopped, State, fault, at_flow, go_on, spend, with_step, with_value}
+use Rattle.types.specs.Run.{Fault, Flow, On, Faulted, Stopped, State, fault, at_flow, go_on, spend, with_step}
+use Rattle.types.specs.Run.{with_value, caught, rescued, rescued_by}
 use Rattle.types.specs.Run.{assign, bind, print, put, choose, number_at, numbers_at, truth_at}
 use Rattle.types.proofs.Readings.{number_same, truth_same}
 use Rattle.race_checker.specs.Scope.{InScope, Scope}
@@ -223,3 +224,38 @@ module _ (x : Around) where
         → Same x locked (put l fits q v o) (put l fits q v a)
     put_same l true q v n w = write_same q v n w
     put_same l false q v n w = fault_same locked o a l _ s
+
+  -- ---- the handler of a finish
+  -- both start it
+  caught_same : (locked : Set) (n : ℕ) (o : S) (a : A) (before fs : List Fault) → Same x locked o a → before ≡ fs
+      → Same x locked (caught n before o) (caught n fs a)
+  caught_same locked n o a before fs s e =
+      let number = length o.faults - length before in
+      let same_number : number ≡ length a.faults - length fs = omega (arith, ap length s.faults, ap length e) in
+      let at = assign_same locked o a s n (pos number) in
+      subst (λ k. Same x locked (caught n before o) (record (assign n (pos k) a) { flow = On; faults = fs })) same_number
+      (told locked (assign n (pos number) o) (assign n (pos number) a) refl at.lines e at.steps at)
+
+  stops_rescued : (f : Flow) (n : ℕ) (fs : List Fault) (a : A) (to : A → A) → f ≡ a.flow → Dies to → stops_anywhere a ≡ true
+      → stops_anywhere (rescued_by f n to fs a) ≡ true
+  stops_rescued On n fs a to e d y = y
+  stops_rescued Faulted n fs a to e d y =
+      let c = caught n fs a in
+      or_right (is_stopped (to c).flow) (to c).extra.stopped (d c (subst (λ f. (is_stopped f || a.extra.stopped) ≡ true) (sym e) y))
+  stops_rescued Stopped n fs a to e d y = y
+
+  -- both continue with it if the finish ended with faults
+  pub rescue_same : (locked final : Set) (n : ℕ) (before fs : List Fault) (o : S) (a : A) (go : S → S) (to : A → A) → Dies to
+      → ((q : Place) → locked q → final q) → before ≡ fs → Agree x locked o a
+      → ((u : S) (v : A) → Same x locked u v → Agree x final (go u) (to v))
+      → Agree x final (rescued n go before o) (rescued n to fs a)
+  rescue_same locked final n before fs o a go to d f e (same s) h =
+      subst (λ g. Agree x final (rescued_by g n go before o) (rescued n to fs a)) (sym s.flow) (by_flow a.flow)
+    where
+      by_flow : (g : Flow) → Agree x final (rescued_by g n go before o) (rescued_by g n to fs a)
+      by_flow On = same (widen locked final o a f s)
+      by_flow Faulted = h (caught n before o) (caught n fs a) (caught_same locked n o a before fs s e)
+      by_flow Stopped = same (widen locked final o a f s)
+  rescue_same locked final n before fs o a go to d f e (both_stop y z) h =
+      subst (λ g. Agree x final (rescued_by g n go before o) (rescued n to fs a)) (sym y)
+      (both_stop y (stops_rescued a.flow n fs a to refl d z))

@@ -11,7 +11,7 @@ use Rattle.sections.specs.Place.{Window, Place, In, has_piece, piece_at, sides_o
 use Rattle.sections.specs.Member.{Member, first, next}
 use Rattle.types.specs.declared.fault.FaultKind.TheVariants.{PieceSize, SplitPoint, Raised}
 use Rattle.types.specs.Code.{Number, Truth, Primitive, Skip, Assign, Store, Print, Raise, Code, Do, If, While, Split}
-use Rattle.types.specs.Code.{Parts, Begun, Call, Async, Finish, Codes, End, Then, Program}
+use Rattle.types.specs.Code.{Parts, Begun, Call, Async, Finish, Rescue, Codes, End, Then, Program}
 use Rattle.types.specs.Contents.{Contents}
 use Rattle.types.specs.Value.{Environment, element_of, holds_number}
 use Rattle.types.specs.Indexed.{indexed, indexed_truth}
@@ -20,7 +20,7 @@ use Rattle.types.specs.Run.{with_step, array_of, choose, procedure_of, counted, 
 use Rattle.types.specs.Meaning.{hushed, joined, child, after_async, after_body, after_finish, one_rules_by, begin_one}
 use Rattle.effects.specs.Accesses.{Access, own_accesses}
 use Rattle.types.specs.Sound.{IsText, IsTextOf, passed_for}
-use Rattle.effects.specs.Effects.{past_split, if_body, if_other, while, split, call, AllOf, All}
+use Rattle.effects.specs.Effects.{past_split, if_body, if_other, while, handler, split, call, AllOf, All}
 use Rattle.effects.specs.Effects.{PendingOf, Pending, accesses}
 use Rattle.effects.specs.Footprint.{InTurnToCome, Touches, Overwrites, TurnsTouch, TurnsWrite, TurnsStillWrite}
 use Rattle.effects.specs.Needs.{Needs, ProvidesIn, ProvidesOf, Provides}
@@ -39,7 +39,7 @@ use Rattle.task_run.proofs.AccessNames.{all_alone, pending_alone, named_all, tou
 use Rattle.task_run.proofs.AccessNames.{overwrites_renamed, read_listed, touches_renamed}
 use Rattle.task_run.proofs.SideBySide.{S, A, Set, Same, Agree, same, both_stop, widen, then_same, step_same}
 use Rattle.task_run.proofs.SideBySide.{fault_same, value_same, choose_same, reads_same, stand, Readable, number_alike}
-use Rattle.task_run.proofs.SideBySide.{truth_alike, numbers_alike, assign_same, print_same, put_same}
+use Rattle.task_run.proofs.SideBySide.{truth_alike, numbers_alike, assign_same, print_same, put_same, rescue_same}
 use Rattle.task_run.proofs.StaysStopped.{Marks, dies, within_marks, block_marks, begin_marks}
 use Rattle.task_run.proofs.TurnsToCome.{single, touching, writing, still_writing, turn_earlier, turns_here}
 use Rattle.task_run.proofs.TurnsToCome.{text_turns, code_turns}
@@ -675,6 +675,41 @@ module _ (p : Program) (needs : Codes → Needs) where
       finish_agrees (same h) = finish_same oo.flow refl h
       finish_agrees (both_stop e y) = finish_stops e y
 
+  -- ---- a finish with a handler
+  module _ (x : Around) (locked final : Set) (l : ℕ) (b : Codes) (n : ℕ) (c : Codes)
+      (r : ReadyOf p needs x locked final l (Rescue b n c)) where
+    rescued_all : {y : Access} → AllOf p accesses l (Finish b) y → AllOf p accesses l (Rescue b n c) y
+    rescued_all (AllOf.own_access m) = elim m [ ]
+    rescued_all (AllOf.inner i h e) = elim i [ ]
+    rescued_all (AllOf.finish h) = AllOf.rescued h
+
+    none_pending : {y : Access} → PendingOf p accesses (Finish b) y → ⊥
+    none_pending (PendingOf.inner i h e) = elim i [ ]
+
+    -- up to its handler it is a finish, which leaves nothing else locked
+    pub body_ready : ReadyOf p needs x locked locked l (Finish b)
+    body_ready = record {
+      fits = r.fits;
+      names = λ y m. elim m [ ];
+      scoped = r.scoped.0;
+      calm = r.calm.0;
+      provided = r.provided.0;
+      free = λ q t. r.free q (touches_more x.env _ _ q (λ y h. rescued_all h) t);
+      held = λ q t. r.held q (touches_more x.env _ _ q (λ y h. rescued_all h) t);
+      wrote = λ q t. r.wrote q (overwrites_more x.env _ _ q (λ y h. rescued_all h) t);
+      kept = λ q m. m;
+      added = λ q t. absurd (none_pending t.among);
+      turns_free = λ q t. absurd t;
+      turns_held = λ q t. absurd t;
+      turns_wrote = λ q t. absurd t;
+      turns_added = λ q t. absurd t;
+    }
+
+    pub handler_ready : IsText c → Ready p needs x locked final c
+    handler_ready text =
+        part_ready x locked final l (Rescue b n c) c text (λ y h. AllOf.inner handler h refl)
+        (λ y h. PendingOf.inner handler h refl) r.scoped.1 r.calm.1 r.provided.1 r
+
   -- ---- the two runs, next to each other
   abbrev work_code : Work → Codes
   work_code (Block b) = b
@@ -815,6 +850,15 @@ module _ (p : Program) (needs : Codes → Needs) where
             (block_sim b text (within_finish x locked final l b r o a k) nowhere (Overwrites x.env (Pending p accesses b))
             (finish_ready x locked final l b r o a k text) _ _
             (enter_same x locked final l b r o a k))
+        act_sim (Rescue b n c) l text x locked final r o a k =
+            let ready = body_ready x locked final l b n c r in
+            rescue_same x locked final n o.faults a.faults _ _ (block p r1 d c) (block p r2 e c)
+            (dies _ (block_marks start marks p e e_marks c)) r.kept k.faults
+            (finish_agrees x locked locked l b ready o a k _ _
+            (block_sim b text.0 (within_finish x locked locked l b ready o a k) nowhere (Overwrites x.env (Pending p accesses b))
+            (finish_ready x locked locked l b ready o a k text.0) _ _
+            (enter_same x locked locked l b ready o a k)))
+            (λ u v h. block_sim c text.1 x locked final (handler_ready x locked final l b n c r text.1) u v h)
 
         block_sim : (b : Codes) → IsText b → (x : Around) (locked final : Set) → Ready p needs x locked final b → (o : S) (a : A) → Same x locked o a
             → Agree x final (block p r1 d b o) (block p r2 e b a)

@@ -12,7 +12,7 @@ use Rattle.race_checker.specs.Scope.{Scope, InScope}
 use Rattle.task_run.specs.Places.{Places}
 use Rattle.task_run.specs.Ready.{Ready}
 use Rattle.task_run.specs.OwnRun.{Own}
-use Rattle.task_run.specs.Frames.{Frame, Rest, Again, Further, AtEnd, Back}
+use Rattle.task_run.specs.Frames.{Frame, Rest, Again, Further, AtEnd, OnFault, Back}
 use Rattle.task_run.specs.Holds.{having, locked_after, Stack}
 use Rattle.effects.proofs.Footprints.{overwrites_touch, turns_write_touch}
 
@@ -46,6 +46,12 @@ module _ (p : Program) (needs : Codes → Needs) where
         (λ s i. e s (left.inside s i)) below,
   )
   restack f g limit wide c o locked (AtEnd before ∷ fs) h e k = restack f g limit wide before.store before.extra.owned (λ q. ⊥) fs h e k
+  restack f g limit wide c o locked (OnFault before x b ∷ fs) h e (sc, env, left, below) = (
+    sc,
+    env,
+    record { inside = λ s i. h s (left.inside s i); known = λ s i. e s (left.inside s i) ∙ left.known s i; ready = left.ready },
+    restack f g (InScope sc) (InScope sc) c o (locked_after p needs env locked b) fs (λ s i. i) (λ s i. e s (left.inside s i)) below,
+  )
   restack f g limit wide c o locked (Back env ∷ fs) h e k = k
 
   -- other contents, which have everything that isn't locked, and no more locks
@@ -122,6 +128,17 @@ module _ (p : Program) (needs : Codes → Needs) where
           below,
     )
     anchor f limit locked fewer (AtEnd before ∷ fs) k h = h
+    anchor f limit locked fewer (OnFault before x b ∷ fs) k (sc, env, left, below) = (
+      sc,
+      env,
+      record {
+        inside = left.inside;
+        known = left.known;
+        ready = anchor_ready sc env locked fewer _ b k left.ready;
+      },
+      anchor f (InScope sc) (locked_after p needs env locked b) (locked_after p needs env fewer b) fs
+          (keeps_on locked fewer (λ q. Overwrites env (Pending p accesses b) q ⊎ TurnsStillWrite p env b q) k) below,
+    )
     anchor f limit locked fewer (Back env ∷ fs) k h = anchor env.windows anywhere locked fewer fs k h
 
   -- ---- the same contents, with fewer locks

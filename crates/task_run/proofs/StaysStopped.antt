@@ -33,6 +33,7 @@ module _ (begin : Codes → A → A) (marks : (b : Codes) → Marks (begin b)) w
   view =
       whole_view marking (apart_rules_by begin) (apart_rules_by begin) (λ b n. refl) (λ b l st. refl) (λ l. marks)
       (λ l go to h b st. inr (ap (gather (marked b st)) (surely (h false ((apart_rules_by begin).enter l st)))))
+      (λ b x y. refl)
 
   module _ (p : Program) where
     pub within_marks : (k : ℕ) (w : Work) → Marks (within p (apart_rules_by begin) k w)

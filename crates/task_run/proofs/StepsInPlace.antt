@@ -1,24 +1,27 @@
 -- A step in place is the turn of the frame that was the top one.
-use Rattle.std.proofs.Common.{◌≡◌, ◌+◌, ◌-◌, ◌<◌, List, [], ◌∷◌, ◌++◌, length, take, refl, sym, ap, ◌∙◌, subst, inl, arith}
+use Rattle.std.proofs.Common.{◌≡◌, ◌+◌, ◌-◌, ◌<◌, List, [], ◌∷◌, ◌++◌, length, map, take, refl, sym, ap, ◌∙◌, subst, inl, arith}
 use Rattle.std.proofs.Common.{Global, Vec}
 use Rattle.std.specs.Prelude.{ℕ, Bool, slice_index_or}
+use Rattle.std.proofs.lemmas.List.{length-take-le, take_at}
 use Rattle.std.specs.Borrow.{Bor}
 use Rattle.std.specs.Vec.{with_item}
 use Rattle.types.specs.declared.code.Stmt.{Stmt}
 use Rattle.types.specs.declared.code.Truth.{Truth as rTruth}
+use Rattle.types.specs.declared.fault.Fault.{Fault as rFault}
+use Rattle.types.specs.declared.ids.Slot.{Slot}
 use Rattle.types.specs.declared.value.Environment.{Environment as rEnvironment}
 use Rattle.types.specs.Code.{Codes, End, Then, While}
-use Rattle.types.specs.Translation.{code, codes, environment, program, truth}
+use Rattle.types.specs.Translation.{code, codes, environment, fault, program, truth}
 use Rattle.effects.specs.Needs.{Needs}
 use Rattle.statement_steps.specs.declared.turns.TurnsToCome.{TurnsToCome}
-use Rattle.task_run.specs.Frames.{Frame, Rest, Again, Back, Standing, done_in, turn}
+use Rattle.task_run.specs.Frames.{Frame, Rest, Again, OnFault, Back, Standing, handled, done_in, turn}
 use Rattle.task_run.specs.OwnRun.{Action, Own, own_rules}
 use Rattle.task_run.specs.RunTurns.{DidNext, DidTurn, DoneAs, GoesAs, GoesTo, Going_on, IsTurn, TurnOf, Turns, below_top, taken_off, turn_of}
 use Rattle.task_run.specs.Standings.{Shows, Stacked, further, state_of, with_own}
 use Rattle.task_run.specs.Stops.{stops}
 use Rattle.task_run.specs.declared.frame.TaskFrame.{TaskFrame as rFrame}
 use Rattle.task_run.specs.declared.frame.TaskFrame.TheVariants.{Rest as rRest, Again as rAgain, Turns as rTurns}
-use Rattle.task_run.specs.declared.frame.TaskFrame.TheVariants.{EndCall as rEndCall}
+use Rattle.task_run.specs.declared.frame.TaskFrame.TheVariants.{OnFault as rOnFault, EndCall as rEndCall}
 use Rattle.task_run.specs.declared.run.Run.{Run}
 use Rattle.task_run.specs.declared.turn.Done.{Done}
 use Rattle.task_run.specs.declared.turn.Done.TheVariants.{Gone, Spawned, Entered, Exceeded}
@@ -48,6 +51,12 @@ module _ (v : Vec rFrame Global) (g : rFrame) (some : 0 < length v.items) (read 
   -- another frame replaces it
   pub is_put : (h : rFrame) → (with_item v (v.len - 1) h).items ≡ below ++ h ∷ []
   is_put h = ends_in_set v.items h (v.len - 1) count
+
+  -- without the frame that replaces it
+  pub is_off : (h : rFrame) → take (v.len - 1) (with_item v (v.len - 1) h).items ≡ below
+  is_off h =
+      ap (take (v.len - 1)) (is_put h)
+      ∙ take_at below (h ∷ []) (v.len - 1) (length-take-le (v.len - 1) v.items (let e = v.ok.0 in omega (arith, e, some)))
 
   -- the same frame replaces it
   pub is_kept : with_item v (v.len - 1) g ≡ v
@@ -114,6 +123,23 @@ module _ (needs : Codes → Needs) (old : Run) (hs : List rFrame) where
       (done_in needs old.thread.nest f st) (stops old.thread.nest f st) d new
       (moved popped new below x next.turns (subst (λ (gs : List rFrame). Stacked gs below) (sym is_popped) stacked) shows)
       (next.noted x))
+
+  -- it is the handler of a finish, and was taken off
+  abbrev pub Handles : Vec rFault Global → Slot → Bor (List Stmt) → (old new : Run) → Type 0
+  Handles before x b = Turns (λ fs st. handled st.flow (map fault before.items) x.number (codes b.now) fs st)
+
+  pub handler_is_turn : (before : Vec rFault Global) (x : Slot) (b : Bor (List Stmt)) (popped : Vec rFrame Global) (new : Run)
+      → old.frames.items ≡ hs ++ rOnFault before x b ∷ [] → popped.items ≡ hs
+      → Handles before x b (record old { frames = popped }) new → IsTurn needs old (Going new)
+  handler_is_turn before x b popped new top is_popped turns = λ close fs y shows.
+      let f = OnFault (map fault before.items) x.number (codes b.now) in
+      let st = with_own y (state_of old.thread) in
+      on_this old.frames.items hs (rOnFault before x b) (rOnFault before x b) f fs top refl (λ f shows. shows)
+      shows.frames (λ (fs : List (Frame Own)). TurnOf needs close old fs st (Going new))
+      (λ below stacked. (
+        moved popped new below y turns (subst (λ (gs : List rFrame). Stacked gs below) (sym is_popped) stacked) shows,
+        (refl, inl refl),
+      ))
 
   -- it is a block at its end
   pub end_is_turn : (block : Bor (List Stmt)) (new : Run) → old.frames.items ≡ hs ++ rRest block ∷ [] → block.now ≡ []

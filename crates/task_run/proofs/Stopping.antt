@@ -10,7 +10,7 @@ use Rattle.sections.specs.Covers.{has}
 use Rattle.sections.specs.Place.{Place, has_piece, sides_of}
 use Rattle.types.specs.declared.fault.FaultKind.TheVariants.{SplitPoint, PieceSize}
 use Rattle.types.specs.Code.{Primitive, Skip, Assign, Store, Print, Raise, Code, Do, If, While, Split, Parts, Begun, Call}
-use Rattle.types.specs.Code.{Async, Finish, Codes, End, Then, Program}
+use Rattle.types.specs.Code.{Async, Finish, Rescue, Codes, End, Then, Program}
 use Rattle.types.specs.Value.{Valued, element_of, holds_number}
 use Rattle.types.specs.Run.{Flow, On, Faulted, Stopped, Fault, State, Rules, with_value, put, print, assign}
 use Rattle.types.specs.Run.{primitive, piece_size, number_at, numbers_at, truth_at, window_at, array_of}
@@ -20,8 +20,8 @@ use Rattle.task_run.specs.Places.{Places, meets}
 use Rattle.task_run.specs.Apart.{is_stopped}
 use Rattle.task_run.specs.Results.{Listed, TaskResult, Settled, none_yet, fill, complete}
 use Rattle.task_run.specs.OwnRun.{Own, own_rules, begin_own, result_of}
-use Rattle.task_run.specs.Frames.{Frame, Rest, Again, Further, AtEnd, Back, Standing, by_value, chosen, paid, by_flow, turn}
-use Rattle.task_run.specs.Frames.{handed}
+use Rattle.task_run.specs.Frames.{Frame, Rest, Again, Further, AtEnd, OnFault, Back, Standing, by_value, chosen, paid}
+use Rattle.task_run.specs.Frames.{by_flow, turn, handed, handled}
 use Rattle.task_run.specs.Stops.{is_none, is_over, is_next_over, stops, some_stopped}
 use Rattle.std.specs.Cmp.Lexicographic.{pointwise}
 use Rattle.task_run.specs.Settling.{behind, take, fill_all, settle_within, none_left, settle}
@@ -85,6 +85,7 @@ module _ (p : Program) (needs : Codes → Needs) (nest : ℕ) (close : State Own
   paid_stops (suc n) l (Call f es ss) fs st on = by_value_goes l (numbers_at st es) _ fs _ (λ vs. on)
   paid_stops (suc n) l (Async b) fs st on = begin_stops nest b (record st { steps = n })
   paid_stops (suc n) l (Finish b) fs st on = on
+  paid_stops (suc n) l (Rescue b x c) fs st on = on
 
   flow_stops : (f : Flow) (l : ℕ) (s : Code) (fs below : List (Frame Own)) (st : State Own) → st.flow ≡ f
       → is_stopped (by_flow p r f l s fs below st).state.flow ≡ (is_stopped f || is_next_over nest f st.steps s)
@@ -109,6 +110,12 @@ module _ (p : Program) (needs : Codes → Needs) (nest : ℕ) (close : State Own
       by true = flow_stops st.flow l c fs fs st refl
       by false = sym (or-false (is_stopped st.flow))
   turn_stops (AtEnd before) fs st = sym (or-false (is_stopped st.flow))
+  turn_stops (OnFault before x c) fs st = by st.flow refl
+    where
+      by : (f : Flow) → st.flow ≡ f → is_stopped (handled f before x c fs st).state.flow ≡ (is_stopped f || false)
+      by On e = ap is_stopped e
+      by Faulted e = refl
+      by Stopped e = ap is_stopped e
   turn_stops (Back env) fs st = sym (or-false (is_stopped st.flow))
 
 -- ---- what is gathered

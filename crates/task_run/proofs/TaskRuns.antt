@@ -6,7 +6,8 @@ use Rattle.std.proofs.Common.{arith, append_assoc}
 use Rattle.std.specs.Prelude.{Bool, true, false, slice_get, if◌then◌else◌}
 use Rattle.sections.specs.Place.{has_piece}
 use Rattle.std.proofs.lemmas.Bool.{and_right}
-use Rattle.types.specs.Code.{Code, Do, If, While, Split, Parts, Begun, Call, Async, Finish, Codes, End, Then, Program}
+use Rattle.types.specs.Code.{Code, Do, If, While, Split, Parts, Begun, Call, Async, Finish, Rescue, Codes, End, Then}
+use Rattle.types.specs.Code.{Program}
 use Rattle.types.specs.Run.{Flow, On, Faulted, Stopped, State, Rules, window_at}
 use Rattle.effects.specs.Needs.{Needs}
 use Rattle.task_run.specs.Apart.{is_stopped}
@@ -14,7 +15,8 @@ use Rattle.task_run.specs.Results.{TaskResult, Settled, none_yet, complete, and_
 use Rattle.task_run.specs.OwnRun.{Start, Action, Own, EndFinish, at_first, notes, result_of, leave_with, own_rules}
 use Rattle.task_run.specs.OwnRun.{begun_by, beginning, from_receipts, run_by}
 use Rattle.task_run.specs.Given.{filled, in_truth, own, given, IsOfOwnRun, IsOwn}
-use Rattle.task_run.specs.Frames.{Frame, Rest, Again, Further, AtEnd, Back, Standing, resume, paid, by_flow, turn, handed}
+use Rattle.task_run.specs.Frames.{Frame, Rest, Again, Further, AtEnd, OnFault, Back, Standing, resume, paid, by_flow}
+use Rattle.task_run.specs.Frames.{turn, handed}
 use Rattle.task_run.specs.Frames.{IsBegun, HasBegun, HasBegunBelow, IsGivenChild, IsTask, Follows}
 use Rattle.task_run.specs.Settling.{settle}
 use Rattle.task_run.specs.Lists.{Each}
@@ -130,6 +132,7 @@ module _ (p : Program) (needs : Codes → Needs) (fresh : ℕ) (root : Start) wh
               (λ c. still_begun s.nest st (handed before x st) c refl (EndFinish ∷ []) refl) k.0,
           below_still fs k.1,
         )
+        below_still (OnFault mid y c ∷ fs) k = below_still fs k
         below_still (Back env ∷ fs) k = below_still fs k
 
     -- with results of own runs
@@ -173,6 +176,7 @@ module _ (p : Program) (needs : Codes → Needs) (fresh : ℕ) (root : Start) wh
       paid_alike (suc n) l (Call f es ss) fs st = refl
       paid_alike (suc n) l (Async b) fs st = refl
       paid_alike (suc n) l (Finish b) fs st = refl
+      paid_alike (suc n) l (Rescue b x e) fs st = refl
 
       flow_alike : (f : Flow) (l : ℕ) (t : Code) (fs below : List (Frame Own)) (st : State Own)
           → by_flow p (own_rules needs s.nest c) f l t fs below st ≡ by_flow p (own_rules needs s.nest d) f l t fs below st
@@ -195,6 +199,7 @@ module _ (p : Program) (needs : Codes → Needs) (fresh : ℕ) (root : Start) wh
           by true = flow_alike st.flow l (Begun x n k q i b) fs fs st
           by false = refl
       turn_alike (AtEnd before) fs st = refl
+      turn_alike (OnFault before x e) fs st = refl
       turn_alike (Back env) fs st = refl
 
     pub turns_follow : (taken : List (List TaskResult)) (f : Frame Own) (fs : List (Frame Own)) (st : State Own) → HasBegun s.nest st

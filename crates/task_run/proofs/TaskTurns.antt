@@ -5,18 +5,21 @@ use Rattle.std.proofs.lemmas.List.{append-nil}
 use Rattle.std.specs.Prelude.{Bool, true, false, ◌+◌, map, ok_or, if◌then◌else◌}
 use Rattle.sections.specs.Place.{has_piece, sides_of}
 use Rattle.types.specs.declared.fault.FaultKind.TheVariants.{SplitPoint, PieceSize}
-use Rattle.types.specs.Code.{Code, Do, If, While, Split, Parts, Begun, Call, Async, Finish, Codes, End, Then, Program}
+use Rattle.types.specs.Code.{Code, Do, If, While, Split, Parts, Begun, Call, Async, Finish, Rescue, Codes, End, Then}
+use Rattle.types.specs.Code.{Program}
 use Rattle.types.specs.Value.{Valued}
-use Rattle.types.specs.Run.{Flow, On, Faulted, Stopped, State, Rules, Work, Block, Turn, Pieces, stopped, at_flow, fault}
+use Rattle.types.specs.Run.{Flow, On, Faulted, Stopped, State, Fault, Rules, Work, Block, Turn, Pieces, stopped}
+use Rattle.types.specs.Run.{at_flow, fault}
 use Rattle.types.specs.Run.{number_at, numbers_at, truth_at, window_at, entry, with_sides, in_turn, piece_size, procedure_of}
-use Rattle.types.specs.Run.{primitive, counted, run}
+use Rattle.types.specs.Run.{primitive, counted, run, caught, rescued_by}
 use Rattle.types.specs.Laws.{IsThrifty, IsKept}
 use Rattle.types.proofs.Keeps.{primitive_keeps, counted_keeps}
 use Rattle.effects.specs.Needs.{Needs}
 use Rattle.task_run.specs.Results.{Settled}
 use Rattle.task_run.specs.OwnRun.{Action, Own, EndFinish, notes, is_waiting, begin_own, leave_with, leave_own}
 use Rattle.task_run.specs.OwnRun.{own_rules}
-use Rattle.task_run.specs.Frames.{Frame, Rest, Again, Further, AtEnd, Back, Standing, frame, resume, by_value, chosen, acted}
+use Rattle.task_run.specs.Frames.{Frame, Rest, Again, Further, AtEnd, OnFault, Back, Standing, frame, resume}
+use Rattle.task_run.specs.Frames.{by_value, chosen, acted, handled}
 use Rattle.task_run.specs.Frames.{paid, by_flow, turn, IsBegun, HasBegun, HasBegunBelow}
 use Rattle.types.proofs.Counted.{counted_is}
 use Rattle.task_run.proofs.Lists.{each_more}
@@ -77,11 +80,19 @@ module _ (p : Program) (needs : Codes → Needs) (nest : ℕ) (close : State Own
       by_waiting true = still st
       by_waiting false = ends (close st)
 
+  rescue_grows : (f : Flow) (x : ℕ) (c : Codes) (before : List Fault) (st : State Own)
+      → Grows st (rescued_by f x (run p r (Block c)) before st)
+  rescue_grows On x c before st = still st
+  rescue_grows Faulted x c before st =
+      let g = flow_grows On (Block c) (caught x before st) in record { path = g.path; done = g.done; more = g.more }
+  rescue_grows Stopped x c before st = still st
+
   frame_grows : (f : Frame Own) (st : State Own) → Grows st (frame p r f st)
   frame_grows (Rest b) st = flow_grows st.flow (Block b) st
   frame_grows (Again l t b) st = flow_grows st.flow (Turn l t b) st
   frame_grows (Further l s n k q i b) st = flow_grows st.flow (Pieces l s n k q i b) st
   frame_grows (AtEnd before) st = leave_grows before st
+  frame_grows (OnFault before x c) st = rescue_grows st.flow x c before st
   frame_grows (Back env) st = record { path = refl; done = []; more = sym (append-nil st.extra.actions) }
 
   pub resume_grows : (fs : List (Frame Own)) (st : State Own) → Grows st (resume p r fs st)
@@ -103,6 +114,7 @@ module _ (p : Program) (needs : Codes → Needs) (nest : ℕ) (close : State Own
     each_more (IsBegun nest st) (IsBegun nest to) before.extra.pending (λ c. still_begun nest st to c path done more) h.0,
     below_still st to path done more fs h.1,
   )
+  below_still st to path done more (OnFault before x c ∷ fs) h = below_still st to path done more fs h
   below_still st to path done more (Back env ∷ fs) h = below_still st to path done more fs h
 
   -- it is in configuration t, after a state, above frames
@@ -186,6 +198,9 @@ module _ (p : Program) (needs : Codes → Needs) (nest : ℕ) (close : State Own
   acted_kept (Finish c) l fs st f b =
       kept_by st (r.enter l st) (Rest c ∷ AtEnd st ∷ fs) (record { tells = enter_tells nest needs close l st; waits = refl; ended = refl })
       (f.begun, b)
+  acted_kept (Rescue c x d) l fs st f b =
+      kept_by st (r.enter l st) (Rest c ∷ AtEnd st ∷ OnFault st.faults x d ∷ fs)
+      (record { tells = enter_tells nest needs close l st; waits = refl; ended = refl }) (f.begun, b)
 
   counted_quiet : (l : ℕ) (s : Code) (st : State Own) → Quiet st (counted r l s st)
   counted_quiet l s st = record {
@@ -233,6 +248,12 @@ module _ (p : Program) (needs : Codes → Needs) (nest : ℕ) (close : State Own
           → Kept st (if◌then◌else◌ {A = Standing Own} left (by_flow p r st.flow l (Begun s n k x i c) fs fs st) (record { frames = fs; state = st }))
       by true = flow_kept st.flow l (Begun s n k x i c) fs fs st f b b
       by false = kept_by st st fs (idle st st refl refl refl) b
+  turn_kept (OnFault before x c) fs st f b = by st.flow
+    where
+      by : (g : Flow) → Kept st (handled g before x c fs st)
+      by On = kept_by st st fs (idle st st refl refl refl) b
+      by Faulted = kept_by st (caught x before st) (Rest c ∷ fs) (idle st (caught x before st) refl refl refl) b
+      by Stopped = kept_by st st fs (idle st st refl refl refl) b
   turn_kept (AtEnd before) fs st f b = kept_by st st (AtEnd before ∷ fs) (idle st st refl refl refl) b
   turn_kept (Back env) fs st f b =
       kept_by st (record st { environment = env }) fs (idle st (record st { environment = env }) refl refl refl) b

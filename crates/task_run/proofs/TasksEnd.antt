@@ -6,9 +6,9 @@ use Rattle.std.specs.Prelude.{Bool, true, false, flat_map, ok_or, if◌then◌el
 use Rattle.sections.specs.Place.{has_piece, sides_of}
 use Rattle.types.specs.declared.fault.FaultKind.TheVariants.{SplitPoint, PieceSize}
 use Rattle.types.specs.Code.{Code, Do, If, While, Split, Parts, Begun, Call, Async}
-use Rattle.types.specs.Code.{Finish, Codes, End, Then, Program}
+use Rattle.types.specs.Code.{Finish, Rescue, Codes, End, Then, Program}
 use Rattle.types.specs.Value.{Valued}
-use Rattle.types.specs.Run.{Flow, On, Faulted, Stopped, State, Rules, number_at, numbers_at}
+use Rattle.types.specs.Run.{Flow, On, Faulted, Stopped, State, Fault, Rules, number_at, numbers_at}
 use Rattle.types.specs.Run.{truth_at, window_at, piece_size, counted}
 use Rattle.effects.specs.Needs.{Needs, Provides}
 use Rattle.race_checker.specs.Scope.{IsScoped}
@@ -16,7 +16,8 @@ use Rattle.race_checker.specs.Calm.{IsCalm}
 use Rattle.task_run.specs.Results.{Settled, TaskResult, none_yet, complete}
 use Rattle.task_run.specs.OwnRun.{Start, Child, Own, result_of, begin_own, own_rules}
 use Rattle.task_run.specs.Given.{comes_to, filled, in_truth, own, given, below}
-use Rattle.task_run.specs.Frames.{Frame, Rest, Again, Further, AtEnd, Back, Standing, by_value, chosen, acted, paid, by_flow}
+use Rattle.task_run.specs.Frames.{Frame, Rest, Again, Further, AtEnd, OnFault, Back, Standing, by_value, chosen}
+use Rattle.task_run.specs.Frames.{acted, handled, paid, by_flow}
 use Rattle.task_run.specs.Frames.{turn, handed, IsTask, IsGivenChild}
 use Rattle.task_run.specs.Holds.{MayBegin, Carries, Holds}
 use Rattle.task_run.specs.Settling.{settle, IsParted}
@@ -40,6 +41,7 @@ weight_of (Rest b) = suc (size b)
 weight_of (Again l t b) = 1
 weight_of (Further l s n k q i b) = 1
 weight_of (AtEnd before) = 1
+weight_of (OnFault before x c) = suc (suc (size c))
 weight_of (Back env) = 1
 
 abbrev pub weight : List (Frame Own) → ℕ
@@ -82,6 +84,7 @@ module _ (p : Program) (needs : Codes → Needs) (nest : ℕ) (close : State Own
   acted_less (Call f es ss) l fs st = stand_less l (numbers_at st es) _ fs st (λ vs. le_refl st.steps)
   acted_less (Async b) l fs st = begin_less needs nest b st
   acted_less (Finish b) l fs st = le_refl st.steps
+  acted_less (Rescue b x c) l fs st = le_refl st.steps
 
 module _ (p : Program) (needs : Codes → Needs) (scoped : IsScoped p) (calm : IsCalm p) (provided : Provides p needs) (fresh : ℕ)
     (root : Start) where
@@ -115,6 +118,13 @@ module _ (p : Program) (needs : Codes → Needs) (scoped : IsScoped p) (calm : I
         by : (left : Bool) → Falls st w (if◌then◌else◌ {A = Standing Own} left (by_flow p r st.flow l c fs fs st) (record { frames = fs; state = st }))
         by true = flow_falls st.flow l c fs fs st w lt lt
         by false = sheds (le_refl st.steps) lt
+
+    -- behind a finish that has a handler
+    pub handler_falls : (g : Flow) (before : List Fault) (x : ℕ) (c : Codes) (fs : List (Frame Own)) (st : State Own) (w : ℕ)
+        → suc (size c) + weight fs < w → Falls st w (handled g before x c fs st)
+    handler_falls On before x c fs st w lt = sheds (le_refl st.steps) (omega (arith, lt))
+    handler_falls Faulted before x c fs st w lt = sheds (le_refl st.steps) lt
+    handler_falls Stopped before x c fs st w lt = sheds (le_refl st.steps) (omega (arith, lt))
 
     -- ---- up to the end
     abbrev Ended : Type 0
@@ -153,6 +163,9 @@ module _ (p : Program) (needs : Codes → Needs) (scoped : IsScoped p) (calm : I
     within n (suc w) deeper (Further l z j k q i b ∷ fs) st le lt task holds =
         after_turn n w deeper (within n w deeper) (Further l z j k q i b) fs st le task holds
         (turn_falls l z j k q i b fs st w (omega (arith, lt)))
+    within n (suc w) deeper (OnFault before x c ∷ fs) st le lt task holds =
+        after_turn n w deeper (within n w deeper) (OnFault before x c) fs st le task holds
+        (handler_falls st.flow before x c fs st w (omega (arith, lt)))
     within n (suc w) deeper (Back env ∷ fs) st le lt task holds =
         after_turn n w deeper (within n w deeper) (Back env) fs st le task holds (sheds (le_refl st.steps) (omega (arith, lt)))
     within n (suc w) deeper (AtEnd before ∷ fs) st le lt task holds =

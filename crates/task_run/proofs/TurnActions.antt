@@ -7,10 +7,12 @@ use Rattle.std.proofs.lemmas.Bool.{and_parts, and_right}
 use Rattle.shared_lemmas.proofs.Truths.{false_true}
 use Rattle.sections.specs.Place.{has_piece, sides_of}
 use Rattle.types.specs.declared.fault.FaultKind.TheVariants.{SplitPoint, PieceSize}
-use Rattle.types.specs.Code.{Code, Do, If, While, Split, Parts, Begun, Call, Async, Finish, Codes, End, Then, Program}
+use Rattle.types.specs.Code.{Code, Do, If, While, Split, Parts, Begun, Call, Async, Finish, Rescue, Codes, End, Then}
+use Rattle.types.specs.Code.{Program}
 use Rattle.types.specs.Value.{Valued}
-use Rattle.types.specs.Run.{Flow, On, Faulted, Stopped, State, Rules, Block, Turn, Pieces, number_at, numbers_at, truth_at}
-use Rattle.types.specs.Run.{piece_size, window_at, at_flow, run}
+use Rattle.types.specs.Run.{Flow, On, Faulted, Stopped, State, Fault, Rules, Block, Turn, Pieces, number_at}
+use Rattle.types.specs.Run.{numbers_at, truth_at}
+use Rattle.types.specs.Run.{piece_size, window_at, at_flow, run, rescued_by}
 use Rattle.types.specs.Laws.{IsKept}
 use Rattle.types.proofs.Keeps.{primitive_keeps}
 use Rattle.effects.specs.Needs.{Needs}
@@ -18,7 +20,8 @@ use Rattle.task_run.specs.Apart.{is_stopped}
 use Rattle.task_run.specs.Results.{TaskResult, Settled, and_then}
 use Rattle.task_run.specs.OwnRun.{Start, Action, Step, EnterFinish, Own, EndFinish, notes, is_waiting, result_of}
 use Rattle.task_run.specs.OwnRun.{leave_with, leave_own, own_rules, begin_own, from_receipts, run_by}
-use Rattle.task_run.specs.Frames.{Frame, Rest, Again, Further, AtEnd, Back, Standing, frame, resume, by_value, chosen, paid}
+use Rattle.task_run.specs.Frames.{Frame, Rest, Again, Further, AtEnd, OnFault, Back, Standing, frame, resume}
+use Rattle.task_run.specs.Frames.{by_value, chosen, handled, paid}
 use Rattle.task_run.specs.Frames.{by_flow, turn, done_by, done_at, done_in, Follows}
 use Rattle.task_run.specs.Settling.{settle}
 
@@ -82,6 +85,11 @@ module _ (p : Program) (needs : Codes → Needs) (nest : ℕ) (close : State Own
       each : (m : ℕ) → acts st ++ EnterFinish ∷ [] ≡ acts st ++ done_by needs m (suc n) (Finish b) st
       each zero = refl
       each (suc m) = refl
+  paid_does (suc n) l (Rescue b x c) fs st = each nest
+    where
+      each : (m : ℕ) → acts st ++ EnterFinish ∷ [] ≡ acts st ++ done_by needs m (suc n) (Rescue b x c) st
+      each zero = refl
+      each (suc m) = refl
 
   flow_does : (f : Flow) (l : ℕ) (s : Code) (fs below : List (Frame Own)) (st : State Own)
       → acts (by_flow p r f l s fs below st).state ≡ acts st ++ done_at needs nest f s st
@@ -106,6 +114,12 @@ module _ (p : Program) (needs : Codes → Needs) (nest : ℕ) (close : State Own
       by true = flow_does st.flow l c fs fs st
       by false = sym (append-nil st.extra.actions)
   turn_does (AtEnd before) fs st = sym (append-nil st.extra.actions)
+  turn_does (OnFault before x c) fs st = by st.flow
+    where
+      by : (f : Flow) → acts (handled f before x c fs st).state ≡ acts st ++ []
+      by On = sym (append-nil st.extra.actions)
+      by Faulted = sym (append-nil st.extra.actions)
+      by Stopped = sym (append-nil st.extra.actions)
   turn_does (Back env) fs st = sym (append-nil st.extra.actions)
 
   -- ---- waiting
@@ -119,6 +133,13 @@ module _ (p : Program) (needs : Codes → Needs) (nest : ℕ) (close : State Own
   flow_waits Faulted st go e w = record { waits = w; actions = refl }
   flow_waits Stopped st go e w = record { waits = w; actions = refl }
 
+  rescue_waits : (g : Flow) (x : ℕ) (go : State Own → State Own) (before : List Fault) (st : State Own) → st.flow ≡ g
+      → is_waiting st ≡ true → StillWaits st (rescued_by g x go before st)
+  rescue_waits On x go before st e w = record { waits = w; actions = refl }
+  rescue_waits Faulted x go before st e w =
+      absurd (false_true (sym (ap is_stopped e) ∙ (and_parts (is_stopped st.flow) st.extra.waits w).0))
+  rescue_waits Stopped x go before st e w = record { waits = w; actions = refl }
+
   leave_waits : (before st : State Own) → is_waiting st ≡ true → StillWaits st (leave_own close before st)
   leave_waits before st w =
       subst (λ b. StillWaits st (if b then st else leave_with before (record st { extra = notes EndFinish st.extra }) (close st))) (sym w)
@@ -129,6 +150,7 @@ module _ (p : Program) (needs : Codes → Needs) (nest : ℕ) (close : State Own
   frame_waits (Again l t b) st w = flow_waits st.flow st (run p r (Turn l t b)) refl w
   frame_waits (Further l s n k q i b) st w = flow_waits st.flow st (run p r (Pieces l s n k q i b)) refl w
   frame_waits (AtEnd before) st w = leave_waits before st w
+  frame_waits (OnFault before x c) st w = rescue_waits st.flow x (run p r (Block c)) before st refl w
   frame_waits (Back env) st w = record { waits = w; actions = refl }
 
   resume_waits : (fs : List (Frame Own)) (st : State Own) → is_waiting st ≡ true → StillWaits st (resume p r fs st)

@@ -7,7 +7,7 @@ use Rattle.sections.specs.Covers.{has}
 use Rattle.sections.specs.Place.{Place, has_piece, sides_of}
 use Rattle.types.specs.declared.fault.FaultKind.TheVariants.{SplitPoint, PieceSize}
 use Rattle.types.specs.Code.{Primitive, Skip, Assign, Store, Print, Raise, Code, Do, If, While, Split, Parts, Begun, Call}
-use Rattle.types.specs.Code.{Async, Finish, Codes, End, Then, Program}
+use Rattle.types.specs.Code.{Async, Finish, Rescue, Codes, End, Then, Program}
 use Rattle.types.specs.Value.{Valued, element_of, holds_number}
 use Rattle.types.specs.Run.{Flow, On, Faulted, Stopped, State, Rules, with_value, put, print, assign, counted}
 use Rattle.types.specs.Run.{primitive, piece_size, number_at, numbers_at, truth_at, window_at, array_of, with_sides}
@@ -17,7 +17,8 @@ use Rattle.effects.specs.Statements.{Block, Stands, HasStatement, IsPartOf}
 use Rattle.task_run.specs.Places.{Places, written}
 use Rattle.task_run.specs.Results.{Settled}
 use Rattle.task_run.specs.OwnRun.{Child, Own, back_from, begin_own, child_of, own_rules}
-use Rattle.task_run.specs.Frames.{Frame, Rest, Again, Further, AtEnd, Back, Standing, by_value, chosen, acted, paid, by_flow, turn, handed}
+use Rattle.task_run.specs.Frames.{Frame, Rest, Again, Further, AtEnd, OnFault, Back, Standing, by_value, chosen}
+use Rattle.task_run.specs.Frames.{acted, handled, paid, by_flow, turn, handed}
 use Rattle.task_run.specs.Lists.{Each}
 use Rattle.task_run.specs.Reached.{HasNeedsOf, HasNext}
 use Rattle.task_run.proofs.Lists.{each_last}
@@ -30,6 +31,7 @@ back_around (Rest b ∷ fs) q = back_around fs q
 back_around (Again l t b ∷ fs) q = back_around fs q
 back_around (Further l s n k x i b ∷ fs) q = back_around fs q
 back_around (AtEnd before ∷ fs) q = back_from before.extra.pending q || back_around fs q
+back_around (OnFault before x c ∷ fs) q = back_around fs q
 back_around (Back env ∷ fs) q = back_around fs q
 
 -- all places of a task: those that it owns, and those that come back
@@ -85,6 +87,7 @@ module _ (p : Program) where
   AllBelong (Again l t b ∷ fs) = IsInner (While t b) × AllBelong fs
   AllBelong (Further l s n k q i b ∷ fs) = IsPartOf p b × AllBelong fs
   AllBelong (AtEnd before ∷ fs) = Each Belongs before.extra.pending × AllBelong fs
+  AllBelong (OnFault before x c ∷ fs) = IsPartOf p c × AllBelong fs
   AllBelong (Back env ∷ fs) = AllBelong fs
 
   -- a task with these places, whose remaining work and children belong to the program
@@ -138,6 +141,7 @@ module _ (p : Program) where
     Owns st (Begun s n k q i b) = Unit {0}
     Owns st (Call f es ss) = Unit {0}
     Owns st (Finish b) = Unit {0}
+    Owns st (Rescue b x c) = Unit {0}
 
     owns_next : (c : Code) (st : State Own) → HasNeedsOf needs st c → Owns st c
     owns_next (Async b) st h = h.owned
@@ -149,6 +153,7 @@ module _ (p : Program) where
     owns_next (Begun s n k q i b) st h = tt
     owns_next (Call f es ss) st h = tt
     owns_next (Finish b) st h = tt
+    owns_next (Rescue b x c) st h = tt
 
     value_kept : {A : Type 0} (l : ℕ) (v : Valued A) (go : A → Standing Own) (fs : List (Frame Own)) (st : State Own)
         → ((y : A) → KeptAt (go y)) → Kept fs st → KeptAt (by_value l v go fs st)
@@ -212,6 +217,11 @@ module _ (p : Program) where
       children = tt;
       places = λ q. set_aside (st.extra.owned q) (back_from st.extra.pending q) (back_around fs q) ∙ k.places q;
     }
+    acted_kept l (Rescue b x c) fs st i h k = record {
+      frames = (i b Block.rescued, (k.children, (i c Block.handler, k.frames)));
+      children = tt;
+      places = λ q. set_aside (st.extra.owned q) (back_from st.extra.pending q) (back_around fs q) ∙ k.places q;
+    }
 
     paid_kept : (n l : ℕ) (c : Code) (fs : List (Frame Own)) (st : State Own) → IsInner c → Owns st c → Kept fs st
         → KeptAt (paid p r n l c fs st)
@@ -229,6 +239,8 @@ module _ (p : Program) where
         acted_kept l (Call f es ss) fs (counted r l (Call f es ss) (record st { steps = n })) i h k
     paid_kept (suc n) l (Async b) fs st i h k = acted_kept l (Async b) fs (counted r l (Async b) (record st { steps = n })) i h k
     paid_kept (suc n) l (Finish b) fs st i h k = acted_kept l (Finish b) fs (counted r l (Finish b) (record st { steps = n })) i h k
+    paid_kept (suc n) l (Rescue b x c) fs st i h k =
+        acted_kept l (Rescue b x c) fs (counted r l (Rescue b x c) (record st { steps = n })) i h k
 
     flow_kept : (f : Flow) (l : ℕ) (c : Code) (fs below : List (Frame Own)) (st : State Own) → IsInner c → Owns st c → Kept fs st
         → Kept below st → KeptAt (by_flow p r f l c fs below st)
@@ -247,6 +259,7 @@ module _ (p : Program) where
     inner_of l (Call f es ss) rest part = λ b inner m t j. part m t (Stands.inside inner j)
     inner_of l (Async c) rest part = λ b inner m t j. part m t (Stands.inside inner j)
     inner_of l (Finish c) rest part = λ b inner m t j. part m t (Stands.inside inner j)
+    inner_of l (Rescue c x d) rest part = λ b inner m t j. part m t (Stands.inside inner j)
 
     -- ---- a turn
     pub turn_kept : (f : Frame Own) (fs : List (Frame Own)) (st : State Own) → HasNext needs st (f ∷ fs)
@@ -270,6 +283,15 @@ module _ (p : Program) where
         by true = flow_kept st.flow l (Begun s n m q i b) fs fs st k.frames.0 tt below below
         by false = below
     turn_kept (AtEnd before) fs st h k = k
+    turn_kept (OnFault before x c) fs st h k = by st.flow
+      where
+        below : Kept fs st
+        below = record { frames = k.frames.1; children = k.children; places = k.places }
+
+        by : (f : Flow) → KeptAt (handled f before x c fs st)
+        by On = below
+        by Faulted = record { frames = k.frames; children = k.children; places = k.places }
+        by Stopped = below
     turn_kept (Back env) fs st h k = record { frames = k.frames; children = k.children; places = k.places }
 
   -- ---- the end of a finish

@@ -5,10 +5,12 @@ use Rattle.std.specs.Prelude.{Bool, true, false, ok_or, if◌then◌else◌}
 use Rattle.sections.specs.Place.{has_piece, sides_of}
 use Rattle.types.specs.declared.code.Stmt.{Stmt}
 use Rattle.types.specs.declared.fault.FaultKind.TheVariants.{PieceSize, SplitPoint}
-use Rattle.types.specs.Code.{Truth, Code, Do, If, While, Split, Parts, Begun, Call, Async, Finish, Codes, End, Then, Program}
+use Rattle.types.specs.Code.{Truth, Code, Do, If, While, Split, Parts, Begun, Call, Async, Finish, Rescue, Codes, End}
+use Rattle.types.specs.Code.{Then, Program}
 use Rattle.types.specs.Translation.{codes, program}
 use Rattle.types.specs.Value.{Valued}
-use Rattle.types.specs.Run.{Flow, On, Faulted, Stopped, State, Rules, number_at, numbers_at, truth_at, window_at, counted}
+use Rattle.types.specs.Run.{Flow, On, Faulted, Stopped, State, Fault, Rules, number_at, numbers_at, truth_at}
+use Rattle.types.specs.Run.{window_at, counted}
 use Rattle.types.specs.Run.{piece_size, procedure_of}
 use Rattle.effects.specs.Needs.{Needs}
 use Rattle.statement_steps.specs.Standing.{flow}
@@ -17,7 +19,8 @@ use Rattle.statement_steps.specs.declared.thread.Plan.{Plan}
 use Rattle.statement_steps.specs.declared.flow.Flow.TheVariants.{On as rOn, Faulted as rFaulted, Stopped as rStopped}
 use Rattle.task_run.specs.Results.{Settled}
 use Rattle.task_run.specs.OwnRun.{Action, Step, Spawn, EnterFinish, EndFinish, EndTask, Own, Start, own_rules}
-use Rattle.task_run.specs.Frames.{Frame, Rest, Again, Further, AtEnd, Back, Standing, by_value, chosen, acted, paid, by_flow, turn}
+use Rattle.task_run.specs.Frames.{Frame, Rest, Again, Further, AtEnd, OnFault, Back, Standing, by_value, chosen}
+use Rattle.task_run.specs.Frames.{acted, handled, paid, by_flow, turn}
 use Rattle.task_run.specs.Frames.{done_by, done_at, done_in, handed}
 use Rattle.task_run.specs.Quiet.{Quietly, here, further}
 use Rattle.task_run.specs.Reached.{begun}
@@ -28,7 +31,7 @@ use Rattle.task_run.specs.Standings.{IsAt, Shows, ShowsFrame, Stacked, state_of,
 use Rattle.task_run.specs.Translation.{start}
 use Rattle.task_run.specs.declared.frame.TaskFrame.{TaskFrame as rFrame}
 use Rattle.task_run.specs.declared.frame.TaskFrame.TheVariants.{Rest as rRest, Again as rAgain, Turns as rTurns}
-use Rattle.task_run.specs.declared.frame.TaskFrame.TheVariants.{EndFinish as rEndFinish, EndCall as rEndCall}
+use Rattle.task_run.specs.declared.frame.TaskFrame.TheVariants.{EndFinish as rEndFinish, OnFault as rOnFault, EndCall as rEndCall}
 use Rattle.task_run.specs.declared.run.Run.{Run}
 use Rattle.task_run.specs.declared.turn.Paused.{Paused}
 use Rattle.task_run.specs.declared.turn.Turn.{Turn}
@@ -48,6 +51,7 @@ cost (Rest (Then l s rest)) = 2
 cost (Again l t b) = 1
 cost (Further l s n k q i b) = 1
 cost (AtEnd before) = 8
+cost (OnFault before x c) = 4
 cost (Back env) = 1
 
 abbrev costs : List (Frame Own) → ℕ
@@ -67,7 +71,7 @@ stops_once On = omega arith
 stops_once Faulted = omega arith
 stops_once Stopped = omega arith
 
-some_rate : (fresh n : ℕ) → 14 ≤ rate fresh n
+some_rate : (fresh n : ℕ) → 18 ≤ rate fresh n
 some_rate fresh zero = omega arith
 some_rate fresh (suc n) = omega arith
 
@@ -107,7 +111,7 @@ again_adds : (v : Bool) (l : ℕ) (t : Truth) (b : Codes) (fs : List (Frame Own)
 again_adds true l t b fs st = record { steps = le_refl st.steps; frames = let h = block_costs b in omega (arith, h) }
 again_adds false l t b fs st = record { steps = le_refl st.steps; frames = omega arith }
 
-added_left : (fresh n most m : ℕ) (fs : List (Frame Own)) (st : State Own) (t : Standing Own) → most + 2 < 14 → st.steps ≡ m
+added_left : (fresh n most m : ℕ) (fs : List (Frame Own)) (st : State Own) (t : Standing Own) → most + 2 < 18 → st.steps ≡ m
     → Adds most fs st t → left fresh n t < suc m * rate fresh n + costs fs
 added_left fresh n most m fs st t few e a =
     let i = a.steps in
@@ -129,7 +133,7 @@ module _ (fresh : ℕ) (p : Program) (needs : Codes → Needs) (close : State Ow
   Pays n m l c fs st =
       left fresh n (to n m l c fs st) + begun_left fresh (done_by needs n (suc m) c st) < suc m * rate fresh n + costs fs
 
-  by_adds : (n most m l : ℕ) (c : Code) (fs : List (Frame Own)) (st mid : State Own) → most + 2 < 14
+  by_adds : (n most m l : ℕ) (c : Code) (fs : List (Frame Own)) (st mid : State Own) → most + 2 < 18
       → begun_left fresh (done_by needs n (suc m) c st) ≡ 0 → mid.steps ≡ m → Adds most fs mid (to n m l c fs st) → Pays n m l c fs st
   by_adds n most m l c fs st mid few none same a =
       let h = added_left fresh n most m fs mid (to n m l c fs st) few same a in omega (arith, none, h)
@@ -173,6 +177,10 @@ module _ (fresh : ℕ) (p : Program) (needs : Codes → Needs) (close : State Ow
       let mid = record st { steps = m } in
       by_adds n 10 m l (Finish b) fs st mid (omega arith) none refl
       (record { steps = le_refl m; frames = let h = block_costs b in omega (arith, h) })
+  plain_pays n m l (Rescue b x c) fs st other none =
+      let mid = record st { steps = m } in
+      by_adds n 14 m l (Rescue b x c) fs st mid (omega arith) none refl
+      (record { steps = le_refl m; frames = let h = block_costs b in omega (arith, h) })
 
   no_async : {c : Code} → IsPlain c → (b : Codes) → c ≡ Async b → ⊥
   no_async {c = c} h b e = subst IsPlain e h
@@ -197,6 +205,8 @@ module _ (fresh : ℕ) (p : Program) (needs : Codes → Needs) (close : State Ow
   pays (suc n) m l (Call f es ss) fs st = plain_pays (suc n) m l (Call f es ss) fs st (no_async tt) refl
   pays zero m l (Finish b) fs st = plain_pays zero m l (Finish b) fs st (no_async tt) refl
   pays (suc n) m l (Finish b) fs st = plain_pays (suc n) m l (Finish b) fs st (no_async tt) refl
+  pays zero m l (Rescue b x c) fs st = plain_pays zero m l (Rescue b x c) fs st (no_async tt) refl
+  pays (suc n) m l (Rescue b x c) fs st = plain_pays (suc n) m l (Rescue b x c) fs st (no_async tt) refl
 
   -- if no step is left the task is stopped
   paid_left : (n m l : ℕ) (c : Code) (fs : List (Frame Own)) (st : State Own) → m ≡ st.steps
@@ -245,6 +255,15 @@ module _ (fresh : ℕ) (p : Program) (needs : Codes → Needs) (close : State Ow
       by true = let h = flow_left n st.flow l c fs fs st (1 + costs fs) refl (omega arith) (omega arith) in omega (arith, h)
       by false = omega arith
 
+  handler_leaves : (n : ℕ) (before : List Fault) (x : ℕ) (c : Codes) (fs : List (Frame Own)) (st : State Own)
+      → Leaves n (OnFault before x c) fs st
+  handler_leaves n before x c fs st = by st.flow
+    where
+      by : (g : Flow) → left fresh n (handled g before x c fs st) + 0 < st.steps * rate fresh n + (4 + costs fs) + stops st.flow + 1
+      by On = omega arith
+      by Faulted = let h = block_costs c in omega (arith, h)
+      by Stopped = omega arith
+
   -- quiet turns leave no more; at the end of a finish there is no turn
   turn_no_more : (n : ℕ) (f : Frame Own) (fs : List (Frame Own)) (st : State Own)
       → left fresh n (turn p (rules n) f fs st) ≤ left fresh n (record { frames = f ∷ fs; state = st })
@@ -252,6 +271,7 @@ module _ (fresh : ℕ) (p : Program) (needs : Codes → Needs) (close : State Ow
   turn_no_more n (Again l t b) fs st = let h = again_leaves n l t b fs st in omega (arith, h)
   turn_no_more n (Further l s k j q i b) fs st = let h = further_leaves n l s k j q i b fs st in omega (arith, h)
   turn_no_more n (AtEnd before) fs st = omega arith
+  turn_no_more n (OnFault before x c) fs st = let h = handler_leaves n before x c fs st in omega (arith, h)
   turn_no_more n (Back env) fs st = omega arith
 
   pub quiet_no_more : (n : ℕ) {a t : Standing Own} → Quietly p needs n close a t → left fresh n t ≤ left fresh n a
@@ -286,6 +306,7 @@ frame_same (rRest b) f e = block_same b.now ∙ ap cost (sym e)
 frame_same (rAgain l t b) f e = ap cost (sym e)
 frame_same (rTurns t) f e = ap cost (sym e)
 frame_same (rEndFinish o) f (before, e, h) = ap cost (sym e)
+frame_same (rOnFault before x b) f e = ap cost (sym e)
 frame_same (rEndCall env) f e = ap cost (sym e)
 
 pub costs_same : (gs : List rFrame) (fs : List (Frame Own)) → Stacked gs fs → costs_of gs ≡ costs fs
@@ -370,6 +391,9 @@ module _ (needs : Codes → Needs) (old : Run) where
   turn_leaves t (Further l s k j q i b ∷ fs) st h =
       by_turn t _ _ _ (at (Further l s k j q i b ∷ fs) st)
       (further_leaves fresh (program old.plan.program.now) needs close n l s k j q i b fs st) h
+  turn_leaves t (OnFault before x c ∷ fs) st h =
+      by_turn t _ _ _ (at (OnFault before x c ∷ fs) st)
+      (handler_leaves fresh (program old.plan.program.now) needs close n before x c fs st) h
   turn_leaves t (Back env ∷ fs) st h = by_turn t _ _ _ (at (Back env ∷ fs) st) (omega arith) h
 
   -- a turn leaves fewer

@@ -3,14 +3,18 @@ use Rattle.std.proofs.Common.{◌≡◌, ℕ, zero, suc, List, ◌∷◌, Ok, Er
 use Rattle.std.specs.Prelude.{Bool, true, false, ◌+◌, map, ok_or, if◌then◌else◌}
 use Rattle.sections.specs.Place.{has_piece, sides_of}
 use Rattle.types.specs.declared.fault.FaultKind.TheVariants.{SplitPoint, PieceSize}
-use Rattle.types.specs.Code.{Truth, Code, Do, If, While, Split, Parts, Begun, Call, Async, Finish, Codes, End, Then, Program}
+use Rattle.types.specs.Code.{Truth, Code, Do, If, While, Split, Parts, Begun, Call, Async, Finish, Rescue, Codes, End}
+use Rattle.types.specs.Code.{Then, Program}
 use Rattle.types.specs.Value.{Valued}
-use Rattle.types.specs.Run.{Flow, On, Faulted, Stopped, State, Rules, Work, Block, Turn, Pieces, at_flow, go_on, spend}
+use Rattle.types.specs.Run.{Flow, On, Faulted, Stopped, State, Fault, Rules, Work, Block, Turn, Pieces, at_flow}
+use Rattle.types.specs.Run.{go_on, spend}
 use Rattle.types.specs.Run.{with_step, with_value, choose, number_at, numbers_at, truth_at, window_at, entry}
-use Rattle.types.specs.Run.{with_sides, in_turn, piece_size, procedure_of, counted, act, block, run}
+use Rattle.types.specs.Run.{with_sides, in_turn, piece_size, procedure_of, counted, act, block, run, caught}
+use Rattle.types.specs.Run.{rescued_by}
 use Rattle.types.specs.Laws.{IsThrifty}
 use Rattle.types.proofs.Solutions.{solves}
-use Rattle.task_run.specs.Frames.{Frame, Rest, Again, Further, AtEnd, Back, Standing, resume, by_value, chosen, acted, paid}
+use Rattle.task_run.specs.Frames.{Frame, Rest, Again, Further, AtEnd, OnFault, Back, Standing, resume, by_value}
+use Rattle.task_run.specs.Frames.{chosen, acted, handled, paid}
 use Rattle.task_run.specs.Frames.{by_flow, turn}
 use Rattle.types.proofs.Counted.{counted_flow}
 
@@ -51,6 +55,13 @@ module _ (p : Program) {X : Type 0} (r : Rules X) (thrifty : IsThrifty r) (enter
   if_keeps true b c fs st on = on_block b fs st on
   if_keeps false b c fs st on = on_block c fs st on
 
+  -- the handler of a finish is a block
+  rescue_solved : (f : Flow) (x : ℕ) (c : Codes) (before : List Fault) (out : State X)
+      → rescued_by f x (m (Block c)) before out ≡ rescued_by f x (block p r m c) before out
+  rescue_solved On x c before out = refl
+  rescue_solved Faulted x c before out = solves p r thrifty (Block c) (caught x before out)
+  rescue_solved Stopped x c before out = refl
+
   acted_keeps : (s : Code) (l : ℕ) (fs : List (Frame X)) (st : State X) → st.flow ≡ On
       → of (acted p r l s fs st) ≡ over fs (act p r m l s st)
   acted_keeps (Do s) l fs st on = refl
@@ -72,6 +83,10 @@ module _ (p : Program) {X : Type 0} (r : Rules X) (thrifty : IsThrifty r) (enter
       ap (λ g. over fs (record (at_flow g inner (m (Block (procedure_of p f).body))) { environment = st.environment })) on)
   acted_keeps (Async b) l fs st on = refl
   acted_keeps (Finish b) l fs st on = on_block b (AtEnd st ∷ fs) (r.enter l st) (enters l st ∙ on)
+  acted_keeps (Rescue b x c) l fs st on =
+      let ahead = AtEnd st ∷ OnFault st.faults x c ∷ fs in
+      let out = r.leave st (block p r m b (r.enter l st)) in
+      on_block b ahead (r.enter l st) (enters l st ∙ on) ∙ ap (over fs) (rescue_solved out.flow x c st.faults out)
 
   paid_keeps : (k l : ℕ) (s : Code) (fs : List (Frame X)) (st : State X) → st.flow ≡ On
       → of (paid p r k l s fs st) ≡ over fs (spend k st (λ st. act p r m l s (counted r l s st)))
@@ -126,4 +141,10 @@ module _ (p : Program) {X : Type 0} (r : Rules X) (thrifty : IsThrifty r) (enter
       by true e = flow_keeps st.flow l c fs fs st (m w) refl (ap (over fs) (sym (by_piece true e)))
       by false e = ap (over fs) (sym (nothing e st.flow))
   turn_keeps (AtEnd before) fs st = refl
+  turn_keeps (OnFault before x c) fs st = by st.flow
+    where
+      by : (f : Flow) → of (handled f before x c fs st) ≡ over fs (rescued_by f x (m (Block c)) before st)
+      by On = refl
+      by Faulted = refl
+      by Stopped = refl
   turn_keeps (Back env) fs st = refl

@@ -1,6 +1,7 @@
 -- The turns to come of a list of statements: only a `parts` that has begun has any.
 use Rattle.std.proofs.Common.{ℕ, ◌+◌, ◌≤◌, inl, inr, arith}
-use Rattle.types.specs.Code.{Code, Do, If, While, Split, Parts, Begun, Call, Async, Finish, Codes, End, Then, Program}
+use Rattle.types.specs.Code.{Code, Do, If, While, Split, Parts, Begun, Call, Async, Finish, Rescue, Codes, End, Then}
+use Rattle.types.specs.Code.{Program}
 use Rattle.types.specs.Sound.{IsText, IsTextOf}
 use Rattle.types.specs.Value.{Environment}
 use Rattle.sections.specs.Place.{Place}
@@ -43,6 +44,7 @@ module _ (env : Environment) (at : Environment → Codes → Type 0) where
   turns_here l (Call f es ss) rest h = absurd h
   turns_here l (Async b) rest h = absurd h
   turns_here l (Finish b) rest h = absurd h
+  turns_here l (Rescue b x c) rest h = absurd h
 
   -- a list as in a text has none
   pub text_turns : (b : Codes) → IsText b → InTurnsOf env at b → ⊥
@@ -56,6 +58,7 @@ module _ (env : Environment) (at : Environment → Codes → Type 0) where
   text_turns (Then l (Call f es ss) rest) text h = text_turns rest text.1 h
   text_turns (Then l (Async b) rest) text h = text_turns rest text.1 h
   text_turns (Then l (Finish b) rest) text h = text_turns rest text.1 h
+  text_turns (Then l (Rescue b x c) rest) text h = text_turns rest text.1 h
 
   pub code_turns : (s : Code) → IsTextOf s → InTurnsOf env at (single s) → ⊥
   code_turns s text h = text_turns (single s) (text, tt) h

@@ -3,12 +3,12 @@ use Rattle.std.specs.Prelude.{ℕ, zero, suc, ◌+◌, ◌≡◌, List, [], ◌�
 use Rattle.std.specs.Prelude.{false, Some, Ok, Err, ok_or, slice_get, if◌then◌else◌}
 use Rattle.sections.specs.Place.{sides_of, has_piece}
 use Rattle.types.specs.declared.fault.FaultKind.TheVariants.{SplitPoint, PieceSize}
-use Rattle.types.specs.Code.{Truth, Code, Do, If, While, Split, Parts, Begun, Call, Async, Finish, Codes, End}
-use Rattle.types.specs.Code.{Then, Program}
+use Rattle.types.specs.Code.{Truth, Code, Do, If, While, Split, Parts, Begun, Call, Async, Finish, Rescue}
+use Rattle.types.specs.Code.{Codes, End, Then, Program}
 use Rattle.types.specs.Value.{Environment, Valued}
-use Rattle.types.specs.Run.{Flow, On, Faulted, Stopped, State, Rules, Block, Turn, Pieces, stopped, go_on}
-use Rattle.types.specs.Run.{fault, number_at, numbers_at, truth_at, window_at, entry, with_sides, in_turn, piece_size}
-use Rattle.types.specs.Run.{procedure_of, primitive, counted, run}
+use Rattle.types.specs.Run.{Flow, On, Faulted, Stopped, Fault, State, Rules, Block, Turn, Pieces, stopped}
+use Rattle.types.specs.Run.{go_on, fault, number_at, numbers_at, truth_at, window_at, entry, with_sides}
+use Rattle.types.specs.Run.{in_turn, piece_size, procedure_of, primitive, counted, run, caught, rescued}
 use Rattle.effects.specs.Needs.{Needs}
 use Rattle.task_run.specs.Results.{TaskResult, Settled}
 use Rattle.task_run.specs.OwnRun.{Start, Child, Action, Step, Spawn, EnterFinish, EndFinish, Own, notes}
@@ -26,6 +26,8 @@ pub data Frame (X : Type 0) : Type 0 where
   Further : (label section size next piece turn : ℕ) → (body : Codes) → Frame X
   -- the end of a finish that began at this state
   AtEnd : (before : State X) → Frame X
+  -- the handler of a finish, before which there were these faults
+  OnFault : (before : List Fault) → (slot : ℕ) → (handler : Codes) → Frame X
   -- the end of a call, which restores this environment
   Back : Environment → Frame X
 
@@ -46,6 +48,13 @@ module _ {X : Type 0} where
   chosen true body other st = record { frames = body; state = st }
   chosen false body other st = record { frames = other; state = st }
 
+  -- after a finish: its handler is next if the task has faulted
+  abbrev pub handled : Flow → (before : List Fault) → (slot : ℕ) → (handler : Codes) → List (Frame X)
+      → State X → Standing X
+  handled On before x c fs st = record { frames = fs; state = st }
+  handled Faulted before x c fs st = record { frames = Rest c ∷ fs; state = caught x before st }
+  handled Stopped before x c fs st = record { frames = fs; state = st }
+
 module _ (p : Program) {X : Type 0} (r : Rules X) where
   -- the effect of a frame, once the frames above it are done
   abbrev pub frame : Frame X → State X → State X
@@ -53,6 +62,7 @@ module _ (p : Program) {X : Type 0} (r : Rules X) where
   frame (Again l t b) st = go_on (run p r (Turn l t b)) st
   frame (Further l s n k q i b) st = go_on (run p r (Pieces l s n k q i b)) st
   frame (AtEnd before) st = r.leave before st
+  frame (OnFault before x c) st = rescued x (run p r (Block c)) before st
   frame (Back env) st = record st { environment = env }
 
   -- the effect of all the work that is left
@@ -90,6 +100,10 @@ module _ (p : Program) {X : Type 0} (r : Rules X) where
       }) fs st
   acted l (Async b) fs st = record { frames = fs; state = r.begin l b st }
   acted l (Finish b) fs st = record { frames = Rest b ∷ AtEnd st ∷ fs; state = r.enter l st }
+  acted l (Rescue b x c) fs st = record {
+    frames = Rest b ∷ AtEnd st ∷ OnFault st.faults x c ∷ fs;
+    state = r.enter l st;
+  }
 
   -- a statement before its step is taken, with `steps` steps left
   abbrev pub paid : (steps : ℕ) → (label : ℕ) → Code → List (Frame X) → State X → Standing X
@@ -112,6 +126,7 @@ module _ (p : Program) {X : Type 0} (r : Rules X) where
       if has_piece (window_at st s) n k then by_flow st.flow l (Begun s n k q i b) fs fs st
       else record { frames = fs; state = st }
   turn (AtEnd before) fs st = record { frames = AtEnd before ∷ fs; state = st }
+  turn (OnFault before x c) fs st = handled st.flow before x c fs st
   turn (Back env) fs st = record { frames = fs; state = record st { environment = env } }
 
 -- a task at the end of a finish continues with this settled result
@@ -139,6 +154,7 @@ HasBegunBelow nest st (Again l t b ∷ fs) = HasBegunBelow nest st fs
 HasBegunBelow nest st (Further l s n k q i b ∷ fs) = HasBegunBelow nest st fs
 HasBegunBelow nest st (AtEnd before ∷ fs) =
     Each (IsBegun nest st) before.extra.pending × HasBegunBelow nest st fs
+HasBegunBelow nest st (OnFault before x c ∷ fs) = HasBegunBelow nest st fs
 HasBegunBelow nest st (Back env ∷ fs) = HasBegunBelow nest st fs
 
 module _ (p : Program) (needs : Codes → Needs) (fresh : ℕ) (root : Start) where
@@ -169,6 +185,7 @@ done_by needs nest zero s st = []
 done_by needs zero (suc n) (Async b) st = []
 done_by needs (suc m) (suc n) (Async b) st = Spawn (child_of (needs b) m b st).start ∷ []
 done_by needs nest (suc n) (Finish b) st = EnterFinish ∷ []
+done_by needs nest (suc n) (Rescue b x c) st = EnterFinish ∷ []
 done_by needs nest (suc n) (Do s) st = Step ∷ []
 done_by needs nest (suc n) (If t b c) st = Step ∷ []
 done_by needs nest (suc n) (While t b) st = Step ∷ []
@@ -191,4 +208,5 @@ done_in needs nest (Again l t b) st = done_at needs nest st.flow (While t b) st
 done_in needs nest (Further l s n k q i b) st =
     if has_piece (window_at st s) n k then done_at needs nest st.flow (Begun s n k q i b) st else []
 done_in needs nest (AtEnd before) st = []
+done_in needs nest (OnFault before x c) st = []
 done_in needs nest (Back env) st = []

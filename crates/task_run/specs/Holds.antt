@@ -17,7 +17,7 @@ use Rattle.race_checker.specs.Scope.{Scope, InScope}
 use Rattle.task_run.specs.Places.{Places, empty, written, touched}
 use Rattle.task_run.specs.Ready.{Around, Ready}
 use Rattle.task_run.specs.OwnRun.{Start, Child, Own, back_from}
-use Rattle.task_run.specs.Frames.{Frame, Rest, Again, Further, AtEnd, Back, Standing}
+use Rattle.task_run.specs.Frames.{Frame, Rest, Again, Further, AtEnd, OnFault, Back, Standing}
 use Rattle.task_run.specs.Lists.{Each}
 use Rattle.task_run.specs.Settling.{Parted}
 
@@ -38,6 +38,7 @@ HasText (Rest b) = IsText b
 HasText (Again l t b) = IsText b
 HasText (Further l s n k q i b) = IsText b
 HasText (AtEnd before) = Unit {0}
+HasText (OnFault before x c) = IsText c
 HasText (Back env) = Unit {0}
 
 -- what was there or owned when a finish began is still so, or comes back from a child
@@ -83,6 +84,10 @@ module _ (p : Program) (needs : Codes → Needs) where
       × Stack f (InScope sc) c o (locked_after env locked (Then l (Begun s n k q i b) End)) fs
   Stack f limit c o locked (AtEnd before ∷ fs) =
       Stack f limit before.store before.extra.owned (λ q. ⊥) fs
+  Stack f limit c o locked (OnFault before x b ∷ fs) =
+      (sc : Scope) × (env : Environment)
+      × Remains f limit c o locked b sc env
+      × Stack f (InScope sc) c o (locked_after env locked b) fs
   Stack f limit c o locked (Back env ∷ fs) = Stack env.windows (λ s. Unit {0}) c o locked fs
 
   -- a task can start
@@ -106,6 +111,7 @@ module _ (p : Program) (needs : Codes → Needs) where
       Comes st before × Each Carries before.extra.pending
       × Parted before.extra.owned (map (λ c. c.listed) before.extra.pending)
       × Returns before fs
+  Returns st (OnFault before x b ∷ fs) = Returns st fs
   Returns st (Back env ∷ fs) = Returns st fs
 
   -- a task has all that it touches

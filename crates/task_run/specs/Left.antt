@@ -5,7 +5,8 @@ use Rattle.types.specs.declared.code.Stmt.{Stmt}
 use Rattle.statement_steps.specs.declared.flow.Flow.{Flow}
 use Rattle.statement_steps.specs.declared.flow.Flow.TheVariants.{On, Faulted, Stopped}
 use Rattle.task_run.specs.declared.frame.TaskFrame.{TaskFrame}
-use Rattle.task_run.specs.declared.frame.TaskFrame.TheVariants.{Rest, Again, Turns, EndFinish, EndCall}
+use Rattle.task_run.specs.declared.frame.TaskFrame.TheVariants.{Rest, Again, Turns, EndFinish, OnFault}
+use Rattle.task_run.specs.declared.frame.TaskFrame.TheVariants.{EndCall}
 use Rattle.task_run.specs.declared.run.Run.{Run}
 use Rattle.task_run.specs.declared.turn.Paused.{Paused}
 use Rattle.task_run.specs.declared.turn.Turn.{Turn}
@@ -14,8 +15,8 @@ use Rattle.task_run.specs.declared.turn.Turn.TheVariants.{Going, Spawns, EntersF
 -- an upper bound for the number of turns per step, if asyncs may be nested `nest` levels deep: a
 -- child has `fresh` steps of its own, and one nesting level less
 abbrev pub rate : (fresh nest : ℕ) → ℕ
-rate fresh zero = 14
-rate fresh (suc nest) = fresh * rate fresh nest + 14
+rate fresh zero = 18
+rate fresh (suc nest) = fresh * rate fresh nest + 18
 
 -- a block needs a turn in addition to those of its steps, and one more if the rest is skipped
 abbrev pub block_cost : List Stmt → ℕ
@@ -28,6 +29,7 @@ cost (Rest b) = block_cost b.now
 cost (Again l t b) = 1
 cost (Turns t) = 1
 cost (EndFinish outer) = 8
+cost (OnFault before faults handler) = 4
 cost (EndCall env) = 1
 
 -- a sum over a list

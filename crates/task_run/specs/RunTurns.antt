@@ -2,7 +2,8 @@
 use Rattle.std.specs.Prelude.{ℕ, ◌≡◌, ◌+◌, ◌<◌, ◌≤◌, ◌⊎◌, ⊤, List, [], ◌∷◌, ◌++◌, Option, ◌||◌, Bool, true}
 use Rattle.std.specs.Prelude.{false}
 use Rattle.sections.specs.Place.{Place}
-use Rattle.types.specs.Code.{Code, Do, If, While, Split, Parts, Begun, Call, Async, Finish, Codes, Then, Program}
+use Rattle.types.specs.Code.{Code, Do, If, While, Split, Parts, Begun, Call, Async, Finish, Rescue, Codes}
+use Rattle.types.specs.Code.{Then, Program}
 use Rattle.types.specs.Contents.{IsThere}
 use Rattle.types.specs.Run.{State, counted}
 use Rattle.types.specs.Translation.{environment, program}
@@ -13,8 +14,8 @@ use Rattle.statement_steps.specs.declared.flow.Flow.TheVariants.{On as rOn}
 use Rattle.task_run.specs.Places.{written, touched}
 use Rattle.task_run.specs.Results.{Settled}
 use Rattle.task_run.specs.OwnRun.{Own, Action, Spawn, EnterFinish, own_rules, result_of, back_from}
-use Rattle.task_run.specs.Frames.{Frame, Rest, Again, Further, AtEnd, Back, Standing, acted, by_flow, turn, done_by}
-use Rattle.task_run.specs.Frames.{done_at, done_in}
+use Rattle.task_run.specs.Frames.{Frame, Rest, Again, Further, AtEnd, OnFault, Back, Standing, acted, by_flow}
+use Rattle.task_run.specs.Frames.{turn, done_by, done_at, done_in}
 use Rattle.task_run.specs.Quiet.{IsLittle, Quietly}
 use Rattle.task_run.specs.Reached.{HasNext}
 use Rattle.task_run.specs.Standings.{Shows, IsAt, IsEnd, Stacked, state_of, with_own}
@@ -90,6 +91,7 @@ module _ (needs : Codes → Needs) (IsAsync : ℕ → Codes → Type 0) where
   CanAct l (Begun s n k q i b) r = ⊤
   CanAct l (Call f es ss) r = ⊤
   CanAct l (Finish b) r = ⊤
+  CanAct l (Rescue b x c) r = ⊤
 
 -- a statement whose step has been taken
 abbrev pub Acts : (label : ℕ) → Code → (old new : Run) → Type 0
@@ -135,6 +137,7 @@ taken_off (Rest b ∷ fs) st = record { frames = fs; state = st }
 taken_off (Again l t b ∷ fs) st = record { frames = fs; state = st }
 taken_off (Further l s n k q i b ∷ fs) st = record { frames = fs; state = st }
 taken_off (AtEnd before ∷ fs) st = record { frames = fs; state = st }
+taken_off (OnFault before x c ∷ fs) st = record { frames = fs; state = st }
 taken_off (Back env ∷ fs) st = record { frames = fs; state = record st { environment = env } }
 
 -- a run waits at the end of a finish, above these frames
@@ -190,6 +193,7 @@ module _ (needs : Codes → Needs) (close : State Own → Option Settled) (old :
   abbrev pub TurnOf : List (Frame Own) → State Own → Turn → Type 0
   TurnOf [] st = EndsAs st
   TurnOf (AtEnd before ∷ fs) st = WaitsAs old fs before st
+  TurnOf (OnFault before x c ∷ fs) st = GoesFrom (OnFault before x c) fs st
   TurnOf (Rest b ∷ fs) st = GoesFrom (Rest b) fs st
   TurnOf (Again l t b ∷ fs) st = GoesFrom (Again l t b) fs st
   TurnOf (Further l s n k q i b ∷ fs) st = GoesFrom (Further l s n k q i b) fs st

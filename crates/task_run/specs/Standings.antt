@@ -7,12 +7,13 @@ use Rattle.statement_steps.specs.Standing.{state_by}
 use Rattle.statement_steps.specs.declared.thread.Thread.{Thread}
 use Rattle.statement_steps.specs.declared.turns.TurnsToCome.{TurnsToCome}
 use Rattle.task_run.specs.OwnRun.{Own}
-use Rattle.task_run.specs.Frames.{Frame, Rest, Again, Further, AtEnd, Back, Standing}
+use Rattle.task_run.specs.Frames.{Frame, Rest, Again, Further, AtEnd, OnFault, Back, Standing}
 use Rattle.task_run.specs.Translation.{contents_of, owned_by, listed}
 use Rattle.task_run.specs.declared.frame.TaskFrame.{TaskFrame as rFrame}
 use Rattle.task_run.specs.declared.frame.Outer.{Outer}
-use Rattle.task_run.specs.declared.frame.TaskFrame.TheVariants.{Rest as rRest, Again as rAgain, Turns as rTurns}
-use Rattle.task_run.specs.declared.frame.TaskFrame.TheVariants.{EndFinish as rEndFinish, EndCall as rEndCall}
+use Rattle.task_run.specs.declared.frame.TaskFrame.TheVariants.{Rest as rRest, Again as rAgain}
+use Rattle.task_run.specs.declared.frame.TaskFrame.TheVariants.{Turns as rTurns, EndFinish as rEndFinish}
+use Rattle.task_run.specs.declared.frame.TaskFrame.TheVariants.{OnFault as rOnFault, EndCall as rEndCall}
 use Rattle.task_run.specs.declared.memory.TaskMemory.{TaskMemory}
 use Rattle.task_run.specs.declared.run.Run.{Run}
 
@@ -40,6 +41,7 @@ ShowsFrame (rRest b) f = f ≡ Rest (codes b.now)
 ShowsFrame (rAgain l t b) f = f ≡ Again l (truth t.now) (codes b.now)
 ShowsFrame (rTurns t) f = f ≡ further t
 ShowsFrame (rEndFinish o) f = (before : State Own) × (f ≡ AtEnd before) × IsEnd o before
+ShowsFrame (rOnFault before x b) f = f ≡ OnFault (map fault before.items) x.number (codes b.now)
 ShowsFrame (rEndCall env) f = f ≡ Back (environment env)
 
 -- frames in Rust, the last one on top, represent these frames, the first one on top

@@ -2,11 +2,11 @@
 use Rattle.std.specs.Prelude.{ℕ, zero, suc, List, Bool, true, false, ◌&&◌, ◌||◌}
 use Rattle.std.specs.List.{list_any}
 use Rattle.sections.specs.Place.{has_piece}
-use Rattle.types.specs.Code.{Code, Do, If, While, Split, Parts, Begun, Call, Async, Finish, End, Then}
+use Rattle.types.specs.Code.{Code, Do, If, While, Split, Parts, Begun, Call, Async, Finish, Rescue, End, Then}
 use Rattle.types.specs.Run.{Flow, On, Faulted, Stopped, State, window_at}
 use Rattle.task_run.specs.Results.{TaskResult}
 use Rattle.task_run.specs.OwnRun.{Own}
-use Rattle.task_run.specs.Frames.{Frame, Rest, Again, Further, AtEnd, Back}
+use Rattle.task_run.specs.Frames.{Frame, Rest, Again, Further, AtEnd, OnFault, Back}
 
 -- whether a statement is an async
 abbrev pub is_async : Code → Bool
@@ -19,6 +19,7 @@ is_async (Parts s e q i b) = false
 is_async (Begun s n k q i b) = false
 is_async (Call f es ss) = false
 is_async (Finish b) = false
+is_async (Rescue b x c) = false
 
 -- whether a number is 0
 abbrev pub is_none : ℕ → Bool
@@ -44,6 +45,7 @@ stops nest (Again l t b) st = is_next_over nest st.flow st.steps (While t b)
 stops nest (Further l s n k q i b) st =
     has_piece (window_at st s) n k && is_next_over nest st.flow st.steps (Begun s n k q i b)
 stops nest (AtEnd before) st = false
+stops nest (OnFault before x c) st = false
 stops nest (Back env) st = false
 
 -- whether one of these results is of a stopped task

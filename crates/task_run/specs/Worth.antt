@@ -8,7 +8,7 @@ use Rattle.effects.specs.Rounds.{needs_of}
 use Rattle.task_run.specs.Results.{TaskResult}
 use Rattle.task_run.specs.OwnRun.{Start, Child, Action, Step, Spawn, EnterFinish, Own, result_of}
 use Rattle.task_run.specs.Given.{own, below}
-use Rattle.task_run.specs.Frames.{Frame, Rest, Again, Further, AtEnd, Back, Standing}
+use Rattle.task_run.specs.Frames.{Frame, Rest, Again, Further, AtEnd, OnFault, Back, Standing}
 
 -- the sum of a measure over results
 abbrev pub measured : (TaskResult → ℕ) → List TaskResult → ℕ
@@ -42,6 +42,7 @@ around (Rest b ∷ fs) = around fs
 around (Again l t b ∷ fs) = around fs
 around (Further l s n k q i b ∷ fs) = around fs
 around (AtEnd before ∷ fs) = before.extra.pending ∷ around fs
+around (OnFault before x c ∷ fs) = around fs
 around (Back env ∷ fs) = around fs
 
 -- all children that a task lists in a configuration

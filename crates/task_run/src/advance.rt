@@ -121,6 +121,17 @@ impl<'p> Run<'p> {
                     Ok(Step::Did(done))
                 }
                 TaskFrame::EndFinish(_) => Ok(Step::AtEnd),
+                TaskFrame::OnFault {
+                    before,
+                    faults,
+                    handler,
+                } => {
+                    let before = std::mem::replace(before, Vec::new(self.plan.alloc));
+                    let (faults, handler) = (*faults, *handler);
+                    self.frames.pop();
+                    self.handle(before, faults, handler)?;
+                    Ok(Step::Did(Done::Gone))
+                }
                 TaskFrame::EndCall { .. } => {
                     self.take_off()?;
                     Ok(Step::Did(Done::Gone))
@@ -247,6 +258,14 @@ impl<'p> Run<'p> {
                 self.enter(body)?;
                 Ok(Done::Entered)
             }
+            StmtKind::Rescue {
+                body,
+                faults,
+                handler,
+            } => {
+                self.enter_rescue(body, *faults, handler)?;
+                Ok(Done::Entered)
+            }
         }
     }
 
@@ -305,6 +324,7 @@ impl<'p> Run<'p> {
                 TaskFrame::Rest(_)
                 | TaskFrame::Again { .. }
                 | TaskFrame::Turns(_)
+                | TaskFrame::OnFault { .. }
                 | TaskFrame::EndCall { .. } => unreachable!(),
             },
         }

@@ -113,6 +113,15 @@ impl<'p> TaskFrame<'p> {
             }),
             TaskFrame::Turns(turns) => Ok(TaskFrame::Turns(*turns)),
             TaskFrame::EndFinish(outer) => Ok(TaskFrame::EndFinish(outer.clone(alloc)?)),
+            TaskFrame::OnFault {
+                before,
+                faults: slot,
+                handler,
+            } => Ok(TaskFrame::OnFault {
+                before: faults(alloc, before)?,
+                faults: *slot,
+                handler: *handler,
+            }),
             TaskFrame::EndCall { environment } => {
                 let environment = environment.copied(alloc)?;
                 Ok(TaskFrame::EndCall { environment })
@@ -194,7 +203,7 @@ fn lines(alloc: Global, lines: &[Vec<i64>]) -> Result<Vec<Vec<i64>>, AllocError>
 }
 
 /// Copies the faults.
-fn faults(alloc: Global, faults: &[Fault]) -> Result<Vec<Fault>, AllocError>
+pub(crate) fn faults(alloc: Global, faults: &[Fault]) -> Result<Vec<Fault>, AllocError>
     ensures { IfOk result (λ v. map fault_of v.items ≡ map fault_of faults.now) }
 {
     let mut copies = Vec::new(alloc);

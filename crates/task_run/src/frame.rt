@@ -4,6 +4,7 @@ use crate::result::Listed;
 use statement_steps::turns::TurnsToCome;
 use types::code::{Label, Stmt, Truth};
 use types::fault::Fault;
+use types::ids::Slot;
 use types::value::Environment;
 
 /// Work that waits until the frames above it are done.
@@ -21,6 +22,14 @@ pub enum TaskFrame<'p> {
     Turns(TurnsToCome<'p>),
     /// The end of a finish.
     EndFinish(Outer),
+    /// The handler of a finish, right behind its end.
+    OnFault {
+        /// The faults of the task when the finish began.
+        before: Vec<Fault>,
+        /// The scalar that gets the number of faults.
+        faults: Slot,
+        handler: &'p [Stmt],
+    },
     /// The return from a call to the caller's environment.
     EndCall {
         environment: Environment,

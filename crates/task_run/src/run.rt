@@ -3,15 +3,18 @@
 ghost use Rattle.std.specs.Prelude.{ℕ, ◌≡◌, ◌+◌, ◌-◌, ◌<◌, ◌++◌, [], ◌∷◌, IfOk, OnOk, Some, map};
 ghost use Rattle.sections.specs.Place.{piece_of};
 ghost use Rattle.sections.specs.Translation.{section as section_of, window as window_of};
-ghost use Rattle.types.specs.Code.{Call, Finish, If, Parts, Split, While};
+ghost use Rattle.types.specs.Code.{Call, Finish, If, Parts, Rescue, Split, While};
 ghost use Rattle.types.specs.Run.{procedure_of as numbered};
 ghost use Rattle.types.specs.Translation.{program as program_of, truth as truth_of, number as number_of};
 ghost use Rattle.types.specs.Translation.{codes as codes_of, environment as environment_of};
+ghost use Rattle.types.specs.Translation.{fault as fault_of};
 ghost use Rattle.statement_steps.specs.Turns.{begun as begun_turns};
+ghost use Rattle.task_run.specs.Frames.{handled};
 ghost use Rattle.task_run.specs.Reached.{begun};
 ghost use Rattle.task_run.specs.Standings.{IsAt};
 ghost use Rattle.task_run.specs.Translation.{contents_of, owned_by, start as start_of};
 
+use crate::copy::faults as copied_faults;
 use crate::frame::{Outer, TaskFrame};
 use crate::memory::TaskMemory;
 use crate::result::Listed;
@@ -25,7 +28,8 @@ use statement_steps::turns::TurnsToCome;
 use std::alloc::AllocError;
 use types::child_number::ChildNumber;
 use types::code::{Label, Number, Pieces, Procedure, Stmt, Truth};
-use types::ids::ProcedureId;
+use types::fault::Fault;
+use types::ids::{ProcedureId, Slot};
 use types::value::Environment;
 
 /// A task between two turns, with what it holds.
@@ -87,6 +91,7 @@ impl<'p> Run<'p> {
                 TaskFrame::Rest(_)
                 | TaskFrame::Again { .. }
                 | TaskFrame::Turns(_)
+                | TaskFrame::OnFault { .. }
                 | TaskFrame::EndFinish(_) => Ok(()),
             },
         }
@@ -268,6 +273,46 @@ impl<'p> Run<'p> {
         self.frames.push(TaskFrame::EndFinish(outer))?;
         self.frames.push(TaskFrame::Rest(body))?;
         Ok(())
+    }
+
+    /// Enters the body of a finish that has a handler. The handler is a frame behind its end.
+    pub(crate) fn enter_rescue(
+        &mut self,
+        body: &'p [Stmt],
+        faults: Slot,
+        handler: &'p [Stmt],
+    ) -> Result<(), AllocError>
+        ensures { OnOk result ((label : ℕ) → Acts label (Rescue (codes_of body.entry.now)
+            faults.number (codes_of handler.entry.now)) self.old self.new) }
+    {
+        let before = copied_faults(self.plan.alloc, &self.thread.faults)?;
+        self.frames.push(TaskFrame::OnFault {
+            before,
+            faults,
+            handler,
+        })?;
+        self.enter(body)
+    }
+
+    /// Continues after a finish that has a handler. If the task has faulted, its faults are `before`
+    /// again, the scalar gets the number of the others, and the handler is next.
+    pub(crate) fn handle(
+        &mut self,
+        before: Vec<Fault>,
+        faults: Slot,
+        handler: &'p [Stmt],
+    ) -> Result<(), AllocError>
+        ensures { OnOk result (Turns (λ fs st. handled st.flow (map fault_of before.items)
+            faults.number (codes_of handler.entry.now) fs st) self.old self.new) }
+    {
+        match self.thread.flow {
+            Flow::On | Flow::Stopped => Ok(()),
+            Flow::Faulted => {
+                self.thread.catch_faults(faults, before)?;
+                self.frames.push(TaskFrame::Rest(handler))?;
+                Ok(())
+            }
+        }
     }
 }
 

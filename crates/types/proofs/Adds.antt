@@ -39,6 +39,7 @@ module _ (begin : Codes → S → S) (grows : (b : Codes) → Grows (begin b)) w
   view : IsView telling Never (one_rules_by begin) (one_rules_by begin)
   view =
       whole_view telling (one_rules_by begin) (one_rules_by begin) (λ t n. refl) (λ t l st. refl) (λ l. grows) finish_behind
+      (λ t x y. refl)
     where
       finish_behind : (l : ℕ) (go to : S → S) → Follows telling Never go to
           → Follows telling Never (λ st. (one_rules_by begin).leave st (go ((one_rules_by begin).enter l st)))

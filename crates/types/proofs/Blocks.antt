@@ -1,7 +1,7 @@
 -- The code of a statement consists of the code of its blocks.
 use Rattle.std.proofs.Common.{◌≡◌, List, [], ◌∷◌, ◌++◌, Vec, Global, refl, ap, ◌∙◌}
 use mathlib.Core.Former.{Count}
-use Rattle.types.specs.Code.{If, While, Split, Parts, Async, Finish, Codes, End, Then}
+use Rattle.types.specs.Code.{If, While, Split, Parts, Async, Finish, Rescue, Codes, End, Then}
 use Rattle.types.specs.Translation.{number, truth, code, row_codes, codes}
 use Rattle.types.specs.declared.code.Pieces.{Pieces}
 use Rattle.types.specs.declared.code.Sides.{Sides}
@@ -9,10 +9,12 @@ use Rattle.types.specs.declared.code.Truth.{Truth}
 use Rattle.types.specs.declared.code.Stmt.{Stmt}
 use Rattle.types.specs.declared.code.StmtKind.{StmtKind, Row_of-Stmt, end_of-Stmt, more_of-Stmt, items-the_row-Stmt}
 use Rattle.types.specs.declared.code.StmtKind.{items_hidden-the_row-Stmt-0}
+use Rattle.types.specs.declared.ids.Slot.{Slot}
 use Rattle.types.specs.declared.code.StmtKind.TheVariants.{If as rIf, If' as rIf', While as rWhile, While' as rWhile'}
 use Rattle.types.specs.declared.code.StmtKind.TheVariants.{Split as rSplit, Split' as rSplit', Parts as rParts}
 use Rattle.types.specs.declared.code.StmtKind.TheVariants.{Parts' as rParts', Async as rAsync}
-use Rattle.types.specs.declared.code.StmtKind.TheVariants.{Async' as rAsync', Finish as rFinish, Finish' as rFinish'}
+use Rattle.types.specs.declared.code.StmtKind.TheVariants.{Async' as rAsync', Finish as rFinish, Finish' as rFinish', Rescue as rRescue}
+use Rattle.types.specs.declared.code.StmtKind.TheVariants.{Rescue' as rRescue'}
 
 row_codes_are : (n : Count) (row : Row_of-Stmt n) → row_codes row ≡ codes (items-the_row-Stmt n row)
 row_codes_are n end_of-Stmt = refl
@@ -25,10 +27,12 @@ block_in (rSplit' _ _ b) = (_, b)
 block_in (rParts' _ _ b) = (_, b)
 block_in (rAsync' _ b) = (_, b)
 block_in (rFinish' _ b) = (_, b)
+block_in (rRescue' _ b _ _ _) = (_, b)
 block_in _ = (_, end_of-Stmt)
 
 abbrev other_in : StmtKind → (n : Count) × Row_of-Stmt n
 other_in (rIf' _ _ _ _ b) = (_, b)
+other_in (rRescue' _ _ _ _ c) = (_, c)
 other_in _ = (_, end_of-Stmt)
 
 pub code_While : (t : Truth) (v : Vec Stmt Global) → code (rWhile t v) ≡ While (truth t) (codes v.items)
@@ -59,6 +63,14 @@ code_If t v w =
     let o = other_in (rIf t v w) in
     ap (λ x. If (truth t) x (row_codes o.1)) (row_codes_are b.0 b.1 ∙ ap codes (items_hidden-the_row-Stmt-0 v))
     ∙ ap (If (truth t) (codes v.items)) (row_codes_are o.0 o.1 ∙ ap codes (items_hidden-the_row-Stmt-0 w))
+
+pub code_Rescue : (v : Vec Stmt Global) (x : Slot) (w : Vec Stmt Global)
+    → code (rRescue v x w) ≡ Rescue (codes v.items) x.number (codes w.items)
+code_Rescue v x w =
+    let b = block_in (rRescue v x w) in
+    let o = other_in (rRescue v x w) in
+    ap (λ z. Rescue z x.number (row_codes o.1)) (row_codes_are b.0 b.1 ∙ ap codes (items_hidden-the_row-Stmt-0 v))
+    ∙ ap (Rescue (codes v.items) x.number) (row_codes_are o.0 o.1 ∙ ap codes (items_hidden-the_row-Stmt-0 w))
 
 -- code in front of code
 abbrev pub joined : List Stmt → Codes → Codes

@@ -1,7 +1,7 @@
 -- A property that holds for a state, whether or not its rules were informed of a statement's step,
 -- holds after `counted`.
 use Rattle.std.proofs.Common.{◌≡◌, ℕ, refl}
-use Rattle.types.specs.Code.{Code, Do, If, While, Split, Parts, Begun, Call, Async, Finish}
+use Rattle.types.specs.Code.{Code, Do, If, While, Split, Parts, Begun, Call, Async, Finish, Rescue}
 use Rattle.types.specs.Run.{State, Rules, counted}
 
 module _ {X : Type 0} (r : Rules X) (l : ℕ) (st : State X) where
@@ -16,6 +16,7 @@ module _ {X : Type 0} (r : Rules X) (l : ℕ) (st : State X) where
   counted_is P untold told (Call f es ss) = told
   counted_is P untold told (Async b) = untold
   counted_is P untold told (Finish b) = untold
+  counted_is P untold told (Rescue b x c) = untold
 
   pub counted_flow : (s : Code) → (counted r l s st).flow ≡ st.flow
   counted_flow = counted_is (λ to. to.flow ≡ st.flow) refl refl

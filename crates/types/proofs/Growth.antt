@@ -2,9 +2,10 @@
 use Rattle.std.proofs.Common.{◌≡◌, ℕ, ◌+◌, ◌≤◌, List, [], ◌∷◌, ◌++◌, length, refl, sym, ap, ◌∙◌, arith, append_assoc, append-nil}
 use Rattle.std.proofs.lemmas.List.{length-append}
 use Rattle.syntax_tree.specs.Tree.{Stmt, Skip, Var, Assign, Store, Print, Fault, If, IfElse, While, Split, Parts, Call, Async}
-use Rattle.syntax_tree.specs.Tree.{Finish, Block, End, Then}
+use Rattle.syntax_tree.specs.Tree.{Finish, Rescue, Block, End, Then}
 use Rattle.sections.specs.Origins.{Origin, Left, Right, Piece}
 use Rattle.types.specs.Scope.{Scope, section_of, next, inside_async, with_sides, with_turn, out_of, behind, after}
+use Rattle.types.specs.Scope.{with_scalar, in_handler}
 
 -- sections and the number of slots, and later ones
 pub record Grows (os : List Origin) (n : ℕ) (qs : List Origin) (m : ℕ) : Type 0 where
@@ -38,6 +39,11 @@ grows_sides s l r here = record { more = Left s ∷ Right s ∷ []; sections = r
 grows_turn : (s : ℕ) (x i : List ℕ) (here : Scope) → GrowsTo here (with_turn s x i here)
 grows_turn s x i here = record { more = Piece s ∷ []; sections = refl; slots = omega arith }
 
+-- and one more scalar
+grows_named : (x : List ℕ) (here there : Scope) → GrowsTo here there → GrowsTo here (with_scalar x there)
+grows_named x here there g =
+    grows_both here there (with_scalar x there) g (grows_none there.sections there.slot (there.slot + 1) (omega arith))
+
 mutual
   pub grows_behind : (s : Stmt) (here : Scope) → GrowsTo here (behind s here)
   grows_behind Skip here = grows_none here.sections here.slot here.slot (omega arith)
@@ -60,6 +66,10 @@ mutual
   grows_behind (Call f es) here = grows_none here.sections here.slot here.slot (omega arith)
   grows_behind (Async b) here = grows_after b (inside_async (next here))
   grows_behind (Finish b) here = grows_after b (next here)
+  grows_behind (Rescue b x c) here =
+      let there = in_handler b x here in
+      grows_both here there (after c there) (grows_named x here (out_of here (after b (next here))) (grows_after b (next here)))
+      (grows_after c there)
 
   pub grows_after : (b : Block) (here : Scope) → GrowsTo here (after b here)
   grows_after End here = grows_none here.sections here.slot here.slot (omega arith)

@@ -1,17 +1,17 @@
 -- A run keeps what each of its operations keeps.
-use Rattle.std.proofs.Common.{ℕ, zero, suc, ◌+◌, Option, Some, Ok, Err, refl}
+use Rattle.std.proofs.Common.{ℕ, zero, suc, ◌+◌, List, Option, Some, Ok, Err, refl}
 use Rattle.std.specs.Prelude.{ℤ, Bool, true, false, map, ok_or, if◌then◌else◌}
 use Rattle.sections.specs.Place.{Place, sides_of, same_place, has_piece}
 use Rattle.types.specs.declared.fault.FaultKind.{FaultKind}
 use Rattle.types.specs.declared.fault.FaultKind.TheVariants.{SplitPoint, PieceSize, Raised}
 use Rattle.types.specs.Code.{Primitive, Skip, Assign, Store, Print, Raise, Code, Do, If, While, Split, Parts, Begun}
-use Rattle.types.specs.Code.{Call, Async, Finish, Codes, End, Then, Program}
+use Rattle.types.specs.Code.{Call, Async, Finish, Rescue, Codes, End, Then, Program}
 use Rattle.types.specs.Contents.{IsThere}
 use Rattle.types.specs.Value.{Valued, element_of, holds_number}
-use Rattle.types.specs.Run.{Flow, On, Faulted, Stopped, State, Work, Block, Turn, Pieces, Rules, stopped, at_flow, go_on}
+use Rattle.types.specs.Run.{Flow, On, Faulted, Stopped, Fault, State, Work, Block, Turn, Pieces, Rules, stopped, at_flow, go_on}
 use Rattle.types.specs.Run.{spend, in_turn, piece_size, with_step, fault, with_value, assign, print, put, choose, number_at, numbers_at, truth_at}
 use Rattle.types.specs.Run.{window_at, entry, with_sides, array_of, procedure_of, primitive, counted, act, block, work}
-use Rattle.types.specs.Run.{within, run}
+use Rattle.types.specs.Run.{within, run, caught, rescued, rescued_by}
 use Rattle.types.specs.Laws.{IsKept, Keeps}
 
 -- there is a number after a choice between two numbers
@@ -51,6 +51,13 @@ module _ (p : Program) {X : Type 0} (r : Rules X) (R : State X → State X → T
   choose_keeps true go to st h k = h
   choose_keeps false go to st h k = k
 
+  rescue_keeps : (f : Flow) (x : ℕ) (go : State X → State X) (before : List Fault) (out : State X) → Kept go
+      → R out (rescued_by f x go before out)
+  rescue_keeps On x go before out h = stays out
+  rescue_keeps Faulted x go before out h =
+      let from = caught x before out in kept.further out from (go from) (kept.idle out from refl refl refl (λ q k. k)) (h from)
+  rescue_keeps Stopped x go before out h = stays out
+
   put_keeps : (l : ℕ) (fits : Bool) (q : Place) (v : ℤ) → Kept (put l fits q v)
   put_keeps l true q v st = kept.idle st (put l true q v st) refl refl refl (λ r h. still_there (same_place q r) (Some v) (st.store r) tt h)
   put_keeps l false q v st = fault_keeps l _ st
@@ -74,6 +81,7 @@ module _ (p : Program) {X : Type 0} (r : Rules X) (R : State X → State X → T
   counted_keeps l (Call f es ss) st = kept.stepped l st
   counted_keeps l (Async b) st = stays st
   counted_keeps l (Finish b) st = stays st
+  counted_keeps l (Rescue b x c) st = stays st
 
   module _ (d : Work → State X → State X) (h : (w : Work) → Kept (d w)) where
     -- a step, then the statement that follows it
@@ -111,6 +119,11 @@ module _ (p : Program) {X : Type 0} (r : Rules X) (R : State X → State X → T
           (kept.idle out (record out { environment = st.environment }) refl refl refl (λ q h. h))))
       act_keeps (Async b) l st = kept.begin l b st
       act_keeps (Finish b) l st = kept.finish l st (block p r d b (r.enter l st)) (block_keeps b (r.enter l st))
+      act_keeps (Rescue b x c) l st =
+          let out = r.leave st (block p r d b (r.enter l st)) in
+          kept.further st out (rescued x (block p r d c) st.faults out)
+          (kept.finish l st (block p r d b (r.enter l st)) (block_keeps b (r.enter l st)))
+          (rescue_keeps out.flow x (block p r d c) st.faults out (block_keeps c))
 
       block_keeps : (b : Codes) → Kept (block p r d b)
       block_keeps End st = stays st

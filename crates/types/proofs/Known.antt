@@ -13,12 +13,12 @@ use Rattle.sections.specs.Overlap.{root_of}
 use Rattle.sections.proofs.Lines.{root_of-side}
 use Rattle.sections.proofs.Numbered.{continued, sides_continue, piece_continues}
 use Rattle.syntax_tree.specs.Tree.{Stmt, Skip, Var, Assign, Store, Print, Fault, If, IfElse, While, Split, Parts, Call, Async}
-use Rattle.syntax_tree.specs.Tree.{Finish, Block, End, Then, Procedure as Declared}
+use Rattle.syntax_tree.specs.Tree.{Finish, Rescue, Block, End, Then, Procedure as Declared}
 use Rattle.types.specs.Code.{Parameter}
 use Rattle.types.specs.NameErrors.{naming_section}
 use Rattle.types.specs.Rules.{limit, own_errors, errors_in, errors}
 use Rattle.types.specs.Scope.{Meant, ASection, AScalar, Names, meant, section_or_0, section_of, Scope, no_section, next}
-use Rattle.types.specs.Scope.{inside_async, with_sides, with_turn, out_of, behind, after}
+use Rattle.types.specs.Scope.{inside_async, with_sides, with_turn, out_of, behind, after, in_handler}
 use Rattle.types.specs.Sound.{parameter_at}
 use Rattle.types.proofs.Growth.{GrowsTo, grows_both, grows_longer, grows_behind, grows_after}
 use Rattle.types.proofs.Prefixes.{root-prefix}
@@ -228,6 +228,14 @@ known_out ps scope here there known grows kinds =
       kinds = kinds;
     }
 
+-- in the handler of a finish, after its body
+pub known_in_handler : (ps : List Parameter) (scope : List ℕ) (here : Scope) (b : Block) (x : List ℕ) → KnownAt ps scope here
+    → KnownAt ps scope (after b (next here)) → KnownAt ps scope (in_handler b x here)
+known_in_handler ps scope here b x known end =
+    let there = after b (next here) in
+    known_scalar ps scope here.names there.slot there.sections there.kinds x
+    (known_out ps scope here there known (grows_after b (next here)) end.kinds)
+
 pub named_is_there : (label : ℕ) (scope : List ℕ) (m : Option Meant) → ((s : ℕ) → m ≡ Some (ASection s) → Member s scope)
     → naming_section label m ≡ [] → Member (section_or_0 m) scope
 named_is_there label scope None there none = refused none
@@ -296,6 +304,13 @@ module _ (ps : List Parameter) (fs : List Declared) where
     known_behind (Finish b) here scope known none =
         known_out ps scope here (after b (next here)) known (grows_after b (next here))
         (known_after b (next here) scope known (none_right (own_errors fs here (Finish b)) _ none)).kinds
+    known_behind (Rescue b x c) here scope known none =
+        let there = in_handler b x here in
+        let inner = none_right (own_errors fs here (Rescue b x c)) _ none in
+        known_out ps scope here (after c there) known (grows_behind (Rescue b x c) here)
+        (known_after c there scope
+        (known_in_handler ps scope here b x known (known_after b (next here) scope known (none_left (errors fs (next here) b) _ inner)))
+        (none_right (errors fs (next here) b) _ inner)).kinds
 
     pub known_after : (b : Block) (here : Scope) (scope : List ℕ) → KnownAt ps scope here → errors fs here b ≡ []
         → KnownAt ps scope (after b here)

@@ -3,9 +3,10 @@ use Rattle.std.proofs.Common.{◌≡◌, ℕ, ◌≤◌, Bool, true, false, List
 use Rattle.std.specs.Prelude.{nat_lt}
 use Rattle.std.proofs.lemmas.Bool.Decides.{nat_tests}
 use Rattle.syntax_tree.specs.Tree.{Stmt, Skip, Var, Assign, Store, Print, Fault, If, IfElse, While, Split, Parts, Call, Async}
-use Rattle.syntax_tree.specs.Tree.{Finish, Block, End, Then, Procedure}
+use Rattle.syntax_tree.specs.Tree.{Finish, Rescue, Block, End, Then, Procedure}
 use Rattle.types.specs.Rules.{limit, own_errors, inner_errors, errors}
 use Rattle.types.specs.Scope.{Scope, section_of, next, inside_async, with_sides, with_turn, out_of, behind, after}
+use Rattle.types.specs.Scope.{in_handler}
 use Rattle.types.specs.declared.error.TypeError.{TypeError}
 use Rattle.types.specs.declared.error.TypeError.TheVariants.{OverLimit}
 
@@ -44,6 +45,10 @@ module _ (fs : List Procedure) where
     label_behind (Call f es) here h none = omega arith
     label_behind (Async b) here h none = label_after b (inside_async (next here)) (omega arith) none
     label_behind (Finish b) here h none = label_after b (next here) (omega arith) none
+    label_behind (Rescue b x c) here h none =
+        let there = in_handler b x here in
+        label_after c there (label_after b (next here) (omega arith) (none_left (errors fs (next here) b) (errors fs there c) none))
+        (none_right (errors fs (next here) b) (errors fs there c) none)
 
     pub label_after : (b : Block) (here : Scope) → here.label ≤ 65536 → errors fs here b ≡ [] → (after b here).label ≤ 65536
     label_after End here h none = h

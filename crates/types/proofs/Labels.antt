@@ -5,13 +5,13 @@ use Rattle.std.proofs.lemmas.Option.{none-some, same_Some}
 use Rattle.std.proofs.lemmas.List.{length-append}
 use Rattle.std.specs.List.{range_with_len}
 use Rattle.syntax_tree.specs.Tree.{Stmt, Skip, Var, Assign, Store, Print, Fault, If, IfElse, While, Split, Parts, Call, Async}
-use Rattle.syntax_tree.specs.Tree.{Finish, Block, End, Then, Expr, Parameter, Procedure, Main, Program}
+use Rattle.syntax_tree.specs.Tree.{Finish, Rescue, Block, End, Then, Expr, Parameter, Procedure, Main, Program}
 use Rattle.types.proofs.Scopes.{label_with_parameters, label_with_arrays}
 use Rattle.types.specs.Code as resolved
 use Rattle.types.specs.Labels.{labels_inside, labels_of, labels_of_procedures, labels_of_program}
 use Rattle.types.specs.Resolution.{call, code, codes, label_behind, label_behind_all, procedure_of, procedures, with_main, resolution}
 use Rattle.types.specs.Scope.{Names, Scope, section_of, next, inside_async, with_sides, with_turn, out_of, behind, after}
-use Rattle.types.specs.Scope.{empty_scope, in_procedure, in_main}
+use Rattle.types.specs.Scope.{empty_scope, in_handler, in_procedure, in_main}
 
 -- m numbers and the next n are m + n numbers
 range_with_len-append : (a m n : ℕ) → range_with_len a m ++ range_with_len (a + m) n ≡ range_with_len a (m + n)
@@ -84,6 +84,10 @@ module _ (all : List Procedure) where
         (sym (nothing_in_call here.names (procedure_of 0 f all) es)) (alone here.label)
     counts_code (Async b) here = first _ _ _ (counts_codes b (inside_async (next here)))
     counts_code (Finish b) here = first _ _ _ (counts_codes b (next here))
+    counts_code (Rescue b x c) here =
+        let there = in_handler b x here in
+        first _ _ _
+        (joined _ _ _ (labels_of (codes all (next here) b)) (labels_of (codes all there c)) (counts_codes b (next here)) (counts_codes c there))
 
     counts_codes : (b : Block) (here : Scope) → Counts here.label (after b here).label (labels_of (codes all here b))
     counts_codes End here = none here.label

@@ -3,7 +3,7 @@ use Rattle.std.proofs.Common.{◌≡◌, ℕ, zero, suc, ◌+◌, ◌-◌, ◌�
 use Rattle.std.specs.Prelude.{ℤ, ◌⊎◌}
 use Rattle.types.specs.Code.{Codes, Program}
 use Rattle.types.specs.Contents.{held_by}
-use Rattle.types.specs.Run.{Flow, State, Rules, Work, Block, at_flow, go_on, within, run}
+use Rattle.types.specs.Run.{Flow, State, Rules, Work, Block, within, run}
 use Rattle.types.specs.Meaning.{hushed, joined, child, after_async, after_body, after_finish, begin_one, one_rules, one}
 use Rattle.types.specs.Outcome.{Budget, IsLarger, Ending, Outcome, Ended, Stopped, start, outcome_by, ending_of, outcome_of, outcome, Means}
 use Rattle.types.specs.Laws.{IsThrifty}
@@ -22,9 +22,6 @@ richer = viewed rich
 
 abbrev IsStopped : S → Type 0
 IsStopped st = st.flow ≡ Flow.Stopped
-
-stays_stopped : (st : S) (go : S → S) → IsStopped st → IsStopped (go_on go st)
-stays_stopped st go e = subst (λ f. IsStopped (at_flow f st go)) (sym e) e
 
 -- the one-thread rules give no step back
 pub one_is_thrifty : (p : Program) (fresh nest : ℕ) → IsThrifty (one_rules p fresh nest)
@@ -54,7 +51,8 @@ module _ (p : Program) (fresh more : ℕ) where
       stepped = λ d l st. refl;
       begin = λ l. begins;
       finish = finish_richer;
-      lost = stays_stopped;
+      earlier = λ d l go st. inr refl;
+      stops = λ st e. e;
       lost_moved = λ st env e. e;
     }
       where

@@ -2,6 +2,7 @@ pub mod Programs
 pub mod Examples
 pub mod TreeExamples
 pub mod PartsExamples
+pub mod RescueExamples
 pub mod Counted
 pub mod Solutions
 pub mod Views

@@ -6,11 +6,11 @@ use Rattle.std.specs.Cmp.Lexicographic.{pointwise}
 use Rattle.std.proofs.lemmas.List.{length-append}
 use Rattle.sections.specs.Origins.{Root, Left, Right, Piece}
 use Rattle.syntax_tree.specs.Tree.{Stmt, Skip, Var, Assign, Store, Print, Fault, If, IfElse, While, Split, Parts, Call, Async}
-use Rattle.syntax_tree.specs.Tree.{Finish, Block, End, Then, Parameter as Declared, Written, Read, Scalar, Array}
+use Rattle.syntax_tree.specs.Tree.{Finish, Rescue, Block, End, Then, Parameter as Declared, Written, Read, Scalar, Array}
 use Rattle.types.specs.Code.{Parameter}
 use Rattle.types.specs.Scope.{Meant, ASection, AScalar, Names, meant, section_of, Scope, kind_of, with_scalar, with_root}
 use Rattle.types.specs.Scope.{with_sides, with_turn, next, inside_async, out_of, behind, after, with_parameter, with_parameters, with_array}
-use Rattle.types.specs.Scope.{with_arrays, empty_scope}
+use Rattle.types.specs.Scope.{with_arrays, empty_scope, in_handler}
 use Rattle.types.specs.Resolving.{left, IsWellScoped}
 use Rattle.std.proofs.lemmas.List.{drop_at}
 
@@ -48,6 +48,7 @@ grown_behind (Parts s e x i b) here = grown_none here.names
 grown_behind (Call f es) here = grown_none here.names
 grown_behind (Async b) here = grown_none here.names
 grown_behind (Finish b) here = grown_none here.names
+grown_behind (Rescue b x c) here = grown_none here.names
 
 grown_after : (b : Block) (here : Scope) → Grown here.names (after b here).names
 grown_after End here = grown_none here.names
@@ -97,6 +98,10 @@ left_turn here s x i b = left_is_out here (with_turn s x i (next here)) b (recor
   more = (x, ASection (length here.sections)) ∷ (i, AScalar here.slot) ∷ [];
   is = refl;
 })
+
+pub left_handler : (here : Scope) (b : Block) (x : List ℕ) (c : Block)
+    → left (length here.names) here.outside (after c (in_handler b x here)) ≡ out_of here (after c (in_handler b x here))
+left_handler here b x c = left_is_out here (in_handler b x here) c (grown_one (x, AScalar (after b (next here)).slot) here.names)
 
 -- ---- what is known about a scope
 abbrev IsKnown : Names → ℕ → Type 0
@@ -153,6 +158,14 @@ scoped_turn s x i here w =
       slots = let h : here.slot ≤ 16 + here.label = w.slots in omega arith;
     }
 
+-- a scalar without a statement of its own is one more slot
+pub scoped_scalar : (x : List ℕ) (here : Scope) → here.slot + 1 ≤ 16 + here.label → IsWellScoped here → IsWellScoped (with_scalar x here)
+scoped_scalar x here few w = record {
+  known = known_one x (AScalar here.slot) here.names (length here.sections) (λ k h. absurd (cc)) w.known;
+  kinds = w.kinds;
+  slots = few;
+}
+
 -- sections are never removed
 mutual
   more_behind : (s : Stmt) (here : Scope) → length here.sections ≤ length (behind s here).sections
@@ -179,12 +192,50 @@ mutual
   more_behind (Call f es) here = omega arith
   more_behind (Async b) here = more_after b (inside_async (next here))
   more_behind (Finish b) here = more_after b (next here)
+  more_behind (Rescue b x c) here =
+      let first = more_after b (next here) in
+      let handler = more_after c (in_handler b x here) in
+      omega arith
 
   more_after : (b : Block) (here : Scope) → length here.sections ≤ length (after b here).sections
   more_after End here = omega arith
   more_after (Then s rest) here =
       let first = more_behind s here in
       let others = more_after rest (behind s here) in
+      omega arith
+
+-- a statement adds at most as many slots as labels
+mutual
+  few_behind : (s : Stmt) (here : Scope) → (behind s here).slot + here.label ≤ here.slot + (behind s here).label
+  few_behind Skip here = omega arith
+  few_behind (Var x e) here = omega arith
+  few_behind (Assign x e) here = omega arith
+  few_behind (Store s i e) here = omega arith
+  few_behind (Print e es) here = omega arith
+  few_behind (Fault e) here = omega arith
+  few_behind (If e b) here = let h = few_after b (next here) in omega arith
+  few_behind (IfElse e b c) here =
+      let h = few_after b (next here) in
+      let k = few_after c (out_of here (after b (next here))) in
+      omega arith
+  few_behind (While e b) here = let h = few_after b (next here) in omega arith
+  few_behind (Split s e l r b) here =
+      let h = few_after b (with_sides (section_of here.names s) l r (next here)) in omega arith
+  few_behind (Parts s e x i b) here =
+      let h = few_after b (with_turn (section_of here.names s) x i (next here)) in omega arith
+  few_behind (Call f es) here = omega arith
+  few_behind (Async b) here = let h = few_after b (inside_async (next here)) in omega arith
+  few_behind (Finish b) here = let h = few_after b (next here) in omega arith
+  few_behind (Rescue b x c) here =
+      let h = few_after b (next here) in
+      let k = few_after c (in_handler b x here) in
+      omega arith
+
+  few_after : (b : Block) (here : Scope) → (after b here).slot + here.label ≤ here.slot + (after b here).label
+  few_after End here = omega arith
+  few_after (Then s rest) here =
+      let first = few_behind s here in
+      let others = few_after rest (behind s here) in
       omega arith
 
 -- after a block
@@ -195,6 +246,15 @@ scoped_out before there w v more = record {
   kinds = v.kinds;
   slots = v.slots;
 }
+
+-- in the handler of a finish, after its body; the label of the finish makes room for the slot of its name
+scoped_named : (b : Block) (x : List ℕ) (here : Scope) → IsWellScoped here → IsWellScoped (after b (next here))
+    → IsWellScoped (in_handler b x here)
+scoped_named b x here w v =
+    let between = out_of here (after b (next here)) in
+    let few : between.slot + (here.label + 1) ≤ here.slot + between.label = few_after b (next here) in
+    let slots : here.slot ≤ 16 + here.label = w.slots in
+    scoped_scalar x between (omega arith) (scoped_out here (after b (next here)) w v (more_after b (next here)))
 
 mutual
   pub scoped_behind : (s : Stmt) (here : Scope) → IsWellScoped here → IsWellScoped (behind s here)
@@ -232,10 +292,19 @@ mutual
       scoped_out here (after b inside) w (scoped_after b inside (scoped_async (next here) (scoped_next here w))) (more_after b inside)
   scoped_behind (Finish b) here w =
       scoped_out here (after b (next here)) w (scoped_after b (next here) (scoped_next here w)) (more_after b (next here))
+  scoped_behind (Rescue b x c) here w =
+      let there = in_handler b x here in
+      let first = more_after b (next here) in
+      let handler = more_after c there in
+      scoped_out here (after c there) w (scoped_after c there (scoped_named b x here w (scoped_after b (next here) (scoped_next here w))))
+      (omega arith)
 
   pub scoped_after : (b : Block) (here : Scope) → IsWellScoped here → IsWellScoped (after b here)
   scoped_after End here w = w
   scoped_after (Then s rest) here w = scoped_after rest (behind s here) (scoped_behind s here w)
+
+pub scoped_handler : (b : Block) (x : List ℕ) (here : Scope) → IsWellScoped here → IsWellScoped (in_handler b x here)
+scoped_handler b x here w = scoped_named b x here w (scoped_after b (next here) (scoped_next here w))
 
 -- ---- at the start of a procedure
 pub scoped_empty : (label : ℕ) → IsWellScoped (empty_scope label)
@@ -253,14 +322,6 @@ scoped_root x k here w =
       kinds = let l : length here.kinds ≡ n = w.kinds in omega (arith, length-append here.kinds (k ∷ []));
       slots = w.slots;
     }
-
--- a scalar parameter is one more slot
-pub scoped_scalar : (x : List ℕ) (here : Scope) → here.slot + 1 ≤ 16 + here.label → IsWellScoped here → IsWellScoped (with_scalar x here)
-scoped_scalar x here few w = record {
-  known = known_one x (AScalar here.slot) here.names (length here.sections) (λ k h. absurd (cc)) w.known;
-  kinds = w.kinds;
-  slots = few;
-}
 
 pub scoped_arrays : (arrays : List Array) (here : Scope) → IsWellScoped here → IsWellScoped (with_arrays arrays here)
 scoped_arrays [] here w = w

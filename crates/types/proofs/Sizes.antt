@@ -1,7 +1,7 @@
 -- The size of a statement, so the recursion into it terminates.
 use Rattle.std.proofs.Common.{ℕ, ◌+◌}
 use Rattle.syntax_tree.specs.Tree.{Stmt, Skip, Var, Assign, Store, Print, Fault, If, IfElse, While, Split, Parts, Call, Async}
-use Rattle.syntax_tree.specs.Tree.{Finish, Block, End, Then}
+use Rattle.syntax_tree.specs.Tree.{Finish, Rescue, Block, End, Then}
 
 abbrev mutual
   pub size_in : Stmt → ℕ
@@ -19,6 +19,7 @@ abbrev mutual
   size_in (Call f es) = 0
   size_in (Async b) = 1 + size b
   size_in (Finish b) = 1 + size b
+  size_in (Rescue b x c) = 1 + size b + size c
 
   pub size : Block → ℕ
   size End = 0

@@ -1,16 +1,16 @@
 -- A run solves its equation, and no other function does.
-use Rattle.std.proofs.Common.{◌≡◌, ℕ, zero, suc, ◌+◌, ◌<◌, ◌≤◌, Ok, Err, refl, sym, ap, ◌∙◌, arith, le_refl}
+use Rattle.std.proofs.Common.{◌≡◌, ℕ, zero, suc, ◌+◌, ◌<◌, ◌≤◌, List, Ok, Err, refl, sym, ap, ◌∙◌, arith, le_refl}
 use Rattle.std.specs.Prelude.{ℤ, Bool, true, false, map, ok_or}
 use Rattle.types.specs.declared.fault.FaultKind.TheVariants.{SplitPoint, PieceSize}
 use Rattle.types.specs.Code.{Primitive, Skip, Assign, Store, Print, Raise, Code, Do, If, While, Split, Parts, Begun}
-use Rattle.types.specs.Code.{Call, Async, Finish, Codes, End, Then, Program}
+use Rattle.types.specs.Code.{Call, Async, Finish, Rescue, Codes, End, Then, Program}
 use Rattle.sections.specs.Place.{Place, sides_of, has_piece}
 use Rattle.types.specs.Value.{Valued, element_of, holds_number, then_try}
-use Rattle.types.specs.Run.{Flow, On, Faulted, Stopped, State, Work, Block, Turn, Pieces, at_flow, go_on, spend}
+use Rattle.types.specs.Run.{Flow, On, Faulted, Stopped, Fault, State, Work, Block, Turn, Pieces, at_flow, go_on, spend}
 use Rattle.types.specs.Run.{with_step, in_turn, piece_size}
 use Rattle.types.specs.Run.{with_value, number_at, numbers_at, truth_at, window_at, assign, print, put, choose, entry}
 use Rattle.types.specs.Run.{with_sides, array_of, procedure_of, Rules, primitive, counted, act, block, work, within}
-use Rattle.types.specs.Run.{run}
+use Rattle.types.specs.Run.{run, caught, rescued, rescued_by}
 use Rattle.types.specs.Laws.{IsThrifty, Solves, IsOnly}
 use Rattle.types.proofs.Counted.{counted_steps}
 
@@ -43,6 +43,18 @@ module _ {X : Type 0} where
   choose_less : (b : Bool) (body other : State X → State X) → Less body → Less other → Less (choose body other b)
   choose_less true body other h k = h
   choose_less false body other h k = k
+
+  rescue_less : (f : Flow) (x : ℕ) (go : State X → State X) (before : List Fault) (out : State X) → Less go
+      → (rescued_by f x go before out).steps ≤ out.steps
+  rescue_less On x go before out h = le_refl out.steps
+  rescue_less Faulted x go before out h = h (caught x before out)
+  rescue_less Stopped x go before out h = le_refl out.steps
+
+  rescue_agree : (f : Flow) (x : ℕ) (go to : State X → State X) (before : List Fault) (out : State X)
+      → go (caught x before out) ≡ to (caught x before out) → rescued_by f x go before out ≡ rescued_by f x to before out
+  rescue_agree On x go to before out h = refl
+  rescue_agree Faulted x go to before out h = h
+  rescue_agree Stopped x go to before out h = refl
 
   pub flow_agree : (f : Flow) (st : State X) (go to : State X → State X) → go st ≡ to st → at_flow f st go ≡ at_flow f st to
   flow_agree On st go to h = h
@@ -126,6 +138,12 @@ module _ (p : Program) {X : Type 0} (r : Rules X) (thrifty : IsThrifty r) where
           let i = thrifty.enter l st in
           let j = block_less b (r.enter l st) in
           let k = thrifty.leave st (block p r d b (r.enter l st)) in omega (arith, i, j, k)
+      act_less (Rescue b x c) l st =
+          let out = r.leave st (block p r d b (r.enter l st)) in
+          let i = thrifty.enter l st in
+          let j = block_less b (r.enter l st) in
+          let k = thrifty.leave st (block p r d b (r.enter l st)) in
+          let m = rescue_less out.flow x (block p r d c) st.faults out (block_less c) in omega (arith, i, j, k, m)
 
       block_less : (b : Codes) → Less (block p r d b)
       block_less End st = le_refl st.steps
@@ -192,6 +210,15 @@ module _ (p : Program) {X : Type 0} (r : Rules X) (thrifty : IsThrifty r) where
       act_agree (Async b) l st lt = refl
       act_agree (Finish b) l st lt =
           let i = thrifty.enter l st in ap (r.leave st) (block_agree b (r.enter l st) (omega (arith, i, lt)))
+      act_agree (Rescue b x c) l st lt =
+          let body = block p r d b (r.enter l st) in
+          let out = r.leave st body in
+          let i = thrifty.enter l st in
+          let j = block_less d less b (r.enter l st) in
+          let k = thrifty.leave st body in
+          rescue_agree out.flow x (block p r d c) (block p r e c) st.faults out
+          (block_agree c (caught x st.faults out) (omega (arith, i, j, k, lt)))
+          ∙ ap (λ s. rescued x (block p r e c) st.faults (r.leave st s)) (block_agree b (r.enter l st) (omega (arith, i, lt)))
 
       block_agree : (b : Codes) (st : State X) → st.steps ≤ m → block p r d b st ≡ block p r e b st
       block_agree End st le = refl

@@ -2,7 +2,7 @@
 -- the statement.
 use Rattle.std.proofs.Common.{◌≡◌, ℕ, ◌+◌, List, [], ◌∷◌, ◌++◌, map, length, Vec, Global, Some, refl, sym, ap, ◌∙◌, subst}
 use Rattle.syntax_tree.specs.Tree.{Stmt, Skip, Var, Assign, Store, Print, Fault, If, IfElse, While, Split, Parts, Call, Async}
-use Rattle.syntax_tree.specs.Tree.{Finish, Expr, Block, Procedure}
+use Rattle.syntax_tree.specs.Tree.{Finish, Rescue, Expr, Block, Procedure}
 use Rattle.std.proofs.Common.{String}
 use Rattle.std.specs.String.{string_bytes}
 use Rattle.syntax_tree.specs.Tree as tree
@@ -16,7 +16,8 @@ use Rattle.types.specs.declared.code.Sides.{Sides}
 use Rattle.types.specs.declared.code.Stmt.{Stmt as rStmt}
 use Rattle.types.specs.declared.code.StmtKind.{StmtKind}
 use Rattle.types.specs.declared.code.StmtKind.TheVariants.{Do as rDo, If as rIf, While as rWhile, Split as rSplit, Parts as rParts}
-use Rattle.types.specs.declared.code.StmtKind.TheVariants.{Async as rAsync, Finish as rFinish}
+use Rattle.types.specs.declared.code.StmtKind.TheVariants.{Async as rAsync, Finish as rFinish, Rescue as rRescue}
+use Rattle.types.specs.declared.ids.Slot.{Slot}
 use Rattle.types.specs.declared.code.Truth.{Truth}
 use Rattle.types.specs.declared.error.TypeError.{TypeError}
 use Rattle.types.specs.NameErrors.{declaring, naming_section}
@@ -25,10 +26,10 @@ use Rattle.types.specs.Resolution as resolution
 use Rattle.types.specs.Resolving.{left, Resolves}
 use Rattle.types.specs.Rules.{errors}
 use Rattle.types.specs.Scope.{Scope, ASection, AScalar, meant, section_of, section_or_0, next, inside_async, with_sides}
-use Rattle.types.specs.Scope.{with_turn, out_of, behind, after}
+use Rattle.types.specs.Scope.{with_scalar, with_turn, out_of, behind, after, in_handler}
 use Rattle.types.specs.Translation.{number, truth, codes}
-use Rattle.types.proofs.Blocks.{code_If, code_While, code_Split, code_Parts, code_Async, code_Finish}
-use Rattle.types.proofs.Scopes.{left_next, left_else, left_async, left_sides, left_turn}
+use Rattle.types.proofs.Blocks.{code_If, code_While, code_Split, code_Parts, code_Async, code_Finish, code_Rescue}
+use Rattle.types.proofs.Scopes.{left_next, left_else, left_async, left_sides, left_turn, left_handler}
 use Rattle.types.proofs.Telling.{none_both}
 
 module _ (fs : List Procedure) (here there : Scope) where
@@ -99,6 +100,24 @@ module _ (fs : List Procedure) (here there : Scope) where
         right = i.right;
         kind = ap code.Finish i.code ∙ sym (code_Finish v);
         place = out_by (next here) there b n k m (left_next here b) i.place;
+      }
+
+  pub resolves_Rescue : (b : Block) (x : List ℕ) (c : Block) (v : Vec rStmt Global) (i : Slot) (w : Vec rStmt Global)
+      (mid between inner : Scope) (n k : ℕ) → Marks n k → mid ≡ next here → Inside mid b v n k between → i.number ≡ between.slot
+      → inner ≡ with_scalar x between → declaring (Some here.label) (meant x between.names) ≡ [] → Inside inner c w n k there
+      → Resolves fs here (Rescue b x c) (rRescue v i w) there
+  resolves_Rescue b x c v i w mid between inner n k m at first slot is declared second =
+      let body = moved_inside mid (next here) b v n k between at first in
+      let out = out_by (next here) between b n k m (left_next here b) body.place in
+      let from = in_handler b x here in
+      let handler = moved_inside inner from c w n k there (is ∙ ap (with_scalar x) out) second in
+      record {
+        right = none_both _ _ (subst (λ (s : Scope). declaring (Some here.label) (meant x s.names) ≡ []) out declared)
+            (none_both _ _ body.right handler.right);
+        kind = ap (λ y. code.Rescue y (after b (next here)).slot (resolution.codes fs from c)) body.code
+            ∙ ap (λ y. code.Rescue (codes v.items) y (resolution.codes fs from c)) (sym (slot ∙ ap (λ (s : Scope). s.slot) out))
+            ∙ ap (code.Rescue (codes v.items) i.number) handler.code ∙ sym (code_Rescue v i w);
+        place = out_by from there c n k m (left_handler here b x c) handler.place;
       }
 
   pub resolves_Async : (b : Block) (v : Vec rStmt Global) (mid : Scope) (n k : ℕ) → Marks n k → mid ≡ inside_async (next here)

@@ -5,7 +5,7 @@ use Rattle.std.proofs.lemmas.List.{length-append, get_or-append-add}
 use Rattle.sections.specs.Member.{Member}
 use Rattle.sections.specs.Origins.{Root, Left, Right, Piece, origin_of}
 use Rattle.syntax_tree.specs.Tree.{Stmt, Skip, Var, Assign, Store, Print, Fault, If, IfElse, While, Split, Parts, Call, Async}
-use Rattle.syntax_tree.specs.Tree.{Finish, Block, End, Then, Procedure as DeclaredProcedure, Parameter as Declared}
+use Rattle.syntax_tree.specs.Tree.{Finish, Rescue, Block, End, Then, Procedure as DeclaredProcedure, Parameter as Declared}
 use Rattle.types.specs.Code.{Procedure, Program}
 use Rattle.types.specs.ExpressionErrors as errors
 use Rattle.types.specs.NameErrors.{naming_section, naming_written, naming_assigned}
@@ -13,12 +13,13 @@ use Rattle.types.specs.Resolution.{code, codes, procedure_of}
 use Rattle.types.specs.Rules.{limit, own_errors, errors_in}
 use Rattle.types.specs.Rules as rules
 use Rattle.types.specs.Scope.{Meant, ASection, AScalar, meant, section_or_0, slot_or_0, section_of, Scope, next}
-use Rattle.types.specs.Scope.{kind_of, inside_async, with_sides, with_turn, out_of, behind, after}
+use Rattle.types.specs.Scope.{kind_of, inside_async, with_sides, with_turn, out_of, behind, after, in_handler}
 use Rattle.types.specs.Sound.{SplitsWell, CutsWell, Follows, FollowsOf}
 use Rattle.types.proofs.CallsFollow.{Callable, kind_is, knows, call_follows}
 use Rattle.types.proofs.ExpressionsFollow.{number_follows, truth_follows, numbers_follow}
 use Rattle.types.proofs.Growth.{Grows, grows_both, grows_behind, grows_after}
-use Rattle.types.proofs.Known.{KnownAt, known_behind, known_in_split, known_in_turn, split_is_there, cut_is_there}
+use Rattle.types.proofs.Known.{KnownAt, known_behind, known_after, known_in_handler, known_in_split, known_in_turn}
+use Rattle.types.proofs.Known.{split_is_there, cut_is_there}
 use Rattle.types.proofs.Telling.{none_both}
 use Rattle.types.proofs.LabelLimit.{none_left, none_right}
 use Rattle.types.proofs.Refused.{refused, test_passed}
@@ -195,6 +196,19 @@ module _ (p : Program) (g : Procedure) (fs : List DeclaredProcedure)
         follows b (inside_async (next here)) scope known (none_right (own_errors fs here (Async b)) _ none) w
     follows_of (Finish b) here scope known none w =
         follows b (next here) scope known (none_right (own_errors fs here (Finish b)) _ none) w
+    follows_of (Rescue b x c) here scope known none w =
+        let there = in_handler b x here in
+        let inner = none_right (own_errors fs here (Rescue b x c)) _ none in
+        let first = none_left (rules.errors fs (next here) b) _ inner in
+        let within = before_block c there w in
+        let slots : (after b (next here)).slot + 1 ≤ g.slots = within.slots in
+        let body : Within (after b (next here)) = record { more = within.more; sections = within.sections; slots = omega arith } in (
+          follows b (next here) scope known first body,
+          omega arith,
+          follows c there scope
+              (known_in_handler g.parameters scope here b x known (known_after g.parameters fs b (next here) scope known first))
+              (none_right (rules.errors fs (next here) b) _ inner) w,
+        )
 
     pub follows : (b : Block) (here : Scope) (scope : List ℕ) → KnownAt g.parameters scope here → rules.errors fs here b ≡ []
         → Within (after b here) → Follows p g scope (codes fs here b)

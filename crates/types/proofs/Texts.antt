@@ -1,9 +1,10 @@
 -- In the code of a text no `parts` has begun.
 use Rattle.std.proofs.Common.{ℕ, List, Option, Some, None}
 use Rattle.syntax_tree.specs.Tree.{Expr, Stmt, Skip, Var, Assign, Store, Print, Fault, If, IfElse, While, Split, Parts, Call, Async}
-use Rattle.syntax_tree.specs.Tree.{Finish, Block, End, Then, Procedure, Parameter}
+use Rattle.syntax_tree.specs.Tree.{Finish, Rescue, Block, End, Then, Procedure, Parameter}
 use Rattle.types.specs.Resolution.{call, code, codes, procedure_of}
 use Rattle.types.specs.Scope.{Names, Scope, section_of, with_sides, with_turn, next, inside_async, out_of, behind, after}
+use Rattle.types.specs.Scope.{in_handler}
 use Rattle.types.specs.Sound.{IsText, IsTextOf}
 
 module _ (procedures : List Procedure) where
@@ -27,6 +28,7 @@ module _ (procedures : List Procedure) where
     code_text here (Call f es) = call_text here.names (procedure_of 0 f procedures) es
     code_text here (Async b) = codes_text (inside_async (next here)) b
     code_text here (Finish b) = codes_text (next here) b
+    code_text here (Rescue b x c) = (codes_text (next here) b, codes_text (in_handler b x here) c)
 
     pub codes_text : (here : Scope) (b : Block) → IsText (codes procedures here b)
     codes_text here End = tt

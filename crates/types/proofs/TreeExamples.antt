@@ -9,7 +9,7 @@ use Rattle.types.specs.Code.{Number, Scalar, Element, Length, Skip, Assign, Stor
 use Rattle.types.specs.Code.{Compare, If, Codes, Program}
 use Rattle.types.specs.Contents.{Contents, held_by}
 use Rattle.types.specs.Outcome.{Outcome, Ended, outcome}
-use Rattle.types.specs.Trees.{Leaf, Single, AndThen}
+use Rattle.types.specs.Trees.{Leaf, Single, AndThen, NoHandler}
 use Rattle.types.specs.TreeSteps.{step, first_leaf, first_tree}
 use Rattle.types.specs.TreeRuns.{Explored, Ends, Open, NoSuchChoice, explored}
 use Rattle.types.specs.TreePlaces.{next_reads, next_writes}
@@ -65,7 +65,7 @@ no_contents = held_by []
 -- the tree of a finish
 finish_waits : step owner_assigns 0 (first_tree owner_assigns) no_contents
     ≡ Some (
-      AndThen (Single (record (first_leaf owner_assigns) { rest = (2, Do (Assign 0 (lit 1))) ⨾ End }))
+      AndThen (Single (record (first_leaf owner_assigns) { rest = (2, Do (Assign 0 (lit 1))) ⨾ End })) NoHandler
           (record (first_leaf owner_assigns) { rest = print (Scalar 0) }),
       no_contents,
     )

@@ -1,17 +1,19 @@
 -- Two runs in parallel: if each state of the second is a view of a state of the first, the second
 -- follows the first.
-use Rattle.std.proofs.Common.{◌≡◌, ℕ, zero, suc, ◌+◌, List, [], ◌∷◌, ◌++◌, Ok, Err, refl, sym, ap, ◌∙◌, inl, inr, append_assoc}
-use Rattle.std.specs.Prelude.{ℤ, ◌⊎◌, Bool, true, false, map, ok_or}
+use Rattle.std.proofs.Common.{◌≡◌, ℕ, zero, suc, ◌+◌, ◌-◌, List, [], ◌∷◌, ◌++◌, length, Ok, Err, refl, sym, ap, ◌∙◌, subst, inl, inr}
+use Rattle.std.proofs.Common.{append_assoc, arith}
+use Rattle.std.proofs.lemmas.List.{length-append}
+use Rattle.std.specs.Prelude.{ℤ, pos, ◌⊎◌, Bool, true, false, map, ok_or}
 use Rattle.types.specs.declared.fault.FaultKind.{FaultKind}
 use Rattle.types.specs.declared.fault.FaultKind.TheVariants.{SplitPoint, PieceSize, Raised}
 use Rattle.types.specs.Code.{Primitive, Skip, Assign, Store, Print, Raise, Code, Do, If, While, Split, Parts, Begun}
-use Rattle.types.specs.Code.{Call, Async, Finish, Codes, End, Then, Program}
+use Rattle.types.specs.Code.{Call, Async, Finish, Rescue, Codes, End, Then, Program}
 use Rattle.sections.specs.Place.{Place, sides_of, has_piece}
 use Rattle.types.specs.Value.{Environment, Valued, element_of, holds_number}
 use Rattle.types.specs.Run.{Flow, On, Faulted, Stopped, Fault, State, Work, Block, Turn, Pieces, stopped, at_flow, go_on}
 use Rattle.types.specs.Run.{spend, with_step, in_turn, piece_size, fault, with_value, number_at, numbers_at, truth_at, window_at, assign, print, put, choose}
 use Rattle.types.specs.Run.{in_environment, entry, with_sides, array_of, procedure_of, Rules, primitive, counted}
-use Rattle.types.specs.Run.{act, block, work, within}
+use Rattle.types.specs.Run.{act, block, work, within, caught, rescued, rescued_by}
 
 -- the parts of a state that a view changes: it adds earlier lines and faults, and replaces the
 -- steps left and `extra`; the flow, environment, store and task stay the same
@@ -69,8 +71,11 @@ module _ {I X Y : Type 0} (v : View I X Y) (Lost : State X → Type 0) where
     pub begin : (l : ℕ) (b : Codes) → Follows (r.begin l b) (s.begin l b)
     pub finish : (l : ℕ) (go : State X → State X) (to : State Y → State Y) → Follows go to
         → Follows (λ st. r.leave st (go (r.enter l st))) (λ st. s.leave st (to (s.enter l st)))
-    -- what is lost stays lost
-    pub lost : (st : State X) (go : State X → State X) → Lost st → Lost (go_on go st)
+    -- a finish restores the earlier faults
+    pub earlier : (i : I) (l : ℕ) (go : State X → State X) (st : State X) → let out = r.leave st (go (r.enter l st)) in
+        Lost out ⊎ (v.faults i out.extra ≡ v.faults i st.extra)
+    -- what is lost is stopped, and stays lost
+    pub stops : (st : State X) → Lost st → st.flow ≡ Stopped
     pub lost_moved : (st : State X) (env : Environment) → Lost st → Lost (record st { environment = env })
 
 -- a view that loses nothing, with the same steps left
@@ -80,19 +85,26 @@ pub whole_view : {I X Y : Type 0} (v : View I X Y) (r : Rules X) (s : Rules Y) �
     → ((l : ℕ) (b : Codes) → Follows v Never (r.begin l b) (s.begin l b))
     → ((l : ℕ) (go : State X → State X) (to : State Y → State Y) → Follows v Never go to
     → Follows v Never (λ st. r.leave st (go (r.enter l st))) (λ st. s.leave st (to (s.enter l st))))
-    → IsView v Never r s
-whole_view v r s same stepped begin finish = record {
+    → ((i : I) (x y : X) → v.faults i x ≡ v.faults i y) → IsView v Never r s
+whole_view v r s same stepped begin finish earlier = record {
   out_of_steps = λ i st. inr (same i 0);
   one_less = λ i n. same i (suc n) ∙ ap suc (sym (same i n));
   stepped = stepped;
   begin = begin;
   finish = finish;
-  lost = λ st go never. never;
+  earlier = λ i l go st. inr (earlier i _ _);
+  stops = λ st never. absurd never;
   lost_moved = λ st env never. never;
 }
 
 module _ (p : Program) {I X Y : Type 0} (r : Rules X) (s : Rules Y) (v : View I X Y)
     (Lost : State X → Type 0) (view : IsView v Lost r s) where
+  lost_on : (st : State X) (go : State X → State X) → Lost st → Lost (go_on go st)
+  lost_on st go lost = subst (λ f. Lost (at_flow f st go)) (sym (view.stops st lost)) lost
+
+  lost_rescued : (x : ℕ) (go : State X → State X) (before : List Fault) (st : State X) → Lost st → Lost (rescued x go before st)
+  lost_rescued x go before st lost = subst (λ f. Lost (rescued_by f x go before st)) (sym (view.stops st lost)) lost
+
   print_follows : (vs : List ℤ) → Follows v Lost (print vs) (print vs)
   print_follows vs i st = inr (same_told (viewed v i st) _ _ _ _ (append_assoc (v.lines i st.extra) st.lines (vs ∷ [])) refl)
 
@@ -116,8 +128,40 @@ module _ (p : Program) {I X Y : Type 0} (r : Rules X) (s : Rules Y) (v : View I 
   -- one after the other
   after_follows : (i : I) (a b : State X → State X) (c d : State Y → State Y) (st : State X) → FollowsAt v Lost i st a c
       → Follows v Lost b d → FollowsAt v Lost i st (λ s. go_on b (a s)) (λ s. go_on d (c s))
-  after_follows i a b c d st (inl lost) h = inl (view.lost (a st) b lost)
+  after_follows i a b c d st (inl lost) h = inl (lost_on (a st) b lost)
   after_follows i a b c d st (inr e) h = begin_at (ap (go_on d) e) (then_follows b d h i (a st))
+
+  -- the handler of a finish, which starts at the end `out` of its body
+  caught_follows : (i : I) (x : ℕ) (st out : State X) → v.faults i out.extra ≡ v.faults i st.extra
+      → caught x (viewed v i st).faults (viewed v i out) ≡ viewed v i (caught x st.faults out)
+  caught_follows i x st out same =
+      let more = v.faults i out.extra in
+      let before = v.faults i st.extra in
+      let caught_as : ℕ → List Fault → State Y = λ n fs. record (assign x (pos n) (viewed v i out)) { flow = On; faults = fs } in
+      let number : length (more ++ out.faults) - length (before ++ st.faults) ≡ length out.faults - length st.faults =
+      omega (arith, length-append more out.faults, length-append before st.faults, ap length same) in
+      ap (λ n. caught_as n (before ++ st.faults)) number
+      ∙ ap (λ fs. caught_as (length out.faults - length st.faults) (fs ++ st.faults)) (sym same)
+
+  handler_follows : (i : I) (x : ℕ) (go : State X → State X) (to : State Y → State Y) (st out : State X)
+      → v.faults i out.extra ≡ v.faults i st.extra → Follows v Lost go to → Lost (rescued x go st.faults out)
+      ⊎ (rescued x to (viewed v i st).faults (viewed v i out) ≡ viewed v i (rescued x go st.faults out))
+  handler_follows i x go to st out same h = by_flow out.flow
+    where
+      by_flow : (f : Flow) → Lost (rescued_by f x go st.faults out)
+          ⊎ (rescued_by f x to (viewed v i st).faults (viewed v i out) ≡ viewed v i (rescued_by f x go st.faults out))
+      by_flow On = inr refl
+      by_flow Faulted = begin_at (ap to (caught_follows i x st out same)) (h i (caught x st.faults out))
+      by_flow Stopped = inr refl
+
+  -- a finish, and then its handler
+  rescue_follows : (i : I) (x : ℕ) (go : State X → State X) (to : State Y → State Y) (st out : State X) (other : State Y)
+      → Lost out ⊎ (other ≡ viewed v i out) → Lost out ⊎ (v.faults i out.extra ≡ v.faults i st.extra) → Follows v Lost go to
+      → Lost (rescued x go st.faults out) ⊎ (rescued x to (viewed v i st).faults other ≡ viewed v i (rescued x go st.faults out))
+  rescue_follows i x go to st out other (inl lost) same h = inl (lost_rescued x go st.faults out lost)
+  rescue_follows i x go to st out other (inr e) (inl lost) h = inl (lost_rescued x go st.faults out lost)
+  rescue_follows i x go to st out other (inr e) (inr same) h =
+      begin_at (ap (rescued x to (viewed v i st).faults) e) (handler_follows i x go to st out same h)
 
   put_follows : (l : ℕ) (fits : Bool) (q : Place) (n : ℤ) → Follows v Lost (put l fits q n) (put l fits q n)
   put_follows l true q n i st = inr refl
@@ -142,6 +186,7 @@ module _ (p : Program) {I X Y : Type 0} (r : Rules X) (s : Rules Y) (v : View I 
   counted_is : (i : I) (l : ℕ) (c : Code) (st : State X) → counted s l c (viewed v i st) ≡ viewed v i (counted r l c st)
   counted_is i l (Async b) st = refl
   counted_is i l (Finish b) st = refl
+  counted_is i l (Rescue b x c) st = refl
   counted_is i l c st = view.stepped i l st
 
   environment_follows : (env : Environment) (go : State X → State X) (to : State Y → State Y) → Follows v Lost go to
@@ -204,6 +249,11 @@ module _ (p : Program) {I X Y : Type 0} (r : Rules X) (s : Rules Y) (v : View I 
           (e (Block (procedure_of p f).body)) (deeper (Block (procedure_of p f).body)) i st)
       act_follows (Async b) l i st = view.begin l b i st
       act_follows (Finish b) l i st = view.finish l (block p r d b) (block p s e b) (block_follows b) i st
+      act_follows (Rescue b x c) l i st =
+          rescue_follows i x (block p r d c) (block p s e c) st (r.leave st (block p r d b (r.enter l st)))
+          (s.leave (viewed v i st) (block p s e b (s.enter l (viewed v i st))))
+          (view.finish l (block p r d b) (block p s e b) (block_follows b) i st) (view.earlier i l (block p r d b) st)
+          (block_follows c)
 
       block_follows : (b : Codes) → Follows v Lost (block p r d b) (block p s e b)
       block_follows End i st = inr refl

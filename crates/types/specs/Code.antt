@@ -60,6 +60,8 @@ mutual
     Call : (procedure : ℕ) → (values : List Number) → (sections : List ℕ) → Code
     Async : (body : Codes) → Code
     Finish : (body : Codes) → Code
+    -- a finish, and a handler of its faults, in which the scalar in the slot is their number
+    Rescue : (body : Codes) → (faults : ℕ) → (handler : Codes) → Code
     deriving IsSet as Code-set
 
   pub data Codes : Type 0 where

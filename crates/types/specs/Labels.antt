@@ -1,7 +1,7 @@
 -- The labels of a program's code.
 use Rattle.std.specs.Prelude.{ℕ, List, [], ◌∷◌, ◌++◌}
-use Rattle.types.specs.Code.{Code, Do, If, While, Split, Parts, Begun, Call, Async, Finish, Codes, End, Then}
-use Rattle.types.specs.Code.{Procedure, Program}
+use Rattle.types.specs.Code.{Code, Do, If, While, Split, Parts, Begun, Call, Async, Finish, Rescue, Codes}
+use Rattle.types.specs.Code.{End, Then, Procedure, Program}
 
 abbrev mutual
   -- the labels inside a statement, and those of a list of statements, in the order of the text
@@ -15,6 +15,7 @@ abbrev mutual
   labels_inside (Call f es ss) = []
   labels_inside (Async b) = labels_of b
   labels_inside (Finish b) = labels_of b
+  labels_inside (Rescue b x c) = labels_of b ++ labels_of c
 
   pub labels_of : Codes → List ℕ
   labels_of End = []

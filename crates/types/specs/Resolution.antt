@@ -14,7 +14,8 @@ use Rattle.syntax_tree.specs.Tree.{Positive, Negative as Minus_of, Atom, Number 
 use Rattle.syntax_tree.specs.Tree.{Element as Element_of, Length as Length_of, Parens, Stmt, Skip as Skips}
 use Rattle.syntax_tree.specs.Tree.{Var, Assign as Assigns, Store as Stores, Print as Prints, Fault as Faults}
 use Rattle.syntax_tree.specs.Tree.{If as Ifs, IfElse, While as Whiles, Split as Splits, Parts as Cuts, Call as Calls}
-use Rattle.syntax_tree.specs.Tree.{Async as Asyncs, Finish as Finishes, Block, End as Ends, Then as Thens}
+use Rattle.syntax_tree.specs.Tree.{Async as Asyncs, Finish as Finishes, Rescue as Rescues, Block, End as Ends}
+use Rattle.syntax_tree.specs.Tree.{Then as Thens}
 use Rattle.syntax_tree.specs.Tree.{Array as DeclaredArray, Parameter as DeclaredParameter}
 use Rattle.syntax_tree.specs.Tree.{Scalar as ScalarParameter, Procedure as DeclaredProcedure, Main}
 use Rattle.syntax_tree.specs.Tree.{Program as Text, lone_atom}
@@ -22,10 +23,10 @@ use Rattle.types.specs.declared.code.Operator.{Operator}
 use Rattle.types.specs.declared.code.Operator.TheVariants.{Plus, Minus, Times, Over, Modulo}
 use Rattle.types.specs.Code.{Number, Literal, Scalar, Element, Length, Negative, Chain, Links, Done, Link}
 use Rattle.types.specs.Code.{Truth, Constant, Compare, Not, Both, Either, Truths, NoMore, Also, Skip, Assign}
-use Rattle.types.specs.Code.{Store, Print, Raise, Code, Do, If, While, Split, Parts, Call, Async, Finish, Codes}
-use Rattle.types.specs.Code.{End, Then, Array, Procedure, Program}
+use Rattle.types.specs.Code.{Store, Print, Raise, Code, Do, If, While, Split, Parts, Call, Async, Finish}
+use Rattle.types.specs.Code.{Rescue, Codes, End, Then, Array, Procedure, Program}
 use Rattle.types.specs.Scope.{Names, Scope, section_of, slot_of, with_sides, with_turn, next, inside_async, out_of}
-use Rattle.types.specs.Scope.{behind, after, in_procedure, in_main}
+use Rattle.types.specs.Scope.{behind, after, in_handler, in_procedure, in_main}
 
 abbrev pub sign : Sign → Operator
 sign SignPlus = Plus
@@ -196,6 +197,8 @@ module _ (procedures : List DeclaredProcedure) where
     code here (Calls f es) = call here.names (procedure_of 0 f procedures) es
     code here (Asyncs b) = Async (codes (inside_async (next here)) b)
     code here (Finishes b) = Finish (codes (next here) b)
+    code here (Rescues b x c) =
+        Rescue (codes (next here) b) (after b (next here)).slot (codes (in_handler b x here) c)
 
     pub codes : Scope → Block → Codes
     codes here Ends = End

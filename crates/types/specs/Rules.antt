@@ -5,8 +5,8 @@ use Rattle.std.specs.Prelude.{nat_eq, nat_lt, if◌then◌else◌}
 use Rattle.std.specs.List.{list_any}
 use Rattle.std.specs.Cmp.Lexicographic.{pointwise}
 use Rattle.syntax_tree.specs.Tree.{Stmt, Skip, Var, Assign, Store, Print, Fault, If, IfElse, While, Split}
-use Rattle.syntax_tree.specs.Tree.{Parts, Call, Async, Finish, Block, End, Then, Array, Parameter, Written, Read}
-use Rattle.syntax_tree.specs.Tree.{Scalar, Procedure, Main, Program}
+use Rattle.syntax_tree.specs.Tree.{Parts, Call, Async, Finish, Rescue, Block, End, Then, Array, Parameter}
+use Rattle.syntax_tree.specs.Tree.{Written, Read, Scalar, Procedure, Main, Program}
 use Rattle.types.specs.declared.error.TypeError.{TypeError}
 use Rattle.types.specs.declared.error.TypeError.TheVariants.{DeclaredTwice, NoMain, OverLimit}
 use Rattle.types.specs.CallErrors.{calling}
@@ -14,7 +14,8 @@ use Rattle.types.specs.ExpressionErrors.{number, numbers, truth}
 use Rattle.types.specs.NameErrors.{declaring, naming_section, naming_written, naming_assigned}
 use Rattle.types.specs.Resolution.{procedure_of, label_behind, label_behind_all}
 use Rattle.types.specs.Scope.{ASection, AScalar, meant, section_of, Scope, empty_scope, next, inside_async}
-use Rattle.types.specs.Scope.{with_sides, with_turn, out_of, behind, after, with_parameter, with_array, in_procedure, in_main}
+use Rattle.types.specs.Scope.{with_sides, with_turn, out_of, behind, after, in_handler, with_parameter}
+use Rattle.types.specs.Scope.{with_array, in_procedure, in_main}
 
 -- Y9: there are more than `most`
 abbrev pub limit : (most count : ℕ) → List TypeError
@@ -47,6 +48,7 @@ module _ (procedures : List Procedure) where
   own_errors here (Call f es) = calling here.label here (procedure_of 0 f procedures) es
   own_errors here (Async b) = []
   own_errors here (Finish b) = []
+  own_errors here (Rescue b x c) = declaring (Some here.label) (meant x here.names)
 
   abbrev mutual
     -- the errors of the statements inside a statement
@@ -65,6 +67,7 @@ module _ (procedures : List Procedure) where
     inner_errors here (Call f es) = []
     inner_errors here (Async b) = errors (inside_async (next here)) b
     inner_errors here (Finish b) = errors (next here) b
+    inner_errors here (Rescue b x c) = errors (next here) b ++ errors (in_handler b x here) c
 
     -- the errors of a block; Y9: a label is more than 65,535
     pub errors : Scope → Block → List TypeError

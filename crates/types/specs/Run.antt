@@ -1,12 +1,13 @@
 -- What a task does: one recursion over statements, given rules for async and finish.
-use Rattle.std.specs.Prelude.{ℕ, zero, suc, ◌+◌, List, [], ◌∷◌, ◌++◌, map, Bool, true, false, ℤ, pos, negsuc, Ok}
-use Rattle.std.specs.Prelude.{Err, Option, Some, None, ok_or, nat_eq, slice_index_or, if◌then◌else◌}
+use Rattle.std.specs.Prelude.{ℕ, zero, suc, ◌+◌, ◌-◌, length, List, [], ◌∷◌, ◌++◌, map, Bool, true, false, ℤ}
+use Rattle.std.specs.Prelude.{pos, negsuc, Ok, Err, Option, Some, None, ok_or, nat_eq, slice_index_or}
+use Rattle.std.specs.Prelude.{if◌then◌else◌}
 use Rattle.syntax_tree.specs.declared.tree.ElementType.TheVariants.{Int}
 use Rattle.types.specs.declared.fault.FaultKind.{FaultKind}
 use Rattle.types.specs.declared.fault.FaultKind.TheVariants.{OutOfElement, SplitPoint, PieceSize, Raised}
 use Rattle.types.specs.Code.{Number, Truth, Primitive, Skip, Assign, Store, Print, Raise, Code, Do, If, While}
-use Rattle.types.specs.Code.{Split, Parts, Begun, Call, Async, Finish, Codes, End, Then, Array, Procedure}
-use Rattle.types.specs.Code.{Program}
+use Rattle.types.specs.Code.{Split, Parts, Begun, Call, Async, Finish, Rescue, Codes, End, Then, Array}
+use Rattle.types.specs.Code.{Procedure, Program}
 use Rattle.sections.specs.Place.{Window, Place, nowhere, sides_of, has_piece, piece_at}
 use Rattle.types.specs.Contents.{Contents, read, write}
 use Rattle.types.specs.Value.{Environment, Valued, element_of, holds_number, number, numbers, truth}
@@ -189,6 +190,25 @@ module _ {X : Type 0} where
     environment = with_piece x i (piece_at n k (window_at st s)) k st.environment;
   }
 
+  -- at the start of the handler of a finish, before which there were the faults `before`: the faults
+  -- since then are dropped, and their number is in a slot
+  abbrev pub caught : (slot : ℕ) → (before : List Fault) → State X → State X
+  caught x before out = record (assign x (pos (length out.faults - length before)) out) {
+    flow = On;
+    faults = before;
+  }
+
+  -- continues with the handler of a finish if the finish ended with faults
+  abbrev pub rescued_by : Flow → (slot : ℕ) → (handler : State X → State X) → (before : List Fault)
+      → State X → State X
+  rescued_by On x handler before out = out
+  rescued_by Faulted x handler before out = handler (caught x before out)
+  rescued_by Stopped x handler before out = out
+
+  abbrev pub rescued : (slot : ℕ) → (handler : State X → State X) → (before : List Fault) → State X
+      → State X
+  rescued x handler before out = rescued_by out.flow x handler before out
+
   -- continues in another environment, and then restores its own
   abbrev pub in_environment : Environment → (State X → State X) → State X → State X
   in_environment env go st =
@@ -225,6 +245,7 @@ module _ {X : Type 0} (r : Rules X) where
   abbrev pub counted : (label : ℕ) → Code → State X → State X
   counted l (Async b) st = st
   counted l (Finish b) st = st
+  counted l (Rescue b x c) st = st
   counted l s st = record st { extra = r.stepped l st.extra }
 
 module _ (p : Program) {X : Type 0} (r : Rules X) where
@@ -254,6 +275,8 @@ module _ (p : Program) {X : Type 0} (r : Rules X) where
         (deeper (Block (procedure_of p f).body))) st
     act deeper l (Async b) st = r.begin l b st
     act deeper l (Finish b) st = r.leave st (block deeper b (r.enter l st))
+    act deeper l (Rescue b x c) st =
+        rescued x (block deeper c) st.faults (r.leave st (block deeper b (r.enter l st)))
 
     -- a list of statements
     pub block : (deeper : Work → State X → State X) → Codes → State X → State X

@@ -4,8 +4,8 @@ use Rattle.std.specs.Prelude.{if◌then◌else◌, slice_index_or}
 use Rattle.std.specs.Cmp.Lexicographic.{pointwise}
 use Rattle.syntax_tree.specs.declared.tree.ElementType.TheVariants.{Int}
 use Rattle.syntax_tree.specs.Tree.{Stmt, Skip, Var, Assign, Store, Print, Fault, If, IfElse, While, Split}
-use Rattle.syntax_tree.specs.Tree.{Parts, Call, Async, Finish, Block, End, Then, Array, Parameter as Declared}
-use Rattle.syntax_tree.specs.Tree.{Written, Read, Scalar}
+use Rattle.syntax_tree.specs.Tree.{Parts, Call, Async, Finish, Rescue, Block, End, Then, Array}
+use Rattle.syntax_tree.specs.Tree.{Parameter as Declared, Written, Read, Scalar}
 use Rattle.sections.specs.Origins.{Origin, Root, Left, Right, Piece}
 use Rattle.types.specs.Code.{Parameter}
 
@@ -138,11 +138,17 @@ abbrev mutual
   behind (Call f es) here = next here
   behind (Async b) here = out_of here (after b (inside_async (next here)))
   behind (Finish b) here = out_of here (after b (next here))
+  behind (Rescue b x c) here =
+      out_of here (after c (with_scalar x (out_of here (after b (next here)))))
 
   -- after the statements of a block
   pub after : Block → Scope → Scope
   after End here = here
   after (Then s rest) here = after rest (behind s here)
+
+-- in the handler of a finish with this body; its number of faults has the name x
+abbrev pub in_handler : Block → (x : List ℕ) → Scope → Scope
+in_handler b x here = with_scalar x (out_of here (after b (next here)))
 
 -- after the declaration of a parameter, and of several
 abbrev pub with_parameter : Declared → Scope → Scope

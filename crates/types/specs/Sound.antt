@@ -10,7 +10,8 @@ use Rattle.sections.specs.Overlap.{root_of, overlap}
 use Rattle.types.specs.Code.{Number, Literal, Scalar, Element, Length, Negative, Chain, Links, Done, Link}
 use Rattle.types.specs.Code.{Truth, Constant, Compare, Not, Both, Either, Truths, NoMore, Also, Primitive}
 use Rattle.types.specs.Code.{Skip, Assign, Store, Print, Raise, Code, Do, If, While, Split, Parts, Begun}
-use Rattle.types.specs.Code.{Call, Async, Finish, Codes, End, Then, Array, Parameter, Procedure, Program}
+use Rattle.types.specs.Code.{Call, Async, Finish, Rescue, Codes, End, Then, Array, Parameter, Procedure}
+use Rattle.types.specs.Code.{Program}
 use Rattle.types.specs.Labels.{labels_of_program}
 use Rattle.types.specs.Run.{procedure_of}
 
@@ -159,6 +160,7 @@ module _ (p : Program) (g : Procedure) where
     FollowsOf scope (Call f es ss) = CallsWell scope f es ss
     FollowsOf scope (Async b) = Follows scope b
     FollowsOf scope (Finish b) = Follows scope b
+    FollowsOf scope (Rescue b x c) = Follows scope b × (x < g.slots) × Follows scope c
 
     -- the names in a list of statements are used as the rules require
     pub Follows : (scope : List ℕ) → Codes → Type 0
@@ -177,6 +179,7 @@ abbrev mutual
   IsTextOf (Call f es ss) = Unit {0}
   IsTextOf (Async b) = IsText b
   IsTextOf (Finish b) = IsText b
+  IsTextOf (Rescue b x c) = IsText b × IsText c
 
   pub IsText : Codes → Type 0
   IsText End = Unit {0}

@@ -1,6 +1,7 @@
 -- The number of statements.
 use Rattle.std.specs.Prelude.{ℕ, ◌+◌}
-use Rattle.types.specs.Code.{Code, Do, If, While, Split, Parts, Begun, Call, Async, Finish, Codes, End, Then}
+use Rattle.types.specs.Code.{Code, Do, If, While, Split, Parts, Begun, Call, Async, Finish, Rescue, Codes}
+use Rattle.types.specs.Code.{End, Then}
 
 abbrev mutual
   -- the number of statements, including those inside others
@@ -14,6 +15,7 @@ abbrev mutual
   statements_in (Call f es ss) = 1
   statements_in (Async b) = 1 + statements b
   statements_in (Finish b) = 1 + statements b
+  statements_in (Rescue b x c) = 1 + statements b + statements c
 
   pub statements : Codes → ℕ
   statements End = 0

@@ -8,7 +8,7 @@ use Rattle.sections.specs.Tree.{origins_of}
 use Rattle.types.specs.Code.{Number, Literal, Scalar, Element, Length, Negative, Chain, Links, Done, Link}
 use Rattle.types.specs.Code.{Truth, Constant, Compare, Not, Both, Either, Truths, NoMore, Also, Primitive}
 use Rattle.types.specs.Code.{Skip, Assign, Store, Print, Raise, Code, Do, If, While, Split, Parts, Call, Async}
-use Rattle.types.specs.Code.{Finish, Codes, End, Then, Array, Parameter, Procedure, Program}
+use Rattle.types.specs.Code.{Finish, Rescue, Codes, End, Then, Array, Parameter, Procedure, Program}
 use Rattle.types.specs.Value.{Environment}
 use Rattle.types.specs.Run.{Fault, by_number}
 use Rattle.types.specs.Outcome.{Budget, Outcome, Ended, Stopped}
@@ -27,6 +27,7 @@ use Rattle.types.specs.declared.code.StmtKind.{StmtKind, Row_of-Stmt, end_of-Stm
 use Rattle.types.specs.declared.code.StmtKind.TheVariants.{Do as rDo, If' as rIf, While' as rWhile}
 use Rattle.types.specs.declared.code.StmtKind.TheVariants.{Split' as rSplit, Parts' as rParts, Call as rCall}
 use Rattle.types.specs.declared.code.StmtKind.TheVariants.{Async' as rAsync, Finish' as rFinish}
+use Rattle.types.specs.declared.code.StmtKind.TheVariants.{Rescue' as rRescue}
 use Rattle.types.specs.declared.code.Array.{Array as rArray}
 use Rattle.types.specs.declared.code.SectionParameter.{SectionParameter}
 use Rattle.types.specs.declared.code.Procedure.{Procedure as rProcedure}
@@ -87,6 +88,7 @@ abbrev mutual
   code (rCall f es ss) = Call f.number (map number es.items) (map section ss.items)
   code (rAsync p b) = Async (row_codes b)
   code (rFinish p b) = Finish (row_codes b)
+  code (rRescue p b x q c) = Rescue (row_codes b) x.number (row_codes c)
 
   pub row_codes : {m : _} → Row_of-Stmt m → Codes
   row_codes end_of-Stmt = End

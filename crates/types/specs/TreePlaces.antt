@@ -4,7 +4,7 @@ use Rattle.sections.specs.Place.{Place}
 use Rattle.types.specs.Code.{Number, Literal, Scalar, Element, Length, Negative, Chain, Links}
 use Rattle.types.specs.Code.{Done, Link, Truth, Constant, Compare, Not, Both, Either, Truths}
 use Rattle.types.specs.Code.{NoMore, Also, Primitive, Skip, Assign, Store, Print, Raise, Code, Do}
-use Rattle.types.specs.Code.{If, While, Split, Parts, Begun, Call, Async, Finish, Codes, End, Then}
+use Rattle.types.specs.Code.{If, While, Split, Parts, Begun, Call, Async, Finish, Rescue, Codes, End, Then}
 use Rattle.types.specs.Contents.{Contents, read}
 use Rattle.types.specs.Value.{Environment, Valued, then_try, element_of, operate, number, truth}
 use Rattle.types.specs.Trees.{Leaf}
@@ -89,6 +89,7 @@ module _ (env : Environment) (contents : Place → ℤ) where
   step_reads (Call f es ss) = numbers_read es
   step_reads (Async b) = []
   step_reads (Finish b) = []
+  step_reads (Rescue b x c) = []
 
   -- the place that a store writes to, even if the number doesn't fit in its element type
   abbrev pub primitive_writes : Primitive → List Place
@@ -112,6 +113,7 @@ module _ (env : Environment) (contents : Place → ℤ) where
   step_writes (Call f es ss) = []
   step_writes (Async b) = []
   step_writes (Finish b) = []
+  step_writes (Rescue b x c) = []
 
   -- the places that the first step of a list of statements reads
   abbrev pub first_reads : Codes → List Place

@@ -3,14 +3,14 @@ use Rattle.std.specs.Prelude.{ℕ, ◌+◌, ◌-◌, [], map, ℤ, Ok, Err, ok_o
 use Rattle.std.specs.Prelude.{Option, Some, None, if◌then◌else◌}
 use Rattle.sections.specs.Place.{Window, sides_of, has_piece, piece_at}
 use Rattle.types.specs.declared.fault.FaultKind.TheVariants.{SplitPoint, PieceSize}
-use Rattle.types.specs.Code.{Code, Do, If, While, Split, Parts, Begun, Call, Async, Finish, Codes, End, Then}
-use Rattle.types.specs.Code.{Program}
+use Rattle.types.specs.Code.{Code, Do, If, While, Split, Parts, Begun, Call, Async, Finish, Rescue, Codes}
+use Rattle.types.specs.Code.{End, Then, Program}
 use Rattle.types.specs.Contents.{Contents, read}
 use Rattle.types.specs.Value.{Valued, then_try, number, numbers, truth}
 use Rattle.types.specs.Run.{Flow, On, Faulted, Stopped, State, entry, with_sides, with_piece, piece_size}
 use Rattle.types.specs.Run.{procedure_of, primitive}
 use Rattle.types.specs.Outcome.{whole_arrays}
-use Rattle.types.specs.Trees.{Leaf, Tree, Single, AndThen, Beside, single, done, failed}
+use Rattle.types.specs.Trees.{Leaf, Tree, Single, AndThen, Beside, NoHandler, HandledBy, single, done, failed}
 use Rattle.types.specs.Trees.{before_rest, called, child, parent, inside, held_back, and_then, ready}
 
 -- continues with a value, or is done with its fault
@@ -91,7 +91,8 @@ module _ (p : Program) where
       on_value l k (numbers k.environment (read a) es) (λ vs.
       single (called (procedure_of p f) (entry vs (map k.environment.windows ss)) k))
   tree_after l (Async b) k a = Beside (single (child b k)) (single (parent k))
-  tree_after l (Finish b) k a = and_then (single (inside b k)) (held_back k)
+  tree_after l (Finish b) k a = and_then (single (inside b k)) NoHandler (held_back k)
+  tree_after l (Rescue b x c) k a = and_then (single (inside b k)) (HandledBy x c) (held_back k)
 
   -- what the store becomes
   abbrev pub store_after : (label : ℕ) → Code → Leaf → Contents → Contents
@@ -104,6 +105,7 @@ module _ (p : Program) where
   store_after l (Call f es ss) k a = a
   store_after l (Async b) k a = a
   store_after l (Finish b) k a = a
+  store_after l (Rescue b x c) k a = a
 
   -- one step of a leaf with these remaining statements
   abbrev pub leaf_step : Codes → Leaf → Contents → Option (Tree × Contents)
@@ -120,7 +122,7 @@ module _ (p : Program) where
   -- one step of the n-th leaf that can step, numbered from 0 and from the left
   abbrev pub step : ℕ → Tree → Contents → Option (Tree × Contents)
   step n (Single k) a = if nat_eq n 0 then leaf_step p k.rest k a else None
-  step n (AndThen t k) a = in_tree (λ u. and_then u k) (step n t a)
+  step n (AndThen t h k) a = in_tree (λ u. and_then u h k) (step n t a)
   step n (Beside t v) a =
       if nat_lt n (ready t) then in_tree (λ u. Beside u v) (step n t a)
       else in_tree (λ u. Beside t u) (step (n - ready t) v a)
@@ -133,7 +135,7 @@ unless_done (Then l s rest) k = Some k
 -- the n-th leaf that can step
 abbrev pub leaf_at : ℕ → Tree → Option Leaf
 leaf_at n (Single k) = if nat_eq n 0 then unless_done k.rest k else None
-leaf_at n (AndThen t k) = leaf_at n t
+leaf_at n (AndThen t h k) = leaf_at n t
 leaf_at n (Beside t v) = if nat_lt n (ready t) then leaf_at n t else leaf_at (n - ready t) v
 
 -- `main` at its start

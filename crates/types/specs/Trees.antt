@@ -1,9 +1,10 @@
 -- Step trees: all tasks of a program over one shared store, without a budget.
-use Rattle.std.specs.Prelude.{ℕ, ◌+◌, List, [], ◌∷◌, ◌++◌, Bool, true, false, ◌&&◌, ℤ, if◌then◌else◌}
+use Rattle.std.specs.Prelude.{ℕ, ◌+◌, List, [], ◌∷◌, ◌++◌, length, Bool, true, false, ◌&&◌, ℤ, pos}
+use Rattle.std.specs.Prelude.{if◌then◌else◌}
 use Rattle.types.specs.declared.fault.FaultKind.{FaultKind}
 use Rattle.types.specs.Code.{Codes, End, Then, Procedure}
 use Rattle.types.specs.Value.{Environment}
-use Rattle.types.specs.Run.{Fault}
+use Rattle.types.specs.Run.{Fault, bind}
 
 -- what waits for a call to end: the caller's environment and the statements after the call
 pub record Caller : Type 0 where
@@ -22,10 +23,16 @@ pub record Leaf : Type 0 where
   pub lines : List (List ℤ)
   pub faults : List Fault
 
+-- what a leaf does with the faults of the finish that it waits for: nothing, or a handler, in which
+-- the scalar in the slot is their number
+pub data Handler : Type 0 where
+  NoHandler : Handler
+  HandledBy : (faults : ℕ) → (handler : Codes) → Handler
+
 -- a leaf, `t then <k>` or `t par u`
 pub data Tree : Type 0 where
   Single : Leaf → Tree
-  AndThen : Tree → Leaf → Tree
+  AndThen : Tree → Handler → Leaf → Tree
   Beside : (left right : Tree) → Tree
 
 -- one list of statements before another
@@ -118,25 +125,25 @@ held_back k = record k { lines = []; faults = [] }
 -- whether all leaves are done
 abbrev pub all_done : Tree → Bool
 all_done (Single k) = is_done k.rest
-all_done (AndThen t k) = false
+all_done (AndThen t h k) = false
 all_done (Beside t u) = all_done t && all_done u
 
 -- the lines of its leaves, from left to right
 abbrev pub lines_of : Tree → List (List ℤ)
 lines_of (Single k) = k.lines
-lines_of (AndThen t k) = lines_of t
+lines_of (AndThen t h k) = lines_of t
 lines_of (Beside t u) = lines_of t ++ lines_of u
 
 -- the faults of its leaves, from left to right
 abbrev pub faults_of : Tree → List Fault
 faults_of (Single k) = k.faults
-faults_of (AndThen t k) = faults_of t
+faults_of (AndThen t h k) = faults_of t
 faults_of (Beside t u) = faults_of t ++ faults_of u
 
 -- the tree's owner: the leaf of the task that spawned the others
 abbrev pub rightmost : Tree → Leaf
 rightmost (Single k) = k
-rightmost (AndThen t k) = k
+rightmost (AndThen t h k) = k
 rightmost (Beside t u) = rightmost u
 
 -- the owner's environment
@@ -148,9 +155,27 @@ abbrev pub unless_faulted : List Fault → Leaf → Leaf
 unless_faulted [] k = returned k
 unless_faulted (f ∷ fs) k = done k
 
+-- a leaf that first handles its faults, which are dropped
+abbrev pub handling : (faults : ℕ) → (handler : Codes) → Leaf → Leaf
+handling x c k = before_rest c (record k {
+  environment = record k.environment {
+    scalars = bind x (pos (length k.faults)) k.environment.scalars;
+  };
+  faults = [];
+})
+
+-- a leaf continues if there are no faults, otherwise it handles them
+abbrev pub rescued_from : List Fault → (faults : ℕ) → (handler : Codes) → Leaf → Leaf
+rescued_from [] x c k = returned k
+rescued_from (f ∷ fs) x c k = returned (handling x c k)
+
+abbrev pub after_faults : Handler → List Fault → Leaf → Leaf
+after_faults NoHandler fs k = unless_faulted fs k
+after_faults (HandledBy x c) fs k = rescued_from fs x c k
+
 -- what `t then <k>` becomes once all leaves of t are done
-abbrev pub closed : Tree → Leaf → Leaf
-closed t k = unless_faulted (faults_of t) (record k {
+abbrev pub closed : Tree → Handler → Leaf → Leaf
+closed t h k = after_faults h (faults_of t) (record k {
   environment = owner_environment t;
   spawned = (rightmost t).spawned;
   lines = lines_of t;
@@ -158,11 +183,11 @@ closed t k = unless_faulted (faults_of t) (record k {
 })
 
 -- `t then <k>`, or what it becomes at once
-abbrev pub and_then : Tree → Leaf → Tree
-and_then t k = if all_done t then Single (closed t k) else AndThen t k
+abbrev pub and_then : Tree → Handler → Leaf → Tree
+and_then t h k = if all_done t then Single (closed t h k) else AndThen t h k
 
 -- the number of leaves that can step: those that aren't done, and no `<k>` after a `then`
 abbrev pub ready : Tree → ℕ
 ready (Single k) = if is_done k.rest then 0 else 1
-ready (AndThen t k) = ready t
+ready (AndThen t h k) = ready t
 ready (Beside t u) = ready t + ready u

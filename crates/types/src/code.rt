@@ -104,6 +104,12 @@ pub enum StmtKind {
     Finish {
         body: Vec<Stmt>,
     },
+    /// `finish { .. } rescue n { .. }`: in the handler, the slot of `n` has the number of faults.
+    Rescue {
+        body: Vec<Stmt>,
+        faults: Slot,
+        handler: Vec<Stmt>,
+    },
 }
 
 /// `s at 2 as l, r`: the section that is split, the position, and the two sides.

@@ -4,14 +4,14 @@ use Rattle.std.proofs.Common.{◌∙◌, arith, inl, inr, le_refl}
 use Rattle.std.specs.Prelude.{Bool, true, false, ok_or, if◌then◌else◌}
 use Rattle.sections.specs.Place.{has_piece, sides_of}
 use Rattle.types.specs.declared.fault.FaultKind.TheVariants.{SplitPoint, PieceSize}
-use Rattle.types.specs.Code.{Truth, Code, Do, If, While, Split, Parts, Begun, Call, Async, Finish, Codes, End, Then, Program}
+use Rattle.types.specs.Code.{Truth, Code, Do, If, While, Split, Parts, Begun, Call, Async, Finish, Rescue, Codes, End, Then, Program}
 use Rattle.types.specs.Translation.{program}
 use Rattle.types.specs.Value.{Valued}
 use Rattle.types.specs.Run.{Flow, On, Faulted, Stopped, State, Rules, number_at, numbers_at, truth_at, window_at, piece_size, counted}
 use Rattle.effects.specs.Needs.{Needs}
 use Rattle.task_run.specs.Results.{Settled}
 use Rattle.task_run.specs.OwnRun.{Action, Step, Spawn, EnterFinish, EndFinish, EndTask, Own, own_rules}
-use Rattle.task_run.specs.Frames.{Frame, Rest, Again, Further, AtEnd, Back, Standing, by_value, chosen, acted, paid, by_flow, turn}
+use Rattle.task_run.specs.Frames.{Frame, Rest, Again, Further, AtEnd, OnFault, Back, Standing, by_value, chosen, handled, acted, paid, by_flow, turn}
 use Rattle.task_run.specs.Frames.{done_by, done_at, done_in}
 use Rattle.task_run.specs.Left.{total}
 use Rattle.task_run.specs.Quiet.{IsLittle, Quietly, here, further}
@@ -20,7 +20,7 @@ use Rattle.task_run.specs.Standings.{Shows, ShowsFrame, Stacked, state_of, with_
 use Rattle.task_run.specs.Stops.{stops}
 use Rattle.task_run.specs.declared.frame.TaskFrame.{TaskFrame as rFrame}
 use Rattle.task_run.specs.declared.frame.TaskFrame.TheVariants.{Rest as rRest, Again as rAgain, Turns as rTurns}
-use Rattle.task_run.specs.declared.frame.TaskFrame.TheVariants.{EndFinish as rEndFinish, EndCall as rEndCall}
+use Rattle.task_run.specs.declared.frame.TaskFrame.TheVariants.{EndFinish as rEndFinish, OnFault as rOnFault, EndCall as rEndCall}
 use Rattle.task_run.specs.declared.run.Run.{Run}
 use Rattle.task_run.specs.declared.turn.Paused.{Paused}
 use Rattle.task_run.specs.declared.turn.Turn.{Turn}
@@ -36,6 +36,7 @@ ends (Rest b) = 0
 ends (Again l t b) = 0
 ends (Further l s n k q i b) = 0
 ends (AtEnd before) = 1
+ends (OnFault before x c) = 0
 ends (Back env) = 0
 
 abbrev opens : List (Frame Own) → ℕ
@@ -52,6 +53,7 @@ entered (EndTask ∷ rest) = entered rest
 
 abbrev enters : Code → ℕ
 enters (Finish b) = 1
+enters (Rescue b x d) = 1
 enters (Async b) = 0
 enters (Do s) = 0
 enters (If t b c) = 0
@@ -66,6 +68,8 @@ entered_by needs zero m (Async b) st = refl
 entered_by needs (suc n) m (Async b) st = refl
 entered_by needs zero m (Finish b) st = refl
 entered_by needs (suc n) m (Finish b) st = refl
+entered_by needs zero m (Rescue b x d) st = refl
+entered_by needs (suc n) m (Rescue b x d) st = refl
 entered_by needs zero m (Do s) st = refl
 entered_by needs (suc n) m (Do s) st = refl
 entered_by needs zero m (If t b c) st = refl
@@ -111,6 +115,7 @@ module _ (p : Program) (needs : Codes → Needs) (close : State Own → Option S
   acted_adds zero l (Async b) fs st = record { steps = le_refl st.steps; finishes = omega arith }
   acted_adds (suc n) l (Async b) fs st = record { steps = le_refl st.steps; finishes = omega arith }
   acted_adds n l (Finish b) fs st = record { steps = le_refl st.steps; finishes = omega arith }
+  acted_adds n l (Rescue b x d) fs st = record { steps = le_refl st.steps; finishes = omega arith }
   acted_adds n l (Do s) fs st =
       record { steps = primitive_less p l s (counted (rules n) l (Do s) st); finishes = omega arith }
   acted_adds n l (If t b c) fs st =
@@ -158,6 +163,7 @@ module _ (p : Program) (needs : Codes → Needs) (close : State Own → Option S
     where
       at_most : (c : Code) → enters c ≤ 1
       at_most (Finish b) = omega arith
+      at_most (Rescue b x d) = omega arith
       at_most (Async b) = omega arith
       at_most (Do s) = omega arith
       at_most (If t b c) = omega arith
@@ -203,6 +209,12 @@ module _ (p : Program) (needs : Codes → Needs) (close : State Own → Option S
           record { steps = a.steps; finishes = omega (arith, f) }
       by false = record { steps = omega arith; finishes = omega arith }
   turn_counts n (AtEnd before) fs st = record { steps = omega arith; finishes = omega arith }
+  turn_counts n (OnFault before x c) fs st = by st.flow
+    where
+      by : (g : Flow) → Counts [] (OnFault before x c ∷ fs) st (handled g before x c fs st)
+      by On = record { steps = omega arith; finishes = omega arith }
+      by Faulted = record { steps = omega arith; finishes = omega arith }
+      by Stopped = record { steps = omega arith; finishes = omega arith }
   turn_counts n (Back env) fs st = record { steps = omega arith; finishes = omega arith }
 
   -- quiet turns start and end no finish
@@ -232,6 +244,7 @@ frame_same (rRest b) f e = ap ends (sym e)
 frame_same (rAgain l t b) f e = ap ends (sym e)
 frame_same (rTurns t) f e = ap ends (sym e)
 frame_same (rEndFinish o) f (before, e, h) = ap ends (sym e)
+frame_same (rOnFault before x b) f e = ap ends (sym e)
 frame_same (rEndCall env) f e = ap ends (sym e)
 
 opens_same : (gs : List rFrame) (fs : List (Frame Own)) → Stacked gs fs → open_finishes gs ≡ opens fs
@@ -336,6 +349,7 @@ module _ (old : Run) where
     by_frames t (Rest b ∷ fs) st same shows h = by_turn t (Rest b) fs st same shows h
     by_frames t (Again l g b ∷ fs) st same shows h = by_turn t (Again l g b) fs st same shows h
     by_frames t (Further l s n k q i b ∷ fs) st same shows h = by_turn t (Further l s n k q i b) fs st same shows h
+    by_frames t (OnFault before x c ∷ fs) st same shows h = by_turn t (OnFault before x c) fs st same shows h
     by_frames t (Back env ∷ fs) st same shows h = by_turn t (Back env) fs st same shows h
 
     -- a turn changes the open finishes and the steps left in this way

@@ -2,7 +2,8 @@
 use Rattle.std.specs.Prelude.{ℕ, List}
 use Rattle.task_run.specs.Left.{total}
 use Rattle.task_run.specs.declared.frame.TaskFrame.{TaskFrame}
-use Rattle.task_run.specs.declared.frame.TaskFrame.TheVariants.{Rest, Again, Turns, EndFinish, EndCall}
+use Rattle.task_run.specs.declared.frame.TaskFrame.TheVariants.{Rest, Again, Turns, EndFinish, OnFault}
+use Rattle.task_run.specs.declared.frame.TaskFrame.TheVariants.{EndCall}
 
 -- 1 if a frame is the end of a finish, else 0
 abbrev pub ends_finish : TaskFrame → ℕ
@@ -10,6 +11,7 @@ ends_finish (Rest b) = 0
 ends_finish (Again l t b) = 0
 ends_finish (Turns t) = 0
 ends_finish (EndFinish outer) = 1
+ends_finish (OnFault before faults handler) = 0
 ends_finish (EndCall env) = 0
 
 -- the number of such frames

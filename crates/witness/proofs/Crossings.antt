@@ -1,7 +1,8 @@
 -- The shortest two ways that meet, from the shortest of their parts.
 use Rattle.std.proofs.Common.{◌≡◌, ◌⊎◌, inl, inr, ℕ, ◌≤◌, List, ◌∷◌, length, refl, sym, ◌∙◌, subst, true≢false, arith}
 use Rattle.std.specs.Prelude.{Bool, true, false, Option, None, Some, IfSome, option_map}
-use Rattle.types.specs.Code.{Number, Truth, Code, Do, If, While, Split, Parts, Begun, Call, Async, Finish, Codes, End, Then, Program}
+use Rattle.types.specs.Code.{Number, Truth, Code, Do, If, While, Split, Parts, Begun, Call, Async, Finish, Rescue}
+use Rattle.types.specs.Code.{Codes, End, Then, Program}
 use Rattle.effects.specs.Accesses.{Access}
 use Rattle.effects.specs.Effects.{of_pieces, past_parts}
 use Rattle.effects.specs.Statements.{Block}
@@ -157,6 +158,7 @@ module _ (p : Program) (x y : Access) where
     HasOnly (Call f es ss) b = ⊥
     HasOnly (Async d) b = d ≡ b
     HasOnly (Finish d) b = d ≡ b
+    HasOnly (Rescue d n e) b = ⊥
 
     at_block : (s : Code) (b : Codes) (found : Option Crossed) → Block s b → HasOnly s b
         → IsLeast both all_covered (MeetIn p b x y) found → IsLeast both all_covered (MeetAt p l s x y) found
@@ -173,6 +175,8 @@ module _ (p : Program) (x y : Access) where
         block only Block.parts m = absurd only
         block only Block.async {kind} {one} {other} m = subst (λ d. Meets p d kind one other x y) only m
         block only Block.finish {kind} {one} {other} m = subst (λ d. Meets p d kind one other x y) only m
+        block only Block.rescued m = absurd only
+        block only Block.handler m = absurd only
 
         cases : {u : Code} {kind : RunsTogether} {one other : List WayStep} → HasOnly u b
             → MeetsAt p l u kind one other x y → Meets p b kind one other x y
@@ -192,6 +196,22 @@ module _ (p : Program) (x y : Access) where
     pub at_finish : (b : Codes) (found : Option Crossed) → IsLeast both all_covered (MeetIn p b x y) found
         → IsLeast both all_covered (MeetAt p l (Finish b) x y) found
     at_finish b found = at_block (Finish b) b found Block.finish refl
+
+    pub at_rescue : (n : ℕ) (b d : Codes) (one other found : Option Crossed) → IsLesserOf both one other found
+        → IsLeast both all_covered (MeetIn p b x y) one → IsLeast both all_covered (MeetIn p d x y) other
+        → IsLeast both all_covered (MeetAt p l (Rescue b n d) x y) found
+    at_rescue n b d one other found lesser h k =
+        least_either both all_covered (MeetIn p b x y) (MeetIn p d x y) (MeetAt p l (Rescue b n d) x y) one other found lesser
+        (λ c m. MeetsAt.inside Block.rescued m) (λ c m. MeetsAt.inside Block.handler m) (λ c m. cases m) h k
+      where
+        block : {e : Codes} → Block (Rescue b n d) e → {kind : RunsTogether} {one other : List WayStep} → Meets p e kind one other x y
+            → Meets p b kind one other x y ⊎ Meets p d kind one other x y
+        block Block.rescued m = inl m
+        block Block.handler m = inr m
+
+        cases : {kind : RunsTogether} {one other : List WayStep} → MeetsAt p l (Rescue b n d) kind one other x y
+            → Meets p b kind one other x y ⊎ Meets p d kind one other x y
+        cases (MeetsAt.inside k m) = block k m
 
   pub at_statement : (l : ℕ) (k s : Code) (found : Option Crossed) → k ≡ s → IsLeast both all_covered (MeetAt p l s x y) found
       → IsLeast both all_covered (MeetAt p l k x y) found

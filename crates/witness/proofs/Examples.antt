@@ -1,14 +1,16 @@
--- Worked ways, which show the races of three programs.
+-- Worked ways, which show the races of some programs.
 use Rattle.std.proofs.Common.{ℕ, [], ◌∷◌, refl, arith}
 use Rattle.std.specs.Prelude.{true, false}
 use Rattle.sections.specs.Member.{first}
+use Rattle.types.specs.Code.{Store, Code, Do, Async, Rescue, End, Program}
+use Rattle.types.proofs.Programs.{◌⨾◌, lit}
 use Rattle.effects.specs.Accesses.{Access}
 use Rattle.effects.specs.Statements.{Block}
 use Rattle.parallel_relation.proofs.Programs.{unfinished, split_in_loop, call_then_store}
 use Rattle.witness.specs.Ways.{Goes, Way, WayOf, step}
 use Rattle.witness.specs.Meets.{Meets}
 use Rattle.witness.specs.declared.crossing.RunsTogether.TheVariants.{Follows, Turns}
-use Rattle.witness.specs.declared.step.Rule.TheVariants.{Own, Turn, Side, Enter, Begin}
+use Rattle.witness.specs.declared.step.Rule.TheVariants.{Own, Turn, Side, Enter, Begin, Handler}
 
 abbrev reads : ℕ → ℕ → Access
 reads l s = record { label = l; section = s; write = false }
@@ -37,3 +39,15 @@ call_then_store_shown =
     Meets.inside Block.finish (Meets.follows
     (WayOf.by (Goes.enter {k = 0} refl (omega arith)) (Way.here (WayOf.by Goes.begin (Way.here (WayOf.own first)))))
     (Way.here (WayOf.own first)))
+
+-- a[0] = n;
+abbrev gets : ℕ → Code
+gets n = Do (Store 0 (lit 0) (lit n))
+
+-- finish { } rescue n { async { a[0] = 2; } } a[0] = 3; : the handler's task, and the write after it
+handler_shown : (p : Program)
+    → Meets p ((1, Rescue End 0 ((2, Async ((3, gets 2) ⨾ End)) ⨾ End)) ⨾ (4, gets 3) ⨾ End) Follows
+    (step 1 Handler 0 ∷ step 2 Begin 0 ∷ step 3 Own 0 ∷ []) (step 4 Own 0 ∷ []) (writes 3 0) (writes 4 0)
+handler_shown p =
+    Meets.follows (WayOf.by Goes.handler (Way.here (WayOf.by Goes.begin (Way.here (WayOf.own first)))))
+    (Way.here (WayOf.own first))

@@ -4,7 +4,8 @@ use Rattle.std.proofs.lemmas.Bool.{cases_eq}
 use Rattle.std.specs.Prelude.{if◌then◌else◌, Bool, true, false}
 use Rattle.std.specs.Prelude.{Option, None, Some, IfSome, MatchOption, option_map, slice_get}
 use Rattle.sections.specs.declared.id.SectionId.{SectionId}
-use Rattle.types.specs.Code.{Number, Truth, Code, If, While, Split, Parts, Call, Async, Finish, Codes, End, Then, Program}
+use Rattle.types.specs.Code.{Number, Truth, Code, If, While, Split, Parts, Call, Async, Finish, Rescue, Codes, End}
+use Rattle.types.specs.Code.{Then, Program}
 use Rattle.types.specs.Run.{procedure_of}
 use Rattle.types.specs.Translation.{codes}
 use Rattle.types.specs.declared.code.Stmt.{Stmt}
@@ -20,7 +21,7 @@ use Rattle.witness.specs.Ways.{Goes, Way, WayOf, step}
 use Rattle.witness.specs.declared.known.Known.{Known}
 use Rattle.witness.specs.declared.search.Sought.{Sought}
 use Rattle.witness.specs.declared.step.Rule.{Rule}
-use Rattle.witness.specs.declared.step.Rule.TheVariants.{Own, Body, Other, Turn, Side, Piece, Enter, Begin, Await}
+use Rattle.witness.specs.declared.step.Rule.TheVariants.{Own, Body, Other, Turn, Side, Piece, Enter, Begin, Await, Handler}
 use Rattle.witness.specs.declared.step.WayStep.{WayStep}
 use Rattle.witness.proofs.Leasts.{least_none, least_same, least_either, least_led_at, at_most_more}
 
@@ -120,6 +121,21 @@ module _ (p : Program) where
       → (l : ℕ) (x : Access) (way : List WayStep) → outer ≡ x.section → Led k l rule d x inner way → (m ≡ false) × Led false l Await b x x.section way
   finish_cases (Goes.await {s = s}) l x way e h = (refl, same_name s e h)
 
+  -- a way into a block after which nothing is left pending
+  abbrev pub Awaited : (m : Bool) (l : ℕ) (b : Codes) (x : Access) → List WayStep → Type 0
+  Awaited m l b x way = (m ≡ false) × Led m l Await b x x.section way
+
+  awaited : (m : Bool) (l : ℕ) (b : Codes) (x : Access) (way : List WayStep) → m ≡ false → Led false l Await b x x.section way
+      → Awaited m l b x way
+  awaited true l b x way e led = absurd (true≢false e)
+  awaited false l b x way e led = (e, led)
+
+  rescue_cases : {m k : Bool} {n : ℕ} {b c d : Codes} {rule : Rule} {outer inner : ℕ} → Goes p m (Rescue b n c) rule k d outer inner
+      → (l : ℕ) (x : Access) (way : List WayStep) → outer ≡ x.section → Led k l rule d x inner way
+      → Awaited m l b x way ⊎ Led m l Handler c x x.section way
+  rescue_cases (Goes.rescued {s = s}) l x way e h = inl (refl, same_name s e h)
+  rescue_cases (Goes.handler {s = s}) l x way e h = inr (same_name s e h)
+
   -- inside a split a section has one of three names; the piece of a `parts` is both sides
   pub record BySide (rule : Rule) (m : Bool) (l : ℕ) (s i r : ℕ) (b : Codes) (x : Access) (inner : ℕ) (way : List WayStep) : Type 0 where
     pub names : past_split s i r inner ≡ x.section
@@ -179,10 +195,13 @@ module _ (p : Program) where
         least_same length covered (Led false l Begin b x x.section) (GoesOn p m l (Async b) x) found
         (λ way led. led_on m false l (Async b) x Begin b x.section Goes.begin way led) (λ way g. async_cases g.by.goes l x way refl g.by.led) h
 
-    pub least_unfinished : (b : Codes) → m ≡ true → IsLeast length covered (GoesOn p m l (Finish b) x) None
-    least_unfinished b e =
-        least_none length covered (GoesOn p m l (Finish b) x)
-        (λ way g. let f = finish_cases g.by.goes l x way refl g.by.led in true≢false (sym e ∙ f.0))
+    pub least_unfinished : (b : Codes) → m ≡ true → IsLeast length covered (Awaited m l b x) None
+    least_unfinished b e = least_none length covered (Awaited m l b x) (λ way i. true≢false (sym e ∙ i.0))
+
+    pub least_awaited : (b : Codes) (found : Option (List WayStep)) → m ≡ false → IsLeast length covered (Led m l Await b x x.section) found
+        → IsLeast length covered (Awaited m l b x) found
+    least_awaited b found e h =
+        least_same length covered (Led m l Await b x x.section) (Awaited m l b x) found (λ way led. (e, led)) (λ way i. i.1) h
 
     pub least_side : (rule : Rule) (s i r : ℕ) (b : Codes) (inner : ℕ) (found : Option (List WayStep)) → past_split s i r inner ≡ x.section
         → IsLeast length covered (Led m l rule b x inner) found → IsLeast length covered (BySide rule m l s i r b x inner) found
@@ -253,13 +272,28 @@ module _ (p : Program) where
           ]
         ]
 
-  pub least_finish : (covered : ℕ → Type 0) (m : Bool) (l : ℕ) (x : Access) (b : Codes) (found : Option (List WayStep)) → m ≡ false
-      → IsLeast length covered (Led m l Await b x x.section) found → IsLeast length covered (GoesOn p m l (Finish b) x) found
-  least_finish covered true l x b found e h = absurd (true≢false e)
-  least_finish covered false l x b found e h =
-      least_same length covered (Led false l Await b x x.section) (GoesOn p false l (Finish b) x) found
-      (λ way led. led_on false false l (Finish b) x Await b x.section Goes.await way led)
-      (λ way g. (finish_cases g.by.goes l x way refl g.by.led).1) h
+  module _ (covered : ℕ → Type 0) (l : ℕ) (x : Access) where
+    finish_on : (m : Bool) (b : Codes) (way : List WayStep) → Awaited m l b x way → GoesOn p m l (Finish b) x way
+    finish_on true b way i = absurd (true≢false i.0)
+    finish_on false b way i = led_on false false l (Finish b) x Await b x.section Goes.await way i.1
+
+    pub least_finish : (m : Bool) (b : Codes) (found : Option (List WayStep)) → IsLeast length covered (Awaited m l b x) found
+        → IsLeast length covered (GoesOn p m l (Finish b) x) found
+    least_finish m b found h =
+        least_same length covered (Awaited m l b x) (GoesOn p m l (Finish b) x) found (λ way i. finish_on m b way i)
+        (λ way g. let f = finish_cases g.by.goes l x way refl g.by.led in awaited m l b x way f.0 f.1) h
+
+    rescued_on : (m : Bool) (n : ℕ) (b c : Codes) (way : List WayStep) → Awaited m l b x way → GoesOn p m l (Rescue b n c) x way
+    rescued_on true n b c way i = absurd (true≢false i.0)
+    rescued_on false n b c way i = led_on false false l (Rescue b n c) x Await b x.section Goes.rescued way i.1
+
+    pub least_rescue : (m : Bool) (n : ℕ) (b c : Codes) (one other found : Option (List WayStep)) → IsLesserOf length one other found
+        → IsLeast length covered (Awaited m l b x) one → IsLeast length covered (Led m l Handler c x x.section) other
+        → IsLeast length covered (GoesOn p m l (Rescue b n c) x) found
+    least_rescue m n b c one other found lesser h k =
+        least_either length covered (Awaited m l b x) (Led m l Handler c x x.section) (GoesOn p m l (Rescue b n c) x) one other found lesser
+        (λ way i. rescued_on m n b c way i) (λ way led. led_on m m l (Rescue b n c) x Handler c x.section Goes.handler way led)
+        (λ way g. rescue_cases g.by.goes l x way refl g.by.led) h k
 
   -- ---- calls
   module _ (m : Bool) (l : ℕ) (x : Access) (known : Known) (f : ℕ) (es : List Number) (ss : List ℕ) where
@@ -341,15 +375,15 @@ module _ (p : Program) (known : Known) (sought : Sought) where
   awaited_ways true ways = tt
   awaited_ways false ways = ways
 
-  -- what is found inside a finish, which leaves nothing pending
-  pub finish_found : (l : ℕ) (b : Codes) (first : WayStep) (aim : Option Sought) (found : Option (List WayStep))
+  -- what is found inside a block after which nothing is left pending
+  pub awaited_found : (l : ℕ) (b : Codes) (first : WayStep) (aim : Option Sought) (found : Option (List WayStep))
       → aim ≡ (if sought.pending then None else Some sought)
       → first ≡ step l Await sought.access.section.number
       → MatchOption aim (found ≡ None) (λ a. IsLeast length (AreShortest p (access a.access) known)
       (IsLed first (λ way. Way p a.pending b way (access a.access))) found)
       → IsLeast length (AreShortest p (access sought.access) known)
-      (GoesOn p sought.pending l (Finish b) (access sought.access)) found
-  finish_found l b first aim found is at h =
+      (Awaited p sought.pending l b (access sought.access)) found
+  awaited_found l b first aim found is at h =
       by sought.pending refl (subst (λ (o : Option Sought). MatchOption o (found ≡ None) Behind) is h)
     where
       Behind : Sought → Type 0
@@ -359,14 +393,14 @@ module _ (p : Program) (known : Known) (sought : Sought) where
       by : (m : Bool) → sought.pending ≡ m
           → MatchOption (if m then None else Some sought) (found ≡ None) Behind
           → IsLeast length (AreShortest p (access sought.access) known)
-          (GoesOn p sought.pending l (Finish b) (access sought.access)) found
+          (Awaited p sought.pending l b (access sought.access)) found
       by true e none =
           subst (IsLeast length (AreShortest p (access sought.access) known)
-          (GoesOn p sought.pending l (Finish b) (access sought.access))) (sym none)
+          (Awaited p sought.pending l b (access sought.access))) (sym none)
           (least_unfinished p (AreShortest p (access sought.access) known) sought.pending l
           (access sought.access) b e)
       by false e h =
-          least_finish p (AreShortest p (access sought.access) known) sought.pending l (access sought.access)
+          least_awaited p (AreShortest p (access sought.access) known) sought.pending l (access sought.access)
           b found e (stepped (AreShortest p (access sought.access) known) _ _ _ _ at h)
 
   -- what is found by one of the names inside

@@ -2,7 +2,7 @@
 use Rattle.std.proofs.Common.{◌≡◌, ℕ, zero, suc, ◌<◌, List, [], ◌∷◌, length, refl, sym, ◌∙◌, subst, arith}
 use Rattle.std.specs.Prelude.{Bool, true, false, None, Some, slice_get}
 use Rattle.std.proofs.lemmas.Option.{slice_get-get_or}
-use Rattle.types.specs.Code.{Code, If, While, Split, Parts, Call, Async, Codes, Then, Procedure, Program}
+use Rattle.types.specs.Code.{Code, If, While, Split, Parts, Call, Async, Rescue, Codes, Then, Procedure, Program}
 use Rattle.types.specs.Run.{procedure_of}
 use Rattle.effects.specs.Accesses.{Access}
 use Rattle.types.specs.Sound.{passed_for}
@@ -68,6 +68,8 @@ module _ (p : Program) where
           scope = parameters_of (procedure_of p f);
           follows = (sound.procedures f).body;
         }
+    within (Inner.handler {n = n}) m x h g scope k =
+        record { rule = _; goes = Goes.handler; around = g; scope = scope; follows = k.2 }
 
     mutual
       pub done_of : {l : ℕ} {s : Code} {x : Access} → AllOf p accesses l s x → (g : Procedure) (scope : List ℕ) → FollowsOf p g scope s
@@ -78,6 +80,7 @@ module _ (p : Program) where
           subst (HasWayOf false l s) (sym e) (by_rule {x = renamed out x} w.goes (done h w.around w.scope w.follows))
       done_of (AllOf.async h) g scope k = by_rule Goes.begin (done h g scope k)
       done_of (AllOf.finish h) g scope k = by_rule Goes.await (done h g scope k)
+      done_of (AllOf.rescued h) g scope k = by_rule Goes.rescued (done h g scope k.0)
 
       -- what a list may do has a way
       pub done : {b : Codes} {x : Access} → All p accesses b x → (g : Procedure) (scope : List ℕ) → Follows p g scope b → HasWay false b x
@@ -135,6 +138,9 @@ module _ (p : Program) where
       passed (t ∷ ss) (suc k) s q = passed ss k s q
   ruled (Goes.begin {m} {b} {s}) l x e h = begun m l b x (subst (λ z. All p accesses b (record x { section = z })) (sym e) h)
   ruled (Goes.await {b} {s}) l x e h = AllOf.finish (subst (λ z. All p accesses b (record x { section = z })) (sym e) h)
+  ruled (Goes.rescued {b = b}) l x e h = AllOf.rescued (subst (λ z. All p accesses b (record x { section = z })) (sym e) h)
+  ruled (Goes.handler {m} {n} {b} {c} {s}) l x e h =
+      subst (λ z. DoesOf m l (Rescue b n c) (record x { section = z })) (sym e) (inner_of m l (record x { section = s }) Inner.handler h)
 
   in_front : (m : Bool) (l : ℕ) (s : Code) (rest : Codes) (x : Access) → DoesOf m l s x → Does m (Then l s rest) x
   in_front true l s rest x h = Pending.here h

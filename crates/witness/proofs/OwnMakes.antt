@@ -6,7 +6,7 @@ use Rattle.std.specs.Prelude.{Bool, true, false, flat_map, ◌++◌, ◌||◌}
 use Rattle.effects.proofs.Stability.{is_listed}
 use Rattle.sections.specs.Member.{Member, first, next}
 use Rattle.types.specs.Code.{Primitive, Skip, Assign, Store, Print, Raise}
-use Rattle.types.specs.Code.{Code, Do, If, While, Split, Parts, Begun, Call, Async, Finish}
+use Rattle.types.specs.Code.{Code, Do, If, While, Split, Parts, Begun, Call, Async, Finish, Rescue}
 use Rattle.types.specs.Indexed.{indexed, indexed_truth}
 use Rattle.effects.specs.Accesses.{Access, reads, own_primitive, own_accesses}
 use Rattle.effects.specs.Translation.{access}
@@ -37,6 +37,7 @@ own_label l (Begun s n k q i b) x m = elim m [ ]
 own_label l (Call f es ss) x m = reads_label l (flat_map indexed es) x m
 own_label l (Async b) x m = elim m [ ]
 own_label l (Finish b) x m = elim m [ ]
+own_label l (Rescue b n c) x m = elim m [ ]
 
 -- so accesses with another label are not among them
 pub lists_not_other : (l : ℕ) (s : Code) (x : Access) → (l ≡ x.label → ⊥) → false ≡ lists (own_accesses l s) x

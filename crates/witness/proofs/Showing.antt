@@ -39,6 +39,8 @@ module _ (p : Program) (sound : IsSound p) where
   block_follows (Block.parts {q = q}) g scope h = record { scope = q ∷ scope; follows = h.2 }
   block_follows Block.async g scope h = record { scope = scope; follows = h }
   block_follows Block.finish g scope h = record { scope = scope; follows = h }
+  block_follows Block.rescued g scope h = record { scope = scope; follows = h.0 }
+  block_follows Block.handler g scope h = record { scope = scope; follows = h.2 }
 
   -- the step before a turn makes no access
   of_block : (l : ℕ) {b : Codes} {y : Access} → OfTurn p accesses l b y → All p accesses b y

@@ -1,12 +1,14 @@
 -- Ways: from statements down to an access that they may do, or leave pending, step by step.
 use Rattle.std.specs.Prelude.{ℕ, ◌≡◌, ◌<◌, Bool, false, List, [], ◌∷◌, length, Some, slice_get}
 use Rattle.sections.specs.Member.{Member}
-use Rattle.types.specs.Code.{Number, Truth, Code, If, While, Split, Parts, Call, Async, Finish, Codes, Then, Program}
+use Rattle.types.specs.Code.{Number, Truth, Code, If, While, Split, Parts, Call, Async, Finish, Rescue, Codes}
+use Rattle.types.specs.Code.{Then, Program}
 use Rattle.types.specs.Run.{procedure_of}
 use Rattle.effects.specs.Accesses.{Access, own_accesses}
 use Rattle.effects.specs.Effects.{past_parts, past_split}
 use Rattle.witness.specs.declared.step.Rule.{Rule}
-use Rattle.witness.specs.declared.step.Rule.TheVariants.{Own, Body, Other, Turn, Side, Piece, Enter, Begin, Await}
+use Rattle.witness.specs.declared.step.Rule.TheVariants.{Own, Body, Other, Turn, Side, Piece, Enter, Begin}
+use Rattle.witness.specs.declared.step.Rule.TheVariants.{Await, Handler}
 use Rattle.witness.specs.declared.step.WayStep.{WayStep}
 
 -- the step at the statement with this label, if the section has this name
@@ -35,6 +37,9 @@ module _ (p : Program) where
     begin : {m : Bool} {b : Codes} {s : ℕ} → Goes m (Async b) Begin false b s s
     -- a finish leaves nothing pending
     await : {b : Codes} {s : ℕ} → Goes false (Finish b) Await false b s s
+    -- nor does the body of a rescue; what the handler leaves pending, the rescue leaves pending
+    rescued : {n : ℕ} {b c : Codes} {s : ℕ} → Goes false (Rescue b n c) Await false b s s
+    handler : {m : Bool} {n : ℕ} {b c : Codes} {s : ℕ} → Goes m (Rescue b n c) Handler m c s s
 
   mutual
     -- these steps lead from a statement to an access that it may do, or leave pending

@@ -168,6 +168,11 @@ fn crossing_of(pairing: &Pairing<'_>, statement: &Stmt) -> Result<Option<Crossin
         StmtKind::Split { body, .. } | StmtKind::Async { body } | StmtKind::Finish { body } => {
             crossing_in(pairing, body)
         }
+        StmtKind::Rescue { body, handler, .. } => {
+            let one = crossing_in(pairing, body)?;
+            let next = crossing_in(pairing, handler)?;
+            Ok(shorter_crossing(one, next))
+        }
         StmtKind::Call { .. } => Ok(None),
     }
 }

@@ -214,6 +214,13 @@ fn way_inside(
             let step = sought.step(statement, Rule::Await);
             way_behind(alloc, code, known, sought.awaited(), step, body)
         }
+        StmtKind::Rescue { body, handler, .. } => {
+            let step = sought.step(statement, Rule::Await);
+            let way = way_behind(alloc, code, known, sought.awaited(), step, body)?;
+            let step = sought.step(statement, Rule::Handler);
+            let next = way_behind(alloc, code, known, Some(sought), step, handler)?;
+            Ok(shorter(way, next))
+        }
     }
 }
 

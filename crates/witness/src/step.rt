@@ -28,8 +28,10 @@ pub enum Rule {
     Enter { procedure: ProcedureId },
     /// `async { HERE }`
     Begin,
-    /// `finish { HERE }`
+    /// `finish { HERE }`, with or without a rescue
     Await,
+    /// `finish { } rescue n { HERE }`
+    Handler,
 }
 
 /// A step of a way: at the statement with this label, in the list that the way has reached.

@@ -14,7 +14,7 @@ syn match   afxCall      "\<[A-Za-z_][A-Za-z0-9_]*\ze[ \t\r]*("
 syn match   afxComment   "//.*$" contains=@Spell
 
 syn keyword afxStatement skip print fault
-syn keyword afxTask      async finish
+syn keyword afxTask      async finish rescue
 syn keyword afxFlow      if else while
 syn keyword afxDeclare   main proc array var split as at parts by
 syn keyword afxParameter mut read
@@ -22,8 +22,6 @@ syn keyword afxType      int byte
 syn keyword afxLogic     and or not
 syn keyword afxLength    len
 syn keyword afxTruth     true false
-" This stands in no statement yet.
-syn keyword afxReserved  rescue
 
 hi def link afxUnread    Error
 hi def link afxNumber    Number
@@ -40,6 +38,5 @@ hi def link afxType      Type
 hi def link afxLogic     Operator
 hi def link afxLength    Function
 hi def link afxTruth     Boolean
-hi def link afxReserved  Error
 
 let b:current_syntax = "afx"

@@ -6,7 +6,7 @@ ghost use Rattle.std.specs.Prelude.{◌≡◌, [], ◌∷◌, ◌++◌, ◌≤�
 ghost use Rattle.std.specs.String.{string_bytes};
 ghost use Rattle.syntax_tree.specs.Tree.{block as block_of, stmt as stmt_of, expr as expr_of, Var, Assign};
 ghost use Rattle.syntax_tree.specs.Tree.{Store, Print, Fault, If, IfElse, While, Split, Parts, Call, Async};
-ghost use Rattle.syntax_tree.specs.Tree.{Finish};
+ghost use Rattle.syntax_tree.specs.Tree.{Finish, Rescue};
 ghost use Rattle.types.specs.Resolution.{code as code_at, codes as codes_at, number as number_at};
 ghost use Rattle.types.specs.Resolution.{truth as truth_at};
 ghost use Rattle.types.specs.ExpressionErrors.{number as number_errors, numbers as numbers_errors};
@@ -158,6 +158,11 @@ impl Statements<'_> {
             } => self.call(scope, procedure, arguments),
             tree::Stmt::Async { body } => self.async_body(scope, body),
             tree::Stmt::Finish { body } => self.finish(scope, body),
+            tree::Stmt::Rescue {
+                body,
+                faults,
+                handler,
+            } => self.rescue(scope, body, faults, handler),
         }
     }
 
@@ -344,6 +349,41 @@ impl Statements<'_> {
         scope.step();
         let body = self.inside(scope, mark, body)?;
         Ok(StmtKind::Finish { body })
+    }
+
+    /// Resolves `finish { .. } rescue n { .. }`. The name is in scope only in the handler.
+    #[cycle(statement)]
+    fn rescue(
+        &self,
+        scope: &mut NameScope,
+        body: &[tree::Stmt],
+        faults: &String,
+        handler: &[tree::Stmt],
+    ) -> Result<StmtKind, TypeError>
+        requires scoped { IsWellScoped (scope_of scope.old) }
+        requires label { scope.old.label ≤ 65535 }
+        ensures ok { IfOk result (λ k. Resolves (procedures_of self.now.procedures)
+            (scope_of scope.old)
+            (Rescue (block_of body.now) (string_bytes faults.now) (block_of handler.now)) k
+            (scope_of scope.new)) }
+        ensures error { IfErr result (Told (errors_in (procedures_of self.now.procedures)
+            (scope_of scope.old)
+            (Rescue (block_of body.now) (string_bytes faults.now) (block_of handler.now)))) }
+    {
+        let label = scope.label;
+        let mark = scope.mark();
+        scope.step();
+        let body = self.inside(scope, mark, body)?;
+        let slot = Slot {
+            number: scope.slots,
+        };
+        scope.scalar(Some(label), faults)?;
+        let handler = self.inside(scope, mark, handler)?;
+        Ok(StmtKind::Rescue {
+            body,
+            faults: slot,
+            handler,
+        })
     }
 
     /// Resolves `var x = 1;`. The name is in scope only after the statement.

@@ -2,7 +2,7 @@ use Rattle.std.proofs.Common.{◌≡◌, ℕ, List, min, sym, ap, ◌∙◌, ari
 use Rattle.types.specs.Code.{Code}
 use Rattle.types.specs.Translation.{codes, code as plain_code}
 use Rattle.types.specs.declared.code.Stmt.{Stmt}
-use Rattle.types.proofs.Blocks.{code_If, code_While, code_Split, code_Parts, code_Async, code_Finish}
+use Rattle.types.proofs.Blocks.{code_If, code_While, code_Split, code_Parts, code_Async, code_Finish, code_Rescue}
 use Rattle.cost.specs.Shares.{share_inside, share_of}
 use Rattle.cost.proofs.shares.+count.Goals as goal
 
@@ -46,3 +46,12 @@ pub in_statement-returns-in-Finish : goal.in_statement-returns-in-Finish
 in_statement-returns-in-Finish t c =
     let all = ap plain_code c.in-Finish.is ∙ code_Finish c.in-Finish.body in
     one_block c.args.table.now _ _ _ _ c.in_block-in-Finish.ensures c.deref-in-Finish.ensures.value (ap (share_inside c.args.table.now) all)
+
+pub in_statement-returns-in-Rescue : goal.in_statement-returns-in-Rescue
+in_statement-returns-in-Rescue t c =
+    let ns = c.args.table.now in
+    let at_most : List Stmt → ℕ = λ b. min (share_of ns (codes b)) 18446744073709551615 in
+    let body = c.in_block-in-Rescue.ensures ∙ ap at_most c.deref-in-Rescue.ensures.value in
+    let handler = c.in_block-in-Rescue-2.ensures ∙ ap at_most c.deref-in-Rescue-2.ensures.value in
+    let all = ap (share_inside ns) (ap plain_code c.in-Rescue.is ∙ code_Rescue c.in-Rescue.body _ c.in-Rescue.handler) in
+    omega (arith, c.saturating_add-in-Rescue.ensures, body, handler, all)

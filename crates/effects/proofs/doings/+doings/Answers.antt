@@ -15,7 +15,7 @@ use Rattle.effects.proofs.DoingLemmas.{adds_end, adds_firsts, adds_front, adds_t
 use Rattle.effects.proofs.FirstLabels.{firsts_of_firsts, firsts_renamed}
 use Rattle.effects.proofs.OneList.{of_same}
 use Rattle.effects.proofs.StatementLemmas.{is_call, is_inside, part_at}
-use Rattle.effects.proofs.Statements.{codes_before, smaller, size-drop, is_If, is_Split, is_Parts}
+use Rattle.effects.proofs.Statements.{codes_before, smaller, size-drop, is_If, is_Split, is_Parts, is_Rescue}
 use Rattle.effects.proofs.doings.+doings.Goals as goal
 
 pub add_block-loop-place-init : goal.add_block-loop-place-init
@@ -73,6 +73,20 @@ add_inside-add_block-requires-in-If t c =
     let inside = is_inside (program c.args.code.now) c.args.statement.now.label (code c.args.statement.now.kind) _ _ c.requires.there is Block.if_other in
     (omega (arith, inside.small), (c.requires.sound, (c.requires.summaries, inside.part)))
 
+pub add_inside-add_block-requires-in-Rescue : goal.add_inside-add_block-requires-in-Rescue
+add_inside-add_block-requires-in-Rescue t c =
+    let is = is_Rescue _ c.in-Rescue.body c.in-Rescue.faults c.in-Rescue.handler c.deref-in-Rescue.result.now c.in-Rescue.handler.items
+    c.in-Rescue.is c.deref-in-Rescue.ensures.value refl in
+    let inside = is_inside (program c.args.code.now) c.args.statement.now.label (code c.args.statement.now.kind) _ _ c.requires.there is Block.rescued in
+    (omega (arith, inside.small), (c.requires.sound, (c.requires.summaries, inside.part)))
+
+pub add_inside-add_block-requires-in-Rescue-2 : goal.add_inside-add_block-requires-in-Rescue-2
+add_inside-add_block-requires-in-Rescue-2 t c =
+    let is = is_Rescue _ c.in-Rescue.body c.in-Rescue.faults c.in-Rescue.handler c.in-Rescue.body.items c.deref-in-Rescue-2.result.now
+    c.in-Rescue.is refl c.deref-in-Rescue-2.ensures.value in
+    let inside = is_inside (program c.args.code.now) c.args.statement.now.label (code c.args.statement.now.kind) _ _ c.requires.there is Block.handler in
+    (omega (arith, inside.small), (c.requires.sound, (c.requires.summaries, inside.part)))
+
 pub add_inside-add_block-requires-in-While : goal.add_inside-add_block-requires-in-While
 add_inside-add_block-requires-in-While t c =
     let k = c.args.statement.now.kind in
@@ -111,6 +125,20 @@ add_inside-returns-in_ok-add_block-in-If t c =
     (adds_then (All p accesses (codes c.deref.result.now)) (All p accesses (codes c.deref-in-If.result.now)) (kept_in c.args.into.now)
     (kept_in c.add_block.new.into) (kept_in c.add_block-in-If.new.into) c.in_ok-add_block-in-If.ensures h))
     c.add_block-in-If.ensures
+
+pub add_inside-returns-in_ok-add_block-in-Rescue : goal.add_inside-returns-in_ok-add_block-in-Rescue
+add_inside-returns-in_ok-add_block-in-Rescue t c =
+    let p = program c.args.code.now in
+    let first = c.deref-in-Rescue.result.now in
+    let second = c.deref-in-Rescue-2.result.now in
+    let is = is_Rescue _ c.in-Rescue.body c.in-Rescue.faults c.in-Rescue.handler first second c.in-Rescue.is c.deref-in-Rescue.ensures.value
+    c.deref-in-Rescue-2.ensures.value in
+    let new = kept_in c.add_block-in-Rescue-2.new.into in
+    on_ok_weaker c.add_block-in-Rescue-2.result
+    (λ h. subst (λ (k : Code). AddsFirsts (AllInside p accesses k) (kept_in c.args.into.now) new) (sym is)
+    (adds_then (All p accesses (codes first)) (All p accesses (codes second)) (kept_in c.args.into.now)
+    (kept_in c.add_block-in-Rescue.new.into) new c.in_ok-add_block-in-Rescue.ensures h))
+    c.add_block-in-Rescue-2.ensures
 
 pub add_inside-returns-in_ok-outside-in-Split : goal.add_inside-returns-in_ok-outside-in-Split
 add_inside-returns-in_ok-outside-in-Split t c =

@@ -1,7 +1,7 @@
 use Rattle.std.proofs.Common.{◌≡◌, List, ◌++◌, map, ap, sym, ◌∙◌}
 use Rattle.types.specs.Code.{Code}
 use Rattle.types.specs.Translation.{codes, code}
-use Rattle.types.proofs.Blocks.{code_If, code_While, code_Split, code_Parts, code_Async, code_Finish}
+use Rattle.types.proofs.Blocks.{code_If, code_While, code_Split, code_Parts, code_Async, code_Finish, code_Rescue}
 use Rattle.effects.specs.declared.visits.Standing.{Standing}
 use Rattle.effects.specs.Visits.{Visit, visits_in, visits_inside, visit}
 use Rattle.effects.proofs.Appending.{in_two_steps}
@@ -49,6 +49,17 @@ visit_inside-returns-in_ok-visit_block-in-Async t c =
     c.in_ok-visit_block-in-Async.ensures
     ∙ visits_same (map visit c.args.into.now.items) c.in_async.ensures c.deref-in-Async.ensures.value
     ∙ inside_of (map visit c.args.into.now.items) c.args.standing (ap code c.in-Async.is ∙ code_Async c.in-Async.body)
+
+pub visit_inside-returns-in_ok-visit_block-in-Rescue-2 : goal.visit_inside-returns-in_ok-visit_block-in-Rescue-2
+visit_inside-returns-in_ok-visit_block-in-Rescue-2 t c =
+    let w = c.args.standing in
+    let first = c.visit_block-in-Rescue.new.into.items in
+    in_two_steps (map visit c.args.into.now.items) (map visit first) _ _ _ _
+    (c.in_ok-visit_block-in-Rescue.ensures
+    ∙ visits_same (map visit c.args.into.now.items) c.in_finish-in-Rescue.ensures c.deref-in-Rescue.ensures.value)
+    (c.in_ok-visit_block-in-Rescue-2.ensures ∙ ap (λ b. map visit first ++ visits_in w (codes b)) c.deref-in-Rescue-2.ensures.value)
+    (ap (λ k. visits_inside w (code k)) c.in-Rescue.is
+    ∙ ap (visits_inside w) (code_Rescue c.in-Rescue.body c.in-Rescue.faults c.in-Rescue.handler))
 
 pub visit_inside-returns-in_ok-visit_block-in-Finish : goal.visit_inside-returns-in_ok-visit_block-in-Finish
 visit_inside-returns-in_ok-visit_block-in-Finish t c =

@@ -1,7 +1,7 @@
 use Rattle.std.proofs.Common.{◌≤◌, ◌<◌, ◌+◌, List, length, drop, ap, subst, refl, arith, rules}
 use Rattle.std.proofs.lemmas.List.{drop_all}
 use Rattle.std.proofs.lemmas.Result.{on_ok_weaker}
-use Rattle.types.specs.Code.{Do, If}
+use Rattle.types.specs.Code.{Do, If, Rescue}
 use Rattle.types.specs.Translation.{program, code, codes, truth, primitive}
 use Rattle.types.specs.declared.code.Stmt.{Stmt}
 use Rattle.effects.specs.Effects.{labels, All}
@@ -9,7 +9,7 @@ use Rattle.effects.specs.LabelSets.{HasLabel}
 use Rattle.parallel_relation.specs.Around.{Gains, both}
 use Rattle.parallel_relation.proofs.LabelsLemmas.{gains_statement, one_less_left, none_is_left}
 use Rattle.parallel_relation.proofs.StatementParts.{Done}
-use Rattle.effects.proofs.Statements.{size, size_in, codes_at, is_If}
+use Rattle.effects.proofs.Statements.{size, size_in, codes_at, is_If, is_Rescue}
 use Rattle.effects.proofs.OneList.{of_list, size_of_list}
 use Rattle.parallel_relation.proofs.Sums.{gains_joined, gains_nothing}
 use Rattle.parallel_relation.proofs.labels.+labels.Goals as goal
@@ -68,6 +68,29 @@ add_labels_of-returns-in_ok-add_labels-in-If t c =
     on_ok_weaker c.add_labels-in-If.result (λ g. gains_statement p c.args.statement.now.label is c.in_ok-insert.ensures
     (gains_joined (Done p (If (truth c.in-If.guard) b d)) c.in_ok-add_labels-in-If.ensures g (λ x k. k) (λ x k. k)))
     c.add_labels-in-If.ensures
+
+pub add_labels_of-add_labels-requires-in-Rescue : goal.add_labels_of-add_labels-requires-in-Rescue
+add_labels_of-add_labels-requires-in-Rescue t c =
+    let is = is_Rescue _ c.in-Rescue.body c.in-Rescue.faults c.in-Rescue.handler c.deref-in-Rescue.result.now c.in-Rescue.handler.items c.in-Rescue.is
+    c.deref-in-Rescue.ensures.value refl in
+    (omega (arith, ap size_in is), c.requires)
+
+pub add_labels_of-add_labels-requires-in-Rescue-2 : goal.add_labels_of-add_labels-requires-in-Rescue-2
+add_labels_of-add_labels-requires-in-Rescue-2 t c =
+    let is = is_Rescue _ c.in-Rescue.body c.in-Rescue.faults c.in-Rescue.handler c.in-Rescue.body.items c.deref-in-Rescue-2.result.now c.in-Rescue.is
+    refl c.deref-in-Rescue-2.ensures.value in
+    (omega (arith, ap size_in is), c.requires)
+
+pub add_labels_of-returns-in_ok-add_labels-in-Rescue : goal.add_labels_of-returns-in_ok-add_labels-in-Rescue
+add_labels_of-returns-in_ok-add_labels-in-Rescue t c =
+    let p = program c.args.code.now in
+    let is = is_Rescue _ c.in-Rescue.body c.in-Rescue.faults c.in-Rescue.handler c.deref-in-Rescue.result.now c.deref-in-Rescue-2.result.now c.in-Rescue.is
+    c.deref-in-Rescue.ensures.value c.deref-in-Rescue-2.ensures.value in
+    let b = codes c.deref-in-Rescue.result.now in
+    let d = codes c.deref-in-Rescue-2.result.now in
+    on_ok_weaker c.add_labels-in-Rescue-2.result (λ g. gains_statement p c.args.statement.now.label is c.in_ok-insert.ensures
+    (gains_joined (Done p (Rescue b c.in-Rescue.faults.number d)) c.in_ok-add_labels-in-Rescue.ensures g (λ x k. k) (λ x k. k)))
+    c.add_labels-in-Rescue-2.ensures
 
 pub add_labels_of-add_labels-requires-in-While : goal.add_labels_of-add_labels-requires-in-While
 add_labels_of-add_labels-requires-in-While t c =

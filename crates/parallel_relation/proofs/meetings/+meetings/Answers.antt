@@ -4,7 +4,7 @@ use Rattle.std.proofs.lemmas.Result.{on_ok_weaker}
 use Rattle.types.specs.Translation.{codes}
 use Rattle.effects.specs.Effects.{accesses}
 use Rattle.effects.proofs.Appending.{in_two_steps}
-use Rattle.effects.proofs.Statements.{size, size_in, size-drop, codes_at, is_If}
+use Rattle.effects.proofs.Statements.{size, size_in, size-drop, codes_at, is_If, is_Rescue}
 use Rattle.parallel_relation.specs.Listing.{alls_of, pendings_of, is_asked}
 use Rattle.parallel_relation.specs.Meetings.{added_in, added_inside}
 use Rattle.parallel_relation.specs.Order.{meeting_of}
@@ -30,6 +30,28 @@ pub add_meetings_inside-add_meetings-requires-in-If : goal.add_meetings_inside-a
 add_meetings_inside-add_meetings-requires-in-If t c =
     let is = is_If _ c.in-If.guard c.in-If.body c.in-If.other c.in-If.body.items c.deref-in-If.result.now c.in-If.is refl c.deref-in-If.ensures.value in
     omega (arith, ap size_in is)
+
+pub add_meetings_inside-add_meetings-requires-in-Rescue : goal.add_meetings_inside-add_meetings-requires-in-Rescue
+add_meetings_inside-add_meetings-requires-in-Rescue t c =
+    let is = is_Rescue _ c.in-Rescue.body c.in-Rescue.faults c.in-Rescue.handler c.deref-in-Rescue.result.now c.in-Rescue.handler.items c.in-Rescue.is
+    c.deref-in-Rescue.ensures.value refl in
+    omega (arith, ap size_in is)
+
+pub add_meetings_inside-add_meetings-requires-in-Rescue-2 : goal.add_meetings_inside-add_meetings-requires-in-Rescue-2
+add_meetings_inside-add_meetings-requires-in-Rescue-2 t c =
+    let is = is_Rescue _ c.in-Rescue.body c.in-Rescue.faults c.in-Rescue.handler c.in-Rescue.body.items c.deref-in-Rescue-2.result.now c.in-Rescue.is
+    refl c.deref-in-Rescue-2.ensures.value in
+    omega (arith, ap size_in is)
+
+pub add_meetings_inside-returns-in_ok-add_meetings-in-Rescue : goal.add_meetings_inside-returns-in_ok-add_meetings-in-Rescue
+add_meetings_inside-returns-in_ok-add_meetings-in-Rescue t c =
+    let lists = c.args.lists.now in
+    let added = added_in accesses (alls_of lists) (pendings_of lists) (is_asked c.args.label) in
+    let is = is_Rescue _ c.in-Rescue.body c.in-Rescue.faults c.in-Rescue.handler c.deref-in-Rescue.result.now c.deref-in-Rescue-2.result.now c.in-Rescue.is
+    c.deref-in-Rescue.ensures.value c.deref-in-Rescue-2.ensures.value in
+    rw is (on_ok_weaker c.add_meetings-in-Rescue-2.result (λ second. in_two_steps _ _ _ _ _ _ c.in_ok-add_meetings-in-Rescue.ensures second
+    (map-append meeting_of (added (codes c.deref-in-Rescue.result.now)) (added (codes c.deref-in-Rescue-2.result.now))))
+    c.add_meetings-in-Rescue-2.ensures)
 
 pub add_meetings_inside-add_meetings-requires-in-While : goal.add_meetings_inside-add_meetings-requires-in-While
 add_meetings_inside-add_meetings-requires-in-While t c =

@@ -9,7 +9,7 @@ use Rattle.effects.specs.Translation.{access}
 use Rattle.effects.proofs.Appending.{in_two_steps}
 use Rattle.effects.proofs.ClosingLemmas.{got}
 use Rattle.effects.proofs.OneList.{of_same}
-use Rattle.effects.proofs.Statements.{is_If, is_Split, is_Parts}
+use Rattle.effects.proofs.Statements.{is_If, is_Split, is_Parts, is_Rescue}
 use Rattle.parallel_relation.specs.Listing.{alls_of}
 use Rattle.parallel_relation.proofs.statements.+done.Goals as goal
 
@@ -17,6 +17,13 @@ pub add_inside-returns-in_ok-add_block-in-If : goal.add_inside-returns-in_ok-add
 add_inside-returns-in_ok-add_block-in-If t c =
     rw (is_If _ c.in-If.guard c.in-If.body c.in-If.other c.deref.result.now c.deref-in-If.result.now c.in-If.is c.deref.ensures.value c.deref-in-If.ensures.value)
     (on_ok_weaker c.add_block-in-If.result (λ second. in_two_steps _ _ _ _ _ _ c.in_ok-add_block-in-If.ensures second refl) c.add_block-in-If.ensures)
+
+pub add_inside-returns-in_ok-add_block-in-Rescue : goal.add_inside-returns-in_ok-add_block-in-Rescue
+add_inside-returns-in_ok-add_block-in-Rescue t c =
+    rw (is_Rescue _ c.in-Rescue.body c.in-Rescue.faults c.in-Rescue.handler c.deref-in-Rescue.result.now c.deref-in-Rescue-2.result.now c.in-Rescue.is
+    c.deref-in-Rescue.ensures.value c.deref-in-Rescue-2.ensures.value)
+    (on_ok_weaker c.add_block-in-Rescue-2.result (λ second. in_two_steps _ _ _ _ _ _ c.in_ok-add_block-in-Rescue.ensures second refl)
+    c.add_block-in-Rescue-2.ensures)
 
 pub add_inside-returns-in-While : goal.add_inside-returns-in-While
 add_inside-returns-in-While t c =

@@ -8,7 +8,7 @@ use Rattle.effects.specs.Tables.{left_in}
 use Rattle.effects.specs.Translation.{access}
 use Rattle.effects.proofs.Appending.{in_two_steps}
 use Rattle.effects.proofs.ClosingLemmas.{got}
-use Rattle.effects.proofs.Statements.{is_If, is_While, is_Split, is_Parts, is_Async}
+use Rattle.effects.proofs.Statements.{is_If, is_While, is_Split, is_Parts, is_Async, is_Rescue}
 use Rattle.parallel_relation.specs.Listing.{alls_of, pendings_of}
 use Rattle.parallel_relation.proofs.statements.+left.Goals as goal
 
@@ -20,6 +20,11 @@ add_left_by-returns-in_ok-add_left-in-If t c =
 pub add_left_by-returns-in-While : goal.add_left_by-returns-in-While
 add_left_by-returns-in-While t c =
     rw (is_While _ c.in-While.guard c.in-While.body c.deref-in-While.result.now c.in-While.is c.deref-in-While.ensures.value) c.add_left-in-While.ensures
+
+pub add_left_by-returns-in-Rescue : goal.add_left_by-returns-in-Rescue
+add_left_by-returns-in-Rescue t c =
+    rw (is_Rescue _ c.in-Rescue.body c.in-Rescue.faults c.in-Rescue.handler c.in-Rescue.body.items c.deref-in-Rescue.result.now c.in-Rescue.is
+    refl c.deref-in-Rescue.ensures.value) c.add_left-in-Rescue.ensures
 
 pub add_left_by-returns-in-Async : goal.add_left_by-returns-in-Async
 add_left_by-returns-in-Async t c =

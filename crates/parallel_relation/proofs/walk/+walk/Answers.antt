@@ -10,6 +10,7 @@ use Rattle.parallel_relation.specs.Around.{Adds, Gains, BlockMeets}
 use Rattle.parallel_relation.specs.Found.{FoundMeets}
 use Rattle.parallel_relation.proofs.LabelsLemmas.{nothing_behind, one_more}
 use Rattle.effects.proofs.Statements.{size_in, codes_before, smaller, size-drop, is_If, is_While, is_Split, is_Parts, is_Async, is_Finish}
+use Rattle.effects.proofs.Statements.{is_Rescue}
 use Rattle.parallel_relation.proofs.Sums.{adds_nothing, adds_joined}
 use Rattle.parallel_relation.proofs.WalkLemmas.{gains_copied, no_block, adds_later, adds_async, adds_finish, adds_statement, adds_before}
 use Rattle.parallel_relation.proofs.walk.+walk.Goals as goal
@@ -142,3 +143,24 @@ walk_inside-returns-in-Finish t c =
     rw (is_Finish _ c.in-Finish.body c.deref-in-Finish.result.now c.in-Finish.is c.deref-in-Finish.ensures.value)
     (on_ok_weaker c.walk-in-Finish.result (adds_finish (program c.args.guide.code.now) (HasLabel c.args.everything.now) (HasLabel c.new-none-in-Finish.result)
     (codes c.deref-in-Finish.result.now) c.new-none-in-Finish.ensures) c.walk-in-Finish.ensures)
+
+pub walk_inside-walk-requires-in-Rescue : goal.walk_inside-walk-requires-in-Rescue
+walk_inside-walk-requires-in-Rescue t c =
+    let is = is_Rescue _ c.in-Rescue.body c.in-Rescue.faults c.in-Rescue.handler c.deref-in-Rescue.result.now c.in-Rescue.handler.items c.in-Rescue.is
+    c.deref-in-Rescue.ensures.value refl in
+    (omega (arith, ap size_in is), c.requires)
+
+pub walk_inside-walk-requires-in-Rescue-2 : goal.walk_inside-walk-requires-in-Rescue-2
+walk_inside-walk-requires-in-Rescue-2 t c =
+    let is = is_Rescue _ c.in-Rescue.body c.in-Rescue.faults c.in-Rescue.handler c.in-Rescue.body.items c.deref-in-Rescue-2.result.now c.in-Rescue.is
+    refl c.deref-in-Rescue-2.ensures.value in
+    (omega (arith, ap size_in is), c.requires)
+
+pub walk_inside-returns-in_ok-walk-in-Rescue : goal.walk_inside-returns-in_ok-walk-in-Rescue
+walk_inside-returns-in_ok-walk-in-Rescue t c =
+    let p = program c.args.guide.code.now in
+    let first = adds_finish p (HasLabel c.args.everything.now) (HasLabel c.new-none-in-Rescue.result) (codes c.deref-in-Rescue.result.now)
+    c.new-none-in-Rescue.ensures c.in_ok-walk-in-Rescue.ensures in
+    rw (is_Rescue _ c.in-Rescue.body c.in-Rescue.faults c.in-Rescue.handler c.deref-in-Rescue.result.now c.deref-in-Rescue-2.result.now c.in-Rescue.is
+    c.deref-in-Rescue.ensures.value c.deref-in-Rescue-2.ensures.value)
+    (on_ok_weaker c.walk-in-Rescue-2.result (λ h. adds_joined _ first h (λ x y m. m) (λ x y m. m)) c.walk-in-Rescue-2.ensures)

@@ -1,7 +1,7 @@
 use Rattle.std.proofs.Common.{min, ap, ◌∙◌, arith}
 use Rattle.types.specs.Statements.{statements, statements_in}
 use Rattle.types.specs.Translation.{codes, code as plain_code}
-use Rattle.types.proofs.Blocks.{code_If, code_While, code_Split, code_Parts, code_Async, code_Finish}
+use Rattle.types.proofs.Blocks.{code_If, code_While, code_Split, code_Parts, code_Async, code_Finish, code_Rescue}
 use Rattle.printing.proofs.labels.+count.Goals as goal
 
 pub in_statement-returns-in-If : goal.in_statement-returns-in-If
@@ -42,3 +42,10 @@ in_statement-returns-in-Finish t c =
     let body = c.in_block-in-Finish.ensures ∙ ap (λ b. min (statements (codes b)) 18446744073709551615) c.deref-in-Finish.ensures.value in
     let all = ap statements_in (ap plain_code c.in-Finish.is ∙ code_Finish c.in-Finish.body) in
     omega (arith, c.saturating_add-in-Finish.ensures, body, all)
+
+pub in_statement-returns-in-Rescue : goal.in_statement-returns-in-Rescue
+in_statement-returns-in-Rescue t c =
+    let body = c.in_block-in-Rescue.ensures ∙ ap (λ b. min (statements (codes b)) 18446744073709551615) c.deref-in-Rescue.ensures.value in
+    let handler = c.in_block-in-Rescue-2.ensures ∙ ap (λ b. min (statements (codes b)) 18446744073709551615) c.deref-in-Rescue-2.ensures.value in
+    let all = ap statements_in (ap plain_code c.in-Rescue.is ∙ code_Rescue c.in-Rescue.body _ c.in-Rescue.handler) in
+    omega (arith, c.saturating_add-in-Rescue.ensures, c.saturating_add-in-Rescue-2.ensures, body, handler, all)

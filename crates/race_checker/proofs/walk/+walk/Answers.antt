@@ -10,6 +10,7 @@ use Rattle.effects.specs.Firsts.{AreFirsts, kept_in}
 use Rattle.effects.specs.Rows.{Renamed}
 use Rattle.effects.specs.Translation.{access}
 use Rattle.effects.proofs.Statements.{size, size_in, size-drop, smaller, codes_before, is_If, is_While, is_Split, is_Parts, is_Async, is_Finish}
+use Rattle.effects.proofs.Statements.{is_Rescue}
 use Rattle.effects.specs.Accesses.{own_accesses}
 use Rattle.effects.proofs.AccessesInScope.{pending_all}
 use Rattle.rayon.proofs.ListFacts.{IfOk-then}
@@ -18,6 +19,7 @@ use Rattle.race_checker.specs.Races.{numbered}
 use Rattle.race_checker.specs.Translation.{found as race_found}
 use Rattle.race_checker.proofs.Finding.{in_range, in_these, below_all, below_of, below_pending, stands_at, stands_behind}
 use Rattle.race_checker.proofs.Finding.{stands_if_body, stands_if_other, stands_while, stands_split, stands_parts, stands_async, stands_finish}
+use Rattle.race_checker.proofs.Finding.{stands_rescued, stands_handler, found_inside_rescue}
 use Rattle.race_checker.proofs.Finding.{found_in_front, found_in_none, found_inside_nothing, found_inside_if, found_inside_split}
 use Rattle.race_checker.proofs.Finding.{found_inside_async, found_inside_finish, found_of_arm, found_of_loop, all_of_turn, found_in_turns, found_parts}
 use Rattle.race_checker.proofs.Finding.{pending_of_turn, none_behind, least_none}
@@ -264,9 +266,32 @@ found_of-found_in-requires-in-Finish g t c κs within =
     let stands = stands_finish _ _ _ _ c.requires.stands _ is in
     (omega (arith, ap size_in is), (within, (search (sendable, crosses) depth 40, (c.requires.sound, (c.requires.summaries, (c.requires.procedure, stands))))))
 
-pub found_of-returns : goal.found_of-returns
-found_of-returns g t c =
+pub found_of-returns-in-Finish : goal.found_of-returns-in-Finish
+found_of-returns-in-Finish g t c =
     let is = is_Finish _ c.in-Finish.body c.deref-in-Finish.result.now c.in-Finish.is c.deref-in-Finish.ensures.value in
     let e = c.in_finish.ensures in
     found_of_arm _ _ _ _ _ _ is (λ x y h. h) _ (ap (map access) c.deref-in-Finish-2.ensures.value ∙ c.in_ok-own.ensures) _
     (found_inside_finish _ _ _ _ _ _ c.in_ok-found-in-Finish.ensures e.all e.pending e.race) _ c.with_own-in-Finish.ensures
+
+pub found_of-found_in-requires-in-Rescue : goal.found_of-found_in-requires-in-Rescue
+found_of-found_in-requires-in-Rescue g t c κs within =
+    let is = is_Rescue _ c.in-Rescue.body c.in-Rescue.faults c.in-Rescue.handler c.deref-in-Rescue.result.now c.in-Rescue.handler.items c.in-Rescue.is
+    c.deref-in-Rescue.ensures.value refl in
+    let stands = stands_rescued _ _ _ _ c.requires.stands _ _ _ is in
+    (omega (arith, ap size_in is), (within, (search (sendable, crosses) depth 40, (c.requires.sound, (c.requires.summaries, (c.requires.procedure, stands))))))
+
+pub found_of-found_in-requires-in-Rescue-2 : goal.found_of-found_in-requires-in-Rescue-2
+found_of-found_in-requires-in-Rescue-2 g t c κs within =
+    let is = is_Rescue _ c.in-Rescue.body c.in-Rescue.faults c.in-Rescue.handler c.in-Rescue.body.items c.deref-in-Rescue-2.result.now c.in-Rescue.is
+    refl c.deref-in-Rescue-2.ensures.value in
+    let stands = stands_handler _ _ _ _ c.requires.stands _ _ _ is in
+    (omega (arith, ap size_in is), (within, (search (sendable, crosses) depth 40, (c.requires.sound, (c.requires.summaries, (c.requires.procedure, stands))))))
+
+pub found_of-returns-in-Rescue : goal.found_of-returns-in-Rescue
+found_of-returns-in-Rescue g t c =
+    let is = is_Rescue _ c.in-Rescue.body c.in-Rescue.faults c.in-Rescue.handler c.deref-in-Rescue.result.now c.deref-in-Rescue-2.result.now c.in-Rescue.is
+    c.deref-in-Rescue.ensures.value c.deref-in-Rescue-2.ensures.value in
+    let e = c.in_finish-in-Rescue.ensures in
+    found_of_arm _ _ _ _ _ _ is (λ x y h. h) _ (ap (map access) c.deref-in-Rescue-3.ensures.value ∙ c.in_ok-own.ensures) _
+    (found_inside_rescue _ _ _ _ c.in-Rescue.faults.number _ _ _ _ _ c.in_ok-body-in-Rescue.ensures e.all e.pending e.race
+    c.in_ok-handler-in-Rescue.ensures c.in_ok-or-in-Rescue.ensures) _ c.with_own-in-Rescue.ensures

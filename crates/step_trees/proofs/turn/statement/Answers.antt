@@ -1,6 +1,6 @@
 use Rattle.std.proofs.Common.{sym, ap}
 use Rattle.types.specs.Translation.{code}
-use Rattle.effects.proofs.Statements.{is_If, is_While, is_Split, is_Parts, is_Async, is_Finish}
+use Rattle.effects.proofs.Statements.{is_If, is_While, is_Split, is_Parts, is_Async, is_Finish, is_Rescue}
 use Rattle.step_trees.proofs.Turns.{after_as}
 use Rattle.step_trees.proofs.turn.statement.Goals as goal
 
@@ -39,3 +39,10 @@ pub returns-in-Finish : goal.returns-in-Finish
 returns-in-Finish c =
     let same = is_Finish _ c.in-Finish.body _ c.in-Finish.is c.deref-in-Finish.ensures.value in
     after_as c.args.turn c.args.stmt.now.label c.begin_finish.result (sym same) c.begin_finish.ensures
+
+pub returns-in-Rescue : goal.returns-in-Rescue
+returns-in-Rescue c =
+    let s = c.in-Rescue in
+    let same =
+    is_Rescue _ s.body s.faults s.handler _ _ s.is c.deref-in-Rescue-2.ensures.value c.deref-in-Rescue.ensures.value in
+    after_as c.args.turn c.args.stmt.now.label c.begin_finish-in-Rescue.result (sym same) c.begin_finish-in-Rescue.ensures

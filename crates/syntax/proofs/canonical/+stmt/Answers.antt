@@ -1,24 +1,24 @@
 use Rattle.std.proofs.Common.{◌≡◌, ◌+◌, ◌-◌, ◌<◌, ◌≤◌, ℕ, List, ◌∷◌, ◌++◌, codes, drop, length, refl, ap, sym, ◌∙◌, rules}
-use Rattle.std.proofs.Common.{Result, OnOk, String, Global}
+use Rattle.std.proofs.Common.{Result, OnOk, String, Global, append_assoc}
 use Rattle.std.proofs.lemmas.List.{at_drop_more, at_drop_all}
 use Rattle.std.specs.Option.{option_map}
 use Rattle.std.specs.String.{string_bytes}
 use Rattle.shared_lemmas.proofs.Results.{ok_then}
 use Rattle.syntax_tree.specs.declared.tree.Stmt.TheVariants.{If as rIf}
-use Rattle.syntax.specs.declared.token.Word.TheVariants.{Else as WordElse}
+use Rattle.syntax.specs.declared.token.Word.TheVariants.{Else as WordElse, Rescue as WordRescue}
 use Rattle.syntax.specs.declared.token.Mark.TheVariants.{LeftBrace}
 use Rattle.syntax.specs.declared.token.Left.TheVariants.{Margin, Opening, Operand, Ended, Other}
 use Rattle.syntax.specs.Spelling.{stmt_then, block_then}
-use Rattle.syntax.specs.Token.{Token, WordToken, MarkToken}
+use Rattle.syntax.specs.Token.{Token, NameToken, WordToken, MarkToken}
 use Rattle.syntax.specs.declared.canonical.Lines.{Lines}
 use Rattle.syntax.specs.Canonical.{laid}
-use Rattle.syntax_tree.specs.Tree.{Stmt, If, IfElse, While, Split, Parts, Async, Finish, Block, Then, expr, stmt, block}
+use Rattle.syntax_tree.specs.Tree.{Stmt, If, IfElse, While, Split, Parts, Async, Finish, Rescue, Block, Then, expr, stmt, block}
 use Rattle.syntax.specs.Writing.{place, with_rest}
 use Rattle.syntax.proofs.ExpressionText.{ok_map3, pushed}
 use Rattle.syntax.proofs.LineText.{wrote, wrote_adds, wrote_text, counted_by, stmt_begins, block_is_line, laid-opening_brace}
 use Rattle.syntax.proofs.LineText.{laid-closing_brace, laid_If, laid_IfElse, laid_Else, laid_While, laid_Split, laid_Parts, laid_Async}
-use Rattle.syntax.proofs.LineText.{laid_Finish, laid_end}
-use Rattle.syntax_tree.proofs.RowLemmas.{stmt_If, stmt_IfElse, stmt_While, stmt_Split, stmt_Parts, stmt_Async, stmt_Finish}
+use Rattle.syntax.proofs.LineText.{laid_Finish, laid_Rescue, laid_handler, laid_end}
+use Rattle.syntax_tree.proofs.RowLemmas.{stmt_If, stmt_IfElse, stmt_While, stmt_Split, stmt_Parts, stmt_Async, stmt_Finish, stmt_Rescue}
 use Rattle.syntax.proofs.StatementKinds.{is_simple-true}
 use Rattle.syntax.proofs.canonical.+stmt.Goals as goal
 
@@ -114,6 +114,12 @@ line-returns-in_ok-push_str-in-Finish-clause-written t c =
     block_written c.block-in-Finish.result c.args.lines.now c.block-in-Finish.new.lines c.push_str-in-Finish.new.self (codes "finish") _ _ body is
     c.in_ok-push_str-in-Finish.ensures.bytes (laid_Finish (place c.args.lines.now Opening) body) c.block-in-Finish.ensures.written
 
+pub line-returns-in-Rescue-clause-written : goal.line-returns-in-Rescue-clause-written
+line-returns-in-Rescue-clause-written t c =
+    let old = c.args.lines.now in
+    ok_then c.rescue.result c.rescue.ensures.written (λ written r.
+    ap (λ s. with_rest old Opening (stmt_then (stmt s) r)) c.in-Rescue.is ∙ written r)
+
 pub line-returns-in_ok-simple-in-Skip : goal.line-returns-in_ok-simple-in-Skip
 unfolding lib.Utf8.encode
 line-returns-in_ok-simple-in-Skip t c =
@@ -154,6 +160,28 @@ conditional-returns-in_ok-push_str-in-Some-clause-written t c =
     ∙ c.in_ok-block.ensures.written (WordToken WordElse ∷ MarkToken LeftBrace ∷ block_then other r)
     ∙ wrote_text between c.push_str.new.self Ended Other _ _ (codes " else") c.in_ok-push_str-in-Some.ensures.bytes (laid_Else
     (place between Ended) (block_then other r))
+    ∙ written r)
+
+pub rescue-returns-clause-written : goal.rescue-returns-clause-written
+rescue-returns-clause-written t c =
+    let old = c.args.lines.now in
+    let between = c.block.new.lines in
+    let word = string_bytes c.push_str-2.new.self in
+    let x = string_bytes c.args.faults.now in
+    let body = block c.deref.result.now in
+    let handler = block c.deref-2.result.now in
+    let is = stmt_Rescue c.args.body.now c.args.faults.now c.args.handler.now
+    ∙ ap (λ v. Rescue (block v) x (block c.args.handler.now.items)) (sym c.deref.ensures.value)
+    ∙ ap (λ v. Rescue body x (block v)) (sym c.deref-2.ensures.value) in
+    let name = c.in_ok-push_str-3.ensures.bytes ∙ ap (λ l. word ++ l) c.as_str.ensures.value
+    ∙ ap (λ l. l ++ x) c.in_ok-push_str-2.ensures.bytes ∙ append_assoc (string_bytes between.text) (codes " rescue ") x in
+    ok_then c.block-2.result c.block-2.ensures.written (λ written r.
+    ap (λ s. with_rest old Opening (stmt_then s r)) is
+    ∙ wrote_text old c.push_str.new.self Opening Other _ _ (codes "finish") c.in_ok-push_str.ensures.bytes
+    (laid_Rescue (place old Opening) body x handler r)
+    ∙ c.in_ok-block.ensures.written (WordToken WordRescue ∷ NameToken x ∷ MarkToken LeftBrace ∷ block_then handler r)
+    ∙ wrote_text between c.push_str-3.new.self Ended Other _ _ (codes " rescue " ++ x) name
+    (laid_handler (place between Ended) x (block_then handler r))
     ∙ written r)
 
 pub statements-loop-statement-preserved : goal.statements-loop-statement-preserved

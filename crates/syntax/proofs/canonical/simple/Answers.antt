@@ -96,3 +96,6 @@ returns-in-If-5-clause-written c = absurd (both_ways _ (is_simple-false c.args.s
 
 pub returns-in-If-6-clause-written : goal.returns-in-If-6-clause-written
 returns-in-If-6-clause-written c = absurd (both_ways _ (is_simple-false c.args.statement.now c.in-If.is) c.requires.simple)
+
+pub returns-in-If-7-clause-written : goal.returns-in-If-7-clause-written
+returns-in-If-7-clause-written c = absurd (both_ways _ (is_simple-false c.args.statement.now c.in-If.is) c.requires.simple)

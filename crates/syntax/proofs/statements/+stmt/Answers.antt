@@ -6,9 +6,11 @@ use Rattle.syntax_tree.specs.Tree.{expr, block}
 use Rattle.syntax.proofs.ChainLemmas.{behind}
 use Rattle.syntax.proofs.BlockLemmas.{stmts_then, stmts_read, block_then-block, stmt_then_If, stmt_then_IfElse}
 use Rattle.syntax.proofs.BlockLemmas.{stmt_then_While, stmt_then_Split, stmt_then_Parts, stmt_then_Async, stmt_then_Finish}
+use Rattle.syntax.proofs.BlockLemmas.{stmt_then_Rescue}
 use Rattle.syntax.proofs.RefusalLemmas.{passed_on, same_rest}
 use Rattle.syntax.proofs.StmtRefusals.{block_closed, block_opened, if_opened, if_alone, if_otherwise, while_opened}
-use Rattle.syntax.proofs.StmtRefusals.{split_opened, parts_opened, async_opened, finish_opened, block_read, block_refused}
+use Rattle.syntax.proofs.StmtRefusals.{split_opened, parts_opened, async_opened, finish_opened, finish_alone}
+use Rattle.syntax.proofs.StmtRefusals.{finish_rescued, block_read, block_refused}
 use Rattle.syntax.proofs.StmtSpellings.{block_binds}
 use Rattle.syntax.proofs.statements.+stmt.Goals as goal
 
@@ -86,9 +88,27 @@ pub statement-returns-in_ok-body-in-Async-clause-read : goal.statement-returns-i
 statement-returns-in_ok-body-in-Async-clause-read t c =
     block_read c.in-Some.ensures.found c.in-Async.is c.in_ok-body-in-Async.ensures.read (stmt_then_Async _ _) async_opened
 
-pub statement-returns-in_ok-body-in-Finish-clause-read : goal.statement-returns-in_ok-body-in-Finish-clause-read
-statement-returns-in_ok-body-in-Finish-clause-read t c =
-    block_read c.in-Some.ensures.found c.in-Finish.is c.in_ok-body-in-Finish.ensures.read (stmt_then_Finish _ _) finish_opened
+pub finish-returns-in-None-clause-read : goal.finish-returns-in-None-clause-read
+finish-returns-in-None-clause-read t c = record {
+  spelled = behind c.in_ok-body.ensures.read.spelled ∙ stmt_then_Finish _ _;
+  whole = λ s r ends spelled.
+      let parts = finish_opened s _ r spelled in
+      let after = c.in_ok-body.ensures.read.whole parts.body parts.after parts.spelled in
+      finish_alone parts _ c.in-None.ensures.absent after;
+}
+
+pub finish-returns-in_ok-handler-in-Some-clause-read : goal.finish-returns-in_ok-handler-in-Some-clause-read
+finish-returns-in_ok-handler-in-Some-clause-read t c = record {
+  spelled = let name = c.in_ok-faults-in-Some.ensures.found ∙ behind c.in_ok-handler-in-Some.ensures.read.spelled in
+      let word = c.in-Some.ensures.found ∙ behind name in
+      behind (c.in_ok-body.ensures.read.spelled ∙ behind (ap (block_then (block c.in_ok-body.body.items)) word)) ∙ stmt_then_Rescue _ _ _ _;
+  whole = λ s r ends spelled.
+      let parts = finish_opened s _ r spelled in
+      let after = c.in_ok-body.ensures.read.whole parts.body parts.after parts.spelled in
+      let named = finish_rescued parts _ ends (sym c.in-Some.ensures.found ∙ after) in
+      let handler = same_rest (sym c.in_ok-faults-in-Some.ensures.found ∙ named.2) in
+      c.in_ok-handler-in-Some.ensures.read.whole named.1 r handler;
+}
 
 pub statements-returns-in-Some-clause-read : goal.statements-returns-in-Some-clause-read
 statements-returns-in-Some-clause-read t c = record {
@@ -322,7 +342,25 @@ statement-returns-in_err-body-in-Async-clause-refused t c =
     passed_on _ _ c.from_residual.ensures.1
     (block_refused c.in-Some.ensures.found c.in-Async.is c.in_err-body-in-Async.ensures.refused async_opened)
 
-pub statement-returns-in_err-body-in-Finish-clause-refused : goal.statement-returns-in_err-body-in-Finish-clause-refused
-statement-returns-in_err-body-in-Finish-clause-refused t c =
-    passed_on _ _ c.from_residual-in_err-body-in-Finish.ensures.1
-    (block_refused c.in-Some.ensures.found c.in-Finish.is c.in_err-body-in-Finish.ensures.refused finish_opened)
+pub finish-returns-in_err-body-clause-refused : goal.finish-returns-in_err-body-clause-refused
+finish-returns-in_err-body-clause-refused t c =
+    passed_on _ _ c.from_residual.ensures.1 (λ room s r ends spelled.
+    let parts = finish_opened s _ r spelled in
+    c.in_err-body.ensures.refused room parts.body parts.after parts.spelled)
+
+pub finish-returns-in_err-faults-in-Some-clause-refused : goal.finish-returns-in_err-faults-in-Some-clause-refused
+finish-returns-in_err-faults-in-Some-clause-refused t c =
+    passed_on _ _ c.from_residual-in_err-faults-in-Some.ensures.1 (λ room s r ends spelled.
+    let parts = finish_opened s _ r spelled in
+    let after = c.in_ok-body.ensures.read.whole parts.body parts.after parts.spelled in
+    let named = finish_rescued parts _ ends (sym c.in-Some.ensures.found ∙ after) in
+    c.in_err-faults-in-Some.ensures.refused room _ _ named.2)
+
+pub finish-returns-in_err-handler-in-Some-clause-refused : goal.finish-returns-in_err-handler-in-Some-clause-refused
+finish-returns-in_err-handler-in-Some-clause-refused t c =
+    passed_on _ _ c.from_residual-in_err-handler-in-Some.ensures.1 (λ room s r ends spelled.
+    let parts = finish_opened s _ r spelled in
+    let after = c.in_ok-body.ensures.read.whole parts.body parts.after parts.spelled in
+    let named = finish_rescued parts _ ends (sym c.in-Some.ensures.found ∙ after) in
+    let handler = same_rest (sym c.in_ok-faults-in-Some.ensures.found ∙ named.2) in
+    c.in_err-handler-in-Some.ensures.refused room named.1 r handler)

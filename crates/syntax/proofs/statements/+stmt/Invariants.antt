@@ -20,6 +20,9 @@ decreases-split l = 2 * length l.tokens.now
 abbrev pub decreases-parts : goal.decreases-parts
 decreases-parts l = 2 * length l.tokens.now
 
+abbrev pub decreases-finish : goal.decreases-finish
+decreases-finish l = 2 * length l.tokens.now + 1
+
 abbrev pub decreases-statement : goal.decreases-statement
 decreases-statement l = 2 * length l.tokens.now
 

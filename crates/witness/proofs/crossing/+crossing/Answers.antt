@@ -6,13 +6,13 @@ use Rattle.types.specs.Code.{Code, Codes}
 use Rattle.types.specs.Translation.{code, codes, program}
 use Rattle.types.specs.declared.code.Stmt.{Stmt}
 use Rattle.effects.specs.Translation.{access}
-use Rattle.effects.proofs.Statements.{size_in, size-drop, smaller, codes_before, is_If, is_While, is_Parts}
+use Rattle.effects.proofs.Statements.{size_in, size-drop, smaller, codes_before, is_If, is_While, is_Parts, is_Rescue}
 use Rattle.effects.proofs.OneList.{of_block, size_of_block}
 use Rattle.witness.specs.Crossed.{IsInTurn, IsInTurns, MeetAt, MeetIn, both, crossed}
 use Rattle.witness.specs.Known.{steps}
 use Rattle.witness.specs.Least.{IsLeast, all_covered}
 use Rattle.witness.specs.Ways.{Way}
-use Rattle.witness.proofs.Crossings.{crossing_end, crossing_front, at_if, at_while, at_parts, at_split, at_async, at_finish, at_statement}
+use Rattle.witness.proofs.Crossings.{crossing_end, crossing_front, at_if, at_while, at_parts, at_split, at_async, at_finish, at_rescue, at_statement}
 use Rattle.witness.proofs.Found.{least_end, least_front}
 use Rattle.witness.proofs.crossing.+crossing.Goals as goal
 
@@ -71,6 +71,14 @@ crossing_of-crossing_in-requires-in-Split t c =
     let small = size_of_block c.args.statement.now.kind c.in-Split.body c.deref-in-Split.result.now c.deref-in-Split.ensures.value c.in-Split.is in
     (omega (arith, small), c.requires)
 
+pub crossing_of-crossing_in-requires-in-Rescue : goal.crossing_of-crossing_in-requires-in-Rescue
+crossing_of-crossing_in-requires-in-Rescue t c =
+    (omega (arith, ap size_in (is_Rescue _ c.in-Rescue.body c.in-Rescue.faults c.in-Rescue.handler _ _ c.in-Rescue.is c.deref-in-Rescue.ensures.value refl)), c.requires)
+
+pub crossing_of-crossing_in-requires-in-Rescue-2 : goal.crossing_of-crossing_in-requires-in-Rescue-2
+crossing_of-crossing_in-requires-in-Rescue-2 t c =
+    (omega (arith, ap size_in (is_Rescue _ c.in-Rescue.body c.in-Rescue.faults c.in-Rescue.handler _ _ c.in-Rescue.is refl c.deref-in-Rescue-2.ensures.value)), c.requires)
+
 pub crossing_of-returns-in_ok-next-in-If : goal.crossing_of-returns-in_ok-next-in-If
 crossing_of-returns-in_ok-next-in-If t c =
     let is = is_If _ c.in-If.guard c.in-If.body c.in-If.other c.deref.result.now c.deref-in-If.result.now c.in-If.is c.deref.ensures.value c.deref-in-If.ensures.value in
@@ -112,3 +120,10 @@ crossing_of-returns-in-Split t c =
     (λ found h. of_block c.args.statement.now.kind c.in-Split.body (λ k. IsLeast both all_covered (MeetAt p l k x y) (crossed found))
     c.deref-in-Split.result.now c.deref-in-Split.ensures.value c.in-Split.is (λ s n i r. at_split p x y l s n i r _ _ h) (at_async p x y l _ _ h)
     (at_finish p x y l _ _ h)) c.crossing_in-in-Split.ensures
+
+pub crossing_of-returns-in_ok-next-in-Rescue : goal.crossing_of-returns-in_ok-next-in-Rescue
+crossing_of-returns-in_ok-next-in-Rescue t c =
+    let is = is_Rescue _ c.in-Rescue.body c.in-Rescue.faults c.in-Rescue.handler c.deref-in-Rescue.result.now c.deref-in-Rescue-2.result.now c.in-Rescue.is
+    c.deref-in-Rescue.ensures.value c.deref-in-Rescue-2.ensures.value in
+    at_statement _ _ _ _ _ _ _ is
+    (at_rescue _ _ _ _ _ _ _ _ _ _ c.shorter_crossing-in-Rescue.ensures c.in_ok-one-in-Rescue.ensures c.in_ok-next-in-Rescue.ensures)

@@ -7,7 +7,7 @@ use Rattle.types.specs.Code.{Codes}
 use Rattle.types.specs.Translation.{code, codes, number, program}
 use Rattle.types.specs.declared.code.Stmt.{Stmt}
 use Rattle.effects.specs.Translation.{access}
-use Rattle.effects.proofs.Statements.{size_in, size-drop, smaller, codes_before, is_If, is_While, is_Split, is_Parts, is_Async, is_Finish}
+use Rattle.effects.proofs.Statements.{size_in, size-drop, smaller, codes_before, is_If, is_While, is_Split, is_Parts, is_Async, is_Finish, is_Rescue}
 use Rattle.witness.specs.Known.{AreShortest, AreWays, IsFound, steps}
 use Rattle.witness.specs.Least.{IsLeast, all_covered}
 use Rattle.witness.specs.Searched.{GoesIn, IsLed}
@@ -15,9 +15,9 @@ use Rattle.witness.specs.Ways.{Way}
 use Rattle.witness.specs.declared.step.Rule.TheVariants.{Side, Piece}
 use Rattle.witness.specs.declared.search.Sought.{Sought}
 use Rattle.witness.specs.declared.step.WayStep.{WayStep}
-use Rattle.witness.proofs.Found.{covered_less, least_end, least_front, least_own, least_on, least_if}
+use Rattle.witness.proofs.Found.{covered_less, least_end, least_front, least_own, least_on, least_if, least_finish, least_rescue}
 use Rattle.witness.proofs.Found.{least_while, least_async, least_split, least_parts, least_call, stepped, at_code, behind_led}
-use Rattle.witness.proofs.Found.{inside_ways, awaited_ways, side_found_in, finish_found}
+use Rattle.witness.proofs.Found.{inside_ways, awaited_ways, side_found_in, awaited_found}
 use Rattle.witness.proofs.search.+search.Goals as goal
 
 pub way_in-way_of-requires : goal.way_in-way_of-requires
@@ -142,6 +142,23 @@ way_inside-way_behind-requires-in-Finish t c =
           c.requires.ways),
     )
 
+pub way_inside-way_behind-requires-in-Rescue : goal.way_inside-way_behind-requires-in-Rescue
+way_inside-way_behind-requires-in-Rescue t c =
+    let is = is_Rescue _ c.in-Rescue.body c.in-Rescue.faults c.in-Rescue.handler c.deref-in-Rescue.result.now c.in-Rescue.handler.items c.in-Rescue.is
+    c.deref-in-Rescue.ensures.value refl in (
+      omega (arith, ap size_in is),
+      subst (λ (o : Option Sought). IfSome o (λ a. AreWays (program c.args.code.now) (access a.access)
+          c.args.known.now)) (sym c.awaited-in-Rescue.ensures)
+          (awaited_ways (program c.args.code.now) c.args.known.now c.args.sought c.args.sought.pending
+          c.requires.ways),
+    )
+
+pub way_inside-way_behind-requires-in-Rescue-2 : goal.way_inside-way_behind-requires-in-Rescue-2
+way_inside-way_behind-requires-in-Rescue-2 t c =
+    let is = is_Rescue _ c.in-Rescue.body c.in-Rescue.faults c.in-Rescue.handler c.in-Rescue.body.items c.deref-in-Rescue-2.result.now c.in-Rescue.is
+    refl c.deref-in-Rescue-2.ensures.value in
+    (omega (arith, ap size_in is), c.requires.ways)
+
 pub way_inside-returns-in_ok-next-in-If : goal.way_inside-returns-in_ok-next-in-If
 way_inside-returns-in_ok-next-in-If t c =
     let is = is_If _ c.in-If.guard c.in-If.body c.in-If.other c.deref.result.now c.deref-in-If.result.now c.in-If.is c.deref.ensures.value c.deref-in-If.ensures.value in
@@ -223,8 +240,17 @@ pub way_inside-returns-in-Finish : goal.way_inside-returns-in-Finish
 way_inside-returns-in-Finish t c =
     let is = is_Finish _ c.in-Finish.body c.deref-in-Finish.result.now c.in-Finish.is c.deref-in-Finish.ensures.value in
     IfOk-weaker c.way_behind-in-Finish.result _ _
-    (λ found h. at_code _ _ _ _ _ _ _ _ is (finish_found _ c.args.known.now c.args.sought _ _ _ _ (steps found) c.awaited.ensures
-    c.step-step-in-Finish.ensures h)) c.way_behind-in-Finish.ensures
+    (λ found h. at_code _ _ _ _ _ _ _ _ is (least_finish _ _ _ _ _ _ _ (awaited_found _ c.args.known.now c.args.sought _ _ _ _ (steps found)
+    c.awaited.ensures c.step-step-in-Finish.ensures h))) c.way_behind-in-Finish.ensures
+
+pub way_inside-returns-in_ok-next-in-Rescue : goal.way_inside-returns-in_ok-next-in-Rescue
+way_inside-returns-in_ok-next-in-Rescue t c =
+    let is = is_Rescue _ c.in-Rescue.body c.in-Rescue.faults c.in-Rescue.handler c.deref-in-Rescue.result.now c.deref-in-Rescue-2.result.now c.in-Rescue.is
+    c.deref-in-Rescue.ensures.value c.deref-in-Rescue-2.ensures.value in
+    at_code _ _ _ _ _ _ _ _ is
+    (least_rescue _ _ _ _ _ _ _ _ _ _ _ c.shorter-in-Rescue.ensures
+    (awaited_found _ c.args.known.now c.args.sought _ _ _ _ _ c.awaited-in-Rescue.ensures c.step-step-in-Rescue.ensures c.in_ok-way-in-Rescue.ensures)
+    (stepped _ _ _ _ _ c.step-step-in-Rescue-2.ensures c.in_ok-next-in-Rescue.ensures))
 
 pub way_of-returns-then-branch : goal.way_of-returns-then-branch
 way_of-returns-then-branch t c =

@@ -1,9 +1,6 @@
 use Rattle.std.proofs.Common.{◌≡◌, arith, ap, ◌∙◌, refl, sym, subst, ◌++◌, ◌+◌, ◌*◌, ◌≤◌}
 use Rattle.types.specs.declared.value.Environment.{Environment}
-use Rattle.std.specs.Prelude.{List, map}
-use Rattle.types.specs.declared.fault.Fault.{Fault}
-use Rattle.types.specs.Meaning.{after_finish}
-use Rattle.types.specs.Translation.{program, environment, fault}
+use Rattle.types.specs.Translation.{program, environment}
 use Rattle.cost.specs.declared.frame.CostFrame.{CostFrame}
 use Rattle.cost.specs.declared.frame.OwnerCosts.{OwnerCosts}
 use Rattle.cost.specs.declared.frame.CostFrame.TheVariants.{Rest}
@@ -12,15 +9,15 @@ use Rattle.cost.specs.Machines.{Does, IsSoundFrame, stack, turn_of}
 use Rattle.types.specs.Contents.{FitsArrays}
 use Rattle.statement_steps.specs.Bounds.{LiesInArrays}
 use Rattle.statement_steps.specs.Lists.{lists_of}
-use Rattle.types.specs.Run.{Flow, State, keeping}
-use Rattle.cost.specs.Resume.{Standing, end_finish, faults_in, frame, lines_in, resume, standing}
-use Rattle.cost.specs.Accounts.{Account, ends_behind, leaves_behind}
+use Rattle.types.specs.Run.{Flow, State}
+use Rattle.cost.specs.Resume.{Standing, faults_in, frame, lines_in, resume, standing}
+use Rattle.cost.specs.Accounts.{Account, ends_behind}
 use Rattle.statement_steps.specs.Standing.{flow, state_of}
 use Rattle.statement_steps.specs.declared.store.Store.{Store}
 use Rattle.statement_steps.specs.declared.thread.Thread.{Thread}
 use Rattle.cost.specs.Translation.{account}
-use Rattle.cost.proofs.Frames.{resume-push, standing_by_state}
-use Rattle.cost.proofs.MachineLemmas.{machine_of, sound_counted, sound_with, told_before}
+use Rattle.cost.proofs.Frames.{resume-push}
+use Rattle.cost.proofs.MachineLemmas.{machine_of, told_before}
 use Rattle.cost.proofs.Owners.{after_owner}
 use Rattle.cost.proofs.Turns.{costs-push}
 use Rattle.cost.proofs.Waiting.{block_done}
@@ -75,40 +72,6 @@ returns-in_ok-push-in-EndCall-clause-does c =
           ap (λ (e : Environment). resume p fresh (stack m) (standing m.account (record m.thread { environment = e }))) is;
     })
 
-pub returns-in_ok-tell_before-in-EndFinish-clause-does : goal.returns-in_ok-tell_before-in-EndFinish-clause-does
-returns-in_ok-tell_before-in-EndFinish-clause-does c =
-    let m = c.args.self.now in let p = program m.plan.program.now in let fresh = m.plan.budget.steps in
-    let o = c.in-EndFinish.outer in
-    let told = c.in_ok-tell_before-in-EndFinish.ensures in
-    let old = record m.thread { flow = c.behind_finish-self.result } in
-    let thread = c.tell_before.new.thread in let kept = c.leave_finish.new.self in
-    let new = record m { thread = thread; account = kept } in
-    let st = state_of m.thread in
-    let at : Flow → Account → State Account = λ f y. record (keeping y st) {
-      flow = f;
-      lines = lines_in o.told ++ st.lines;
-      faults = faults_in o.told ++ st.faults;
-    } in
-    let steps = ap (λ (t : Thread Store). t.steps) told.rest in
-    let spawned = ap (λ (t : Thread Store). t.spawned) told.rest in
-    subst (λ (f : CostFrame). Does (turn_of f) m new) (sym c.in-EndFinish.is)
-    (record {
-      plan = refl;
-      sound =
-          sound_counted (machine_of m.plan m.account thread m.block m.frames) kept
-          (sound_with m.plan m.account m.thread thread m.block m.block m.frames (ap (λ (t : Thread Store). t.store) told.rest)
-          (ap (λ (t : Thread Store). t.environment) told.rest) (omega (arith, steps, spawned)) c.requires.sound);
-      comes =
-          ap (resume p fresh (stack m))
-          (standing_by_state (standing m.account m.thread) (standing kept thread)
-          (end_finish o (standing m.account m.thread).state)
-          (ap (keeping (account kept)) (told_before o.told old thread told)
-          ∙ ap (at (flow c.behind_finish-self.result)) c.leave_finish.ensures
-          ∙ ap (λ f. at f (leaves_behind o.ended o.ended_by_label.items (account m.account))) (c.behind_finish-self.ensures
-          ∙ ap (λ (xs : List Fault). after_finish (flow m.thread.flow) (map fault xs)) c.deref.ensures.value))
-          (ap (λ (t : Thread Store). t.nest) told.rest));
-    })
-
 pub returns-in_ok-tell_before-in-EndAsync-clause-does : goal.returns-in_ok-tell_before-in-EndAsync-clause-does
 returns-in_ok-tell_before-in-EndAsync-clause-does c =
     let m = c.args.self.now in let p = program m.plan.program.now in let fresh = m.plan.budget.steps in
@@ -116,7 +79,7 @@ returns-in_ok-tell_before-in-EndAsync-clause-does c =
     let unboxed = c.into_inner-owner.ensures in
     let told = c.in_ok-tell_before-in-EndAsync.ensures in
     let old = record m.thread { flow = c.behind_async-self.result } in
-    let thread = c.tell_before-in-EndAsync.new.thread in let kept = c.end_task.new.self in
+    let thread = c.tell_before.new.thread in let kept = c.end_task.new.self in
     let goes : Thread Store = record thread {
       path = q.path;
       environment = q.environment;
@@ -165,15 +128,6 @@ returns-in_ok-tell_before-in-EndAsync-clause-does c =
           ∙ ap (λ (f : Flow). resume p fresh (stack m) (at st f (ends_behind q.here q.here_by_label.items (account m.account)))) c.behind_async-self.ensures
           ∙ ap (λ (o : OwnerCosts). resume p fresh (stack m) (after_owner o s.state)) unboxed;
     })
-
-pub returns-in_ok-tell_before-in-EndFinish-clause-ends : goal.returns-in_ok-tell_before-in-EndFinish-clause-ends
-returns-in_ok-tell_before-in-EndFinish-clause-ends c =
-    let m = c.args.self.now in let fresh = m.plan.budget.steps in
-    omega (
-      arith,
-      ap (λ (t : Thread Store). t.steps * rate fresh t.nest) c.in_ok-tell_before-in-EndFinish.ensures.rest,
-      ap (cost fresh) c.in-EndFinish.is,
-    )
 
 pub returns-in_ok-tell_before-in-EndAsync-clause-ends : goal.returns-in_ok-tell_before-in-EndAsync-clause-ends
 returns-in_ok-tell_before-in-EndAsync-clause-ends c =

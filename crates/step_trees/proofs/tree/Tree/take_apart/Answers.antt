@@ -2,7 +2,7 @@ use Rattle.std.proofs.Common.{◌≡◌, ◌+◌, ◌<◌, ◌++◌, map, suc, s
 use Rattle.std.proofs.lemmas.List.{append_assoc, map-append}
 use Rattle.types.specs.Translation.{fault}
 use Rattle.types.specs.Trees.{Leaf, Single, Beside, all_done, lines_of, faults_of, rightmost}
-use Rattle.step_trees.specs.Translation.{leaf_of}
+use Rattle.step_trees.specs.Translation.{leaf_of, handler_of}
 use Rattle.step_trees.specs.Held.{tree_of}
 use Rattle.step_trees.proofs.HeldTrees.{weight, weights, weights-push, with_rights, with_rights-push, lines-beside, faults-beside, rightmost-beside, no_then, done-rights}
 use Rattle.step_trees.proofs.tree.Tree.take_apart.Goals as goal
@@ -36,7 +36,7 @@ leaves-preserved-in-Beside c =
 pub leaves-preserved-in-AndThen : goal.leaves-preserved-in-AndThen
 leaves-preserved-in-AndThen c =
     let rights = c.leaves.rights.items in
-    absurd (no_then rights (tree_of c.in-AndThen.first.value) (leaf_of c.in-AndThen.behind)
+    absurd (no_then rights (tree_of c.in-AndThen.first.value) (handler_of c.in-AndThen.behind.handler) (leaf_of c.in-AndThen.behind.leaf)
     (sym (ap (λ t. all_done (with_rights rights (tree_of t))) c.in-AndThen.is) ∙ c.leaves.invariant.ended))
 
 pub leaves-smaller : goal.leaves-smaller

@@ -1,12 +1,12 @@
 use Rattle.std.proofs.Common.{◌≡◌, ap, ◌∙◌, sym, subst, map}
 use Rattle.std.specs.Prelude.{IfOk}
 use Rattle.sections.specs.Translation.{section}
-use Rattle.types.specs.Code.{Code, Do, If, While, Split, Parts, Call, Async, Finish}
+use Rattle.types.specs.Code.{Code, Do, If, While, Split, Parts, Call, Async, Finish, Rescue}
 use Rattle.types.specs.Translation.{primitive, truth, number, code, codes}
-use Rattle.types.proofs.Blocks.{code_If, code_While, code_Split, code_Parts, code_Async, code_Finish}
+use Rattle.types.proofs.Blocks.{code_If, code_While, code_Split, code_Parts, code_Async, code_Finish, code_Rescue}
 use Rattle.task_run.specs.RunTurns.{CanAct, DidAct}
 use Rattle.task_run.specs.declared.turn.Done.TheVariants.{Gone, Entered}
-use Rattle.task_run.proofs.RunSteps.{acts_primitive, did_Call, did_Do, did_Finish, did_If, did_Parts, did_same, did_Split, did_While}
+use Rattle.task_run.proofs.RunSteps.{acts_primitive, did_Call, did_Do, did_Finish, did_If, did_Parts, did_Rescue, did_same, did_Split, did_While}
 use Rattle.task_run.proofs.run.Run.act.Goals as goal
 
 pub spawn-requires-clause-can : goal.spawn-requires-clause-can
@@ -107,3 +107,15 @@ returns-in_ok-enter-in-Finish-clause-did g c =
     ∙ sym (ap code c.in-Finish.is ∙ code_Finish c.in-Finish.body) in
     did_same needs x.label (Finish body) (code x.kind) m Entered _ is
     (did_Finish needs x.label body m _ (c.in_ok-enter-in-Finish.ensures x.label))
+
+pub returns-in_ok-enter_rescue-in-Rescue-clause-did : goal.returns-in_ok-enter_rescue-in-Rescue-clause-did
+returns-in_ok-enter_rescue-in-Rescue-clause-did g c =
+    let needs = g.N.Needed.needs c.args.needed.now in
+    let m = c.args.self.now in let x = c.args.stmt.now in let k = c.in-Rescue in let n = k.faults.number in
+    let body = codes c.deref-in-Rescue.result.now in let handler = codes c.deref-in-Rescue-2.result.now in
+    let is : Rescue body n handler ≡ code x.kind
+    = ap (λ l. Rescue (codes l) n handler) c.deref-in-Rescue.ensures.value
+    ∙ ap (λ l. Rescue (codes k.body.items) n (codes l)) c.deref-in-Rescue-2.ensures.value
+    ∙ sym (ap code k.is ∙ code_Rescue k.body k.faults k.handler) in
+    did_same needs x.label (Rescue body n handler) (code x.kind) m Entered _ is
+    (did_Rescue needs x.label n body handler m _ (c.in_ok-enter_rescue-in-Rescue.ensures x.label))

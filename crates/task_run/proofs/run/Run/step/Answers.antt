@@ -4,15 +4,16 @@ use Rattle.std.specs.Vec.{with_item}
 use Rattle.std.proofs.lemmas.List.{nil_from_length}
 use Rattle.types.specs.Code.{Then}
 use Rattle.types.specs.Translation.{code, codes}
+use Rattle.types.specs.declared.fault.Fault.{Fault as rFault}
 use Rattle.task_run.specs.Frames.{Frame, Rest}
 use Rattle.task_run.specs.OwnRun.{Own}
 use Rattle.task_run.specs.Reached.{HasNext}
 use Rattle.task_run.specs.RunTurns.{CanAct, KnowsFirst, Turns, taken_off}
 use Rattle.task_run.specs.Standings.{state_of, with_own}
 use Rattle.task_run.specs.declared.frame.TaskFrame.{TaskFrame as rFrame}
-use Rattle.task_run.specs.declared.frame.TaskFrame.TheVariants.{Rest as rRest, Again as rAgain, Turns as rTurns}
+use Rattle.task_run.specs.declared.frame.TaskFrame.TheVariants.{Rest as rRest, Again as rAgain, Turns as rTurns, OnFault as rOnFault}
 use Rattle.task_run.proofs.RunTops.{can_first, on_this}
-use Rattle.task_run.proofs.StepsInPlace.{again_is_turn, back_is_turn, below, end_is_turn, first_is_turn, is_above, is_kept, is_put, turns_is_turn}
+use Rattle.task_run.proofs.StepsInPlace.{Handles, again_is_turn, back_is_turn, below, end_is_turn, first_is_turn, handler_is_turn, is_above, is_kept, is_off, is_put, turns_is_turn}
 use Rattle.task_run.proofs.run.Run.step.Goals as goal
 
 pub first-requires-clause-can : goal.first-requires-clause-can
@@ -89,6 +90,21 @@ returns-in-EndFinish-clause-step g c =
       ap (λ (v : Vec rFrame Global). record m { frames = v }) (is_kept m.frames top some read),
       inr (hs, c.in-EndFinish.field-0, is_above m.frames top some read ∙ ap (λ (g : rFrame). hs ++ g ∷ []) c.in-EndFinish.is),
     )
+
+pub returns-in_ok-handle-in-OnFault-clause-step :
+    goal.returns-in_ok-handle-in-OnFault-clause-step
+returns-in_ok-handle-in-OnFault-clause-step g c =
+    let m = c.args.self.now in let k = c.in-OnFault in let top = rOnFault k.before k.faults k.handler in
+    let needs = g.N.Needed.needs c.args.needed.now in
+    let some = c.in-Some.ensures.item.3.0 in
+    let read : top ≡ slice_index_or m.frames.items (m.frames.len - 1) top
+    = subst (λ (t : rFrame). t ≡ slice_index_or m.frames.items (m.frames.len - 1) t) k.is c.in-Some.ensures.value in
+    let hs = below m.frames top some read in
+    let popped = c.pop-in-OnFault.new.self in let new = c.handle.new.self in
+    handler_is_turn needs m hs k.before k.faults k.handler popped new (is_above m.frames top some read)
+    (c.pop-in-OnFault.ensures.rest ∙ is_off m.frames top some read (rOnFault c.replace-before.new.dest k.faults k.handler))
+    (subst (λ (v : Vec rFault Global). Handles needs m hs v k.faults k.handler (record m { frames = popped }) new) c.replace-before.ensures.value
+    c.in_ok-handle-in-OnFault.ensures)
 
 pub returns-in_ok-take_off-in-EndCall-clause-step :
     goal.returns-in_ok-take_off-in-EndCall-clause-step

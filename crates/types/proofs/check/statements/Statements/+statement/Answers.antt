@@ -1,22 +1,26 @@
-use Rattle.std.proofs.Common.{IfOk, IfErr, Some, map, ◌≡◌, ◌+◌, ◌<◌, ◌≤◌, ◌++◌, [], ◌∷◌, drop, length, sym, ap, ◌∙◌, subst, arith, rules}
+use Rattle.std.proofs.Common.{IfOk, IfErr, Some, map, refl, ◌≡◌, ◌+◌, ◌<◌, ◌≤◌, ◌++◌, [], ◌∷◌, drop, length, sym, ap, ◌∙◌, subst, arith, rules}
 use Rattle.std.proofs.lemmas.List.{at_drop_more, at_drop_all}
 use Rattle.std.specs.String.{string_bytes}
-use Rattle.syntax_tree.specs.Tree.{Then, Print, If, IfElse, While, Split, Parts, Call, Async, Finish, stmt, block, expr}
+use Rattle.syntax_tree.specs.Tree.{Then, Print, If, IfElse, While, Split, Parts, Call, Async, Finish, Rescue, stmt, block, expr}
 use Rattle.syntax_tree.proofs.RowLemmas.{stmt_If, stmt_IfElse, stmt_While, stmt_Split, stmt_Parts, stmt_Async, stmt_Finish}
+use Rattle.syntax_tree.proofs.RowLemmas.{stmt_Rescue}
 use Rattle.types.specs.Code as code
 use Rattle.types.specs.Resolution as resolution
 use Rattle.types.specs.Resolving.{scope_of, procedures_of, left, IsWellScoped, Resolves}
 use Rattle.types.specs.Rules.{errors, errors_in, own_errors, limit}
-use Rattle.types.specs.Scope.{Scope, ASection, AScalar, meant, with_sides, with_turn, inside_async, next as next_place, after, behind}
+use Rattle.types.specs.Scope.{Scope, ASection, AScalar, meant, with_scalar, with_sides, with_turn, inside_async, next as next_place}
+use Rattle.types.specs.Scope.{after, behind}
 use Rattle.types.specs.NameErrors.{declaring}
 use Rattle.syntax_tree.specs.declared.tree.Stmt.TheVariants.{If as tree_If}
 use Rattle.types.specs.Told.{Told}
 use Rattle.types.specs.Translation as plain
 use Rattle.types.proofs.Blocks.{joined, joined_push, joined_all}
-use Rattle.types.proofs.Scopes.{scoped_behind, scoped_next, scoped_async, scoped_sides, scoped_turn, scoped_body, left_next}
+use Rattle.types.proofs.Scopes.{scoped_behind, scoped_next, scoped_async, scoped_sides, scoped_turn, scoped_body, scoped_handler}
+use Rattle.types.proofs.Scopes.{left_next}
 use Rattle.types.proofs.Sizes.{size, size_in}
 use Rattle.types.proofs.Statements.{rest_errors, Marks, out_by, resolves_Skip, resolves_While, resolves_If, resolves_IfElse}
-use Rattle.types.proofs.Statements.{resolves_Finish, resolves_Async, resolves_Split, resolves_Parts, resolves_same, stmt_Skip, stmt_Var, stmt_Assign}
+use Rattle.types.proofs.Statements.{resolves_Finish, resolves_Rescue, resolves_Async, resolves_Split, resolves_Parts, resolves_same}
+use Rattle.types.proofs.Statements.{stmt_Skip, stmt_Var, stmt_Assign}
 use Rattle.types.proofs.Statements.{stmt_Store, stmt_Print, stmt_Fault, stmt_Call}
 use Rattle.types.proofs.Telling.{at_exit, told_left, told_right}
 use Rattle.types.proofs.check.statements.Statements.+statement.Goals as goal
@@ -206,6 +210,24 @@ kind-returns-in-Finish-clause-error t c =
     let is = ap stmt c.in-Finish.is ∙ stmt_Finish c.in-Finish.body ∙ ap (λ b. Finish (block b)) (sym c.deref-in-Finish.ensures.value) in
     subst (λ s. IfErr c.finish.result (Told (errors_in fs here s))) (sym is) c.finish.ensures.error
 
+pub kind-returns-in-Rescue-clause-ok : goal.kind-returns-in-Rescue-clause-ok
+kind-returns-in-Rescue-clause-ok t c =
+    let fs = procedures_of c.args.self.now.procedures in
+    let here = scope_of c.args.scope.now in
+    let is = ap stmt c.in-Rescue.is ∙ stmt_Rescue c.in-Rescue.body c.in-Rescue.faults c.in-Rescue.handler
+    ∙ ap (λ b. Rescue (block b) (string_bytes c.in-Rescue.faults) (block c.in-Rescue.handler.items)) (sym c.deref-in-Rescue.ensures.value)
+    ∙ ap (λ b. Rescue (block c.deref-in-Rescue.result.now) (string_bytes c.in-Rescue.faults) (block b)) (sym c.deref-in-Rescue-2.ensures.value) in
+    subst (λ s. IfOk c.rescue.result (λ k. Resolves fs here s k (scope_of c.rescue.new.scope))) (sym is) c.rescue.ensures.ok
+
+pub kind-returns-in-Rescue-clause-error : goal.kind-returns-in-Rescue-clause-error
+kind-returns-in-Rescue-clause-error t c =
+    let fs = procedures_of c.args.self.now.procedures in
+    let here = scope_of c.args.scope.now in
+    let is = ap stmt c.in-Rescue.is ∙ stmt_Rescue c.in-Rescue.body c.in-Rescue.faults c.in-Rescue.handler
+    ∙ ap (λ b. Rescue (block b) (string_bytes c.in-Rescue.faults) (block c.in-Rescue.handler.items)) (sym c.deref-in-Rescue.ensures.value)
+    ∙ ap (λ b. Rescue (block c.deref-in-Rescue.result.now) (string_bytes c.in-Rescue.faults) (block b)) (sym c.deref-in-Rescue-2.ensures.value) in
+    subst (λ s. IfErr c.rescue.result (Told (errors_in fs here s))) (sym is) c.rescue.ensures.error
+
 pub kind-returns-in-Split-clause-ok : goal.kind-returns-in-Split-clause-ok
 kind-returns-in-Split-clause-ok t c =
     let fs = procedures_of c.args.self.now.procedures in
@@ -271,6 +293,84 @@ finish-returns-clause-ok t c =
     (scope_of c.step.new.self) c.mark-mark.result.names c.mark-mark.result.outside
     (record { names = c.mark-mark.ensures.names; outside = c.mark-mark.ensures.outside }) c.step.ensures
     (record { right = c.in_ok-body.ensures.right; code = c.in_ok-body.ensures.code; place = c.in_ok-body.ensures.place })
+
+pub rescue-returns-clause-ok : goal.rescue-returns-clause-ok
+rescue-returns-clause-ok t c =
+    let fs = procedures_of c.args.self.now.procedures in
+    let here = scope_of c.args.scope.now in
+    resolves_Rescue fs here (scope_of c.inside-2.new.scope) (block c.args.body.now) (string_bytes c.args.faults.now)
+    (block c.args.handler.now) c.in_ok-body.body (record { number = c.inside.new.scope.slots }) c.in_ok-handler.handler
+    (scope_of c.step.new.self) (scope_of c.inside.new.scope) (scope_of c.scalar.new.self) c.mark-mark.result.names
+    c.mark-mark.result.outside
+    (record { names = c.mark-mark.ensures.names; outside = c.mark-mark.ensures.outside }) c.step.ensures
+    (record { right = c.in_ok-body.ensures.right; code = c.in_ok-body.ensures.code; place = c.in_ok-body.ensures.place })
+    refl c.in_ok-scalar.ensures.place c.in_ok-scalar.ensures.right
+    (record { right = c.in_ok-handler.ensures.right; code = c.in_ok-handler.ensures.code; place = c.in_ok-handler.ensures.place })
+
+pub rescue-scalar-requires : goal.rescue-scalar-requires
+rescue-scalar-requires t c =
+    let fs = procedures_of c.args.self.now.procedures in
+    let here = scope_of c.args.scope.now in
+    let b = block c.args.body.now in
+    let mark : Marks fs here (scope_of c.inside.new.scope) c.mark-mark.result.names c.mark-mark.result.outside =
+    record { names = c.mark-mark.ensures.names; outside = c.mark-mark.ensures.outside } in
+    let place = c.in_ok-body.ensures.place ∙ ap (λ m. left c.mark-mark.result.names c.mark-mark.result.outside (after b m)) c.step.ensures in
+    let out = out_by fs here (scope_of c.inside.new.scope) (next_place here) (scope_of c.inside.new.scope) b c.mark-mark.result.names c.mark-mark.result.outside
+    mark (left_next here b) place in
+    let scoped = subst IsWellScoped (sym out) (scoped_body here b c.requires.scoped) in
+    scoped.slots
+
+pub rescue-inside-requires : goal.rescue-inside-requires
+rescue-inside-requires t c =
+    (omega arith, subst IsWellScoped (sym c.step.ensures) (scoped_next (scope_of c.args.scope.now) c.requires.scoped))
+
+pub rescue-inside-requires-2 : goal.rescue-inside-requires-2
+rescue-inside-requires-2 t c =
+    let fs = procedures_of c.args.self.now.procedures in
+    let here = scope_of c.args.scope.now in
+    let b = block c.args.body.now in
+    let x = string_bytes c.args.faults.now in
+    let mark : Marks fs here (scope_of c.inside.new.scope) c.mark-mark.result.names c.mark-mark.result.outside =
+    record { names = c.mark-mark.ensures.names; outside = c.mark-mark.ensures.outside } in
+    let place = c.in_ok-body.ensures.place ∙ ap (λ m. left c.mark-mark.result.names c.mark-mark.result.outside (after b m)) c.step.ensures in
+    let out = out_by fs here (scope_of c.inside.new.scope) (next_place here) (scope_of c.inside.new.scope) b c.mark-mark.result.names c.mark-mark.result.outside
+    mark (left_next here b) place in
+    (omega arith, subst IsWellScoped (sym (c.in_ok-scalar.ensures.place ∙ ap (with_scalar x) out)) (scoped_handler b x here c.requires.scoped))
+
+pub rescue-returns-in_err-scalar-clause-error : goal.rescue-returns-in_err-scalar-clause-error
+rescue-returns-in_err-scalar-clause-error t c =
+    let fs = procedures_of c.args.self.now.procedures in
+    let here = scope_of c.args.scope.now in
+    let b = block c.args.body.now in
+    let x = string_bytes c.args.faults.now in
+    let all = Rescue b x (block c.args.handler.now) in
+    let e = c.in_err-scalar.field-0.0 in
+    let mark : Marks fs here (scope_of c.inside.new.scope) c.mark-mark.result.names c.mark-mark.result.outside =
+    record { names = c.mark-mark.ensures.names; outside = c.mark-mark.ensures.outside } in
+    let place = c.in_ok-body.ensures.place ∙ ap (λ m. left c.mark-mark.result.names c.mark-mark.result.outside (after b m)) c.step.ensures in
+    let out = out_by fs here (scope_of c.inside.new.scope) (next_place here) (scope_of c.inside.new.scope) b c.mark-mark.result.names c.mark-mark.result.outside
+    mark (left_next here b) place in
+    at_exit (Told (errors_in fs here all)) c.from_residual-in_err-scalar.result e c.from_residual-in_err-scalar.ensures.1
+    (told_left (own_errors fs here all) _ e
+    (subst (λ (s : Scope). Told (declaring (Some here.label) (meant x s.names)) e) out c.in_err-scalar.ensures.error))
+
+pub rescue-returns-in_err-handler-clause-error : goal.rescue-returns-in_err-handler-clause-error
+rescue-returns-in_err-handler-clause-error t c =
+    let fs = procedures_of c.args.self.now.procedures in
+    let here = scope_of c.args.scope.now in
+    let b = block c.args.body.now in
+    let x = string_bytes c.args.faults.now in
+    let d = block c.args.handler.now in
+    let all = Rescue b x d in
+    let e = c.in_err-handler.field-0.0 in
+    let mark : Marks fs here (scope_of c.inside.new.scope) c.mark-mark.result.names c.mark-mark.result.outside =
+    record { names = c.mark-mark.ensures.names; outside = c.mark-mark.ensures.outside } in
+    let place = c.in_ok-body.ensures.place ∙ ap (λ m. left c.mark-mark.result.names c.mark-mark.result.outside (after b m)) c.step.ensures in
+    let out = out_by fs here (scope_of c.inside.new.scope) (next_place here) (scope_of c.inside.new.scope) b c.mark-mark.result.names c.mark-mark.result.outside
+    mark (left_next here b) place in
+    at_exit (Told (errors_in fs here all)) c.from_residual-in_err-handler.result e c.from_residual-in_err-handler.ensures.1
+    (told_right (own_errors fs here all) _ e (told_right (errors fs (next_place here) b) _ e
+    (subst (λ p. Told (errors fs p d) e) (c.in_ok-scalar.ensures.place ∙ ap (with_scalar x) out) c.in_err-handler.ensures.error)))
 
 pub async_body-returns-clause-ok : goal.async_body-returns-clause-ok
 async_body-returns-clause-ok t c =
@@ -473,4 +573,11 @@ kind-async_body-requires t c =
 pub kind-finish-requires : goal.kind-finish-requires
 kind-finish-requires t c =
     let is = ap stmt c.in-Finish.is ∙ stmt_Finish c.in-Finish.body ∙ ap (λ b. Finish (block b)) (sym c.deref-in-Finish.ensures.value) in
+    (omega (arith, ap size_in is), (c.requires.scoped, c.requires.label))
+
+pub kind-rescue-requires : goal.kind-rescue-requires
+kind-rescue-requires t c =
+    let is = ap stmt c.in-Rescue.is ∙ stmt_Rescue c.in-Rescue.body c.in-Rescue.faults c.in-Rescue.handler
+    ∙ ap (λ b. Rescue (block b) (string_bytes c.in-Rescue.faults) (block c.in-Rescue.handler.items)) (sym c.deref-in-Rescue.ensures.value)
+    ∙ ap (λ b. Rescue (block c.deref-in-Rescue.result.now) (string_bytes c.in-Rescue.faults) (block b)) (sym c.deref-in-Rescue-2.ensures.value) in
     (omega (arith, ap size_in is), (c.requires.scoped, c.requires.label))

@@ -56,3 +56,6 @@ decreases-async_body l = 8 * size (block l.body.now) + 2
 
 abbrev pub decreases-finish : goal.decreases-finish
 decreases-finish l = 8 * size (block l.body.now) + 2
+
+abbrev pub decreases-rescue : goal.decreases-rescue
+decreases-rescue l = 8 * (size (block l.body.now) + size (block l.handler.now)) + 2
