@@ -8,13 +8,14 @@ use Rattle.std.specs.Prelude.{◌<◌, ◌^◌, SomeIff, Bool, true, false, map,
 use Rattle.std.specs.HashMap.{get}
 use Rattle.shared_lemmas.proofs.Truths.{false_true}
 use Rattle.types.specs.Code.{Codes, Program}
-use Rattle.types.specs.Run.{Flow, On, Faulted, Stopped, State, Rules, Block, Turn, Pieces, at_flow, run}
+use Rattle.types.specs.Run.{Flow, On, Faulted, Stopped, State, Fault, Rules, Block, Turn, Pieces, at_flow, run}
+use Rattle.types.specs.Run.{rescued_by}
 use Rattle.types.specs.Translation.{is_path}
 use Rattle.types.specs.declared.path.Path.{Path}
 use Rattle.effects.specs.Needs.{Needs}
 use Rattle.effects.specs.Rounds.{needs_of}
 use Rattle.task_run.specs.Apart.{is_stopped}
-use Rattle.task_run.specs.Frames.{Frame, Rest, Again, Further, AtEnd, Back, Standing, frame, resume, Follows}
+use Rattle.task_run.specs.Frames.{Frame, Rest, Again, Further, AtEnd, OnFault, Back, Standing, frame, resume, Follows}
 use Rattle.task_run.specs.Jobs.{program_of, lists_of, budget_of}
 use Rattle.task_run.specs.OwnRun.{Start, Own, EndFinish, notes, is_waiting, result_of, leave_with, leave_own, own_rules}
 use Rattle.task_run.specs.OwnRun.{from_receipts, run_by}
@@ -76,6 +77,13 @@ module _ (p : Program) (needs : Codes → Needs) (nest : ℕ) (close : State Own
   flow_waits Faulted st go e w = record { waits = w; faults = refl }
   flow_waits Stopped st go e w = record { waits = w; faults = refl }
 
+  rescue_waits : (g : Flow) (x : ℕ) (go : State Own → State Own) (before : List Fault) (st : State Own) → st.flow ≡ g
+      → is_waiting st ≡ true → StillWaits st (rescued_by g x go before st)
+  rescue_waits On x go before st e w = record { waits = w; faults = refl }
+  rescue_waits Faulted x go before st e w =
+      absurd (false_true (sym (ap is_stopped e) ∙ (and_parts (is_stopped st.flow) st.extra.waits w).0))
+  rescue_waits Stopped x go before st e w = record { waits = w; faults = refl }
+
   leave_waits : (before st : State Own) → is_waiting st ≡ true → StillWaits st (leave_own close before st)
   leave_waits before st w =
       subst (λ b. StillWaits st (if b then st else leave_with before (record st { extra = notes EndFinish st.extra }) (close st))) (sym w)
@@ -86,6 +94,7 @@ module _ (p : Program) (needs : Codes → Needs) (nest : ℕ) (close : State Own
   frame_waits (Again l t b) st w = flow_waits st.flow st (run p r (Turn l t b)) refl w
   frame_waits (Further l s n k q i b) st w = flow_waits st.flow st (run p r (Pieces l s n k q i b)) refl w
   frame_waits (AtEnd before) st w = leave_waits before st w
+  frame_waits (OnFault before x c) st w = rescue_waits st.flow x (run p r (Block c)) before st refl w
   frame_waits (Back env) st w = record { waits = w; faults = refl }
 
   resume_waits : (fs : List (Frame Own)) (st : State Own) → is_waiting st ≡ true → StillWaits st (resume p r fs st)
