@@ -29,6 +29,7 @@ use Rattle.event_worlds.specs.Ending.{MayLeave}
 use Rattle.event_worlds.specs.Events.{Event, Resume, only_if}
 use Rattle.event_worlds.specs.Gathered.{before_children, faults_in, faults_of}
 use Rattle.event_worlds.specs.Jobs.{IsWeightedJob}
+use Rattle.event_worlds.specs.Numbering.{with_number}
 use Rattle.event_worlds.specs.Replay.{hands_on, innermost, is_number}
 use Rattle.event_worlds.specs.Shown.{Becomes, IsBookOf, IsDoingThere, IsLegal, IsParked, IsTaskOf, Refuses, Shows, is_scope, next_world}
 use Rattle.event_worlds.specs.Shown.{scope_id, stake, whereabouts}
@@ -252,3 +253,24 @@ module _ (old new : rWorld) (e f : Event) (same : (w : World) → Shows old w �
 -- the same number in another form
 pub some_if : {n m : ℕ} (o : Option ℕ) → n ≡ m → SomeIff o (n < 2 ^ 64) n → SomeIff o (m < 2 ^ 64) m
 some_if o same h = subst (λ x. SomeIff o (x < 2 ^ 64) x) same h
+
+-- ---- an event with its number
+module _ (r : rWorld) (path : Path) where
+  abbrev with_number_in : Event → World → Event
+  with_number_in = with_number (program_of r.job.job) (needs_of (program_of r.job.job)) (budget_of r.job.job).steps r.job.w0
+
+  -- a resume whose finish has gathered so many
+  pub numbered_so : (e : Event) (worker : ℕ) (z : Option ℕ) (n : ℕ) (w : World) → e ≡ Resume worker path.turns.items z
+      → gathered_by r path.turns.items w ≡ Some n → Resume worker path.turns.items (Some n) ≡ with_number_in e w
+  numbered_so e worker z n w is has =
+      ap (Resume worker path.turns.items) (sym has) ∙ sym (ap (λ x. with_number_in x w) is)
+
+  -- an event that isn't legal without a number isn't legal with one
+  pub not_legal : (e : Event) (worker : ℕ) (z : Option ℕ) (w to : World) → e ≡ Resume worker path.turns.items z
+      → next_world r.job (Resume worker path.turns.items None) w ≡ None → next_world r.job e w ≡ Some to → ⊥
+  not_legal e worker z w to is none legal =
+      none-some _ (sym (by_number z (sym (ap (λ x. next_world r.job x w) is) ∙ legal)))
+    where
+      by_number : (z : Option ℕ) → next_world r.job (Resume worker path.turns.items z) w ≡ Some to → Some to ≡ None
+      by_number None h = sym h ∙ none
+      by_number (Some n) h = sym h ∙ told_nowhere r w worker path.turns.items n none ∙ none

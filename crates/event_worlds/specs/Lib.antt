@@ -8,6 +8,7 @@ pub mod History
 pub mod Jobs
 pub mod Leaving
 pub mod NextKinds
+pub mod Numbering
 pub mod Replay
 pub mod Replaying
 pub mod Shown

@@ -1,11 +1,12 @@
 //! Resumes with the number of faults that the finish has gathered.
 
-ghost use Rattle.std.specs.Prelude.{◌≡◌, IfErr, None, OnOk, Some};
+ghost use Rattle.std.specs.Prelude.{◌≡◌, IfErr, IfOk, None, OnOk, Some};
 ghost use Rattle.std.specs.Bool.{OnFalse, OnTrue};
 ghost use Rattle.event_worlds.specs.Ending.{MayLeave};
 ghost use Rattle.event_worlds.specs.Events.{Resume as IsResume};
 ghost use Rattle.event_worlds.specs.Shown.{Becomes, IsLegal, IsWorld, Refuses, Shows};
-ghost use Rattle.event_worlds.specs.Telling.{HasGathered, MayNotTell, MayTell};
+ghost use Rattle.event_worlds.specs.Replaying.{event as event_of};
+ghost use Rattle.event_worlds.specs.Telling.{HasGathered, IsNumbered, MayNotTell, MayTell};
 ghost use Rattle.event_worlds.specs.Walks.{IsIllegal};
 ghost use Rattle.event_worlds.specs.World.{World as AnyWorld};
 ghost use Rattle.event_worlds.specs.declared.error.EventError.TheVariants.{Illegal, NoMemory};
@@ -13,6 +14,7 @@ ghost use Rattle.event_worlds.specs.declared.error.EventError.TheVariants.{Illeg
 use crate::error::EventError;
 use crate::scope::more_faults;
 use crate::world::World;
+use events::event::Event;
 use events::worker_id::WorkerId;
 use types::path::Path;
 
@@ -77,6 +79,30 @@ impl<'p> World<'p> {
         self.go_on_behind(worker, path)
     }
 
+    /// Returns a copy of an event, with the number of faults that the finish has gathered if it is a
+    /// resume. A number that isn't a u64 counts as out of memory.
+    pub fn numbered(&self, event: &Event) -> Result<Event, EventError>
+        requires { IsWorld self.now }
+        ensures numbered { IfOk result (λ e. IsNumbered self.now (event_of event.now) (event_of e)) }
+        ensures refused { IfErr result (λ e. e ≡ NoMemory) }
+    {
+        let Event::Resume { worker, path, .. } = event else {
+            return copy(event);
+        };
+        if !self.may_leave(path) {
+            return copy(event);
+        }
+        let Some(faults) = self.gathered(path) else {
+            return Err(EventError::NoMemory);
+        };
+        let path = path.clone()?;
+        Ok(Event::Resume {
+            worker: *worker,
+            path,
+            faults: Some(faults),
+        })
+    }
+
     /// Returns whether a resume may have this number of faults. If the task can't be resumed, any
     /// number will do.
     fn tells(&self, path: &Path, faults: Option<u64>) -> bool
@@ -127,4 +153,13 @@ impl<'p> World<'p> {
         };
         more_faults(scope.faults, made)
     }
+}
+
+/// Returns a copy of an event.
+fn copy(event: &Event) -> Result<Event, EventError>
+    ensures same { IfOk result (λ e. event_of e ≡ event_of event.now) }
+    ensures refused { IfErr result (λ e. e ≡ NoMemory) }
+{
+    let copy = event.clone()?;
+    Ok(copy)
 }
