@@ -85,7 +85,7 @@ const BAD_HEADERS: &[&str] = &[
     "\n",
     "{\"e\":\"step\",\"path\":\"0\"}\n",
     "{\"format\":1,\"nest\":100,\"steps\":1000000,\"w0\":8,\"workers\":1}",
-    "{\"format\":2,\"nest\":100,\"steps\":1000000,\"w0\":8,\"workers\":1}\n",
+    "{\"format\":3,\"nest\":100,\"steps\":1000000,\"w0\":8,\"workers\":1}\n",
     "{\"format\":1,\"nest\":1001,\"steps\":1000000,\"w0\":8,\"workers\":1}\n",
     "{\"format\":1,\"nest\":100,\"steps\":0,\"w0\":8,\"workers\":1}\n",
     "{\"format\":1,\"nest\":100,\"steps\":1000000001,\"w0\":8,\"workers\":1}\n",
