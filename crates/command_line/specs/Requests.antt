@@ -7,7 +7,7 @@ use Rattle.types.specs.Translation.{budget as budget_of}
 use Rattle.command_line.specs.declared.request.Command.{Command}
 use Rattle.command_line.specs.declared.request.Command.TheVariants.{Run, Serial, Check, Pairs, Explore}
 use Rattle.command_line.specs.declared.request.Command.TheVariants.{Places, Listing, Labels, Format, Meetings}
-use Rattle.command_line.specs.declared.request.Command.TheVariants.{CheckFormat, View, Summary, Draw, Chrome}
+use Rattle.command_line.specs.declared.request.Command.TheVariants.{CheckFormat, View, Summary, Draw, Chrome, Upgrade}
 use Rattle.command_line.specs.declared.request.Command.TheVariants.{Cost, CostByLabel, CostByProcedure}
 use Rattle.command_line.specs.declared.request.Action.{Action}
 use Rattle.command_line.specs.declared.request.Action.TheVariants.{Answer, Rewrite}
@@ -344,12 +344,14 @@ settings_by o = record {
 
 -- ---- a trace that is shown
 
--- how it is shown: as a table, by its numbers, as a picture in a file, or in a file for a trace viewer
+-- how it is shown: as a table, by its numbers, as a picture in a file, in a file for a trace viewer, or as a
+-- table and in a file of format 2
 pub data Showing : Type 0 where
   AsTable : Showing
   ByNumbers : Showing
   AsPicture : (out : List ℕ) → Showing
   ForViewer : (out : List ℕ) → Showing
+  InFormatTwo : (out : List ℕ) → Showing
 
 -- the arguments for it, at most one option
 abbrev pub showing_words : Showing → List (List ℕ)
@@ -357,19 +359,22 @@ showing_words AsTable = []
 showing_words ByNumbers = codes "--summary" ∷ []
 showing_words (AsPicture out) = codes "--svg" ∷ out ∷ []
 showing_words (ForViewer out) = codes "--chrome" ∷ out ∷ []
+showing_words (InFormatTwo out) = codes "--upgrade" ∷ out ∷ []
 
 abbrev pub command_for : Showing → Command
 command_for AsTable = View
 command_for ByNumbers = Summary
 command_for (AsPicture out) = Draw
 command_for (ForViewer out) = Chrome
+command_for (InFormatTwo out) = Upgrade
 
--- the file of the picture
+-- the file of the picture, or of the trace in format 2
 abbrev pub picture_of : Showing → Option (List ℕ)
 picture_of AsTable = None
 picture_of ByNumbers = None
 picture_of (AsPicture out) = Some out
 picture_of (ForViewer out) = Some out
+picture_of (InFormatTwo out) = Some out
 
 -- the file of the trace, that of the initial contents of the arrays, if one is named, and how it is shown
 pub record Viewing : Type 0 where

@@ -43,6 +43,8 @@ pub enum Command {
     Draw,
     /// `view --chrome OUT`: write a trace into a file for a trace viewer.
     Chrome,
+    /// `view --upgrade OUT`: write a trace into a file in format 2, and show it as a table.
+    Upgrade,
 }
 
 /// When explanations have colors.
@@ -198,7 +200,8 @@ pub struct RunOptions<'w> {
     /// `--trace FILE` of `run`: the file that the run's trace is written to. `TRACE` of `view`: the
     /// file that contains it, which these arguments always name.
     pub trace: Option<&'w str>,
-    /// `--svg OUT` or `--chrome OUT`: the file that the picture is written to.
+    /// `--svg OUT` or `--chrome OUT`: the file that the picture is written to. `--upgrade OUT`: the
+    /// file that the trace is written to in format 2.
     pub picture: Option<&'w str>,
     /// `--arrays`: the arrays are shown after the outcome.
     pub arrays: bool,

@@ -12,7 +12,7 @@ use Rattle.command_line.specs.declared.request.Action.TheVariants.{Answer, Rewri
 use Rattle.command_line.specs.declared.request.Command.TheVariants.{Run, Serial, Check, Pairs, Explore}
 use Rattle.command_line.specs.declared.request.Command.TheVariants.{Listing, Chrome, Labels, Format, Meetings}
 use Rattle.command_line.specs.declared.request.Command.TheVariants.{CheckFormat, CostByLabel, Summary, View}
-use Rattle.command_line.specs.declared.request.Command.TheVariants.{Cost, CostByProcedure, Places, Draw}
+use Rattle.command_line.specs.declared.request.Command.TheVariants.{Cost, CostByProcedure, Places, Draw, Upgrade}
 use Rattle.command_words.specs.declared.plain.PlainLine.{PlainLine as rLine}
 use Rattle.command_words.specs.declared.plain.Texts.{Texts as rTexts}
 
@@ -139,7 +139,8 @@ read_showing [] = Some ((Answer View), None)
 read_showing (one ∷ []) = if bytes_eq one (codes "--summary") then Some ((Answer Summary), None) else None
 read_showing (option ∷ out ∷ []) =
     if bytes_eq option (codes "--svg") then Some ((Answer Draw), Some out) else
-    (if bytes_eq option (codes "--chrome") then Some ((Answer Chrome), Some out) else None)
+    (if bytes_eq option (codes "--chrome") then Some ((Answer Chrome), Some out) else
+    (if bytes_eq option (codes "--upgrade") then Some ((Answer Upgrade), Some out) else None))
 read_showing (option ∷ out ∷ third ∷ behind) = None
 
 -- the arguments after a command that takes options: a file, and the values of its options

@@ -189,6 +189,8 @@ fn viewing(given: &ArgMatches<'_>) -> Command {
         Command::Draw
     } else if given.get_str("chrome").is_some() {
         Command::Chrome
+    } else if given.get_str("upgrade").is_some() {
+        Command::Upgrade
     } else {
         Command::View
     }
@@ -266,11 +268,15 @@ fn trace<'w>(given: &ArgMatches<'w>) -> Option<&'w str> {
     }
 }
 
-/// Returns the file of a picture. `clap` has checked that at most one option names it.
+/// Returns the file of a picture, or of a trace in format 2. `clap` has checked that at most one
+/// option names it.
 fn picture<'w>(given: &ArgMatches<'w>) -> Option<&'w str> {
-    match given.get_str("svg") {
+    if let Some(file) = given.get_str("svg") {
+        return Some(file);
+    }
+    match given.get_str("chrome") {
         Some(file) => Some(file),
-        None => given.get_str("chrome"),
+        None => given.get_str("upgrade"),
     }
 }
 

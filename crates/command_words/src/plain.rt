@@ -178,8 +178,8 @@ fn view_line<'w>(file: &'w str, behind: &'w [String]) -> Option<PlainLine<'w>>
     }
 }
 
-/// Returns how to show a trace, and the file for its picture: no argument, `--summary`, `--svg OUT`
-/// or `--chrome OUT`.
+/// Returns how to show a trace, and the file for its picture or for the trace in format 2: no
+/// argument, `--summary`, `--svg OUT`, `--chrome OUT` or `--upgrade OUT`.
 fn showing<'w>(words: &'w [String]) -> Option<(Action, Option<&'w str>)>
     ensures { option_map shown_of result ≡ read_showing (map string_bytes words.now) }
 {
@@ -197,6 +197,8 @@ fn showing<'w>(words: &'w [String]) -> Option<(Action, Option<&'w str>)>
                 Some((Answer(Command::Draw), Some(out.as_str())))
             } else if option.as_str() == "--chrome" {
                 Some((Answer(Command::Chrome), Some(out.as_str())))
+            } else if option.as_str() == "--upgrade" {
+                Some((Answer(Command::Upgrade), Some(out.as_str())))
             } else {
                 None
             }

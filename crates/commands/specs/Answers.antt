@@ -55,7 +55,7 @@ use Rattle.failures.specs.declared.failure.Failure.TheVariants.{CannotWrite, Run
 use Rattle.command_line.specs.declared.request.Command.{Command}
 use Rattle.command_line.specs.declared.request.Command.TheVariants.{Run, Serial, Check, Listing, Pairs}
 use Rattle.command_line.specs.declared.request.Command.TheVariants.{Meetings, Explore, Labels, Places, Format}
-use Rattle.command_line.specs.declared.request.Command.TheVariants.{CheckFormat, View, Summary, Draw, Chrome}
+use Rattle.command_line.specs.declared.request.Command.TheVariants.{CheckFormat, View, Summary, Draw, Chrome, Upgrade}
 use Rattle.command_line.specs.declared.request.Command.TheVariants.{Cost, CostByLabel, CostByProcedure}
 
 -- the text spells a program that breaks no rule, of which this is the code
@@ -86,6 +86,7 @@ IsRunBy View code = IsAccepted code
 IsRunBy Summary code = IsAccepted code
 IsRunBy Draw code = IsAccepted code
 IsRunBy Chrome code = IsAccepted code
+IsRunBy Upgrade code = IsAccepted code
 IsRunBy Serial code = Unit {0}
 IsRunBy Cost code = Unit {0}
 IsRunBy CostByLabel code = Unit {0}
@@ -280,6 +281,7 @@ Answers View s held text told status = ⊥
 Answers Summary s held text told status = ⊥
 Answers Draw s held text told status = ⊥
 Answers Chrome s held text told status = ⊥
+Answers Upgrade s held text told status = ⊥
 
 -- ---- failures
 
@@ -309,6 +311,7 @@ TestsRules View = Unit {0}
 TestsRules Summary = Unit {0}
 TestsRules Draw = Unit {0}
 TestsRules Chrome = Unit {0}
+TestsRules Upgrade = Unit {0}
 
 -- why a text has no code, unless memory runs out: it spells no program, or one that breaks a rule
 abbrev pub TellsNoCode : (text : List ℕ) → Failure → Type 0
@@ -339,6 +342,7 @@ LooksForRaces View = Unit {0}
 LooksForRaces Summary = Unit {0}
 LooksForRaces Draw = Unit {0}
 LooksForRaces Chrome = Unit {0}
+LooksForRaces Upgrade = Unit {0}
 LooksForRaces Serial = ⊥
 LooksForRaces Pairs = ⊥
 LooksForRaces Meetings = ⊥

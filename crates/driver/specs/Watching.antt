@@ -7,7 +7,7 @@ use Rattle.command_line.specs.declared.request.Action.TheVariants.{Answer as Ans
 use Rattle.command_line.specs.declared.request.Command.{Command}
 use Rattle.command_line.specs.declared.request.Command.TheVariants.{Run, Serial, Check, Listing, Pairs}
 use Rattle.command_line.specs.declared.request.Command.TheVariants.{Meetings, Explore, Labels, Places, Format}
-use Rattle.command_line.specs.declared.request.Command.TheVariants.{CheckFormat, View, Summary, Draw, Chrome}
+use Rattle.command_line.specs.declared.request.Command.TheVariants.{CheckFormat, View, Summary, Draw, Chrome, Upgrade}
 use Rattle.command_line.specs.declared.request.Command.TheVariants.{Cost, CostByLabel, CostByProcedure}
 use Rattle.command_words.specs.Orders.{Order, AsText, AsObject, Times, TimesAsObject, Tests, TestsEach, Each}
 use Rattle.command_words.specs.Orders.{command_of}
@@ -34,6 +34,7 @@ is_watched View s = false
 is_watched Summary s = false
 is_watched Draw s = false
 is_watched Chrome s = false
+is_watched Upgrade s = false
 
 abbrev pub is_watched_by : Action → Settings → Bool
 is_watched_by (AnswerBy c) s = is_watched c s

@@ -28,6 +28,7 @@ use std::sync::Wait;
 use std::thread::Threads;
 use viewing::drawing::{Form, draw};
 use viewing::tables::{Look, view};
+use viewing::upgrading::upgrade;
 
 /// Carries out a command on the text of a program.
 pub fn perform<R: Threads + Wait + Sync, F: FileSource, O: Write, W: Watch>(
@@ -72,6 +73,7 @@ pub fn perform<R: Threads + Wait + Sync, F: FileSource, O: Write, W: Watch>(
             Command::Summary => view(rt, alloc, Look::Numbers, question, files, out),
             Command::Draw => draw(rt, alloc, Form::Picture, question, files, out),
             Command::Chrome => draw(rt, alloc, Form::Spans, question, files, out),
+            Command::Upgrade => upgrade(rt, alloc, question, files, out),
         },
     }
 }

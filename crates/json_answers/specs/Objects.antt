@@ -16,7 +16,7 @@ use Rattle.command_line.specs.Requests.{Settings}
 use Rattle.command_line.specs.declared.request.Command.{Command}
 use Rattle.command_line.specs.declared.request.Command.TheVariants.{Run, Serial, Check, Listing, Pairs}
 use Rattle.command_line.specs.declared.request.Command.TheVariants.{Meetings, Explore, Labels, Places, Format}
-use Rattle.command_line.specs.declared.request.Command.TheVariants.{CheckFormat, View, Summary, Draw, Chrome}
+use Rattle.command_line.specs.declared.request.Command.TheVariants.{CheckFormat, View, Summary, Draw, Chrome, Upgrade}
 use Rattle.command_line.specs.declared.request.Command.TheVariants.{Cost, CostByLabel, CostByProcedure}
 use Rattle.files.specs.Held.{Held}
 use Rattle.failures.specs.declared.failure.Failure.{Failure}
@@ -91,6 +91,7 @@ ObjectOf View s held text told status = ⊥
 ObjectOf Summary s held text told status = ⊥
 ObjectOf Draw s held text told status = ⊥
 ObjectOf Chrome s held text told status = ⊥
+ObjectOf Upgrade s held text told status = ⊥
 
 -- there is a reason why there is no object, and it isn't that none could be written
 pub record FailsEarly (c : Command) (s : Settings) (held : Held) (text : List ℕ) (f : Failure) : Type 0 where

@@ -177,18 +177,24 @@ const TRACE: Entry = Entry {
 const SUMMARY: Entry = Entry {
     name: "summary",
     help: "Print totals instead of the table: tasks, steps, span, parallelism, steals and more",
-    takes: Takes::NothingBut(&["svg", "chrome"]),
+    takes: Takes::NothingBut(&["svg", "chrome", "upgrade"]),
 };
 
 const SVG: Entry = Entry {
     name: "svg",
     help: "Draw the trace to this SVG file instead of printing the table, with a lane for each worker",
-    takes: Takes::TextBut("OUT", &["chrome"]),
+    takes: Takes::TextBut("OUT", &["chrome", "upgrade"]),
 };
 
 const CHROME: Entry = Entry {
     name: "chrome",
     help: "Write the trace to this file for Perfetto or chrome://tracing instead of printing the table",
+    takes: Takes::TextBut("OUT", &["upgrade"]),
+};
+
+const UPGRADE: Entry = Entry {
+    name: "upgrade",
+    help: "Also write the trace to this file in format 2, with the number of faults of each finish",
     takes: Takes::Text("OUT"),
 };
 
@@ -415,7 +421,9 @@ const VIEWED: Row = Row {
     name: "view",
     about: "Show the trace of a run as a table, as totals or as a picture",
     example: VIEW_EXAMPLE,
-    entries: &[FILE, TRACE, INPUT, SUMMARY, SVG, CHROME, EXPLAIN, COLOR],
+    entries: &[
+        FILE, TRACE, INPUT, SUMMARY, SVG, CHROME, UPGRADE, EXPLAIN, COLOR,
+    ],
 };
 
 const EXPLAINED: Row = Row {

@@ -21,7 +21,7 @@ abbrev pub recorded : World → List Event → Recorded
 recorded world events = record { world = world; events = events }
 
 -- one event more in the format
-fits_more : (es : List Event) (e : Event) → fits Two es ≡ true → suits Two (event e) ≡ true → fits Two (es ++ e ∷ []) ≡ true
+pub fits_more : (es : List Event) (e : Event) → fits Two es ≡ true → suits Two (event e) ≡ true → fits Two (es ++ e ∷ []) ≡ true
 fits_more [] e h fit = ap (λ b. b && true) fit
 fits_more (x ∷ es) e h fit =
     let parts = and_parts (suits Two (event x)) (fits Two es) h in

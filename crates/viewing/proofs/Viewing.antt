@@ -2,13 +2,18 @@
 use Rattle.std.proofs.Common.{◌≡◌, inl, inr, ℕ, List, [], Option, Result, ap, ◌∙◌, refl, subst}
 use Rattle.std.specs.Prelude.{IsErrAnd}
 use Rattle.types.specs.Code.{Program}
+use Rattle.types.specs.declared.budget.Budget.{Budget}
 use Rattle.race_checker.specs.Clash.{IsAccepted}
 use Rattle.events.specs.declared.event.Event.{Event}
-use Rattle.event_worlds.specs.Replay.{IllegalAt}
+use Rattle.event_worlds.specs.Replay.{IllegalAt, Legal}
 use Rattle.event_worlds.specs.Replaying.{comes, IsRefused}
+use Rattle.event_worlds.specs.World.{World}
 use Rattle.event_worlds.specs.declared.error.ReplayError.{ReplayError}
 use Rattle.event_worlds.specs.declared.error.ReplayError.TheVariants.{IllegalAt as rIllegalAt}
 use Rattle.event_worlds.specs.declared.job.WeightedJob.{WeightedJob}
+use Rattle.trace_text.specs.Headers.{header_of}
+use Rattle.trace_text.specs.declared.header.Format.{Format}
+use Rattle.trace_text.specs.declared.header.Format.TheVariants.{Two}
 use Rattle.trace_text.specs.declared.header.Header.{Header}
 use Rattle.command_line.specs.Requests.{Settings}
 use Rattle.command_line.specs.declared.request.Command.{Command}
@@ -140,3 +145,18 @@ draws_form Spans = tt
 pub form_tells : (form : Form) (h : Header) (es : List Event) → TellsTrace (command_of form) h es []
 form_tells Picture h es = refl
 form_tells Spans h es = refl
+
+-- ---- format 2
+
+-- the same header in format 2
+pub upgraded_header : (h to : Header) → to.format ≡ Two → to.budget ≡ h.budget → to.w0 ≡ h.w0 → to.workers ≡ h.workers
+    → header_of to ≡ record (header_of h) { format = Two }
+upgraded_header h to format budget w0 workers =
+    ap (λ (f : Format). record (header_of to) { format = f }) format
+    ∙ ap (λ (b : Budget). record (header_of (record to { format = Two })) { steps = b.steps; nest = b.nest }) budget
+    ∙ ap (λ (w : ℕ). record (header_of h) { format = Two; w0 = w; workers = to.workers }) w0
+    ∙ ap (λ (n : ℕ). record (header_of h) { format = Two; workers = n }) workers
+
+-- events can't be legal and not
+pub legal_or_not : {w : World} {n : ℕ} → Legal w ≡ IllegalAt n → ⊥
+legal_or_not e = cc e

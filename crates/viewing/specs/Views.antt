@@ -5,21 +5,24 @@ use Rattle.types.specs.Code.{Program}
 use Rattle.types.specs.Translation.{budget}
 use Rattle.events.specs.Events.{event as event_of}
 use Rattle.events.specs.declared.event.Event.{Event}
+use Rattle.event_worlds.specs.Numbering.{numbered}
 use Rattle.event_worlds.specs.World.{World}
 use Rattle.event_worlds.specs.Worlds.{IsFirstIllegal, LeadsTo}
 use Rattle.trace_numbers.specs.Summary.{IsSummary}
 use Rattle.trace_numbers.specs.Text.{summary_text}
 use Rattle.trace_numbers.specs.declared.summary.TraceSummary.{TraceSummary as SummaryOf}
 use Rattle.trace_text.specs.Headers.{header_of}
+use Rattle.trace_text.specs.Lines.{trace_text}
 use Rattle.trace_text.specs.Reading.{IsRefusal, IsTrace}
 use Rattle.trace_text.specs.Table.{table_text}
 use Rattle.trace_text.specs.declared.error.TraceError.{TraceError}
+use Rattle.trace_text.specs.declared.header.Format.TheVariants.{Two}
 use Rattle.trace_text.specs.declared.header.Header.{Header}
 use Rattle.command_line.specs.Requests.{Settings}
 use Rattle.command_line.specs.declared.request.Command.{Command}
 use Rattle.command_line.specs.declared.request.Command.TheVariants.{Run, Serial, Check, Listing, Pairs}
 use Rattle.command_line.specs.declared.request.Command.TheVariants.{Meetings, Explore, Labels, Places, Format}
-use Rattle.command_line.specs.declared.request.Command.TheVariants.{CheckFormat, View, Summary, Draw, Chrome}
+use Rattle.command_line.specs.declared.request.Command.TheVariants.{CheckFormat, View, Summary, Draw, Chrome, Upgrade}
 use Rattle.command_line.specs.declared.request.Command.TheVariants.{Cost, CostByLabel, CostByProcedure}
 use Rattle.files.specs.Held.{Held, HasText, TellsNoText}
 use Rattle.failures.specs.declared.failure.Failure.{Failure}
@@ -37,7 +40,7 @@ use Rattle.viewing.specs.declared.tables.Look.TheVariants.{Table, Numbers}
 abbrev pub trace_name : Settings → List ℕ
 trace_name s = unwrap_or s.trace (codes "-")
 
--- the file of the picture: arguments that request one always name it
+-- the file of the picture, or of the trace in format 2: arguments that request one always name it
 abbrev pub picture_name : Settings → List ℕ
 picture_name s = unwrap_or s.picture (codes "-")
 
@@ -74,13 +77,14 @@ pub record IsSummaryText (workers : ℕ) (es : List Event) (told : List ℕ) : T
   pub are : IsSummary es numbers
   pub told_is : told ≡ summary_text workers numbers
 
--- the answer for a trace: by `view` the table of its events, by `view --summary` its numbers; `view --svg`
--- and `view --chrome` write nothing to the standard output
+-- the answer for a trace: by `view` and `view --upgrade` the table of its events, by `view --summary` its
+-- numbers; `view --svg` and `view --chrome` write nothing to the standard output
 abbrev pub TellsTrace : Command → Header → List Event → (told : List ℕ) → Type 0
 TellsTrace View h es told = told ≡ table_text (map event_of es)
 TellsTrace Summary h es told = IsSummaryText h.workers es told
 TellsTrace Draw h es told = told ≡ []
 TellsTrace Chrome h es told = told ≡ []
+TellsTrace Upgrade h es told = told ≡ table_text (map event_of es)
 TellsTrace Run h es told = ⊥
 TellsTrace Serial h es told = ⊥
 TellsTrace Check h es told = ⊥
@@ -152,10 +156,11 @@ TellsNoTrace s held text (Illegal n) = HasIllegalTrace s held text (Illegal n)
 TellsNoTrace s held text NoMemory = Unit {0}
 TellsNoTrace s held text f = TellsNotAccepted text f
 
--- the command draws a trace in a file
+-- the command draws a trace in a file, or writes it there in format 2
 abbrev pub Draws : Command → Type 0
 Draws Draw = Unit {0}
 Draws Chrome = Unit {0}
+Draws Upgrade = Unit {0}
 Draws View = ⊥
 Draws Summary = ⊥
 Draws Run = ⊥
@@ -203,3 +208,17 @@ pub record IsDrawn (s : Settings) (held : Held) (text bytes : List ℕ) : Type 0
   pub header : Header
   pub events : List Event
   pub trace : HasTrace s held text header events
+
+-- ---- format 2
+
+-- the lines of events in format 2: each resume has its number of faults, and nothing else changed
+abbrev pub text_in_format_two : Program → (input : List (List ℤ)) → Header → List Event → List ℕ
+text_in_format_two p input h es =
+    trace_text (record (header_of h) { format = Two }) (numbered p h.w0 input (budget h.budget) (map event_of es))
+
+-- this is a trace of the text's program in format 2
+pub record IsInFormatTwo (s : Settings) (held : Held) (text bytes : List ℕ) : Type 0 where
+  pub header : Header
+  pub events : List Event
+  pub trace : HasTrace s held text header events
+  pub lines : bytes ≡ text_in_format_two trace.run.code trace.run.input header events

@@ -6,3 +6,4 @@ pub mod drawing;
 mod statements;
 pub mod tables;
 mod traces;
+pub mod upgrading;

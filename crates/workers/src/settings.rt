@@ -69,12 +69,8 @@ pub fn header_of(settings: Settings) -> Header
     ensures w0 { result.w0 ≡ settings.w0 }
     ensures workers { result.workers ≡ settings.workers }
 {
-    match Header::new(
-        Format::Two,
-        settings.budget,
-        settings.w0,
-        settings.workers as u32,
-    ) {
+    let workers = settings.workers as u32;
+    match Header::new(Format::Two, settings.budget, settings.w0, workers) {
         Some(header) => header,
         None => unreachable!(),
     }

@@ -34,7 +34,7 @@ const ROWS: &[(&str, &str)] = &[
         "explore",
         " input choices choices-from random arrays explain color",
     ),
-    ("view", " input summary svg chrome explain color"),
+    ("view", " input summary svg chrome upgrade explain color"),
     ("explain", " list"),
     ("completions", ""),
     ("man", ""),
