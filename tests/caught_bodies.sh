@@ -8,9 +8,9 @@
 #   ends with another status than without the edit. `fault.afx` is tests/bodies/fault.afx.
 #
 # Arguments are names of edits; without any, all are tried, and if all are caught, the line `tests/bodies` of
-# wrong_bodies/RESULT is renewed. Each takes a minute or more. The last line is `N caught, M not`; the status is 1 if one
-# isn't caught. Not part of CI. The edits in tests/bodies/built are caught only by scripts over a built program:
-# tests/threads.sh and tests/program.sh. They aren't tried here.
+# wrong_bodies/RESULT is renewed. Each takes some minutes; JOBS=N tries N at a time. The last line is `N caught, M not`; the
+# status is 1 if one isn't caught. Not part of CI. The edits in tests/bodies/built are caught only by scripts over a built
+# program: tests/threads.sh and tests/program.sh. They aren't tried here.
 set -eu
 cd "$(dirname "$0")/.."
 top=$PWD
@@ -45,7 +45,7 @@ PYTHON
 
 # Runs the tests of the crates in a folder, and keeps their output in its log.
 tested() {
-    (cd "$1/crates/run_tests" && timeout 900 rt try --test) >"$1/log" 2>&1 || true
+    (cd "$1/crates/run_tests" && timeout 1800 rt try --test) >"$1/log" 2>&1 || true
 }
 
 # Prints the tests that failed, except those that only took too long: that also happens on a busy machine.
@@ -70,9 +70,8 @@ PYTHON
 }
 as_they_stand "$room/as_it_is"
 
-# The tests must pass without an edit. Runs them once, before the first edit that they are to catch.
+# The tests must pass without an edit. Runs them once, before the first edit.
 tested_as_it_is() {
-    [ ! -e "$room/as_it_is/log" ] || return 0
     tested "$room/as_it_is"
     grep -q '^test result: ok' "$room/as_it_is/log" || {
         tail -20 "$room/as_it_is/log"
@@ -88,14 +87,13 @@ printed() (
     # (the files of its folder data, as `rt ci` gives them, and one more)
     set -- -- "$@"
     [ ! -d data ] || for file in $(find data -type f); do set -- --data "${file#data/}=$PWD/$file" "$@"; done
-    timeout 1200 rt try --seconds 600 --data fault.afx="$top/tests/bodies/fault.afx" "$@" >"$room/out" 2>"$room/err" || true
-    grep -q '^run=ended' "$room/out" "$room/err" || exit 0
-    grep -hvE '^(races|checked|interpreter|allocations): ' "$room/out" "$room/err"
+    timeout 1800 rt try --seconds 600 --data fault.afx="$top/tests/bodies/fault.afx" "$@" >"$folder/out" 2>"$folder/err" || true
+    grep -q '^run=ended' "$folder/out" "$folder/err" || exit 0
+    grep -hvE '^(races|checked|interpreter|allocations): ' "$folder/out" "$folder/err"
 )
 
 # shown_by_tests FOLDER: the tests that catch the edit of a folder, if any.
 shown_by_tests() {
-    tested_as_it_is
     tested "$1"
     # The tests must have run: a mutant that doesn't compile shows nothing.
     failed "$1"
@@ -123,13 +121,12 @@ renew() {
     cp "$room/result" wrong_bodies/RESULT
 }
 
-caught=0
-missed=0
-for name in "$@"; do
-    copy=$room/$name
+# try_one NAME: tries an edit, and says in a file what caught it, or that nothing did.
+try_one() {
+    copy=$room/$1
     as_they_stand "$copy"
-    apply "$top/tests/bodies/$name.edit" "$copy"
-    way=$(sed -n 's/^try: //p' "$top/tests/bodies/$name.edit")
+    apply "$top/tests/bodies/$1.edit" "$copy"
+    way=$(sed -n 's/^try: //p' "$top/tests/bodies/$1.edit")
     if [ "${way%% *}" = examples ]; then
         # (one argument, as in crates/examples/args)
         names=$(shown_by_program "$copy" examples "${way#* }")
@@ -139,15 +136,24 @@ for name in "$@"; do
         names=$(shown_by_tests "$copy")
     fi
     if [ -n "$names" ]; then
-        echo "$name: caught by $names"
-        caught=$((caught + 1))
+        echo "$1: caught by $names" >"$room/$1.told"
     else
-        echo "$name: not caught"
-        tail -20 "$copy/log"
-        missed=$((missed + 1))
+        { echo "$1: not caught"; tail -20 "$copy/log"; } >"$room/$1.told"
     fi
+    cat "$room/$1.told"
     rm -rf "$copy"
+}
+
+tested_as_it_is
+begun=0
+for name; do
+    try_one "$name" &
+    begun=$((begun + 1))
+    [ $((begun % ${JOBS:-1})) -ne 0 ] || wait
 done
-[ "$is_whole" = 0 ] || [ "$missed" -gt 0 ] || renew "$caught"
+wait
+caught=$(cat "$room"/*.told | grep -c ': caught by ' || true)
+missed=$(cat "$room"/*.told | grep -c ': not caught$' || true)
+[ "$caught" -ne $# ] || [ "$is_whole" = 0 ] || renew "$caught"
 echo "$caught caught, $missed not"
-[ "$missed" -eq 0 ]
+[ "$caught" -eq $# ]

@@ -232,6 +232,7 @@ def folders(tests):
     for words in (["run", "t.afx", "--trace", "folder"], ["run", "t.afx", "--trace", "folder/"], ["run", "t.afx", "--trace", ""],
                   ["run", "t.afx", "--trace", "none/x"], ["view", "t.afx", "t.trace", "--svg", "folder"],
                   ["view", "t.afx", "t.trace", "--chrome", "folder"], ["run", "t.afx", "--trace", "/proc/x"],
+                  ["view", "t.afx", "t.trace", "--html", "folder"],
                   ["run", "t.afx", "--trace", "t.afx/x"], ["run", "t.afx", "--trace", "x" * 300]):
         tests.expect(words, 1, "", f"cannot write {words[-1]}\n")
 
@@ -329,7 +330,8 @@ def same_names(tests):
     for name, words in (("t.afx", ["run", "t.afx", "--trace"]),
                         ("in.json", ["run", "in.afx", "--input", "in.json", "--trace"]),
                         ("t.trace", ["view", "t.afx", "t.trace", "--svg"]),
-                        ("t.afx", ["view", "t.afx", "t.trace", "--chrome"])):
+                        ("t.afx", ["view", "t.afx", "t.trace", "--chrome"]),
+                        ("t.trace", ["view", "t.afx", "t.trace", "--html"])):
         before = (tests.room / name).read_bytes()
         for target in (name, f"./{name}"):
             ended = tests.run(*words, target)
@@ -376,7 +378,8 @@ def over_own_files(tests):
     for kind, make in (("another name", None), ("a symbolic link", os.symlink), ("a hard link", os.link)):
         for target, words in (("t.afx", ["run", "t.afx", "--trace"]), ("in.json", ["run", "in.afx", "--input", "in.json", "--trace"]),
                               ("t.afx", ["view", "t.afx", "t.trace", "--svg"]),
-                              ("t.trace", ["view", "t.afx", "t.trace", "--chrome"])):
+                              ("t.trace", ["view", "t.afx", "t.trace", "--chrome"]),
+                              ("t.afx", ["view", "t.afx", "t.trace", "--html"])):
             (room / "in.json").write_text('{"a":[5,6]}')
             before, name = (room / target).read_bytes(), "link"
             if make:
@@ -494,9 +497,12 @@ def outputs(tests):
     tests.file("tests_of_output/t.afx", TWO_ARRAYS)
     tests.file("tests_of_output/t.out", "7 8\n")
     much = (["run", "prints.afx"], ["serial", "prints.afx"], ["view", "loop.afx", "loop.trace"], ["mhp", "pairs.afx"], ["man"],
+            ["view", "loop.afx", "loop.trace", "--by-line"], ["mhp", "pairs.afx", "--by-line"],
             ["list", "pairs.afx"], ["fmt", "pairs.afx"], ["explore", "prints.afx", "--random", "1"],
             ["run", "prints.afx", "--format", "json"], ["completions", "bash"])
     little = (["run", "t.afx"], ["check", "t.afx"], ["view", "loop.afx", "loop.trace", "--summary"], ["explain", "Y5"],
+              ["view", "loop.afx", "loop.trace", "--summary", "--by-line"], ["list", "t.afx", "--format", "json"],
+              ["view", "loop.afx", "loop.trace", "--summary", "--format", "json"],
               ["--help"], ["--version"], ["cost", "t.afx"], ["cost", "t.afx", "--by-line"], ["explain", "--list"],
               ["check", "t.afx", "--list"], ["mhp", "t.afx", "--format", "json"], ["list", "t.afx", "--lines"],
               ["bench", "t.afx"], ["bench", "t.afx", "--format", "json"], ["test", "tests_of_output"],
@@ -554,28 +560,30 @@ def full_files(tests):
     """A full disk under what is written."""
     full = device(tests, "full", 7)
     for words in (["run", "t.afx", "--trace", full], ["view", "loop.afx", "loop.trace", "--svg", full],
-                  ["view", "loop.afx", "loop.trace", "--chrome", full]):
+                  ["view", "loop.afx", "loop.trace", "--chrome", full],
+                  ["view", "loop.afx", "loop.trace", "--html", full]):
         tests.expect(words, 1, "", f"cannot write {full}\n")
     tests.judge(f"{full} stays a device", None if (tests.room / full).is_char_device() else "it is a file now")
     # No file may be longer than 4,096 bytes: the device of a small disk, for those who aren't root too.
-    for words in writers("big.trace", "big.svg", "big.json"):
+    for words in writers("big.trace", "big.svg", "big.json", "big.html"):
         ended = tests.run(*words, file_size=4096, keeps_signals=False)
         good = ended.key() == (1, b"", f"cannot write {words[-1]}\n".encode())
         tests.judge(f"{' '.join(words)}, files of at most 4,096 bytes", None if good else str(ended))
         (tests.room / words[-1]).unlink(missing_ok=True)
 
 
-def writers(trace, svg, chrome):
+def writers(trace, svg, chrome, html):
     """Commands that write more than 4,096 bytes into a file."""
     yield ["run", "loop.afx", "--workers", "2", "--trace", trace]
     yield ["view", "loop.afx", "loop.trace", "--svg", svg]
     yield ["view", "loop.afx", "loop.trace", "--chrome", chrome]
+    yield ["view", "loop.afx", "loop.trace", "--html", html]
 
 
 def half_files(tests):
     """Where a file can't be written whole, the old one stays and no half one is left."""
     room = tests.room
-    for words in writers("old.trace", "old.svg", "old.json"):
+    for words in writers("old.trace", "old.svg", "old.json", "old.html"):
         for before in (None, b"old\n"):
             for signals_kept, how in ((False, "files of at most 4,096 bytes"), (True, "ended by SIGXFSZ while it writes")):
                 path = room / words[-1]

@@ -49,10 +49,10 @@ def deep_texts():
 
 # What a text that is as deep or long as it may be is tried with. A check of very many labels takes its time.
 WAYS = (["check"], ["check", "--explain"], ["check", "--format", "json"], ["list"], ["list", "--lines"], ["fmt"],
-        ["fmt", "--check"], ["fmt", "--write"], ["mhp"], ["mhp", "--accesses"], ["cost"], ["cost", "--by-line"], ["cost", "--by-procedure"],
-        ["cost", "--format", "json"], ["bench"], ["serial"], ["serial", "--explain"], ["run", "--workers", "1"],
-        ["run", "--workers", "8"], ["run", "--format", "json"], ["explore", "--random", "1"],
-        ["run", "--workers", "2", "--trace", "deep.trace"])
+        ["fmt", "--check"], ["fmt", "--write"], ["mhp"], ["mhp", "--accesses"], ["mhp", "--by-line"], ["cost"],
+        ["cost", "--by-line"], ["cost", "--by-procedure"], ["cost", "--format", "json"], ["bench"], ["serial"],
+        ["serial", "--explain"], ["run", "--workers", "1"], ["run", "--workers", "8"], ["run", "--format", "json"],
+        ["explore", "--random", "1"], ["run", "--workers", "2", "--trace", "deep.trace"])
 
 
 def try_deep_texts(tests, left_out):
@@ -73,7 +73,7 @@ def try_deep_texts(tests, left_out):
         told = f"{SMALL_STACK // 1024} KB of stack, {name}: {' '.join(way)}"
         tests.judge(told, None if good else str(ended))
         if "--trace" in options and good:
-            for more in ([], ["--summary"], ["--svg", "deep.svg"], ["--chrome", "deep.json"]):
+            for more in ([], ["--summary"], ["--svg", "deep.svg"], ["--chrome", "deep.json"], ["--html", "deep.html"]):
                 ended = tests.run("view", file, "deep.trace", *more, **given)
                 tests.judge(f"{told}; view {' '.join(more)}", None if ended.status == 0 else str(ended))
 
@@ -145,7 +145,7 @@ def long_traces(tests):
         words = ["run", "path.afx", "--nest", "1000", "--workers", workers, "--trace", trace]
         tests.run(*words)
         yield words[:-1] + ["again.trace"], 0, "7\n"
-        for options in ([], ["--summary"], ["--svg", "path.svg"], ["--chrome", "path.json"]):
+        for options in ([], ["--summary"], ["--svg", "path.svg"], ["--chrome", "path.json"], ["--html", "path.html"]):
             yield ["view", "path.afx", trace, *options], 0, None
     many = 100_000 if tests.end else 1_000_000
     row = tests.file("long_row.afx", row_of(many))

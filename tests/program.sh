@@ -64,6 +64,7 @@ END
 expect 0 '7 8' '' run examples/two_arrays.afx --trace "$room/run.trace"
 expect 0 '' '' view examples/two_arrays.afx "$room/run.trace" --svg "$room/run.svg"
 expect 0 '' '' view examples/two_arrays.afx "$room/run.trace" --chrome "$room/run.json"
+expect 0 '' '' view examples/two_arrays.afx "$room/run.trace" --html "$room/run.html"
 begins() {
     if [ "$(head -c ${#2} "$1")" = "$2" ]; then
         passed=$((passed + 1))
@@ -73,6 +74,7 @@ begins() {
     fi
 }
 begins "$room/run.svg" '<svg '
+begins "$room/run.html" '<!doctype html>'
 begins "$room/run.json" '{"traceEvents":['
 
 # `bench` reads the clock before and after each run: ten million steps take more than a millisecond.

@@ -226,10 +226,12 @@ def cases_of(name, text, given, shared, alone):
     for command in ("check", "mhp", "list", "fmt"):
         yield Case(name, [command, file])
     yield Case(name, ["mhp", file, "--accesses"])
+    yield Case(name, ["mhp", file, "--by-line"])
     yield Case(name, ["fmt", file, "--write"], file, text.encode())
     yield Case(name, ["serial", file, *options, *shared])
     yield Case(name, ["explore", file, *options, "--random", "1", *shared])
     yield Case(name, ["cost", file, *options])
+    yield Case(name, ["cost", file, *options, "--by-line"])
     if name in ("readers_race", "faults"):
         yield Case(name, ["check", file, "--explain"])
         yield Case(name, ["check", file, "--format", "json"])
@@ -242,7 +244,10 @@ def cases_of(name, text, given, shared, alone):
         yield Case(name, words + ["--trace", "new.trace", *shared], "new.trace", retrace=retrace)
     yield Case(name, ["view", file, trace, *options])
     yield Case(name, ["view", file, trace, *options, "--summary"])
+    yield Case(name, ["view", file, trace, *options, "--by-line"])
+    yield Case(name, ["view", file, trace, *options, "--summary", "--by-line"])
     yield Case(name, ["view", file, trace, *options, "--svg", "new.svg"], "new.svg")
+    yield Case(name, ["view", file, trace, *options, "--html", "new.html"], "new.html")
 
 
 def lay_out(program):

@@ -7,8 +7,10 @@ use Rattle.types.specs.Translation.{budget as budget_of}
 use Rattle.command_line.specs.declared.request.Command.{Command}
 use Rattle.command_line.specs.declared.request.Command.TheVariants.{Run, Serial, Check, Pairs, Explore}
 use Rattle.command_line.specs.declared.request.Command.TheVariants.{Places, Listing, Labels, Format, Meetings}
-use Rattle.command_line.specs.declared.request.Command.TheVariants.{CheckFormat, View, Summary, Draw, Chrome, Upgrade}
+use Rattle.command_line.specs.declared.request.Command.TheVariants.{CheckFormat, View, Summary, Draw, Chrome}
+use Rattle.command_line.specs.declared.request.Command.TheVariants.{Page, Upgrade}
 use Rattle.command_line.specs.declared.request.Command.TheVariants.{Cost, CostByLabel, CostByProcedure}
+use Rattle.command_line.specs.declared.request.Command.TheVariants.{PairsByLine, ViewByLine, SummaryByLine}
 use Rattle.command_line.specs.declared.request.Action.{Action}
 use Rattle.command_line.specs.declared.request.Action.TheVariants.{Answer, Rewrite}
 use Rattle.command_line.specs.declared.manner.Manner.{Manner}
@@ -344,36 +346,48 @@ settings_by o = record {
 
 -- ---- a trace that is shown
 
--- how it is shown: as a table, by its numbers, as a picture in a file, in a file for a trace viewer, or as a
--- table and in a file of format 2
+-- how it is shown: as a table, by its numbers, both also with statements, as a picture in a file, in a file for a
+-- trace viewer, as a page, or as a table and in a file of format 2
 pub data Showing : Type 0 where
   AsTable : Showing
+  ByLine : Showing
   ByNumbers : Showing
+  NumbersByLine : Showing
   AsPicture : (out : List ℕ) → Showing
   ForViewer : (out : List ℕ) → Showing
+  AsPage : (out : List ℕ) → Showing
   InFormatTwo : (out : List ℕ) → Showing
 
--- the arguments for it, at most one option
+-- the arguments for it
 abbrev pub showing_words : Showing → List (List ℕ)
 showing_words AsTable = []
+showing_words ByLine = codes "--by-line" ∷ []
 showing_words ByNumbers = codes "--summary" ∷ []
+showing_words NumbersByLine = codes "--summary" ∷ codes "--by-line" ∷ []
 showing_words (AsPicture out) = codes "--svg" ∷ out ∷ []
 showing_words (ForViewer out) = codes "--chrome" ∷ out ∷ []
+showing_words (AsPage out) = codes "--html" ∷ out ∷ []
 showing_words (InFormatTwo out) = codes "--upgrade" ∷ out ∷ []
 
 abbrev pub command_for : Showing → Command
 command_for AsTable = View
+command_for ByLine = ViewByLine
 command_for ByNumbers = Summary
+command_for NumbersByLine = SummaryByLine
 command_for (AsPicture out) = Draw
 command_for (ForViewer out) = Chrome
+command_for (AsPage out) = Page
 command_for (InFormatTwo out) = Upgrade
 
 -- the file of the picture, or of the trace in format 2
 abbrev pub picture_of : Showing → Option (List ℕ)
 picture_of AsTable = None
+picture_of ByLine = None
 picture_of ByNumbers = None
+picture_of NumbersByLine = None
 picture_of (AsPicture out) = Some out
 picture_of (ForViewer out) = Some out
+picture_of (AsPage out) = Some out
 picture_of (InFormatTwo out) = Some out
 
 -- the file of the trace, that of the initial contents of the arrays, if one is named, and how it is shown
@@ -461,6 +475,10 @@ pub data AsksPlainly (words : List (List ℕ)) (a : Asked) : Type 0 where
       → words ≡ codes "mhp" ∷ codes "--accesses" ∷ file ∷ [] → a ≡ plain Meetings file → AsksPlainly words a
   to_meet_behind : (file : List ℕ) → IsTrue (is_file_name file)
       → words ≡ codes "mhp" ∷ file ∷ codes "--accesses" ∷ [] → a ≡ plain Meetings file → AsksPlainly words a
+  to_pair_by_line : (file : List ℕ) → IsTrue (is_file_name file)
+      → words ≡ codes "mhp" ∷ codes "--by-line" ∷ file ∷ [] → a ≡ plain PairsByLine file → AsksPlainly words a
+  to_pair_by_line_behind : (file : List ℕ) → IsTrue (is_file_name file)
+      → words ≡ codes "mhp" ∷ file ∷ codes "--by-line" ∷ [] → a ≡ plain PairsByLine file → AsksPlainly words a
   to_cost : (file : List ℕ) (o : Options) → IsTrue (is_file_name file) → AreForMeasuring o
       → words ≡ codes "cost" ∷ file ∷ measured_words_of (texts_by o) → a ≡ optioned Cost file o
       → AsksPlainly words a

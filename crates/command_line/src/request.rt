@@ -23,6 +23,8 @@ pub enum Command {
     Pairs,
     /// `mhp --accesses`: write the pairs of accesses of each procedure that may run together.
     Meetings,
+    /// `mhp --by-line`: write the pairs of its labels, each with its position and its statement.
+    PairsByLine,
     /// `explore`: run it over one shared store by given choices.
     Explore,
     /// `fmt`: write its text in the canonical layout, with its comments.
@@ -37,12 +39,18 @@ pub enum Command {
     CostByProcedure,
     /// `view`: write the events of a trace as a table.
     View,
+    /// `view --by-line`: write the events of a trace with the statements at which they happened.
+    ViewByLine,
     /// `view --summary`: write the numbers of a trace.
     Summary,
+    /// `view --summary --by-line`: write also the number of steps of each statement.
+    SummaryByLine,
     /// `view --svg OUT`: draw a trace, as a picture in a file.
     Draw,
     /// `view --chrome OUT`: write a trace into a file for a trace viewer.
     Chrome,
+    /// `view --html OUT`: write a page in which a trace can be explored.
+    Page,
     /// `view --upgrade OUT`: write a trace into a file in format 2, and show it as a table.
     Upgrade,
 }
@@ -200,8 +208,8 @@ pub struct RunOptions<'w> {
     /// `--trace FILE` of `run`: the file that the run's trace is written to. `TRACE` of `view`: the
     /// file that contains it, which these arguments always name.
     pub trace: Option<&'w str>,
-    /// `--svg OUT` or `--chrome OUT`: the file that the picture is written to. `--upgrade OUT`: the
-    /// file that the trace is written to in format 2.
+    /// `--svg OUT`, `--chrome OUT` or `--html OUT`: the file that the picture is written to.
+    /// `--upgrade OUT`: the file that the trace is written to in format 2.
     pub picture: Option<&'w str>,
     /// `--arrays`: the arrays are shown after the outcome.
     pub arrays: bool,

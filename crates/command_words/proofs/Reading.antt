@@ -15,6 +15,7 @@ use Rattle.command_line.specs.declared.request.Action.{Action}
 use Rattle.command_line.specs.declared.request.Action.TheVariants.{Answer, Rewrite}
 use Rattle.command_line.specs.declared.request.Command.TheVariants.{Run, Serial, Check, Listing, Pairs, Meetings, Explore}
 use Rattle.command_line.specs.declared.request.Command.TheVariants.{Labels, Places, Format, CheckFormat, Cost}
+use Rattle.command_line.specs.declared.request.Command.TheVariants.{PairsByLine}
 use Rattle.command_line.specs.declared.request.Color.{Color}
 use Rattle.command_line.specs.declared.request.Color.TheVariants.{Auto, Always, Never}
 use Rattle.command_line.specs.declared.manner.Manner.{Manner}
@@ -26,7 +27,8 @@ use Rattle.command_words.specs.Reading.{told_line, manner_if, read_by, read_colo
 use Rattle.command_words.specs.Reading.{either, measured_if, read_cost, read_flagged, read_parts}
 use Rattle.command_words.specs.Reading.{read_optioned, read_serial_texts, read_showing, read_texts, read_view, shown_if, taken}
 use Rattle.command_line.specs.Requests.{AreForExplore, AreForRun, AreForSerial, AreRight, Asked, Asks, AsksPlainly, Options, Texts}
-use Rattle.command_line.specs.Requests.{AsPicture, AsTable, ByNumbers, ForViewer, InFormatTwo, Showing, Viewing, command_for, no_options}
+use Rattle.command_line.specs.Requests.{AsPage, AsPicture, AsTable, ByLine, ByNumbers, ForViewer, InFormatTwo, NumbersByLine, Showing}
+use Rattle.command_line.specs.Requests.{Viewing, command_for, no_options}
 use Rattle.command_line.specs.Requests.{picture_of, showing_words, to_view, viewing_options, viewing_words}
 use Rattle.command_line.specs.Requests.{is_file_name, flagged, valued, by_command}
 use Rattle.command_line.specs.Requests.{color_word, manner_words, no_manner, told_so}
@@ -36,7 +38,7 @@ use Rattle.command_line.specs.Requests.{Choosing, Listed, InFile, Random, IsRigh
 use Rattle.command_line.specs.Requests.{asked_of, seed_of, serial_words_of, texts_by, words_of}
 use Rattle.command_line.specs.Requests.{to_label, to_place, to_place_behind, to_format, to_check_format, to_check_format_behind}
 use Rattle.command_line.specs.Requests.{by_no_word, to_run, to_run_on_one_thread, to_check, to_list, to_list_behind, to_explore}
-use Rattle.command_line.specs.Requests.{to_pair, to_meet, to_meet_behind}
+use Rattle.command_line.specs.Requests.{to_pair, to_pair_by_line, to_pair_by_line_behind, to_meet, to_meet_behind}
 use Rattle.shared_lemmas.proofs.Truths.{if_false, if_true}
 
 -- ---- options in order
@@ -283,16 +285,22 @@ read_part ByProcedure = refl
 -- how to show a trace
 read_shown : (s : Showing) → read_showing (showing_words s) ≡ Some (Answer (command_for s), picture_of s)
 read_shown AsTable = refl
+read_shown ByLine = refl
 read_shown ByNumbers = refl
+read_shown NumbersByLine = refl
 read_shown (AsPicture out) = refl
 read_shown (ForViewer out) = refl
+read_shown (AsPage out) = refl
 read_shown (InFormatTwo out) = refl
 
 shown_without_input : (s : Showing) → Lacks (codes "--input") (showing_words s)
 shown_without_input AsTable = refl
+shown_without_input ByLine = refl
 shown_without_input ByNumbers = refl
+shown_without_input NumbersByLine = refl
 shown_without_input (AsPicture out) = refl
 shown_without_input (ForViewer out) = refl
+shown_without_input (AsPage out) = refl
 shown_without_input (InFormatTwo out) = refl
 
 -- a trace that is shown
@@ -325,13 +333,6 @@ read_places_behind : (file : List ℕ) → IsTrue (is_file_name file)
 read_places_behind file named =
     if_false (bytes_eq file (codes "--lines") && false) _ _ (and-false (bytes_eq file (codes "--lines")))
     ∙ read_named (Answer Places) file named
-
--- and that of `mhp`
-read_accesses_behind : (file : List ℕ) → IsTrue (is_file_name file)
-    → read_plain (codes "mhp" ∷ file ∷ codes "--accesses" ∷ []) ≡ Some (bare (Answer Meetings) file)
-read_accesses_behind file named =
-    if_false (bytes_eq file (codes "--accesses") && false) _ _ (and-false (bytes_eq file (codes "--accesses")))
-    ∙ read_named (Answer Meetings) file named
 
 -- ---- names of files
 
@@ -380,6 +381,46 @@ read_write_behind file named =
     (no_check_behind file)
     ∙ if_false (bytes_eq file (codes "--write") && false) _ _ (and-false (bytes_eq file (codes "--write")))
     ∙ read_named Rewrite file named
+
+-- ---- the options of `mhp`
+
+no_accesses_before : (file : List ℕ) → IsTrue (is_file_name file)
+    → read_flagged (codes "--accesses") (Answer Meetings) (codes "--by-line") file ≡ None
+no_accesses_before file named =
+    if_false (bytes_eq file (codes "--accesses")) _ _ (named_differs file (codes "--accesses") refl named)
+
+no_accesses_behind : (file : List ℕ)
+    → read_flagged (codes "--accesses") (Answer Meetings) file (codes "--by-line") ≡ None
+no_accesses_behind file =
+    if_false (bytes_eq file (codes "--accesses") && false) _ _ (and-false (bytes_eq file (codes "--accesses")))
+
+read_accesses_before : (file : List ℕ) → IsTrue (is_file_name file)
+    → read_plain (codes "mhp" ∷ codes "--accesses" ∷ file ∷ []) ≡ Some (bare (Answer Meetings) file)
+read_accesses_before file named =
+    ap (λ (l : Option Line). either l (read_flagged (codes "--by-line") (Answer PairsByLine) (codes "--accesses") file))
+    (if_true (is_file_name file) _ _ named)
+
+read_accesses_behind : (file : List ℕ) → IsTrue (is_file_name file)
+    → read_plain (codes "mhp" ∷ file ∷ codes "--accesses" ∷ []) ≡ Some (bare (Answer Meetings) file)
+read_accesses_behind file named =
+    ap (λ (l : Option Line). either l (read_flagged (codes "--by-line") (Answer PairsByLine) file (codes "--accesses")))
+    (if_false (bytes_eq file (codes "--accesses") && false) _ _ (and-false (bytes_eq file (codes "--accesses")))
+    ∙ read_named (Answer Meetings) file named)
+
+read_lines_before : (file : List ℕ) → IsTrue (is_file_name file)
+    → read_plain (codes "mhp" ∷ codes "--by-line" ∷ file ∷ []) ≡ Some (bare (Answer PairsByLine) file)
+read_lines_before file named =
+    ap (λ (l : Option Line). either l (read_flagged (codes "--by-line") (Answer PairsByLine) (codes "--by-line") file))
+    (no_accesses_before file named)
+    ∙ if_true (is_file_name file) _ _ named
+
+read_lines_behind : (file : List ℕ) → IsTrue (is_file_name file)
+    → read_plain (codes "mhp" ∷ file ∷ codes "--by-line" ∷ []) ≡ Some (bare (Answer PairsByLine) file)
+read_lines_behind file named =
+    ap (λ (l : Option Line). either l (read_flagged (codes "--by-line") (Answer PairsByLine) file (codes "--by-line")))
+    (no_accesses_behind file)
+    ∙ if_false (bytes_eq file (codes "--by-line") && false) _ _ (and-false (bytes_eq file (codes "--by-line")))
+    ∙ read_named (Answer PairsByLine) file named
 
 -- ---- plain arguments
 
@@ -440,9 +481,13 @@ asks_line words a (to_check_format_behind file named is asked) =
     bare_line words a (Answer CheckFormat) file (ap read_plain is ∙ read_check_behind file named) asked
 asks_line words a (to_pair file named is asked) = bare_line words a (Answer Pairs) file (ap read_plain is ∙ read_named (Answer Pairs) file named) asked
 asks_line words a (to_meet file named is asked) =
-    bare_line words a (Answer Meetings) file (ap read_plain is ∙ if_true (is_file_name file) _ _ named) asked
+    bare_line words a (Answer Meetings) file (ap read_plain is ∙ read_accesses_before file named) asked
 asks_line words a (to_meet_behind file named is asked) =
     bare_line words a (Answer Meetings) file (ap read_plain is ∙ read_accesses_behind file named) asked
+asks_line words a (to_pair_by_line file named is asked) =
+    bare_line words a (Answer PairsByLine) file (ap read_plain is ∙ read_lines_before file named) asked
+asks_line words a (to_pair_by_line_behind file named is asked) =
+    bare_line words a (Answer PairsByLine) file (ap read_plain is ∙ read_lines_behind file named) asked
 asks_line words a (to_rewrite file named is asked) =
     bare_line words a Rewrite file (ap read_plain is ∙ read_write_before file named) asked
 asks_line words a (to_rewrite_behind file named is asked) =
@@ -522,11 +567,14 @@ plainly_begun words a (to_check_format_behind file named is asked) = begins word
 plainly_begun words a (to_rewrite_behind file named is asked) = begins words _ file _ named is
 plainly_begun words a (to_pair file named is asked) = begins words _ file _ named is
 plainly_begun words a (to_meet_behind file named is asked) = begins words _ file _ named is
+plainly_begun words a (to_pair_by_line_behind file named is asked) = begins words _ file _ named is
 plainly_begun words a (to_list file named is asked) =
     subst BeginsPlainly (sym is) (record { explain = refl; color = refl; form = refl })
 plainly_begun words a (to_place file named is asked) =
     subst BeginsPlainly (sym is) (record { explain = refl; color = refl; form = refl })
 plainly_begun words a (to_meet file named is asked) =
+    subst BeginsPlainly (sym is) (record { explain = refl; color = refl; form = refl })
+plainly_begun words a (to_pair_by_line file named is asked) =
     subst BeginsPlainly (sym is) (record { explain = refl; color = refl; form = refl })
 plainly_begun words a (to_check_format file named is asked) =
     subst BeginsPlainly (sym is) (record { explain = refl; color = refl; form = refl })

@@ -10,6 +10,7 @@ use Rattle.command_line.specs.declared.request.Action.TheVariants.{Answer, Rewri
 use Rattle.command_line.specs.declared.request.Command.{Command}
 use Rattle.command_line.specs.declared.request.Telling.{Telling}
 use Rattle.command_line.specs.declared.request.Command.TheVariants.{Run, Serial, Check, Pairs, Cost}
+use Rattle.command_line.specs.declared.request.Command.TheVariants.{Labels, CheckFormat, CostByLabel, Summary}
 use Rattle.command_words.specs.Files.{names_once as asks_once}
 use Rattle.command_words.specs.declared.order.Order.{Order as rOrder}
 use Rattle.command_words.specs.declared.order.Order.TheVariants.{AsText as rAsText, AsObject as rAsObject}
@@ -20,7 +21,10 @@ use Rattle.command_words.specs.declared.limits.Limits.{Limits}
 use Rattle.command_words.specs.declared.order.Subject.{Subject}
 use Rattle.command_words.specs.declared.order.Subject.TheVariants.{Run as RunTold, Serial as SerialTold}
 use Rattle.command_words.specs.declared.order.Subject.TheVariants.{Check as CheckTold, Cost as CostTold}
-use Rattle.command_words.specs.declared.order.Subject.TheVariants.{Pairs as PairsTold}
+use Rattle.command_words.specs.declared.order.Subject.TheVariants.{Pairs as PairsTold, Labels as LabelsTold}
+use Rattle.command_words.specs.declared.order.Subject.TheVariants.{CheckFormat as CheckFormatTold}
+use Rattle.command_words.specs.declared.order.Subject.TheVariants.{CostByLabel as CostByLabelTold}
+use Rattle.command_words.specs.declared.order.Subject.TheVariants.{Summary as SummaryTold}
 
 pub data Order : Type 0 where
   AsText : (a : Asked) → Order
@@ -47,6 +51,10 @@ answer_told Serial = Some SerialTold
 answer_told Check = Some CheckTold
 answer_told Cost = Some CostTold
 answer_told Pairs = Some PairsTold
+answer_told Labels = Some LabelsTold
+answer_told CheckFormat = Some CheckFormatTold
+answer_told CostByLabel = Some CostByLabelTold
+answer_told Summary = Some SummaryTold
 answer_told _ = None
 
 abbrev pub subject_of : Action → Option Subject
@@ -59,6 +67,10 @@ command_of SerialTold = Serial
 command_of CheckTold = Check
 command_of CostTold = Cost
 command_of PairsTold = Pairs
+command_of LabelsTold = Labels
+command_of CheckFormatTold = CheckFormat
+command_of CostByLabelTold = CostByLabel
+command_of SummaryTold = Summary
 
 -- the arguments request this, with `--format json` after the command
 pub record AsksForObject (words : List (List ℕ)) (x : Subject) (a : Asked) : Type 0 where

@@ -12,7 +12,8 @@ use Rattle.command_line.specs.declared.request.Action.TheVariants.{Answer, Rewri
 use Rattle.command_line.specs.declared.request.Command.TheVariants.{Run, Serial, Check, Pairs, Explore}
 use Rattle.command_line.specs.declared.request.Command.TheVariants.{Listing, Chrome, Labels, Format, Meetings}
 use Rattle.command_line.specs.declared.request.Command.TheVariants.{CheckFormat, CostByLabel, Summary, View}
-use Rattle.command_line.specs.declared.request.Command.TheVariants.{Cost, CostByProcedure, Places, Draw, Upgrade}
+use Rattle.command_line.specs.declared.request.Command.TheVariants.{Cost, CostByProcedure, Places, Draw, Page, Upgrade}
+use Rattle.command_line.specs.declared.request.Command.TheVariants.{PairsByLine, ViewByLine, SummaryByLine}
 use Rattle.command_words.specs.declared.plain.PlainLine.{PlainLine as rLine}
 use Rattle.command_words.specs.declared.plain.Texts.{Texts as rTexts}
 
@@ -133,14 +134,27 @@ read_choosing words =
       arrays = arrays.0;
     }) arrays.1
 
+-- how to show a trace, as one argument specifies it
+abbrev pub shown_by_one : (one : List ℕ) → Option (Action × Option (List ℕ))
+shown_by_one one =
+    if bytes_eq one (codes "--summary") then Some ((Answer Summary), None) else
+    (if bytes_eq one (codes "--by-line") then Some ((Answer ViewByLine), None) else None)
+
+-- and two arguments
+abbrev pub shown_by_two : (option out : List ℕ) → Option (Action × Option (List ℕ))
+shown_by_two option out =
+    if bytes_eq option (codes "--svg") then Some ((Answer Draw), Some out) else
+    (if bytes_eq option (codes "--chrome") then Some ((Answer Chrome), Some out) else
+    (if bytes_eq option (codes "--html") then Some ((Answer Page), Some out) else
+    (if bytes_eq option (codes "--upgrade") then Some ((Answer Upgrade), Some out) else
+    (if bytes_eq option (codes "--summary") && bytes_eq out (codes "--by-line")
+    then Some ((Answer SummaryByLine), None) else None))))
+
 -- how to show a trace, as arguments specify it
 abbrev pub read_showing : List (List ℕ) → Option (Action × Option (List ℕ))
 read_showing [] = Some ((Answer View), None)
-read_showing (one ∷ []) = if bytes_eq one (codes "--summary") then Some ((Answer Summary), None) else None
-read_showing (option ∷ out ∷ []) =
-    if bytes_eq option (codes "--svg") then Some ((Answer Draw), Some out) else
-    (if bytes_eq option (codes "--chrome") then Some ((Answer Chrome), Some out) else
-    (if bytes_eq option (codes "--upgrade") then Some ((Answer Upgrade), Some out) else None))
+read_showing (one ∷ []) = shown_by_one one
+read_showing (option ∷ out ∷ []) = shown_by_two option out
 read_showing (option ∷ out ∷ third ∷ behind) = None
 
 -- the arguments after a command that takes options: a file, and the values of its options
@@ -183,6 +197,14 @@ read_format one (other ∷ []) =
     either (read_flagged (codes "--check") (Answer CheckFormat) one other)
     (read_flagged (codes "--write") Rewrite one other)
 read_format one (other ∷ third ∷ behind) = None
+
+-- the arguments after `mhp`
+abbrev pub read_pairs : (one : List ℕ) → (others : List (List ℕ)) → Option Line
+read_pairs one [] = read_file (Answer Pairs) one
+read_pairs one (other ∷ []) =
+    either (read_flagged (codes "--accesses") (Answer Meetings) one other)
+    (read_flagged (codes "--by-line") (Answer PairsByLine) one other)
+read_pairs one (other ∷ third ∷ behind) = None
 
 -- the arguments after the trace to be shown, and how to show it
 abbrev pub shown_line : (file trace : List ℕ) → (input : Option (List ℕ)) → Action × Option (List ℕ)
@@ -234,8 +256,7 @@ read_behind command file behind =
     then read_flaggable (Answer Check) (codes "--list") (Answer Listing) file behind else
     (if bytes_eq command (codes "list")
     then read_flaggable (Answer Labels) (codes "--lines") (Answer Places) file behind else
-    (if bytes_eq command (codes "mhp")
-    then read_flaggable (Answer Pairs) (codes "--accesses") (Answer Meetings) file behind else
+    (if bytes_eq command (codes "mhp") then read_pairs file behind else
     (if bytes_eq command (codes "fmt") then read_format file behind else
     (if bytes_eq command (codes "explore")
     then read_optioned (Answer Explore) file (read_choosing behind) else

@@ -154,6 +154,8 @@ fn listing(given: &ArgMatches<'_>) -> Command {
 fn pairing(given: &ArgMatches<'_>) -> Command {
     if given.get_flag("accesses") {
         Command::Meetings
+    } else if given.get_flag("by-line") {
+        Command::PairsByLine
     } else {
         Command::Pairs
     }
@@ -183,14 +185,23 @@ fn costing(given: &ArgMatches<'_>) -> Command {
 
 /// Returns which command `view` is. `clap` has checked that at most one option selects it.
 fn viewing(given: &ArgMatches<'_>) -> Command {
+    let by_line = given.get_flag("by-line");
     if given.get_flag("summary") {
-        Command::Summary
+        if by_line {
+            Command::SummaryByLine
+        } else {
+            Command::Summary
+        }
     } else if given.get_str("svg").is_some() {
         Command::Draw
     } else if given.get_str("chrome").is_some() {
         Command::Chrome
+    } else if given.get_str("html").is_some() {
+        Command::Page
     } else if given.get_str("upgrade").is_some() {
         Command::Upgrade
+    } else if by_line {
+        Command::ViewByLine
     } else {
         Command::View
     }
@@ -274,7 +285,10 @@ fn picture<'w>(given: &ArgMatches<'w>) -> Option<&'w str> {
     if let Some(file) = given.get_str("svg") {
         return Some(file);
     }
-    match given.get_str("chrome") {
+    if let Some(file) = given.get_str("chrome") {
+        return Some(file);
+    }
+    match given.get_str("html") {
         Some(file) => Some(file),
         None => given.get_str("upgrade"),
     }

@@ -72,6 +72,14 @@ pub enum Subject {
     Cost,
     /// The answer of `mhp`.
     Pairs,
+    /// The answer of `list`.
+    Labels,
+    /// The answer of `fmt --check`.
+    CheckFormat,
+    /// The answer of `cost --by-line`.
+    CostByLabel,
+    /// The answer of `view --summary`.
+    Summary,
 }
 
 impl Subject {
@@ -88,6 +96,10 @@ impl Subject {
             Command::Check => Some(Subject::Check),
             Command::Cost => Some(Subject::Cost),
             Command::Pairs => Some(Subject::Pairs),
+            Command::Labels => Some(Subject::Labels),
+            Command::CheckFormat => Some(Subject::CheckFormat),
+            Command::CostByLabel => Some(Subject::CostByLabel),
+            Command::Summary => Some(Subject::Summary),
             _ => None,
         }
     }
@@ -102,6 +114,10 @@ impl Subject {
             Subject::Check => Command::Check,
             Subject::Cost => Command::Cost,
             Subject::Pairs => Command::Pairs,
+            Subject::Labels => Command::Labels,
+            Subject::CheckFormat => Command::CheckFormat,
+            Subject::CostByLabel => Command::CostByLabel,
+            Subject::Summary => Command::Summary,
         }
     }
 }

@@ -6,7 +6,8 @@ ghost use Rattle.command_words.specs.Reading.{bare as bare_line, line_of, read, 
 ghost use Rattle.command_words.specs.Reading.{read_choosing, read_rest, read_cost, read_format, read_parts};
 ghost use Rattle.command_words.specs.Reading.{no_texts, read_file, read_flaggable, read_flagged};
 ghost use Rattle.command_words.specs.Reading.{read_optioned, read_serial_texts, read_texts, read_whole};
-ghost use Rattle.command_words.specs.Reading.{read_showing, read_view, shown_of, texts_of};
+ghost use Rattle.command_words.specs.Reading.{read_pairs, read_showing, read_view, shown_by_one, shown_by_two};
+ghost use Rattle.command_words.specs.Reading.{shown_of, texts_of};
 ghost use Rattle.command_line.specs.Requests.{is_file_name as names_file};
 
 use crate::manners::manner_in;
@@ -116,13 +117,7 @@ fn line_behind<'w>(command: &str, file: &'w str, behind: &'w [String]) -> Option
             behind,
         )
     } else if command == "mhp" {
-        flagged_line(
-            Answer(Command::Pairs),
-            "--accesses",
-            Answer(Command::Meetings),
-            file,
-            behind,
-        )
+        pairs_line(file, behind)
     } else if command == "fmt" {
         format_line(file, behind)
     } else if command == "explore" {
@@ -178,32 +173,49 @@ fn view_line<'w>(file: &'w str, behind: &'w [String]) -> Option<PlainLine<'w>>
     }
 }
 
-/// Returns how to show a trace, and the file for its picture or for the trace in format 2: no
-/// argument, `--summary`, `--svg OUT`, `--chrome OUT` or `--upgrade OUT`.
+/// Returns how to show a trace, and the file for its picture, its page or the trace in format 2: no
+/// argument, `--by-line`, `--summary`, `--summary --by-line`, `--svg OUT`, `--chrome OUT`,
+/// `--html OUT` or `--upgrade OUT`.
 fn showing<'w>(words: &'w [String]) -> Option<(Action, Option<&'w str>)>
     ensures { option_map shown_of result ≡ read_showing (map string_bytes words.now) }
 {
     match words {
         [] => Some((Answer(Command::View), None)),
-        [one] => {
-            if one.as_str() == "--summary" {
-                Some((Answer(Command::Summary), None))
-            } else {
-                None
-            }
-        }
-        [option, out] => {
-            if option.as_str() == "--svg" {
-                Some((Answer(Command::Draw), Some(out.as_str())))
-            } else if option.as_str() == "--chrome" {
-                Some((Answer(Command::Chrome), Some(out.as_str())))
-            } else if option.as_str() == "--upgrade" {
-                Some((Answer(Command::Upgrade), Some(out.as_str())))
-            } else {
-                None
-            }
-        }
+        [one] => shown_by_one(one.as_str()),
+        [option, out] => shown_by_two(option.as_str(), out.as_str()),
         [_, _, _, ..] => None,
+    }
+}
+
+/// Returns how one argument shows a trace, if it does.
+fn shown_by_one<'w>(one: &str) -> Option<(Action, Option<&'w str>)>
+    ensures { option_map shown_of result ≡ shown_by_one one.now }
+{
+    if one == "--summary" {
+        Some((Answer(Command::Summary), None))
+    } else if one == "--by-line" {
+        Some((Answer(Command::ViewByLine), None))
+    } else {
+        None
+    }
+}
+
+/// Returns how two arguments show a trace, if they do.
+fn shown_by_two<'w>(option: &str, out: &'w str) -> Option<(Action, Option<&'w str>)>
+    ensures { option_map shown_of result ≡ shown_by_two option.now out.now }
+{
+    if option == "--svg" {
+        Some((Answer(Command::Draw), Some(out)))
+    } else if option == "--chrome" {
+        Some((Answer(Command::Chrome), Some(out)))
+    } else if option == "--html" {
+        Some((Answer(Command::Page), Some(out)))
+    } else if option == "--upgrade" {
+        Some((Answer(Command::Upgrade), Some(out)))
+    } else if option == "--summary" && out == "--by-line" {
+        Some((Answer(Command::SummaryByLine), None))
+    } else {
+        None
     }
 }
 
@@ -365,6 +377,25 @@ fn format_line<'w>(one: &'w str, others: &'w [String]) -> Option<PlainLine<'w>>
         [other] => match flag_line("--check", Answer(Command::CheckFormat), one, other.as_str()) {
             Some(line) => Some(line),
             None => flag_line("--write", Action::Rewrite, one, other.as_str()),
+        },
+        [_, _, ..] => None,
+    }
+}
+
+/// Returns a line of `mhp`, with one of its options or with none.
+fn pairs_line<'w>(one: &'w str, others: &'w [String]) -> Option<PlainLine<'w>>
+    ensures { option_map line_of result ≡ read_pairs one.now (map string_bytes others.now) }
+{
+    match others {
+        [] => file_line(Answer(Command::Pairs), one),
+        [other] => match flag_line("--accesses", Answer(Command::Meetings), one, other.as_str()) {
+            Some(line) => Some(line),
+            None => flag_line(
+                "--by-line",
+                Answer(Command::PairsByLine),
+                one,
+                other.as_str(),
+            ),
         },
         [_, _, ..] => None,
     }

@@ -1,4 +1,5 @@
 pub mod Answering
 pub mod Looked
 pub mod MeetingLines
+pub mod Named
 pub mod Rewriting

@@ -35,6 +35,8 @@ use Rattle.printing.specs.Appending.{AppendsBeginning}
 use Rattle.finish_scope.specs.RunErrors.{IsRunCause}
 use Rattle.commands.specs.Chosen.{ComesTo, HasLeaves}
 use Rattle.commands.specs.MeetingLines.{HasLines}
+use Rattle.commands.specs.Statements.{HasStatements, lines_around, named_pair}
+use Rattle.commands.specs.declared.statements.NamedStatements.{NamedStatements}
 use Rattle.commands.specs.declared.costing.Shares.{Shares}
 use Rattle.commands.specs.declared.costing.Shares.TheVariants.{Untold, ByLabel, ByProcedure}
 use Rattle.commands.specs.declared.telling.About.{About}
@@ -55,8 +57,10 @@ use Rattle.failures.specs.declared.failure.Failure.TheVariants.{CannotWrite, Run
 use Rattle.command_line.specs.declared.request.Command.{Command}
 use Rattle.command_line.specs.declared.request.Command.TheVariants.{Run, Serial, Check, Listing, Pairs}
 use Rattle.command_line.specs.declared.request.Command.TheVariants.{Meetings, Explore, Labels, Places, Format}
-use Rattle.command_line.specs.declared.request.Command.TheVariants.{CheckFormat, View, Summary, Draw, Chrome, Upgrade}
+use Rattle.command_line.specs.declared.request.Command.TheVariants.{CheckFormat, View, Summary, Draw, Chrome}
+use Rattle.command_line.specs.declared.request.Command.TheVariants.{Page, Upgrade}
 use Rattle.command_line.specs.declared.request.Command.TheVariants.{Cost, CostByLabel, CostByProcedure}
+use Rattle.command_line.specs.declared.request.Command.TheVariants.{PairsByLine, ViewByLine, SummaryByLine}
 
 -- the text spells a program that breaks no rule, of which this is the code
 pub record IsCodeOf (text : List ℕ) (code : Program) : Type 0 where
@@ -83,9 +87,12 @@ abbrev pub IsRunBy : Command → Program → Type 0
 IsRunBy Run code = IsAccepted code
 IsRunBy Explore code = IsAccepted code
 IsRunBy View code = IsAccepted code
+IsRunBy ViewByLine code = IsAccepted code
 IsRunBy Summary code = IsAccepted code
+IsRunBy SummaryByLine code = IsAccepted code
 IsRunBy Draw code = IsAccepted code
 IsRunBy Chrome code = IsAccepted code
+IsRunBy Page code = IsAccepted code
 IsRunBy Upgrade code = IsAccepted code
 IsRunBy Serial code = Unit {0}
 IsRunBy Cost code = Unit {0}
@@ -95,6 +102,7 @@ IsRunBy Check code = ⊥
 IsRunBy Listing code = ⊥
 IsRunBy Pairs code = ⊥
 IsRunBy Meetings code = ⊥
+IsRunBy PairsByLine code = ⊥
 IsRunBy Labels code = ⊥
 IsRunBy Places code = ⊥
 IsRunBy Format code = ⊥
@@ -121,12 +129,19 @@ abbrev pub AnswersSerial : Settings → Held → (text told : List ℕ) → (sta
 AnswersSerial s held text told status =
     TellsOfRun s held text (λ code input. Shows s.arrays (outcome code input s.budget) code told status)
 
+-- after a text come the shares of the labels of the text's program, each between the position and the text of
+-- its statement
+pub record HasShares (text before : List ℕ) (work span told : List ℕ) : Type 0 where
+  pub statements : NamedStatements
+  pub are : HasStatements text statements
+  pub told_is : told ≡ before ++ lines_around statements 0 (lines (labels_text work span))
+
 -- the lines of a cost, followed by those of the shares of each label, or of each procedure; these are their
 -- rows
-abbrev pub cost_lines : Shares → Numbers → (work span : List ℕ) → Program → List ℕ
-cost_lines Untold c work span code = cost_text c
-cost_lines ByLabel c work span code = cost_text c ++ labels_text work span
-cost_lines ByProcedure c work span code = cost_text c ++ procedures_text work span code
+abbrev pub HasCost : Shares → (text : List ℕ) → Numbers → (work span : List ℕ) → Program → (told : List ℕ) → Type 0
+HasCost Untold text c work span code told = told ≡ cost_text c
+HasCost ByLabel text c work span code told = HasShares text (cost_text c) work span told
+HasCost ByProcedure text c work span code told = told ≡ cost_text c ++ procedures_text work span code
 
 -- the number of their rows: one for each label of the program, and one for 0
 abbrev pub rows_in : Shares → Program → ℕ
@@ -139,10 +154,11 @@ abbrev pub account_in : Shares → Program → (input : List (List ℤ)) → Bud
 account_in shares code input b = account_of code (rows_in shares code) input b
 
 -- the lines of its cost
-abbrev pub lines_in : Shares → Program → (input : List (List ℤ)) → Budget → List ℕ
-lines_in shares code input b =
+abbrev pub HasCostOf : Shares → (text : List ℕ) → Program → (input : List (List ℤ)) → Budget → (told : List ℕ)
+    → Type 0
+HasCostOf shares text code input b told =
     let a = account_in shares code input b in
-    cost_lines shares (cost_of (tally_of code input b)) a.work (span_by_label a) code
+    HasCost shares text (cost_of (tally_of code input b)) a.work (span_by_label a) code told
 
 -- the command that requests them
 abbrev pub command_of : Shares → Command
@@ -151,9 +167,10 @@ command_of ByLabel = CostByLabel
 command_of ByProcedure = CostByProcedure
 
 -- if a run ended without faults its cost is reported, else its outcome
-pub data TellsCost (code : Program) (o : Outcome) (cost told : List ℕ) (status : ℕ) : Type 0 where
-  numbers : status_of o ≡ 0 → told ≡ cost → status ≡ 0 → TellsCost code o cost told status
-  not_ended : status_of o ≢ 0 → Shows false o code told status → TellsCost code o cost told status
+pub data TellsCost (code : Program) (o : Outcome) (IsCost : (told : List ℕ) → Type 0) (told : List ℕ)
+    (status : ℕ) : Type 0 where
+  numbers : status_of o ≡ 0 → IsCost told → status ≡ 0 → TellsCost code o IsCost told status
+  not_ended : status_of o ≢ 0 → Shows false o code told status → TellsCost code o IsCost told status
 
 -- `cost`: the cost of the one-thread run of the text's program on the input and under the budget given;
 -- with `--by-line` and `--by-procedure` shares follow
@@ -161,7 +178,7 @@ abbrev pub AnswersCost : Shares → Settings → Held → (text told : List ℕ)
 AnswersCost shares s held text told status =
     TellsOfRun s held text
     (λ code input. TellsCost code (outcome code input s.budget)
-    (lines_in shares code input s.budget) told status)
+    (HasCostOf shares text code input s.budget) told status)
 
 -- `run`: the text's program has no race; the outcome is the one-thread outcome
 pub record AnswersRun (s : Settings) (held : Held) (text told : List ℕ) (status : ℕ) : Type 0 where
@@ -200,6 +217,12 @@ pub record TellsPairs (text : List ℕ) (text_of : List (ℕ × ℕ) → List �
 -- `mhp`: a line for each pair
 abbrev pub AnswersPairs : (text told : List ℕ) → (status : ℕ) → Type 0
 AnswersPairs text = TellsPairs text (flat_map pair_text)
+
+-- `mhp --by-line`: a line for each pair, with both statements
+pub record AnswersPairsByLine (text told : List ℕ) (status : ℕ) : Type 0 where
+  pub statements : NamedStatements
+  pub are : HasStatements text statements
+  pub tells : TellsPairs text (flat_map (named_pair statements)) told status
 
 -- `mhp --accesses`: the pairs of accesses of each procedure and of `main` that may run together
 pub record AnswersMeetings (text told : List ℕ) (status : ℕ) : Type 0 where
@@ -269,6 +292,7 @@ Answers Check s held text told status = TellsAccepted text (accepted_told Counts
 Answers Listing s held text told status = TellsAccepted text (accepted_told Lines) told status
 Answers Pairs s held text told status = AnswersPairs text told status
 Answers Meetings s held text told status = AnswersMeetings text told status
+Answers PairsByLine s held text told status = AnswersPairsByLine text told status
 Answers Explore s held text told status = AnswersExplore s held text told status
 Answers Labels s held text told status = AnswersLabels text told status
 Answers Places s held text told status = AnswersPlaces text told status
@@ -278,9 +302,12 @@ Answers Cost s held text told status = AnswersCost Untold s held text told statu
 Answers CostByLabel s held text told status = AnswersCost ByLabel s held text told status
 Answers CostByProcedure s held text told status = AnswersCost ByProcedure s held text told status
 Answers View s held text told status = ⊥
+Answers ViewByLine s held text told status = ⊥
 Answers Summary s held text told status = ⊥
+Answers SummaryByLine s held text told status = ⊥
 Answers Draw s held text told status = ⊥
 Answers Chrome s held text told status = ⊥
+Answers Page s held text told status = ⊥
 Answers Upgrade s held text told status = ⊥
 
 -- ---- failures
@@ -303,14 +330,18 @@ TestsRules Check = Unit {0}
 TestsRules Listing = Unit {0}
 TestsRules Pairs = Unit {0}
 TestsRules Meetings = Unit {0}
+TestsRules PairsByLine = Unit {0}
 TestsRules Explore = Unit {0}
 TestsRules Cost = Unit {0}
 TestsRules CostByLabel = Unit {0}
 TestsRules CostByProcedure = Unit {0}
 TestsRules View = Unit {0}
+TestsRules ViewByLine = Unit {0}
 TestsRules Summary = Unit {0}
+TestsRules SummaryByLine = Unit {0}
 TestsRules Draw = Unit {0}
 TestsRules Chrome = Unit {0}
+TestsRules Page = Unit {0}
 TestsRules Upgrade = Unit {0}
 
 -- why a text has no code, unless memory runs out: it spells no program, or one that breaks a rule
@@ -339,13 +370,17 @@ LooksForRaces Check = Unit {0}
 LooksForRaces Listing = Unit {0}
 LooksForRaces Explore = Unit {0}
 LooksForRaces View = Unit {0}
+LooksForRaces ViewByLine = Unit {0}
 LooksForRaces Summary = Unit {0}
+LooksForRaces SummaryByLine = Unit {0}
 LooksForRaces Draw = Unit {0}
 LooksForRaces Chrome = Unit {0}
+LooksForRaces Page = Unit {0}
 LooksForRaces Upgrade = Unit {0}
 LooksForRaces Serial = ⊥
 LooksForRaces Pairs = ⊥
 LooksForRaces Meetings = ⊥
+LooksForRaces PairsByLine = ⊥
 LooksForRaces Labels = ⊥
 LooksForRaces Places = ⊥
 LooksForRaces Format = ⊥

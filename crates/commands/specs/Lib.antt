@@ -3,3 +3,4 @@ pub mod Chosen
 pub mod MeetingLines
 pub mod Outcomes
 pub mod Rewriting
+pub mod Statements

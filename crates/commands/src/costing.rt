@@ -1,16 +1,20 @@
 //! `cost`: the cost of a run on one thread.
 
 ghost use Rattle.std.specs.Prelude.{◌≡◌, ◌+◌, ◌++◌, IfErr, IfOk};
+ghost use Rattle.std.specs.Str.{chars};
 ghost use Rattle.std.specs.String.{string_bytes};
-ghost use Rattle.types.specs.Typed.{code_of};
+ghost use Rattle.syntax.specs.Lexical.{AreTokensOf};
+ghost use Rattle.syntax.specs.Spelling.{spelling};
+ghost use Rattle.types.specs.Typed.{code_of, program_of as program_in};
 ghost use Rattle.command_line.specs.Requests.{settings as settings_of};
 ghost use Rattle.cost.specs.Text.{procedures_text as text_of_procedures};
 ghost use Rattle.printing.specs.Labels.{labels_in};
-ghost use Rattle.commands.specs.Answers.{Does, command_of, cost_lines, rows_in};
+ghost use Rattle.commands.specs.Answers.{Does, HasCost, HasShares, command_of, rows_in};
 
 use crate::memory::or_no_memory;
 use crate::question::Question;
 use crate::showing::{answer, show, status};
+use crate::statements::NamedStatements;
 use cost::cost::{CostByLabel, measure_by_label};
 use cost::text::{cost_text, labels_text, procedures_text};
 use failures::failure::Failure;
@@ -25,7 +29,7 @@ use types::typed::Typed;
 pub enum Shares {
     /// No shares: `cost`.
     Untold,
-    /// A share for each label: `cost --by-line`.
+    /// A share for each label, with its statement: `cost --by-line`.
     ByLabel,
     /// A share for each procedure, and for `main`: `cost --by-procedure`.
     ByProcedure,
@@ -51,7 +55,7 @@ pub fn tell_cost<F: FileSource, O: Write>(
     let measured = measure_by_label(alloc, &given.typed, &given.input, budget, rows);
     let cost = or_no_memory(measured)?;
     if status(&cost.costed.outcome) == 0 {
-        let told = or_no_memory(lines_of(alloc, shares, &given.typed, &cost))?;
+        let told = or_no_memory(lines_of(alloc, shares, question.text, &given.typed, &cost))?;
         answer(out, told.as_str())
     } else {
         show(out, &given.typed.code().arrays, &cost.costed.outcome, false)
@@ -71,7 +75,7 @@ fn rows_of(shares: Shares, typed: &Typed) -> Result<usize, Failure>
 }
 
 /// Returns the number of rows by label: one for each label of a program, and one for 0.
-fn label_rows(typed: &Typed) -> Result<usize, Failure>
+pub fn label_rows(typed: &Typed) -> Result<usize, Failure>
     ensures rows { IfOk result (λ rows. rows ≡ labels_in (code_of typed.now) + 1) }
     ensures why { IfErr result (λ failure. failure ≡ Failure.NoMemory) }
 {
@@ -84,28 +88,59 @@ fn label_rows(typed: &Typed) -> Result<usize, Failure>
     }
 }
 
-/// Returns the lines of a cost, followed by those of its shares.
+/// Returns the lines of a cost of a text's program, followed by those of its shares.
 fn lines_of(
     alloc: Global,
     shares: Shares,
+    text: &str,
     typed: &Typed,
     cost: &CostByLabel,
 ) -> Result<String, AllocError>
-    ensures { IfOk result (λ text. string_bytes text ≡ cost_lines shares cost.now.costed.cost
-        cost.now.work.items cost.now.span.items (code_of typed.now)) }
+    ensures { AreTokensOf (chars text.now) (spelling (program_in typed.now))
+        → IfOk result (λ told. HasCost shares text.now cost.now.costed.cost
+        cost.now.work.items cost.now.span.items (code_of typed.now) (string_bytes told)) }
 {
     let numbers = cost_text(alloc, &cost.costed.cost)?;
     match shares {
         Shares::Untold => Ok(numbers),
-        Shares::ByLabel => {
-            let lines = labels_text(alloc, &cost.work, &cost.span)?;
-            Ok(joined(numbers, &lines)?)
-        }
-        Shares::ByProcedure => {
-            let lines = lines_of_procedures(alloc, typed, cost)?;
-            Ok(joined(numbers, &lines)?)
-        }
+        Shares::ByLabel => with_labels(alloc, text, typed, cost, numbers),
+        Shares::ByProcedure => with_procedures(alloc, typed, cost, numbers),
     }
+}
+
+/// Adds the shares of labels to a text, each with its statement.
+fn with_labels(
+    alloc: Global,
+    text: &str,
+    typed: &Typed,
+    cost: &CostByLabel,
+    before: String,
+) -> Result<String, AllocError>
+    ensures { AreTokensOf (chars text.now) (spelling (program_in typed.now))
+        → IfOk result (λ told. HasShares text.now (string_bytes before)
+        cost.now.work.items cost.now.span.items (string_bytes told)) }
+{
+    let statements = NamedStatements::of(alloc, text, typed.program())?;
+    let lines = labels_text(alloc, &cost.work, &cost.span)?;
+    let mut told = before;
+    statements.push_lines(alloc, &mut told, lines.as_str())?;
+    Ok(told)
+}
+
+/// Adds the shares of procedures to a text.
+fn with_procedures(
+    alloc: Global,
+    typed: &Typed,
+    cost: &CostByLabel,
+    before: String,
+) -> Result<String, AllocError>
+    ensures { IfOk result (λ told. string_bytes told ≡ string_bytes before
+        ++ text_of_procedures cost.now.work.items cost.now.span.items (code_of typed.now)) }
+{
+    let lines = lines_of_procedures(alloc, typed, cost)?;
+    let mut told = before;
+    told.push_str(lines.as_str())?;
+    Ok(told)
 }
 
 /// Returns the lines of the shares of procedures.
@@ -118,14 +153,4 @@ fn lines_of_procedures(
         ≡ text_of_procedures cost.now.work.items cost.now.span.items (code_of typed.now)) }
 {
     procedures_text(alloc, typed.code(), &cost.work, &cost.span)
-}
-
-/// Returns a text followed by another.
-fn joined(first: String, second: &String) -> Result<String, AllocError>
-    ensures { IfOk result
-        (λ text. string_bytes text ≡ string_bytes first ++ string_bytes second.now) }
-{
-    let mut text = first;
-    text.push_str(second.as_str())?;
-    Ok(text)
 }

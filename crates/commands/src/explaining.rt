@@ -20,7 +20,7 @@ use finish_scope::run_error::RunError;
 use race_checker::check::{Refused, check};
 use rule_explanations::rule_errors::explained_rule;
 use run_explanations::headings::heading_of;
-use run_explanations::run::seen_again;
+use run_explanations::run::{seen_again, surplus_task};
 use run_explanations::runs::explained_run;
 use run_explanations::tasks::explained_tasks;
 use run_explanations::traces::{Wrong, explained_trace};
@@ -63,7 +63,8 @@ pub fn explanation<R: Threads + Sync, F: FileSource>(
             None => Ok(String::new(alloc)),
         },
         Failure::Run(RunError::TooManyTasks(_)) => {
-            explained_tasks(alloc, settings.spread.tasks, heading_of(file, "E2"))
+            let question = Question { text, settings };
+            tasks_explained(alloc, files, file, question)
         }
         Failure::Trace(TraceError::NotALine(line)) => {
             trace_explained(alloc, files, settings.trace, Wrong::Line(*line))
@@ -76,6 +77,26 @@ pub fn explanation<R: Threads + Sync, F: FileSource>(
         Failure::NoLeaf(choice) => no_leaf_explained(alloc, file, *choice),
         _ => file_explained(alloc, files, failure),
     }
+}
+
+/// Explains which async would start one task too many. It runs the program, in the file with this
+/// name, on one thread, and reads files again.
+fn tasks_explained<F: FileSource>(
+    alloc: Global,
+    files: &mut F,
+    file: &str,
+    question: Question<'_>,
+) -> Result<String, AllocError>
+    ensures { F.held files.new ≡ F.held files.old }
+{
+    let tasks = question.settings.spread.tasks;
+    let heading = heading_of(file, "E2");
+    let Ok(given) = question.given(alloc, files) else {
+        return explained_tasks(alloc, question.text, tasks, heading, None);
+    };
+    let budget = question.settings.budget;
+    let surplus = surplus_task(alloc, &given.typed, &given.input, budget, tasks)?;
+    explained_tasks(alloc, question.text, tasks, heading, surplus)
 }
 
 /// Explains what is wrong with a file that a command names in addition to that of the program.

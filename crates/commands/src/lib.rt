@@ -14,6 +14,7 @@ pub mod question;
 pub mod rewrite;
 pub mod running;
 pub mod showing;
+pub mod statements;
 pub mod telling;
 mod unchosen;
 mod unlaid;

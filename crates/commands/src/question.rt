@@ -3,7 +3,10 @@
 
 ghost use Rattle.std.specs.Prelude.{◌≡◌, IfErr, IfOk};
 ghost use Rattle.types.specs.Translation.{input as lists_in};
-ghost use Rattle.types.specs.Typed.{code_of};
+ghost use Rattle.std.specs.Str.{chars};
+ghost use Rattle.syntax.specs.Lexical.{AreTokensOf};
+ghost use Rattle.syntax.specs.Spelling.{spelling};
+ghost use Rattle.types.specs.Typed.{code_of, program_of};
 ghost use Rattle.command_line.specs.Requests.{settings as settings_of};
 ghost use Rattle.commands.specs.Answers.{HasInput, TellsNotBegun, TellsNotGiven};
 ghost use Rattle.commands.specs.Outcomes.{Fits};
@@ -49,6 +52,8 @@ impl Question<'_> {
     ) -> Result<ProgramAndInput, Failure>
         ensures given { IfOk result (λ g. HasInput (settings_of self.entry.settings) (F.held files.old)
             self.entry.text.now (code_of g.typed) (lists_in g.input)) }
+        ensures spelled { IfOk result (λ g. AreTokensOf (chars self.entry.text.now)
+            (spelling (program_of g.typed))) }
         ensures fits { IfOk result (λ g. Fits g.typed g.input) }
         ensures why { IfErr result
             (TellsNotGiven (settings_of self.entry.settings) (F.held files.old) self.entry.text.now) }

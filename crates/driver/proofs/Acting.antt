@@ -10,20 +10,20 @@ use Rattle.std.proofs.Common.{◌≡◌, ℕ, ◌≤◌, List, [], Option, Resul
 use Rattle.std.proofs.lemmas.List.{append-nil}
 use Rattle.std.proofs.KnownBytes.{Appends-kept}
 use Rattle.std.specs.Io.KnownBytes.{Keeps}
-use Rattle.driver.specs.Acts.{AnswersTo, ExplainsAny, ExplainsTo, IsHandedOn, Leaves, LeavesTo, Performs, Reports, in_short}
+use Rattle.driver.specs.Acts.{AnswersTo, ExplainsAny, ExplainsTo, IsHandedOn, Leaves, LeavesBy, LeavesTo, Performs, Reports, in_short}
 use Rattle.command_line.specs.declared.request.Action.{Action}
 use Rattle.command_line.specs.declared.request.Action.TheVariants.{Answer as AnswerBy, Rewrite}
 use Rattle.driver.specs.Traced.{IsTraceOfText}
 use Rattle.driver.proofs.Leaving.{told_behind}
 use Rattle.commands.specs.Answers.{Answer, Done, Wrote}
 use Rattle.commands.specs.Rewriting.{LeavesLaidOut, LeavesRewritten}
-use Rattle.viewing.specs.Views.{IsDrawn, IsInFormatTwo, picture_name}
+use Rattle.viewing.specs.Views.{IsDrawn, IsInFormatTwo, IsPageOf, picture_name}
 use Rattle.viewing.proofs.Written.{wrote_anyway}
 use Rattle.printing.specs.Appending.{AppendsBeginning}
 use Rattle.files.specs.Held.{Held}
 use Rattle.command_line.specs.Requests.{Settings}
 use Rattle.command_line.specs.declared.request.Command.{Command}
-use Rattle.command_line.specs.declared.request.Command.TheVariants.{Run, View, Summary, Draw, Chrome, Upgrade}
+use Rattle.command_line.specs.declared.request.Command.TheVariants.{Run, View, Summary, Draw, Chrome, Page, Upgrade}
 use Rattle.failures.specs.declared.failure.Failure.{Failure}
 use Rattle.failures.specs.declared.failure.Failure.TheVariants.{CannotWriteOutput}
 
@@ -59,6 +59,7 @@ may_fail View s held text = tt
 may_fail Summary s held text = tt
 may_fail Draw s held text = tt
 may_fail Chrome s held text = tt
+may_fail Page s held text = tt
 may_fail Upgrade s held text = tt
 may_fail _ s held text = tt
 
@@ -71,6 +72,13 @@ leaves_on Draw s text held later status r only w = wrote_anyway (picture_name s)
 leaves_on Chrome s text held later status r only w = wrote_anyway (picture_name s) (IsDrawn s held text) held later r w only
 leaves_on Upgrade s text held later status r only w = wrote_anyway (picture_name s) (IsInFormatTwo s held text) held later r w only
 leaves_on _ s text held later status r only w = w
+
+-- with the name of the program's file
+leaves_by : (c : Command) (file : List ℕ) (s : Settings) (text : List ℕ) (held later : Held) (status : ℕ) (r : Result ℕ Failure)
+    → IfErr r (λ f. f ≡ CannotWriteOutput) → LeavesBy c file s text held later (Ok status) → LeavesBy c file s text held later r
+leaves_by Page file s text held later status r only w =
+    wrote_anyway (picture_name s) (IsPageOf file s held text) held later r w only
+leaves_by c file s text held later status r only w = leaves_on c s text held later status r only w
 
 -- nor is there more than was written
 rewritten_on : (file text : List ℕ) (held later : Held) (r : Result ℕ Failure) → IfErr r (λ f. f ≡ CannotWriteOutput)
@@ -87,7 +95,7 @@ may_fail_to Rewrite file s held text = tt
 leaves_to : (x : Action) (file : List ℕ) (s : Settings) (text : List ℕ) (held later : Held) (status : ℕ)
     (r : Result ℕ Failure) → IfErr r (λ f. f ≡ CannotWriteOutput) → LeavesTo x file s text held later (Ok status)
     → LeavesTo x file s text held later r
-leaves_to (AnswerBy c) file s text held later status r only w = leaves_on c s text held later status r only w
+leaves_to (AnswerBy c) file s text held later status r only w = leaves_by c file s text held later status r only w
 leaves_to Rewrite file s text held later status r only w = rewritten_on file text held later r only w
 
 -- what was done is flushed

@@ -7,7 +7,8 @@ use Rattle.command_line.specs.declared.request.Command.TheVariants.{Run}
 use Rattle.files.specs.Held.{Held}
 use Rattle.failures.specs.declared.failure.Failure.{Failure}
 use Rattle.failures.specs.declared.failure.Failure.TheVariants.{NoMemory}
-use Rattle.commands.specs.Answers.{Explains, IsExplored}
+use Rattle.std.specs.Prelude.{◌≢◌}
+use Rattle.commands.specs.Answers.{IsExplored}
 use Rattle.commands.proofs.Answering.{other_failure}
 use Rattle.json_answers.specs.Objects.{FailsEarly, ObjectOf}
 use Rattle.json_answers.specs.Failing.{IsToldAsObject, TellsFailure}
@@ -16,28 +17,41 @@ use Rattle.json_answers.proofs.Written.{object_refused}
 use Rattle.command_words.specs.Orders.{command_of}
 use Rattle.command_words.specs.declared.order.Subject.{Subject}
 pub use Rattle.test_and_bench.proofs.Objects.{same_outcome}
+use Rattle.command_words.specs.declared.order.Subject.TheVariants.{Summary as SummaryTold}
+use Rattle.command_line.specs.declared.request.Command.TheVariants.{Summary}
+use Rattle.failures.specs.declared.failure.Failure.TheVariants.{CannotWriteOutput}
+use Rattle.viewing.proofs.Viewing.{explained, other}
 use Rattle.viewing.specs.Files.{Wrote, WritesTo}
-use Rattle.driver.specs.Acts.{Leaves}
-use Rattle.driver.specs.Objects.{TellsObject, status_in}
+use Rattle.driver.specs.Acts.{ExplainsAny, Leaves}
+use Rattle.driver.specs.Objects.{FailsEarlyAny, ObjectOfAny, TellsObject, status_in}
 use Rattle.driver.specs.Traced.{TellsNoRun, WritesTrace}
 use Rattle.driver.proofs.Leaving.{no_run_explained, no_run_other}
 
+-- a failure before anything is written is one of the command
+failed_early : (x : Subject) (s : Settings) (held : Held) (text : List ℕ) (f : Failure) → FailsEarlyAny (command_of x) s held text f
+    → ExplainsAny (command_of x) s held text f × (f ≢ CannotWriteOutput)
+failed_early SummaryTold s held text f fails =
+    (explained s held text Summary f fails, other_failure f (other s held text f fails))
+failed_early _ s held text f fails = (fails.why, fails.early)
+
 module _ (x : Subject) (file : List ℕ) (s : Settings) (text : List ℕ) (held later : Held) (old new : Option (List ℕ)) where
   -- a failure whose object was written
-  pub refusal_told : (f : Failure) → FailsEarly (command_of x) s held text f → IsToldAsObject (TellsFailure file text f) old new
+  pub refusal_told : (f : Failure) → FailsEarlyAny (command_of x) s held text f → IsToldAsObject (TellsFailure file text f) old new
       → Leaves (command_of x) s text held later (Err f) → TellsObject x file s text held later old new (Err f)
-  refusal_told f fails is_told leaves = record {
-    done = object_refused (ObjectOf (command_of x) s held text) (Explains (command_of x) s held text)
-        (TellsFailure file text) old new f fails.why fails.early is_told;
-    leaves = leaves;
-  }
+  refusal_told f fails is_told leaves =
+      let why = failed_early x s held text f fails in
+      record {
+        done = object_refused (ObjectOfAny (command_of x) s held text) (ExplainsAny (command_of x) s held text)
+            (TellsFailure file text) old new f why.0 why.1 is_told;
+        leaves = leaves;
+      }
 
 -- the object of the same subject
 pub object_so : (x y : Subject) → x ≡ y → (s : Settings) (held : Held) (text : List ℕ) (r : Result ObjectLine Failure)
-    → IfOk r (λ t. ObjectOf (command_of y) s held text (string_bytes t.line) t.status)
-    → IfOk r (λ t. ObjectOf (command_of x) s held text (string_bytes t.line) t.status)
+    → IfOk r (λ t. ObjectOfAny (command_of y) s held text (string_bytes t.line) t.status)
+    → IfOk r (λ t. ObjectOfAny (command_of x) s held text (string_bytes t.line) t.status)
 object_so x y same s held text r object =
-    subst (λ (z : Subject). IfOk r (λ t. ObjectOf (command_of z) s held text (string_bytes t.line) t.status)) (sym same) object
+    subst (λ (z : Subject). IfOk r (λ t. ObjectOfAny (command_of z) s held text (string_bytes t.line) t.status)) (sym same) object
 
 -- a failure that is passed on is one of the status
 pub status_err : (r : Result ObjectLine Failure) (Q : Failure → Type 0) → IsErrAnd r Q → IsErrAnd (status_in r) Q

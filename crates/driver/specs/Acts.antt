@@ -6,7 +6,7 @@ use Rattle.std.specs.Io.KnownBytes.{Keeps}
 use Rattle.commands.specs.Answers.{Answer, Answers, Done, Explains}
 use Rattle.commands.specs.Rewriting.{AnswersRewrite, ExplainsRewrite, LeavesRewritten}
 use Rattle.viewing.specs.Files.{WritesTo}
-use Rattle.viewing.specs.Views.{AnswersTrace, ExplainsTrace, IsDrawn, IsInFormatTwo, picture_name}
+use Rattle.viewing.specs.Views.{AnswersTrace, ExplainsTrace, IsDrawn, IsInFormatTwo, IsPageOf, picture_name}
 use Rattle.printing.specs.Appending.{AppendsBeginning}
 use Rattle.failures.specs.FailureStatus.{failure_status}
 use Rattle.files.specs.Held.{Held}
@@ -17,8 +17,10 @@ use Rattle.command_line.specs.declared.request.Action.TheVariants.{Answer as Ans
 use Rattle.command_line.specs.declared.request.Command.{Command}
 use Rattle.command_line.specs.declared.request.Command.TheVariants.{Run, Serial, Check, Listing, Pairs}
 use Rattle.command_line.specs.declared.request.Command.TheVariants.{Meetings, Explore, Labels, Places, Format}
-use Rattle.command_line.specs.declared.request.Command.TheVariants.{CheckFormat, View, Summary, Draw, Chrome, Upgrade}
+use Rattle.command_line.specs.declared.request.Command.TheVariants.{CheckFormat, View, Summary, Draw, Chrome}
+use Rattle.command_line.specs.declared.request.Command.TheVariants.{Page, Upgrade}
 use Rattle.command_line.specs.declared.request.Command.TheVariants.{Cost, CostByLabel, CostByProcedure}
+use Rattle.command_line.specs.declared.request.Command.TheVariants.{PairsByLine, ViewByLine, SummaryByLine}
 use Rattle.failures.specs.declared.failure.Failure.{Failure}
 use Rattle.failures.specs.declared.failure.Failure.TheVariants.{CannotWriteOutput}
 use Rattle.driver.specs.Traced.{TracesRun}
@@ -28,18 +30,24 @@ use Rattle.driver.specs.declared.refusal.Refusal.{Refusal}
 -- the text written, with its status, answers the command for a program's text, or for a trace of its run
 abbrev pub AnswersAny : Command → Settings → Held → (text : List ℕ) → Answer
 AnswersAny View s held text = AnswersTrace View s held text
+AnswersAny ViewByLine s held text = AnswersTrace ViewByLine s held text
 AnswersAny Summary s held text = AnswersTrace Summary s held text
+AnswersAny SummaryByLine s held text = AnswersTrace SummaryByLine s held text
 AnswersAny Draw s held text = AnswersTrace Draw s held text
 AnswersAny Chrome s held text = AnswersTrace Chrome s held text
+AnswersAny Page s held text = AnswersTrace Page s held text
 AnswersAny Upgrade s held text = AnswersTrace Upgrade s held text
 AnswersAny c s held text = Answers c s held text
 
 -- a failure is one of this command
 abbrev pub ExplainsAny : Command → Settings → Held → (text : List ℕ) → Failure → Type 0
 ExplainsAny View s held text = ExplainsTrace View s held text
+ExplainsAny ViewByLine s held text = ExplainsTrace ViewByLine s held text
 ExplainsAny Summary s held text = ExplainsTrace Summary s held text
+ExplainsAny SummaryByLine s held text = ExplainsTrace SummaryByLine s held text
 ExplainsAny Draw s held text = ExplainsTrace Draw s held text
 ExplainsAny Chrome s held text = ExplainsTrace Chrome s held text
+ExplainsAny Page s held text = ExplainsTrace Page s held text
 ExplainsAny Upgrade s held text = ExplainsTrace Upgrade s held text
 ExplainsAny c s held text = Explains c s held text
 
@@ -50,11 +58,13 @@ Leaves Run s text held later r = TracesRun s text held later r
 Leaves Draw s text held later r = WritesTo (picture_name s) (IsDrawn s held text) held later r
 Leaves Chrome s text held later r = WritesTo (picture_name s) (IsDrawn s held text) held later r
 Leaves Upgrade s text held later r = WritesTo (picture_name s) (IsInFormatTwo s held text) held later r
+Leaves Page s text held later r = ⊥
 Leaves Serial s text held later r = later ≡ held
 Leaves Check s text held later r = later ≡ held
 Leaves Listing s text held later r = later ≡ held
 Leaves Pairs s text held later r = later ≡ held
 Leaves Meetings s text held later r = later ≡ held
+Leaves PairsByLine s text held later r = later ≡ held
 Leaves Explore s text held later r = later ≡ held
 Leaves Labels s text held later r = later ≡ held
 Leaves Places s text held later r = later ≡ held
@@ -64,7 +74,16 @@ Leaves Cost s text held later r = later ≡ held
 Leaves CostByLabel s text held later r = later ≡ held
 Leaves CostByProcedure s text held later r = later ≡ held
 Leaves View s text held later r = later ≡ held
+Leaves ViewByLine s text held later r = later ≡ held
 Leaves Summary s text held later r = later ≡ held
+Leaves SummaryByLine s text held later r = later ≡ held
+
+-- the same; a page names the program's file too
+abbrev pub LeavesBy : Command → (file : List ℕ) → Settings → (text : List ℕ) → (held later : Held)
+    → Result ℕ Failure
+    → Type 0
+LeavesBy Page file s text held later r = WritesTo (picture_name s) (IsPageOf file s held text) held later r
+LeavesBy c file s text held later r = Leaves c s text held later r
 
 -- ---- what is done with a file
 
@@ -83,7 +102,7 @@ ExplainsTo Rewrite file s held text = ExplainsRewrite file text
 abbrev pub LeavesTo : Action → (file : List ℕ) → Settings → (text : List ℕ) → (held later : Held)
     → Result ℕ Failure
     → Type 0
-LeavesTo (AnswerBy c) file s text held later r = Leaves c s text held later r
+LeavesTo (AnswerBy c) file s text held later r = LeavesBy c file s text held later r
 LeavesTo Rewrite file s text held later r = LeavesRewritten file text held later r
 
 -- the request was carried out, and the contents of files are right

@@ -1,21 +1,35 @@
 -- Answers as one object.
 use Rattle.std.specs.Prelude.{ℕ, List, Option, Result, Ok, Err, MatchResult}
+use Rattle.command_line.specs.declared.request.Command.{Command}
+use Rattle.command_line.specs.declared.request.Command.TheVariants.{Summary}
 use Rattle.command_line.specs.Requests.{Settings}
 use Rattle.files.specs.Held.{Held}
 use Rattle.failures.specs.declared.failure.Failure.{Failure}
-use Rattle.commands.specs.Answers.{Explains, Wrote}
-use Rattle.json_answers.specs.Objects.{ObjectOf}
+use Rattle.commands.specs.Answers.{Answer, Wrote}
+use Rattle.json_answers.specs.Objects.{FailsEarly, ObjectOf}
 use Rattle.json_answers.specs.Failing.{FailedAsObject, TellsFailure}
 use Rattle.json_answers.specs.declared.object_line.ObjectLine.{ObjectLine}
 use Rattle.command_words.specs.Orders.{command_of}
 use Rattle.command_words.specs.declared.order.Subject.{Subject}
-use Rattle.driver.specs.Acts.{Leaves}
+use Rattle.viewing.specs.Objects.{ObjectOfSummary}
+use Rattle.viewing.specs.Views.{TellsNoTrace}
+use Rattle.driver.specs.Acts.{ExplainsAny, Leaves}
+
+-- the object written, with its status, answers the command for a program's text, or for a trace of its run
+abbrev pub ObjectOfAny : Command → Settings → Held → (text : List ℕ) → Answer
+ObjectOfAny Summary s held text = ObjectOfSummary s held text
+ObjectOfAny c s held text = ObjectOf c s held text
+
+-- there is a reason why there is no object, and it isn't that none could be written
+abbrev pub FailsEarlyAny : Command → Settings → Held → (text : List ℕ) → Failure → Type 0
+FailsEarlyAny Summary s held text f = TellsNoTrace s held text f
+FailsEarlyAny c s held text f = FailsEarly c s held text f
 
 -- the object of the answer was written; or there is a reason why there is none, and its object was written
 pub record TellsObject (x : Subject) (file : List ℕ) (s : Settings) (text : List ℕ) (held later : Held)
     (old new : Option (List ℕ)) (r : Result ℕ Failure) : Type 0 where
-  pub done : MatchResult r (Wrote (ObjectOf (command_of x) s held text) old new)
-      (FailedAsObject (ObjectOf (command_of x) s held text) (Explains (command_of x) s held text)
+  pub done : MatchResult r (Wrote (ObjectOfAny (command_of x) s held text) old new)
+      (FailedAsObject (ObjectOfAny (command_of x) s held text) (ExplainsAny (command_of x) s held text)
       (TellsFailure file text) old new)
   pub leaves : Leaves (command_of x) s text held later r
 

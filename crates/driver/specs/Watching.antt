@@ -7,8 +7,10 @@ use Rattle.command_line.specs.declared.request.Action.TheVariants.{Answer as Ans
 use Rattle.command_line.specs.declared.request.Command.{Command}
 use Rattle.command_line.specs.declared.request.Command.TheVariants.{Run, Serial, Check, Listing, Pairs}
 use Rattle.command_line.specs.declared.request.Command.TheVariants.{Meetings, Explore, Labels, Places, Format}
-use Rattle.command_line.specs.declared.request.Command.TheVariants.{CheckFormat, View, Summary, Draw, Chrome, Upgrade}
+use Rattle.command_line.specs.declared.request.Command.TheVariants.{CheckFormat, View, Summary, Draw, Chrome}
+use Rattle.command_line.specs.declared.request.Command.TheVariants.{Page, Upgrade}
 use Rattle.command_line.specs.declared.request.Command.TheVariants.{Cost, CostByLabel, CostByProcedure}
+use Rattle.command_line.specs.declared.request.Command.TheVariants.{PairsByLine, ViewByLine, SummaryByLine}
 use Rattle.command_words.specs.Orders.{Order, AsText, AsObject, Times, TimesAsObject, Tests, TestsEach, Each}
 use Rattle.command_words.specs.Orders.{command_of}
 use Rattle.driver.specs.declared.doing.TextOrder.{TextOrder}
@@ -22,6 +24,7 @@ is_watched Check s = false
 is_watched Listing s = false
 is_watched Pairs s = false
 is_watched Meetings s = false
+is_watched PairsByLine s = false
 is_watched Explore s = false
 is_watched Labels s = false
 is_watched Places s = false
@@ -31,9 +34,12 @@ is_watched Cost s = false
 is_watched CostByLabel s = false
 is_watched CostByProcedure s = false
 is_watched View s = false
+is_watched ViewByLine s = false
 is_watched Summary s = false
+is_watched SummaryByLine s = false
 is_watched Draw s = false
 is_watched Chrome s = false
+is_watched Page s = false
 is_watched Upgrade s = false
 
 abbrev pub is_watched_by : Action → Settings → Bool

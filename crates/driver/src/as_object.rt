@@ -1,11 +1,13 @@
 //! Answers as one object.
 
-ghost use Rattle.std.specs.Prelude.{IfErr, IfOk};
+ghost use Rattle.std.specs.Prelude.{◌≡◌, IfErr, IfOk};
 ghost use Rattle.std.specs.String.{string_bytes};
 ghost use Rattle.statement_steps.specs.Watched.{Watches};
 ghost use Rattle.command_line.specs.Requests.{asked_of, settings as settings_of};
 ghost use Rattle.command_words.specs.Orders.{command_of};
+ghost use Rattle.json_answers.specs.Failing.{IsToldAsObject, TellsFailure};
 ghost use Rattle.json_answers.specs.Objects.{FailsEarly, ObjectOf};
+ghost use Rattle.driver.specs.Objects.{FailsEarlyAny, ObjectOfAny};
 ghost use Rattle.driver.specs.Acts.{Leaves};
 ghost use Rattle.driver.specs.Objects.{status_in};
 ghost use Rattle.driver.specs.Orders.{DoesWithLoaded};
@@ -17,19 +19,23 @@ use crate::loaded::Loaded;
 use crate::tracing::run_of;
 use command_line::request::Command;
 use command_words::order::Subject;
+use commands::explaining::explanation;
 use commands::question::Question;
 use failures::failure::Failure;
 use files::file_source::FileSource;
 use json_answers::object_line::ObjectLine;
+use json_answers::refused_program::RefusedProgram;
 use json_answers::run_outcomes::outcome_told;
 use json_answers::running::{cost_told, serial_told};
-use json_answers::telling::{check_told, pairs_told};
+use json_answers::shares::shares_told;
+use json_answers::telling::{check_told, format_told, list_told, pairs_told};
 use json_answers::writing::{answer_object, tell_refusal};
 use statement_steps::watch::Watch;
 use std::alloc::Global;
 use std::io::Write;
 use std::sync::Wait;
 use std::thread::Threads;
+use viewing::objects::summary_told;
 
 /// Writes the answer for a text as one object, or the reason why there is none.
 pub(crate) fn told<R: Threads + Wait + Sync, F: FileSource, O: Write, W: Watch>(
@@ -57,9 +63,37 @@ pub(crate) fn told<R: Threads + Wait + Sync, F: FileSource, O: Write, W: Watch>(
     match object_of(rt, alloc, subject, question, files, watch) {
         Ok(told) => answer_object(out, &told),
         Err(failure) => {
-            tell_refusal(rt, alloc, request.file, text, &failure, out);
+            tell_explained(rt, loaded, files, &failure, out);
             Err(failure)
         }
+    }
+}
+
+/// Writes the object of a failure, with its explanation, if there is memory for both.
+pub(crate) fn tell_explained<R: Threads + Sync, F: FileSource, O: Write>(
+    rt: &R,
+    loaded: Loaded<'_>,
+    files: &mut F,
+    failure: &Failure,
+    out: &mut O,
+)
+    ensures told { IsToldAsObject
+        (TellsFailure loaded.entry.request.file.now loaded.entry.text.now failure.now)
+        (O.contents out.old) (O.contents out.new) }
+    ensures keeps { F.held files.new ≡ F.held files.old }
+{
+    let Loaded {
+        alloc,
+        request,
+        text,
+    } = loaded;
+    if let Ok(more) = explanation(rt, alloc, files, request, text, failure) {
+        let refused = RefusedProgram {
+            file: request.file,
+            text,
+            explanation: more.as_str(),
+        };
+        tell_refusal(rt, alloc, refused, failure, out);
     }
 }
 
@@ -72,9 +106,9 @@ fn object_of<R: Threads + Wait + Sync, F: FileSource, W: Watch>(
     files: &mut F,
     watch: &mut W,
 ) -> Result<ObjectLine, Failure>
-    ensures object { IfOk result (λ t. ObjectOf (command_of subject) (settings_of question.entry.settings)
+    ensures object { IfOk result (λ t. ObjectOfAny (command_of subject) (settings_of question.entry.settings)
         (F.held files.old) question.entry.text.now (string_bytes t.line) t.status) }
-    ensures why { IfErr result (FailsEarly (command_of subject) (settings_of question.entry.settings)
+    ensures why { IfErr result (FailsEarlyAny (command_of subject) (settings_of question.entry.settings)
         (F.held files.old) question.entry.text.now) }
     ensures leaves { Leaves (command_of subject) (settings_of question.entry.settings)
         question.entry.text.now (F.held files.old) (F.held files.new) (status_in result) }
@@ -87,6 +121,10 @@ fn object_of<R: Threads + Wait + Sync, F: FileSource, W: Watch>(
         Subject::Check => check_told(rt, alloc, question.text),
         Subject::Cost => cost_told(alloc, question, files),
         Subject::Pairs => pairs_told(alloc, question.text),
+        Subject::Labels => list_told(alloc, question.text),
+        Subject::CheckFormat => format_told(alloc, question.text),
+        Subject::CostByLabel => shares_told(alloc, question, files),
+        Subject::Summary => summary_told(rt, alloc, question, files),
     }
 }
 

@@ -1,10 +1,11 @@
 //! Carrying out orders on the file of a program.
 
-ghost use Rattle.std.specs.Prelude.{◌≡◌};
+ghost use Rattle.std.specs.Prelude.{◌≡◌, []};
 ghost use Rattle.command_line.specs.Requests.{asked_of};
 ghost use Rattle.driver.specs.Acts.{IsSaid, in_short};
 ghost use Rattle.driver.specs.Orders.{DoesWithLoaded, ReadsAnd, TellsUnread};
 ghost use Rattle.driver.specs.Watching.{WatchesDoing};
+ghost use Rattle.json_answers.specs.Failing.{IsToldAsObject, TellsFailure};
 
 use crate::answered::Answered;
 use crate::as_object::told;
@@ -19,8 +20,10 @@ use crate::trying::{time, time_as_object};
 use command_line::request::Request;
 use command_words::order::Subject;
 use commands::question::Question;
+use commands::unread::unread_explanation;
 use failures::failure::Failure;
 use files::file_source::FileSource;
+use json_answers::refused_program::RefusedProgram;
 use json_answers::writing::tell_refusal;
 use std::alloc::Global;
 use std::io::Write;
@@ -72,7 +75,7 @@ pub fn read_and_do<R: Threads + Wait + Sync, F: FileSource, O: Write, T: Termina
     let source = match source_of(alloc, files, request, explains, terminal) {
         Ok(source) => source,
         Err(refusal) => {
-            tell_unread(rt, alloc, doing, request.file, &refusal.failure, out);
+            tell_unread(rt, alloc, ordered, files, &refusal.failure, out);
             return Err(refusal);
         }
     };
@@ -87,21 +90,48 @@ pub fn read_and_do<R: Threads + Wait + Sync, F: FileSource, O: Write, T: Termina
 }
 
 /// Reports why the file of a program gives no text, if the answer should be an object.
-fn tell_unread<R: Threads + Sync, O: Write>(
+fn tell_unread<R: Threads + Sync, F: FileSource, O: Write>(
     rt: &R,
     alloc: Global,
-    doing: TextOrder,
-    file: &str,
+    ordered: Ordered<'_>,
+    files: &mut F,
     failure: &Failure,
     out: &mut O,
 )
-    ensures { TellsUnread doing file.now (O.contents out.old) (O.contents out.new) failure.now }
+    ensures told { TellsUnread ordered.entry.doing ordered.entry.request.file.now
+        (O.contents out.old) (O.contents out.new) failure.now }
+    ensures keeps { F.held files.new ≡ F.held files.old }
 {
-    match doing {
+    let file = ordered.request.file;
+    match ordered.doing {
         TextOrder::Answering => {}
-        TextOrder::Describing(_) => tell_refusal(rt, alloc, file, "", failure, out),
+        TextOrder::Describing(_) => tell_unread_file(rt, alloc, file, files, failure, out),
         TextOrder::Timing => {}
-        TextOrder::TimingAsObject => tell_refusal(rt, alloc, file, "", failure, out),
+        TextOrder::TimingAsObject => tell_unread_file(rt, alloc, file, files, failure, out),
+    }
+}
+
+/// Writes the object that tells why a file gives no text, with its explanation, if there is memory
+/// for both.
+fn tell_unread_file<R: Threads + Sync, F: FileSource, O: Write>(
+    rt: &R,
+    alloc: Global,
+    file: &str,
+    files: &mut F,
+    failure: &Failure,
+    out: &mut O,
+)
+    ensures told { IsToldAsObject (TellsFailure file.now [] failure.now)
+        (O.contents out.old) (O.contents out.new) }
+    ensures keeps { F.held files.new ≡ F.held files.old }
+{
+    if let Ok(more) = unread_explanation(alloc, files, file, failure) {
+        let refused = RefusedProgram {
+            file,
+            text: "",
+            explanation: more.as_str(),
+        };
+        tell_refusal(rt, alloc, refused, failure, out);
     }
 }
 

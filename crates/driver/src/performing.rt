@@ -18,7 +18,7 @@ use commands::question::Question;
 use commands::rewrite::rewrite;
 use commands::running::{run_by_choices, run_serially};
 use commands::showing::show;
-use commands::telling::{About, check, pairs};
+use commands::telling::{About, check, pairs, pairs_by_line};
 use failures::failure::Failure;
 use files::file_source::FileSource;
 use statement_steps::watch::Watch;
@@ -68,11 +68,18 @@ pub fn perform<R: Threads + Wait + Sync, F: FileSource, O: Write, W: Watch>(
             Command::CostByProcedure => tell_cost(alloc, Shares::ByProcedure, question, files, out),
             Command::Pairs => pairs(alloc, text, out),
             Command::Meetings => list_accesses(alloc, text, out),
+            Command::PairsByLine => pairs_by_line(alloc, text, out),
             Command::Explore => run_by_choices(rt, alloc, question, files, out),
             Command::View => view(rt, alloc, Look::Table, question, files, out),
+            Command::ViewByLine => view(rt, alloc, Look::TableByLine, question, files, out),
             Command::Summary => view(rt, alloc, Look::Numbers, question, files, out),
+            Command::SummaryByLine => view(rt, alloc, Look::NumbersByLine, question, files, out),
             Command::Draw => draw(rt, alloc, Form::Picture, question, files, out),
             Command::Chrome => draw(rt, alloc, Form::Spans, question, files, out),
+            Command::Page => {
+                let program = request.file;
+                draw(rt, alloc, Form::Html { program }, question, files, out)
+            }
             Command::Upgrade => upgrade(rt, alloc, question, files, out),
         },
     }

@@ -8,6 +8,7 @@ ghost use Rattle.driver.specs.Trying.{TellsTimes, TimesRuns};
 ghost use Rattle.test_and_bench.specs.Trials.{DoesTest};
 
 use crate::answered::Answered;
+use crate::as_object::tell_explained;
 use crate::handing::handed_on;
 use crate::loaded::Loaded;
 use crate::refusal::Refusal;
@@ -17,7 +18,7 @@ use command_words::order::SeveralTests;
 use commands::question::Question;
 use failures::failure::Failure;
 use files::file_source::FileSource;
-use json_answers::writing::{answer_object, tell_refusal};
+use json_answers::writing::answer_object;
 use race_checker::accepted::Accepted;
 use std::alloc::{AllocError, Global};
 use std::io::Write;
@@ -104,7 +105,7 @@ pub fn time_as_object<R: Threads + Wait + Sync, F: FileSource, O: Write, C: Stop
     match times_told(rt, timing, question, files) {
         Ok(told) => answer_object(out, &told),
         Err(failure) => {
-            tell_refusal(rt, alloc, request.file, text, &failure, out);
+            tell_explained(rt, loaded, files, &failure, out);
             Err(failure)
         }
     }

@@ -4,6 +4,7 @@ pub mod Seen
 pub mod GivenBack
 pub mod NoFloatsInRaces
 pub mod ShallowRaces
+pub mod StatementValues
 pub mod SoFar
 pub mod Failures
 pub mod Written

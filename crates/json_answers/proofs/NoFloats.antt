@@ -4,6 +4,8 @@ use Rattle.std.proofs.Common.{Ordering, Less, Equal, Greater, nat_cmp}
 use Rattle.std.specs.Prelude.{ℤ, pos, negsuc, ◌||◌}
 use Rattle.std.specs.Cmp.Lexicographic.{slice_cmp}
 use Rattle.std.specs.List.{AllByRecursion, zip}
+use Rattle.std.specs.Option.{option_map}
+use Rattle.std.specs.String.{string_bytes}
 use Rattle.std.specs.Ordering.{match_ordering}
 use Rattle.std.proofs.lemmas.Bool.{or_from, or_parts}
 use Rattle.serde_json.specs.Data.{Data, string, Members, no_members, member, put}
@@ -19,7 +21,9 @@ use Rattle.json_answers.specs.Outcomes.{ended_members, numbers_json, put_arrays,
 use Rattle.json_answers.specs.Pieces.{integer, natural, list_by, or_null, members_by, object_of}
 use Rattle.json_answers.specs.Places.{column_of, line_of, place_at}
 use Rattle.json_answers.specs.Programs.{pair_json, pairs_json, pairs_members}
-use Rattle.json_answers.specs.Refusals.{failure_array, failure_code, failure_label, failure_place, refusal_json, refusal_members}
+use Rattle.json_answers.specs.Refusals.{explained_place, failure_array, failure_code, failure_label, helps_json, reason_json}
+use Rattle.json_answers.specs.Refusals.{refusal_json, refusal_members}
+use Rattle.json_answers.specs.declared.reason.Reason.{Reason}
 
 abbrev pub HasNoFloat : Data → Type 0
 HasNoFloat d = has_float d ≡ false
@@ -109,10 +113,19 @@ pairs_have_none pairs =
     object_has_none (pairs_members pairs)
     (list_has_none pair_json pairs (λ pair. list_has_none natural (pair.0 ∷ pair.1 ∷ []) natural_has_none), (refl, tt))
 
-pub refusal_has_none : (file : List ℕ) (places : List TextPlace) (f : Failure) → HasNoFloat (refusal_json file places f)
-refusal_has_none file places f =
-    let place = failure_place places f in
-    object_has_none (refusal_members file places f) (
+-- what an explanation says
+pub reason_has_none : (r : Reason) → HasNoFloat (reason_json r)
+reason_has_none r = or_null_has_none string (option_map string_bytes r.reason) string_has_none
+
+pub helps_have_none : (r : Reason) → HasNoFloat (helps_json r)
+helps_have_none r =
+    list_has_none (λ help. string (string_bytes help)) r.helps.items (λ help. string_has_none (string_bytes help))
+
+pub refusal_has_none : (file : List ℕ) (places : List TextPlace) (f : Failure) (r : Reason)
+    → HasNoFloat (refusal_json file places f r)
+refusal_has_none file places f r =
+    let place = explained_place places f r in
+    object_has_none (refusal_members file places f r) (
       or_null_has_none string (failure_array f) string_has_none,
       (
         or_null_has_none string (failure_code f) string_has_none,
@@ -121,8 +134,14 @@ refusal_has_none file places f =
           (
             refl,
             (
-              or_null_has_none natural (failure_label f) natural_has_none,
-              (or_null_has_none natural (line_of place) natural_has_none, (refl, (refl, tt))),
+              helps_have_none r,
+              (
+                or_null_has_none natural (failure_label f) natural_has_none,
+                (
+                  or_null_has_none natural (line_of place) natural_has_none,
+                  (refl, (reason_has_none r, (refl, tt))),
+                ),
+              ),
             ),
           ),
         ),

@@ -10,10 +10,11 @@ use Rattle.witness.specs.declared.sharing.Sharing.{Sharing}
 use Rattle.witness.specs.declared.witness.Witness.{Witness}
 use Rattle.failures.specs.Failures.{told_procedure}
 use Rattle.json_answers.proofs.NoFloats.{HasNoFloat, list_has_none, natural_has_none, object_has_none}
-use Rattle.json_answers.proofs.NoFloats.{or_null_has_none, string_has_none}
+use Rattle.json_answers.proofs.NoFloats.{helps_have_none, or_null_has_none, reason_has_none, string_has_none}
 use Rattle.json_answers.specs.Pieces.{natural}
 use Rattle.json_answers.specs.Places.{column_of, line_of, place_at}
 use Rattle.json_answers.specs.Races.{access_json, access_members, accesses_json, accesses_members, race_json, race_members}
+use Rattle.json_answers.specs.declared.reason.Reason.{Reason}
 use Rattle.json_answers.specs.Steps.{StepIn, called_by, step_json, step_members, steps_in, way_json}
 use Rattle.json_answers.specs.Witnesses.{common_section, first_way, second_way, sharing_json, sharing_members}
 use Rattle.json_answers.specs.Witnesses.{witness_json, witness_members}
@@ -80,21 +81,24 @@ accesses_have_none places p r w =
     object_has_none (accesses_members places p r w)
     (access_has_none places g r.first, (refl, (access_has_none places g r.second, (witness_has_none places p r w, tt))))
 
-pub race_has_none : (file : List ℕ) (places : List TextPlace) (p : Program) (r : Race) (w : Witness)
-    → HasNoFloat (race_json file places p r w)
-race_has_none file places p r w =
+pub race_has_none : (file : List ℕ) (places : List TextPlace) (p : Program) (r : Race) (w : Witness) (reason : Reason)
+    → HasNoFloat (race_json file places p r w reason)
+race_has_none file places p r w reason =
     let place = place_at places r.first.label in
-    object_has_none (race_members file places p r w) (
+    object_has_none (race_members file places p r w reason) (
       refl,
       (
         or_null_has_none natural (column_of place) natural_has_none,
         (
           refl,
           (
-            refl,
+            helps_have_none reason,
             (
-              or_null_has_none natural (line_of place) natural_has_none,
-              (refl, (accesses_have_none places p r w, (refl, tt))),
+              refl,
+              (
+                or_null_has_none natural (line_of place) natural_has_none,
+                (refl, (accesses_have_none places p r w, (reason_has_none reason, (refl, tt)))),
+              ),
             ),
           ),
         ),

@@ -4,6 +4,8 @@ use Rattle.std.proofs.Common.{Less, Equal, Greater, nat_cmp}
 use Rattle.std.specs.Prelude.{ℤ}
 use Rattle.std.specs.Cmp.Lexicographic.{slice_cmp}
 use Rattle.std.specs.List.{AllByRecursion, zip}
+use Rattle.std.specs.Option.{option_map}
+use Rattle.std.specs.String.{string_bytes}
 use Rattle.std.specs.Ordering.{match_ordering}
 use Rattle.serde_json.specs.Data.{Data, string, Members, no_members, member, put, depth, items_depth, members_depth}
 use Rattle.serde_json.specs.Read.{max_depth}
@@ -19,8 +21,10 @@ use Rattle.json_answers.specs.Faults.{fault_json, fault_members, raised_number}
 use Rattle.json_answers.specs.Outcomes.{ended_members, numbers_json, put_arrays, outcome_json}
 use Rattle.json_answers.specs.Pieces.{integer, natural, list_by, or_null, members_by, object_of}
 use Rattle.json_answers.specs.Places.{column_of, line_of, place_at}
-use Rattle.json_answers.specs.Programs.{accepted_json, pair_json, pairs_json, pairs_members}
-use Rattle.json_answers.specs.Refusals.{failure_array, failure_code, failure_label, failure_place, refusal_json, refusal_members}
+use Rattle.json_answers.specs.Programs.{accepted_json, formatted_json, pair_json, pairs_json, pairs_members}
+use Rattle.json_answers.specs.Refusals.{explained_place, failure_array, failure_code, failure_label, helps_json, reason_json}
+use Rattle.json_answers.specs.Refusals.{refusal_json, refusal_members}
+use Rattle.json_answers.specs.declared.reason.Reason.{Reason}
 
 -- it is nested no deeper
 abbrev pub Within : ℕ → Data → Type 0
@@ -115,6 +119,9 @@ outcome_within declared places Stopped = omega arith
 pub accepted_within : (p : Program) → depth (accepted_json p) ≤ max_depth
 accepted_within p = omega arith
 
+pub formatted_within : depth formatted_json ≤ max_depth
+formatted_within = omega arith
+
 pub cost_within : (c : Cost) → depth (cost_json c) ≤ max_depth
 cost_within c = omega arith
 
@@ -127,20 +134,44 @@ pairs_within pairs =
 pub string_within : (s : List ℕ) → Within 0 (string s)
 string_within s = omega arith
 
-pub refusal_within : (file : List ℕ) (places : List TextPlace) (f : Failure) → depth (refusal_json file places f) ≤ max_depth
-refusal_within file places f =
-    let place = failure_place places f in
-    let whole = object_within 0 (refusal_members file places f) (
-      or_null_within 0 string (failure_array f) string_within,
+-- what is nested less deeply is within more, too
+in_one : (d : Data) → Within 0 d → Within 1 d
+in_one d within = omega arith
+
+-- what an explanation says
+pub reason_within : (r : Reason) → Within 0 (reason_json r)
+reason_within r = or_null_within 0 string (option_map string_bytes r.reason) string_within
+
+pub helps_within : (r : Reason) → Within 1 (helps_json r)
+helps_within r =
+    list_within 0 (λ help. string (string_bytes help)) r.helps.items (λ help. string_within (string_bytes help))
+
+pub refusal_within : (file : List ℕ) (places : List TextPlace) (f : Failure) (r : Reason)
+    → depth (refusal_json file places f r) ≤ max_depth
+refusal_within file places f r =
+    let place = explained_place places f r in
+    let array = or_null string (failure_array f) in
+    let code = or_null string (failure_code f) in
+    let column = or_null natural (column_of place) in
+    let label = or_null natural (failure_label f) in
+    let line = or_null natural (line_of place) in
+    let whole = object_within 1 (refusal_members file places f r) (
+      in_one array (or_null_within 0 string (failure_array f) string_within),
       (
-        or_null_within 0 string (failure_code f) string_within,
+        in_one code (or_null_within 0 string (failure_code f) string_within),
         (
-          or_null_within 0 natural (column_of place) natural_within,
+          in_one column (or_null_within 0 natural (column_of place) natural_within),
           (
-            string_within file,
+            omega arith,
             (
-              or_null_within 0 natural (failure_label f) natural_within,
-              (or_null_within 0 natural (line_of place) natural_within, (omega arith, (omega arith, tt))),
+              helps_within r,
+              (
+                in_one label (or_null_within 0 natural (failure_label f) natural_within),
+                (
+                  in_one line (or_null_within 0 natural (line_of place) natural_within),
+                  (omega arith, (in_one (reason_json r) (reason_within r), (omega arith, tt))),
+                ),
+              ),
             ),
           ),
         ),

@@ -11,10 +11,12 @@ use Rattle.witness.specs.declared.sharing.Sharing.{Sharing}
 use Rattle.witness.specs.declared.witness.Witness.{Witness}
 use Rattle.failures.specs.Failures.{told_procedure}
 use Rattle.json_answers.proofs.Shallow.{Within, list_within, natural_within, object_within, or_null_within}
-use Rattle.json_answers.proofs.Shallow.{string_within}
+use Rattle.json_answers.proofs.Shallow.{helps_within, reason_within, string_within}
 use Rattle.json_answers.specs.Pieces.{natural, or_null}
 use Rattle.json_answers.specs.Places.{column_of, line_of, place_at}
 use Rattle.json_answers.specs.Races.{access_json, access_members, accesses_json, accesses_members, race_json, race_members}
+use Rattle.json_answers.specs.Refusals.{helps_json, reason_json}
+use Rattle.json_answers.specs.declared.reason.Reason.{Reason}
 use Rattle.json_answers.specs.Steps.{StepIn, called_by, step_json, step_members, steps_in, way_json}
 use Rattle.json_answers.specs.Witnesses.{common_section, first_way, second_way, sharing_json, sharing_members}
 use Rattle.json_answers.specs.Witnesses.{witness_json, witness_members}
@@ -97,21 +99,30 @@ accesses_within places p r w =
 or_null_in_four : (o : Option ℕ) → Within 4 (or_null natural o)
 or_null_in_four o = deeper 0 4 (or_null natural o) (or_null_within 0 natural o natural_within) (omega arith)
 
-pub race_within : (file : List ℕ) (places : List TextPlace) (p : Program) (r : Race) (w : Witness)
-    → depth (race_json file places p r w) ≤ max_depth
-race_within file places p r w =
+pub race_within : (file : List ℕ) (places : List TextPlace) (p : Program) (r : Race) (w : Witness) (reason : Reason)
+    → depth (race_json file places p r w reason) ≤ max_depth
+race_within file places p r w reason =
     let place = place_at places r.first.label in
-    let whole = object_within 4 (race_members file places p r w) (
+    let whole = object_within 4 (race_members file places p r w reason) (
       omega arith,
       (
         or_null_in_four (column_of place),
         (
           omega arith,
           (
-            omega arith,
+            deeper 1 4 (helps_json reason) (helps_within reason) (omega arith),
             (
-              or_null_in_four (line_of place),
-              (omega arith, (accesses_within places p r w, (omega arith, tt))),
+              omega arith,
+              (
+                or_null_in_four (line_of place),
+                (
+                  omega arith,
+                  (
+                    accesses_within places p r w,
+                    (deeper 0 4 (reason_json reason) (reason_within reason) (omega arith), (omega arith, tt)),
+                  ),
+                ),
+              ),
             ),
           ),
         ),

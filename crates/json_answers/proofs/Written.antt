@@ -34,6 +34,7 @@ use Rattle.json_answers.specs.Races.{race_json}
 use Rattle.commands.proofs.Answering.{listed_as}
 use Rattle.json_answers.specs.Objects.{ArePlaces, ObjectOfPairs}
 use Rattle.json_answers.specs.declared.object_line.ObjectLine.{ObjectLine}
+use Rattle.json_answers.specs.declared.reason.Reason.{Reason}
 use Rattle.json_answers.specs.Failing.{FailedAsObject, IsToldAsObject, ShowsRace, TellsPlaced, TellsRace, told}
 
 error_is : {A E : Type 0} (d e : E) → (let r : Result A E = Err d in r) ≡ Err e → d ≡ e
@@ -53,12 +54,13 @@ pub flushed : {T E : Type 0} (Tells : List ℕ → Type 0) (a b c : Option (List
 flushed Tells a b c r t tells written keeps = told t tells (kept_begun a b c t (beginning_written a b r t written) keeps)
 
 -- a failure that is reported with the positions of the text's program
-pub placed_told : (file text object : List ℕ) (f : Failure) (places shown : List TextPlace) → shown ≡ places
-    → ArePlaces text places → object ≡ line (refusal_json file shown f) → TellsPlaced file text f object
-placed_told file text object f places shown same begun is = record {
+pub placed_told : (file text object : List ℕ) (f : Failure) (places shown : List TextPlace) (reason : Reason) → shown ≡ places
+    → ArePlaces text places → object ≡ line (refusal_json file shown f reason) → TellsPlaced file text f object
+placed_told file text object f places shown reason same begun is = record {
   places = places;
   begun = begun;
-  told_is = is ∙ ap (λ (ps : List TextPlace). line (refusal_json file ps f)) same;
+  reason = reason;
+  told_is = is ∙ ap (λ (ps : List TextPlace). line (refusal_json file ps f reason)) same;
 }
 
 -- the race in an error of `check`
@@ -73,14 +75,15 @@ of_found P found x is known = subst (λ o. IfSome o P) is known
 
 -- a witness that was found, of a race
 pub race_shown : (file object : List ℕ) (places : List TextPlace) (code back : Program) (race : ProgramRace)
-    (found : Option Witness) (w : Witness) → found ≡ Some w → IfSome found (IsWitness code race)
-    → IfSome found (IsShortest code race) → back ≡ code → object ≡ line (race_json file places back race w)
+    (found : Option Witness) (w : Witness) (reason : Reason) → found ≡ Some w → IfSome found (IsWitness code race)
+    → IfSome found (IsShortest code race) → back ≡ code → object ≡ line (race_json file places back race w reason)
     → ShowsRace file places code race object
-race_shown file object places code back race found w found_is is_witness shortest same is = record {
+race_shown file object places code back race found w reason found_is is_witness shortest same is = record {
   witness = w;
   is_witness = of_found (IsWitness code race) found w found_is is_witness;
   shortest = of_found (IsShortest code race) found w found_is shortest;
-  told_is = is ∙ ap (λ (p : Program). line (race_json file places p race w)) same;
+  reason = reason;
+  told_is = is ∙ ap (λ (p : Program). line (race_json file places p race w reason)) same;
 }
 
 -- a race that was found again
@@ -102,6 +105,15 @@ race_told file text object typed back race places shown is_code same_typed least
 pub least_is_race : (typed back : Typed) (race : ProgramRace) → back ≡ typed → IsLeastRace (code_of typed) race
     → IsRace (code_of back) race
 least_is_race typed back race same least = subst (λ (t : Typed). IsRace (code_of t) race) (sym same) least.among
+
+-- the line of an object, with its status
+pub object_told : (Is : Answer) (r : Result ObjectLine Failure) (l : Result (String Global) AllocError)
+    → IfOk r (λ t. l ≡ Ok t.line) → IfOk r (λ t. t.status ≡ 0) → IfOk l (λ x. Is (string_bytes x) 0)
+    → IfOk r (λ t. Is (string_bytes t.line) t.status)
+object_told Is (Err f) l is status object = tt
+object_told Is (Ok t) l is status object =
+    subst (Is (string_bytes t.line)) (sym status)
+    (subst (λ (m : Result (String Global) AllocError). IfOk m (λ x. Is (string_bytes x) 0)) is object)
 
 -- the pairs of a program
 pub told_pairs : (text : List ℕ) (code : Program) (kept : KeptPairs) (list : List (ℕ × ℕ)) (r : Result ObjectLine Failure)

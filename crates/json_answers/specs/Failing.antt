@@ -14,14 +14,17 @@ use Rattle.json_answers.specs.Refusals.{refusal_json}
 use Rattle.json_answers.specs.Races.{race_json}
 use Rattle.commands.specs.Answers.{Answer, Began, IsCodeOf}
 use Rattle.json_answers.specs.Objects.{ArePlaces}
+use Rattle.json_answers.specs.declared.reason.Reason.{Reason}
 
--- a race of a program, and a witness of it; no other witness has fewer steps
+-- a race of a program, and a witness of it; no other witness has fewer steps. Why it is one, and the
+-- suggestions, aren't specified
 pub record ShowsRace (file : List ℕ) (places : List TextPlace) (code : Program)
     (race : ProgramRace) (told : List ℕ) : Type 0 where
   pub witness : Witness
   pub is_witness : IsWitness code race witness
   pub shortest : IsShortest code race witness
-  pub told_is : told ≡ line (race_json file places code race witness)
+  pub reason : Reason
+  pub told_is : told ≡ line (race_json file places code race witness reason)
 
 -- the least race of the text's program
 pub record TellsRace (file text told : List ℕ) : Type 0 where
@@ -37,13 +40,20 @@ pub record TellsRace (file text told : List ℕ) : Type 0 where
 pub record TellsPlaced (file text : List ℕ) (f : Failure) (told : List ℕ) : Type 0 where
   pub places : List TextPlace
   pub begun : ArePlaces text places
-  pub told_is : told ≡ line (refusal_json file places f)
+  pub reason : Reason
+  pub told_is : told ≡ line (refusal_json file places f reason)
 
--- the object of a failure; only a race and a broken rule have statements
+-- another failure
+pub record TellsBare (file : List ℕ) (f : Failure) (told : List ℕ) : Type 0 where
+  pub reason : Reason
+  pub told_is : told ≡ line (refusal_json file [] f reason)
+
+-- the object of a failure; only a race and a broken rule have statements. Why it is one, the suggestions, and
+-- the position of a failure that is neither at a statement nor in its line aren't specified
 abbrev pub TellsFailure : (file text : List ℕ) → Failure → (told : List ℕ) → Type 0
 TellsFailure file text (Race procedure first second) told = TellsRace file text told
 TellsFailure file text (Types e) told = TellsPlaced file text (Types e) told
-TellsFailure file text f told = told ≡ line (refusal_json file [] f)
+TellsFailure file text f told = TellsBare file f told
 
 -- the object was appended as far as the writer accepted it; or there was no memory for it
 pub data IsToldAsObject (Tells : (told : List ℕ) → Type 0) (old new : Option (List ℕ)) : Type 0 where

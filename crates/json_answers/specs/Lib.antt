@@ -9,5 +9,7 @@ pub mod Places
 pub mod Programs
 pub mod Races
 pub mod Refusals
+pub mod Statements
 pub mod Steps
+pub mod Summaries
 pub mod Witnesses

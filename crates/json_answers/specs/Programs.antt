@@ -14,6 +14,10 @@ accepted_json p =
     ∷ (codes "procedures", natural (length p.procedures))
     ∷ (codes "status", natural 0) ∷ [])
 
+-- a text that is formatted
+abbrev pub formatted_json : Data
+formatted_json = object_of ((codes "formatted", boolean true) ∷ (codes "status", natural 0) ∷ [])
+
 abbrev pub pair_json : ℕ × ℕ → Data
 pair_json pair = list_by natural (pair.0 ∷ pair.1 ∷ [])
 

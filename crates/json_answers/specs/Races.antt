@@ -10,7 +10,9 @@ use Rattle.printing.specs.Reasons.{race_text}
 use Rattle.failures.specs.Failures.{kind_of, section_name, section_text, told_procedure}
 use Rattle.json_answers.specs.Pieces.{natural, object_of, or_null}
 use Rattle.json_answers.specs.Places.{column_of, line_of, place_at}
+use Rattle.json_answers.specs.Refusals.{helps_json, reason_json}
 use Rattle.json_answers.specs.Witnesses.{witness_json}
+use Rattle.json_answers.specs.declared.reason.Reason.{Reason}
 
 -- the statement and its position, what it does, and the section, by its name in the procedure
 abbrev pub access_members : List TextPlace → Procedure → Access → List (List ℕ × Data)
@@ -46,22 +48,25 @@ accesses_json places p r w = object_of (accesses_members places p r w)
 -- the members of a failure by a race: instead of an array the accesses, with the label and the position of
 -- the first
 abbrev pub told_members : (file : List ℕ) → Option TextPlace → (label : ℕ) → (message : List ℕ)
-    → (accesses : Data)
+    → (accesses : Data) → Reason
     → List (List ℕ × Data)
-told_members file place label message accesses =
+told_members file place label message accesses reason =
     (codes "code", string (codes "C1"))
     ∷ (codes "column", or_null natural (column_of place))
     ∷ (codes "file", string file)
+    ∷ (codes "help", helps_json reason)
     ∷ (codes "label", natural label)
     ∷ (codes "line", or_null natural (line_of place))
     ∷ (codes "message", string message)
     ∷ (codes "race", accesses)
+    ∷ (codes "reason", reason_json reason)
     ∷ (codes "status", natural 1) ∷ []
 
-abbrev pub race_members : (file : List ℕ) → List TextPlace → Program → Race → Witness → List (List ℕ × Data)
-race_members file places p r w =
+abbrev pub race_members : (file : List ℕ) → List TextPlace → Program → Race → Witness → Reason
+    → List (List ℕ × Data)
+race_members file places p r w reason =
     told_members file (place_at places r.first.label) r.first.label (race_message p r)
-    (accesses_json places p r w)
+    (accesses_json places p r w) reason
 
-abbrev pub race_json : (file : List ℕ) → List TextPlace → Program → Race → Witness → Data
-race_json file places p r w = object_of (race_members file places p r w)
+abbrev pub race_json : (file : List ℕ) → List TextPlace → Program → Race → Witness → Reason → Data
+race_json file places p r w reason = object_of (race_members file places p r w reason)

@@ -1,5 +1,6 @@
 -- The object of a failure.
-use Rattle.std.specs.Prelude.{ℕ, List, [], ◌∷◌, codes, Option, None, Some, option_and_then}
+use Rattle.std.specs.Prelude.{ℕ, List, [], ◌∷◌, codes, Option, None, Some, option_and_then, option_map}
+use Rattle.std.specs.Option.{option_or}
 use Rattle.std.specs.String.{string_bytes}
 use Rattle.serde_json.specs.Data.{Data, string}
 use Rattle.syntax.specs.declared.place.TextPlace.{TextPlace}
@@ -15,8 +16,9 @@ use Rattle.failures.specs.Messages.{failure_text}
 use Rattle.failures.specs.declared.failure.Failure.{Failure}
 use Rattle.failures.specs.declared.failure.Failure.TheVariants.{Syntax, Types, Race, NoMemoryInCheck, Input}
 use Rattle.failures.specs.declared.failure.Failure.TheVariants.{Run, Trace}
-use Rattle.json_answers.specs.Pieces.{natural, object_of, or_null}
+use Rattle.json_answers.specs.Pieces.{list_by, natural, object_of, or_null}
 use Rattle.json_answers.specs.Places.{column_of, line_of, place_at}
+use Rattle.json_answers.specs.declared.reason.Reason.{Reason}
 
 -- the code in its line
 abbrev pub failure_code : Failure → Option (List ℕ)
@@ -41,6 +43,17 @@ failure_place places (Syntax e) = place_of e
 failure_place places (Types e) = option_and_then (place_at places) (label_of e)
 failure_place places _ = None
 
+-- that position, or the one in the explanation
+abbrev pub explained_place : List TextPlace → Failure → Reason → Option TextPlace
+explained_place places f r = option_or (failure_place places f) r.place
+
+-- why, and the suggestions
+abbrev pub reason_json : Reason → Data
+reason_json r = or_null string (option_map string_bytes r.reason)
+
+abbrev pub helps_json : Reason → Data
+helps_json r = list_by (λ help. string (string_bytes help)) r.helps.items
+
 -- the name in an error of an input
 abbrev pub input_name : InputError → Option (List ℕ)
 input_name (UnknownArray name) = Some (string_bytes name)
@@ -53,17 +66,19 @@ failure_array (Input e) = input_name e
 failure_array _ = None
 
 -- its code, its line and its status, and all else that is known; `file` is that of the program
-abbrev pub refusal_members : (file : List ℕ) → List TextPlace → Failure → List (List ℕ × Data)
-refusal_members file places f =
-    let place = failure_place places f in
+abbrev pub refusal_members : (file : List ℕ) → List TextPlace → Failure → Reason → List (List ℕ × Data)
+refusal_members file places f r =
+    let place = explained_place places f r in
     (codes "array", or_null string (failure_array f))
     ∷ (codes "code", or_null string (failure_code f))
     ∷ (codes "column", or_null natural (column_of place))
     ∷ (codes "file", string file)
+    ∷ (codes "help", helps_json r)
     ∷ (codes "label", or_null natural (failure_label f))
     ∷ (codes "line", or_null natural (line_of place))
     ∷ (codes "message", string (failure_text f))
+    ∷ (codes "reason", reason_json r)
     ∷ (codes "status", natural (failure_status f)) ∷ []
 
-abbrev pub refusal_json : (file : List ℕ) → List TextPlace → Failure → Data
-refusal_json file places f = object_of (refusal_members file places f)
+abbrev pub refusal_json : (file : List ℕ) → List TextPlace → Failure → Reason → Data
+refusal_json file places f r = object_of (refusal_members file places f r)

@@ -1,4 +1,4 @@
-//! The answers of `check` and `mhp`.
+//! The answers of `check`, `mhp` and `fmt --check`.
 
 ghost use Rattle.std.specs.Prelude.{◌≡◌, IfOk, OnOk};
 ghost use Rattle.std.specs.String.{string_bytes};
@@ -7,7 +7,7 @@ ghost use Rattle.types.specs.Translation.{program};
 ghost use Rattle.parallel_relation.specs.Pairs.{pairs_left};
 ghost use Rattle.printing.specs.Labels.{labels_in};
 ghost use Rattle.json_answers.specs.Pieces.{IsReadBack, line, list_by};
-ghost use Rattle.json_answers.specs.Programs.{accepted_json, pair_json, pairs_json};
+ghost use Rattle.json_answers.specs.Programs.{accepted_json, formatted_json, pair_json, pairs_json};
 
 use crate::line::line_of;
 use parallel_relation::pairs::PairList;
@@ -41,6 +41,22 @@ fn accepted_value(alloc: Global, code: &Program, labels: u64) -> Result<Value, A
         "procedures": procedures,
         "status": 0u8,
     })
+}
+
+/// Returns the object of a formatted text: `{"formatted":true,"status":0}`.
+pub fn formatted_object(alloc: Global) -> Result<String, AllocError>
+    ensures text { IfOk result (λ text. string_bytes text ≡ line formatted_json) }
+    ensures reads { OnOk result (IsReadBack formatted_json) }
+{
+    let value = formatted_value(alloc)?;
+    line_of(alloc, &value)
+}
+
+/// Returns the value of a formatted text.
+fn formatted_value(alloc: Global) -> Result<Value, AllocError>
+    ensures { IfOk result (λ v. view v ≡ formatted_json) }
+{
+    json!(in alloc; {"formatted": true, "status": 0u8})
 }
 
 /// Returns the object of pairs of labels: `{"pairs":[[3,4]],"status":0}`.

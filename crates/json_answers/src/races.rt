@@ -7,11 +7,13 @@ ghost use Rattle.types.specs.Translation.{procedure as procedure_of, program};
 ghost use Rattle.effects.specs.Translation.{access as access_of};
 ghost use Rattle.race_checker.specs.Translation.{race as race_of};
 ghost use Rattle.json_answers.specs.Pieces.{IsReadBack, line, object_of};
+ghost use Rattle.json_answers.specs.Places.{place_at as place_of_label};
 ghost use Rattle.json_answers.specs.Races.{access_json, accesses_json, race_json, race_message, told_members};
 
 use crate::found::FoundRace;
 use crate::line::line_of;
 use crate::names::{kind_of, procedure_in, section_name};
+use crate::refusals::{helps_value, reason_value};
 use crate::text_places::{column_in, line_in, place_at};
 use crate::told::message_of;
 use crate::witnesses::witness_value;
@@ -21,16 +23,18 @@ use race_checker::race::Race;
 use serde_json::{Value, json};
 use std::alloc::{AllocError, Global};
 use syntax::TextPlace;
-use types::code::{Label, Procedure, Program};
+use types::code::{Procedure, Program};
 
 /// Returns the object of a failure by a race: with both accesses, in the names of the procedure
 /// that has it, its witness, and the position of the first access. An access has the form
 /// `{"column":7,"kind":"write","label":3,"line":4,"section":"a"}`.
 pub fn race_object(alloc: Global, file: &str, found: FoundRace<'_>) -> Result<String, AllocError>
     ensures text { IfOk result (λ text. string_bytes text ≡ line (race_json file.now found.entry.places.now
-        (program found.entry.code.now) (race_of found.entry.race) found.entry.witness.now)) }
+        (program found.entry.code.now) (race_of found.entry.race) found.entry.witness.now
+        found.entry.reason.now)) }
     ensures reads { OnOk result (IsReadBack (race_json file.now found.entry.places.now
-        (program found.entry.code.now) (race_of found.entry.race) found.entry.witness.now)) }
+        (program found.entry.code.now) (race_of found.entry.race) found.entry.witness.now
+        found.entry.reason.now)) }
 {
     let value = race_value(alloc, file, found)?;
     line_of(alloc, &value)
@@ -39,35 +43,38 @@ pub fn race_object(alloc: Global, file: &str, found: FoundRace<'_>) -> Result<St
 /// Returns the value of a race.
 fn race_value(alloc: Global, file: &str, found: FoundRace<'_>) -> Result<Value, AllocError>
     ensures { IfOk result (λ v. view v ≡ race_json file.now found.entry.places.now
-        (program found.entry.code.now) (race_of found.entry.race) found.entry.witness.now) }
+        (program found.entry.code.now) (race_of found.entry.race) found.entry.witness.now
+        found.entry.reason.now) }
 {
     let accesses = accesses_value(alloc, found)?;
     let message = message_of_race(alloc, found.code, found.race)?;
-    let label = found.race.first.label;
-    let place = place_at(found.places, label);
-    told_value(alloc, file, place, label, message, accesses)
+    told_value(alloc, file, found, message, accesses)
 }
 
 /// Returns the value of a failure by a race, from its parts.
 fn told_value(
     alloc: Global,
     file: &str,
-    place: Option<TextPlace>,
-    label: Label,
+    found: FoundRace<'_>,
     message: String,
     accesses: Value,
 ) -> Result<Value, AllocError>
-    ensures { IfOk result (λ v. view v
-        ≡ object_of (told_members file.now place label (string_bytes message) (view accesses))) }
+    ensures { let label = found.entry.race.first.label in IfOk result (λ v. view v
+        ≡ object_of (told_members file.now (place_of_label found.entry.places.now label) label
+        (string_bytes message) (view accesses) found.entry.reason.now)) }
 {
+    let label = found.race.first.label;
+    let place = place_at(found.places, label);
     json!(in alloc; {
         "code": "C1",
         "column": column_in(place),
         "file": file,
+        "help": helps_value(alloc, found.reason)?,
         "label": label,
         "line": line_in(place),
         "message": message,
         "race": accesses,
+        "reason": reason_value(alloc, found.reason)?,
         "status": 1u8,
     })
 }

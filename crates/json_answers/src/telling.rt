@@ -7,11 +7,14 @@ ghost use Rattle.files.specs.Held.{Held};
 ghost use Rattle.json_answers.specs.Objects.{FailsEarly, ObjectOf};
 
 use crate::object_line::{ObjectLine, told_or_no_memory};
-use crate::programs::{accepted_object, pairs_object};
+use crate::programs::{accepted_object, formatted_object, pairs_object};
+use crate::statements::statements_object;
 use command_line::request::Command;
-use commands::programs::{accepted_of, typed_of};
+use commands::programs::{accepted_of, program_of, typed_of};
+use commands::statements::NamedStatements;
 use commands::telling::pairs_of;
 use failures::failure::Failure;
+use layout::laid_out;
 use std::alloc::Global;
 use std::thread::Threads;
 
@@ -39,5 +42,37 @@ pub fn pairs_told(alloc: Global, text: &str) -> Result<ObjectLine, Failure>
     match pairs_of(alloc, &typed) {
         Ok(pairs) => told_or_no_memory(pairs_object(alloc, pairs.list()), 0),
         Err(_) => Err(Failure::NoMemory),
+    }
+}
+
+/// `list`: returns the object with the statements of a program, even if it breaks rules.
+pub fn list_told(alloc: Global, text: &str) -> Result<ObjectLine, Failure>
+    ensures object { (s : SettingsOf) (held : Held)
+        → IfOk result (λ t. ObjectOf Command.Labels s held text.now (string_bytes t.line) t.status) }
+    ensures why { (s : SettingsOf) (held : Held)
+        → IfErr result (FailsEarly Command.Labels s held text.now) }
+{
+    let program = program_of(alloc, text)?;
+    match NamedStatements::of(alloc, text, &program) {
+        Ok(statements) => told_or_no_memory(statements_object(alloc, &statements), 0),
+        Err(_) => Err(Failure::NoMemory),
+    }
+}
+
+/// `fmt --check`: returns the object of a text that is formatted.
+pub fn format_told(alloc: Global, text: &str) -> Result<ObjectLine, Failure>
+    ensures object { (s : SettingsOf) (held : Held) → IfOk result
+        (λ t. ObjectOf Command.CheckFormat s held text.now (string_bytes t.line) t.status) }
+    ensures why { (s : SettingsOf) (held : Held)
+        → IfErr result (FailsEarly Command.CheckFormat s held text.now) }
+{
+    let _program = program_of(alloc, text)?;
+    let Ok(laid) = laid_out(alloc, text) else {
+        return Err(Failure::NoMemory);
+    };
+    if laid.as_str() == text {
+        told_or_no_memory(formatted_object(alloc), 0)
+    } else {
+        Err(Failure::NotLaidOut)
     }
 }

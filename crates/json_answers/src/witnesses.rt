@@ -31,6 +31,7 @@ pub(crate) fn witness_value(alloc: Global, found: FoundRace<'_>) -> Result<Value
         code,
         race,
         witness,
+        ..
     } = found;
     let (to_first, to_second) = ways_of(witness);
     json!(in alloc; {

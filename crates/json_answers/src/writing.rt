@@ -7,6 +7,7 @@ ghost use Rattle.json_answers.specs.Failing.{IsToldAsObject, TellsFailure};
 
 use crate::failed::refusal_line;
 use crate::object_line::ObjectLine;
+use crate::refused_program::RefusedProgram;
 use failures::failure::Failure;
 use printing::emit::append;
 use std::alloc::Global;
@@ -31,15 +32,15 @@ pub fn answer_object<O: Write>(out: &mut O, told: &ObjectLine) -> Result<u8, Fai
 pub fn tell_refusal<R: Threads + Sync, O: Write>(
     rt: &R,
     alloc: Global,
-    file: &str,
-    text: &str,
+    refused: RefusedProgram<'_>,
     failure: &Failure,
     out: &mut O,
 )
-    ensures { IsToldAsObject (TellsFailure file.now text.now failure.now)
+    ensures { IsToldAsObject
+        (TellsFailure refused.entry.file.now refused.entry.text.now failure.now)
         (O.contents out.old) (O.contents out.new) }
 {
-    if let Ok(line) = refusal_line(rt, alloc, file, text, failure) {
+    if let Ok(line) = refusal_line(rt, alloc, refused, failure) {
         let _ = append(out, line.as_bytes());
         let _ = out.flush();
     }

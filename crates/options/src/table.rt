@@ -43,6 +43,8 @@ enum Takes {
     TextBut(&'static str, &'static [&'static str]),
     /// An option whose value is one of these words. The help shows this name for the value.
     OneOf(&'static str, &'static [&'static str]),
+    /// An option as `OneOf`, which needs this other option.
+    OneOfWith(&'static str, &'static [&'static str], &'static str),
     /// An option whose value, after `=`, is one of these words; without a value it is the last word
     /// here. The help shows this name for the value.
     MaybeOneOf(&'static str, &'static [&'static str], &'static str),
@@ -81,12 +83,18 @@ const LIST: Entry = Entry {
 const LINES: Entry = Entry {
     name: "lines",
     help: "Also print the line and column of each statement",
-    takes: Takes::Nothing,
+    takes: Takes::NothingBut(&["format"]),
 };
 
 const ACCESSES: Entry = Entry {
     name: "accesses",
     help: "Print the pairs of accesses that may run in parallel, for each procedure",
+    takes: Takes::NothingBut(&["by-line", "format"]),
+};
+
+const PAIRS_BY_LINE: Entry = Entry {
+    name: "by-line",
+    help: "Print the position, the label and the text of both statements",
     takes: Takes::NothingBut(&["format"]),
 };
 
@@ -177,18 +185,30 @@ const TRACE: Entry = Entry {
 const SUMMARY: Entry = Entry {
     name: "summary",
     help: "Print totals instead of the table: tasks, steps, span, parallelism, steals and more",
-    takes: Takes::NothingBut(&["svg", "chrome", "upgrade"]),
+    takes: Takes::NothingBut(&["svg", "chrome", "html", "upgrade"]),
+};
+
+const EVENTS_BY_LINE: Entry = Entry {
+    name: "by-line",
+    help: "Also print the procedure and the statement of each step; with --summary the steps of each statement",
+    takes: Takes::NothingBut(&["svg", "chrome", "html", "upgrade", "format"]),
 };
 
 const SVG: Entry = Entry {
     name: "svg",
     help: "Draw the trace to this SVG file instead of printing the table, with a lane for each worker",
-    takes: Takes::TextBut("OUT", &["chrome", "upgrade"]),
+    takes: Takes::TextBut("OUT", &["chrome", "html", "upgrade"]),
 };
 
 const CHROME: Entry = Entry {
     name: "chrome",
     help: "Write the trace to this file for Perfetto or chrome://tracing instead of printing the table",
+    takes: Takes::TextBut("OUT", &["html", "upgrade"]),
+};
+
+const HTML: Entry = Entry {
+    name: "html",
+    help: "Write a page to this HTML file in which the run can be explored in a browser",
     takes: Takes::TextBut("OUT", &["upgrade"]),
 };
 
@@ -200,8 +220,8 @@ const UPGRADE: Entry = Entry {
 
 const BY_LINE: Entry = Entry {
     name: "by-line",
-    help: "Also print the work and span of each statement, by label",
-    takes: Takes::NothingBut(&["by-procedure", "format"]),
+    help: "Also print the work and span of each statement, with its position, its label and its text",
+    takes: Takes::NothingBut(&["by-procedure"]),
 };
 
 const BY_PROCEDURE: Entry = Entry {
@@ -244,6 +264,18 @@ const FORMAT: Entry = Entry {
     name: "format",
     help: "Print lines of text or one JSON object [default: text]",
     takes: Takes::OneOf("KIND", &["text", "json"]),
+};
+
+const FORMAT_OF_CHECK: Entry = Entry {
+    name: "format",
+    help: "With --check, print lines of text or one JSON object [default: text]",
+    takes: Takes::OneOfWith("KIND", &["text", "json"], "check"),
+};
+
+const FORMAT_OF_SUMMARY: Entry = Entry {
+    name: "format",
+    help: "With --summary, print lines of text or one JSON object [default: text]",
+    takes: Takes::OneOfWith("KIND", &["text", "json"], "summary"),
 };
 
 const WORD: Entry = Entry {
@@ -314,7 +346,8 @@ const VIEW_EXAMPLE: &str =
 that this program can't produce on this input is rejected.
 
 Example: afx run examples/two_arrays.afx --trace two_arrays.trace && afx view examples/two_arrays.afx two_arrays.trace
-Example: afx view examples/two_arrays.afx two_arrays.trace --svg two_arrays.svg";
+Example: afx view examples/two_arrays.afx two_arrays.trace --svg two_arrays.svg
+Example: afx view examples/two_arrays.afx two_arrays.trace --html two_arrays.html";
 
 const EXPLAIN_EXAMPLE: &str = "Example: afx explain Y5";
 
@@ -351,21 +384,21 @@ const LISTED: Row = Row {
     name: "list",
     about: "Print a program with the label of each statement",
     example: LIST_EXAMPLE,
-    entries: &[FILE, LINES, EXPLAIN, COLOR],
+    entries: &[FILE, LINES, FORMAT, EXPLAIN, COLOR],
 };
 
 const FORMATTED: Row = Row {
     name: "fmt",
     about: "Format a program, keeping its comments",
     example: LAYOUT_EXAMPLE,
-    entries: &[FILES, CHECK, WRITE, EXPLAIN, COLOR],
+    entries: &[FILES, CHECK, WRITE, FORMAT_OF_CHECK, EXPLAIN, COLOR],
 };
 
 const PAIRED: Row = Row {
     name: "mhp",
     about: "List the pairs of statements that may run in parallel",
     example: PAIRS_EXAMPLE,
-    entries: &[FILE, ACCESSES, FORMAT, EXPLAIN, COLOR],
+    entries: &[FILE, ACCESSES, PAIRS_BY_LINE, FORMAT, EXPLAIN, COLOR],
 };
 
 const COSTED: Row = Row {
@@ -419,10 +452,21 @@ const EXPLORED: Row = Row {
 
 const VIEWED: Row = Row {
     name: "view",
-    about: "Show the trace of a run as a table, as totals or as a picture",
+    about: "Show the trace of a run as a table, as totals, as a picture or as a page",
     example: VIEW_EXAMPLE,
     entries: &[
-        FILE, TRACE, INPUT, SUMMARY, SVG, CHROME, UPGRADE, EXPLAIN, COLOR,
+        FILE,
+        TRACE,
+        INPUT,
+        SUMMARY,
+        EVENTS_BY_LINE,
+        SVG,
+        CHROME,
+        HTML,
+        UPGRADE,
+        FORMAT_OF_SUMMARY,
+        EXPLAIN,
+        COLOR,
     ],
 };
 
@@ -595,6 +639,13 @@ fn argument<'w>(alloc: Global, entry: Entry) -> Result<Arg<'w>, AllocError> {
             .long(entry.name)
             .value_name(value)
             .value_parser(words),
+        Takes::OneOfWith(value, words, other) => {
+            let argument = argument
+                .long(entry.name)
+                .value_name(value)
+                .value_parser(words);
+            argument.requires_arg(other)?
+        }
         Takes::MaybeOneOf(value, words, missing) => argument
             .long(entry.name)
             .value_name(value)

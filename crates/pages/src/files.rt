@@ -22,7 +22,7 @@ const PAGES: &[Page] = &[
         name: "cannot-write",
         others: ["cannot write output", "cannot write"],
         about: "file or output can't be written",
-        rule: "The trace, picture or formatted program can't be written to this file, or the disk is full.
+        rule: "The trace, picture, page or formatted program can't be written to this file, or the disk is full.
 Or the command has read this file under another name, such as a link. Nothing is printed then.
 `cannot write output`: writing to standard output failed. It may have received the beginning of the answer.",
         program: ["main {", "}"],

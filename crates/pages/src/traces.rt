@@ -14,7 +14,8 @@ const PAGES: &[Page] = &[
         about: "a record of what the workers did, event by event",
         rule: "`run --trace FILE` writes a trace: a header line with the budget, weight and workers of the run, then a line for each
 event, about 40 bytes per step. `view` replays it with the same program and input. If every event is legal, it prints a
-table or totals (`--summary`), draws a picture (`--svg OUT`) or writes a file for a trace viewer (`--chrome OUT`).
+table or totals (`--summary`), draws a picture (`--svg OUT`), or writes a file for a trace viewer (`--chrome OUT`) or a
+page for a browser (`--html OUT`).
 
 take W P        worker W takes task P from its own queue
 steal W F P     worker W steals task P from the queue of worker F

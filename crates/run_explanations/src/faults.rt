@@ -2,11 +2,12 @@
 
 use crate::cause::Cause;
 use crate::causes::{push_cause, push_mend, spot_of};
+use crate::chains::push_calls;
 use crate::headings::heading_of;
 use crate::seen::{SeenFault, SeenRun};
 use excerpts::statements::PlacedStatements;
 use std::alloc::AllocError;
-use types::code::{Label, Program};
+use types::code::Program;
 
 /// Adds the recorded faults, and the number of the others.
 pub fn push_faults(
@@ -45,7 +46,7 @@ fn push_fault(
     write!(told, "fault {path} at {label}: {kind}\n")?;
     statements.push_at(told, label, spot.at)?;
     push_cause(told, code, spot, fault.cause)?;
-    push_call(told, statements, fault.call)?;
+    push_calls(told, statements, &fault.calls)?;
     push_mend(told, spot, fault.cause)
 }
 
@@ -59,20 +60,5 @@ fn word_of(cause: Cause) -> &'static str {
         Cause::SplitPoint { .. } => "F5",
         Cause::Raised(_) => "F6",
         Cause::PieceSize { .. } => "F7",
-    }
-}
-
-/// Adds the call that a statement was executed in.
-pub fn push_call(
-    told: &mut String,
-    statements: &PlacedStatements<'_>,
-    call: Option<Label>,
-) -> Result<(), AllocError> {
-    let Some(label) = call else {
-        return Ok(());
-    };
-    match statements.place(label) {
-        Some(place) => write!(told, "It was called at {place}, label {label}.\n"),
-        None => Ok(()),
     }
 }

@@ -4,6 +4,7 @@
 
 pub mod cause;
 mod causes;
+mod chains;
 mod faults;
 mod frame;
 pub mod headings;

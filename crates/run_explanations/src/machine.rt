@@ -1,8 +1,9 @@
 //! A run on one thread, statement by statement.
 
 use crate::cause::Cause;
+use crate::chains::chain_of;
 use crate::frame::{Parent, RepeatedFrame};
-use crate::seen::{BudgetPart, Overrun, SeenFault, SeenRun};
+use crate::seen::{BudgetPart, Overrun, SeenFault, SeenRun, SurplusTask};
 use crate::steps::TaskSteps;
 use crate::tried::Tried;
 use sections::id::{ArrayId, SectionId};
@@ -35,6 +36,8 @@ pub struct RepeatedRun<'p> {
     seen: SeenRun,
     /// The statements of the steps, if they are recorded.
     steps: Option<TaskSteps>,
+    /// The number of tasks that may still be started.
+    spare: u64,
 }
 
 impl<'p> RepeatedRun<'p> {
@@ -55,11 +58,18 @@ impl<'p> RepeatedRun<'p> {
                 faults: Vec::new(plan.alloc),
                 many: 0,
                 overrun: None,
+                surplus: None,
                 lines: Vec::new(plan.alloc),
                 printed: 0,
             },
             steps,
+            spare: u64::MAX,
         })
+    }
+
+    /// Limits the number of tasks, including the root.
+    pub fn limit_tasks(&mut self, tasks: u64) {
+        self.spare = tasks.saturating_sub(1);
     }
 
     /// Returns what was seen.
@@ -74,7 +84,7 @@ impl<'p> RepeatedRun<'p> {
 
     /// Does the next item of work, and returns whether there was one.
     pub fn advance(&mut self) -> Result<bool, AllocError> {
-        if self.seen.overrun.is_some() {
+        if self.seen.overrun.is_some() || self.seen.surplus.is_some() {
             return Ok(false);
         }
         let Some(frame) = self.left.pop() else {
@@ -334,6 +344,10 @@ impl<'p> RepeatedRun<'p> {
         if self.thread.nest == 0 {
             return self.overrun(label, BudgetPart::Nest);
         }
+        if self.spare == 0 {
+            return self.one_too_many(label);
+        }
+        self.spare = self.spare.saturating_sub(1);
         let spawned = self.thread.spawned.saturating_add(1);
         let Some(number) = ChildNumber::new(spawned) else {
             return Err(AllocError);
@@ -460,7 +474,7 @@ impl<'p> RepeatedRun<'p> {
             let fault = SeenFault {
                 path: self.thread.path.copied(self.plan.alloc)?,
                 label,
-                call: self.innermost_call(),
+                calls: chain_of(self.plan.alloc, &self.left)?,
                 cause,
             };
             self.seen.faults.push(fault)?;
@@ -483,20 +497,19 @@ impl<'p> RepeatedRun<'p> {
         self.seen.overrun = Some(Overrun {
             path: self.thread.path.copied(self.plan.alloc)?,
             label,
-            call: self.innermost_call(),
+            calls: chain_of(self.plan.alloc, &self.left)?,
             part,
         });
         Ok(())
     }
 
-    /// Returns the call whose body the task is in.
-    fn innermost_call(&self) -> Option<Label> {
-        for frame in self.left.iter().rev() {
-            if let RepeatedFrame::Call { label, .. } = frame {
-                return Some(*label);
-            }
-        }
-        None
+    /// Records that an async would start one task too many.
+    fn one_too_many(&mut self, label: Label) -> Result<(), AllocError> {
+        self.seen.surplus = Some(SurplusTask {
+            label,
+            calls: chain_of(self.plan.alloc, &self.left)?,
+        });
+        Ok(())
     }
 }
 

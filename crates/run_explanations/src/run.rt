@@ -1,7 +1,7 @@
 //! The run.
 
 use crate::machine::RepeatedRun;
-use crate::seen::SeenRun;
+use crate::seen::{SeenRun, SurplusTask};
 use crate::steps::TaskSteps;
 use statement_steps::thread::Plan;
 use std::alloc::{AllocError, Global};
@@ -34,6 +34,34 @@ pub fn steps_again(
         Some(steps) => Ok(steps),
         None => Ok(TaskSteps::new(alloc)),
     }
+}
+
+/// The maximum number of statements that are executed to find the async of a task too many.
+const MOST_TURNS: u64 = 4_000_000;
+
+/// Runs a program on one thread, up to the async that starts one task more than there may be.
+/// Returns None if the run ends before, or takes too long.
+pub fn surplus_task(
+    alloc: Global,
+    typed: &Typed,
+    input: &Input,
+    budget: Budget,
+    tasks: u64,
+) -> Result<Option<SurplusTask>, AllocError> {
+    let plan = Plan {
+        alloc,
+        program: typed.code(),
+        budget,
+    };
+    let mut machine = RepeatedRun::new(plan, input, None)?;
+    machine.limit_tasks(tasks);
+    for _ in 0..MOST_TURNS {
+        if !machine.advance()? {
+            break;
+        }
+    }
+    let SeenRun { surplus, .. } = machine.into_seen();
+    Ok(surplus)
 }
 
 /// Runs a program on one thread, up to its end or to the first task that is over its budget. Steps

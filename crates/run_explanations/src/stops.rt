@@ -1,6 +1,6 @@
 //! Tasks that exceed their budget.
 
-use crate::faults::push_call;
+use crate::chains::push_calls;
 use crate::headings::heading_of;
 use crate::seen::{BudgetPart, Overrun, SeenRun};
 use excerpts::statements::PlacedStatements;
@@ -21,7 +21,7 @@ pub fn push_stop(
     heading_of(file, "stopped").push(told, statements.place(label))?;
     statements.push_at(told, label, None)?;
     push_overrun(told, budget, overrun)?;
-    push_call(told, statements, overrun.call)?;
+    push_calls(told, statements, &overrun.calls)?;
     push_printed(told, seen)?;
     match overrun.part {
         BudgetPart::Steps => push_more_steps(told, budget.steps),

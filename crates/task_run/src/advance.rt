@@ -214,6 +214,7 @@ impl<'p> Run<'p> {
     }
 
     /// Runs a statement whose step has been taken.
+    #[inline(always)]
     fn act<N: Needed>(&mut self, needed: &N, stmt: &'p Stmt) -> Result<Done<'p>, HoldError>
         requires room { HasRoom self.old }
         requires can { CanAct (N.needs needed.now) (N.IsAsync needed.now) stmt.now.label

@@ -1,2 +1,3 @@
+pub mod Remarked
 pub mod Viewing
 pub mod Written

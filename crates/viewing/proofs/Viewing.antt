@@ -1,6 +1,7 @@
 -- From a trace, or from the reason why there is none, to what was done.
-use Rattle.std.proofs.Common.{◌≡◌, inl, inr, ℕ, List, [], Option, Result, ap, ◌∙◌, refl, subst}
-use Rattle.std.specs.Prelude.{IsErrAnd}
+use Rattle.std.proofs.Common.{◌≡◌, inl, inr, ℕ, ℤ, List, [], Option, Result, Ok, Err, String, ap, ◌∙◌, refl, string_bytes, subst, sym}
+use Rattle.std.specs.Prelude.{IfOk, IsErrAnd}
+use Rattle.std.specs.declared.alloc.AllocError.{AllocError}
 use Rattle.types.specs.Code.{Program}
 use Rattle.types.specs.declared.budget.Budget.{Budget}
 use Rattle.race_checker.specs.Clash.{IsAccepted}
@@ -25,10 +26,13 @@ use Rattle.failures.specs.declared.failure.Failure.TheVariants.{Race, NoMemoryIn
 use Rattle.failures.specs.declared.failure.Failure.TheVariants.{Trace, Illegal, CannotWrite}
 use Rattle.commands.specs.Answers.{IsCodeOf, IsExplored, TellsNotAccepted, TellsNotBegun}
 use Rattle.commands.proofs.Answering.{IsOther, other_failure, passed_on}
-use Rattle.viewing.specs.Views.{AnswersTrace, Draws, ExplainsTrace, HasTrace, HoldsTrace, IsDrawnTo, TellsIllegal}
+use Rattle.viewing.specs.Views.{AnswersTrace, AreLegal, Draws, ExplainsTrace, HasTrace, HoldsTrace, IsDrawnAs, IsDrawnTo, IsJudged}
+use Rattle.viewing.specs.Views.{IsInFormatTwo, ShowsTrace, TellsIllegal, text_in_format_two, traced_of}
 use Rattle.viewing.specs.Views.{TellsNoLines, TellsNoTrace, TellsTrace, Views, command_of, picture_name, trace_name}
+use Rattle.trace_page.specs.Pages.{IsPage}
 use Rattle.viewing.specs.declared.drawing.Form.{Form}
-use Rattle.viewing.specs.declared.drawing.Form.TheVariants.{Picture, Spans}
+use Rattle.viewing.specs.declared.drawing.Form.TheVariants.{Html, Picture, Spans}
+use Rattle.viewing.specs.declared.traces.JudgedTrace.{JudgedTrace}
 
 -- ---- a trace's file
 
@@ -88,7 +92,7 @@ module _ (s : Settings) (held : Held) (text : List ℕ) where
 
   -- ---- the answer then
 
-  explained : (c : Command) (f : Failure) → TellsNoTrace s held text f → ExplainsTrace c s held text f
+  pub explained : (c : Command) (f : Failure) → TellsNoTrace s held text f → ExplainsTrace c s held text f
   explained c (CannotRead name) told = told
   explained c (NotUtf8 name) told = told
   explained c (Syntax e) told = told
@@ -101,7 +105,7 @@ module _ (s : Settings) (held : Held) (text : List ℕ) where
   explained c NoMemory told = tt
   explained c _ told = absurd told
 
-  other : (f : Failure) → TellsNoTrace s held text f → IsOther f
+  pub other : (f : Failure) → TellsNoTrace s held text f → IsOther f
   other (CannotRead name) told = tt
   other (NotUtf8 name) told = tt
   other (Syntax e) told = tt
@@ -141,10 +145,43 @@ module _ (s : Settings) (held : Held) (text : List ℕ) where
 pub draws_form : (form : Form) → Draws (command_of form)
 draws_form Picture = tt
 draws_form Spans = tt
+draws_form (Html program) = tt
 
 pub form_tells : (form : Form) (h : Header) (es : List Event) → TellsTrace (command_of form) h es []
 form_tells Picture h es = refl
 form_tells Spans h es = refl
+form_tells (Html program) h es = refl
+
+-- a drawing isn't specified, unless it is a page
+pub anything : (r : Result String AllocError) → IfOk r (λ text. Unit {0})
+anything (Ok text) = tt
+anything (Err e) = tt
+
+pub drawn_so : (form known : Form) → form ≡ known → (s : Settings) (text : List ℕ) (t : JudgedTrace) (r : Result String AllocError)
+    → IfOk r (λ drawn. ShowsTrace known s text t (string_bytes drawn)) → IfOk r (λ drawn. ShowsTrace form s text t (string_bytes drawn))
+drawn_so form known same s text t r shows =
+    subst (λ (f : Form). IfOk r (λ drawn. ShowsTrace f s text t (string_bytes drawn))) (sym same) shows
+
+module _ (s : Settings) (held : Held) (text : List ℕ) (t : JudgedTrace) (judged : IsJudged s held text t) (bytes : List ℕ) where
+  -- with the program and the input of the run
+  page_of_run : (name labels : List ℕ) → IsPage (traced_of t name text (trace_name s) labels) bytes
+      → IsPage (record (traced_of t name text (trace_name s) labels) { code = judged.trace.run.code; input = judged.trace.run.input }) bytes
+  page_of_run name labels page =
+      subst (λ (p : Program). IsPage (record (traced_of t name text (trace_name s) labels) { code = p; input = judged.trace.run.input }) bytes)
+      (sym judged.code)
+      (subst (λ (values : List (List ℤ)). IsPage (record (traced_of t name text (trace_name s) labels) { input = values }) bytes)
+      (sym judged.input) page)
+
+  pub drawn_as : (form : Form) → ShowsTrace form s text t bytes → IsDrawnAs form s held text bytes
+  drawn_as Picture shows = record { header = t.trace.header; events = t.trace.events.items; trace = judged.trace }
+  drawn_as Spans shows = record { header = t.trace.header; events = t.trace.events.items; trace = judged.trace }
+  drawn_as (Html program) shows = record {
+    header = t.trace.header;
+    events = t.trace.events.items;
+    trace = judged.trace;
+    labels = shows.labels;
+    page = page_of_run program.now shows.labels shows.page;
+  }
 
 -- ---- format 2
 
@@ -160,3 +197,22 @@ upgraded_header h to format budget w0 workers =
 -- events can't be legal and not
 pub legal_or_not : {w : World} {n : ℕ} → Legal w ≡ IllegalAt n → ⊥
 legal_or_not e = cc e
+
+module _ (s : Settings) (held : Held) (text : List ℕ) (t : JudgedTrace) (judged : IsJudged s held text t) where
+  -- its events are legal in the run of its own program
+  pub legal_in : AreLegal (code_of t.given.accepted.typed) (lists_in t.given.input) t.trace.header t.trace.events.items
+  legal_in =
+      subst (λ (p : Program). AreLegal p (lists_in t.given.input) t.trace.header t.trace.events.items) judged.code
+      (subst (λ (i : List (List ℤ)). AreLegal judged.trace.run.code i t.trace.header t.trace.events.items) judged.input judged.trace.legal)
+
+  -- the lines of that run are those of the text's program
+  pub in_format_two : (bytes : List ℕ)
+      → bytes ≡ text_in_format_two (code_of t.given.accepted.typed) (lists_in t.given.input) t.trace.header t.trace.events.items
+      → IsInFormatTwo s held text bytes
+  in_format_two bytes is = record {
+    header = t.trace.header;
+    events = t.trace.events.items;
+    trace = judged.trace;
+    lines = is ∙ ap (λ (p : Program). text_in_format_two p (lists_in t.given.input) t.trace.header t.trace.events.items) (sym judged.code)
+        ∙ ap (λ (i : List (List ℤ)). text_in_format_two judged.trace.run.code i t.trace.header t.trace.events.items) (sym judged.input);
+  }

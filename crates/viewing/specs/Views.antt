@@ -1,8 +1,11 @@
 -- The answers for the trace of a run, and the reasons why there is none.
-use Rattle.std.specs.Prelude.{ℕ, ℤ, ◌≡◌, ◌⊎◌, List, [], Option, Result, codes, map, unwrap_or}
+use Rattle.std.specs.Prelude.{ℕ, ℤ, ◌≡◌, ◌⊎◌, ◌+◌, ◌++◌, List, [], ◌∷◌, Option, Result, codes, map}
+use Rattle.std.specs.Prelude.{option_map, slice_get, slice_index, unwrap_or}
+use Rattle.std.specs.Str.Lines.{lines}
 use Rattle.std.specs.String.{string_bytes}
 use Rattle.types.specs.Code.{Program}
-use Rattle.types.specs.Translation.{budget}
+use Rattle.types.specs.Translation.{budget, input as lists_in}
+use Rattle.types.specs.Typed.{code_of}
 use Rattle.events.specs.Events.{event as event_of}
 use Rattle.events.specs.declared.event.Event.{Event}
 use Rattle.event_worlds.specs.Numbering.{numbered}
@@ -22,17 +25,22 @@ use Rattle.command_line.specs.Requests.{Settings}
 use Rattle.command_line.specs.declared.request.Command.{Command}
 use Rattle.command_line.specs.declared.request.Command.TheVariants.{Run, Serial, Check, Listing, Pairs}
 use Rattle.command_line.specs.declared.request.Command.TheVariants.{Meetings, Explore, Labels, Places, Format}
-use Rattle.command_line.specs.declared.request.Command.TheVariants.{CheckFormat, View, Summary, Draw, Chrome, Upgrade}
+use Rattle.command_line.specs.declared.request.Command.TheVariants.{CheckFormat, View, Summary, Draw, Chrome}
+use Rattle.command_line.specs.declared.request.Command.TheVariants.{Page, Upgrade}
 use Rattle.command_line.specs.declared.request.Command.TheVariants.{Cost, CostByLabel, CostByProcedure}
+use Rattle.command_line.specs.declared.request.Command.TheVariants.{PairsByLine, ViewByLine, SummaryByLine}
 use Rattle.files.specs.Held.{Held, HasText, TellsNoText}
 use Rattle.failures.specs.declared.failure.Failure.{Failure}
 use Rattle.failures.specs.declared.failure.Failure.TheVariants.{CannotRead, NotUtf8, Input, Trace, Illegal}
 use Rattle.failures.specs.declared.failure.Failure.TheVariants.{CannotWrite, CannotWriteOutput, NoMemory}
 use Rattle.commands.specs.Answers.{Done, IsExplored, LacksInput, TellsNotAccepted}
+use Rattle.trace_page.specs.Pages.{IsPage, Traced}
 use Rattle.viewing.specs.declared.drawing.Form.{Form}
-use Rattle.viewing.specs.declared.drawing.Form.TheVariants.{Picture, Spans}
+use Rattle.viewing.specs.declared.drawing.Form.TheVariants.{Html, Picture, Spans}
+use Rattle.viewing.specs.declared.remarks.Remarks.{Remarks}
 use Rattle.viewing.specs.declared.tables.Look.{Look}
-use Rattle.viewing.specs.declared.tables.Look.TheVariants.{Table, Numbers}
+use Rattle.viewing.specs.declared.tables.Look.TheVariants.{Table, TableByLine, Numbers, NumbersByLine}
+use Rattle.viewing.specs.declared.traces.JudgedTrace.{JudgedTrace}
 
 -- ---- names
 
@@ -40,7 +48,7 @@ use Rattle.viewing.specs.declared.tables.Look.TheVariants.{Table, Numbers}
 abbrev pub trace_name : Settings → List ℕ
 trace_name s = unwrap_or s.trace (codes "-")
 
--- the file of the picture, or of the trace in format 2: arguments that request one always name it
+-- the file of the picture: arguments that request one always name it
 abbrev pub picture_name : Settings → List ℕ
 picture_name s = unwrap_or s.picture (codes "-")
 
@@ -64,12 +72,20 @@ pub record HasTrace (s : Settings) (held : Held) (text : List ℕ) (h : Header) 
   pub holds : HoldsTrace held (trace_name s) h es
   pub legal : AreLegal run.code run.input h es
 
+-- this is the trace of the text's program, which was read: its program and its input are those of the run
+pub record IsJudged (s : Settings) (held : Held) (text : List ℕ) (t : JudgedTrace) : Type 0 where
+  pub trace : HasTrace s held text t.trace.header t.trace.events.items
+  pub code : trace.run.code ≡ code_of t.given.accepted.typed
+  pub input : trace.run.input ≡ lists_in t.given.input
+
 -- ---- answers
 
 -- the command that shows this part of a trace
 abbrev pub command_by : Look → Command
 command_by Table = View
+command_by TableByLine = ViewByLine
 command_by Numbers = Summary
+command_by NumbersByLine = SummaryByLine
 
 -- this is the text of the numbers of events, in a run on so many workers
 pub record IsSummaryText (workers : ℕ) (es : List Event) (told : List ℕ) : Type 0 where
@@ -77,13 +93,39 @@ pub record IsSummaryText (workers : ℕ) (es : List Event) (told : List ℕ) : T
   pub are : IsSummary es numbers
   pub told_is : told ≡ summary_text workers numbers
 
+-- lines, each with a remark after it, from the n-th on
+abbrev pub remarked : (remark : ℕ → List ℕ) → (n : ℕ) → List (List ℕ) → List ℕ
+remarked remark n [] = []
+remarked remark n (line ∷ more) = (line ++ (remark n ++ codes "\n")) ++ remarked remark (n + 1) more
+
+-- the remark after the line of the n-th event
+abbrev pub remark_at : Remarks → (n : ℕ) → List ℕ
+remark_at r n = unwrap_or (option_map string_bytes (slice_get r.texts.items (slice_index r.labels.items n))) []
+
+-- this is the table of events with a remark after each line; the remarks aren't specified
+pub record IsTableByLine (es : List Event) (told : List ℕ) : Type 0 where
+  pub remark : ℕ → List ℕ
+  pub told_is : told ≡ remarked remark 0 (lines (table_text (map event_of es)))
+
+-- after the text of the numbers of events come other lines, which aren't specified
+pub record IsSummaryByLine (workers : ℕ) (es : List Event) (told : List ℕ) : Type 0 where
+  pub before : List ℕ
+  pub is_text : IsSummaryText workers es before
+  pub behind : List ℕ
+  pub told_is : told ≡ before ++ behind
+
 -- the answer for a trace: by `view` and `view --upgrade` the table of its events, by `view --summary` its
--- numbers; `view --svg` and `view --chrome` write nothing to the standard output
+-- numbers, by
+-- `--by-line` also with statements; `view --svg`, `view --chrome` and `view --html` write nothing to the standard
+-- output
 abbrev pub TellsTrace : Command → Header → List Event → (told : List ℕ) → Type 0
 TellsTrace View h es told = told ≡ table_text (map event_of es)
+TellsTrace ViewByLine h es told = IsTableByLine es told
 TellsTrace Summary h es told = IsSummaryText h.workers es told
+TellsTrace SummaryByLine h es told = IsSummaryByLine h.workers es told
 TellsTrace Draw h es told = told ≡ []
 TellsTrace Chrome h es told = told ≡ []
+TellsTrace Page h es told = told ≡ []
 TellsTrace Upgrade h es told = told ≡ table_text (map event_of es)
 TellsTrace Run h es told = ⊥
 TellsTrace Serial h es told = ⊥
@@ -91,6 +133,7 @@ TellsTrace Check h es told = ⊥
 TellsTrace Listing h es told = ⊥
 TellsTrace Pairs h es told = ⊥
 TellsTrace Meetings h es told = ⊥
+TellsTrace PairsByLine h es told = ⊥
 TellsTrace Explore h es told = ⊥
 TellsTrace Labels h es told = ⊥
 TellsTrace Places h es told = ⊥
@@ -160,15 +203,19 @@ TellsNoTrace s held text f = TellsNotAccepted text f
 abbrev pub Draws : Command → Type 0
 Draws Draw = Unit {0}
 Draws Chrome = Unit {0}
+Draws Page = Unit {0}
 Draws Upgrade = Unit {0}
 Draws View = ⊥
+Draws ViewByLine = ⊥
 Draws Summary = ⊥
+Draws SummaryByLine = ⊥
 Draws Run = ⊥
 Draws Serial = ⊥
 Draws Check = ⊥
 Draws Listing = ⊥
 Draws Pairs = ⊥
 Draws Meetings = ⊥
+Draws PairsByLine = ⊥
 Draws Explore = ⊥
 Draws Labels = ⊥
 Draws Places = ⊥
@@ -182,6 +229,7 @@ Draws CostByProcedure = ⊥
 abbrev pub command_of : Form → Command
 command_of Picture = Draw
 command_of Spans = Chrome
+command_of (Html program) = Page
 
 -- a trace is drawn, and the file of the picture has this name
 pub record IsDrawnTo (s : Settings) (held : Held) (text told : List ℕ) : Type 0 where
@@ -208,6 +256,57 @@ pub record IsDrawn (s : Settings) (held : Held) (text bytes : List ℕ) : Type 0
   pub header : Header
   pub events : List Event
   pub trace : HasTrace s held text header events
+
+-- what a page shows of a trace that was read, with these names, this text, and these labels at the events
+abbrev pub traced_of : JudgedTrace → (name text trace labels : List ℕ) → Traced
+traced_of t name text trace labels = record {
+  name = name;
+  text = text;
+  trace = trace;
+  code = code_of t.given.accepted.typed;
+  input = lists_in t.given.input;
+  header = t.trace.header;
+  events = t.trace.events.items;
+  labels = labels;
+}
+
+-- a page of a trace that was read, by the name of the program's file
+pub record ShowsPage (name : List ℕ) (s : Settings) (text : List ℕ) (t : JudgedTrace) (bytes : List ℕ)
+    : Type 0 where
+  pub labels : List ℕ
+  pub page : IsPage (traced_of t name text (trace_name s) labels) bytes
+
+-- a trace that was read, drawn in this form; how a picture is drawn isn't specified
+abbrev pub ShowsTrace : Form → Settings → (text : List ℕ) → JudgedTrace → (bytes : List ℕ) → Type 0
+ShowsTrace Picture s text t bytes = Unit {0}
+ShowsTrace Spans s text t bytes = Unit {0}
+ShowsTrace (Html program) s text t bytes = ShowsPage program.now s text t bytes
+
+-- ---- pages
+
+-- the page of a trace of the text's program, by the name of the program's file; the labels aren't specified
+pub record IsPageOf (name : List ℕ) (s : Settings) (held : Held) (text bytes : List ℕ) : Type 0 where
+  pub header : Header
+  pub events : List Event
+  pub trace : HasTrace s held text header events
+  pub labels : List ℕ
+  pub page : IsPage (record {
+    name = name;
+    text = text;
+    trace = trace_name s;
+    code = trace.run.code;
+    input = trace.run.input;
+    header = header;
+    events = events;
+    labels = labels;
+  })
+      bytes
+
+-- the contents of the file in which a trace is drawn in this form
+abbrev pub IsDrawnAs : Form → Settings → Held → (text bytes : List ℕ) → Type 0
+IsDrawnAs Picture s held text bytes = IsDrawn s held text bytes
+IsDrawnAs Spans s held text bytes = IsDrawn s held text bytes
+IsDrawnAs (Html program) s held text bytes = IsPageOf program.now s held text bytes
 
 -- ---- format 2
 

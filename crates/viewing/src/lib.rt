@@ -3,6 +3,8 @@
 #![tactic(auto)]
 
 pub mod drawing;
+pub mod objects;
+pub mod remarks;
 mod statements;
 pub mod tables;
 mod traces;

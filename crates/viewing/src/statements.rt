@@ -33,24 +33,19 @@ pub fn statements_of(
     text: &str,
     judged: &JudgedTrace,
 ) -> Result<EventStatements, AllocError> {
+    Ok(EventStatements {
+        labels: labels_of(alloc, judged)?,
+        descriptions: descriptions_in(alloc, text)?,
+    })
+}
+
+/// Finds the label of the statement at each event of a trace, or 0.
+pub fn labels_of(alloc: Global, judged: &JudgedTrace) -> Result<Vec<Label>, AllocError> {
     let given = &judged.given;
     let trace = &judged.trace;
     let budget = trace.header.budget;
     let steps = steps_again(alloc, given.accepted.typed(), &given.input, budget)?;
-    described(alloc, text, &trace.events, steps)
-}
-
-/// Returns the statements at events, given those at which tasks take their steps.
-fn described(
-    alloc: Global,
-    text: &str,
-    events: &[Event],
-    steps: TaskSteps,
-) -> Result<EventStatements, AllocError> {
-    Ok(EventStatements {
-        labels: labels_at(alloc, events, steps)?,
-        descriptions: descriptions_in(alloc, text)?,
-    })
+    labels_at(alloc, &trace.events, steps)
 }
 
 /// Returns the label of the statement at each event, or 0.

@@ -5,9 +5,7 @@ ghost use Rattle.types.specs.Translation.{input as lists_in};
 ghost use Rattle.types.specs.Typed.{code_of};
 ghost use Rattle.command_line.specs.Requests.{settings as settings_of};
 ghost use Rattle.commands.specs.Outcomes.{Fits};
-ghost use Rattle.commands.specs.Answers.{HasInput};
-ghost use Rattle.viewing.specs.Views.{AreLegal, HasTrace, HoldsTrace, TellsIllegal};
-ghost use Rattle.viewing.specs.Views.{TellsNoLines};
+ghost use Rattle.viewing.specs.Views.{AreLegal, HoldsTrace, IsJudged, TellsIllegal, TellsNoLines};
 ghost use Rattle.viewing.specs.Views.{TellsNoTrace, trace_name as name_of_trace};
 
 use command_line::request::RunOptions;
@@ -47,13 +45,9 @@ pub fn trace_of<R: Threads + Sync, F: FileSource>(
     question: Question<'_>,
     files: &mut F,
 ) -> Result<JudgedTrace, Failure>
-    ensures trace { IfOk result (λ t. HasTrace (settings_of question.entry.settings) (F.held files.old)
-        question.entry.text.now t.trace.header t.trace.events.items) }
-    ensures given { IfOk result (λ t. Fits t.given.accepted.typed t.given.input) }
-    ensures legal { IfOk result (λ t. AreLegal (code_of t.given.accepted.typed)
-        (lists_in t.given.input) t.trace.header t.trace.events.items) }
-    ensures run { IfOk result (λ t. HasInput (settings_of question.entry.settings) (F.held files.old)
-        question.entry.text.now (code_of t.given.accepted.typed) (lists_in t.given.input)) }
+    ensures judged { IfOk result (IsJudged (settings_of question.entry.settings) (F.held files.old)
+        question.entry.text.now) }
+    ensures fits { IfOk result (λ t. Fits t.given.accepted.typed t.given.input) }
     ensures why { IfErr result (TellsNoTrace (settings_of question.entry.settings) (F.held files.old)
         question.entry.text.now) }
     ensures keeps { F.held files.new ≡ F.held files.old }

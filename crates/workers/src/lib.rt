@@ -13,6 +13,7 @@ mod opening;
 mod passing;
 mod pool;
 mod ready;
+mod recorded;
 pub mod reports;
 pub mod run;
 mod scopes;

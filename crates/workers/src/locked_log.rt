@@ -6,6 +6,7 @@ ghost use Rattle.workers.specs.Logs.{IsLogOfRun, IsOwnLog, of_log};
 
 use crate::log_guard::{LogGuard, OwnLog};
 use crate::pool::Pool;
+use crate::recorded::Recording;
 use event_worlds::error::EventError;
 use finish_scope::run_error::RunError;
 use finish_scope::running::Running;
@@ -61,11 +62,14 @@ pub fn locked<'p, J: Running>(log: Option<Log<'p>>) -> Option<LockedLog<'p, J>>
 }
 
 /// Takes the log's lock. The guard is closed if the run has no log, or is over.
-pub fn hold<'h, 'p, J: Running, R: Wait>(
+pub fn hold<'h, 'p, J: Running + Recording, R: Wait>(
     log: &'h Option<LockedLog<'p, J>>,
     rt: &R,
     pool: &'h Pool<'p, J>,
 ) -> LogGuard<'h, 'p, J> {
+    if !J::is_recorded() {
+        return LogGuard::closed(pool);
+    }
     match log {
         Some(log) => log.hold(rt, pool),
         None => LogGuard::closed(pool),

@@ -3,6 +3,7 @@
 ghost use Rattle.workers.specs.Logs.{IsOwnLog};
 
 use crate::pool::Pool;
+use crate::recorded::Recording;
 use event_worlds::error::EventError;
 use events::event::Event;
 use events::worker_id::WorkerId;
@@ -79,9 +80,14 @@ impl<'h, 'p, J: Running> LogGuard<'h, 'p, J> {
             pool,
         }
     }
+}
 
+impl<'h, 'p, J: Running + Recording> LogGuard<'h, 'p, J> {
     /// Returns a copy of a path for an event, if events are recorded and there is memory for it.
     pub fn copy(&self, path: &Path) -> Option<Path> {
+        if !J::is_recorded() {
+            return None;
+        }
         match &self.guard {
             Some(_) => path.clone().ok(),
             None => None,
@@ -91,6 +97,9 @@ impl<'h, 'p, J: Running> LogGuard<'h, 'p, J> {
     /// Records an event. If there is no memory for it, or it isn't legal, the log is lost and the
     /// run is over.
     fn note(&mut self, event: Option<Event>) {
+        if !J::is_recorded() {
+            return;
+        }
         let Some(guard) = self.guard.take() else {
             return;
         };

@@ -22,6 +22,7 @@ use crate::open_scopes::{AfterTurn, Next, OpenScopes};
 use crate::passing::pass;
 use crate::pool::{Pool, Tasks};
 use crate::ready::{First, Ready};
+use crate::recorded::Recording;
 use crate::scopes;
 use crate::scopes::ScopeRecorder;
 use crate::settings::Settings;
@@ -61,7 +62,7 @@ pub struct Shared<'p, J: Running, G: Gate> {
     pub ghost word: { J.word ≡ Some (id_of tickets) },
 }
 
-impl<'p, J: Running, G: Gate> Shared<'p, J, G> {
+impl<'p, J: Running + Recording, G: Gate> Shared<'p, J, G> {
     // ---- turns
 
     /// Continues a task up to a turn that is more than a step.
@@ -109,7 +110,7 @@ impl<'p, J: Running, G: Gate> Shared<'p, J, G> {
         ensures next { IfOk result (IsOwnTurn J.job) }
         ensures cause { IfErr result (Happens J.job) }
     {
-        if self.log.is_some() {
+        if J::is_recorded() {
             self.noted_turn(rt, task)
         } else {
             Ok(go::<J>(task, self.code.lend())?)
@@ -578,7 +579,11 @@ fn steps_of<'p, J: Running>(task: &Task<'p>) -> u32
 // ---- recording
 
 /// Records a step if the task has fewer steps left than before.
-fn note_step<'p, J: Running>(log_guard: &mut LogGuard<'_, 'p, J>, task: &Task<'p>, before: u32)
+fn note_step<'p, J: Running + Recording>(
+    log_guard: &mut LogGuard<'_, 'p, J>,
+    task: &Task<'p>,
+    before: u32,
+)
     requires { IsOwnTask J.job task.now }
 {
     if task.steps() < before {
@@ -587,21 +592,21 @@ fn note_step<'p, J: Running>(log_guard: &mut LogGuard<'_, 'p, J>, task: &Task<'p
 }
 
 /// Records that a task spawned another.
-fn note_spawn<'p, J: Running>(log_guard: &mut LogGuard<'_, 'p, J>, task: &Task<'p>)
+fn note_spawn<'p, J: Running + Recording>(log_guard: &mut LogGuard<'_, 'p, J>, task: &Task<'p>)
     requires { IsOwnTask J.job task.now }
 {
     log_guard.spawned(task.path());
 }
 
 /// Records that a task started a finish.
-fn note_open<'p, J: Running>(log_guard: &mut LogGuard<'_, 'p, J>, task: &Task<'p>)
+fn note_open<'p, J: Running + Recording>(log_guard: &mut LogGuard<'_, 'p, J>, task: &Task<'p>)
     requires { IsOwnTask J.job task.now }
 {
     log_guard.opened(task.path());
 }
 
 /// Records that a worker takes a task that it or another worker spawned.
-fn note_taken<'p, J: Running>(
+fn note_taken<'p, J: Running + Recording>(
     log_guard: &mut LogGuard<'_, 'p, J>,
     number: usize,
     from: usize,
@@ -612,9 +617,8 @@ fn note_taken<'p, J: Running>(
     log_guard.taken(number, from, task.path());
 }
 
-/// Records that a worker continues with an owner after its finish, which has gathered this number
-/// of faults.
-fn note_resume<'p, J: Running>(
+/// Records that a worker continues with an owner after its finish.
+fn note_resume<'p, J: Running + Recording>(
     log_guard: &mut LogGuard<'_, 'p, J>,
     number: usize,
     task: &Task<'p>,
@@ -642,7 +646,7 @@ fn passed<'p, J: Running>(
     pass(owner, results)
 }
 
-impl<'p, J: Running + Send + Sync, G: Gate + Sync> Crew for Shared<'p, J, G> {
+impl<'p, J: Running + Recording + Send + Sync, G: Gate + Sync> Crew for Shared<'p, J, G> {
     type Kit = WorkerParts<'p, J>;
 
     type Report = Report;

@@ -22,6 +22,7 @@ use crate::gate::Gate;
 use crate::locked_log::{LockedLog, close, locked};
 use crate::main_loop::Shared;
 use crate::opening::open;
+use crate::recorded::{Recorded, Recording, Unrecorded};
 use crate::reports::{Finished, told};
 use crate::settings::Settings;
 use crate::word::{Terms, Word};
@@ -119,8 +120,42 @@ pub fn run_with<'p, G: Gate + Sync, R: Threads + Wait + Sync>(
     run_as::<Brand, G, R>(rt, job, code, Terms { settings, word }, gate, log)
 }
 
-/// Runs a program once the job is picked. If no worker reports anything, the log was lost.
+/// Runs a program once the job is picked. A run without a log is of another type than one with a log.
 fn run_as<'p, J: Running + Send + Sync, G: Gate + Sync, R: Threads + Wait + Sync>(
+    rt: &R,
+    job: Job<'p>,
+    code: ProgramCode<'p>,
+    terms: Terms,
+    gate: &'p G,
+    log: Option<Log<'p>>,
+) -> Result<(Finished, Option<Log<'p>>), RunError>
+    requires of { J.job ≡ Some job }
+    requires weight { J.w0 ≡ terms.settings.w0 }
+    requires job { IsJob job }
+    requires code { HasCode J.job code }
+    requires word { IsFreshWord terms.settings.workers terms.word }
+    requires own_word { IsOwnWord J.word terms.word.tickets }
+    requires log { IfSome log (λ l. l.world.job ≡ weighted job terms.settings.w0) }
+    ensures outcome { IfOk result (λ r. outcome_in r.0.outcome ≡ outcome_of job.entry) }
+    ensures drawn { IfOk result (λ r. AreAllOf terms.word.tickets r.0.tasks) }
+    ensures tasks { IfOk result (λ r. r.0.tasks.number ≤ terms.settings.tasks) }
+    ensures started { IfOk result
+        (λ r. IfSome r.1 (λ l. r.0.tasks.number ≡ tasks_in l.events)) }
+    ensures kept { IfOk result (λ r. IsSome r.1 ↔ IsSome log.entry) }
+    ensures log { IfOk result (λ r. IfSome r.1 (IsLogOfRun J.job J.w0)) }
+    ensures failed { IfErr result
+        (IsRunReason J.job terms.word.tickets terms.settings.tasks (IsSome log.entry)) }
+{
+    if log.is_some() {
+        run_typed::<Recorded<J>, G, R>(rt, job, code, terms, gate, log)
+    } else {
+        run_typed::<Unrecorded<J>, G, R>(rt, job, code, terms, gate, log)
+    }
+}
+
+/// Runs a program once its type says whether events are recorded. If no worker reports anything, the
+/// log was lost.
+fn run_typed<'p, J: Running + Recording + Send + Sync, G: Gate + Sync, R: Threads + Wait + Sync>(
     rt: &R,
     job: Job<'p>,
     code: ProgramCode<'p>,
@@ -183,7 +218,7 @@ fn with_all_tasks<'p>(
 }
 
 /// Runs a program once its log is under a lock. Returns what the workers reported, and the log.
-fn run_by<'p, J: Running + Send + Sync, G: Gate + Sync, R: Threads + Wait + Sync>(
+fn run_by<'p, J: Running + Recording + Send + Sync, G: Gate + Sync, R: Threads + Wait + Sync>(
     rt: &R,
     job: Job<'p>,
     code: OwnCode<'p, J>,

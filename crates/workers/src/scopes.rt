@@ -11,6 +11,7 @@ use crate::gate::Gate;
 use crate::locked_log::{LockedLog, hold};
 use crate::log_guard::LogGuard;
 use crate::pool::Pool;
+use crate::recorded::Recording;
 use finish_scope::inner::{Inner, Scope};
 use finish_scope::late::{Late, Reason};
 use finish_scope::resting::{Passing, Resting};
@@ -34,7 +35,7 @@ pub struct ScopeRecorder<'c, 'p, J: Running, G: Gate> {
     pub scope: ScopeMark,
 }
 
-impl<'c, 'p, J: Running, G: Gate> ScopeRecorder<'c, 'p, J, G> {
+impl<'c, 'p, J: Running + Recording, G: Gate> ScopeRecorder<'c, 'p, J, G> {
     /// Takes the log's lock, if events are recorded.
     fn hold<R: Wait>(&self, rt: &R) -> LogGuard<'c, 'p, J> {
         hold::<J, R>(self.log, rt, self.pool)
@@ -42,7 +43,7 @@ impl<'c, 'p, J: Running, G: Gate> ScopeRecorder<'c, 'p, J, G> {
 }
 
 /// Issues more weight to a task that has too little for its child.
-pub fn replenish<'p, J: Running, G: Gate, R: Wait>(
+pub fn replenish<'p, J: Running + Recording, G: Gate, R: Wait>(
     rt: &R,
     scope: &Scope<'p, J>,
     wanting: Wanting<'p>,
@@ -70,7 +71,7 @@ pub fn replenish<'p, J: Running, G: Gate, R: Wait>(
 }
 
 /// Records that a task was given more weight, and spawned another.
-fn note_more<'p, J: Running>(log_guard: &mut LogGuard<'_, 'p, J>, task: &Task<'p>)
+fn note_more<'p, J: Running + Recording>(log_guard: &mut LogGuard<'_, 'p, J>, task: &Task<'p>)
     requires { IsOwnTask J.job task.now }
 {
     log_guard.replenished(task.path());
@@ -78,7 +79,7 @@ fn note_more<'p, J: Running>(log_guard: &mut LogGuard<'_, 'p, J>, task: &Task<'p
 
 /// Gives back the weight and the result of a task that has finished. If it was the last, the
 /// scope's owner is returned.
-pub fn give_back<'p, J: Running, G: Gate, R: Wait>(
+pub fn give_back<'p, J: Running + Recording, G: Gate, R: Wait>(
     rt: &R,
     scope: &Scope<'p, J>,
     weight: Weight,
@@ -112,7 +113,7 @@ pub fn give_back<'p, J: Running, G: Gate, R: Wait>(
 
 /// Parks a task as the owner of the scope. If all tasks of the scope have finished, the owner is
 /// returned.
-pub fn park<'p, J: Running, G: Gate, R: Wait>(
+pub fn park<'p, J: Running + Recording, G: Gate, R: Wait>(
     rt: &R,
     scope: &Scope<'p, J>,
     weight: Weight,
@@ -145,7 +146,7 @@ pub fn park<'p, J: Running, G: Gate, R: Wait>(
 }
 
 /// Takes the owner out of a scope if the weight that came back was the last.
-fn passes<'p, J: Running, G: Gate, R: Wait>(
+fn passes<'p, J: Running + Recording, G: Gate, R: Wait>(
     rt: &R,
     inner: &mut Inner<'p, J>,
     back: Back,

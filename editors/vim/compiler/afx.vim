@@ -6,6 +6,6 @@ let current_compiler = "afx"
 CompilerSet makeprg=afx\ check\ --format\ json\ %:S
 " A race, another refusal with a place, one without, and other lines, which are left out.
 CompilerSet errorformat=%.%#\"column\":%c\\,\"file\":\"%f\"\\,%.%#\"line\":%l\\,\"message\":\"%m\"\\,\"race\"%.%#
-CompilerSet errorformat+=%.%#\"column\":%c\\,\"file\":\"%f\"\\,%.%#\"line\":%l\\,\"message\":\"%m\"\\,\"status\"%.%#
-CompilerSet errorformat+=%.%#\"column\":null\\,\"file\":\"%f\"\\,%.%#\"message\":\"%m\"\\,\"status\"%.%#
+CompilerSet errorformat+=%.%#\"column\":%c\\,\"file\":\"%f\"\\,%.%#\"line\":%l\\,\"message\":\"%m\"\\,\"reason\"%.%#
+CompilerSet errorformat+=%.%#\"column\":null\\,\"file\":\"%f\"\\,%.%#\"message\":\"%m\"\\,\"reason\"%.%#
 CompilerSet errorformat+=%-G%.%#

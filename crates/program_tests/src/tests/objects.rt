@@ -7,6 +7,7 @@ use json_answers::found::FoundRace;
 use json_answers::outcomes::outcome_object;
 use json_answers::programs::{accepted_object, pairs_object};
 use json_answers::races::race_object;
+use json_answers::reason::Reason;
 use json_answers::refusals::refusal_object;
 use parallel_relation::pairs::may_run_together;
 use race_checker::check::{Refused, check};
@@ -143,15 +144,18 @@ fn races_are_told(rt: HostRuntime) {
         Err(Refused::Race { race, typed }) => {
             let witness = witness_of(alloc, &typed, race).expect(&rt, "memory");
             let witness = witness.expect(&rt, "a witness");
+            let explanation = "\nr.afx:2:3: C1: about\n1 writes s:\nhelp: use a finish.\n";
+            let reason = Reason::of(alloc, "r.afx", explanation).expect(&rt, "memory");
             let found = FoundRace {
                 places: &places,
                 code: typed.code(),
                 race,
                 witness: &witness,
+                reason: &reason,
             };
             let told = race_object(alloc, "r.afx", found).expect(&rt, "memory");
             let wanted = "{\"code\":\"C1\",\"column\":3,\"file\":\"r.afx\",\
-                \"label\":1,\"line\":2,\"message\":\"C1 race in main: 1 write a, 4 write a\",\
+                \"help\":[\"use a finish.\"],\"label\":1,\"line\":2,\"message\":\"C1 race in main: 1 write a, 4 write a\",\
                 \"race\":{\"first\":{\"column\":3,\"kind\":\"write\",\"label\":1,\"line\":2,\
                 \"section\":\"a\"},\"procedure\":\"main\",\"second\":{\"column\":3,\
                 \"kind\":\"write\",\"label\":4,\"line\":7,\"section\":\"a\"},\
@@ -165,7 +169,8 @@ fn races_are_told(rt: HostRuntime) {
                 \"meeting\":\"follows\",\"pending\":\"first\",\"second\":[\
                 {\"calls\":null,\"column\":3,\"kind\":\"write\",\"label\":4,\"line\":7,\
                 \"procedure\":\"main\",\"section\":\"a\"}],\
-                \"sharing\":{\"kind\":\"same\",\"section\":null}}},\"status\":1}\n";
+                \"sharing\":{\"kind\":\"same\",\"section\":null}}},\
+                \"reason\":\"1 writes s:\",\"status\":1}\n";
             assert_eq!(rt; told.as_str(), wanted);
         }
         Err(_other) => assert!(rt; false),
@@ -173,16 +178,20 @@ fn races_are_told(rt: HostRuntime) {
     }
 }
 
+/// What is known of a failure: the file of the program, the positions of its statements, and the
+/// explanation.
+#[derive(Clone, Copy)]
+struct Told<'t> {
+    file: &'t str,
+    places: &'t [TextPlace],
+    explanation: &'t str,
+}
+
 /// Compares the object of a failure with the expected one.
-fn compare_told(
-    rt: &impl Abort,
-    alloc: Global,
-    file: &str,
-    places: &[TextPlace],
-    failure: &Failure,
-    want: &str,
-) {
-    let told = refusal_object(alloc, file, places, failure).expect(rt, "memory");
+fn compare_told(rt: &impl Abort, alloc: Global, known: Told<'_>, failure: &Failure, want: &str) {
+    let Told { file, places, .. } = known;
+    let reason = Reason::of(alloc, file, known.explanation).expect(rt, "memory");
+    let told = refusal_object(alloc, file, places, failure, &reason).expect(rt, "memory");
     assert_eq!(rt; told.as_str(), want);
 }
 
@@ -195,16 +204,30 @@ fn refusals_are_told(rt: HostRuntime) {
     match type_check(alloc, program) {
         Err(error) => {
             let wanted = "{\"array\":null,\"code\":\"Y5\",\"column\":27,\"file\":\"d.afx\",\
-                \"label\":3,\"line\":1,\"message\":\"Y5 at label 3\",\"status\":1}\n";
+                \"help\":[\"use another name.\"],\"label\":3,\"line\":1,\
+                \"message\":\"Y5 at label 3\",\"reason\":\"Two\\nlines.\",\"status\":1}\n";
             let failure = Failure::Types(error);
-            compare_told(&rt, alloc, "d.afx", &places, &failure, wanted);
+            let explanation = "\nd.afx:9:9: Y5: about\n     9 | text\n       |   ^\nTwo\nlines.\n\
+                help: use another name.\n";
+            let known = Told {
+                file: "d.afx",
+                places: &places,
+                explanation,
+            };
+            compare_told(&rt, alloc, known, &failure, wanted);
         }
         Ok(_) => assert!(rt; false),
     }
     let wanted = "{\"array\":null,\"code\":null,\"column\":null,\"file\":\"a\\\"b.afx\",\
-        \"label\":null,\"line\":null,\"message\":\"cannot read a\\\"b.afx\",\"status\":1}\n";
+        \"help\":[],\"label\":null,\"line\":null,\"message\":\"cannot read a\\\"b.afx\",\
+        \"reason\":null,\"status\":1}\n";
     let failure = Failure::cannot_read(alloc, "a\"b.afx");
-    compare_told(&rt, alloc, "a\"b.afx", &[], &failure, wanted);
+    let known = Told {
+        file: "a\"b.afx",
+        places: &[],
+        explanation: "",
+    };
+    compare_told(&rt, alloc, known, &failure, wanted);
 }
 
 #[test]
@@ -213,19 +236,31 @@ fn errors_of_texts_and_inputs_are_told(rt: HostRuntime) {
     match syntax::parse(alloc, "main { skip }") {
         Err(error) => {
             let wanted = "{\"array\":null,\"code\":\"S2\",\"column\":13,\"file\":\"-\",\
-                \"label\":null,\"line\":1,\"message\":\"S2 at 1:13\",\"status\":1}\n";
+                \"help\":[],\"label\":null,\"line\":1,\"message\":\"S2 at 1:13\",\
+                \"reason\":null,\"status\":1}\n";
             let failure = Failure::Syntax(error);
-            compare_told(&rt, alloc, "-", &[], &failure, wanted);
+            let known = Told {
+                file: "-",
+                places: &[],
+                explanation: "",
+            };
+            compare_told(&rt, alloc, known, &failure, wanted);
         }
         Ok(_) => assert!(rt; false),
     }
     let typed = typed(&rt, alloc, PROGRAM);
     match Input::from_json(alloc, &typed, "{\"q\": []}") {
         Err(error) => {
-            let wanted = "{\"array\":\"q\",\"code\":\"N3\",\"column\":null,\"file\":\"p.afx\",\
-                \"label\":null,\"line\":null,\"message\":\"N3 q\",\"status\":1}\n";
+            let wanted = "{\"array\":\"q\",\"code\":\"N3\",\"column\":7,\"file\":\"p.afx\",\
+                \"help\":[\"one.\",\"two.\"],\"label\":null,\"line\":2,\"message\":\"N3 q\",\
+                \"reason\":null,\"status\":1}\n";
             let failure = Failure::Input(error);
-            compare_told(&rt, alloc, "p.afx", &[], &failure, wanted);
+            let known = Told {
+                file: "p.afx",
+                places: &[],
+                explanation: "\np.afx:2:7: N3: about\nhelp: one.\nhelp: two.\n",
+            };
+            compare_told(&rt, alloc, known, &failure, wanted);
         }
         Ok(_) => assert!(rt; false),
     }

@@ -1,4 +1,4 @@
-use Rattle.std.proofs.Common.{ap, ◌∙◌, false, map, refl, sym}
+use Rattle.std.proofs.Common.{ap, ◌∙◌, false, map, refl, sym, subst, string_bytes}
 use Rattle.std.proofs.lemmas.Result.{IfOk-at_ok}
 use Rattle.types.specs.Outcome.{outcome}
 use Rattle.types.specs.Translation.{array, input as lists_of, outcome as outcome_of}
@@ -7,7 +7,7 @@ use Rattle.command_line.specs.Requests.{settings}
 use Rattle.cost.specs.Accounts.{account_of, span_by_label}
 use Rattle.cost.specs.Costs.{cost_of, tally_of}
 use Rattle.printing.specs.OutcomeText.{status_of}
-use Rattle.commands.specs.Answers.{account_in, command_of, cost_lines, not_ended, numbers}
+use Rattle.commands.specs.Answers.{HasCost, account_in, command_of, not_ended, numbers}
 use Rattle.commands.proofs.Answering.{cost_answers, costs_are_run, costs_test_rules, declared_of, outcome_shown, passes_not_given, shown}
 use Rattle.commands.proofs.costing.tell_cost.Goals as goal
 
@@ -31,11 +31,14 @@ returns-then-status-eq0-clause-done g c =
     let a = account_in by p input s.budget in
     let is = c.in_ok-cost.ensures.value in let measured = c.measure_by_label-measured.ensures in
     let rows = c.in_ok-rows.ensures.rows in
-    let told = c.as_str.ensures.value ∙ IfOk-at_ok _ c.in_ok-told.ensures.value c.lines_of.ensures
-    ∙ ap (λ x. cost_lines by x m.work.items m.span.items p) (IfOk-at_ok _ is measured.cost)
-    ∙ ap (λ w. cost_lines by n w m.span.items p) (IfOk-at_ok _ is measured.work ∙ ap (λ r. (account_of p r input s.budget).work) rows)
-    ∙ ap (λ x. cost_lines by n a.work x p)
-    (IfOk-at_ok _ is measured.span ∙ ap (λ r. span_by_label (account_of p r input s.budget)) rows) in
+    let lines = string_bytes c.in_ok-told.told in
+    let found = IfOk-at_ok _ c.in_ok-told.ensures.value (c.lines_of.ensures c.in_ok-given.ensures.spelled) in
+    let costs = subst (λ x. HasCost by text x m.work.items m.span.items p lines) (IfOk-at_ok _ is measured.cost) found in
+    let works = subst (λ w. HasCost by text n w m.span.items p lines)
+    (IfOk-at_ok _ is measured.work ∙ ap (λ r. (account_of p r input s.budget).work) rows) costs in
+    let spans = subst (λ x. HasCost by text n a.work x p lines)
+    (IfOk-at_ok _ is measured.span ∙ ap (λ r. span_by_label (account_of p r input s.budget)) rows) works in
+    let told = subst (λ l. HasCost by text n a.work (span_by_label a) p l) (sym c.as_str.ensures.value) spans in
     shown (command_of by) s held text _ _ c.answer.result _ 0
     (cost_answers by s held text _ 0 (record {
       code = p;

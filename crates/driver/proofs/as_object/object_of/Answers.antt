@@ -11,3 +11,13 @@ pub returns-in-Pairs-clause-object : goal.returns-in-Pairs-clause-object
 returns-in-Pairs-clause-object g c =
     let s = settings c.args.question.settings in let held = g.F.FileSource.held c.args.files.now in
     object_so _ _ c.in-Pairs.is s held c.args.question.text.now c.pairs_told.result (c.pairs_told.ensures.object s held)
+
+pub returns-in-Labels-clause-object : goal.returns-in-Labels-clause-object
+returns-in-Labels-clause-object g c =
+    let s = settings c.args.question.settings in let held = g.F.FileSource.held c.args.files.now in
+    object_so _ _ c.in-Labels.is s held c.args.question.text.now c.list_told.result (c.list_told.ensures.object s held)
+
+pub returns-in-CheckFormat-clause-object : goal.returns-in-CheckFormat-clause-object
+returns-in-CheckFormat-clause-object g c =
+    let s = settings c.args.question.settings in let held = g.F.FileSource.held c.args.files.now in
+    object_so _ _ c.in-CheckFormat.is s held c.args.question.text.now c.format_told.result (c.format_told.ensures.object s held)

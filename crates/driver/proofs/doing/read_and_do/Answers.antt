@@ -1,4 +1,4 @@
-use Rattle.std.proofs.Common.{List, ℕ, ◌≤◌, length, Result, subst, sym}
+use Rattle.std.proofs.Common.{List, ℕ, ◌≤◌, ◌∙◌, length, Result, subst, sym}
 use Rattle.files.specs.Held.{HasText}
 use Rattle.failures.specs.declared.failure.Failure.{Failure}
 use Rattle.command_line.specs.Requests.{asked_of}
@@ -12,7 +12,7 @@ use Rattle.driver.proofs.doing.read_and_do.Goals as goal
 pub returns-in-Err-clause-done : goal.returns-in-Err-clause-done
 returns-in-Err-clause-done g c =
     read_without_text c.args.ordered.doing (asked_of c.args.ordered.request) _ _ _ _ c.in-Err.refusal.failure
-    c.in-Err.ensures.keeps c.in-Err.ensures.why c.tell_unread.ensures
+    (c.tell_unread.ensures.keeps ∙ c.in-Err.ensures.keeps) c.in-Err.ensures.why c.tell_unread.ensures.told
 
 pub returns-clause-done : goal.returns-clause-done
 returns-clause-done g c =

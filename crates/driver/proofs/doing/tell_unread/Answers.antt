@@ -3,19 +3,24 @@ use Rattle.driver.specs.declared.doing.TextOrder.TheVariants.{Answering, Timing,
 use Rattle.driver.proofs.Ordered.{unread_so}
 use Rattle.driver.proofs.doing.tell_unread.Goals as goal
 
-pub returns-in-Answering : goal.returns-in-Answering
-returns-in-Answering g c =
-    unread_so c.args.doing Answering c.in-Answering.is c.args.file.now _ _ c.args.failure.now (Keeps-refl _)
+pub returns-in-Answering-clause-told : goal.returns-in-Answering-clause-told
+returns-in-Answering-clause-told g c =
+    let o = c.args.ordered in
+    unread_so o.doing Answering c.in-Answering.is o.request.file.now _ _ c.args.failure.now (Keeps-refl _)
 
-pub returns-in-Describing : goal.returns-in-Describing
-returns-in-Describing g c =
-    unread_so c.args.doing _ c.in-Describing.is c.args.file.now _ _ c.args.failure.now c.tell_refusal.ensures
+pub returns-in-Describing-clause-told : goal.returns-in-Describing-clause-told
+returns-in-Describing-clause-told g c =
+    let o = c.args.ordered in
+    unread_so o.doing _ c.in-Describing.is o.request.file.now _ _ c.args.failure.now
+    c.tell_unread_file.ensures.told
 
-pub returns-in-Timing : goal.returns-in-Timing
-returns-in-Timing g c =
-    unread_so c.args.doing Timing c.in-Timing.is c.args.file.now _ _ c.args.failure.now (Keeps-refl _)
+pub returns-in-Timing-clause-told : goal.returns-in-Timing-clause-told
+returns-in-Timing-clause-told g c =
+    let o = c.args.ordered in
+    unread_so o.doing Timing c.in-Timing.is o.request.file.now _ _ c.args.failure.now (Keeps-refl _)
 
-pub returns-in-TimingAsObject : goal.returns-in-TimingAsObject
-returns-in-TimingAsObject g c =
-    unread_so c.args.doing TimingAsObject c.in-TimingAsObject.is c.args.file.now _ _ c.args.failure.now
-    c.tell_refusal-in-TimingAsObject.ensures
+pub returns-in-TimingAsObject-clause-told : goal.returns-in-TimingAsObject-clause-told
+returns-in-TimingAsObject-clause-told g c =
+    let o = c.args.ordered in
+    unread_so o.doing TimingAsObject c.in-TimingAsObject.is o.request.file.now _ _ c.args.failure.now
+    c.tell_unread_file-in-TimingAsObject.ensures.told

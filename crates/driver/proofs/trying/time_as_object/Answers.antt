@@ -1,4 +1,4 @@
-use Rattle.std.proofs.Common.{string_bytes}
+use Rattle.std.proofs.Common.{◌∙◌, string_bytes}
 use Rattle.command_line.specs.Requests.{settings}
 use Rattle.command_line.specs.declared.request.Command.TheVariants.{Run}
 use Rattle.commands.specs.Answers.{Explains}
@@ -26,6 +26,6 @@ returns-in-Err g c =
     let fails = c.in-Err.ensures.why in
     record {
       done = object_refused (ObjectOfTimes s held text) (Explains Run s held text) (TellsFailure request.file.now text) _ _
-          c.in-Err.failure fails.why fails.early c.tell_refusal.ensures;
-      keeps = c.in-Err.ensures.keeps;
+          c.in-Err.failure fails.why fails.early c.tell_explained.ensures.told;
+      keeps = c.tell_explained.ensures.keeps ∙ c.in-Err.ensures.keeps;
     }

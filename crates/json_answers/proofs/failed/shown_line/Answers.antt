@@ -10,6 +10,7 @@ pub returns : goal.returns
 returns c =
     IfOk-weaker c.race_object.result _ _ (λ object same.
     race_shown c.args.file.now (string_bytes object) c.args.places.now (code_of c.args.typed.now)
-    (program c.code.result.now) (race c.args.race) c.in_ok-witness.field-0 c.in-Some.witness c.in-Some.is
+    (program c.code.result.now) (race c.args.race) c.in_ok-witness.field-0 c.in-Some.witness c.args.reason.now
+    c.in-Some.is
     c.in_ok-witness.ensures.witness c.in_ok-witness.ensures.shortest c.code.ensures.code same)
     c.race_object.ensures.text

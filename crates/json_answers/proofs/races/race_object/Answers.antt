@@ -14,7 +14,7 @@ line_of-requires c =
     let same = c.in_ok-value.ensures in
     record {
       no_float = ap has_float same
-          ∙ race_has_none c.args.file.now f.places.now (program f.code.now) (race f.race) f.witness.now;
+          ∙ race_has_none c.args.file.now f.places.now (program f.code.now) (race f.race) f.witness.now f.reason.now;
       shallow = subst (λ d. depth d ≤ max_depth) (sym same)
-          (race_within c.args.file.now f.places.now (program f.code.now) (race f.race) f.witness.now);
+          (race_within c.args.file.now f.places.now (program f.code.now) (race f.race) f.witness.now f.reason.now);
     }

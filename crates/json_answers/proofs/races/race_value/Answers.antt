@@ -12,11 +12,12 @@ pub returns : goal.returns
 returns c =
     let file = c.args.file.now in
     let found = c.args.found in
+    let reason = found.reason.now in
     let label = found.race.first.label in
+    let place = place_at found.places.now label in
     let told = view c.in_ok-accesses.accesses in
     let said = race_message (program found.code.now) (race found.race) in
     IfOk-weaker c.told_value.result _ _ (λ v same. same
-    ∙ ap (λ m. object_of (told_members file c.place_at-place.result label m told)) c.in_ok-message.ensures
-    ∙ ap (λ p. object_of (told_members file p label said told)) c.place_at-place.ensures
-    ∙ ap (λ a. object_of (told_members file (place_at found.places.now label) label said a)) c.in_ok-accesses.ensures)
+    ∙ ap (λ m. object_of (told_members file place label m told reason)) c.in_ok-message.ensures
+    ∙ ap (λ a. object_of (told_members file place label said a reason)) c.in_ok-accesses.ensures)
     c.told_value.ensures

@@ -10,6 +10,6 @@ pub line_of-requires : goal.line_of-requires
 line_of-requires c =
     let same = c.in_ok-value.ensures in
     record {
-      no_float = ap has_float same ∙ refusal_has_none c.args.file.now c.args.places.now c.args.failure.now;
-      shallow = subst (λ d. depth d ≤ max_depth) (sym same) (refusal_within c.args.file.now c.args.places.now c.args.failure.now);
+      no_float = ap has_float same ∙ refusal_has_none c.args.file.now c.args.places.now c.args.failure.now c.args.reason.now;
+      shallow = subst (λ d. depth d ≤ max_depth) (sym same) (refusal_within c.args.file.now c.args.places.now c.args.failure.now c.args.reason.now);
     }

@@ -8,7 +8,7 @@ use Rattle.test_and_bench.proofs.listed.programs_of.Goals as goal
 pub loop-name-init : goal.loop-name-init
 loop-name-init g c =
     let named = g.F.FolderSource.named c.args.files.now in let held = g.F.FileSource.held c.args.files.now in
-    subst (λ (ps : List Listed). HaveListed named held c.args.names.now named held 0 (map listed ps)) (sym c.new.ensures.items)
+    subst (λ (ps : List Listed). HaveListed named held c.args.names.now named held 0 (map listed ps)) (sym c.new-programs.ensures.items)
     (none_listed named held c.args.names.now)
 
 pub loop-name-preserved : goal.loop-name-preserved

@@ -31,8 +31,8 @@ returns-in-Ok-clause-added g c =
       added = rw c.deref.ensures.value at c.in-Ok.ensures;
     }
 
-pub returns-in-Err-clause-why : goal.returns-in-Err-clause-why
-returns-in-Err-clause-why g c = record {
+pub returns-clause-why : goal.returns-clause-why
+returns-clause-why g c = record {
   folder = c.folder_and_stem.result.0.now;
   stem = c.folder_and_stem.result.1.now;
   is_in = c.folder_and_stem.ensures;

@@ -20,7 +20,7 @@ returns-clause-done g c =
     (record {
       header = trace.header;
       events = trace.events.items;
-      trace = c.in_ok-judged.ensures.trace;
+      trace = c.in_ok-judged.ensures.judged.trace;
       tells = subst (λ (told : List ℕ). TellsTrace by trace.header trace.events.items told) (sym c.as_str.ensures.value)
           (IfOk-at_ok _ c.in_ok-told.ensures.value c.shown.ensures);
       status_is = refl;

@@ -1,3 +1,4 @@
+use Rattle.std.proofs.Common.{refl}
 use Rattle.command_line.specs.Requests.{settings}
 use Rattle.commands.proofs.Answering.{begun_so, err_passed}
 use Rattle.viewing.specs.Views.{TellsNoTrace}
@@ -19,10 +20,14 @@ returns-in_err-judge-clause-why g c =
     (holds_so _ _ c.in_ok-given.ensures.keeps _ _ c.trace_name.ensures _ _ c.in_ok-trace.ensures.holds) _
     c.in_err-judge.ensures.why)
 
-pub returns-clause-trace : goal.returns-clause-trace
-returns-clause-trace g c = record {
-  run = begun_so (settings c.args.question.settings) (g.F.FileSource.held c.args.files.now) c.args.question.text.now
-      c.in_ok-given.given c.in_ok-given.ensures.given;
-  holds = holds_so _ _ c.in_ok-given.ensures.keeps _ _ c.trace_name.ensures _ _ c.in_ok-trace.ensures.holds;
-  legal = c.in_ok-judge.ensures.legal;
+pub returns-clause-judged : goal.returns-clause-judged
+returns-clause-judged g c = record {
+  trace = record {
+    run = begun_so (settings c.args.question.settings) (g.F.FileSource.held c.args.files.now) c.args.question.text.now
+        c.in_ok-given.given c.in_ok-given.ensures.given;
+    holds = holds_so _ _ c.in_ok-given.ensures.keeps _ _ c.trace_name.ensures _ _ c.in_ok-trace.ensures.holds;
+    legal = c.in_ok-judge.ensures.legal;
+  };
+  code = refl;
+  input = refl;
 }

@@ -1,9 +1,9 @@
-use Rattle.std.proofs.Common.{refl}
+use Rattle.std.proofs.Common.{◌∙◌, refl, sym}
 use Rattle.command_line.specs.Requests.{settings}
 use Rattle.command_line.specs.declared.request.Command.TheVariants.{Upgrade}
-use Rattle.commands.proofs.Answering.{answered, begun_so}
+use Rattle.commands.proofs.Answering.{answered}
 use Rattle.viewing.specs.Views.{AnswersTrace, ExplainsTrace, IsInFormatTwo, picture_name}
-use Rattle.viewing.proofs.Viewing.{views_no_trace, views_unwritten}
+use Rattle.viewing.proofs.Viewing.{in_format_two, legal_in, views_no_trace, views_unwritten}
 use Rattle.viewing.proofs.Written.{unwritten, wrote, wrote_anyway}
 use Rattle.viewing.proofs.upgrading.upgrade.Goals as goal
 
@@ -17,7 +17,7 @@ pub returns-in_err-write_file-clause-done : goal.returns-in_err-write_file-claus
 returns-in_err-write_file-clause-done g c =
     let s = settings c.args.question.settings in let held = g.F.FileSource.held c.args.files.now in
     views_unwritten s held c.args.question.text.now Upgrade tt _ _
-    c.in_ok-judged.ensures.trace _ c.picture_name.ensures _ _ _ c.from_residual-in_err-write_file.ensures.1
+    c.in_ok-judged.ensures.judged.trace _ c.picture_name.ensures _ _ _ c.from_residual-in_err-write_file.ensures.1
     c.in_err-write_file.ensures.why
 
 pub returns-in_err-write_file-clause-trace : goal.returns-in_err-write_file-clause-trace
@@ -35,7 +35,7 @@ returns-clause-done g c =
     (record {
       header = trace.header;
       events = trace.events.items;
-      trace = c.in_ok-judged.ensures.trace;
+      trace = c.in_ok-judged.ensures.judged.trace;
       tells = c.in_ok-table.ensures.value;
       status_is = refl;
     })
@@ -48,15 +48,12 @@ returns-clause-trace g c =
     wrote_anyway (picture_name s) (IsInFormatTwo s held text) held _ c.answer.result
     (wrote _ (picture_name s) c.picture_name.ensures (IsInFormatTwo s held text) held _ _ c.in_ok-judged.ensures.keeps
     c.as_bytes.result.now
-    (record {
-      header = judged.trace.header;
-      events = judged.trace.events.items;
-      trace = record {
-        run = begun_so s held text judged.given c.in_ok-judged.ensures.run;
-        holds = c.in_ok-judged.ensures.trace.holds;
-        legal = c.in_ok-judged.ensures.legal;
-      };
-      lines = c.in_ok-lines.ensures.lines;
-    })
+    (in_format_two s held text judged c.in_ok-judged.ensures.judged c.as_bytes.result.now
+    (sym c.as_bytes.ensures.value ∙ c.in_ok-lines.ensures.lines))
     c.in_ok-write_file.ensures.written c.in_ok-write_file.ensures.others)
     c.answer.ensures.failure
+
+pub lines_of-requires-clause-legal : goal.lines_of-requires-clause-legal
+lines_of-requires-clause-legal g c =
+    let s = settings c.args.question.settings in let held = g.F.FileSource.held c.args.files.now in
+    legal_in s held c.args.question.text.now c.in_ok-judged.judged c.in_ok-judged.ensures.judged

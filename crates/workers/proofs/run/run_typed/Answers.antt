@@ -1,5 +1,5 @@
 use Rattle.workers.proofs.Logged.{log_reason, log_reason_of}
-use Rattle.workers.proofs.run.run_as.Goals as goal
+use Rattle.workers.proofs.run.run_typed.Goals as goal
 
 pub returns-in-Ok-told-clause-failed : goal.returns-in-Ok-told-clause-failed
 returns-in-Ok-told-clause-failed g c =

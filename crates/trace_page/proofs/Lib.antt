@@ -1,0 +1,10 @@
+pub mod Ends
+pub mod Escaping
+pub mod NoFloats
+pub mod Numbered
+pub mod Parts
+pub mod Replays
+pub mod Seen
+pub mod Spawned
+pub mod Tables
+pub mod Weights

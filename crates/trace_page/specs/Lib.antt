@@ -1,0 +1,10 @@
+pub mod Births
+pub mod Changes
+pub mod Costs
+pub mod Escaped
+pub mod Events
+pub mod Layouts
+pub mod Pages
+pub mod Pieces
+pub mod Programs
+pub mod Tasks
