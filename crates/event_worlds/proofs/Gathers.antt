@@ -1,7 +1,7 @@
 -- The number of faults that a finish has gathered: what its scope counts, and what its owner has
 -- made.
 use Rattle.std.proofs.Common.{◌≡◌, ℕ, zero, suc, ◌+◌, List, [], ◌∷◌, ◌++◌, Option, Some, None, refl, sym, ap, ◌∙◌, subst, arith}
-use Rattle.std.proofs.lemmas.List.{append-nil, length-map}
+use Rattle.std.proofs.lemmas.List.{append-nil}
 use Rattle.std.proofs.lemmas.Option.{none-some, same_Some}
 use Rattle.std.proofs.lemmas.Bool.{and_parts, and_right, eqb-true}
 use Rattle.std.specs.Prelude.{◌<◌, ◌^◌, SomeIff, Bool, true, false, map, length, nat_eq, slice_get, if◌then◌else◌}
@@ -15,14 +15,14 @@ use Rattle.types.specs.declared.path.Path.{Path}
 use Rattle.effects.specs.Needs.{Needs}
 use Rattle.effects.specs.Rounds.{needs_of}
 use Rattle.task_run.specs.Apart.{is_stopped}
-use Rattle.task_run.specs.Frames.{Frame, Rest, Again, Further, AtEnd, OnFault, Back, Standing, frame, resume, Follows}
+use Rattle.task_run.specs.Frames.{Frame, Rest, Again, Further, AtEnd, OnFault, Back, frame, resume, Follows}
 use Rattle.task_run.specs.Jobs.{program_of, lists_of, budget_of}
 use Rattle.task_run.specs.OwnRun.{Start, Own, EndFinish, notes, is_waiting, result_of, leave_with, leave_own, own_rules}
 use Rattle.task_run.specs.OwnRun.{from_receipts, run_by}
 use Rattle.task_run.specs.Results.{Listed, Settled, TaskResult, and_then}
 use Rattle.task_run.specs.Runs.{root}
 use Rattle.task_run.specs.Settling.{settle}
-use Rattle.task_run.specs.Translation.{listed, task_result}
+use Rattle.task_run.specs.Translation.{task_result}
 use Rattle.task_run.specs.declared.result.TaskResult.{TaskResult as Made}
 use Rattle.event_worlds.specs.Courses.{Course, course_of, IsAtAnEnd, IsDoing, made_at}
 use Rattle.event_worlds.specs.Ending.{MayLeave}
@@ -35,7 +35,7 @@ use Rattle.event_worlds.specs.Shown.{Becomes, IsBookOf, IsDoingThere, IsLegal, I
 use Rattle.event_worlds.specs.Shown.{scope_id, stake, whereabouts}
 use Rattle.event_worlds.specs.Telling.{gathered_by}
 use Rattle.event_worlds.specs.Walks.{IsIllegal}
-use Rattle.event_worlds.specs.World.{Live, Parked, Scope, ScopeId, World, scope, task}
+use Rattle.event_worlds.specs.World.{Live, Scope, ScopeId, World, scope, task}
 use Rattle.event_worlds.specs.declared.doing.TaskProgress.{TaskProgress}
 use Rattle.event_worlds.specs.declared.doing.TaskProgress.TheVariants.{Starts, Runs, Steps, Spawns, Opens}
 use Rattle.event_worlds.specs.declared.doing.TaskProgress.TheVariants.{AtFinish, AtEnd as rAtEnd}

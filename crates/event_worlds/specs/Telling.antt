@@ -1,6 +1,5 @@
 -- When a resume may have a number of faults, as the tables in Rust have it.
 use Rattle.std.specs.Prelude.{ℕ, ◌≡◌, ◌<◌, ◌^◌, List, Option, Some, None, SomeIff}
-use Rattle.types.specs.declared.path.Path.{Path}
 use Rattle.effects.specs.Rounds.{needs_of}
 use Rattle.task_run.specs.Jobs.{program_of, budget_of}
 use Rattle.event_worlds.specs.Events.{Event, Resume}

@@ -1,6 +1,6 @@
 //! Resumes with the number of faults that the finish has gathered.
 
-ghost use Rattle.std.specs.Prelude.{◌≡◌, IfErr, IfOk, None, OnOk, Some};
+ghost use Rattle.std.specs.Prelude.{◌≡◌, IfErr, IfOk, OnOk, Some};
 ghost use Rattle.std.specs.Bool.{OnFalse, OnTrue};
 ghost use Rattle.event_worlds.specs.Ending.{MayLeave};
 ghost use Rattle.event_worlds.specs.Events.{Resume as IsResume};

@@ -1,7 +1,6 @@
 -- A trace in format 2: each resume has its number of faults, and nothing else changes.
 use Rattle.std.specs.Prelude.{◌≡◌, List, map, true}
 use Rattle.task_run.specs.Jobs.{budget_of, lists_of, program_of}
-use Rattle.event_worlds.specs.Jobs.{IsWeightedJob}
 use Rattle.event_worlds.specs.Numbering.{numbered}
 use Rattle.event_worlds.specs.Replay.{Legal}
 use Rattle.event_worlds.specs.Replaying.{comes, event}

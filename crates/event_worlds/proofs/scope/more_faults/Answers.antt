@@ -1,6 +1,5 @@
-use Rattle.std.proofs.Common.{◌≡◌, ◌+◌, arith, length, map}
+use Rattle.std.proofs.Common.{◌≡◌, ◌+◌, arith, map}
 use Rattle.std.proofs.lemmas.List.{length-map}
-use Rattle.std.specs.Prelude.{◌<◌, ◌^◌, SomeIff}
 use Rattle.types.specs.Translation.{fault}
 use Rattle.task_run.specs.Translation.{listed, task_result}
 use Rattle.event_worlds.specs.Gathered.{before_children, faults_in}

@@ -1,10 +1,7 @@
-use Rattle.std.proofs.Common.{◌≡◌, ◌∙◌, ap, map, sym}
-use Rattle.events.specs.Events.{event}
-use Rattle.trace_text.specs.Headers.{TraceHeader, header_of}
-use Rattle.trace_text.specs.Lines.{trace_text}
+use Rattle.std.proofs.Common.{◌∙◌, ap, sym}
 use Rattle.trace_text.specs.Spelled.{fits}
 use Rattle.trace_text.specs.declared.header.Format.{Format}
-use Rattle.viewing.proofs.Viewing.{legal_or_not, upgraded_header}
+use Rattle.viewing.proofs.Viewing.{legal_or_not}
 use Rattle.viewing.proofs.upgrading.lines_of.Goals as goal
 
 pub write_lines-requires : goal.write_lines-requires

@@ -1,4 +1,4 @@
-use Rattle.std.proofs.Common.{◌∙◌, ap, refl, subst, sym}
+use Rattle.std.proofs.Common.{◌∙◌, ap, subst, sym}
 use Rattle.std.specs.Prelude.{◌+◌, ◌<◌, ◌^◌, SomeIff}
 use Rattle.task_run.specs.Translation.{task_result}
 use Rattle.event_worlds.specs.Gathered.{faults_in}

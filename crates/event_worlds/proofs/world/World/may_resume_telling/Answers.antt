@@ -1,4 +1,4 @@
-use Rattle.std.proofs.Common.{None, Some}
+use Rattle.std.proofs.Common.{None}
 use Rattle.std.proofs.lemmas.Bool.{OnFalse_at, OnFalse_from, OnTrue_at, OnTrue_from}
 use Rattle.event_worlds.specs.Events.{Resume}
 use Rattle.event_worlds.proofs.Gathers.{illegal_as, legal_as}
