@@ -58,7 +58,7 @@ use Rattle.command_line.specs.declared.request.Command.{Command}
 use Rattle.command_line.specs.declared.request.Command.TheVariants.{Run, Serial, Check, Listing, Pairs}
 use Rattle.command_line.specs.declared.request.Command.TheVariants.{Meetings, Explore, Labels, Places, Format}
 use Rattle.command_line.specs.declared.request.Command.TheVariants.{CheckFormat, View, Summary, Draw, Chrome}
-use Rattle.command_line.specs.declared.request.Command.TheVariants.{Page}
+use Rattle.command_line.specs.declared.request.Command.TheVariants.{Page, Upgrade}
 use Rattle.command_line.specs.declared.request.Command.TheVariants.{Cost, CostByLabel, CostByProcedure}
 use Rattle.command_line.specs.declared.request.Command.TheVariants.{PairsByLine, ViewByLine, SummaryByLine}
 
@@ -93,6 +93,7 @@ IsRunBy SummaryByLine code = IsAccepted code
 IsRunBy Draw code = IsAccepted code
 IsRunBy Chrome code = IsAccepted code
 IsRunBy Page code = IsAccepted code
+IsRunBy Upgrade code = IsAccepted code
 IsRunBy Serial code = Unit {0}
 IsRunBy Cost code = Unit {0}
 IsRunBy CostByLabel code = Unit {0}
@@ -307,6 +308,7 @@ Answers SummaryByLine s held text told status = ⊥
 Answers Draw s held text told status = ⊥
 Answers Chrome s held text told status = ⊥
 Answers Page s held text told status = ⊥
+Answers Upgrade s held text told status = ⊥
 
 -- ---- failures
 
@@ -340,6 +342,7 @@ TestsRules SummaryByLine = Unit {0}
 TestsRules Draw = Unit {0}
 TestsRules Chrome = Unit {0}
 TestsRules Page = Unit {0}
+TestsRules Upgrade = Unit {0}
 
 -- why a text has no code, unless memory runs out: it spells no program, or one that breaks a rule
 abbrev pub TellsNoCode : (text : List ℕ) → Failure → Type 0
@@ -373,6 +376,7 @@ LooksForRaces SummaryByLine = Unit {0}
 LooksForRaces Draw = Unit {0}
 LooksForRaces Chrome = Unit {0}
 LooksForRaces Page = Unit {0}
+LooksForRaces Upgrade = Unit {0}
 LooksForRaces Serial = ⊥
 LooksForRaces Pairs = ⊥
 LooksForRaces Meetings = ⊥

@@ -6,7 +6,7 @@ use Rattle.std.specs.Io.KnownBytes.{Keeps}
 use Rattle.commands.specs.Answers.{Answer, Answers, Done, Explains}
 use Rattle.commands.specs.Rewriting.{AnswersRewrite, ExplainsRewrite, LeavesRewritten}
 use Rattle.viewing.specs.Files.{WritesTo}
-use Rattle.viewing.specs.Views.{AnswersTrace, ExplainsTrace, IsDrawn, IsPageOf, picture_name}
+use Rattle.viewing.specs.Views.{AnswersTrace, ExplainsTrace, IsDrawn, IsInFormatTwo, IsPageOf, picture_name}
 use Rattle.printing.specs.Appending.{AppendsBeginning}
 use Rattle.failures.specs.FailureStatus.{failure_status}
 use Rattle.files.specs.Held.{Held}
@@ -18,7 +18,7 @@ use Rattle.command_line.specs.declared.request.Command.{Command}
 use Rattle.command_line.specs.declared.request.Command.TheVariants.{Run, Serial, Check, Listing, Pairs}
 use Rattle.command_line.specs.declared.request.Command.TheVariants.{Meetings, Explore, Labels, Places, Format}
 use Rattle.command_line.specs.declared.request.Command.TheVariants.{CheckFormat, View, Summary, Draw, Chrome}
-use Rattle.command_line.specs.declared.request.Command.TheVariants.{Page}
+use Rattle.command_line.specs.declared.request.Command.TheVariants.{Page, Upgrade}
 use Rattle.command_line.specs.declared.request.Command.TheVariants.{Cost, CostByLabel, CostByProcedure}
 use Rattle.command_line.specs.declared.request.Command.TheVariants.{PairsByLine, ViewByLine, SummaryByLine}
 use Rattle.failures.specs.declared.failure.Failure.{Failure}
@@ -36,6 +36,7 @@ AnswersAny SummaryByLine s held text = AnswersTrace SummaryByLine s held text
 AnswersAny Draw s held text = AnswersTrace Draw s held text
 AnswersAny Chrome s held text = AnswersTrace Chrome s held text
 AnswersAny Page s held text = AnswersTrace Page s held text
+AnswersAny Upgrade s held text = AnswersTrace Upgrade s held text
 AnswersAny c s held text = Answers c s held text
 
 -- a failure is one of this command
@@ -47,6 +48,7 @@ ExplainsAny SummaryByLine s held text = ExplainsTrace SummaryByLine s held text
 ExplainsAny Draw s held text = ExplainsTrace Draw s held text
 ExplainsAny Chrome s held text = ExplainsTrace Chrome s held text
 ExplainsAny Page s held text = ExplainsTrace Page s held text
+ExplainsAny Upgrade s held text = ExplainsTrace Upgrade s held text
 ExplainsAny c s held text = Explains c s held text
 
 -- the contents of files after a command: the trace of a run in the file that was named for it, a picture in
@@ -55,6 +57,7 @@ abbrev pub Leaves : Command → Settings → (text : List ℕ) → (held later :
 Leaves Run s text held later r = TracesRun s text held later r
 Leaves Draw s text held later r = WritesTo (picture_name s) (IsDrawn s held text) held later r
 Leaves Chrome s text held later r = WritesTo (picture_name s) (IsDrawn s held text) held later r
+Leaves Upgrade s text held later r = WritesTo (picture_name s) (IsInFormatTwo s held text) held later r
 Leaves Page s text held later r = ⊥
 Leaves Serial s text held later r = later ≡ held
 Leaves Check s text held later r = later ≡ held

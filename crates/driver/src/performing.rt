@@ -28,6 +28,7 @@ use std::sync::Wait;
 use std::thread::Threads;
 use viewing::drawing::{Form, draw};
 use viewing::tables::{Look, view};
+use viewing::upgrading::upgrade;
 
 /// Carries out a command on the text of a program.
 pub fn perform<R: Threads + Wait + Sync, F: FileSource, O: Write, W: Watch>(
@@ -79,6 +80,7 @@ pub fn perform<R: Threads + Wait + Sync, F: FileSource, O: Write, W: Watch>(
                 let program = request.file;
                 draw(rt, alloc, Form::Html { program }, question, files, out)
             }
+            Command::Upgrade => upgrade(rt, alloc, question, files, out),
         },
     }
 }

@@ -56,8 +56,8 @@ pub fn draw<R: Threads + Sync, F: FileSource, O: Write>(
     answer(out, "")
 }
 
-/// Returns the name of the picture's file.
-fn picture_name<'w>(settings: RunOptions<'w>) -> &'w str
+/// Returns the name of the file of the picture, or of the trace in format 2.
+pub(crate) fn picture_name<'w>(settings: RunOptions<'w>) -> &'w str
     ensures { result.now ≡ name_of_picture (settings_of settings.entry) }
 {
     match settings.picture {

@@ -8,3 +8,4 @@ pub mod remarks;
 mod statements;
 pub mod tables;
 mod traces;
+pub mod upgrading;
