@@ -103,7 +103,11 @@ shown_by_tests() {
 shown_by_program() {
     folder=$1
     shift
-    printed "$room/as_it_is" "$@" >"$folder/wanted"
+    # (the folder without an edit bears one build at a time)
+    (
+        flock 9
+        printed "$room/as_it_is" "$@" >"$folder/wanted"
+    ) 9>"$room/lock"
     printed "$folder" "$@" >"$folder/log"
     if [ -s "$folder/wanted" ] && [ -s "$folder/log" ] && ! cmp -s "$folder/wanted" "$folder/log"; then
         echo "$*"
