@@ -53,6 +53,12 @@ pub object_so : (x y : Subject) → x ≡ y → (s : Settings) (held : Held) (te
 object_so x y same s held text r object =
     subst (λ (z : Subject). IfOk r (λ t. ObjectOfAny (command_of z) s held text (string_bytes t.line) t.status)) (sym same) object
 
+-- why there is none for the same subject
+pub fails_so : (x y : Subject) → x ≡ y → (s : Settings) (held : Held) (text : List ℕ) (r : Result ObjectLine Failure)
+    → IfErr r (FailsEarlyAny (command_of y) s held text) → IfErr r (FailsEarlyAny (command_of x) s held text)
+fails_so x y same s held text r fails =
+    subst (λ (z : Subject). IfErr r (FailsEarlyAny (command_of z) s held text)) (sym same) fails
+
 -- a failure that is passed on is one of the status
 pub status_err : (r : Result ObjectLine Failure) (Q : Failure → Type 0) → IsErrAnd r Q → IsErrAnd (status_in r) Q
 status_err (Ok t) Q is = is

@@ -47,20 +47,25 @@ accesses_json places p r w = object_of (accesses_members places p r w)
 
 -- the members of a failure by a race: instead of an array the accesses, with the label and the position of
 -- the first
-abbrev pub told_members : (file : List ℕ) → Option TextPlace → (label : ℕ) → (message : List ℕ)
-    → (accesses : Data) → Reason
-    → List (List ℕ × Data)
-told_members file place label message accesses reason =
+abbrev pub members_at : (file : List ℕ) → Option TextPlace → (label : ℕ) → (message : List ℕ)
+    → (accesses help reason : Data) → List (List ℕ × Data)
+members_at file place label message accesses help reason =
     (codes "code", string (codes "C1"))
     ∷ (codes "column", or_null natural (column_of place))
     ∷ (codes "file", string file)
-    ∷ (codes "help", helps_json reason)
+    ∷ (codes "help", help)
     ∷ (codes "label", natural label)
     ∷ (codes "line", or_null natural (line_of place))
     ∷ (codes "message", string message)
     ∷ (codes "race", accesses)
-    ∷ (codes "reason", reason_json reason)
+    ∷ (codes "reason", reason)
     ∷ (codes "status", natural 1) ∷ []
+
+abbrev pub told_members : (file : List ℕ) → Option TextPlace → (label : ℕ) → (message : List ℕ)
+    → (accesses : Data) → Reason
+    → List (List ℕ × Data)
+told_members file place label message accesses reason =
+    members_at file place label message accesses (helps_json reason) (reason_json reason)
 
 abbrev pub race_members : (file : List ℕ) → List TextPlace → Program → Race → Witness → Reason
     → List (List ℕ × Data)

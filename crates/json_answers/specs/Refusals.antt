@@ -66,19 +66,26 @@ failure_array (Input e) = input_name e
 failure_array _ = None
 
 -- its code, its line and its status, and all else that is known; `file` is that of the program
+abbrev pub members_with : (file : List ℕ) → (column line label name code help : Data)
+    → (message : List ℕ) → (reason : Data) → (status : ℕ) → List (List ℕ × Data)
+members_with file column line label name code help message reason status =
+    (codes "array", name)
+    ∷ (codes "code", code)
+    ∷ (codes "column", column)
+    ∷ (codes "file", string file)
+    ∷ (codes "help", help)
+    ∷ (codes "label", label)
+    ∷ (codes "line", line)
+    ∷ (codes "message", string message)
+    ∷ (codes "reason", reason)
+    ∷ (codes "status", natural status) ∷ []
+
 abbrev pub refusal_members : (file : List ℕ) → List TextPlace → Failure → Reason → List (List ℕ × Data)
 refusal_members file places f r =
     let place = explained_place places f r in
-    (codes "array", or_null string (failure_array f))
-    ∷ (codes "code", or_null string (failure_code f))
-    ∷ (codes "column", or_null natural (column_of place))
-    ∷ (codes "file", string file)
-    ∷ (codes "help", helps_json r)
-    ∷ (codes "label", or_null natural (failure_label f))
-    ∷ (codes "line", or_null natural (line_of place))
-    ∷ (codes "message", string (failure_text f))
-    ∷ (codes "reason", reason_json r)
-    ∷ (codes "status", natural (failure_status f)) ∷ []
+    members_with file (or_null natural (column_of place)) (or_null natural (line_of place))
+    (or_null natural (failure_label f)) (or_null string (failure_array f))
+    (or_null string (failure_code f)) (helps_json r) (failure_text f) (reason_json r) (failure_status f)
 
 abbrev pub refusal_json : (file : List ℕ) → List TextPlace → Failure → Reason → Data
 refusal_json file places f r = object_of (refusal_members file places f r)

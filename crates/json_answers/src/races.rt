@@ -8,12 +8,13 @@ ghost use Rattle.effects.specs.Translation.{access as access_of};
 ghost use Rattle.race_checker.specs.Translation.{race as race_of};
 ghost use Rattle.json_answers.specs.Pieces.{IsReadBack, line, object_of};
 ghost use Rattle.json_answers.specs.Places.{place_at as place_of_label};
-ghost use Rattle.json_answers.specs.Races.{access_json, accesses_json, race_json, race_message, told_members};
+ghost use Rattle.json_answers.specs.Races.{access_json, accesses_json, members_at, race_json, race_message};
+ghost use Rattle.json_answers.specs.Races.{told_members};
 
 use crate::found::FoundRace;
 use crate::line::line_of;
 use crate::names::{kind_of, procedure_in, section_name};
-use crate::refusals::{helps_value, reason_value};
+use crate::refusals::{Why, why_of};
 use crate::text_places::{column_in, line_in, place_at};
 use crate::told::message_of;
 use crate::witnesses::witness_value;
@@ -23,7 +24,7 @@ use race_checker::race::Race;
 use serde_json::{Value, json};
 use std::alloc::{AllocError, Global};
 use syntax::TextPlace;
-use types::code::{Procedure, Program};
+use types::code::{Label, Procedure, Program};
 
 /// Returns the object of a failure by a race: with both accesses, in the names of the procedure
 /// that has it, its witness, and the position of the first access. An access has the form
@@ -64,17 +65,44 @@ fn told_value(
         (string_bytes message) (view accesses) found.entry.reason.now)) }
 {
     let label = found.race.first.label;
-    let place = place_at(found.places, label);
+    let at = At {
+        file,
+        place: place_at(found.places, label),
+        label,
+    };
+    let why = why_of(alloc, found.reason)?;
+    value_at(alloc, at, message, accesses, why)
+}
+
+/// Where a race is.
+#[derive(Clone, Copy)]
+struct At<'f> {
+    file: &'f str,
+    place: Option<TextPlace>,
+    label: Label,
+}
+
+/// Returns the value of a failure by a race at this position, with what its explanation says.
+fn value_at(
+    alloc: Global,
+    at: At<'_>,
+    message: String,
+    accesses: Value,
+    why: Why,
+) -> Result<Value, AllocError>
+    ensures { IfOk result (λ v. view v ≡ object_of (members_at at.entry.file.now at.entry.place
+        at.entry.label (string_bytes message) (view accesses) (view why.help) (view why.reason))) }
+{
     json!(in alloc; {
         "code": "C1",
-        "column": column_in(place),
-        "file": file,
-        "help": helps_value(alloc, found.reason)?,
-        "label": label,
-        "line": line_in(place),
+        "column": column_in(at.place),
+        "file": at.file,
+        "help": why.help,
+        "label": at.label,
+        "line": line_in(at.place),
         "message": message,
         "race": accesses,
-        "reason": reason_value(alloc, found.reason)?,
+        "reason": why.reason,
         "status": 1u8,
     })
 }

@@ -20,10 +20,23 @@ impl Reason {
     /// nothing.
     pub fn of(alloc: Global, file: &str, explanation: &str) -> Result<Reason, AllocError> {
         let lines: Vec<&str> = explanation.trim_start().lines().collect(alloc)?;
-        let (heading, behind) = match lines.as_slice() {
-            [] => ("", lines.as_slice()),
-            [heading, behind @ ..] => (*heading, behind),
-        };
+        match lines.as_slice() {
+            [] => Ok(Reason {
+                place: None,
+                reason: None,
+                helps: Vec::new(alloc),
+            }),
+            [heading, behind @ ..] => Reason::told(alloc, file, heading, behind),
+        }
+    }
+
+    /// Reads the first line of an explanation, and the lines behind it.
+    fn told(
+        alloc: Global,
+        file: &str,
+        heading: &str,
+        behind: &[&str],
+    ) -> Result<Reason, AllocError> {
         Ok(Reason {
             place: place_in(alloc, heading, file)?,
             reason: reason_in(alloc, without_excerpt(behind))?,

@@ -27,7 +27,7 @@ no_folder_other named name _ why = absurd why
 
 unlisted_name_other : (named : Folders) (name : List ℕ) (f : Failure) → TellsUnlistedName named name f → IsOther f
 unlisted_name_other named name f (no_program base is p) = no_folder_other named p.folder f p.why
-unlisted_name_other named name f (no_folder no why) = no_folder_other named name f why
+unlisted_name_other named name f (no_folder other why) = no_folder_other named name f why
 
 unlisted_other : (named : Folders) (names : List (List ℕ)) (f : Failure) → TellsUnlisted named names f → IsOther f
 unlisted_other named names f u = unlisted_name_other named u.name f u.why
@@ -78,13 +78,13 @@ leaves_unlisted true held later (Err _) same = tt
 -- after that they are changed only to write
 pub leaves_tested : (writes : Bool) (held later : Held) (r : Result ℕ Failure) → (writes ≡ false → later ≡ held)
     → ((name : String Global) → r ≡ Err (CannotRead name) → ⊥) → LeavesTested writes held later r
-leaves_tested false held later r keeps no = keeps refl
-leaves_tested true held later (Ok n) keeps no = tt
-leaves_tested true held later (Err (CannotRead name)) keeps no = absurd (no name refl)
-leaves_tested true held later (Err _) keeps no = tt
+leaves_tested false held later r keeps others = keeps refl
+leaves_tested true held later (Ok n) keeps others = tt
+leaves_tested true held later (Err (CannotRead name)) keeps others = absurd (others name refl)
+leaves_tested true held later (Err _) keeps others = tt
 
 module _ (named : Folders) (held : Held) (names : List (List ℕ)) (writes : Bool) (under : Settings) (later : Held) where
-  Is : (told : List ℕ) → (status : ℕ) → Type 0
+  abbrev Is : (told : List ℕ) → (status : ℕ) → Type 0
   Is = AnswersTest named held names writes under later
 
   -- a failure before anything is written to the output

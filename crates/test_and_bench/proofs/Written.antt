@@ -59,10 +59,10 @@ has_so known found told false is given =
     read_differs known found told given (λ same. false≢true (is ∙ (bytes_eq-Decides found told).1 same))
 
 -- it is so for a name and bytes that are equal
-pub found_for : (mid : Held) (asked name seen told : List ℕ) (has : Bool) → asked ≡ name → seen ≡ told
+pub found_for : (held mid : Held) → mid ≡ held → (asked name seen told : List ℕ) (has : Bool) → asked ≡ name → seen ≡ told
     → MatchBool has (IsGiven (mid asked) (Ok seen)) (Differs (mid asked) seen)
     → MatchBool has (IsGiven (mid name) (Ok told)) (Differs (mid name) told)
-found_for mid asked name seen told has same is found =
+found_for held mid before asked name seen told has same is found =
     subst (λ (n : List ℕ). MatchBool has (IsGiven (mid n) (Ok told)) (Differs (mid n) told)) same
     (subst (λ (bs : List ℕ). MatchBool has (IsGiven (mid asked) (Ok bs)) (Differs (mid asked) bs)) is found)
 

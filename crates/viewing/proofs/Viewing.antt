@@ -1,5 +1,5 @@
 -- From a trace, or from the reason why there is none, to what was done.
-use Rattle.std.proofs.Common.{◌≡◌, inl, inr, ℕ, ℤ, List, [], Option, Result, Ok, Err, String, ap, ◌∙◌, refl, string_bytes, subst, sym}
+use Rattle.std.proofs.Common.{◌≡◌, inl, inr, ℕ, ℤ, List, [], Option, Result, Ok, Err, String, Global, ap, ◌∙◌, refl, string_bytes, subst, sym}
 use Rattle.std.specs.Prelude.{IfOk, IsErrAnd}
 use Rattle.std.specs.declared.alloc.AllocError.{AllocError}
 use Rattle.types.specs.Code.{Program}
@@ -153,11 +153,11 @@ form_tells Spans h es = refl
 form_tells (Html program) h es = refl
 
 -- a drawing isn't specified, unless it is a page
-pub anything : (r : Result String AllocError) → IfOk r (λ text. Unit {0})
+pub anything : (r : Result (String Global) AllocError) → IfOk r (λ text. Unit {0})
 anything (Ok text) = tt
 anything (Err e) = tt
 
-pub drawn_so : (form known : Form) → form ≡ known → (s : Settings) (text : List ℕ) (t : JudgedTrace) (r : Result String AllocError)
+pub drawn_so : (form known : Form) → form ≡ known → (s : Settings) (text : List ℕ) (t : JudgedTrace) (r : Result (String Global) AllocError)
     → IfOk r (λ drawn. ShowsTrace known s text t (string_bytes drawn)) → IfOk r (λ drawn. ShowsTrace form s text t (string_bytes drawn))
 drawn_so form known same s text t r shows =
     subst (λ (f : Form). IfOk r (λ drawn. ShowsTrace f s text t (string_bytes drawn))) (sym same) shows

@@ -9,7 +9,8 @@ use Rattle.cost.specs.Costs.{cost_of, tally_of}
 use Rattle.printing.specs.OutcomeText.{status_of}
 use Rattle.commands.specs.Answers.{account_in}
 use Rattle.commands.specs.declared.costing.Shares.TheVariants.{ByLabel}
-use Rattle.json_answers.specs.Objects.{ObjectOfShares, TellsShares, shared}
+use Rattle.commands.proofs.Answering.{declared_of}
+use Rattle.json_answers.specs.Objects.{ObjectOfShares, TellsOutcome, TellsShares, shared, unshared}
 use Rattle.json_answers.proofs.Written.{object_told}
 use Rattle.json_answers.proofs.shares.shares_told.Goals as goal
 
@@ -38,3 +39,20 @@ returns-then-status-eq0-clause-object g c =
           (subst (λ k. TellsShares text k m.work.items m.span.items (string_bytes x)) c.in-Ok.ensures.cost shares)))
           refl;
     }) (c.line_of_shares.ensures c.in_ok-given.ensures.spelled))
+
+pub returns-clause-object : goal.returns-clause-object
+returns-clause-object g c =
+    let s = settings c.args.question.settings in
+    let text = c.args.question.text.now in
+    let p = code_of c.in_ok-given.given.typed in
+    let input = lists_of c.in_ok-given.given.input in
+    let arrays = declared_of _ _ c.in_ok-given.given.typed c.deref.ensures.value c.code.ensures.field in
+    let same = c.in-Ok.ensures.outcome in
+    IfOk-weaker c.outcome_told.result _ _ (λ t tells. record {
+      code = p;
+      input = input;
+      given = c.in_ok-given.ensures.given;
+      tells = unshared (λ is. c.if-status-eq0.false (c.status.ensures ∙ ap status_of same ∙ is))
+          (subst (λ declared. TellsOutcome declared (outcome p input s.budget) text (string_bytes t.line) t.status) arrays
+          (subst (λ o. TellsOutcome (map array c.deref.result.now) o text (string_bytes t.line) t.status) same tells));
+    }) c.outcome_told.ensures.object

@@ -15,8 +15,8 @@ returns-in-Spans c =
     drawn_so c.args.form Spans c.in-Spans.is (settings c.args.question.settings) c.args.question.text.now c.args.judged.now
     c.spans.result (anything c.spans.result)
 
-pub returns-in-Html : goal.returns-in-Html
-returns-in-Html c =
+pub returns : goal.returns
+returns c =
     drawn_so c.args.form (Html c.in-Html.program) c.in-Html.is (settings c.args.question.settings) c.args.question.text.now
     c.args.judged.now c.page_of.result
     (IfOk-weaker c.page_of.result _ _ (λ text is. record { labels = _; page = is }) c.page_of.ensures)

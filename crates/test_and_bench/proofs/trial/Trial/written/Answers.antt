@@ -50,6 +50,6 @@ returns-clause-written g c =
     let held = g.F.FileSource.held c.args.files.now in let t = trial c.args.self.now in
     written_anew held _ _ t c.in_ok-begun.begun _ _ c.in_ok-begun.ensures.begun (c.deref-2.ensures.value ∙ c.in_ok-told.ensures.told)
     c.in_ok-begun.ensures.keeps (c.as_str-2.ensures.value ∙ c.in_ok-name.ensures.name) c.in_ok-has.has c.if-has.false
-    (found_for _ _ _ _ _ c.in_ok-has.has (c.as_str.ensures.value ∙ sym c.as_str-2.ensures.value)
+    (found_for held _ c.in_ok-begun.ensures.keeps _ _ _ _ c.in_ok-has.has (c.as_str.ensures.value ∙ sym c.as_str-2.ensures.value)
     (c.deref.ensures.value ∙ sym c.deref-2.ensures.value) c.in_ok-has.ensures.has)
     _ c.in_ok-has.ensures.keeps c.in_ok-write_file.ensures.written c.in_ok-write_file.ensures.others
