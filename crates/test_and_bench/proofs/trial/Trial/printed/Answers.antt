@@ -11,7 +11,7 @@ returns-in-Ok-Some-clause-verdict g c =
     let held = g.F.FileSource.held c.args.files.now in let u = trial c.in-Ok-Some.trial in
     let is = limited_so held (trial c.args.self.now) _ _ c.in-Ok-Some.field-0-is c.in-Ok-Some.ensures.limited in
     IfOk-weaker c.printed_so.result _ _ (λ v printed. under_limits u is
-    (subst (λ (h : Held). IsPrinted h u _ v.passes (string_bytes v.lines)) c.in-Ok-Some.ensures.keeps printed))
+    (subst (λ (h : Held). IsPrinted h u (g.F.FileSource.held c.printed_so.new.files) v.passes (string_bytes v.lines)) c.in-Ok-Some.ensures.keeps printed))
     c.printed_so.ensures.verdict
 
 pub returns-in_ok-not_understood-in-Ok-None-clause-verdict : goal.returns-in_ok-not_understood-in-Ok-None-clause-verdict

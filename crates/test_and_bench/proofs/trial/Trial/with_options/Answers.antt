@@ -22,7 +22,7 @@ returns-in-Ok-Some-clause-limited g c =
     with_limits held (trial c.args.self.now) _ _ _ c.in-Ok-Some.limits c.requires c.in_ok-text.ensures.text
     c.as_str.ensures.value c.in-Ok-Some.field-0-is c.in-Ok-Some.ensures
 
-pub returns-in-Err-clause-why : goal.returns-in-Err-clause-why
-returns-in-Err-clause-why g c =
+pub returns-clause-why : goal.returns-clause-why
+returns-clause-why g c =
     let held = g.F.FileSource.held c.args.files.now in
     no_options_memory held (trial c.args.self.now) _ c.requires refl
