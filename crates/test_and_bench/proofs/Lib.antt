@@ -9,4 +9,5 @@ pub mod Slashes
 pub mod Tested
 pub mod Told
 pub mod Trying
+pub mod Wording
 pub mod Written
