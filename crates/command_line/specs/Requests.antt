@@ -9,7 +9,7 @@ use Rattle.command_line.specs.declared.request.Command.{Command}
 use Rattle.command_line.specs.declared.request.Command.TheVariants.{Run, Serial, Check, Pairs, Explore}
 use Rattle.command_line.specs.declared.request.Command.TheVariants.{Places, Listing, Labels, Format, Meetings}
 use Rattle.command_line.specs.declared.request.Command.TheVariants.{CheckFormat, View, Summary, Draw, Chrome}
-use Rattle.command_line.specs.declared.request.Command.TheVariants.{Page, Schedules}
+use Rattle.command_line.specs.declared.request.Command.TheVariants.{Page, Schedules, Upgrade}
 use Rattle.command_line.specs.declared.request.Command.TheVariants.{Cost, CostByLabel, CostByProcedure}
 use Rattle.command_line.specs.declared.request.Command.TheVariants.{PairsByLine, ViewByLine, SummaryByLine}
 use Rattle.command_line.specs.declared.request.Action.{Action}
@@ -370,7 +370,7 @@ settings_by o = record {
 -- ---- a trace that is shown
 
 -- how it is shown: as a table, by its numbers, both also with statements, as a picture in a file, in a file for a
--- trace viewer, or as a page
+-- trace viewer, as a page, or as a table and in a file of format 2
 pub data Showing : Type 0 where
   AsTable : Showing
   ByLine : Showing
@@ -379,6 +379,7 @@ pub data Showing : Type 0 where
   AsPicture : (out : List ℕ) → Showing
   ForViewer : (out : List ℕ) → Showing
   AsPage : (out : List ℕ) → Showing
+  InFormatTwo : (out : List ℕ) → Showing
 
 -- the arguments for it
 abbrev pub showing_words : Showing → List (List ℕ)
@@ -389,6 +390,7 @@ showing_words NumbersByLine = codes "--summary" ∷ codes "--by-line" ∷ []
 showing_words (AsPicture out) = codes "--svg" ∷ out ∷ []
 showing_words (ForViewer out) = codes "--chrome" ∷ out ∷ []
 showing_words (AsPage out) = codes "--html" ∷ out ∷ []
+showing_words (InFormatTwo out) = codes "--upgrade" ∷ out ∷ []
 
 abbrev pub command_for : Showing → Command
 command_for AsTable = View
@@ -398,8 +400,9 @@ command_for NumbersByLine = SummaryByLine
 command_for (AsPicture out) = Draw
 command_for (ForViewer out) = Chrome
 command_for (AsPage out) = Page
+command_for (InFormatTwo out) = Upgrade
 
--- the file of the picture
+-- the file of the picture, or of the trace in format 2
 abbrev pub picture_of : Showing → Option (List ℕ)
 picture_of AsTable = None
 picture_of ByLine = None
@@ -408,6 +411,7 @@ picture_of NumbersByLine = None
 picture_of (AsPicture out) = Some out
 picture_of (ForViewer out) = Some out
 picture_of (AsPage out) = Some out
+picture_of (InFormatTwo out) = Some out
 
 -- the file of the trace, that of the initial contents of the arrays, if one is named, and how it is shown
 pub record Viewing : Type 0 where

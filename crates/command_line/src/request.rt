@@ -53,6 +53,8 @@ pub enum Command {
     Page,
     /// `explore --html OUT`: write a page in which each step can be chosen.
     Schedules,
+    /// `view --upgrade OUT`: write a trace into a file in format 2, and show it as a table.
+    Upgrade,
 }
 
 /// When explanations have colors.
@@ -226,7 +228,7 @@ pub struct RunOptions<'w> {
     /// file that contains it, which these arguments always name.
     pub trace: Option<&'w str>,
     /// `--svg OUT`, `--chrome OUT` or `--html OUT`: the file that the picture or the page is written
-    /// to.
+    /// to. `--upgrade OUT`: the file that the trace is written to in format 2.
     pub picture: Option<&'w str>,
     /// `--arrays`: the arrays are shown after the outcome.
     pub arrays: bool,

@@ -27,7 +27,7 @@ use Rattle.command_words.specs.Reading.{told_line, manner_if, read_by, read_colo
 use Rattle.command_words.specs.Reading.{chosen_if, either, measured_if, read_cost, read_explore, read_flagged, read_parts}
 use Rattle.command_words.specs.Reading.{read_optioned, read_serial_texts, read_showing, read_texts, read_view, shown_if, taken}
 use Rattle.command_line.specs.Requests.{AreForExplore, AreForRun, AreForSerial, AreRight, Asked, Asks, AsksPlainly, Options, Texts}
-use Rattle.command_line.specs.Requests.{AsPage, AsPicture, AsTable, ByLine, ByNumbers, ForViewer, NumbersByLine, Showing}
+use Rattle.command_line.specs.Requests.{AsPage, AsPicture, AsTable, ByLine, ByNumbers, ForViewer, InFormatTwo, NumbersByLine, Showing}
 use Rattle.command_line.specs.Requests.{Viewing, command_for, no_options}
 use Rattle.command_line.specs.Requests.{picture_of, showing_words, to_view, viewing_options, viewing_words}
 use Rattle.command_line.specs.Requests.{schedule_options, schedule_words, to_choose}
@@ -339,6 +339,7 @@ read_shown NumbersByLine = refl
 read_shown (AsPicture out) = refl
 read_shown (ForViewer out) = refl
 read_shown (AsPage out) = refl
+read_shown (InFormatTwo out) = refl
 
 shown_without_input : (s : Showing) → Lacks (codes "--input") (showing_words s)
 shown_without_input AsTable = refl
@@ -348,6 +349,7 @@ shown_without_input NumbersByLine = refl
 shown_without_input (AsPicture out) = refl
 shown_without_input (ForViewer out) = refl
 shown_without_input (AsPage out) = refl
+shown_without_input (InFormatTwo out) = refl
 
 -- a trace that is shown
 read_viewing : (file : List ℕ) (v : Viewing) → IsTrue (is_file_name file)

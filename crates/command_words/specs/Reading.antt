@@ -13,7 +13,7 @@ use Rattle.command_line.specs.declared.request.Command.TheVariants.{Run, Serial,
 use Rattle.command_line.specs.declared.request.Command.TheVariants.{Listing, Chrome, Labels, Format, Meetings}
 use Rattle.command_line.specs.declared.request.Command.TheVariants.{CheckFormat, CostByLabel, Summary, View}
 use Rattle.command_line.specs.declared.request.Command.TheVariants.{Cost, CostByProcedure, Places, Draw, Page}
-use Rattle.command_line.specs.declared.request.Command.TheVariants.{Schedules}
+use Rattle.command_line.specs.declared.request.Command.TheVariants.{Schedules, Upgrade}
 use Rattle.command_line.specs.declared.request.Command.TheVariants.{PairsByLine, ViewByLine, SummaryByLine}
 use Rattle.command_words.specs.declared.plain.PlainLine.{PlainLine as rLine}
 use Rattle.command_words.specs.declared.plain.Texts.{Texts as rTexts}
@@ -147,8 +147,9 @@ shown_by_two option out =
     if bytes_eq option (codes "--svg") then Some ((Answer Draw), Some out) else
     (if bytes_eq option (codes "--chrome") then Some ((Answer Chrome), Some out) else
     (if bytes_eq option (codes "--html") then Some ((Answer Page), Some out) else
+    (if bytes_eq option (codes "--upgrade") then Some ((Answer Upgrade), Some out) else
     (if bytes_eq option (codes "--summary") && bytes_eq out (codes "--by-line")
-    then Some ((Answer SummaryByLine), None) else None)))
+    then Some ((Answer SummaryByLine), None) else None))))
 
 -- how to show a trace, as arguments specify it
 abbrev pub read_showing : List (List ℕ) → Option (Action × Option (List ℕ))

@@ -220,6 +220,8 @@ fn viewing(given: &ArgMatches<'_>) -> Command {
         Command::Chrome
     } else if given.get_str("html").is_some() {
         Command::Page
+    } else if given.get_str("upgrade").is_some() {
+        Command::Upgrade
     } else if by_line {
         Command::ViewByLine
     } else {
@@ -316,14 +318,18 @@ fn trace<'w>(given: &ArgMatches<'w>) -> Option<&'w str> {
     }
 }
 
-/// Returns the file of a picture. `clap` has checked that at most one option names it.
+/// Returns the file of a picture, or of a trace in format 2. `clap` has checked that at most one
+/// option names it.
 fn picture<'w>(given: &ArgMatches<'w>) -> Option<&'w str> {
     if let Some(file) = given.get_str("svg") {
         return Some(file);
     }
-    match given.get_str("chrome") {
+    if let Some(file) = given.get_str("chrome") {
+        return Some(file);
+    }
+    match given.get_str("html") {
         Some(file) => Some(file),
-        None => given.get_str("html"),
+        None => given.get_str("upgrade"),
     }
 }
 

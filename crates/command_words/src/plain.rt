@@ -173,8 +173,9 @@ fn view_line<'w>(file: &'w str, behind: &'w [String]) -> Option<PlainLine<'w>>
     }
 }
 
-/// Returns how to show a trace, and the file for its picture or page: no argument, `--by-line`,
-/// `--summary`, `--summary --by-line`, `--svg OUT`, `--chrome OUT` or `--html OUT`.
+/// Returns how to show a trace, and the file for its picture, its page or the trace in format 2: no
+/// argument, `--by-line`, `--summary`, `--summary --by-line`, `--svg OUT`, `--chrome OUT`,
+/// `--html OUT` or `--upgrade OUT`.
 fn showing<'w>(words: &'w [String]) -> Option<(Action, Option<&'w str>)>
     ensures { option_map shown_of result ≡ read_showing (map string_bytes words.now) }
 {
@@ -209,6 +210,8 @@ fn shown_by_two<'w>(option: &str, out: &'w str) -> Option<(Action, Option<&'w st
         Some((Answer(Command::Chrome), Some(out)))
     } else if option == "--html" {
         Some((Answer(Command::Page), Some(out)))
+    } else if option == "--upgrade" {
+        Some((Answer(Command::Upgrade), Some(out)))
     } else if option == "--summary" && out == "--by-line" {
         Some((Answer(Command::SummaryByLine), None))
     } else {

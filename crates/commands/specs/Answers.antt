@@ -58,7 +58,7 @@ use Rattle.command_line.specs.declared.request.Command.{Command}
 use Rattle.command_line.specs.declared.request.Command.TheVariants.{Run, Serial, Check, Listing, Pairs}
 use Rattle.command_line.specs.declared.request.Command.TheVariants.{Meetings, Explore, Labels, Places, Format}
 use Rattle.command_line.specs.declared.request.Command.TheVariants.{CheckFormat, View, Summary, Draw, Chrome}
-use Rattle.command_line.specs.declared.request.Command.TheVariants.{Page, Schedules}
+use Rattle.command_line.specs.declared.request.Command.TheVariants.{Page, Schedules, Upgrade}
 use Rattle.command_line.specs.declared.request.Command.TheVariants.{Cost, CostByLabel, CostByProcedure}
 use Rattle.command_line.specs.declared.request.Command.TheVariants.{PairsByLine, ViewByLine, SummaryByLine}
 
@@ -94,6 +94,7 @@ IsRunBy Draw code = IsAccepted code
 IsRunBy Chrome code = IsAccepted code
 IsRunBy Page code = IsAccepted code
 IsRunBy Schedules code = IsAccepted code
+IsRunBy Upgrade code = IsAccepted code
 IsRunBy Serial code = Unit {0}
 IsRunBy Cost code = Unit {0}
 IsRunBy CostByLabel code = Unit {0}
@@ -309,6 +310,7 @@ Answers Draw s held text told status = ⊥
 Answers Chrome s held text told status = ⊥
 Answers Page s held text told status = ⊥
 Answers Schedules s held text told status = ⊥
+Answers Upgrade s held text told status = ⊥
 
 -- ---- failures
 
@@ -343,6 +345,7 @@ TestsRules Draw = Unit {0}
 TestsRules Chrome = Unit {0}
 TestsRules Page = Unit {0}
 TestsRules Schedules = Unit {0}
+TestsRules Upgrade = Unit {0}
 
 -- why a text has no code, unless memory runs out: it spells no program, or one that breaks a rule
 abbrev pub TellsNoCode : (text : List ℕ) → Failure → Type 0
@@ -377,6 +380,7 @@ LooksForRaces Draw = Unit {0}
 LooksForRaces Chrome = Unit {0}
 LooksForRaces Page = Unit {0}
 LooksForRaces Schedules = Unit {0}
+LooksForRaces Upgrade = Unit {0}
 LooksForRaces Serial = ⊥
 LooksForRaces Pairs = ⊥
 LooksForRaces Meetings = ⊥

@@ -19,13 +19,14 @@ use Rattle.driver.specs.Traced.{IsTraceOfText}
 use Rattle.driver.proofs.Leaving.{told_behind}
 use Rattle.commands.specs.Answers.{Answer, Done, Wrote}
 use Rattle.commands.specs.Rewriting.{LeavesLaidOut, LeavesRewritten}
-use Rattle.viewing.specs.Views.{IsDrawn, IsPageOf, IsSchedulesPage, picture_name}
+use Rattle.viewing.specs.Views.{IsDrawn, IsInFormatTwo, IsPageOf, IsSchedulesPage, picture_name}
 use Rattle.viewing.proofs.Written.{wrote_anyway}
 use Rattle.printing.specs.Appending.{AppendsBeginning}
 use Rattle.files.specs.Held.{Held}
 use Rattle.command_line.specs.Requests.{Settings}
 use Rattle.command_line.specs.declared.request.Command.{Command}
-use Rattle.command_line.specs.declared.request.Command.TheVariants.{Run, View, Summary, Draw, Chrome, Page, Schedules}
+use Rattle.command_line.specs.declared.request.Command.TheVariants.{Run, View, Summary, Draw, Chrome, Page}
+use Rattle.command_line.specs.declared.request.Command.TheVariants.{Schedules, Upgrade}
 use Rattle.failures.specs.declared.failure.Failure.{Failure}
 use Rattle.failures.specs.declared.failure.Failure.TheVariants.{CannotWriteOutput}
 
@@ -63,6 +64,7 @@ may_fail Draw s held text = tt
 may_fail Chrome s held text = tt
 may_fail Page s held text = tt
 may_fail Schedules s held text = tt
+may_fail Upgrade s held text = tt
 may_fail _ s held text = tt
 
 -- files are unchanged then
@@ -72,6 +74,7 @@ leaves_on Run s text held later status r only w =
     told_behind ℕ ℕ (IsTraceOfText s held text) (IsTraceOfText s held text) held later (λ bytes is. is) s.trace status r w only
 leaves_on Draw s text held later status r only w = wrote_anyway (picture_name s) (IsDrawn s held text) held later r w only
 leaves_on Chrome s text held later status r only w = wrote_anyway (picture_name s) (IsDrawn s held text) held later r w only
+leaves_on Upgrade s text held later status r only w = wrote_anyway (picture_name s) (IsInFormatTwo s held text) held later r w only
 leaves_on _ s text held later status r only w = w
 
 -- with the name of the program's file

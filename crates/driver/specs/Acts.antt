@@ -7,7 +7,7 @@ use Rattle.commands.specs.Answers.{Answer, Answers, Done, Explains}
 use Rattle.commands.specs.Rewriting.{AnswersRewrite, ExplainsRewrite, LeavesRewritten}
 use Rattle.viewing.specs.Files.{WritesTo}
 use Rattle.viewing.specs.Views.{AnswersSchedules, AnswersTrace, ExplainsSchedules, ExplainsTrace, IsDrawn}
-use Rattle.viewing.specs.Views.{IsPageOf, IsSchedulesPage, picture_name}
+use Rattle.viewing.specs.Views.{IsInFormatTwo, IsPageOf, IsSchedulesPage, picture_name}
 use Rattle.printing.specs.Appending.{AppendsBeginning}
 use Rattle.failures.specs.FailureStatus.{failure_status}
 use Rattle.files.specs.Held.{Held}
@@ -19,7 +19,7 @@ use Rattle.command_line.specs.declared.request.Command.{Command}
 use Rattle.command_line.specs.declared.request.Command.TheVariants.{Run, Serial, Check, Listing, Pairs}
 use Rattle.command_line.specs.declared.request.Command.TheVariants.{Meetings, Explore, Labels, Places, Format}
 use Rattle.command_line.specs.declared.request.Command.TheVariants.{CheckFormat, View, Summary, Draw, Chrome}
-use Rattle.command_line.specs.declared.request.Command.TheVariants.{Page, Schedules}
+use Rattle.command_line.specs.declared.request.Command.TheVariants.{Page, Schedules, Upgrade}
 use Rattle.command_line.specs.declared.request.Command.TheVariants.{Cost, CostByLabel, CostByProcedure}
 use Rattle.command_line.specs.declared.request.Command.TheVariants.{PairsByLine, ViewByLine, SummaryByLine}
 use Rattle.failures.specs.declared.failure.Failure.{Failure}
@@ -40,6 +40,7 @@ AnswersAny Draw s held text = AnswersTrace Draw s held text
 AnswersAny Chrome s held text = AnswersTrace Chrome s held text
 AnswersAny Page s held text = AnswersTrace Page s held text
 AnswersAny Schedules s held text = AnswersSchedules s held text
+AnswersAny Upgrade s held text = AnswersTrace Upgrade s held text
 AnswersAny c s held text = Answers c s held text
 
 -- a failure is one of this command
@@ -52,6 +53,7 @@ ExplainsAny Draw s held text = ExplainsTrace Draw s held text
 ExplainsAny Chrome s held text = ExplainsTrace Chrome s held text
 ExplainsAny Page s held text = ExplainsTrace Page s held text
 ExplainsAny Schedules s held text = ExplainsSchedules s held text
+ExplainsAny Upgrade s held text = ExplainsTrace Upgrade s held text
 ExplainsAny c s held text = Explains c s held text
 
 -- the contents of files after a command: the trace of a run in the file that was named for it, a picture in
@@ -60,6 +62,7 @@ abbrev pub Leaves : Command → Settings → (text : List ℕ) → (held later :
 Leaves Run s text held later r = TracesRun s text held later r
 Leaves Draw s text held later r = WritesTo (picture_name s) (IsDrawn s held text) held later r
 Leaves Chrome s text held later r = WritesTo (picture_name s) (IsDrawn s held text) held later r
+Leaves Upgrade s text held later r = WritesTo (picture_name s) (IsInFormatTwo s held text) held later r
 Leaves Page s text held later r = ⊥
 Leaves Schedules s text held later r = ⊥
 Leaves Serial s text held later r = later ≡ held

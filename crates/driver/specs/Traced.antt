@@ -11,6 +11,7 @@ use Rattle.finish_scope.specs.RunErrors.{IsRunCause}
 use Rattle.event_worlds.specs.World.{World}
 use Rattle.event_worlds.specs.Worlds.{LeadsTo, outcome_of}
 use Rattle.trace_text.specs.Headers.{TraceHeader}
+use Rattle.trace_text.specs.declared.header.Format.TheVariants.{Two}
 use Rattle.trace_text.specs.Lines.{trace_text}
 use Rattle.command_line.specs.Requests.{Settings}
 use Rattle.files.specs.Held.{Held}
@@ -22,9 +23,10 @@ use Rattle.commands.specs.declared.question.Begun.{Begun}
 use Rattle.viewing.specs.Files.{WritesTo}
 use Rattle.driver.specs.declared.tracing.Ran.{Ran}
 
--- the settings of a run
+-- the settings of a run, whose trace is of format 2
 abbrev pub header_of : Settings → TraceHeader
 header_of s = record {
+  format = Two;
   steps = s.budget.steps;
   nest = s.budget.nest;
   w0 = s.spread.w0;

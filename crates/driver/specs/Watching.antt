@@ -8,7 +8,7 @@ use Rattle.command_line.specs.declared.request.Command.{Command}
 use Rattle.command_line.specs.declared.request.Command.TheVariants.{Run, Serial, Check, Listing, Pairs}
 use Rattle.command_line.specs.declared.request.Command.TheVariants.{Meetings, Explore, Labels, Places, Format}
 use Rattle.command_line.specs.declared.request.Command.TheVariants.{CheckFormat, View, Summary, Draw, Chrome}
-use Rattle.command_line.specs.declared.request.Command.TheVariants.{Page, Schedules}
+use Rattle.command_line.specs.declared.request.Command.TheVariants.{Page, Schedules, Upgrade}
 use Rattle.command_line.specs.declared.request.Command.TheVariants.{Cost, CostByLabel, CostByProcedure}
 use Rattle.command_line.specs.declared.request.Command.TheVariants.{PairsByLine, ViewByLine, SummaryByLine}
 use Rattle.command_words.specs.Orders.{Order, AsText, AsObject, Times, TimesAsObject, Tests, TestsEach}
@@ -41,6 +41,7 @@ is_watched Draw s = false
 is_watched Chrome s = false
 is_watched Page s = false
 is_watched Schedules s = false
+is_watched Upgrade s = false
 
 abbrev pub is_watched_by : Action → Settings → Bool
 is_watched_by (AnswerBy c) s = is_watched c s

@@ -29,6 +29,7 @@ use std::thread::Threads;
 use viewing::drawing::{Form, draw};
 use viewing::schedules::write_schedules;
 use viewing::tables::{Look, view};
+use viewing::upgrading::upgrade;
 
 /// Carries out a command on the text of a program.
 pub fn perform<R: Threads + Wait + Sync, F: FileSource, O: Write, W: Watch>(
@@ -81,6 +82,7 @@ pub fn perform<R: Threads + Wait + Sync, F: FileSource, O: Write, W: Watch>(
                 draw(rt, alloc, Form::Html { program }, question, files, out)
             }
             Command::Schedules => write_schedules(rt, alloc, request.file, question, files, out),
+            Command::Upgrade => upgrade(rt, alloc, question, files, out),
         },
     }
 }

@@ -19,7 +19,7 @@ use Rattle.task_run.specs.Translation.{task_result}
 use Rattle.task_run.specs.declared.result.TaskResult.{TaskResult as Made}
 use Rattle.task_run.specs.Jobs.{program_of, lists_of, budget_of}
 use Rattle.event_worlds.specs.Acting.{IsReady, IsWanting}
-use Rattle.event_worlds.specs.Courses.{IsKnown, course_of, IsDoing, IsNext}
+use Rattle.event_worlds.specs.Courses.{IsAtAnEnd, IsKnown, course_of, IsDoing, IsNext}
 use Rattle.event_worlds.specs.Ending.{GivesBack, IsSetDown}
 use Rattle.event_worlds.specs.Ending.{NoneIsLate, ScopeBecomes, StandsAt, TaskBecomes, has_ended, is_root, is_waiting}
 use Rattle.event_worlds.specs.Events.{Event, Ends, Parks, only_if, did, give_back, owns, with_next, in_innermost, by_end, by_park}
@@ -42,6 +42,7 @@ use Rattle.event_worlds.specs.declared.task.WorldTask.{WorldTask as rTask}
 use Rattle.event_worlds.specs.declared.task.Whereabouts.{Whereabouts as rWhereabouts}
 use Rattle.event_worlds.specs.declared.task.Whereabouts.TheVariants.{Queue as rQueue, Hand as rHand, Parked as rParked}
 use Rattle.event_worlds.specs.declared.world.World.{World as rWorld}
+use Rattle.event_worlds.proofs.AnEnd.{at_an_end}
 use Rattle.event_worlds.proofs.Came.{ends_with}
 use Rattle.event_worlds.proofs.InHand.{InHand, acts as goes_by, acts_nowhere, ahead_of, does_in, err_passed, gives_in, in_the_hand, known_next}
 use Rattle.event_worlds.proofs.GoingOn.{ends_are_own}
@@ -390,6 +391,7 @@ module _ (r : rWorld) (ok : IsWeightedJob r.job) (w : World) (h : Shows r w) whe
                 before = course_of found.its;
                 last = refl;
                 at = subst (IsDoing r.job.job (course_of found.its)) (sym down.doing) found.doing;
+                waits = subst IsAtAnEnd (sym down.doing) (at_an_end path.turns.items seen.its.doing waits);
               };
             })
             each)

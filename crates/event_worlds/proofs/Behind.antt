@@ -97,7 +97,13 @@ module _ (j : Job) (ok : IsJob j) (c : Course) (q : Paused) (made : Made) (at : 
 
 -- ---- a parked task
 emptied : (s : rScope) → s.passed ≡ true → (b : Scope) → IsBookOf s b → IsBookOf (record s { results = None }) b
-emptied s e b h = record { issued = h.issued; returned = h.returned; passed = h.passed; results = sym h.passed ∙ e }
+emptied s e b h = record {
+  issued = h.issued;
+  returned = h.returned;
+  passed = h.passed;
+  results = sym h.passed ∙ e;
+  faults = h.faults;
+}
 
 pub results_of : (o : _) (rs : _) (b : Scope) → o ≡ Some rs → AreResultsOf o b → map task_result rs.items ≡ b.results
 results_of None rs b e h = absurd (none-some _ e)
@@ -161,14 +167,14 @@ module _ (r : rWorld) (w : World) (h : Shows r w) (path : Path) (worker : ℕ) w
           }))) (f s (o ∷ more) refl b e)
 
   by_task : (k : rTask) → get is_path r.tasks path ≡ Some k → ((t : Live) → IsTaskOf r.job.job k t → leave_with t t.stakes ≡ None)
-      → next_world r.job (Resume worker path.turns.items) w ≡ None
+      → next_world r.job (Resume worker path.turns.items None) w ≡ None
   by_task k at go =
       let t = there (IsTaskOf r.job.job) k (get is_path r.tasks path) (task path.turns.items w.live) (h.tasks path) at in
       ap (λ o. and_then o (λ t. leave_with t t.stakes)) t.1 ∙ go t.0 t.2
 
   pub unpassed_stays : (k : rTask) → get is_path r.tasks path ≡ Some k → (s : rStake) → s ≡ slice_index_or k.stakes.items 0 s
       → ((b : rScope) → get is_scope r.scopes s.scope ≡ Some b → b.passed ≡ false)
-      → next_world r.job (Resume worker path.turns.items) w ≡ None
+      → next_world r.job (Resume worker path.turns.items None) w ≡ None
   unpassed_stays k at s front none =
       by_task k at (λ t is. by_tests t t.stakes (λ x rest e b f. by_items t k.stakes.items refl x rest (is.stakes ∙ e) b f))
     where
@@ -332,7 +338,7 @@ module _ (old : rWorld) (ok : IsWeightedJob old.job) (path : Path) (m : MayLeave
             room : hand_is_free worker w.live ≡ true
             room = not-false (hand_is_free worker w.live) (sym (h.hands worker) ∙ free)
 
-            legal : next_world old.job (Resume worker path.turns.items) w ≡ Some to
+            legal : next_world old.job (Resume worker path.turns.items None) w ≡ Some to
             legal =
                 ap (λ o. and_then o (λ t. leave_with old w h path worker t t.stakes)) it.lives
                 ∙ ap (leave_with old w h path worker it.its) (sym it.is.stakes ∙ ap (map stake) items)
@@ -377,8 +383,8 @@ module _ (old : rWorld) (ok : IsWeightedJob old.job) (path : Path) (m : MayLeave
 
             shown : Shows (record old { tasks = r3.tasks; scopes = r2.scopes; hands = last.hands }) to
             shown = record {
-              events = h.events ++ Resume worker path.turns.items ∷ [];
-              led = led_on (program_of old.job.job) old.job.w0 (lists_of old.job.job) (budget_of old.job.job) (Resume worker path.turns.items) h.events w
+              events = h.events ++ Resume worker path.turns.items None ∷ [];
+              led = led_on (program_of old.job.job) old.job.w0 (lists_of old.job.job) (budget_of old.job.job) (Resume worker path.turns.items None) h.events w
                   to h.led legal;
               tasks = tasks_put old.job.job (get is_path old.tasks) (get is_path r3.tasks) path behind.to it.its left w.live h.tasks it.lives named
                   its_new (each_task behind.to behind.each);
@@ -392,7 +398,7 @@ module _ (old : rWorld) (ok : IsWeightedJob old.job) (path : Path) (m : MayLeave
               told = h.told;
             }
 
-          pub resumed : Becomes (Resume worker path.turns.items) old (record r3 { hands = last.hands })
+          pub resumed : Becomes (Resume worker path.turns.items None) old (record r3 { hands = last.hands })
           resumed w h = (
             to w h,
             legal w h,

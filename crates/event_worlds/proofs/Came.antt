@@ -114,7 +114,7 @@ module _ (p : Program) (needs : Codes → Needs) (scoped : IsScoped p) (calm : I
     event_came (Pass id) c =
         subst (λ (x : World). Came x.scopes) c.now
         (came_put id c.book (record c.book { passed = true }) a.scopes c.found c.same h (h id c.book c.found))
-    event_came (Resume w q) c = subst (λ (x : World). Came x.scopes) c.now h
+    event_came (Resume w q z) c = subst (λ (x : World). Came x.scopes) c.now h
 
   list_came : (before es : List Event) (a b : World) → IsSound p needs fresh w0 least root nameless before a
       → Goes p needs scoped calm provided fresh w0 least root nameless may_begin a → Came a.scopes

@@ -142,7 +142,7 @@ Becomes does gives w0 (Opens path) a b = IsOpen does w0 path a b
 Becomes does gives w0 (Parks path) a b = IsPark does path a b
 Becomes does gives w0 (Ends path) a b = IsEnd does gives path a b
 Becomes does gives w0 (Pass id) a b = IsPass id a b
-Becomes does gives w0 (Resume w path) a b = IsResume path a b
+Becomes does gives w0 (Resume w path z) a b = IsResume path a b
 
 queue_awake : (q : Whereabouts) (w : ℕ) → in_queue q w ≡ true → is_parked q ≡ false
 queue_awake (Queue v) w e = refl
@@ -319,8 +319,8 @@ module _ (w0 : ℕ) (actions : Start → List (List TaskResult) → List Action)
       let t = holds _ _ b g.next in
       record { book = g.one; found = g.first; same = scope_id id a.scopes g.one g.first; all_back = eqb-true g.one.issued g.one.returned (and_parts _ _ t.test).1; now = same_Some _ _ t.gives }
 
-  resumes : (w : ℕ) (path : List ℕ) (a b : World) → nx (Resume w path) a ≡ Some b → IsResume path a b
-  resumes w path a b e = by_stakes g.one.stakes refl g.next
+  resumes : (w : ℕ) (path : List ℕ) (z : Option ℕ) (a b : World) → nx (Resume w path z) a ≡ Some b → IsResume path a b
+  resumes w path z a b e = by_stakes g.one.stakes refl g.next
     where
       g : Gives (task path a.live) (λ t. by_resume w0 actions result w t a t.stakes) b
       g = gives (task path a.live) _ b e
@@ -356,7 +356,7 @@ module _ (w0 : ℕ) (actions : Start → List (List TaskResult) → List Action)
   becomes (Parks path) a b e = parks path a b e
   becomes (Ends path) a b e = ends path a b e
   becomes (Pass id) a b e = passes id a b e
-  becomes (Resume w path) a b e = resumes w path a b e
+  becomes (Resume w path z) a b e = resumes w path z a b e
 
   -- stealing from oneself isn't legal
   pub steals_from_others : (v : ℕ) (path : List ℕ) (a : World) → nx (Steal v v path) a ≡ None

@@ -53,7 +53,7 @@ abbrev one_worker : List Event
 one_worker =
     Take 0 root ∷ Opens root ∷ Spawns root ∷ Steps root ∷ Parks root
     ∷ Take 0 first ∷ Steps first ∷ Ends first
-    ∷ Pass its_finish ∷ Resume 0 root ∷ Steps root ∷ Parks root ∷ Pass root_scope ∷ []
+    ∷ Pass its_finish ∷ Resume 0 root None ∷ Steps root ∷ Parks root ∷ Pass root_scope ∷ []
 
 outcome_is : told (two one_worker)
     ≡ Some (Ended (record { arrays = (pos 7 ∷ []) ∷ (pos 8 ∷ []) ∷ []; lines = (pos 7 ∷ pos 8 ∷ []) ∷ []; faults = [] }))
@@ -130,7 +130,7 @@ too_early = refl
 
 in_time : illegal (replayed nested 8 [] (child_ends_first
     ++ Steal 1 0 second ∷ Take 1 second ∷ Steps second ∷ Ends second
-    ∷ Pass its_finish ∷ Resume 1 root ∷ Steps root ∷ Parks root ∷ Pass root_scope ∷ [])) ≡ None
+    ∷ Pass its_finish ∷ Resume 1 root None ∷ Steps root ∷ Parks root ∷ Pass root_scope ∷ [])) ≡ None
 in_time = refl
 
 -- both were spawned in it

@@ -541,7 +541,7 @@ module _ (p : Program) (needs : Codes → Needs) (fresh w0 : ℕ) (least : 1 ≤
 
       resumes_now : (o : Stake) (more : List Stake) → outer ≡ o ∷ more → (r : Scope) → scope s.scope w.scopes ≡ Some r → r.passed ≡ true → Goes
       resumes_now o more e r f g =
-          free q t l.lives (Resume 0 q) (parked_among (Resume 0 q) (1, omega arith, refl)) _
+          free q t l.lives (Resume 0 q None) (parked_among (Resume 0 q None) (1, omega arith, refl)) _
           (found_goes _ t _ l.lives
           ∙ ap (λ ss. by_resume w0 (does p needs fresh w0) (hands_on p needs fresh w0) 0 t w ss) (are ∙ ap (λ ss. s ∷ ss) e)
           ∙ found_goes _ r _ f

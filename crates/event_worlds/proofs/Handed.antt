@@ -250,11 +250,11 @@ module _ (does : Live → Option Action) (gives : Live → TaskResult) (w0 : ℕ
             path = g.path;
           }) refl
 
-  resume_handed : (v : ℕ) (p : List ℕ) → IsResume p a b → Handed (es ++ Resume v p ∷ []) b
-  resume_handed v p c =
+  resume_handed : (v : ℕ) (p : List ℕ) (z : Option ℕ) → IsResume p a b → Handed (es ++ Resume v p z ∷ []) b
+  resume_handed v p z c =
       let to : Live = record c.was { receipts = c.was.receipts ++ c.of.book.results ∷ []; stakes = c.next ∷ c.outer; place = Hand c.worker } in
-      subst (Handed (es ++ Resume v p ∷ [])) c.now (unbooked es (Resume v p) a k h (no_end (Resume v p) tt) (put_task to a.live)
-      (live_put es (Resume v p) a k h to c.was p c.found c.named (λ id l. live_still es (Resume v p) a k h p c.was id c.found (subst (λ ss. Last ss id) (sym c.stakes) l))))
+      subst (Handed (es ++ Resume v p z ∷ [])) c.now (unbooked es (Resume v p z) a k h (no_end (Resume v p z) tt) (put_task to a.live)
+      (live_put es (Resume v p z) a k h to c.was p c.found c.named (λ id l. live_still es (Resume v p z) a k h p c.was id c.found (subst (λ ss. Last ss id) (sym c.stakes) l))))
 
   spawn_handed : (p : List ℕ) → IsSpawn does p a b → Handed (es ++ Spawns p ∷ []) b
   spawn_handed p c = subst (Handed (es ++ Spawns p ∷ [])) c.now (unbooked es (Spawns p) a k h (no_end (Spawns p) tt) _ live)
@@ -380,4 +380,4 @@ event_handed does gives w0 es (Ends p) a b k h paths c = end_handed does gives w
 event_handed does gives w0 es (Pass id) a b k h paths c =
     subst (Handed (es ++ Pass id ∷ [])) c.now
     (booked es (Pass id) a k h (no_end (Pass id) tt) a.live (live_still es (Pass id) a k h) id c.book (record c.book { passed = true }) c.found c.same refl)
-event_handed does gives w0 es (Resume w p) a b k h paths c = resume_handed does gives w0 es a b k h w p c
+event_handed does gives w0 es (Resume w p z) a b k h paths c = resume_handed does gives w0 es a b k h w p z c

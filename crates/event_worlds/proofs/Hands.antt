@@ -185,8 +185,8 @@ module _ (w0 : ℕ) (actions : Start → List (List TaskResult) → List Action)
     ended does hands path c =
         subst (λ (x : World). AreApart x.live) c.now (gone_apart c.at.was.path c.at.was a.live (at_found path c.at) apart)
 
-    resumed : (w : ℕ) (path : List ℕ) → nx (Resume w path) a ≡ Some b → AreApart b.live
-    resumed w path e = by_stakes g.one.stakes g.next
+    resumed : (w : ℕ) (path : List ℕ) (z : Option ℕ) → nx (Resume w path z) a ≡ Some b → AreApart b.live
+    resumed w path z e = by_stakes g.one.stakes g.next
       where
         g : Gives (task path a.live) (λ t. by_resume w0 actions result w t a t.stakes) b
         g = gives (task path a.live) _ b e
@@ -218,7 +218,7 @@ module _ (w0 : ℕ) (actions : Start → List (List TaskResult) → List Action)
     where
       passed : IsPass id a b → AreApart b.live
       passed c = subst (λ (x : World). AreApart x.live) c.now apart
-  event_apart (Resume w q) a b apart e = resumed a b apart w q e
+  event_apart (Resume w q z) a b apart e = resumed a b apart w q z e
 
   list_apart : (es : List Event) (a b : World) → AreApart a.live → after w0 actions result es a ≡ Some b → AreApart b.live
   list_apart [] a b apart e = subst (λ (x : World). AreApart x.live) (same_Some _ _ e) apart

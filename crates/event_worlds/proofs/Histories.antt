@@ -83,7 +83,7 @@ same_more t = record { spawned = le_refl t.spawned; opened = le_refl t.opened }
 pub tell_more : (q : List ℕ) (e : Event) (t : Told) → IsMore t (tell q e t)
 tell_more q (Spawns p) t = by_test (λ b. IsMore t (if b then spawned_more t else t)) (same_path p q) (λ f. record { spawned = omega arith; opened = le_refl t.opened }) (λ f. same_more t)
 tell_more q (Opens p) t = by_test (λ b. IsMore t (if b then opened_more t else t)) (same_path p q) (λ f. record { spawned = le_refl t.spawned; opened = omega arith }) (λ f. same_more t)
-tell_more q (Resume w p) t = by_test (λ b. IsMore t (if b then left_one t else t)) (same_path p q) (λ f. record { spawned = le_refl t.spawned; opened = le_refl t.opened }) (λ f. same_more t)
+tell_more q (Resume w p z) t = by_test (λ b. IsMore t (if b then left_one t else t)) (same_path p q) (λ f. record { spawned = le_refl t.spawned; opened = le_refl t.opened }) (λ f. same_more t)
 tell_more q (Take w p) t = same_more t
 tell_more q (Steal w f p) t = same_more t
 tell_more q (Steps p) t = same_more t

@@ -425,7 +425,7 @@ module _ (r : rWorld) (path : Path) (from : ℕ) (k : rTask) (at : get is_path r
 
 -- ---- a parked task
 pub resume_legal : (r : rWorld) (path : Path) (worker : ℕ) → MayLeave r path → contains nat_eq r.hands worker ≡ false
-    → IsLegal r (Resume worker path.turns.items)
+    → IsLegal r (Resume worker path.turns.items None)
 resume_legal r path worker m free w h = (to b.0, legal)
   where
     t : (t : Live) × (task path.turns.items w.live ≡ Some t) × IsTaskOf r.job.job m.at.its t
@@ -449,7 +449,7 @@ resume_legal r path worker m free w h = (to b.0, legal)
     room : hand_is_free worker w.live ≡ true
     room = not-false (hand_is_free worker w.live) (sym (h.hands worker) ∙ free)
 
-    legal : next_world r.job (Resume worker path.turns.items) w ≡ Some (to b.0)
+    legal : next_world r.job (Resume worker path.turns.items None) w ≡ Some (to b.0)
     legal =
         ap (λ o. and_then o (λ t. leave_with r w h path worker t t.stakes)) t.1
         ∙ ap (leave_with r w h path worker t.0) (sym t.2.stakes ∙ ap (map stake) items)

@@ -220,6 +220,7 @@ module _ (old : rWorld) (w : World) (h : Shows old w) (id : rScopeId) where
               returned = passing_book.2.returned;
               passed = refl;
               results = still_results s.results passing_book.0 passing_book.2.results;
+              faults = passing_book.2.faults;
             })
             each;
         hands = h.hands;

@@ -152,8 +152,8 @@ event_once does gives w0 es (Pass id) a b k h paths c =
     let e = Pass id in
     subst (λ (w : World). AllOnce (es ++ e ∷ []) w.live w.scopes) c.now
     (same_results es e a h a.live (still_once es e a h a.live (λ q s n. n)) id c.book (record c.book { passed = true }) c.found c.same refl)
-event_once does gives w0 es (Resume w p) a b k h paths c =
-    let e = Resume w p in
+event_once does gives w0 es (Resume w p z) a b k h paths c =
+    let e = Resume w p z in
     let to : Live = record c.was { receipts = c.was.receipts ++ c.of.book.results ∷ []; stakes = c.next ∷ c.outer; place = Hand c.worker } in
     subst (λ (w : World). AllOnce (es ++ e ∷ []) w.live w.scopes) c.now
     (still_once es e a h (put_task to a.live) (λ q s n. none_put to c.was p q a.live c.found c.named n))

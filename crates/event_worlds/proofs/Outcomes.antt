@@ -2,7 +2,7 @@
 use Rattle.std.proofs.Common.{inl, ◌≡◌, ℕ, suc, ◌+◌, ◌≤◌, List, [], ◌∷◌, ◌++◌, length, Option, Some, None, refl, sym}
 use Rattle.std.proofs.Common.{ap, ◌∙◌, subst, arith, append_assoc}
 use Rattle.std.proofs.lemmas.List.{append-nil}
-use Rattle.std.specs.Prelude.{take, ◌⊎◌, ℤ, true, map, Contains, if◌then◌else◌}
+use Rattle.std.specs.Prelude.{take, ◌⊎◌, ℤ, Bool, true, false, map, Contains, if◌then◌else◌}
 use Rattle.std.proofs.lemmas.Option.{none-some, same_Some}
 use Rattle.types.specs.Code.{Codes, Program}
 use Rattle.types.specs.Outcome.{Budget}
@@ -16,8 +16,8 @@ use Rattle.task_run.proofs.Lists.{each_more}
 use Rattle.task_run.proofs.SettledResults.{gives}
 use Rattle.event_worlds.specs.World.{ScopeId, Stake, Live, Scope, World, Whereabouts, Queue, Hand, Parked, same_scope}
 use Rattle.event_worlds.specs.World.{root_scope, task, scope, weight_in, held}
-use Rattle.event_worlds.specs.Events.{Event, new_task, new_scope, next, first_world, after, Ends}
-use Rattle.event_worlds.specs.Replay.{does, hands_on, event, Replayed, Legal, IllegalAt, go_or, replay_from, start_of}
+use Rattle.event_worlds.specs.Events.{Event, new_task, new_scope, next, first_world, after, only_if, Ends}
+use Rattle.event_worlds.specs.Replay.{does, hands_on, event, tells, Replayed, Legal, IllegalAt, go_or, replay_from, start_of}
 use Rattle.event_worlds.specs.Replay.{replay}
 use Rattle.event_worlds.specs.History.{BegunIn}
 use Rattle.event_worlds.specs.Worlds.{IsFirstRefused}
@@ -165,6 +165,11 @@ legal_same a b e = cc e
 illegal_same : (m n : ℕ) → IllegalAt m ≡ IllegalAt n → m ≡ n
 illegal_same m n e = cc e
 
+-- what is there if a test is true is there
+only_told : {A : Type 0} (b : Bool) (o : Option A) (x : A) → only_if b o ≡ Some x → o ≡ Some x
+only_told true o x e = e
+only_told false o x e = absurd (none-some _ e)
+
 module _ (p : Program) (needs : Codes → Needs) (w0 : ℕ) where
   illegal_not : {n : ℕ} {w : World} → IllegalAt n ≡ Legal w → ⊥
   illegal_not e = subst IsIllegal e tt
@@ -175,13 +180,16 @@ module _ (p : Program) (needs : Codes → Needs) (w0 : ℕ) where
 
   replays : (fresh n : ℕ) (es : List Event) (a w : World) → replay_from p needs fresh w0 n es a ≡ Legal w → after w0 (does p needs fresh w0) (hands_on p needs fresh w0) es a ≡ Some w
   replays fresh n [] a w e = ap Some (legal_same a w e)
-  replays fresh n (x ∷ es) a w e = by_event (event p needs fresh w0 x a) e (λ b. replays fresh (n + 1) es b w)
+  replays fresh n (x ∷ es) a w e = by_event (event p needs fresh w0 x a) refl e (λ b. replays fresh (n + 1) es b w)
     where
-      by_event : (o : Option World) → go_or n (replay_from p needs fresh w0 (n + 1) es) o ≡ Legal w
+      by_event : (o : Option World) → event p needs fresh w0 x a ≡ o → go_or n (replay_from p needs fresh w0 (n + 1) es) o ≡ Legal w
           → ((b : World) → replay_from p needs fresh w0 (n + 1) es b ≡ Legal w → after w0 (does p needs fresh w0) (hands_on p needs fresh w0) es b ≡ Some w)
-          → and_then o (after w0 (does p needs fresh w0) (hands_on p needs fresh w0) es) ≡ Some w
-      by_event None e rec = absurd (illegal_not e)
-      by_event (Some b) e rec = rec b e
+          → after w0 (does p needs fresh w0) (hands_on p needs fresh w0) (x ∷ es) a ≡ Some w
+      by_event None is e rec = absurd (illegal_not e)
+      by_event (Some b) is e rec =
+          ap (λ o. and_then o (after w0 (does p needs fresh w0) (hands_on p needs fresh w0) es))
+          (only_told (tells p needs fresh w0 x a) (next w0 (does p needs fresh w0) (hands_on p needs fresh w0) x a) b is)
+          ∙ rec b e
 
   pub replays_are_worlds : ReplaysAreWorlds p needs w0
   replays_are_worlds input b es w e = replays b.steps 0 es (start_of p w0 input b) w e
@@ -215,18 +223,25 @@ module _ (p : Program) (needs : Codes → Needs) (w0 : ℕ) where
         (k.result, subst (λ (s : Scope). Contains s.results k.result) its k.among, k.path)),
   )
 
-  lead : (fresh n : ℕ) (es : List Event) (a w : World) → after w0 (does p needs fresh w0) (hands_on p needs fresh w0) es a ≡ Some w
-      → replay_from p needs fresh w0 n es a ≡ Legal w
-  lead fresh n [] a w e = ap Legal (same_Some _ _ e)
-  lead fresh n (x ∷ es) a w e =
-      let g = gives (event p needs fresh w0 x a) (after w0 (does p needs fresh w0) (hands_on p needs fresh w0) es) w e in
-      ap (go_or n (replay_from p needs fresh w0 (n + 1) es)) g.first ∙ lead fresh (n + 1) es g.one w g.next
+  lead : (fresh n : ℕ) (es : List Event) (x : Event) (a w to : World) → replay_from p needs fresh w0 n es a ≡ Legal w
+      → event p needs fresh w0 x w ≡ Some to → replay_from p needs fresh w0 n (es ++ x ∷ []) a ≡ Legal to
+  lead fresh n [] x a w to e is =
+      ap (go_or n (replay_from p needs fresh w0 (n + 1) [])) (ap (event p needs fresh w0 x) (legal_same a w e) ∙ is)
+  lead fresh n (y ∷ es) x a w to e is =
+      by_event (event p needs fresh w0 y a) e (λ b g. lead fresh (n + 1) es x b w to g is)
+    where
+      by_event : (o : Option World) → go_or n (replay_from p needs fresh w0 (n + 1) es) o ≡ Legal w
+          → ((b : World) → replay_from p needs fresh w0 (n + 1) es b ≡ Legal w
+          → replay_from p needs fresh w0 (n + 1) (es ++ x ∷ []) b ≡ Legal to)
+          → go_or n (replay_from p needs fresh w0 (n + 1) (es ++ x ∷ [])) o ≡ Legal to
+      by_event None e rec = absurd (illegal_not e)
+      by_event (Some b) e rec = rec b e
 
-  -- the world that events lead to is the world of their replay
-  pub worlds_are_replays : (input : List (List ℤ)) (b : Budget) (es : List Event) (w : World)
-      → after w0 (does p needs b.steps w0) (hands_on p needs b.steps w0) es (start_of p w0 input b) ≡ Some w
-      → replay p needs w0 input b es ≡ Legal w
-  worlds_are_replays input b es w e = lead b.steps 0 es (start_of p w0 input b) w e
+  -- one legal event more leads on
+  pub replay_more : (input : List (List ℤ)) (b : Budget) (es : List Event) (x : Event) (w to : World)
+      → replay p needs w0 input b es ≡ Legal w → event p needs b.steps w0 x w ≡ Some to
+      → replay p needs w0 input b (es ++ x ∷ []) ≡ Legal to
+  replay_more input b es x w to e is = lead b.steps 0 es x (start_of p w0 input b) w to e is
 
   -- ---- the first event that isn't legal
   abbrev IsIllegalFrom : (fresh m : ℕ) → List Event → (a : World) → ℕ → Type 0
@@ -261,17 +276,23 @@ module _ (p : Program) (needs : Codes → Needs) (w0 : ℕ) where
             },
           )
 
-  refused : (fresh m : ℕ) (before : List Event) (x : Event) (later : List Event) (a b : World) → after w0 (does p needs fresh w0) (hands_on p needs fresh w0) before a ≡ Some b → event p needs fresh w0 x b ≡ None
+  refused : (fresh m : ℕ) (before : List Event) (x : Event) (later : List Event) (a b : World)
+      → replay_from p needs fresh w0 m before a ≡ Legal b → event p needs fresh w0 x b ≡ None
       → replay_from p needs fresh w0 m (before ++ x ∷ later) a ≡ IllegalAt (m + length before)
   refused fresh m [] x later a b e f =
       let same : m ≡ m + 0 = omega arith in
-      ap (λ c. go_or m (replay_from p needs fresh w0 (m + 1) later) (event p needs fresh w0 x c)) (same_Some _ _ e)
+      ap (λ c. go_or m (replay_from p needs fresh w0 (m + 1) later) (event p needs fresh w0 x c)) (legal_same a b e)
       ∙ ap (go_or m (replay_from p needs fresh w0 (m + 1) later)) f ∙ ap IllegalAt same
   refused fresh m (y ∷ before) x later a b e f =
-      let g = gives (event p needs fresh w0 y a) (after w0 (does p needs fresh w0) (hands_on p needs fresh w0) before) b e in
       let same : m + 1 + length before ≡ m + suc (length before) = omega arith in
-      ap (go_or m (replay_from p needs fresh w0 (m + 1) (before ++ x ∷ later))) g.first
-      ∙ refused fresh (m + 1) before x later g.one b g.next f ∙ ap IllegalAt same
+      by_event (event p needs fresh w0 y a) e (λ c g. refused fresh (m + 1) before x later c b g f ∙ ap IllegalAt same)
+    where
+      by_event : (o : Option World) → go_or m (replay_from p needs fresh w0 (m + 1) before) o ≡ Legal b
+          → ((c : World) → replay_from p needs fresh w0 (m + 1) before c ≡ Legal b
+          → replay_from p needs fresh w0 (m + 1) (before ++ x ∷ later) c ≡ IllegalAt (m + suc (length before)))
+          → go_or m (replay_from p needs fresh w0 (m + 1) (before ++ x ∷ later)) o ≡ IllegalAt (m + suc (length before))
+      by_event None e rec = absurd (illegal_not e)
+      by_event (Some c) e rec = rec c e
 
   pub refuses_the_first : RefusesTheFirst p needs w0
   refuses_the_first input b es n = (
@@ -280,6 +301,6 @@ module _ (p : Program) (needs : Codes → Needs) (w0 : ℕ) where
         subst (IsIllegalFrom b.steps 0 es (start_of p w0 input b)) same r.2),
     λ i. (let count : 0 + length i.before ≡ n = (let c = i.count in omega (arith, c)) in
         ap (λ l. replay p needs w0 input b l) i.are
-        ∙ refused b.steps 0 i.before i.first i.later (start_of p w0 input b) i.to (replays b.steps 0 i.before (start_of p w0 input b) i.to i.legal) i.illegal
+        ∙ refused b.steps 0 i.before i.first i.later (start_of p w0 input b) i.to i.legal i.illegal
         ∙ ap IllegalAt count),
   )

@@ -406,4 +406,4 @@ module _ (p : Program) (needs : Codes → Needs) (fresh w0 : ℕ) (root : Start)
   event_own (Parks q) a b u k h = park_own a k q b h
   event_own (Ends q) a b u k h = end_own a k u q b h
   event_own (Pass id) a b u k h = pass_own a k id b h
-  event_own (Resume w q) a b u k h = resume_own a k q b h
+  event_own (Resume w q z) a b u k h = resume_own a k q b h

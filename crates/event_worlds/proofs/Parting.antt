@@ -418,7 +418,7 @@ module _ (p : Program) (needs : Codes → Needs) (scoped : IsScoped p) (calm : I
     event_placed even (Parks q) b c = park_placed q b c
     event_placed even (Ends q) b c = end_placed q b c
     event_placed even (Pass id) b c = subst (λ (w : World). AllPlaced w.live) c.now h
-    event_placed even (Resume w q) b c = resume_placed even q b c
+    event_placed even (Resume w q z) b c = resume_placed even q b c
 
     pub event_even : AllEvenBy a.live a.scopes → (e : Event) (b : World)
         → Becomes its_next (λ t. hands p needs fresh w0 root nameless t) w0 e a b → AllEvenBy b.live b.scopes
@@ -431,4 +431,4 @@ module _ (p : Program) (needs : Codes → Needs) (scoped : IsScoped p) (calm : I
     event_even even (Parks q) b c f = park_even p needs fresh w0 root nameless (worth p needs fresh f) f (worth_lists p needs fresh f) es a k o (even f) q b c
     event_even even (Ends q) b c f = end_even p needs fresh w0 root nameless (worth p needs fresh f) f (worth_lists p needs fresh f) es a k o (even f) q b c (end_spawned q b c f)
     event_even even (Pass id) b c f = pass_even p needs fresh w0 root nameless (worth p needs fresh f) f (worth_lists p needs fresh f) es a k o (even f) id b c
-    event_even even (Resume w q) b c f = resumed_even even q b c f
+    event_even even (Resume w q z) b c f = resumed_even even q b c f

@@ -37,7 +37,7 @@ IsFalling t = Falls (t.opened + 1) t.inside
 tell_falls : (q : List ℕ) (e : Event) (t : Told) → IsFalling t → IsFalling (tell q e t)
 tell_falls q (Spawns p) t h = by_test (λ b. IsFalling (if b then spawned_more t else t)) (same_path p q) (λ f. h) (λ f. h)
 tell_falls q (Opens p) t h = by_test (λ b. IsFalling (if b then opened_more t else t)) (same_path p q) (λ f. ((let x : t.opened + 1 < t.opened + 1 + 1 = omega arith in x), h)) (λ f. h)
-tell_falls q (Resume w p) t h = by_test (λ b. IsFalling (if b then left_one t else t)) (same_path p q) (λ f. falls_drop (t.opened + 1) t.inside h) (λ f. h)
+tell_falls q (Resume w p z) t h = by_test (λ b. IsFalling (if b then left_one t else t)) (same_path p q) (λ f. falls_drop (t.opened + 1) t.inside h) (λ f. h)
 tell_falls q (Take w p) t h = h
 tell_falls q (Steal w f p) t h = h
 tell_falls q (Steps p) t h = h
@@ -137,6 +137,6 @@ module _ (a : World) (h : AllThere a.live a.scopes) where
           (λ g. h q t (sym (task-without_task k.at.was.path q a.live (other_path g)) ∙ f))
   event_there does gives w0 u (Pass id) b k =
       subst Goes k.now (more_there a.live a.scopes _ (there_put (record k.book { passed = true }) k.book a.scopes (ap (λ i. scope i a.scopes) k.same ∙ k.found)) h)
-  event_there does gives w0 u (Resume w p) b k =
+  event_there does gives w0 u (Resume w p z) b k =
       subst Goes k.now (put_there (record k.was { receipts = k.was.receipts ++ k.of.book.results ∷ []; stakes = k.next ∷ k.outer; place = Hand k.worker }) k.was p a.live a.scopes k.found k.named
       (subst (Each (IsThere a.scopes)) k.stakes (h p k.was k.found)).1 h)

@@ -72,7 +72,7 @@ module _ (w0 : ℕ) (least : 1 ≤ w0) where
   event_kept does gives es (Parks p) a b k h = park_kept es (Parks p) a k (told_last es (Parks p)) (no_spawn (Parks p) tt) p b h
   event_kept does gives es (Ends p) a b k h = end_kept es a k p b h
   event_kept does gives es (Pass id) a b k h = pass_kept es (Pass id) a k (told_last es (Pass id)) (no_spawn (Pass id) tt) id b h
-  event_kept does gives es (Resume w p) a b k h = resume_kept es a k w p b h
+  event_kept does gives es (Resume w p z) a b k h = resume_kept es a k w p z b h
 
   module _ (actions : Start → List (List TaskResult) → List Action) (result : Start → List (List TaskResult) → TaskResult) where
     pub list_kept : (before es : List Event) (a b : World) → Kept before a → after w0 actions result es a ≡ Some b → Kept (before ++ es) b

@@ -97,11 +97,11 @@ module _ (es : List Event) (a : World) (k : Kept es a) (r : IsRooted es a) where
           owned (n ∷ ns) e = not_both (path_is (f ∙ ap (λ (i : ScopeId). i.owner) (sym (same_head e)))) h.own
   event_rooted does gives w0 (Pass id) b h =
       still (Pass id) b (told_inside (Pass id) refl) (subst (λ (w : World). (s : Live) × (task [] w.live ≡ Some s)) h.now (r.its, r.lives))
-  event_rooted does gives w0 (Resume w p) b h = record {
+  event_rooted does gives w0 (Resume w p z) b h = record {
     its = s.0;
     lives = s.1;
     above = up.0;
-    inside = ap (λ (t : Told). t.inside) (told_last es (Resume w p) []) ∙ up.1;
+    inside = ap (λ (t : Told). t.inside) (told_last es (Resume w p z) []) ∙ up.1;
   }
     where
       s : (s : Live) × (task [] b.live ≡ Some s)

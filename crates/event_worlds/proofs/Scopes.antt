@@ -231,12 +231,12 @@ module _ (es : List Event) (a : World) (k : Kept es a) where
     open_kept = subst (λ r. Kept (es ++ Opens r ∷ []) b) h.named open_kept_own
 
   -- ---- a task continues after its finish
-  module _ (w : ℕ) (path : List ℕ) (b : World) (h : IsResume path a b) where
+  module _ (w : ℕ) (path : List ℕ) (z : Option ℕ) (b : World) (h : IsResume path a b) where
     abbrev r : List ℕ
     r = h.was.path
 
     abbrev after_resume : List Event
-    after_resume = es ++ Resume w r ∷ []
+    after_resume = es ++ Resume w r z ∷ []
 
     abbrev resumer : Live
     resumer = record h.was { receipts = h.was.receipts ++ h.of.book.results ∷ []; stakes = h.next ∷ h.outer; place = Hand h.worker }
@@ -245,10 +245,10 @@ module _ (es : List Event) (a : World) (k : Kept es a) where
     resume_found = ap (λ q. task q a.live) h.named ∙ h.found
 
     resume_here : told after_resume r ≡ left_one (told es r)
-    resume_here = told_last es (Resume w r) r ∙ ap (λ (x : Bool). if x then left_one (told es r) else told es r) (path_same r)
+    resume_here = told_last es (Resume w r z) r ∙ ap (λ (x : Bool). if x then left_one (told es r) else told es r) (path_same r)
 
     resume_others : (q : List ℕ) → (r ≡ q → ⊥) → told after_resume q ≡ told es q
-    resume_others q n = told_last es (Resume w r) q ∙ ap (λ (x : Bool). if x then left_one (told es q) else told es q) (path_not r q n)
+    resume_others q n = told_last es (Resume w r z) q ∙ ap (λ (x : Bool). if x then left_one (told es q) else told es q) (path_not r q n)
 
     resume_told : IsTold (told es r) (k.line r) r h.was
     resume_told = k.tasks r h.was resume_found
@@ -299,16 +299,16 @@ module _ (es : List Event) (a : World) (k : Kept es a) where
 
     resume_kept_own : Kept after_resume b
     resume_kept_own =
-        subst (Kept after_resume) h.now (kept_by es (Resume w r) a k (no_spawn (Resume w r) tt) (record { live = put_task resumer a.live; scopes = a.scopes })
-        (put_change es (Resume w r) a k resumer a.scopes (record {
+        subst (Kept after_resume) h.now (kept_by es (Resume w r z) a k (no_spawn (Resume w r z) tt) (record { live = put_task resumer a.live; scopes = a.scopes })
+        (put_change es (Resume w r z) a k resumer a.scopes (record {
           was = h.was;
           found = resume_found;
           others = resume_others;
           tells = resume_tells;
           inside = resume_inside;
-          known = (subst (Each (IsKnown after_resume)) h.stakes (known_more es (Resume w r) h.was.stakes (task_known es (Resume w r) a k r h.was resume_found))).1;
-          scopes = λ id s f. scope_still es (Resume w r) a.live (put_task resumer a.live) id s (resume_weighs id) (k.scopes id s f);
+          known = (subst (Each (IsKnown after_resume)) h.stakes (known_more es (Resume w r z) h.was.stakes (task_known es (Resume w r z) a k r h.was resume_found))).1;
+          scopes = λ id s f. scope_still es (Resume w r z) a.live (put_task resumer a.live) id s (resume_weighs id) (k.scopes id s f);
         })))
 
-    pub resume_kept : Kept (es ++ Resume w path ∷ []) b
-    resume_kept = subst (λ q. Kept (es ++ Resume w q ∷ []) b) h.named resume_kept_own
+    pub resume_kept : Kept (es ++ Resume w path z ∷ []) b
+    resume_kept = subst (λ q. Kept (es ++ Resume w q z ∷ []) b) h.named resume_kept_own

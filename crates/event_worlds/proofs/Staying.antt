@@ -28,6 +28,7 @@ use Rattle.event_worlds.specs.declared.job.WeightedJob.{WeightedJob}
 use Rattle.event_worlds.specs.declared.scope.WorldScope.{WorldScope as rScope}
 use Rattle.event_worlds.specs.declared.task.WorldTask.{WorldTask as rTask}
 use Rattle.event_worlds.specs.declared.world.World.{World as rWorld}
+use Rattle.event_worlds.proofs.AnEnd.{still_at_an_end}
 use Rattle.event_worlds.proofs.Lookups.{by_test, scopes_same}
 
 -- ---- the entries of two tables at a key
@@ -68,7 +69,12 @@ doing_stays : (j : Job) (q : Whereabouts) (c : Course) (old new : TaskProgress) 
 doing_stays j q c old new (inl e) h = subst (λ d. IsDoingThere j q c d) (sym e) h
 doing_stays j (Queue v) c old new (inr l) h = l.same c h
 doing_stays j (Hand v) c old new (inr l) h = l.same c h
-doing_stays j Parked c old new (inr l) h = record { before = h.before; last = h.last; at = l.same h.before h.at }
+doing_stays j Parked c old new (inr l) h = record {
+  before = h.before;
+  last = h.last;
+  at = l.same h.before h.at;
+  waits = still_at_an_end j h.before old new h.waits h.at l.known (l.same h.before h.at);
+}
 
 pub task_stays : (j : Job) (old new : rTask) → TaskStays j old new → (t : Live) → IsTaskOf j old t → IsTaskOf j new t
 task_stays j old new s t is = record {
@@ -114,10 +120,11 @@ scope_stays old new s b h = record {
   returned = s.returned ∙ h.returned;
   passed = s.passed ∙ h.passed;
   results = results_stay old.results new.results b s.results h.results;
+  faults = s.faults ∙ h.faults;
 }
 
 scope_self : (s : rScope) → ScopeStays s s
-scope_self s = record { issued = refl; returned = refl; passed = refl; results = refl }
+scope_self s = record { issued = refl; returned = refl; passed = refl; results = refl; faults = refl }
 
 scope_on : (a b c : rScope) → ScopeStays a b → ScopeStays b c → ScopeStays a c
 scope_on a b c h k = record {
@@ -125,6 +132,7 @@ scope_on a b c h k = record {
   returned = k.returned ∙ h.returned;
   passed = k.passed ∙ h.passed;
   results = k.results ∙ h.results;
+  faults = k.faults ∙ h.faults;
 }
 
 -- ---- worlds

@@ -19,7 +19,7 @@ use Rattle.types.specs.declared.scope_id.ScopeId.{ScopeId as rScopeId}
 use Rattle.event_worlds.specs.declared.scope.WorldScope.{WorldScope as rScope}
 use Rattle.event_worlds.specs.declared.task.WorldTask.{WorldTask as rTask}
 use Rattle.event_worlds.proofs.Lookups.{by_test, other_path, task-put_task, task-without_task, scope-put_scope}
-use Rattle.event_worlds.proofs.Outcomes.{replays_are_worlds, worlds_are_replays}
+use Rattle.event_worlds.proofs.Outcomes.{replay_more}
 
 pub pick : {A B : Type 0} (Are : A → B → Type 0) (b : Bool) (x u : Option A) (y v : Option B) → AreBoth Are x y → AreBoth Are u v
     → AreBoth Are (if b then x else u) (if b then y else v)
@@ -128,20 +128,7 @@ free_put v to was (t ∷ ts) lives out =
     lives
 
 -- ---- events
-after_last : (p : Program) (w0 : ℕ) (b : Budget) (e : Event) (es : List Event) (a w to : World)
-    → after w0 (does p (needs_of p) b.steps w0) (hands_on p (needs_of p) b.steps w0) es a ≡ Some w → event_of p w0 b e w ≡ Some to
-    → after w0 (does p (needs_of p) b.steps w0) (hands_on p (needs_of p) b.steps w0) (es ++ e ∷ []) a ≡ Some to
-after_last p w0 b e [] a w to h k =
-    ap (λ o. and_then o (after w0 (does p (needs_of p) b.steps w0) (hands_on p (needs_of p) b.steps w0) []))
-    (ap (event_of p w0 b e) (same_Some a w h) ∙ k)
-after_last p w0 b e (x ∷ es) a w to h k =
-    let g = gives (event_of p w0 b x a) _ w h in
-    ap (λ o. and_then o (after w0 (does p (needs_of p) b.steps w0) (hands_on p (needs_of p) b.steps w0) (es ++ e ∷ []))) g.first
-    ∙ after_last p w0 b e es g.one w to g.next k
-
 -- one event more leads on
 pub led_on : (p : Program) (w0 : ℕ) (input : List (List ℤ)) (b : Budget) (e : Event) (es : List Event) (w to : World)
     → LeadsTo p w0 input b es w → event_of p w0 b e w ≡ Some to → LeadsTo p w0 input b (es ++ e ∷ []) to
-led_on p w0 input b e es w to h k =
-    worlds_are_replays p (needs_of p) w0 input b (es ++ e ∷ []) to
-    (after_last p w0 b e es (start_of p w0 input b) w to (replays_are_worlds p (needs_of p) w0 input b es w h) k)
+led_on p w0 input b e es w to h k = replay_more p (needs_of p) w0 input b es e w to h k

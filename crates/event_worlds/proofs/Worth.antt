@@ -407,7 +407,7 @@ module _ (p : Program) (needs : Codes → Needs) (fresh w0 : ℕ) (root : Start)
       event_balanced (Parks q) b c = park_balanced q b c
       event_balanced (Ends q) b c = end_balanced q b c
       event_balanced (Pass id) b c = pass_balanced id b c
-      event_balanced (Resume w q) b c = resume_balanced q b c
+      event_balanced (Resume w q z) b c = resume_balanced q b c
 
     -- ---- all lists
     module _ (least : 1 ≤ w0) where

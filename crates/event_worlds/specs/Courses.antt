@@ -62,6 +62,26 @@ IsKnown (Opens r) = Unit {0}
 IsKnown (AtFinish q made) = Unit {0}
 IsKnown (rAtEnd made) = Unit {0}
 
+-- at the end of a finish, or at its own end
+abbrev pub IsAtAnEnd : TaskProgress → Type 0
+IsAtAnEnd (Starts s) = ⊥
+IsAtAnEnd (Runs r) = ⊥
+IsAtAnEnd (Steps r) = ⊥
+IsAtAnEnd (rSpawns r s) = ⊥
+IsAtAnEnd (Opens r) = ⊥
+IsAtAnEnd (AtFinish q made) = Unit {0}
+IsAtAnEnd (rAtEnd made) = Unit {0}
+
+-- what a task has made that is at such an end
+abbrev pub made_at : TaskProgress → Option rTaskResult
+made_at (Starts s) = None
+made_at (Runs r) = None
+made_at (Steps r) = None
+made_at (rSpawns r s) = None
+made_at (Opens r) = None
+made_at (AtFinish q made) = Some made
+made_at (rAtEnd made) = Some made
+
 -- the run of a task in a hand, after its next action
 abbrev pub behind : TaskProgress → TaskProgress
 behind (Starts s) = Starts s

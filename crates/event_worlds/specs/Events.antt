@@ -179,7 +179,7 @@ module _ (w0 : ℕ) (actions : Start → List (List TaskResult) → List Action)
   next (Ends path) world =
       with_next path world (λ t a. in_innermost t.stakes (λ s outer. by_end t s outer world a))
   next (Pass id) world = and_then (scope id world.scopes) (by_pass world)
-  next (Resume w path) world =
+  next (Resume w path faults) world =
       and_then (task path world.live) (λ t. by_resume w t world t.stakes)
 
   -- the world after a list of events, if all are legal

@@ -32,7 +32,7 @@ left_one t = record t { inside = drop 1 t.inside }
 abbrev pub tell : List ℕ → Event → Told → Told
 tell path (Spawns q) t = if same_path q path then spawned_more t else t
 tell path (Opens q) t = if same_path q path then opened_more t else t
-tell path (Resume w q) t = if same_path q path then left_one t else t
+tell path (Resume w q faults) t = if same_path q path then left_one t else t
 tell path (Take w q) t = t
 tell path (Steal w f q) t = t
 tell path (Steps q) t = t

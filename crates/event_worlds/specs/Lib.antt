@@ -3,13 +3,16 @@ pub mod Candidates
 pub mod Courses
 pub mod Ending
 pub mod Events
+pub mod Gathered
 pub mod History
 pub mod Jobs
 pub mod Leaving
 pub mod NextKinds
+pub mod Numbering
 pub mod Replay
 pub mod Replaying
 pub mod Shown
+pub mod Telling
 pub mod Walks
 pub mod Weights
 pub mod World

@@ -13,8 +13,9 @@ use Rattle.task_run.specs.Translation.{task_result}
 use Rattle.task_run.specs.declared.result.TaskResult.{TaskResult}
 use Rattle.task_run.specs.Jobs.{program_of, lists_of, budget_of}
 use Rattle.task_run.specs.declared.job.Job.{Job}
-use Rattle.event_worlds.specs.Courses.{Course, course_of, further, IsDoing, IsLooked}
+use Rattle.event_worlds.specs.Courses.{Course, course_of, further, IsAtAnEnd, IsDoing, IsLooked}
 use Rattle.event_worlds.specs.Events.{Event}
+use Rattle.event_worlds.specs.Gathered.{faults_of}
 use Rattle.event_worlds.specs.Jobs.{IsWeightedJob}
 use Rattle.event_worlds.specs.World.{Stake, Live, Scope, World, Whereabouts, Queue, Hand, Parked, task, scope}
 use Rattle.event_worlds.specs.World.{hand_is_free, has_passed, root_scope}
@@ -57,12 +58,13 @@ abbrev pub AreResultsOf : Option (Vec TaskResult Global) → Scope → Type 0
 AreResultsOf None book = book.passed ≡ true
 AreResultsOf (Some rs) book = map task_result rs.items ≡ book.results
 
--- a scope's numbers, and its results until its owner has them
+-- a scope's numbers, its results until its owner has them, and the number of faults in them
 pub record IsBookOf (s : rScope) (book : Scope) : Type 0 where
   pub issued : s.issued ≡ book.issued
   pub returned : s.returned ≡ book.returned
   pub passed : s.passed ≡ book.passed
   pub results : AreResultsOf s.results book
+  pub faults : s.faults ≡ faults_of book.results
 
 -- the same scope, with its results possibly elsewhere in memory
 pub record ScopeStays (old new : rScope) : Type 0 where
@@ -70,6 +72,7 @@ pub record ScopeStays (old new : rScope) : Type 0 where
   pub returned : new.returned ≡ old.returned
   pub passed : new.passed ≡ old.passed
   pub results : option_map (λ v. v.items) new.results ≡ option_map (λ v. v.items) old.results
+  pub faults : new.faults ≡ old.faults
 
 module _ (j : Job) where
   -- ---- tasks
@@ -78,6 +81,7 @@ module _ (j : Job) where
     pub before : Course
     pub last : further before ≡ c
     pub at : IsDoing j before doing
+    pub waits : IsAtAnEnd doing
 
   -- its next action; or, if it is parked, its last one
   abbrev pub IsDoingThere : Whereabouts → Course → TaskProgress → Type 0

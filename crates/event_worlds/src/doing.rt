@@ -1,9 +1,9 @@
 //! The next actions of live tasks.
 
-ghost use Rattle.std.specs.Prelude.{◌≡◌, ◌⊎◌, IfErr, IfOk, MatchOption, OnOk};
+ghost use Rattle.std.specs.Prelude.{◌≡◌, ◌⊎◌, IfErr, IfOk, MatchOption, None, OnOk, Some};
 ghost use Rattle.task_run.specs.Jobs.{IsJob};
 ghost use Rattle.event_worlds.specs.Courses.{Course, IsDoing, IsKnown, IsLooked, IsNotToStep, IsRunOf};
-ghost use Rattle.event_worlds.specs.Courses.{behind, begun_by};
+ghost use Rattle.event_worlds.specs.Courses.{behind, begun_by, made_at};
 ghost use Rattle.event_worlds.specs.NextKinds.{IsNextKind};
 ghost use Rattle.event_worlds.specs.declared.next.NextKind.TheVariants.{Step as ToStep};
 ghost use Rattle.event_worlds.specs.declared.error.EventError.TheVariants.{Illegal, NoMemory};
@@ -85,6 +85,19 @@ impl<'p> TaskProgress<'p> {
             TaskProgress::Opens(run) => Ok(TaskProgress::Opens(run)),
             TaskProgress::AtFinish(paused, made) => Ok(TaskProgress::AtFinish(paused, made)),
             TaskProgress::AtEnd(made) => Ok(TaskProgress::AtEnd(made)),
+        }
+    }
+
+    /// Returns what the task has made, if it is at the end of a finish or at its own end.
+    pub fn made(&self) -> Option<&TaskResult>
+        ensures { MatchOption result (made_at self.now ≡ None)
+            (λ made. made_at self.now ≡ Some made.now) }
+    {
+        match self {
+            TaskProgress::AtFinish(_, made) => Some(made),
+            TaskProgress::AtEnd(made) => Some(made),
+            TaskProgress::Starts(_) | TaskProgress::Runs(_) | TaskProgress::Steps(_) => None,
+            TaskProgress::Spawns(_, _) | TaskProgress::Opens(_) => None,
         }
     }
 

@@ -75,9 +75,9 @@ impl<'p> World<'p> {
     pub(crate) fn resume(&mut self, worker: WorkerId, path: &Path) -> Result<(), EventError>
         requires { IsWorld self.old }
         ensures resumed { OnOk result
-            (Becomes (IsResume worker path.now.turns.items) self.old self.new) }
+            (Becomes (IsResume worker path.now.turns.items None) self.old self.new) }
         ensures refused { IfErr result
-            (Refuses (IsResume worker path.now.turns.items) self.old self.new) }
+            (Refuses (IsResume worker path.now.turns.items None) self.old self.new) }
         ensures job { self.new.job ≡ self.old.job }
     {
         if self.hands.contains(&worker) {
@@ -100,11 +100,11 @@ impl<'p> World<'p> {
     pub(crate) fn go_on_behind(&mut self, worker: WorkerId, path: &Path) -> Result<(), EventError>
         requires { IsWorld self.old }
         ensures resumed { OnOk result
-            (Becomes (IsResume worker path.now.turns.items) self.old self.new) }
+            (Becomes (IsResume worker path.now.turns.items None) self.old self.new) }
         ensures refused { IfErr result (λ e. e ≡ Illegal
-            → IsIllegal self.old (IsResume worker path.now.turns.items)) }
+            → IsIllegal self.old (IsResume worker path.now.turns.items None)) }
         ensures memory { IfErr result (λ e. e ≡ NoMemory
-            → IsLegal self.old (IsResume worker path.now.turns.items)) }
+            → IsLegal self.old (IsResume worker path.now.turns.items None)) }
         ensures job { OnOk result (self.new.job ≡ self.old.job) }
     {
         if self.hands.contains(&worker) {
@@ -264,7 +264,7 @@ impl<'p> World<'p> {
     pub(crate) fn may_leave(&self, path: &Path) -> bool
         ensures may { OnTrue result (MayLeave self.now path.now) }
         ensures not { OnFalse result ((w : AnyWorld) (worker : _) → Shows self.now w
-            → next_world self.now.job (IsResume worker path.now.turns.items) w ≡ None) }
+            → next_world self.now.job (IsResume worker path.now.turns.items None) w ≡ None) }
     {
         let Some(task) = self.tasks.get(path) else {
             return false;

@@ -1,6 +1,6 @@
 //! Whether an event is legal, found without memory.
 
-ghost use Rattle.std.specs.Prelude.{◌≤◌, MatchOption};
+ghost use Rattle.std.specs.Prelude.{◌≤◌, MatchOption, None};
 ghost use Rattle.std.specs.Bool.{OnFalse, OnTrue};
 ghost use Rattle.event_worlds.specs.Events.{Ends as IsEnd, Opens as IsOpen, Parks as IsPark};
 ghost use Rattle.event_worlds.specs.Events.{Pass as IsPass, Replenish as IsReplenish};
@@ -35,7 +35,11 @@ impl<'p> World<'p> {
             Event::Park { path } => self.may_park(path),
             Event::End { path } => self.may_end(path),
             Event::Pass { scope } => self.may_pass(scope),
-            Event::Resume { worker, path } => self.may_resume(*worker, path),
+            Event::Resume {
+                worker,
+                path,
+                faults,
+            } => self.may_resume_telling(*worker, path, *faults),
         }
     }
 
@@ -73,10 +77,10 @@ impl<'p> World<'p> {
     }
 
     /// Returns whether a task is parked at a passed scope, and this worker's hand is free.
-    fn may_resume(&self, worker: WorkerId, path: &Path) -> bool
-        ensures legal { OnTrue result (IsLegal self.now (IsResume worker path.now.turns.items)) }
+    pub(crate) fn may_resume(&self, worker: WorkerId, path: &Path) -> bool
+        ensures legal { OnTrue result (IsLegal self.now (IsResume worker path.now.turns.items None)) }
         ensures illegal { OnFalse result
-            (IsIllegal self.now (IsResume worker path.now.turns.items)) }
+            (IsIllegal self.now (IsResume worker path.now.turns.items None)) }
     {
         if self.hands.contains(&worker) {
             return false;

@@ -47,7 +47,11 @@ impl<'p> World<'p> {
             Event::Park { path } => self.park(path),
             Event::End { path } => self.end(path),
             Event::Pass { scope } => self.pass(scope),
-            Event::Resume { worker, path } => self.resume(*worker, path),
+            Event::Resume {
+                worker,
+                path,
+                faults,
+            } => self.resume_telling(*worker, path, *faults),
         }
     }
 
@@ -65,8 +69,13 @@ impl<'p> World<'p> {
         if let Event::Step { path } = event {
             return self.step_ahead(path);
         }
-        if let Event::Resume { worker, path } = event {
-            return self.go_on_behind(*worker, path);
+        if let Event::Resume {
+            worker,
+            path,
+            faults,
+        } = event
+        {
+            return self.go_on_telling(*worker, path, *faults);
         }
         if !self.is_legal(event) {
             return Err(EventError::Illegal);

@@ -1,16 +1,17 @@
 //! The scope of a finish: the weight issued, the weight that came back, and the results.
 
 ghost use Rattle.std.specs.Prelude.{◌≡◌, ◌+◌, ◌*◌, ◌<◌, ◌≤◌, ◌&&◌, [], ◌∷◌, not, nat_eq};
-ghost use Rattle.std.specs.Prelude.{◌↔◌, IfErr, IsTrue, OnOk};
-ghost use Rattle.task_run.specs.Translation.{task_result};
+ghost use Rattle.std.specs.Prelude.{◌↔◌, ◌^◌, IfErr, IsTrue, OnOk, SomeIff, map};
+ghost use Rattle.task_run.specs.Translation.{listed, task_result};
 ghost use Rattle.event_worlds.specs.Events.{give_back, issue, may_issue, new_scope};
+ghost use Rattle.event_worlds.specs.Gathered.{before_children as faults_before, faults_in};
 ghost use Rattle.event_worlds.specs.World.{Scope as Book};
 ghost use Rattle.event_worlds.specs.Shown.{IsBookOf, ScopeStays};
 ghost use Rattle.event_worlds.specs.declared.error.EventError.TheVariants.{NoMemory};
 
 use crate::error::EventError;
 use std::alloc::Global;
-use task_run::result::TaskResult;
+use task_run::result::{Listed, TaskResult};
 use weights::book::MOST_ISSUES;
 
 /// The weight that a scope has issued, the weight that came back, and the results of tasks that
@@ -22,6 +23,8 @@ pub struct WorldScope {
     pub passed: bool,
     /// None once the results were handed to the owner.
     pub results: Option<Vec<TaskResult>>,
+    /// The number of faults in all its results.
+    pub faults: u64,
 }
 
 impl WorldScope {
@@ -34,6 +37,7 @@ impl WorldScope {
             returned: 0,
             passed: false,
             results: Some(Vec::new(alloc)),
+            faults: 0,
         }
     }
 
@@ -72,11 +76,15 @@ impl WorldScope {
         ensures refused { IfErr result (λ e. (e ≡ NoMemory)
             × ScopeStays self.old self.new) }
     {
+        let Some(faults) = more_faults(self.faults, &made) else {
+            return Err(EventError::NoMemory);
+        };
         let Some(results) = &mut self.results else {
             return Err(EventError::NoMemory);
         };
         results.push(made)?;
         self.returned += weight;
+        self.faults = faults;
         Ok(())
     }
 
@@ -86,4 +94,31 @@ impl WorldScope {
     {
         !self.passed && self.issued == self.returned
     }
+}
+
+/// Returns a number with the number of faults in a result added, or None if that isn't a u64.
+pub(crate) fn more_faults(number: u64, made: &TaskResult) -> Option<u64>
+    ensures { SomeIff result (number + faults_in (task_result made.now) < 2 ^ 64)
+        (number + faults_in (task_result made.now)) }
+{
+    let Some(own) = number.checked_add(made.faults.len() as u64) else {
+        return None;
+    };
+    before_children(own, &made.children)
+}
+
+/// Returns a number with the number of a task's faults before its children added, or None if that
+/// isn't a u64.
+fn before_children(number: u64, children: &[Listed]) -> Option<u64>
+    ensures { SomeIff result (number + faults_before (map listed children.now) < 2 ^ 64)
+        (number + faults_before (map listed children.now)) }
+{
+    let mut all = number;
+    'children: for child in children {
+        let Some(more) = all.checked_add(child.faults.len() as u64) else {
+            return None;
+        };
+        all = more;
+    }
+    Some(all)
 }

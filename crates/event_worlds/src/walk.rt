@@ -320,6 +320,10 @@ fn when_parked(
     let scope = stake.scope.clone()?;
     let path = path.clone()?;
     let pass = Event::Pass { scope };
-    let resume = Event::Resume { worker, path };
+    let resume = Event::Resume {
+        worker,
+        path,
+        faults: None,
+    };
     Ok(vec![in alloc; pass, resume]?)
 }

@@ -1,5 +1,5 @@
 -- The ten events, and which of them an event in Rust represents.
-use Rattle.std.specs.Prelude.{ℕ, List}
+use Rattle.std.specs.Prelude.{ℕ, List, Option}
 use Rattle.types.specs.declared.path.Path.{Path}
 use Rattle.types.specs.declared.scope_id.ScopeId.{ScopeId as rScopeId}
 use Rattle.events.specs.declared.event.Event.{Event as rEvent}
@@ -32,8 +32,9 @@ pub data Event : Type 0 where
   Ends : (path : List ℕ) → Event
   -- a scope passes, because all its weight has come back
   Pass : ScopeId → Event
-  -- a worker takes a task that was parked at a passed scope
-  Resume : (worker : ℕ) → (path : List ℕ) → Event
+  -- a worker takes a task that was parked at a passed scope; in a trace of format 2 there is the
+  -- number of faults that its finish has gathered
+  Resume : (worker : ℕ) → (path : List ℕ) → (faults : Option ℕ) → Event
 
 -- ---- Rust values, without their locations in memory
 abbrev pub turns_of : Path → List ℕ
@@ -52,4 +53,4 @@ event (rOpen path) = Opens path.turns.items
 event (rPark path) = Parks path.turns.items
 event (rEnd path) = Ends path.turns.items
 event (rPass id) = Pass (scope_id id)
-event (rResume worker path) = Resume worker path.turns.items
+event (rResume worker path faults) = Resume worker path.turns.items faults

@@ -46,9 +46,11 @@ pub enum Event {
     Pass {
         scope: ScopeId,
     },
-    /// `resume 0 0`: a worker takes a task that was parked at a passed scope.
+    /// `resume 0 0`: a worker takes a task that was parked at a passed scope. In a trace of format 2
+    /// there is the number of faults that its finish has gathered.
     Resume {
         worker: WorkerId,
         path: Path,
+        faults: Option<u64>,
     },
 }

@@ -18,7 +18,7 @@ use Rattle.command_line.specs.declared.request.Command.{Command}
 use Rattle.command_line.specs.declared.request.Command.TheVariants.{Run, Serial, Check, Listing, Pairs}
 use Rattle.command_line.specs.declared.request.Command.TheVariants.{Meetings, Explore, Labels, Places, Format}
 use Rattle.command_line.specs.declared.request.Command.TheVariants.{CheckFormat, View, Summary, Draw, Chrome}
-use Rattle.command_line.specs.declared.request.Command.TheVariants.{Page, Schedules}
+use Rattle.command_line.specs.declared.request.Command.TheVariants.{Page, Schedules, Upgrade}
 use Rattle.command_line.specs.declared.request.Command.TheVariants.{Cost, CostByLabel, CostByProcedure}
 use Rattle.command_line.specs.declared.request.Command.TheVariants.{PairsByLine, ViewByLine, SummaryByLine}
 use Rattle.files.specs.Held.{Held}
@@ -143,6 +143,7 @@ ObjectOf Draw s held text told status = ⊥
 ObjectOf Chrome s held text told status = ⊥
 ObjectOf Page s held text told status = ⊥
 ObjectOf Schedules s held text told status = ⊥
+ObjectOf Upgrade s held text told status = ⊥
 
 -- there is a reason why there is no object, and it isn't that none could be written
 pub record FailsEarly (c : Command) (s : Settings) (held : Held) (text : List ℕ) (f : Failure) : Type 0 where

@@ -199,30 +199,36 @@ const TRACE: Entry = Entry {
 const SUMMARY: Entry = Entry {
     name: "summary",
     help: "Print totals instead of the table: tasks, steps, span, parallelism, steals and more",
-    takes: Takes::NothingBut(&["svg", "chrome", "html"]),
+    takes: Takes::NothingBut(&["svg", "chrome", "html", "upgrade"]),
 };
 
 const EVENTS_BY_LINE: Entry = Entry {
     name: "by-line",
     help: "Also print the procedure and the statement of each step; with --summary the steps of each statement",
-    takes: Takes::NothingBut(&["svg", "chrome", "html", "format"]),
+    takes: Takes::NothingBut(&["svg", "chrome", "html", "upgrade", "format"]),
 };
 
 const SVG: Entry = Entry {
     name: "svg",
     help: "Draw the trace to this SVG file instead of printing the table, with a lane for each worker",
-    takes: Takes::TextBut("OUT", &["chrome", "html"]),
+    takes: Takes::TextBut("OUT", &["chrome", "html", "upgrade"]),
 };
 
 const CHROME: Entry = Entry {
     name: "chrome",
     help: "Write the trace to this file for Perfetto or chrome://tracing instead of printing the table",
-    takes: Takes::TextBut("OUT", &["html"]),
+    takes: Takes::TextBut("OUT", &["html", "upgrade"]),
 };
 
 const HTML: Entry = Entry {
     name: "html",
     help: "Write a page to this HTML file in which the run can be explored in a browser",
+    takes: Takes::TextBut("OUT", &["upgrade"]),
+};
+
+const UPGRADE: Entry = Entry {
+    name: "upgrade",
+    help: "Also write the trace to this file in format 2, with the number of faults of each finish",
     takes: Takes::Text("OUT"),
 };
 
@@ -492,6 +498,7 @@ const VIEWED: Row = Row {
         SVG,
         CHROME,
         HTML,
+        UPGRADE,
         FORMAT_OF_SUMMARY,
         EXPLAIN,
         COLOR,
@@ -626,7 +633,7 @@ pub fn commands<'w>(alloc: Global) -> Result<Command<'w>, AllocError> {
         .bin_name("afx")?
         .about("Check and run task-parallel programs")
         .after_help(STATUSES)
-        .version("0.2.0 (reads trace format 1)")
+        .version("0.2.0 (reads trace formats 1 and 2)")
         .no_binary_name(true)
         .subcommand_required(true);
     for row in ROWS {

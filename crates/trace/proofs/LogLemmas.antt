@@ -1,5 +1,7 @@
 -- Logs stay clean.
-use Rattle.std.proofs.Common.{◌≡◌, ℕ, List, [], ◌∷◌, ◌++◌, sym, subst}
+use Rattle.std.proofs.Common.{◌≡◌, ℕ, List, [], ◌∷◌, ◌++◌, ap, ◌∙◌, sym, subst}
+use Rattle.std.proofs.lemmas.Bool.{and_parts}
+use Rattle.std.specs.Prelude.{◌&&◌, true}
 use Rattle.event_worlds.specs.Jobs.{IsWeightedJob}
 use Rattle.event_worlds.specs.Replaying.{IsReplayed, event}
 use Rattle.event_worlds.specs.Shown.{Becomes, Refuses, WorldStays}
@@ -11,18 +13,28 @@ use Rattle.event_worlds.specs.declared.world.World.{World}
 use Rattle.event_worlds.proofs.Staying.{stays_shown}
 use Rattle.event_worlds.proofs.Walking.{replayed_on}
 use Rattle.trace.specs.Logs.{IsClean, Recorded}
+use Rattle.trace_text.specs.Spelled.{fits, suits}
+use Rattle.trace_text.specs.declared.header.Format.TheVariants.{Two}
 
 -- the log of a world and events
 abbrev pub recorded : World → List Event → Recorded
 recorded world events = record { world = world; events = events }
 
+-- one event more in the format
+pub fits_more : (es : List Event) (e : Event) → fits Two es ≡ true → suits Two (event e) ≡ true → fits Two (es ++ e ∷ []) ≡ true
+fits_more [] e h fit = ap (λ b. b && true) fit
+fits_more (x ∷ es) e h fit =
+    let parts = and_parts (suits Two (event x)) (fits Two es) h in
+    ap (λ b. b && fits Two (es ++ e ∷ [])) parts.0 ∙ fits_more es e parts.1 fit
+
 -- one event more
 pub clean_more : (old new : World) (es : List Event) (e : Event) → IsClean (recorded old es) → Becomes (event e) old new
-    → new.job ≡ old.job → IsClean (recorded new (es ++ e ∷ []))
-clean_more old new es e clean b same = record {
+    → new.job ≡ old.job → suits Two (event e) ≡ true → IsClean (recorded new (es ++ e ∷ []))
+clean_more old new es e clean b same fit = record {
   job = subst IsWeightedJob (sym same) clean.job;
   replayed = subst (λ k. IsReplayed k (es ++ e ∷ []) new) (sym same)
       (replayed_on old.job es e old new clean.replayed b same);
+  fits = fits_more es e clean.fits fit;
 }
 
 -- a world that is unchanged
@@ -42,4 +54,5 @@ clean_still old new es clean stays =
         shows = stays_shown old new stays r.world r.shows;
         job = stays.job;
       });
+      fits = clean.fits;
     }

@@ -1,5 +1,5 @@
 -- Logs: the events of a run so far, and the world that they lead to.
-use Rattle.std.specs.Prelude.{ℕ, ◌≡◌, List, Some}
+use Rattle.std.specs.Prelude.{ℕ, ◌≡◌, List, Some, true}
 use Rattle.std.specs.Borrow.{Bor}
 use Rattle.std.specs.Global.{Global}
 use Rattle.types.specs.Outcome.{Outcome}
@@ -15,6 +15,8 @@ use Rattle.event_worlds.specs.World.{World as TheWorld}
 use Rattle.event_worlds.specs.Worlds.{outcome_of}
 use Rattle.event_worlds.specs.declared.error.EventError.{EventError}
 use Rattle.events.specs.declared.event.Event.{Event}
+use Rattle.trace_text.specs.Spelled.{fits}
+use Rattle.trace_text.specs.declared.header.Format.TheVariants.{Two}
 use Rattle.event_worlds.specs.declared.job.WeightedJob.{WeightedJob}
 use Rattle.event_worlds.specs.declared.world.World.{World}
 
@@ -30,11 +32,12 @@ pub record Recorded : Type 0 where
   pub world : World
   pub events : List Event
 
--- the log is clean: its events are legal in order from the start of its world's job, and its world is the
--- one that they lead to
+-- the log is clean: its events are legal in order from the start of its world's job, its world is the one
+-- that they lead to, and a trace of format 2 can express them
 pub record IsClean (l : Recorded) : Type 0 where
   pub job : IsWeightedJob l.world.job
   pub replayed : IsReplayed l.world.job l.events l.world
+  pub fits : fits Two l.events ≡ true
 
 -- an error leaves the log as it was; if it calls the event illegal, the event was illegal
 pub record Leaves (e : Event) (old new : Recorded) (error : EventError) : Type 0 where

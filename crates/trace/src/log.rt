@@ -1,7 +1,7 @@
 //! The events of a run so far, with the world that they lead to.
 
 ghost use Rattle.std.specs.Bool.{OnTrue};
-ghost use Rattle.std.specs.Prelude.{◌≡◌, ◌∷◌, ◌++◌, [], IfErr, IfOk, OnOk};
+ghost use Rattle.std.specs.Prelude.{◌≡◌, ◌∷◌, ◌++◌, [], IfErr, IfOk, OnOk, true};
 ghost use Rattle.types.specs.Contents.{FitsArrays};
 ghost use Rattle.types.specs.Translation.{input as lists_in};
 ghost use Rattle.types.specs.Typed.{code_of};
@@ -11,6 +11,8 @@ ghost use Rattle.event_worlds.specs.Shown.{Becomes, IsLegal};
 ghost use Rattle.event_worlds.specs.declared.error.EventError.TheVariants.{Illegal, NoMemory};
 ghost use Rattle.event_worlds.specs.Walks.{IsIllegal};
 ghost use Rattle.trace.specs.Logs.{IsClean, LeadsToOutcome, Leaves, job_of};
+ghost use Rattle.trace_text.specs.Spelled.{fits as fits_in};
+ghost use Rattle.trace_text.specs.declared.header.Format.TheVariants.{Two};
 
 use event_worlds::error::EventError;
 use event_worlds::job::WeightedJob;
@@ -19,7 +21,8 @@ use events::event::Event;
 use race_checker::accepted::Accepted;
 use std::alloc::Global;
 use std::marker::Model;
-use trace_text::header::Header;
+use trace_text::header::{Format, Header};
+use trace_text::write::suits;
 use types::input::Input;
 
 /// The events of a run, in the order in which they were recorded, and the world that they lead to.
@@ -70,7 +73,8 @@ impl<'p> Log<'p> {
         })
     }
 
-    /// Appends an event to the list, and moves the world by it.
+    /// Appends an event to the list, and moves the world by it. A resume has to have a number of
+    /// faults that a trace can express; otherwise there is no memory for it.
     pub fn record(&mut self, event: Event) -> Result<(), EventError>
         ensures recorded { OnOk result (self.new.events ≡ self.old.events ++ event ∷ []) }
         ensures moved { OnOk result (Becomes (event_of event) self.old.world self.new.world) }
@@ -83,6 +87,9 @@ impl<'p> Log<'p> {
         if !self.world.is_legal(&event) {
             return Err(EventError::Illegal);
         }
+        if !suits(Format::Two, &event) {
+            return Err(EventError::NoMemory);
+        }
         self.events.reserve(1)?;
         self.world.event(&event)?;
         // There is room for it.
@@ -91,7 +98,8 @@ impl<'p> Log<'p> {
     }
 
     /// Returns the log with one more event, and with the world that this event leads to. It copies
-    /// no task before the task acts, unlike `record`. After an error the log is lost.
+    /// no task before the task acts, unlike `record`. After an error the log is lost, as it is if a
+    /// trace can't express the event.
     pub fn append(self, event: Event) -> Result<Log<'p>, EventError>
         ensures appended { IfOk result (λ l. l.events ≡ self.entry.events ++ event ∷ []) }
         ensures moved { IfOk result (λ l. Becomes (event_of event) self.entry.world l.world) }
@@ -104,13 +112,18 @@ impl<'p> Log<'p> {
         let mut world = world;
         let mut events = events;
         world.go_by(&event)?;
+        if !suits(Format::Two, &event) {
+            return Err(EventError::NoMemory);
+        }
         events.push(event)?;
         Ok(Log { world, events })
     }
 
-    /// Returns the events, in the order in which they were recorded.
+    /// Returns the events, in the order in which they were recorded. A trace of format 2 can express
+    /// them.
     pub fn events(&self) -> &[Event]
-        ensures { result.now ≡ self.now.events }
+        ensures events { result.now ≡ self.now.events }
+        ensures fits { fits_in Two self.now.events ≡ true }
     {
         self.events.as_slice()
     }

@@ -17,7 +17,7 @@ pub record IsAtNumber (es : List Event) (n : ℕ) (b : Bool) : Type 0 where
 
 taken_is : (e : Event) (y : Hold) → taken e ≡ Some y → is_taking e ≡ true
 taken_is (Take worker path) y h = refl
-taken_is (Resume worker path) y h = refl
+taken_is (Resume worker path faults) y h = refl
 taken_is _ y h = absurd (none-some y h)
 
 -- a park or end
@@ -37,7 +37,7 @@ ended_leaves _ y h = absurd (none-some y h)
 -- it takes nothing
 leaving_takes_none : (e : Event) → is_leaving e ≡ true → is_taking e ≡ false
 leaving_takes_none (Take worker path) h = absurd (not_both {b = false} h refl)
-leaving_takes_none (Resume worker path) h = absurd (not_both {b = false} h refl)
+leaving_takes_none (Resume worker path faults) h = absurd (not_both {b = false} h refl)
 leaving_takes_none _ h = refl
 
 pub taking_at : (es : List Event) (n : ℕ) (y : Hold) → taken_at es n ≡ Some y → IsAtNumber es n true
@@ -68,7 +68,7 @@ takes_none es n e y at never takes =
 -- ---- parks and ends
 taken_stays : (e : Event) (y : Hold) → taken e ≡ Some y → is_leaving e ≡ false
 taken_stays (Take worker path) y h = refl
-taken_stays (Resume worker path) y h = refl
+taken_stays (Resume worker path faults) y h = refl
 taken_stays _ y h = absurd (none-some y h)
 
 -- at an event that is no park or end no task leaves its worker's hand

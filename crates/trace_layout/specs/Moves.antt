@@ -16,7 +16,7 @@ steal_of n (Open path) = []
 steal_of n (Park path) = []
 steal_of n (End path) = []
 steal_of n (Pass scope) = []
-steal_of n (Resume worker path) = []
+steal_of n (Resume worker path faults) = []
 
 -- all steals of events that are numbered from a number on
 abbrev pub steals_from : ℕ → List Event → List Steal

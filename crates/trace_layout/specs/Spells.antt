@@ -16,12 +16,12 @@ pub record Hold : Type 0 where
 -- the task that is in a hand from this event on
 abbrev pub taken : Event → Option Hold
 taken (Take worker path) = Some (record { worker = worker; path = path.turns.items })
-taken (Resume worker path) = Some (record { worker = worker; path = path.turns.items })
+taken (Resume worker path faults) = Some (record { worker = worker; path = path.turns.items })
 taken _ = None
 
 abbrev pub is_taking : Event → Bool
 is_taking (Take worker path) = true
-is_taking (Resume worker path) = true
+is_taking (Resume worker path faults) = true
 is_taking _ = false
 
 -- the task that parks

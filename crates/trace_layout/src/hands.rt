@@ -64,7 +64,12 @@ impl Hands {
     {
         match event {
             Event::Take { worker, path } => self.begin(number, *worker, path, Beginning::Taken),
-            Event::Resume { worker, path } => self.begin(number, *worker, path, Beginning::Resumed),
+            Event::Resume { worker, path, .. } => self.begin(
+                number,
+                *worker,
+                path,
+                Beginning::Resumed,
+            ),
             Event::Step { path }
             | Event::Replenish { path }
             | Event::Spawn { path }

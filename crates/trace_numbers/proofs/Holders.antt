@@ -50,7 +50,7 @@ within_more (Open path) count h w = one_more count (h.holder path.turns.items) h
 within_more (Park path) count h w = still count h.did w
 within_more (End path) count h w = still count h.did w
 within_more (Pass scope) count h w = still count h.did w
-within_more (Resume worker path) count h w = still count h.did w
+within_more (Resume worker path faults) count h w = still count h.did w
 
 -- ---- from event to event
 -- the first events led to it, and those after them lead on to what all workers do

@@ -94,4 +94,4 @@ within_more (Open path) count c h = opened count c h path.turns.items
 within_more (Park path) count c h = came count c h path.turns.items
 within_more (End path) count c h = came count c h path.turns.items
 within_more (Pass scope) count c h = later count c h
-within_more (Resume worker path) count c h = left count c h path.turns.items
+within_more (Resume worker path faults) count c h = left count c h path.turns.items

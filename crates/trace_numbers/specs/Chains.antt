@@ -75,7 +75,7 @@ chained (Open path) c = begin_finish path.turns.items (one_more path.turns.items
 chained (Park path) c = come_back path.turns.items c
 chained (End path) c = come_back path.turns.items c
 chained (Pass scope) c = c
-chained (Resume worker path) c = leave path.turns.items c
+chained (Resume worker path faults) c = leave path.turns.items c
 
 abbrev pub chains_after : List Event → Chains → Chains
 chains_after [] c = c

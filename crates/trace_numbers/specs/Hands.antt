@@ -36,7 +36,7 @@ handled (Open path) h = one_step path.turns.items h
 handled (Park path) h = h
 handled (End path) h = h
 handled (Pass scope) h = h
-handled (Resume worker path) h = taken worker path.turns.items h
+handled (Resume worker path faults) h = taken worker path.turns.items h
 
 abbrev pub hands_after : List Event → Hands → Hands
 hands_after [] h = h

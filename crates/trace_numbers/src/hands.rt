@@ -50,7 +50,7 @@ impl Hands {
             → ShowsHands self.new (handled event.now h)) }
     {
         match event {
-            Event::Take { worker, path } | Event::Resume { worker, path } => self.take(
+            Event::Take { worker, path } | Event::Resume { worker, path, .. } => self.take(
                 *worker, path,
             ),
             Event::Step { path } | Event::Spawn { path } | Event::Open { path } => {

@@ -100,7 +100,7 @@ weights_told (Take worker path) before after = []
 weights_told (Steal worker from path) before after = []
 weights_told (Steps path) before after = []
 weights_told (Pass scope) before after = []
-weights_told (Resume worker path) before after = []
+weights_told (Resume worker path faults) before after = []
 
 -- ---- along a replay
 

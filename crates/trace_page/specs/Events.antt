@@ -15,7 +15,7 @@ kind_letter (Opens path) = codes "o"
 kind_letter (Parks path) = codes "p"
 kind_letter (Ends path) = codes "e"
 kind_letter (Pass scope) = codes "d"
-kind_letter (Resume worker path) = codes "b"
+kind_letter (Resume worker path faults) = codes "b"
 
 -- each event once, in order
 abbrev pub kinds_text : List Event → List ℕ

@@ -35,7 +35,7 @@ task_of (Opens path) = path
 task_of (Parks path) = path
 task_of (Ends path) = path
 task_of (Pass scope) = scope.owner
-task_of (Resume worker path) = path
+task_of (Resume worker path faults) = path
 
 -- the number of the task of each event
 abbrev pub tasks_json : List Born → List rEvent → Data

@@ -1,21 +1,24 @@
 -- The text of an event's line for each kind, and the part of it that identifies the event.
-use Rattle.std.proofs.Common.{◌≡◌, ℕ, true, arith, List, [], ◌∷◌, ◌++◌, Option, Some, refl, ap, sym, ◌∙◌, append-nil, codes}
-use Rattle.std.specs.Prelude.{sum, nat_eq, if◌then◌else◌}
+use Rattle.std.proofs.Common.{◌≡◌, ◌≢◌, ◌≤◌, ◌<◌, ◌^◌, ℕ, true, arith, leb-true, List, [], ◌∷◌, ◌++◌, Option, Some, refl, ap, sym, ◌∙◌, append-nil, codes}
+use Rattle.std.specs.Prelude.{None, sum, nat_eq, if◌then◌else◌}
 use Rattle.std.specs.Fmt.{decimal}
 use Rattle.events.specs.Events.{Event, Take, Steal, Pass, Resume}
 use Rattle.serde_json.specs.Written.{compact_text}
-use Rattle.trace_text.specs.Fields.{fields, steal_fields, worker_fields}
-use Rattle.trace_text.specs.Headers.{TraceHeader}
+use Rattle.std.proofs.lemmas.Bool.{false≢true}
+use Rattle.trace_text.specs.Fields.{counted_fields, fields, resume_fields, steal_fields, worker_fields}
+use Rattle.trace_text.specs.Headers.{TraceHeader, format_number}
 use Rattle.trace_text.specs.Kinds.{kind_name, kind_of, task_of}
 use Rattle.trace_text.specs.Lines.{event_object, header_object}
-use Rattle.trace_text.specs.Spelled.{Lacks, IsSpelled, IsTheft, IsWorkers}
+use Rattle.trace_text.specs.Spelled.{Lacks, IsResumption, IsSpelled, IsTheft, IsWorkers, has_count}
+use Rattle.trace_text.specs.declared.header.Format.{Format}
+use Rattle.trace_text.specs.declared.header.Format.TheVariants.{One, Two}
 use Rattle.trace_text.specs.declared.kind.EventKind.{EventKind}
 use Rattle.trace_text.specs.declared.kind.EventKind.TheVariants.{Take as IsTake, Steal as IsSteal, Step as IsStep}
 use Rattle.trace_text.specs.declared.kind.EventKind.TheVariants.{Replenish as IsReplenish, Spawn as IsSpawn}
 use Rattle.trace_text.specs.declared.kind.EventKind.TheVariants.{Open as IsOpen, Park as IsPark, End as IsEnd}
 use Rattle.trace_text.specs.declared.kind.EventKind.TheVariants.{Pass as IsPass, Resume as IsResume}
 use Rattle.trace_text.proofs.Marks.{above, Lacks-above}
-use Rattle.trace_text.proofs.Texts.{text_of_header, text_of_pass, text_of_steal, text_of_task, text_of_worker}
+use Rattle.trace_text.proofs.Texts.{text_of_counted, text_of_header, text_of_pass, text_of_steal, text_of_task, text_of_worker}
 
 -- a text with nothing after it
 bare : {text words : List ℕ} → text ++ [] ≡ words → text ≡ words
@@ -31,8 +34,15 @@ behind_steps h = codes "\"w0\":" ++ (decimal h.w0 ++ (codes "," ++ behind_w0 h))
 abbrev pub behind_nest : TraceHeader → List ℕ
 behind_nest h = codes "\"steps\":" ++ (decimal h.steps ++ (codes "," ++ behind_steps h))
 
+abbrev pub behind_format : TraceHeader → List ℕ
+behind_format h = codes "\"nest\":" ++ (decimal h.nest ++ (codes "," ++ behind_nest h))
+
+pub most_format : (f : Format) → format_number f ≤ 4294967296
+most_format One = omega arith
+most_format Two = omega arith
+
 pub text_of_front : (h : TraceHeader)
-    → compact_text (header_object h) ≡ codes "{\"format\":1,\"nest\":" ++ (decimal h.nest ++ (codes "," ++ behind_nest h))
+    → compact_text (header_object h) ≡ codes "{\"format\":" ++ (decimal (format_number h.format) ++ (codes "," ++ behind_format h))
 text_of_front h = bare (text_of_header h [])
 
 -- ---- kinds
@@ -64,25 +74,56 @@ pub text_of_event : (e : Event)
     → compact_text (event_object e) ≡ codes "{\"e\":\"" ++ (kind_name (kind_of e) ++ (34 ∷ fields e))
 text_of_event (Take worker path) = bare (text_of_worker IsTake worker path [])
 text_of_event (Steal worker from path) = bare (text_of_steal worker from path [])
-text_of_event (Resume worker path) = bare (text_of_worker IsResume worker path [])
+text_of_event (Resume worker path None) = bare (text_of_worker IsResume worker path [])
+text_of_event (Resume worker path (Some n)) = bare (text_of_counted worker path n [])
 text_of_event (Pass scope) = bare (text_of_pass scope.number scope.owner [])
 text_of_event e = bare (text_of_task (kind_of e) (task_of e) [])
 
 -- what is known of a line's fields is known of the one event that has them
-pub told_take : (rest : List ℕ) (o : Option Event)
+pub told_take : (f : Format) (rest : List ℕ) (o : Option Event)
     → ((w : ℕ) (p : List ℕ) → IsWorkers w p → rest ≡ worker_fields w p → o ≡ Some (Take w p))
-    → (e : Event) → IsSpelled e → IsTake ≡ kind_of e → rest ≡ fields e → o ≡ Some e
-told_take rest o found (Take w p) h kind same = found w p h same
-told_take rest o found e h kind same = absurd cc
+    → (e : Event) → IsSpelled f e → IsTake ≡ kind_of e → rest ≡ fields e → o ≡ Some e
+told_take f rest o found (Take w p) h kind same = found w p h same
+told_take f rest o found e h kind same = absurd cc
 
-pub told_resume : (rest : List ℕ) (o : Option Event)
-    → ((w : ℕ) (p : List ℕ) → IsWorkers w p → rest ≡ worker_fields w p → o ≡ Some (Resume w p))
-    → (e : Event) → IsSpelled e → IsResume ≡ kind_of e → rest ≡ fields e → o ≡ Some e
-told_resume rest o found (Resume w p) h kind same = found w p h same
-told_resume rest o found e h kind same = absurd cc
+pub told_resume : (f : Format) (rest : List ℕ) (o : Option Event)
+    → ((w : ℕ) (p : List ℕ) (n : Option ℕ) → IsResumption f w p n → rest ≡ resume_fields w p n → o ≡ Some (Resume w p n))
+    → (e : Event) → IsSpelled f e → IsResume ≡ kind_of e → rest ≡ fields e → o ≡ Some e
+told_resume f rest o found (Resume w p n) h kind same = found w p n h same
+told_resume f rest o found e h kind same = absurd cc
 
-pub told_steal : (rest : List ℕ) (o : Option Event)
-    → ((w f : ℕ) (p : List ℕ) → IsTheft w f p → rest ≡ steal_fields w f p → o ≡ Some (Steal w f p))
-    → (e : Event) → IsSpelled e → IsSteal ≡ kind_of e → rest ≡ fields e → o ≡ Some e
-told_steal rest o found (Steal w f p) h kind same = found w f p h same
-told_steal rest o found e h kind same = absurd cc
+-- the number of faults of a resume is small
+pub count_small : (n : ℕ) → has_count Two (Some n) ≡ true → n < 2 ^ 32
+count_small n e = let most = leb-true n 4294967295 e in omega (arith, most)
+
+-- what is known of a format's resumes is known of all that it has
+pub told_plain : (rest : List ℕ) (o : Option Event)
+    → ((w : ℕ) (p : List ℕ) → IsWorkers w p → rest ≡ worker_fields w p → o ≡ Some (Resume w p None))
+    → (w : ℕ) (p : List ℕ) (n : Option ℕ) → IsResumption One w p n → rest ≡ resume_fields w p n → o ≡ Some (Resume w p n)
+told_plain rest o found w p None h same = found w p h.by same
+told_plain rest o found w p (Some n) h same = absurd (false≢true h.count)
+
+pub told_counted : (rest : List ℕ) (o : Option Event)
+    → ((w : ℕ) (p : List ℕ) (n : ℕ) → IsWorkers w p → n < 2 ^ 32 → rest ≡ counted_fields w p n → o ≡ Some (Resume w p (Some n)))
+    → (w : ℕ) (p : List ℕ) (n : Option ℕ) → IsResumption Two w p n → rest ≡ resume_fields w p n → o ≡ Some (Resume w p n)
+told_counted rest o found w p None h same = absurd (false≢true h.count)
+told_counted rest o found w p (Some n) h same = found w p n h.by (count_small n h.count) same
+
+-- the format with a number
+pub one_is : (f : Format) → 1 ≡ format_number f → Some One ≡ Some f
+one_is One e = refl
+one_is Two e = absurd (omega (arith, e))
+
+pub two_is : (f : Format) → 2 ≡ format_number f → Some Two ≡ Some f
+two_is One e = absurd (omega (arith, e))
+two_is Two e = refl
+
+pub no_other : (n : ℕ) → n ≢ 1 → n ≢ 2 → (f : Format) → n ≡ format_number f → ⊥
+no_other n one two One e = one e
+no_other n one two Two e = two e
+
+pub told_steal : (f : Format) (rest : List ℕ) (o : Option Event)
+    → ((w from : ℕ) (p : List ℕ) → IsTheft w from p → rest ≡ steal_fields w from p → o ≡ Some (Steal w from p))
+    → (e : Event) → IsSpelled f e → IsSteal ≡ kind_of e → rest ≡ fields e → o ≡ Some e
+told_steal f rest o found (Steal w from p) h kind same = found w from p h same
+told_steal f rest o found e h kind same = absurd cc

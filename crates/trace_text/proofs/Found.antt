@@ -19,6 +19,7 @@ use Rattle.trace_text.specs.Reading.{BeginsWithEvent, BeginsWithHeader, IsBadEve
 use Rattle.trace_text.specs.declared.error.TraceError.{TraceError}
 use Rattle.trace_text.specs.declared.error.TraceError.TheVariants.{NotALine, NoMemory}
 use Rattle.trace_text.specs.Spelled.{IsCutAt, IsSpelled, Lacks}
+use Rattle.trace_text.specs.declared.header.Format.{Format}
 use Rattle.trace_text.proofs.Cuts.{not_lacking, one_cut}
 use Rattle.trace_text.proofs.NoFeeds.{Lacks-event, Lacks-header}
 
@@ -55,30 +56,30 @@ no_header_first text before rest cut none b =
     none b.header b.fits
     (first_line text before rest b.behind (header_object b.header) (Lacks-header b.header) b.parts cut)
 
-pub no_event_first : (text before rest : List ℕ) → IsCutAt 10 before rest text
-    → ((e : Event) → IsSpelled e → before ++ codes "\n" ≡ event_line e → ⊥) → BeginsWithEvent text → ⊥
+pub no_event_first : {f : Format} (text before rest : List ℕ) → IsCutAt 10 before rest text
+    → ((e : Event) → IsSpelled f e → before ++ codes "\n" ≡ event_line e → ⊥) → BeginsWithEvent f text → ⊥
 no_event_first text before rest cut none b =
     none b.event b.spelled
     (first_line text before rest b.behind (event_object b.event) (Lacks-event b.event) b.parts cut)
 
 -- ---- lines one after the other
 -- the lines of events precede what is left of a text
-pub record Front (text rest : List ℕ) (es : List Event) : Type 0 where
-  pub spelled : All IsSpelled es
+pub record Front (f : Format) (text rest : List ℕ) (es : List Event) : Type 0 where
+  pub spelled : All (IsSpelled f) es
   pub parts : text ≡ flat_map event_line es ++ rest
 
 pub cut_line : (text before rest : List ℕ) → IsCutAt 10 before rest text → text ≡ (before ++ codes "\n") ++ rest
 cut_line text before rest cut = cut.parts ∙ sym (append_assoc before (codes "\n") rest)
 
 -- with one line more
-pub front_more : (text rest before behind : List ℕ) (es : List Event) (e : Event) → Front text rest es
-    → IsCutAt 10 before behind rest → IsSpelled e → before ++ codes "\n" ≡ event_line e
-    → Front text behind (es ++ e ∷ [])
-front_more text rest before behind es e front cut spelled same =
+pub front_more : {f : Format} (text rest before behind : List ℕ) (es : List Event) (e : Event) → Front f text rest es
+    → IsCutAt 10 before behind rest → IsSpelled f e → before ++ codes "\n" ≡ event_line e
+    → Front f text behind (es ++ e ∷ [])
+front_more {f} text rest before behind es e front cut spelled same =
     let lines = flat_map event_line es in
     let one : flat_map event_line (e ∷ []) ≡ event_line e = append-nil (event_line e) in
     record {
-      spelled = All-push IsSpelled es e front.spelled spelled;
+      spelled = All-push (IsSpelled f) es e front.spelled spelled;
       parts =
           front.parts
           ∙ ap (λ (l : List ℕ). lines ++ l) (cut_line rest before behind cut ∙ ap (λ (l : List ℕ). l ++ behind) (same ∙ sym one))
@@ -87,16 +88,16 @@ front_more text rest before behind es e front cut spelled same =
     }
 
 -- events in Rust, of which one is pushed
-pub front_pushed : (text rest before behind : List ℕ) (es pushed : List rEvent) (e : rEvent) → Front text rest (map event es)
-    → IsCutAt 10 before behind rest → IsSpelled (event e) → before ++ codes "\n" ≡ event_line (event e)
-    → pushed ≡ es ++ e ∷ [] → Front text behind (map event pushed)
-front_pushed text rest before behind es pushed e front cut spelled same is =
-    subst (Front text behind) (sym (ap (λ (l : List rEvent). map event l) is ∙ map-append event es (e ∷ [])))
+pub front_pushed : {f : Format} (text rest before behind : List ℕ) (es pushed : List rEvent) (e : rEvent)
+    → Front f text rest (map event es) → IsCutAt 10 before behind rest → IsSpelled f (event e)
+    → before ++ codes "\n" ≡ event_line (event e) → pushed ≡ es ++ e ∷ [] → Front f text behind (map event pushed)
+front_pushed {f} text rest before behind es pushed e front cut spelled same is =
+    subst (Front f text behind) (sym (ap (λ (l : List rEvent). map event l) is ∙ map-append event es (e ∷ [])))
     (front_more text rest before behind (map event es) (event e) front cut spelled same)
 
 -- something is left that doesn't start with an event's line
-pub front_bad : (text rest : List ℕ) (es : List rEvent) → Front text rest (map event es) → rest ≢ []
-    → (BeginsWithEvent rest → ⊥) → IsBadEvent (length es + 2) text
+pub front_bad : {f : Format} (text rest : List ℕ) (es : List rEvent) → Front f text rest (map event es) → rest ≢ []
+    → (BeginsWithEvent f rest → ⊥) → IsBadEvent f (length es + 2) text
 front_bad text rest es front some bad =
     let told = map event es in
     record {
@@ -120,7 +121,7 @@ long_some text long none = absurd (omega (arith, ap length none))
 
 -- what is wrong after a header's line is wrong in the whole text
 pub refused_behind : (text rest : List ℕ) (h : TraceHeader) (e : TraceError) → IsHeader h → text ≡ header_line h ++ rest
-    → IsEventRefusal rest e → IsRefusal text e
+    → IsEventRefusal h.format rest e → IsRefusal text e
 refused_behind text rest h (NotALine n) fits parts bad =
     inr (record { first = record { header = h; behind = rest; fits = fits; parts = parts }; later = bad })
 refused_behind text rest h NoMemory fits parts bad = bad

@@ -1,17 +1,17 @@
 -- No line feed occurs in the object of a line.
-use Rattle.std.proofs.Common.{◌≡◌, ℕ, true, List, [], ◌++◌, codes, refl, ap, sym, ◌∙◌, append-nil}
+use Rattle.std.proofs.Common.{◌≡◌, ℕ, true, List, [], ◌++◌, Some, None, codes, refl, ap, sym, ◌∙◌, append-nil}
 use Rattle.std.specs.Fmt.{decimal}
 use Rattle.types.specs.Names.{path_text}
 use Rattle.events.specs.Events.{Event, Take, Steal, Pass, Resume}
 use Rattle.serde_json.specs.Written.{compact_text}
-use Rattle.trace_text.specs.Headers.{TraceHeader}
+use Rattle.trace_text.specs.Headers.{TraceHeader, format_number}
 use Rattle.trace_text.specs.Kinds.{kind_name, kind_of, task_of}
-use Rattle.trace_text.specs.Lines.{event_object, header_object, task_object, worker_object, steal_object, pass_object}
+use Rattle.trace_text.specs.Lines.{event_object, header_object, task_object, worker_object, steal_object, counted_object, pass_object}
 use Rattle.trace_text.specs.Spelled.{Lacks}
 use Rattle.trace_text.specs.declared.kind.EventKind.{EventKind}
 use Rattle.trace_text.specs.declared.kind.EventKind.TheVariants.{Take as IsTake, Resume as IsResume}
 use Rattle.trace_text.proofs.Marks.{visible, visible-append, visible-path, visible-number, Lacks-visible}
-use Rattle.trace_text.proofs.Texts.{text_of_task, text_of_worker, text_of_steal, text_of_pass, text_of_header}
+use Rattle.trace_text.proofs.Texts.{text_of_task, text_of_worker, text_of_steal, text_of_counted, text_of_pass, text_of_header}
 
 visible_kind : (k : EventKind) → visible (kind_name k) ≡ true
 visible_kind IsTake = refl
@@ -51,6 +51,14 @@ lacks_steal worker from path =
     (codes ",\"path\":\"" ++ (path_text path ++ (codes "\",\"worker\":" ++ (decimal worker ++ codes "}"))))
     (visible-number from) (visible_worker worker path))
 
+lacks_counted : (worker : ℕ) (path : List ℕ) (faults : ℕ)
+    → Lacks 10 (compact_text (counted_object worker path faults))
+lacks_counted worker path faults =
+    lacks_as (compact_text (counted_object worker path faults)) _ (text_of_counted worker path faults [])
+    (visible-append (decimal faults)
+    (codes ",\"path\":\"" ++ (path_text path ++ (codes "\",\"worker\":" ++ (decimal worker ++ codes "}"))))
+    (visible-number faults) (visible_worker worker path))
+
 lacks_pass : (n : ℕ) (owner : List ℕ) → Lacks 10 (compact_text (pass_object n owner))
 lacks_pass n owner =
     lacks_as (compact_text (pass_object n owner)) _ (text_of_pass n owner [])
@@ -60,7 +68,8 @@ lacks_pass n owner =
 pub Lacks-event : (e : Event) → Lacks 10 (compact_text (event_object e))
 Lacks-event (Take worker path) = lacks_worker IsTake worker path
 Lacks-event (Steal worker from path) = lacks_steal worker from path
-Lacks-event (Resume worker path) = lacks_worker IsResume worker path
+Lacks-event (Resume worker path None) = lacks_worker IsResume worker path
+Lacks-event (Resume worker path (Some n)) = lacks_counted worker path n
 Lacks-event (Pass scope) = lacks_pass scope.number scope.owner
 Lacks-event e = lacks_task (kind_of e) (task_of e)
 
@@ -69,8 +78,10 @@ Lacks-header h =
     let last = decimal h.workers ++ codes "}" in
     let fourth = decimal h.w0 ++ (codes ",\"workers\":" ++ last) in
     let third = decimal h.steps ++ (codes ",\"w0\":" ++ fourth) in
+    let second = decimal h.nest ++ (codes ",\"steps\":" ++ third) in
     lacks_as (compact_text (header_object h)) _ (text_of_header h [])
+    (visible-append (decimal (format_number h.format)) (codes ",\"nest\":" ++ second) (visible-number (format_number h.format))
     (visible-append (decimal h.nest) (codes ",\"steps\":" ++ third) (visible-number h.nest)
     (visible-append (decimal h.steps) (codes ",\"w0\":" ++ fourth) (visible-number h.steps)
     (visible-append (decimal h.w0) (codes ",\"workers\":" ++ last) (visible-number h.w0)
-    (visible-append (decimal h.workers) (codes "}") (visible-number h.workers) refl))))
+    (visible-append (decimal h.workers) (codes "}") (visible-number h.workers) refl)))))

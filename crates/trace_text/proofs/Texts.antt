@@ -1,18 +1,17 @@
 -- The text of each line, written out.
 use Rattle.std.proofs.Common.{◌≡◌, ℕ, Bool, true, false, List, [], ◌∷◌, ◌++◌, codes}
-use Rattle.std.proofs.Common.{refl, ap, ◌∙◌, append_assoc, lit<}
-use Rattle.std.proofs.lemmas.Fmt.{decimal_digit}
+use Rattle.std.proofs.Common.{refl, ap, ◌∙◌, append_assoc}
 use Rattle.std.specs.Fmt.{decimal}
 use Rattle.types.specs.Names.{path_text}
 use Rattle.json.specs.Print.{escape, escape_byte, quoted}
 use Rattle.serde_json.specs.Data.{Members, no_members, object}
 use Rattle.serde_json.specs.Written.{comma_if, compact_text, members_text}
 use Rattle.trace_text.proofs.Marks.{escape-path}
-use Rattle.trace_text.specs.Headers.{TraceHeader}
+use Rattle.trace_text.specs.Headers.{TraceHeader, format_number}
 use Rattle.trace_text.specs.Kinds.{kind_name}
-use Rattle.trace_text.specs.Lines.{line, text_under, number_under, task_object, worker_object, steal_object, pass_object, header_object}
+use Rattle.trace_text.specs.Lines.{line, text_under, number_under, task_object, worker_object, steal_object, counted_object, pass_object, header_object}
 use Rattle.trace_text.specs.declared.kind.EventKind.{EventKind}
-use Rattle.trace_text.specs.declared.kind.EventKind.TheVariants.{Take, Steal, Pass}
+use Rattle.trace_text.specs.declared.kind.EventKind.TheVariants.{Take, Steal, Pass, Resume}
 
 -- bytes that are unchanged in a line
 abbrev pub IsPlain : List ℕ → Type 0
@@ -117,6 +116,22 @@ text_of_steal worker from path rest =
     (number_then true (codes "from") rest from third refl
     ∙ ap (λ (l : List ℕ). codes ",\"from\":" ++ (decimal from ++ l)) (worker_then worker path rest))
 
+abbrev pub counted_words : (faults path worker rest : List ℕ) → List ℕ
+counted_words faults path worker rest =
+    codes "{\"e\":\"resume\",\"faults\":" ++ (faults ++ (codes ",\"path\":\"" ++ (path ++ (codes "\",\"worker\":" ++ (worker ++ (codes "}" ++ rest))))))
+
+pub text_of_counted : (worker : ℕ) (path : List ℕ) (faults : ℕ) (rest : List ℕ)
+    → compact_text (counted_object worker path faults) ++ rest
+    ≡ counted_words (decimal faults) (path_text path) (decimal worker) rest
+unfolding escape_byte
+text_of_counted worker path faults rest =
+    let last = number_under (codes "worker") worker no_members in
+    let third = text_under (codes "path") (path_text path) last in
+    kind_then Resume rest (number_under (codes "faults") faults third)
+    ∙ ap (λ (l : List ℕ). codes "{\"e\":\"resume\"" ++ l)
+    (number_then true (codes "faults") rest faults third refl
+    ∙ ap (λ (l : List ℕ). codes ",\"faults\":" ++ (decimal faults ++ l)) (worker_then worker path rest))
+
 abbrev pub pass_words : (n owner rest : List ℕ) → List ℕ
 pass_words n owner rest =
     codes "{\"e\":\"pass\",\"number\":" ++ (n ++ (codes ",\"owner\":\"" ++ (owner ++ (codes "\"}" ++ rest))))
@@ -132,22 +147,21 @@ text_of_pass n owner rest =
     ∙ ap (λ (l : List ℕ). codes ",\"number\":" ++ (decimal n ++ l))
     (text_then true (codes "owner") (path_text owner) rest no_members refl (escape-path owner)))
 
-abbrev pub header_words : (nest steps w0 workers rest : List ℕ) → List ℕ
-header_words nest steps w0 workers rest =
-    codes "{\"format\":1,\"nest\":" ++ (nest ++ (codes ",\"steps\":" ++ (steps ++ (codes ",\"w0\":" ++ (w0 ++ (codes ",\"workers\":" ++ (workers ++ (codes "}" ++ rest))))))))
+abbrev pub header_words : (format nest steps w0 workers rest : List ℕ) → List ℕ
+header_words format nest steps w0 workers rest =
+    codes "{\"format\":" ++ (format ++ (codes ",\"nest\":" ++ (nest ++ (codes ",\"steps\":" ++ (steps ++ (codes ",\"w0\":" ++ (w0 ++ (codes ",\"workers\":" ++ (workers ++ (codes "}" ++ rest))))))))))
 
 pub text_of_header : (h : TraceHeader) (rest : List ℕ)
     → compact_text (header_object h) ++ rest
-    ≡ header_words (decimal h.nest) (decimal h.steps) (decimal h.w0) (decimal h.workers) rest
+    ≡ header_words (decimal (format_number h.format)) (decimal h.nest) (decimal h.steps) (decimal h.w0) (decimal h.workers) rest
 unfolding escape_byte
 text_of_header h rest =
     let fifth = number_under (codes "workers") h.workers no_members in
     let fourth = number_under (codes "w0") h.w0 fifth in
     let third = number_under (codes "steps") h.steps fourth in
     let second = number_under (codes "nest") h.nest third in
-    ap (λ (l : List ℕ). 123 ∷ l) (number_then false (codes "format") rest 1 second refl)
-    ∙ ap (λ (l : List ℕ). codes "{\"format\":" ++ (l ++ (members_text true second ++ rest))) (decimal_digit 1 (lit< tt))
-    ∙ ap (λ (l : List ℕ). codes "{\"format\":1" ++ l)
+    ap (λ (l : List ℕ). 123 ∷ l) (number_then false (codes "format") rest (format_number h.format) second refl)
+    ∙ ap (λ (l : List ℕ). codes "{\"format\":" ++ (decimal (format_number h.format) ++ l))
     (number_then true (codes "nest") rest h.nest third refl
     ∙ ap (λ (l : List ℕ). codes ",\"nest\":" ++ (decimal h.nest ++ l))
     (number_then true (codes "steps") rest h.steps fourth refl
@@ -174,6 +188,12 @@ pub line_of_steal : (worker from : ℕ) (path : List ℕ)
 unfolding line
 line_of_steal worker from path = text_of_steal worker from path (codes "\n")
 
+pub line_of_counted : (worker : ℕ) (path : List ℕ) (faults : ℕ)
+    → line (counted_object worker path faults)
+    ≡ counted_words (decimal faults) (path_text path) (decimal worker) (codes "\n")
+unfolding line
+line_of_counted worker path faults = text_of_counted worker path faults (codes "\n")
+
 pub line_of_pass : (n : ℕ) (owner : List ℕ)
     → line (pass_object n owner) ≡ pass_words (decimal n) (path_text owner) (codes "\n")
 unfolding line
@@ -181,6 +201,6 @@ line_of_pass n owner = text_of_pass n owner (codes "\n")
 
 pub line_of_header : (h : TraceHeader)
     → line (header_object h)
-    ≡ header_words (decimal h.nest) (decimal h.steps) (decimal h.w0) (decimal h.workers) (codes "\n")
+    ≡ header_words (decimal (format_number h.format)) (decimal h.nest) (decimal h.steps) (decimal h.w0) (decimal h.workers) (codes "\n")
 unfolding line
 line_of_header h = text_of_header h (codes "\n")

@@ -1,8 +1,16 @@
 -- The settings of a run, in the first line of a trace.
 use Rattle.std.specs.Prelude.{ℕ, ◌≤◌}
+use Rattle.trace_text.specs.declared.header.Format.{Format}
+use Rattle.trace_text.specs.declared.header.Format.TheVariants.{One, Two}
 use Rattle.trace_text.specs.declared.header.Header.{Header}
 
+-- the number of a format
+abbrev pub format_number : Format → ℕ
+format_number One = 1
+format_number Two = 2
+
 pub record TraceHeader : Type 0 where
+  pub format : Format
   pub steps : ℕ
   pub nest : ℕ
   pub w0 : ℕ
@@ -20,6 +28,7 @@ pub record IsHeader (h : TraceHeader) : Type 0 where
 
 abbrev pub header_of : Header → TraceHeader
 header_of h = record {
+  format = h.format;
   steps = h.budget.steps;
   nest = h.budget.nest;
   w0 = h.w0;

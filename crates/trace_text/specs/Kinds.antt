@@ -19,7 +19,7 @@ deed_of (Opens path) = (IsOpen, path)
 deed_of (Parks path) = (IsPark, path)
 deed_of (Ends path) = (IsEnd, path)
 deed_of (Pass scope) = (IsPass, scope.owner)
-deed_of (Resume worker path) = (IsResume, path)
+deed_of (Resume worker path faults) = (IsResume, path)
 
 abbrev pub kind_of : Event → EventKind
 kind_of e = (deed_of e).0

@@ -6,18 +6,19 @@ use Rattle.events.specs.Events.{Event}
 use Rattle.trace_text.specs.Headers.{TraceHeader, IsHeader}
 use Rattle.trace_text.specs.Lines.{event_line, header_line, trace_text}
 use Rattle.trace_text.specs.Spelled.{IsSpelled}
+use Rattle.trace_text.specs.declared.header.Format.{Format}
 use Rattle.trace_text.specs.declared.error.TraceError.{TraceError}
 use Rattle.trace_text.specs.declared.error.TraceError.TheVariants.{NotALine, NoMemory}
 
--- a text is the lines of events
-pub record AreEvents (es : List Event) (text : List ℕ) : Type 0 where
-  pub spelled : All IsSpelled es
+-- a text is the lines of events, in a format
+pub record AreEvents (f : Format) (es : List Event) (text : List ℕ) : Type 0 where
+  pub spelled : All (IsSpelled f) es
   pub lines : text ≡ flat_map event_line es
 
 -- a text is the lines of a header and of events
 pub record IsTrace (h : TraceHeader) (es : List Event) (text : List ℕ) : Type 0 where
   pub fits : IsHeader h
-  pub spelled : All IsSpelled es
+  pub spelled : All (IsSpelled h.format) es
   pub lines : text ≡ trace_text h es
 
 -- a text is the trace of at most one header and one list of events
@@ -33,38 +34,38 @@ pub record BeginsWithHeader (text : List ℕ) : Type 0 where
   pub fits : IsHeader header
   pub parts : text ≡ header_line header ++ behind
 
--- a text starts with an event's line
-pub record BeginsWithEvent (text : List ℕ) : Type 0 where
+-- a text starts with an event's line, in a format
+pub record BeginsWithEvent (f : Format) (text : List ℕ) : Type 0 where
   pub event : Event
   pub behind : List ℕ
-  pub spelled : IsSpelled event
+  pub spelled : IsSpelled f event
   pub parts : text ≡ event_line event ++ behind
 
 -- there is more text after the lines of events, and it doesn't start with an event's line; n is the number
 -- of its first line, if the lines of events are counted from 2
-pub record IsBadEvent (n : ℕ) (text : List ℕ) : Type 0 where
+pub record IsBadEvent (f : Format) (n : ℕ) (text : List ℕ) : Type 0 where
   pub events : List Event
   pub before : List ℕ
   pub rest : List ℕ
-  pub good : AreEvents events before
+  pub good : AreEvents f events before
   pub parts : text ≡ before ++ rest
   pub number : n ≡ length events + 2
   pub some : rest ≢ []
-  pub bad : ¬ BeginsWithEvent rest
+  pub bad : ¬ BeginsWithEvent f rest
 
 -- there is such a line after a header's line
 pub record IsBadBehind (n : ℕ) (text : List ℕ) : Type 0 where
   pub first : BeginsWithHeader text
-  pub later : IsBadEvent n first.behind
+  pub later : IsBadEvent first.header.format n first.behind
 
 -- the line with this number, counted from 1, is the first wrong one
 abbrev pub IsFirstBad : ℕ → List ℕ → Type 0
 IsFirstBad n text = ((n ≡ 1) × ¬ BeginsWithHeader text) ⊎ IsBadBehind n text
 
 -- why lines of events aren't parsed; out of memory isn't limited
-abbrev pub IsEventRefusal : List ℕ → TraceError → Type 0
-IsEventRefusal text (NotALine n) = IsBadEvent n text
-IsEventRefusal text NoMemory = Unit {0}
+abbrev pub IsEventRefusal : Format → List ℕ → TraceError → Type 0
+IsEventRefusal f text (NotALine n) = IsBadEvent f n text
+IsEventRefusal f text NoMemory = Unit {0}
 
 -- why a text isn't parsed
 abbrev pub IsRefusal : List ℕ → TraceError → Type 0

@@ -16,7 +16,7 @@ left_in width text = text ++ replicate (width - length text) 32
 abbrev pub worker_of : Event → Option ℕ
 worker_of (Take worker path) = Some worker
 worker_of (Steal worker from path) = Some worker
-worker_of (Resume worker path) = Some worker
+worker_of (Resume worker path faults) = Some worker
 worker_of _ = None
 
 -- the worker that it is stolen from

@@ -1,13 +1,36 @@
 //! The first line of a trace: the settings of its run.
 
 ghost use Rattle.std.specs.Prelude.{◌≡◌, ◌<◌, ◌≤◌, ◌⊎◌, ◌↔◌, IsNone, IfSome};
+ghost use Rattle.trace_text.specs.Headers.{format_number};
 
 use events::worker_id::{MOST_WEIGHT, MOST_WORKERS};
 use types::budget::Budget;
 
+/// The format of a trace.
+#[derive(Clone, Copy, PartialEq, Eq, Debug)]
+pub enum Format {
+    /// `{"format":1,..}`
+    One,
+    /// `{"format":2,..}`: each resume has the number of faults that its finish has gathered.
+    Two,
+}
+
+impl Format {
+    /// Returns its number in a header.
+    pub fn number(self) -> u32
+        ensures { result ≡ format_number self }
+    {
+        match self {
+            Format::One => 1,
+            Format::Two => 2,
+        }
+    }
+}
+
 /// The settings of a run.
 #[derive(Clone, Copy, PartialEq, Eq, Debug)]
 pub struct Header {
+    pub format: Format,
     pub budget: Budget,
     /// The weight that a scope issues at a time, 1 to 4294967296.
     pub w0: u64,
@@ -18,15 +41,17 @@ pub struct Header {
 
 impl Header {
     /// Returns a header with these numbers, or None if the weight or the workers are out of range.
-    pub fn new(budget: Budget, w0: u64, workers: u32) -> Option<Header>
+    pub fn new(format: Format, budget: Budget, w0: u64, workers: u32) -> Option<Header>
         ensures none { IsNone result ↔ ((w0 < 1) ⊎ (4294967296 < w0) ⊎ (workers < 1) ⊎ (64 < workers)) }
         ensures some { IfSome result
-            (λ h. (h.budget ≡ budget) × (h.w0 ≡ w0) × (h.workers ≡ workers)) }
+            (λ h. (h.format ≡ format) × (h.budget ≡ budget) × (h.w0 ≡ w0)
+            × (h.workers ≡ workers)) }
     {
         if w0 < 1 || w0 > MOST_WEIGHT || workers < 1 || workers > MOST_WORKERS {
             return None;
         }
         Some(Header {
+            format,
             budget,
             w0,
             workers,

@@ -3,8 +3,8 @@
 ghost use Rattle.std.specs.Prelude.{◌≡◌, ◌++◌, OnOk};
 ghost use Rattle.std.specs.String.{string_bytes};
 ghost use Rattle.events.specs.Events.{event as event_of};
-ghost use Rattle.trace_text.specs.Lines.{event_line, header_line, line, pass_object, steal_object};
-ghost use Rattle.trace_text.specs.Lines.{task_object, worker_object};
+ghost use Rattle.trace_text.specs.Lines.{counted_object, event_line, header_line, line, pass_object};
+ghost use Rattle.trace_text.specs.Lines.{resume_object, steal_object, task_object, worker_object};
 ghost use Rattle.trace_text.specs.Headers.{header_of};
 
 use crate::header::Header;
@@ -20,13 +20,14 @@ pub fn push_header(text: &mut String, header: &Header) -> Result<(), AllocError>
     ensures { OnOk result (string_bytes text.new
         ≡ string_bytes text.old ++ header_line (header_of header.now)) }
 {
+    let format = header.format.number();
     let nest = header.budget.nest;
     let steps = header.budget.steps;
     let w0 = header.w0;
     let workers = header.workers;
     write!(
         text,
-        "{{\"format\":1,\"nest\":{nest},\"steps\":{steps},\"w0\":{w0},\"workers\":{workers}}}\n"
+        "{{\"format\":{format},\"nest\":{nest},\"steps\":{steps},\"w0\":{w0},\"workers\":{workers}}}\n"
     )
 }
 
@@ -46,7 +47,11 @@ pub fn push_event(text: &mut String, event: &Event) -> Result<(), AllocError>
         Event::Park { path } => push_of_task(text, kind, path),
         Event::End { path } => push_of_task(text, kind, path),
         Event::Pass { scope } => push_pass(text, scope),
-        Event::Resume { worker, path } => push_by_worker(text, kind, path, worker.number()),
+        Event::Resume {
+            worker,
+            path,
+            faults,
+        } => push_resume(text, path, worker.number(), *faults),
     }
 }
 
@@ -73,6 +78,33 @@ fn push_by_worker(
     write!(
         text,
         "{{\"e\":\"{name}\",\"path\":\"{path}\",\"worker\":{worker}}}\n"
+    )
+}
+
+/// `{"e":"resume","path":"0.1","worker":0}`, with the number of faults if there is one
+fn push_resume(
+    text: &mut String,
+    path: &Path,
+    worker: u32,
+    faults: Option<u64>,
+) -> Result<(), AllocError>
+    ensures { OnOk result (string_bytes text.new
+        ≡ string_bytes text.old ++ line (resume_object worker path.now.turns.items faults)) }
+{
+    match faults {
+        None => push_by_worker(text, EventKind::Resume, path, worker),
+        Some(faults) => push_counted(text, path, worker, faults),
+    }
+}
+
+/// `{"e":"resume","faults":0,"path":"0.1","worker":0}`
+fn push_counted(text: &mut String, path: &Path, worker: u32, faults: u64) -> Result<(), AllocError>
+    ensures { OnOk result (string_bytes text.new
+        ≡ string_bytes text.old ++ line (counted_object worker path.now.turns.items faults)) }
+{
+    write!(
+        text,
+        "{{\"e\":\"resume\",\"faults\":{faults},\"path\":\"{path}\",\"worker\":{worker}}}\n"
     )
 }
 

@@ -1,22 +1,28 @@
 //! Parsing a trace.
 
 ghost use Rattle.std.specs.Prelude.{◌≡◌, ◌<◌, ◌+◌, ◌∷◌, ◌++◌, ◌↔◌, ◌^◌, ℕ, List, IfErr};
-ghost use Rattle.std.specs.Prelude.{IfNone, IfOk, IfSome, IsSomeAnd, IsTrue, Some, codes, length, map, option_map};
+ghost use Rattle.std.specs.Prelude.{IfNone, IfOk, IfSome, IsSomeAnd, IsTrue, None, Option, Some};
+ghost use Rattle.std.specs.Prelude.{codes, length, map, option_map};
 ghost use Rattle.std.specs.Fmt.{decimal};
 ghost use Rattle.types.specs.Names.{path_text};
 ghost use Rattle.events.specs.Events.{Event as AnyEvent, Steal as IsSteal, Pass as IsPass};
+ghost use Rattle.events.specs.Events.{Resume as IsResume};
 ghost use Rattle.events.specs.Events.{ScopeId as AnyScopeId, event as event_of, turns_of};
 ghost use Rattle.serde_json.specs.Written.{compact_text};
-ghost use Rattle.trace_text.specs.Fields.{fields, pass_fields, steal_fields, task_fields, worker_field};
-ghost use Rattle.trace_text.specs.Headers.{IsHeader, TraceHeader, header_of};
+ghost use Rattle.trace_text.specs.Fields.{counted_fields, fields, pass_fields, resume_fields};
+ghost use Rattle.trace_text.specs.Fields.{steal_fields, task_fields, worker_field, worker_fields};
+ghost use Rattle.trace_text.specs.Headers.{IsHeader, TraceHeader, format_number, header_of};
 ghost use Rattle.trace_text.specs.Kinds.{kind_of};
 ghost use Rattle.trace_text.specs.Lines.{event_line, event_object, header_line, header_object};
 ghost use Rattle.trace_text.specs.Reading.{AreEvents, IsEventRefusal, IsRefusal, IsTrace};
-ghost use Rattle.trace_text.specs.Spelled.{IsPath, IsScope, IsSpelled, IsTheft, IsWorkers, Lacks};
+ghost use Rattle.trace_text.specs.Spelled.{IsPath, IsResumption, IsScope, IsSpelled, IsTheft};
+ghost use Rattle.trace_text.specs.Spelled.{IsWorkers, Lacks};
+ghost use Rattle.trace_text.specs.declared.header.Format.{Format as AnyFormat};
+ghost use Rattle.trace_text.specs.declared.header.Format.TheVariants.{One, Two};
 
 use crate::cut::{between, cut_at};
 use crate::error::TraceError;
-use crate::header::Header;
+use crate::header::{Format, Header};
 use crate::kind::EventKind;
 use crate::line::{push_event, push_header};
 use crate::path::read_path;
@@ -39,20 +45,20 @@ pub fn read_lines(alloc: Global, text: &str) -> Result<(Header, Vec<Event>), Tra
     let Some(header) = read_header(alloc, line)? else {
         return Err(TraceError::NotALine(1));
     };
-    let events = read_events(alloc, rest)?;
+    let events = read_events(alloc, header.format, rest)?;
     Ok((header, events))
 }
 
 /// Parses the events in the lines after the first.
-fn read_events(alloc: Global, text: &str) -> Result<Vec<Event>, TraceError>
-    ensures read { IfOk result (λ es. AreEvents (map event_of es.items) text.now) }
-    ensures refused { IfErr result (IsEventRefusal text.now) }
+fn read_events(alloc: Global, format: Format, text: &str) -> Result<Vec<Event>, TraceError>
+    ensures read { IfOk result (λ es. AreEvents format (map event_of es.items) text.now) }
+    ensures refused { IfErr result (IsEventRefusal format text.now) }
 {
     let mut events = Vec::new(alloc);
     let mut again = String::new(alloc);
     let mut rest = text;
     'lines: while let Some((line, behind)) = cut_at(rest, '\n') {
-        let Some(event) = read_event(alloc, line, &mut again)? else {
+        let Some(event) = read_event(alloc, format, line, &mut again)? else {
             return Err(no_line_behind(&events));
         };
         events.push(event)?;
@@ -89,13 +95,18 @@ fn read_header(alloc: Global, line: &str) -> Result<Option<Header>, AllocError>
 
 /// Parses the event in a line, given without its line feed. It formats the event into `again`, and
 /// overwrites that text: one buffer serves for all lines.
-fn read_event(alloc: Global, line: &str, again: &mut String) -> Result<Option<Event>, AllocError>
-    ensures read { IfOk result (λ o. IfSome o (λ e. IsSpelled (event_of e)
+fn read_event(
+    alloc: Global,
+    format: Format,
+    line: &str,
+    again: &mut String,
+) -> Result<Option<Event>, AllocError>
+    ensures read { IfOk result (λ o. IfSome o (λ e. IsSpelled format (event_of e)
         × (line.now ++ codes "\n" ≡ event_line (event_of e)))) }
-    ensures other { IfOk result (λ o. IfNone o ((e : AnyEvent) → IsSpelled e
+    ensures other { IfOk result (λ o. IfNone o ((e : AnyEvent) → IsSpelled format e
         → line.now ++ codes "\n" ≡ event_line e → ⊥)) }
 {
-    let Some(event) = event_in(alloc, line)? else {
+    let Some(event) = event_in(alloc, format, line)? else {
         return Ok(None);
     };
     again.clear();
@@ -119,18 +130,33 @@ fn header_in(line: &str) -> Option<Header>
     ensures { (h : TraceHeader) → IsHeader h → line.now ≡ compact_text (header_object h)
         → option_map header_of result ≡ Some h }
 {
-    let (nest, rest) = number_between(line, "{\"format\":1,\"nest\":", ',')?;
+    let (number, rest) = number_between(line, "{\"format\":", ',')?;
+    let format = format_of(number)?;
+    let (nest, rest) = number_between(rest, "\"nest\":", ',')?;
     let (steps, rest) = number_between(rest, "\"steps\":", ',')?;
     let (w0, rest) = number_between(rest, "\"w0\":", ',')?;
     let (workers, _) = number_between(rest, "\"workers\":", '}')?;
     let budget = Budget::new(steps, nest)?;
-    Header::new(budget, w0, u32::try_from(workers).ok()?)
+    Header::new(format, budget, w0, u32::try_from(workers).ok()?)
+}
+
+/// Returns the format with a number.
+fn format_of(number: u64) -> Option<Format>
+    ensures { (f : AnyFormat) → number ≡ format_number f → result ≡ Some f }
+{
+    if number == 1 {
+        Some(Format::One)
+    } else if number == 2 {
+        Some(Format::Two)
+    } else {
+        None
+    }
 }
 
 /// Returns the event that a line may be the text of. The caller formats it again to check.
-fn event_in(alloc: Global, line: &str) -> Result<Option<Event>, AllocError>
-    ensures spelled { IfOk result (λ o. IfSome o (λ e. IsSpelled (event_of e))) }
-    ensures told { IfOk result (λ o. (e : AnyEvent) → IsSpelled e
+fn event_in(alloc: Global, format: Format, line: &str) -> Result<Option<Event>, AllocError>
+    ensures spelled { IfOk result (λ o. IfSome o (λ e. IsSpelled format (event_of e))) }
+    ensures told { IfOk result (λ o. (e : AnyEvent) → IsSpelled format e
         → line.now ≡ compact_text (event_object e) → option_map event_of o ≡ Some e) }
 {
     let Some((name, rest)) = between(line, "{\"e\":\"", '"') else {
@@ -139,13 +165,18 @@ fn event_in(alloc: Global, line: &str) -> Result<Option<Event>, AllocError>
     let Some(kind) = EventKind::named(name) else {
         return Ok(None);
     };
-    event_behind(alloc, kind, rest)
+    event_behind(alloc, format, kind, rest)
 }
 
 /// Returns the event of a kind whose fields the text after the kind's name may be.
-fn event_behind(alloc: Global, kind: EventKind, rest: &str) -> Result<Option<Event>, AllocError>
-    ensures spelled { IfOk result (λ o. IfSome o (λ e. IsSpelled (event_of e))) }
-    ensures told { IfOk result (λ o. (e : AnyEvent) → IsSpelled e → kind ≡ kind_of e
+fn event_behind(
+    alloc: Global,
+    format: Format,
+    kind: EventKind,
+    rest: &str,
+) -> Result<Option<Event>, AllocError>
+    ensures spelled { IfOk result (λ o. IfSome o (λ e. IsSpelled format (event_of e))) }
+    ensures told { IfOk result (λ o. (e : AnyEvent) → IsSpelled format e → kind ≡ kind_of e
         → rest.now ≡ fields e → option_map event_of o ≡ Some e) }
 {
     match kind {
@@ -161,10 +192,7 @@ fn event_behind(alloc: Global, kind: EventKind, rest: &str) -> Result<Option<Eve
         EventKind::Park => Ok(path_in(alloc, rest)?.map(|path| Event::Park { path })),
         EventKind::End => Ok(path_in(alloc, rest)?.map(|path| Event::End { path })),
         EventKind::Pass => pass_in(alloc, rest),
-        EventKind::Resume => {
-            let by = by_worker_in(alloc, rest, ",\"path\":\"")?;
-            Ok(by.map(|(worker, path)| Event::Resume { worker, path }))
-        }
+        EventKind::Resume => resume_in(alloc, format, rest),
     }
 }
 
@@ -202,6 +230,53 @@ fn steal_in(alloc: Global, rest: &str) -> Result<Option<Event>, AllocError>
     };
     let by = by_worker_in(alloc, rest, "\"path\":\"")?;
     Ok(by.map(|(worker, path)| Event::Steal { worker, from, path }))
+}
+
+/// Parses `,"path":"0.1","worker":0}`, in format 2 with the number of faults before it.
+fn resume_in(alloc: Global, format: Format, rest: &str) -> Result<Option<Event>, AllocError>
+    ensures spelled { IfOk result (λ o. IfSome o (λ e. IsSpelled format (event_of e))) }
+    ensures told { IfOk result (λ o. (w : ℕ) (p : List ℕ) (n : Option ℕ) → IsResumption format w p n
+        → rest.now ≡ resume_fields w p n → option_map event_of o ≡ Some (IsResume w p n)) }
+{
+    match format {
+        Format::One => plain_resume_in(alloc, rest),
+        Format::Two => counted_resume_in(alloc, rest),
+    }
+}
+
+/// Parses `,"path":"0.1","worker":0}`
+fn plain_resume_in(alloc: Global, rest: &str) -> Result<Option<Event>, AllocError>
+    ensures spelled { IfOk result (λ o. IfSome o (λ e. IsSpelled One (event_of e))) }
+    ensures told { IfOk result (λ o. (w : ℕ) (p : List ℕ) → IsWorkers w p
+        → rest.now ≡ worker_fields w p → option_map event_of o ≡ Some (IsResume w p None)) }
+{
+    let by = by_worker_in(alloc, rest, ",\"path\":\"")?;
+    Ok(by.map(|(worker, path)| Event::Resume {
+        worker,
+        path,
+        faults: None,
+    }))
+}
+
+/// Parses `,"faults":0,"path":"0.1","worker":0}`
+fn counted_resume_in(alloc: Global, rest: &str) -> Result<Option<Event>, AllocError>
+    ensures spelled { IfOk result (λ o. IfSome o (λ e. IsSpelled Two (event_of e))) }
+    ensures told { IfOk result (λ o. (w : ℕ) (p : List ℕ) (n : ℕ) → IsWorkers w p → n < 2 ^ 32
+        → rest.now ≡ counted_fields w p n
+        → option_map event_of o ≡ Some (IsResume w p (Some n))) }
+{
+    let Some((faults, rest)) = number_between(rest, ",\"faults\":", ',') else {
+        return Ok(None);
+    };
+    if faults > 4_294_967_295 {
+        return Ok(None);
+    }
+    let by = by_worker_in(alloc, rest, "\"path\":\"")?;
+    Ok(by.map(|(worker, path)| Event::Resume {
+        worker,
+        path,
+        faults: Some(faults),
+    }))
 }
 
 /// Parses `,"number":1,"owner":"0"}`

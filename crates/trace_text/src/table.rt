@@ -49,7 +49,7 @@ fn push_deed(text: &mut String, event: &Event) -> Result<(), AllocError>
         Event::Park { path } => push_of_task(text, path),
         Event::End { path } => push_of_task(text, path),
         Event::Pass { scope } => write!(text, "      {scope}\n"),
-        Event::Resume { worker, path } => push_by_worker(text, *worker, path),
+        Event::Resume { worker, path, .. } => push_by_worker(text, *worker, path),
     }
 }
 

@@ -3,13 +3,18 @@ use Rattle.std.proofs.Common.{◌≡◌, inl, inr, ℕ, ℤ, List, [], Option, R
 use Rattle.std.specs.Prelude.{IfOk, IsErrAnd}
 use Rattle.std.specs.declared.alloc.AllocError.{AllocError}
 use Rattle.types.specs.Code.{Program}
+use Rattle.types.specs.declared.budget.Budget.{Budget}
 use Rattle.race_checker.specs.Clash.{IsAccepted}
 use Rattle.events.specs.declared.event.Event.{Event}
-use Rattle.event_worlds.specs.Replay.{IllegalAt}
+use Rattle.event_worlds.specs.Replay.{IllegalAt, Legal}
 use Rattle.event_worlds.specs.Replaying.{comes, IsRefused}
+use Rattle.event_worlds.specs.World.{World}
 use Rattle.event_worlds.specs.declared.error.ReplayError.{ReplayError}
 use Rattle.event_worlds.specs.declared.error.ReplayError.TheVariants.{IllegalAt as rIllegalAt}
 use Rattle.event_worlds.specs.declared.job.WeightedJob.{WeightedJob}
+use Rattle.trace_text.specs.Headers.{header_of}
+use Rattle.trace_text.specs.declared.header.Format.{Format}
+use Rattle.trace_text.specs.declared.header.Format.TheVariants.{Two}
 use Rattle.trace_text.specs.declared.header.Header.{Header}
 use Rattle.command_line.specs.Requests.{Settings}
 use Rattle.command_line.specs.declared.request.Command.{Command}
@@ -21,8 +26,8 @@ use Rattle.failures.specs.declared.failure.Failure.TheVariants.{Race, NoMemoryIn
 use Rattle.failures.specs.declared.failure.Failure.TheVariants.{Trace, Illegal, CannotWrite}
 use Rattle.commands.specs.Answers.{IsCodeOf, IsExplored, TellsNotAccepted, TellsNotBegun}
 use Rattle.commands.proofs.Answering.{IsOther, other_failure, passed_on}
-use Rattle.viewing.specs.Views.{AnswersTrace, Draws, ExplainsTrace, HasTrace, HoldsTrace, IsDrawnAs, IsDrawnTo, IsJudged}
-use Rattle.viewing.specs.Views.{ShowsTrace, TellsIllegal, traced_of}
+use Rattle.viewing.specs.Views.{AnswersTrace, AreLegal, Draws, ExplainsTrace, HasTrace, HoldsTrace, IsDrawnAs, IsDrawnTo, IsJudged}
+use Rattle.viewing.specs.Views.{IsInFormatTwo, ShowsTrace, TellsIllegal, text_in_format_two, traced_of}
 use Rattle.viewing.specs.Views.{TellsNoLines, TellsNoTrace, TellsTrace, Views, command_of, picture_name, trace_name}
 use Rattle.trace_page.specs.Pages.{IsPage}
 use Rattle.viewing.specs.declared.drawing.Form.{Form}
@@ -176,4 +181,38 @@ module _ (s : Settings) (held : Held) (text : List ℕ) (t : JudgedTrace) (judge
     trace = judged.trace;
     labels = shows.labels;
     page = page_of_run program.now shows.labels shows.page;
+  }
+
+-- ---- format 2
+
+-- the same header in format 2
+pub upgraded_header : (h to : Header) → to.format ≡ Two → to.budget ≡ h.budget → to.w0 ≡ h.w0 → to.workers ≡ h.workers
+    → header_of to ≡ record (header_of h) { format = Two }
+upgraded_header h to format budget w0 workers =
+    ap (λ (f : Format). record (header_of to) { format = f }) format
+    ∙ ap (λ (b : Budget). record (header_of (record to { format = Two })) { steps = b.steps; nest = b.nest }) budget
+    ∙ ap (λ (w : ℕ). record (header_of h) { format = Two; w0 = w; workers = to.workers }) w0
+    ∙ ap (λ (n : ℕ). record (header_of h) { format = Two; workers = n }) workers
+
+-- events can't be legal and not
+pub legal_or_not : {w : World} {n : ℕ} → Legal w ≡ IllegalAt n → ⊥
+legal_or_not e = cc e
+
+module _ (s : Settings) (held : Held) (text : List ℕ) (t : JudgedTrace) (judged : IsJudged s held text t) where
+  -- its events are legal in the run of its own program
+  pub legal_in : AreLegal (code_of t.given.accepted.typed) (lists_in t.given.input) t.trace.header t.trace.events.items
+  legal_in =
+      subst (λ (p : Program). AreLegal p (lists_in t.given.input) t.trace.header t.trace.events.items) judged.code
+      (subst (λ (i : List (List ℤ)). AreLegal judged.trace.run.code i t.trace.header t.trace.events.items) judged.input judged.trace.legal)
+
+  -- the lines of that run are those of the text's program
+  pub in_format_two : (bytes : List ℕ)
+      → bytes ≡ text_in_format_two (code_of t.given.accepted.typed) (lists_in t.given.input) t.trace.header t.trace.events.items
+      → IsInFormatTwo s held text bytes
+  in_format_two bytes is = record {
+    header = t.trace.header;
+    events = t.trace.events.items;
+    trace = judged.trace;
+    lines = is ∙ ap (λ (p : Program). text_in_format_two p (lists_in t.given.input) t.trace.header t.trace.events.items) (sym judged.code)
+        ∙ ap (λ (i : List (List ℤ)). text_in_format_two judged.trace.run.code i t.trace.header t.trace.events.items) (sym judged.input);
   }

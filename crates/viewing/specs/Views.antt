@@ -9,22 +9,25 @@ use Rattle.types.specs.Translation.{budget, input as lists_in}
 use Rattle.types.specs.Typed.{code_of}
 use Rattle.events.specs.Events.{event as event_of}
 use Rattle.events.specs.declared.event.Event.{Event}
+use Rattle.event_worlds.specs.Numbering.{numbered}
 use Rattle.event_worlds.specs.World.{World, has_passed, root_scope}
 use Rattle.event_worlds.specs.Worlds.{IsFirstIllegal, IsSpent, LeadsTo}
 use Rattle.trace_numbers.specs.Summary.{IsSummary}
 use Rattle.trace_numbers.specs.Text.{summary_text}
 use Rattle.trace_numbers.specs.declared.summary.TraceSummary.{TraceSummary as SummaryOf}
 use Rattle.trace_text.specs.Headers.{TraceHeader, header_of}
+use Rattle.trace_text.specs.Lines.{trace_text}
 use Rattle.trace_text.specs.Reading.{IsRefusal, IsTrace}
 use Rattle.trace_text.specs.Table.{table_text}
 use Rattle.trace_text.specs.declared.error.TraceError.{TraceError}
+use Rattle.trace_text.specs.declared.header.Format.TheVariants.{Two}
 use Rattle.trace_text.specs.declared.header.Header.{Header}
 use Rattle.command_line.specs.Requests.{Settings}
 use Rattle.command_line.specs.declared.request.Command.{Command}
 use Rattle.command_line.specs.declared.request.Command.TheVariants.{Run, Serial, Check, Listing, Pairs}
 use Rattle.command_line.specs.declared.request.Command.TheVariants.{Meetings, Explore, Labels, Places, Format}
 use Rattle.command_line.specs.declared.request.Command.TheVariants.{CheckFormat, View, Summary, Draw, Chrome}
-use Rattle.command_line.specs.declared.request.Command.TheVariants.{Page, Schedules}
+use Rattle.command_line.specs.declared.request.Command.TheVariants.{Page, Schedules, Upgrade}
 use Rattle.command_line.specs.declared.request.Command.TheVariants.{Cost, CostByLabel, CostByProcedure}
 use Rattle.command_line.specs.declared.request.Command.TheVariants.{PairsByLine, ViewByLine, SummaryByLine}
 use Rattle.files.specs.Held.{Held, HasText, TellsNoText}
@@ -112,7 +115,8 @@ pub record IsSummaryByLine (workers : ℕ) (es : List Event) (told : List ℕ) :
   pub behind : List ℕ
   pub told_is : told ≡ before ++ behind
 
--- the answer for a trace: by `view` the table of its events, by `view --summary` its numbers, both by
+-- the answer for a trace: by `view` and `view --upgrade` the table of its events, by `view --summary` its
+-- numbers, by
 -- `--by-line` also with statements; `view --svg`, `view --chrome` and `view --html` write nothing to the standard
 -- output
 abbrev pub TellsTrace : Command → Header → List Event → (told : List ℕ) → Type 0
@@ -124,6 +128,7 @@ TellsTrace Draw h es told = told ≡ []
 TellsTrace Chrome h es told = told ≡ []
 TellsTrace Page h es told = told ≡ []
 TellsTrace Schedules h es told = ⊥
+TellsTrace Upgrade h es told = told ≡ table_text (map event_of es)
 TellsTrace Run h es told = ⊥
 TellsTrace Serial h es told = ⊥
 TellsTrace Check h es told = ⊥
@@ -196,12 +201,13 @@ TellsNoTrace s held text (Illegal n) = HasIllegalTrace s held text (Illegal n)
 TellsNoTrace s held text NoMemory = Unit {0}
 TellsNoTrace s held text f = TellsNotAccepted text f
 
--- the command draws a trace in a file
+-- the command draws a trace in a file, or writes it there in format 2
 abbrev pub Draws : Command → Type 0
 Draws Draw = Unit {0}
 Draws Chrome = Unit {0}
 Draws Page = Unit {0}
 Draws Schedules = ⊥
+Draws Upgrade = Unit {0}
 Draws View = ⊥
 Draws ViewByLine = ⊥
 Draws Summary = ⊥
@@ -304,6 +310,20 @@ abbrev pub IsDrawnAs : Form → Settings → Held → (text bytes : List ℕ) �
 IsDrawnAs Picture s held text bytes = IsDrawn s held text bytes
 IsDrawnAs Spans s held text bytes = IsDrawn s held text bytes
 IsDrawnAs (Html program) s held text bytes = IsPageOf program.now s held text bytes
+
+-- ---- format 2
+
+-- the lines of events in format 2: each resume has its number of faults, and nothing else changed
+abbrev pub text_in_format_two : Program → (input : List (List ℤ)) → Header → List Event → List ℕ
+text_in_format_two p input h es =
+    trace_text (record (header_of h) { format = Two }) (numbered p h.w0 input (budget h.budget) (map event_of es))
+
+-- this is a trace of the text's program in format 2
+pub record IsInFormatTwo (s : Settings) (held : Held) (text bytes : List ℕ) : Type 0 where
+  pub header : Header
+  pub events : List Event
+  pub trace : HasTrace s held text header events
+  pub lines : bytes ≡ text_in_format_two trace.run.code trace.run.input header events
 
 -- ---- schedules
 

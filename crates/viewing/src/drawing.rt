@@ -56,7 +56,7 @@ pub fn draw<R: Threads + Sync, F: FileSource, O: Write>(
     answer(out, "")
 }
 
-/// Returns the name of the picture's file.
+/// Returns the name of the file of the picture, the page, or the trace in format 2.
 pub fn picture_name<'w>(settings: RunOptions<'w>) -> &'w str
     ensures { result.now ≡ name_of_picture (settings_of settings.entry) }
 {

@@ -9,3 +9,4 @@ pub mod schedules;
 mod statements;
 pub mod tables;
 mod traces;
+pub mod upgrading;

@@ -170,10 +170,11 @@ impl<'h, 'p, J: Running + Recording> LogGuard<'h, 'p, J> {
         self.note(take(number, path));
     }
 
-    /// Records that a worker continues with the owner of a scope that has passed.
-    pub fn resumed(&mut self, number: usize, path: &Path) {
+    /// Records that a worker continues with the owner of a scope that has passed, and has gathered
+    /// this number of faults.
+    pub fn resumed(&mut self, number: usize, path: &Path, faults: u64) {
         let path = self.copy(path);
-        self.note(resume(number, path));
+        self.note(resume(number, path, faults));
     }
 }
 
@@ -222,9 +223,10 @@ fn steal(number: usize, from: usize, path: Option<Path>) -> Option<Event> {
     })
 }
 
-fn resume(number: usize, path: Option<Path>) -> Option<Event> {
+fn resume(number: usize, path: Option<Path>, faults: u64) -> Option<Event> {
     Some(Event::Resume {
         worker: worker(number)?,
         path: path?,
+        faults: Some(faults),
     })
 }

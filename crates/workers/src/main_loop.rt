@@ -348,9 +348,10 @@ impl<'p, J: Running + Recording, G: Gate> Shared<'p, J, G> {
         }
         open_scopes.outer = outer;
         let mut log_guard = self.hold(rt);
-        match passed::<J>(parked, results)? {
+        let (next, faults) = passed::<J>(parked, results)?;
+        match next {
             Next::Goes(task) => {
-                note_resume::<J>(&mut log_guard, number, &task);
+                note_resume::<J>(&mut log_guard, number, &task, faults);
                 Ok(Next::Goes(task))
             }
             next => Ok(next),
@@ -621,22 +622,24 @@ fn note_resume<'p, J: Running + Recording>(
     log_guard: &mut LogGuard<'_, 'p, J>,
     number: usize,
     task: &Task<'p>,
+    faults: u64,
 )
     requires { IsOwnTask J.job task.now }
 {
-    log_guard.resumed(number, task.path());
+    log_guard.resumed(number, task.path(), faults);
 }
 
 // ---- tasks
 
-/// Continues an owner of the run whose scope passes.
+/// Continues an owner of the run whose scope passes. Also returns the number of faults that the
+/// scope has gathered.
 #[inline(never)]
 fn passed<'p, J: Running>(
     owner: Box<Parked<'p>>,
     results: Vec<TaskResult>,
-) -> Result<Next<'p>, Trouble>
+) -> Result<(Next<'p>, u64), Trouble>
     requires own { IsOwnLeaving J.job owner.value results.items }
-    ensures next { IfOk result (IsOwnNext J.job) }
+    ensures next { IfOk result (λ r. IsOwnNext J.job r.0) }
     ensures cause { IfErr result (Happens J.job) }
     ensures unsettled { IfErr result (IsOfResults owner.entry.value results.items) }
 {

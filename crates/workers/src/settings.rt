@@ -1,9 +1,10 @@
 //! Limits of a run, and its number of workers.
 
 ghost use Rattle.std.specs.Prelude.{◌≡◌, ◌<◌, ◌≤◌, ◌⊎◌, ◌↔◌, IsNone, IfSome};
+ghost use Rattle.trace_text.specs.declared.header.Format.TheVariants.{Two};
 
 use events::worker_id::{MOST_WEIGHT, MOST_WORKERS};
-use trace_text::header::Header;
+use trace_text::header::{Format, Header};
 use types::budget::{Budget, MOST_TASKS};
 
 /// The limits of a run, and its number of workers.
@@ -63,11 +64,13 @@ impl Settings {
 
 /// Returns the header of a trace for a run with these settings.
 pub fn header_of(settings: Settings) -> Header
+    ensures format { result.format ≡ Two }
     ensures budget { result.budget ≡ settings.budget }
     ensures w0 { result.w0 ≡ settings.w0 }
     ensures workers { result.workers ≡ settings.workers }
 {
-    match Header::new(settings.budget, settings.w0, settings.workers as u32) {
+    let workers = settings.workers as u32;
+    match Header::new(Format::Two, settings.budget, settings.w0, workers) {
         Some(header) => header,
         None => unreachable!(),
     }

@@ -36,7 +36,7 @@ const ROWS: &[(&str, &str)] = &[
     ),
     (
         "view",
-        " input set text summary by-line svg chrome html format explain color",
+        " input set text summary by-line svg chrome html upgrade format explain color",
     ),
     ("explain", " list"),
     ("completions", ""),

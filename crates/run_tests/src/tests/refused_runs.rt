@@ -27,7 +27,7 @@ use trace::log::Log;
 use trace_text::error::TraceError;
 use trace_text::header::Header;
 use trace_text::read::read_lines;
-use trace_text::write::write_lines;
+use trace_text::write::{fits, write_lines};
 use types::budget::Budget;
 use types::input::Input;
 use types::outcome::Outcome;
@@ -159,6 +159,9 @@ fn with_log<'p, R: Abort + Eprint + Threads + Wait + Sync>(
 
 /// Writes the lines of a trace.
 fn written(rt: &impl Eprint, alloc: Global, header: &Header, events: &[Event]) -> Option<String> {
+    if !fits(header, events) {
+        return None;
+    }
     for _ in 0..CALLS {
         match write_lines(alloc, header, events) {
             Ok(text) => return Some(text),

@@ -5,7 +5,7 @@ use std::process::Abort;
 use trace_text::error::TraceError;
 use trace_text::read::read_lines;
 use trace_text::table::view;
-use trace_text::write::write_lines;
+use trace_text::write::{fits, write_lines};
 
 /// What one worker does in the program with two arrays, with weight 8.
 const LINES: &str = "{\"format\":1,\"nest\":100,\"steps\":1000000,\"w0\":8,\"workers\":1}
@@ -85,7 +85,7 @@ const BAD_HEADERS: &[&str] = &[
     "\n",
     "{\"e\":\"step\",\"path\":\"0\"}\n",
     "{\"format\":1,\"nest\":100,\"steps\":1000000,\"w0\":8,\"workers\":1}",
-    "{\"format\":2,\"nest\":100,\"steps\":1000000,\"w0\":8,\"workers\":1}\n",
+    "{\"format\":3,\"nest\":100,\"steps\":1000000,\"w0\":8,\"workers\":1}\n",
     "{\"format\":1,\"nest\":1001,\"steps\":1000000,\"w0\":8,\"workers\":1}\n",
     "{\"format\":1,\"nest\":100,\"steps\":0,\"w0\":8,\"workers\":1}\n",
     "{\"format\":1,\"nest\":100,\"steps\":1000000001,\"w0\":8,\"workers\":1}\n",
@@ -96,6 +96,41 @@ const BAD_HEADERS: &[&str] = &[
     "{\"format\":1, \"nest\":100,\"steps\":1000000,\"w0\":8,\"workers\":1}\n",
     "{\"nest\":100,\"format\":1,\"steps\":1000000,\"w0\":8,\"workers\":1}\n",
     "{\"format\":1,\"nest\":100,\"steps\":1000000,\"w0\":8,\"workers\":1} \n",
+];
+
+/// The first line of a trace in format 2.
+const HEADER_TWO: &str = "{\"format\":2,\"nest\":100,\"steps\":1000000,\"w0\":8,\"workers\":1}\n";
+
+/// Lines with a number of faults, and whether they are lines of format 2. None is one of format 1.
+const COUNTED: &[(&str, bool)] = &[
+    (
+        "{\"e\":\"resume\",\"faults\":0,\"path\":\"0\",\"worker\":0}\n",
+        true,
+    ),
+    (
+        "{\"e\":\"resume\",\"faults\":4294967295,\"path\":\"0.1\",\"worker\":63}\n",
+        true,
+    ),
+    (
+        "{\"e\":\"resume\",\"faults\":4294967296,\"path\":\"0\",\"worker\":0}\n",
+        false,
+    ),
+    (
+        "{\"e\":\"resume\",\"faults\":00,\"path\":\"0\",\"worker\":0}\n",
+        false,
+    ),
+    (
+        "{\"e\":\"resume\",\"faults\":-0,\"path\":\"0\",\"worker\":0}\n",
+        false,
+    ),
+    (
+        "{\"e\":\"resume\",\"path\":\"0\",\"faults\":0,\"worker\":0}\n",
+        false,
+    ),
+    (
+        "{\"e\":\"take\",\"faults\":0,\"path\":\"0\",\"worker\":0}\n",
+        false,
+    ),
 ];
 
 /// Lines of events in the widest range.
@@ -109,7 +144,10 @@ const WIDEST: &[&str] = &[
 /// Returns the formatted trace of a text, or what is wrong with the text.
 fn told(rt: &impl Abort, alloc: Global, text: &str) -> String {
     match read_lines(alloc, text) {
-        Ok((header, events)) => write_lines(alloc, &header, &events).expect(rt, "memory"),
+        Ok((header, events)) => {
+            assert!(rt; fits(&header, &events), "its own format doesn't fit");
+            write_lines(alloc, &header, &events).expect(rt, "memory")
+        }
         Err(error) => format!(in alloc; "{error}").expect(rt, "memory"),
     }
 }
@@ -162,5 +200,23 @@ fn only_one_spelling_is_read(rt: HostRuntime) {
     for text in BAD_HEADERS {
         let error = read_lines(alloc, text).err();
         assert_eq!(rt; error, Some(TraceError::NotALine(1)), "{text}");
+    }
+}
+
+#[test]
+fn a_resume_has_a_number_in_format_two_only(rt: HostRuntime) {
+    let alloc = rt.alloc();
+    assert_eq!(rt; told(&rt, alloc, HEADER_TWO).as_str(), HEADER_TWO);
+    for (line, is_right) in COUNTED {
+        for header in [HEADER, HEADER_TWO] {
+            let mut text = String::from_str(alloc, header).expect(&rt, "memory");
+            text.push_str(line).expect(&rt, "memory");
+            let want = if *is_right && header == HEADER_TWO {
+                text.as_str()
+            } else {
+                "J1 line 2"
+            };
+            assert_eq!(rt; told(&rt, alloc, text.as_str()).as_str(), want);
+        }
     }
 }

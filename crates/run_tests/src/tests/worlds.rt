@@ -11,7 +11,7 @@ use std::alloc::Global;
 use std::process::Abort;
 use std::thread::Threads;
 use trace::log::Log;
-use trace_text::header::Header;
+use trace_text::header::{Format, Header};
 use types::budget::Budget;
 use types::input::Input;
 use types::outcome::Outcome;
@@ -68,7 +68,20 @@ fn event(rt: &impl Abort, happens: Happens, path: Path) -> Event {
         Resume(number) => Event::Resume {
             worker: worker(rt, number),
             path,
+            faults: None,
         },
+    }
+}
+
+/// Returns an event as a run records it: no finish of a row gathers a fault.
+fn with_number(event: Event) -> Event {
+    match event {
+        Event::Resume { worker, path, .. } => Event::Resume {
+            worker,
+            path,
+            faults: Some(0),
+        },
+        event => event,
     }
 }
 
@@ -272,11 +285,11 @@ fn recorded(rt: &(impl Abort + Threads + Sync), alloc: Global, row: Row) -> Stri
     let (text, w0, pieces, _) = row;
     let program = accepted(rt, alloc, text);
     let input = Input::zeros(alloc, program.typed()).expect(rt, "memory");
-    let header = Header::new(Budget::usual(), w0, 64).expect(rt, "a header");
+    let header = Header::new(Format::Two, Budget::usual(), w0, 64).expect(rt, "a header");
     let mut log = Log::new(alloc, &header, &program, &input).expect(rt, "memory");
     for event in events(rt, alloc, pieces) {
         let number = log.events().len();
-        if let Err(error) = log.record(event) {
+        if let Err(error) = log.record(with_number(event)) {
             assert!(rt; log.events().len() == number, "{text} has another log");
             return format!(in alloc; "{error:?}At({number})").expect(rt, "memory");
         }

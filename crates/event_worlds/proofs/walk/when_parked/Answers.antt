@@ -1,4 +1,4 @@
-use Rattle.std.proofs.Common.{ℕ, [], ◌∷◌, ◌∙◌, List, ap, map, sym}
+use Rattle.std.proofs.Common.{None, ℕ, [], ◌∷◌, ◌∙◌, List, ap, map, sym}
 use Rattle.shared_lemmas.proofs.Lists.{same_elements}
 use Rattle.event_worlds.specs.Candidates.{when_parked}
 use Rattle.event_worlds.specs.Events.{Pass, Resume}
@@ -16,7 +16,7 @@ returns c =
     let path = same_elements c.args.path.now.turns.items c.in_ok-path.path.turns.items c.in_ok-path.ensures.cases.0 in
     let owner = same_elements s.scope.owner.turns.items c.in_ok-scope.scope.owner.turns.items c.in_ok-scope.ensures.cases.0.0 in
     ap (map event) c.in_ok-vec.ensures.items
-    ∙ ap (λ (o : List ℕ). Pass (record { owner = o; number = c.in_ok-scope.scope.number }) ∷ Resume c.args.worker c.in_ok-path.path.turns.items ∷ []) owner
-    ∙ ap (λ (n : ℕ). Pass (record { owner = s.scope.owner.turns.items; number = n }) ∷ Resume c.args.worker c.in_ok-path.path.turns.items ∷ []) c.in_ok-scope.ensures.cases.1
-    ∙ ap (λ (q : List ℕ). Pass (scope_id s.scope) ∷ Resume c.args.worker q ∷ []) path
+    ∙ ap (λ (o : List ℕ). Pass (record { owner = o; number = c.in_ok-scope.scope.number }) ∷ Resume c.args.worker c.in_ok-path.path.turns.items None ∷ []) owner
+    ∙ ap (λ (n : ℕ). Pass (record { owner = s.scope.owner.turns.items; number = n }) ∷ Resume c.args.worker c.in_ok-path.path.turns.items None ∷ []) c.in_ok-scope.ensures.cases.1
+    ∙ ap (λ (q : List ℕ). Pass (scope_id s.scope) ∷ Resume c.args.worker q None ∷ []) path
     ∙ sym (ap (λ (ss : List rStake). when_parked c.args.worker c.args.path.now.turns.items (map stake ss)) f.1)

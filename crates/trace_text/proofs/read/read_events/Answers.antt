@@ -10,7 +10,7 @@ pub returns-in_default-2-clause-refused : goal.returns-in_default-2-clause-refus
 returns-in_default-2-clause-refused c =
     let rest = c.lines.rest.now in
     let none = rw c.in_default-2.is at c.in_ok-event.ensures.other in
-    subst (IsEventRefusal c.args.text.now)
+    subst (IsEventRefusal c.args.format c.args.text.now)
     (sym (c.no_line_behind.ensures ∙ ap (λ (es : List Event). NotALine (length es + 2)) c.deref.ensures.value))
     (front_bad c.args.text.now rest c.lines.events.items c.lines.invariant.1
     (cut_some rest c.in-Some.line.now c.in-Some.behind.now c.in-Some.ensures)
@@ -28,7 +28,7 @@ lines-preserved c =
 pub returns-then-not-is_empty-clause-refused : goal.returns-then-not-is_empty-clause-refused
 returns-then-not-is_empty-clause-refused c =
     let rest = c.lines.rest.now in
-    subst (IsEventRefusal c.args.text.now)
+    subst (IsEventRefusal c.args.format c.args.text.now)
     (sym (c.no_line_behind-then-not-is_empty.ensures
     ∙ ap (λ (es : List Event). NotALine (length es + 2)) c.deref-then-not-is_empty.ensures.value))
     (front_bad c.args.text.now rest c.lines.events.items c.lines.invariant.1 (long_some rest (search rules))

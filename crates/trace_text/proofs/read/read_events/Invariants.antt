@@ -7,7 +7,7 @@ use denote.Text.{Utf8}
 
 -- the lines of the events so far precede what is left
 abbrev pub invariant-lines : goal.invariant-lines
-invariant-lines l = shadow (Utf8 l.rest) × Front l.fn.text l.rest (map event l.events.items)
+invariant-lines l = shadow (Utf8 l.rest) × Front l.fn.format l.fn.text l.rest (map event l.events.items)
 
 abbrev pub decreases-lines : goal.decreases-lines
 decreases-lines l = length l.rest

@@ -8,8 +8,8 @@ use Rattle.workers.proofs.main_loop.passed.Goals as goal
 
 pub returns-clause-next : goal.returns-clause-next
 returns-clause-next g c =
-    IfOk-weaker c.pass.result (IsNext c.args.owner.value.job) (IsOwnNext g.J.Running.job)
-    (λ n h. next_own g.J.Running.job c.args.owner.value.job n c.requires.own.job h) c.pass.ensures.next
+    IfOk-weaker c.pass.result (λ r. IsNext c.args.owner.value.job r.0) (λ r. IsOwnNext g.J.Running.job r.0)
+    (λ r h. next_own g.J.Running.job c.args.owner.value.job r.0 c.requires.own.job h) c.pass.ensures.next
 
 pub returns-clause-cause : goal.returns-clause-cause
 returns-clause-cause g c =

@@ -39,4 +39,4 @@ pub returns-in-Pass-clause-legal : goal.returns-in-Pass-clause-legal
 returns-in-Pass-clause-legal c = as_it c.pass.result c.args.self.now c.pass.new.self c.in-Pass.is c.pass.ensures.passed
 
 pub returns-in-Resume-clause-legal : goal.returns-in-Resume-clause-legal
-returns-in-Resume-clause-legal c = as_it c.resume.result c.args.self.now c.resume.new.self c.in-Resume.is c.resume.ensures.resumed
+returns-in-Resume-clause-legal c = as_it c.resume_telling.result c.args.self.now c.resume_telling.new.self c.in-Resume.is c.resume_telling.ensures.resumed

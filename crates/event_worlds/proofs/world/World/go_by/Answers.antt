@@ -16,8 +16,8 @@ returns-in-Step-clause-legal c =
 
 pub returns-in-Resume-clause-legal : goal.returns-in-Resume-clause-legal
 returns-in-Resume-clause-legal c =
-    subst (λ e. OnOk c.go_on_behind.result (Becomes (event e) c.args.self.now c.go_on_behind.new.self)) (sym c.in-Resume.is)
-    c.go_on_behind.ensures.resumed
+    subst (λ e. OnOk c.go_on_telling.result (Becomes (event e) c.args.self.now c.go_on_telling.new.self)) (sym c.in-Resume.is)
+    c.go_on_telling.ensures.resumed
 
 pub change-requires-2 : goal.change-requires-2
 change-requires-2 c = still_world c.args.self.now c.look_ahead.new.self c.requires c.in_ok-look_ahead.ensures.stays
@@ -41,8 +41,8 @@ returns-in-Step-clause-memory c =
 
 pub returns-in-Resume-clause-memory : goal.returns-in-Resume-clause-memory
 returns-in-Resume-clause-memory c =
-    subst (λ e. IfErr c.go_on_behind.result (λ x. x ≡ NoMemory → IsLegal c.args.self.now (event e))) (sym c.in-Resume.is)
-    c.go_on_behind.ensures.memory
+    subst (λ e. IfErr c.go_on_telling.result (λ x. x ≡ NoMemory → IsLegal c.args.self.now (event e))) (sym c.in-Resume.is)
+    c.go_on_telling.ensures.memory
 
 pub returns-in_err-look_ahead-clause-memory : goal.returns-in_err-look_ahead-clause-memory
 returns-in_err-look_ahead-clause-memory c =

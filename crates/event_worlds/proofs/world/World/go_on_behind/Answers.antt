@@ -1,4 +1,4 @@
-use Rattle.std.proofs.Common.{◌∙◌, ap, refl, subst, sym}
+use Rattle.std.proofs.Common.{◌∙◌, None, ap, refl, subst, sym}
 use Rattle.std.specs.HashSet.{contains}
 use Rattle.std.specs.Prelude.{if◌then◌else◌, nat_eq, true}
 use Rattle.event_worlds.specs.Events.{Resume}
@@ -29,7 +29,7 @@ returns-clause-resumed c =
     let r3 : rWorld = record old { scopes = c.leave.new.self.scopes; tasks = c.leave.new.self.tasks } in
     let last : rWorld = record r3 { hands = c.insert.new.self } in
     let others = c.in_ok-leave.ensures.others in
-    subst (λ (r : rWorld). Becomes (Resume c.args.worker path.turns.items) old (record r { hands = c.insert.new.self })) (sym others)
+    subst (λ (r : rWorld). Becomes (Resume c.args.worker path.turns.items None) old (record r { hands = c.insert.new.self })) (sym others)
     (resumed old c.requires.job path m old (λ v. refl) r2 refl
     (record { to = left.scope.to; fits = left.scope.fits; each = left.scope.each }) left.results.items
     (λ b h. results_of m.at.book.results left.results b left.kept h)

@@ -70,7 +70,7 @@ pub returns-in-Pass-clause-illegal : goal.returns-in-Pass-clause-illegal
 returns-in-Pass-clause-illegal c = illegal_as c.args.self.now c.may_pass.result c.in-Pass.is c.may_pass.ensures.illegal
 
 pub returns-in-Resume-clause-legal : goal.returns-in-Resume-clause-legal
-returns-in-Resume-clause-legal c = legal_as c.args.self.now c.may_resume.result c.in-Resume.is c.may_resume.ensures.legal
+returns-in-Resume-clause-legal c = legal_as c.args.self.now c.may_resume_telling.result c.in-Resume.is c.may_resume_telling.ensures.legal
 
 pub returns-in-Resume-clause-illegal : goal.returns-in-Resume-clause-illegal
-returns-in-Resume-clause-illegal c = illegal_as c.args.self.now c.may_resume.result c.in-Resume.is c.may_resume.ensures.illegal
+returns-in-Resume-clause-illegal c = illegal_as c.args.self.now c.may_resume_telling.result c.in-Resume.is c.may_resume_telling.ensures.illegal

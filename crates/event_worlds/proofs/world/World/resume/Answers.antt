@@ -1,4 +1,4 @@
-use Rattle.std.proofs.Common.{◌∙◌, sym, subst}
+use Rattle.std.proofs.Common.{◌∙◌, None, sym, subst}
 use Rattle.event_worlds.specs.Events.{Resume}
 use Rattle.event_worlds.specs.Shown.{Refuses}
 use Rattle.event_worlds.specs.declared.world.World.{World as rWorld}
@@ -31,9 +31,9 @@ returns-in_err-run-clause-refused c =
     let path = c.args.path.now in
     let m = c.if-not-may_leave.ensures.may in
     let hs : rWorld = record old { hands = c.reserve.new.self } in
-    err_passed c.from_residual-in_err-run.result c.in_err-run.field-0.0 (Refuses (Resume c.args.worker path.turns.items) old hs)
+    err_passed c.from_residual-in_err-run.result c.in_err-run.field-0.0 (Refuses (Resume c.args.worker path.turns.items None) old hs)
     c.from_residual-in_err-run.ensures.1
-    (subst (Refuses (Resume c.args.worker path.turns.items) old hs) (sym c.in_err-run.ensures.refused)
+    (subst (Refuses (Resume c.args.worker path.turns.items None) old hs) (sym c.in_err-run.ensures.refused)
     (roomy_stays old c.requires.job path m hs c.reserve.ensures.keys.2))
 
 pub drop_results-requires : goal.drop_results-requires

@@ -1,4 +1,4 @@
-use Rattle.std.proofs.Common.{◌≡◌, List, sym, subst}
+use Rattle.std.proofs.Common.{◌≡◌, ◌∙◌, List, sym, subst}
 use Rattle.shared_lemmas.proofs.Results.{err_passed}
 use Rattle.events.specs.declared.event.Event.{Event}
 use Rattle.event_worlds.specs.Replaying.{event as event_of}
@@ -23,7 +23,7 @@ invariant_of-result c =
     let new = c.go_by.new.self in
     subst (λ (l : List Event). IsClean (recorded new l)) (sym c.in_ok-push.ensures.items)
     (clean_more old.world new old.events.items c.args.event c.self.invariant c.in_ok-go_by.ensures.legal
-    c.in_ok-go_by.ensures.job)
+    c.in_ok-go_by.ensures.job (sym c.suits.ensures ∙ c.if-not-suits.false))
 
 pub returns-clause-moved : goal.returns-clause-moved
 returns-clause-moved c =
@@ -41,3 +41,8 @@ returns-in_err-push-clause-memory c =
     err_any c.from_residual-in_err-push.result
     (λ x is. subst (λ (l : Recorded). IsLegal l.world (event_of c.args.event)) c.self.view_is
     (λ w shown. let b = c.in_ok-go_by.ensures.legal w shown in (b.0, b.1)))
+
+pub returns-then-not-suits-clause-memory : goal.returns-then-not-suits-clause-memory
+returns-then-not-suits-clause-memory c = λ is.
+    subst (λ (l : Recorded). IsLegal l.world (event_of c.args.event)) c.self.view_is
+    (λ w shown. let b = c.in_ok-go_by.ensures.legal w shown in (b.0, b.1))

@@ -3,7 +3,7 @@ use Rattle.std.proofs.lemmas.Bool.{OnFalse_at, OnTrue_at}
 use Rattle.events.specs.declared.event.Event.{Event}
 use Rattle.event_worlds.specs.Replaying.{event as event_of}
 use Rattle.event_worlds.specs.Shown.{Becomes, IsLegal}
-use Rattle.event_worlds.specs.declared.error.EventError.TheVariants.{Illegal}
+use Rattle.event_worlds.specs.declared.error.EventError.TheVariants.{Illegal, NoMemory}
 use Rattle.event_worlds.proofs.Judging.{err_any}
 use Rattle.event_worlds.proofs.Staying.{stays_self}
 use Rattle.trace.specs.Logs.{IsClean, Leaves, Recorded}
@@ -34,7 +34,8 @@ invariant_of-self-2 c =
     let new = c.event.new.self in
     let items = c.in_ok-push.ensures.items ∙ ap (λ (l : List Event). l ++ c.args.event ∷ []) c.in_ok-reserve.ensures.items in
     subst (λ (l : List Event). IsClean (recorded new l)) (sym items)
-    (clean_more old.world new old.events.items c.args.event c.self.invariant c.in_ok-event.ensures.legal c.event.ensures.job)
+    (clean_more old.world new old.events.items c.args.event c.self.invariant c.in_ok-event.ensures.legal c.event.ensures.job
+    (sym c.suits.ensures ∙ c.if-not-suits.false))
 
 pub returns-clause-moved : goal.returns-clause-moved
 returns-clause-moved c =
@@ -57,3 +58,14 @@ returns-in_err-event-clause-memory c =
     err_any c.from_residual-in_err-event.result
     (λ x is. subst (λ (l : Recorded). IsLegal l.world (event_of c.args.event)) c.self.view_is
     (OnTrue_at c.if-not-is_legal.false c.is_legal.ensures.legal))
+
+pub returns-then-not-suits-clause-refused : goal.returns-then-not-suits-clause-refused
+returns-then-not-suits-clause-refused c =
+    let old = c.self.inside in
+    subst (λ (l : Recorded). Leaves c.args.event l l NoMemory) c.self.view_is
+    (record { events = refl; world = stays_self old.world })
+
+pub returns-then-not-suits-clause-memory : goal.returns-then-not-suits-clause-memory
+returns-then-not-suits-clause-memory c = λ is.
+    subst (λ (l : Recorded). IsLegal l.world (event_of c.args.event)) c.self.view_is
+    (OnTrue_at c.if-not-is_legal.false c.is_legal.ensures.legal)

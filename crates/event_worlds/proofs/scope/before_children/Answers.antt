@@ -1,0 +1,41 @@
+use Rattle.std.proofs.Common.{◌≡◌, ◌∙◌, ◌+◌, ◌∷◌, ap, arith, drop, length, map, sym}
+use Rattle.std.proofs.lemmas.List.{drop_all, drop_more, length-map}
+use Rattle.types.specs.Translation.{fault}
+use Rattle.task_run.specs.Translation.{listed}
+use Rattle.event_worlds.specs.Gathered.{before_children}
+use Rattle.event_worlds.proofs.scope.before_children.Goals as goal
+
+pub returns-in_default : goal.returns-in_default
+returns-in_default c = λ small.
+    let i = c.children.child-index in
+    let all = c.args.children.now in
+    let item = c.child-item.result in
+    let rest = before_children (map listed (drop (i + 1) all)) in
+    let split : before_children (map listed (drop i all)) ≡ length item.faults.items + rest =
+    ap (λ xs. before_children (map listed xs))
+    (drop_more all i item c.children-test.true ∙ ap (λ x. x ∷ drop (i + 1) all) (sym c.child-item.is))
+    ∙ ap (λ n. n + rest) (length-map item.faults.items fault) in
+    let so_far = c.children.invariant in
+    let long = c.len.ensures in
+    c.in_default.ensures (omega (arith, small, so_far, split, long))
+
+pub children-preserved : goal.children-preserved
+children-preserved c =
+    let i = c.children.child-index in
+    let all = c.args.children.now in
+    let item = c.child-item.result in
+    let rest = before_children (map listed (drop (i + 1) all)) in
+    let split : before_children (map listed (drop i all)) ≡ length item.faults.items + rest =
+    ap (λ xs. before_children (map listed xs))
+    (drop_more all i item c.children-test.true ∙ ap (λ x. x ∷ drop (i + 1) all) (sym c.child-item.is))
+    ∙ ap (λ n. n + rest) (length-map item.faults.items fault) in
+    let so_far = c.children.invariant in
+    let long = c.len.ensures in
+    let more = c.in-Some.ensures.1 in
+    omega (arith, so_far, split, long, more)
+
+pub returns : goal.returns
+returns c =
+    let none = ap (λ xs. before_children (map listed xs)) (drop_all c.children.child-index c.args.children.now c.children-test.false) in
+    let so_far = c.children.invariant in
+    (omega (arith, none, so_far), omega (arith, none, so_far))
