@@ -1,5 +1,6 @@
 pub mod Chains
 pub mod Counts
+pub mod Faults
 pub mod Hands
 pub mod Summary
 pub mod Tables

@@ -1,13 +1,16 @@
 -- The meaning of the tables that the numbers of a trace are computed with.
-use Rattle.std.specs.Prelude.{ℕ, ◌≡◌, ◌<◌, ◌≤◌, List, length, Option, None, Some, slice_index, slice_index_or}
+use Rattle.std.specs.Prelude.{ℕ, ◌≡◌, ◌<◌, ◌≤◌, List, length, map, Option, None, Some, slice_index, slice_index_or}
 use Rattle.std.specs.HashMap.{HashMap, get}
 use Rattle.types.specs.Translation.{is_path}
 use Rattle.types.specs.declared.path.Path.{Path}
 use Rattle.trace_numbers.specs.Chains.{Chains}
+use Rattle.trace_numbers.specs.Faults.{Finishes, Gathered}
 use Rattle.trace_numbers.specs.Hands.{Hands}
 use Rattle.trace_numbers.specs.declared.chains.Chain.{Chain}
 use Rattle.trace_numbers.specs.declared.chains.Chains.{Chains as rChains}
 use Rattle.trace_numbers.specs.declared.chains.ScopeChain.{ScopeChain}
+use Rattle.trace_numbers.specs.declared.faults.FinishFaults.{FinishFaults}
+use Rattle.trace_numbers.specs.declared.faults.Finishes.{Finishes as rFinishes}
 use Rattle.trace_numbers.specs.declared.hands.Hands.{Hands as rHands}
 
 -- ---- chains
@@ -49,6 +52,22 @@ pub record AreAfter (r : rChains) : Type 0 where
   pub chains : Chains
   pub within : AreWithin count chains
   pub shows : Shows r chains
+
+-- ---- finishes
+abbrev pub known_last : Option ℕ → ℕ
+known_last None = 0
+known_last (Some n) = n
+
+-- a table of numbers as a function of paths
+abbrev pub last_at : {S : Type 0} → HashMap Path ℕ S → Path → ℕ
+last_at table path = known_last (get is_path table path)
+
+abbrev pub gathered : FinishFaults → Gathered
+gathered g = record { owner = g.finish.owner.turns.items; number = g.finish.number; faults = g.faults }
+
+pub record ShowsFinishes (r : rFinishes) (f : Finishes) : Type 0 where
+  pub last : (path : Path) → last_at r.last path ≡ f.last path.turns.items
+  pub found : map gathered r.found.items ≡ f.found
 
 -- ---- hands
 pub record ShowsHands (r : rHands) (h : Hands) : Type 0 where

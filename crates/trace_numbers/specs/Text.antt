@@ -1,7 +1,10 @@
 -- The text of the numbers of a trace, one per line.
 use Rattle.std.specs.Prelude.{ℕ, zero, suc, ◌+◌, ◌*◌, ◌/◌, ◌%◌, List, [], ◌∷◌, ◌++◌, codes}
-use Rattle.std.specs.Prelude.{if◌then◌else◌, nat_lt, ◌||◌}
+use Rattle.std.specs.Prelude.{if◌then◌else◌, map, nat_lt, ◌||◌}
 use Rattle.std.specs.Fmt.{decimal}
+use Rattle.types.specs.Names.{scope_text}
+use Rattle.trace_numbers.specs.Faults.{Gathered}
+use Rattle.trace_numbers.specs.Tables.{gathered}
 use Rattle.trace_numbers.specs.declared.summary.TraceSummary.{TraceSummary}
 
 -- `3.59`: the steps divided by the span, with two digits, rounded down; `-` if there is no span
@@ -43,5 +46,15 @@ worker_lines workers number [] = []
 worker_lines workers number (steps ∷ more) =
     worker_line workers number steps ++ worker_lines workers (number + 1) more
 
+-- the faults of a finish
+abbrev pub faults_line : Gathered → List ℕ
+faults_line g = line (codes "faults of " ++ scope_text g.owner g.number) (decimal g.faults)
+
+abbrev pub faults_lines : List Gathered → List ℕ
+faults_lines [] = []
+faults_lines (g ∷ more) = faults_line g ++ faults_lines more
+
 abbrev pub summary_text : (workers : ℕ) → TraceSummary → List ℕ
-summary_text workers s = work_lines s ++ (task_lines s ++ worker_lines workers 0 s.by_worker.items)
+summary_text workers s =
+    work_lines s
+    ++ (task_lines s ++ (worker_lines workers 0 s.by_worker.items ++ faults_lines (map gathered s.faults.items)))

@@ -4,6 +4,7 @@
 
 pub mod chains;
 pub mod counts;
+pub mod faults;
 mod hands;
 pub mod summary;
 mod tasks;

@@ -5,6 +5,7 @@ ghost use Rattle.trace_numbers.specs.Summary.{IsSummary};
 
 use crate::chains::span;
 use crate::counts::{replenishings, spawns, steals, steps};
+use crate::faults::{FinishFaults, finish_faults};
 use crate::hands::steps_of_workers;
 use crate::tasks::{deepest_nest, most_tasks};
 use events::event::Event;
@@ -29,6 +30,9 @@ pub struct TraceSummary {
     pub most_tasks: usize,
     /// The number of steps of each of the 64 workers that a run can have, by its number.
     pub by_worker: Vec<usize>,
+    /// The finishes that have gathered faults, in the order in which their owners continue. A trace
+    /// of format 1 has no number of faults, so this is empty.
+    pub faults: Vec<FinishFaults>,
 }
 
 /// Returns the numbers of a list of events, in any order.
@@ -44,5 +48,6 @@ pub fn summarize(alloc: Global, events: &[Event]) -> Result<TraceSummary, AllocE
         deepest_nest: deepest_nest(events),
         most_tasks: most_tasks(events),
         by_worker: steps_of_workers(alloc, events)?,
+        faults: finish_faults(alloc, events)?,
     })
 }

@@ -1,14 +1,17 @@
 //! The text of the numbers of a trace.
 
-ghost use Rattle.std.specs.Prelude.{◌≡◌, ◌++◌, codes, IfOk, OnOk};
+ghost use Rattle.std.specs.Prelude.{◌≡◌, ◌++◌, codes, map, IfOk, OnOk};
 ghost use Rattle.std.specs.String.{string_bytes};
-ghost use Rattle.trace_numbers.specs.Text.{parallelism, summary_text, task_lines, work_lines, worker_line};
+ghost use Rattle.trace_numbers.specs.Tables.{gathered as gathered_of};
+ghost use Rattle.trace_numbers.specs.Text.{faults_line, faults_lines, parallelism, summary_text};
+ghost use Rattle.trace_numbers.specs.Text.{task_lines, work_lines, worker_line, worker_lines};
 
+use crate::faults::FinishFaults;
 use crate::summary::TraceSummary;
 use std::alloc::{AllocError, Global};
 
 /// Returns the numbers of a trace, one per line: the totals, and then the steps of each worker of
-/// the run, which had this many, and of any other worker that did some.
+/// the run, which had this many, and of any other worker that did some; then the faults of each finish.
 pub fn summary_text(
     alloc: Global,
     summary: &TraceSummary,
@@ -19,9 +22,8 @@ pub fn summary_text(
     let mut text = String::new(alloc);
     push_work(&mut text, summary)?;
     push_tasks(&mut text, summary)?;
-    for (number, steps) in summary.by_worker.iter().enumerate() {
-        push_worker(&mut text, number, *steps, workers as usize)?;
-    }
+    push_workers(&mut text, &summary.by_worker, workers)?;
+    push_faults(&mut text, &summary.faults)?;
     Ok(text)
 }
 
@@ -69,6 +71,17 @@ fn push_tasks(text: &mut String, summary: &TraceSummary) -> Result<(), AllocErro
     )
 }
 
+/// Adds the steps of each worker, by its number.
+fn push_workers(text: &mut String, by_worker: &[usize], workers: u32) -> Result<(), AllocError>
+    ensures { OnOk result (string_bytes text.new
+        ≡ string_bytes text.old ++ worker_lines workers 0 by_worker.now) }
+{
+    for (number, steps) in by_worker.iter().enumerate() {
+        push_worker(text, number, *steps, workers as usize)?;
+    }
+    Ok(())
+}
+
 /// Adds the steps of a worker, if it is one of the run's workers or did some steps.
 fn push_worker(
     text: &mut String,
@@ -83,4 +96,25 @@ fn push_worker(
         return Ok(());
     }
     write!(text, "steps of worker {number}: {steps}\n")
+}
+
+/// Adds the number of faults of each finish.
+fn push_faults(text: &mut String, finishes: &[FinishFaults]) -> Result<(), AllocError>
+    ensures { OnOk result (string_bytes text.new
+        ≡ string_bytes text.old ++ faults_lines (map gathered_of finishes.now)) }
+{
+    for gathered in finishes {
+        push_gathered(text, gathered)?;
+    }
+    Ok(())
+}
+
+/// Adds the number of faults of a finish.
+fn push_gathered(text: &mut String, gathered: &FinishFaults) -> Result<(), AllocError>
+    ensures { OnOk result (string_bytes text.new
+        ≡ string_bytes text.old ++ faults_line (gathered_of gathered.now)) }
+{
+    let finish = &gathered.finish;
+    let faults = gathered.faults;
+    write!(text, "faults of {finish}: {faults}\n")
 }

@@ -20,7 +20,7 @@ use Rattle.trace_text.specs.Lines.{trace_text}
 use Rattle.trace_text.specs.Reading.{IsRefusal, IsTrace}
 use Rattle.trace_text.specs.Table.{table_text}
 use Rattle.trace_text.specs.declared.error.TraceError.{TraceError}
-use Rattle.trace_text.specs.declared.header.Format.TheVariants.{Two}
+use Rattle.trace_text.specs.declared.header.Format.TheVariants.{One, Two}
 use Rattle.trace_text.specs.declared.header.Header.{Header}
 use Rattle.command_line.specs.Requests.{Settings}
 use Rattle.command_line.specs.declared.request.Command.{Command}
@@ -330,11 +330,11 @@ pub record IsInFormatTwo (s : Settings) (held : Held) (text bytes : List ℕ) : 
 -- the settings of the run that a page of schedules shows: one worker, and asyncs nested as deeply as a budget can
 -- allow
 abbrev pub schedule_header : TraceHeader
-schedule_header = record { steps = 1000000; nest = 1000; w0 = 1048576; workers = 1 }
+schedule_header = record { format = One; steps = 1000000; nest = 1000; w0 = 1048576; workers = 1 }
 
 -- the settings of a page that shows no run
 abbrev pub runless_header : TraceHeader
-runless_header = record { steps = 1; nest = 0; w0 = 1048576; workers = 1 }
+runless_header = record { format = One; steps = 1; nest = 0; w0 = 1048576; workers = 1 }
 
 abbrev pub budget_in : TraceHeader → Budget
 budget_in h = record { steps = h.steps; nest = h.nest }

@@ -30,7 +30,7 @@ use race_checker::accepted::Accepted;
 use std::alloc::{AllocError, Global};
 use std::io::Write;
 use std::thread::Threads;
-use trace_text::header::Header;
+use trace_text::header::{Format, Header};
 use types::budget::Budget;
 use types::input::Input;
 use types::path::Path;
@@ -110,6 +110,7 @@ fn header_of_run() -> Header
         nest: 1_000,
     };
     Header {
+        format: Format::One,
         budget,
         w0: W0,
         workers: 1,
@@ -123,6 +124,7 @@ fn header_of_none() -> Header
 {
     let budget = Budget { steps: 1, nest: 0 };
     Header {
+        format: Format::One,
         budget,
         w0: W0,
         workers: 1,
