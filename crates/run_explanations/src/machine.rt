@@ -96,7 +96,7 @@ impl<'p> RepeatedRun<'p> {
             RepeatedFrame::Turns(turns) => self.next_turn(turns)?,
             RepeatedFrame::Call { caller, .. } => self.thread.environment = caller,
             RepeatedFrame::Task(parent) => self.end_task(parent),
-            RepeatedFrame::Finish { faults } => self.end_finish(faults),
+            RepeatedFrame::Finish { faults } => self.end_finish(faults)?,
             RepeatedFrame::Rescue {
                 faults,
                 slot,
@@ -125,12 +125,13 @@ impl<'p> RepeatedRun<'p> {
     }
 
     /// Ends a finish: if there were faults in it, its task doesn't continue.
-    fn end_finish(&mut self, faults: u64) {
+    fn end_finish(&mut self, faults: u64) -> Result<(), AllocError> {
         self.thread.flow = if self.seen.many > faults {
             Flow::Faulted
         } else {
             Flow::On
         };
+        self.record_end(0)
     }
 
     /// Ends a finish: if there were faults in it, they are dropped, and the handler is next.
@@ -142,6 +143,7 @@ impl<'p> RepeatedRun<'p> {
     ) -> Result<(), AllocError> {
         self.thread.flow = Flow::On;
         let number = self.seen.many.saturating_sub(before);
+        self.record_end(number)?;
         if number == 0 {
             return Ok(());
         }
@@ -226,6 +228,15 @@ impl<'p> RepeatedRun<'p> {
     fn record(&mut self, label: Label) -> Result<(), AllocError> {
         match &mut self.steps {
             Some(steps) => steps.add(&self.thread.path, label),
+            None => Ok(()),
+        }
+    }
+
+    /// Adds the end of a finish of the current task to the record, with the number of faults that a
+    /// rescue drops there.
+    fn record_end(&mut self, rescued: u64) -> Result<(), AllocError> {
+        match &mut self.steps {
+            Some(steps) => steps.add_end(&self.thread.path, rescued),
             None => Ok(()),
         }
     }

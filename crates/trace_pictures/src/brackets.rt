@@ -5,6 +5,7 @@ ghost use Rattle.std.specs.Prelude.{◌≤◌};
 use crate::elements::{LineElement, push_circle, push_line, push_words};
 use crate::heading::push_count;
 use crate::sheet::Sheet;
+use crate::statements::Statements;
 use std::alloc::{AllocError, Global};
 use trace_layout::axis::{Axis, LEFT};
 use trace_layout::finishes::{Finish, Finishes, Return, longest};
@@ -24,9 +25,14 @@ pub struct Brackets {
 }
 
 /// Returns a bracket for each scope, or for the longest ones if all would take too many rows.
-pub fn brackets_of(alloc: Global, axis: Axis, all: &[Finish]) -> Result<Brackets, AllocError> {
+pub fn brackets_of(
+    alloc: Global,
+    axis: Axis,
+    all: &[Finish],
+    statements: Statements<'_>,
+) -> Result<Brackets, AllocError> {
     let every = longest(alloc, all, all.len())?;
-    if let Some(rows) = rows_for(alloc, axis, all, &every)? {
+    if let Some(rows) = rows_for(alloc, axis, all, &every, statements)? {
         return Ok(Brackets {
             shown: every,
             rows,
@@ -34,7 +40,7 @@ pub fn brackets_of(alloc: Global, axis: Axis, all: &[Finish]) -> Result<Brackets
         });
     }
     let shown = longest(alloc, all, ROWS)?;
-    let rows = match rows_for(alloc, axis, all, &shown)? {
+    let rows = match rows_for(alloc, axis, all, &shown, statements)? {
         Some(rows) => rows,
         None => Vec::new(alloc),
     };
@@ -51,11 +57,12 @@ fn rows_for(
     axis: Axis,
     all: &[Finish],
     shown: &[usize],
+    statements: Statements<'_>,
 ) -> Result<Option<Vec<usize>>, AllocError> {
     let mut stretches = Vec::new(alloc);
     for number in shown {
         if let Some(finish) = all.get(*number) {
-            let name = name_of(alloc, finish)?;
+            let name = name_of(alloc, finish, statements)?;
             let named = named_at(axis, finish, name.len());
             let first = axis.x(finish.first).min(named) as usize;
             let last = (named as usize).saturating_add(letters_width(name.len()) as usize);
@@ -83,10 +90,28 @@ fn named_at(axis: Axis, finish: &Finish, letters: usize) -> u32
     (axis.x(finish.first) + 40).min(most)
 }
 
-/// Returns `finish 0#1`.
-fn name_of(alloc: Global, finish: &Finish) -> Result<String, AllocError> {
+/// Returns `finish 0#1`, or `finish 0#1, 2 faults rescued`.
+fn name_of(
+    alloc: Global,
+    finish: &Finish,
+    statements: Statements<'_>,
+) -> Result<String, AllocError> {
     let name = &finish.name;
-    format!(in alloc; "finish {name}")
+    let faults = rescued_in(finish, statements);
+    if faults == 0 {
+        return format!(in alloc; "finish {name}");
+    }
+    let ending = if faults == 1 { "" } else { "s" };
+    format!(in alloc; "finish {name}, {faults} fault{ending} rescued")
+}
+
+/// Returns the number of faults that the rescue of a finish has dropped, or 0. The root's scope has no
+/// rescue: no event opens it.
+fn rescued_in(finish: &Finish, statements: Statements<'_>) -> u64 {
+    if finish.name.number == 0 {
+        return 0;
+    }
+    statements.rescued_at(finish.first)
 }
 
 impl Brackets {
@@ -112,12 +137,17 @@ impl Brackets {
         alloc: Global,
         sheet: Sheet,
         finishes: &Finishes,
+        statements: Statements<'_>,
     ) -> Result<(), AllocError> {
         push_words(text, "worker", LEFT - 100, sheet.row(0) + 40, "finishes")?;
         for (number, row) in self.shown.iter().zip(&self.rows) {
             if let Some(finish) = finishes.all.get(*number) {
                 let y = sheet.row(*row);
-                push_bracket(text, alloc, sheet.axis, finish, y)?;
+                let name = name_of(alloc, finish, statements)?;
+                push_bracket(text, sheet.axis, finish, name.as_str(), y)?;
+                if rescued_in(finish, statements) > 0 {
+                    push_circle(text, "rescue", sheet.axis.end(finish.last), y)?;
+                }
             }
         }
         if sheet.axis.is_wide() {
@@ -164,9 +194,9 @@ impl Brackets {
 /// circle where it parked.
 fn push_bracket(
     text: &mut String,
-    alloc: Global,
     axis: Axis,
     finish: &Finish,
+    name: &str,
     y: u32,
 ) -> Result<(), AllocError> {
     let first = axis.x(finish.first);
@@ -186,7 +216,6 @@ fn push_bracket(
     if finish.parked.is_some() && axis.is_wide() {
         push_circle(text, "owner", parked, y)?;
     }
-    let name = name_of(alloc, finish)?;
     let named = named_at(axis, finish, name.len());
-    push_words(text, "path", named, y.saturating_sub(70), name.as_str())
+    push_words(text, "path", named, y.saturating_sub(70), name)
 }

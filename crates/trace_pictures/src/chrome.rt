@@ -28,7 +28,8 @@ pub fn spans(
     }
     let firsts = statements.first_labels(alloc, &layout.spells)?;
     for (spell, label) in layout.spells.all.iter().zip(firsts.iter()) {
-        push_beginning(&mut text, spell, statements.described(*label))?;
+        let rescued = statements.rescued_at(spell.first);
+        push_beginning(&mut text, spell, statements.described(*label), rescued)?;
         push_end(&mut text, spell)?;
     }
     for birth in &layout.moves.births {
@@ -50,11 +51,13 @@ fn push_thread(text: &mut String, number: u32) -> Result<(), AllocError> {
     )
 }
 
-/// Adds the start of a spell, with the arrow from its spawn.
+/// Adds the start of a spell, with the arrow from its spawn. If a task continues after a rescue, also
+/// adds the number of faults that the rescue has dropped.
 fn push_beginning(
     text: &mut String,
     spell: &Spell,
     statement: Option<&str>,
+    rescued: u64,
 ) -> Result<(), AllocError> {
     let path = &spell.path;
     let depth = path.turns.len();
@@ -69,6 +72,9 @@ fn push_beginning(
         ",\n{{\"ph\":\"B\",\"name\":\"{path}\",\"cat\":\"depth{depth}\",\"pid\":0,\"tid\":{worker},\"ts\":{first},"
     )?;
     write!(text, "\"args\":{{\"event\":{first},\"by\":\"{by}\"")?;
+    if rescued > 0 {
+        write!(text, ",\"rescued\":{rescued}")?;
+    }
     if let Some(statement) = statement {
         text.push_str(",\"statement\":\"")?;
         push_escaped(text, statement)?;

@@ -44,6 +44,7 @@ text{font-family:'DejaVu Sans',sans-serif;font-size:10px;fill:#222}
 .wait{stroke-dasharray:4,3}
 .back{fill:#fff;stroke:#333}
 .owner{fill:#333;stroke:#333}
+.rescue{fill:#59a14f;stroke:#333}
 .busy{fill:#8fb3d9}
 .floor{stroke:#666}
 .p0{fill:#d3deeb;stroke:#4e79a7}.d0{fill:#4e79a7}

@@ -20,9 +20,14 @@ pub fn push_legend(
     sheet: Sheet,
     spells: &[Spell],
     steals: usize,
+    has_rescue: bool,
 ) -> Result<(), AllocError> {
     push_depths(text, alloc, sheet, spells)?;
-    push_marks(text, sheet, steals)
+    push_marks(text, sheet, steals)?;
+    if has_rescue {
+        return push_rescue(text, sheet.legend() + 220);
+    }
+    Ok(())
 }
 
 /// Adds the colours of the depths.
@@ -85,6 +90,12 @@ fn push_steal(text: &mut String, y: u32, steals: usize) -> Result<(), AllocError
         push_line(text, "steal", &LineElement::level(2360, 2580, middle))?;
     }
     push_words(text, "path", 2640, y.saturating_add(100), "steal")
+}
+
+/// Adds the mark of a finish whose faults a rescue has dropped.
+fn push_rescue(text: &mut String, y: u32) -> Result<(), AllocError> {
+    push_circle(text, "rescue", 8640, y.saturating_add(60))?;
+    push_words(text, "path", 8720, y.saturating_add(100), "rescue")
 }
 
 /// Adds the marks of single events.

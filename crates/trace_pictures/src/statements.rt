@@ -1,16 +1,19 @@
-//! The statements at the events of a trace, for tooltips.
+//! The statements at the events of a trace, for tooltips, and its rescues.
 
 use std::alloc::{AllocError, Global};
 use trace_layout::spells::Spells;
 use types::code::Label;
 
-/// The statements at events.
+/// The statements at events, and rescues.
 #[derive(Clone, Copy)]
 pub struct Statements<'s> {
     /// The label of the statement at each event, or 0 if there is none.
     pub labels: &'s [Label],
     /// The description of each statement, by its label.
     pub descriptions: &'s [String],
+    /// The number of faults that a rescue has dropped: at the event that opens its finish, and at the
+    /// one at which the owner continues; 0 at all other events.
+    pub rescued: &'s [u64],
 }
 
 impl<'s> Statements<'s> {
@@ -50,6 +53,17 @@ impl<'s> Statements<'s> {
             }
         }
         Ok(firsts)
+    }
+
+    /// Returns the number of faults that the rescue of a finish has dropped, or 0. The event opens the
+    /// finish, or its owner continues there.
+    pub(crate) fn rescued_at(self, event: usize) -> u64 {
+        self.rescued.get(event).copied().unwrap_or(0)
+    }
+
+    /// Returns whether there is a rescue.
+    pub(crate) fn has_rescue(self) -> bool {
+        self.rescued.iter().any(|faults| *faults > 0)
     }
 
     /// Returns the label of the statement at an event, or 0.

@@ -34,7 +34,7 @@ pub fn draw(
     let axis = Axis {
         events: events.len(),
     };
-    let brackets = brackets_of(alloc, axis, &layout.finishes.all)?;
+    let brackets = brackets_of(alloc, axis, &layout.finishes.all, statements)?;
     let sheet = Sheet {
         axis,
         workers: layout.lanes(header.workers),
@@ -55,7 +55,7 @@ pub fn draw(
     push_grid(&mut text, alloc, sheet)?;
     push_tasks(&mut text, alloc, sheet, events, &layout, statements)?;
     push_steals(&mut text, alloc, sheet, &layout.moves.steals)?;
-    brackets.push(&mut text, alloc, sheet, &layout.finishes)?;
+    brackets.push(&mut text, alloc, sheet, &layout.finishes, statements)?;
     push_busy(&mut text, alloc, sheet, &layout.in_hands)?;
     push_legend(
         &mut text,
@@ -63,6 +63,7 @@ pub fn draw(
         sheet,
         &layout.spells.all,
         layout.moves.steals.len(),
+        statements.has_rescue(),
     )?;
     text.push_str("</svg>\n")?;
     Ok(text)

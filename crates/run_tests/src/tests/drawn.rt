@@ -67,6 +67,7 @@ fn bare_spans(rt: &impl Abort, alloc: Global, events: &[Event]) -> String {
     let unknown = Statements {
         labels: &[],
         descriptions: &[],
+        rescued: &[],
     };
     spans(alloc, events, unknown).expect(rt, "memory")
 }
@@ -82,6 +83,7 @@ fn bare_picture(
     let unknown = Statements {
         labels: &[],
         descriptions: &[],
+        rescued: &[],
     };
     draw(alloc, heading, header, events, unknown).expect(rt, "memory")
 }
@@ -159,6 +161,7 @@ fn tooltips_and_spans_have_statements(rt: HostRuntime) {
     let statements = Statements {
         labels: LABELS,
         descriptions: &descriptions,
+        rescued: &[],
     };
     let picture = draw(alloc, "", &header, &events, statements).expect(&rt, "memory");
     for line in [
@@ -173,6 +176,32 @@ fn tooltips_and_spans_have_statements(rt: HostRuntime) {
     let text = spans(alloc, &events, statements).expect(&rt, "memory");
     let taken = "\"args\":{\"event\":4,\"by\":\"take\",\"statement\":\"6:7 label 3  a[0] = 7;\"}}";
     assert!(rt; text.as_str().contains(taken));
+}
+
+/// The number of faults that a rescue has dropped, at the open of its finish and at the resume.
+const RESCUED: &[u64] = &[0, 2, 0, 0, 0, 0, 0, 0, 0, 0, 2, 0, 0, 0];
+
+#[test]
+fn a_rescued_finish_is_marked(rt: HostRuntime) {
+    let alloc = rt.alloc();
+    let (header, events) = trace(&rt, alloc, TWO_WORKERS);
+    let statements = Statements {
+        labels: &[],
+        descriptions: &[],
+        rescued: RESCUED,
+    };
+    let picture = draw(alloc, "", &header, &events, statements).expect(&rt, "memory");
+    for line in [
+        ">finish 0#1, 2 faults rescued</text>\n",
+        "<circle class=\"rescue\" cx=\"236\" cy=\"266\" r=\"3\"/>\n",
+        ">rescue</text>\n",
+    ] {
+        assert!(rt; picture.as_str().contains(line), "{line}");
+    }
+    let text = spans(alloc, &events, statements).expect(&rt, "memory");
+    assert!(rt; text.as_str().contains("\"args\":{\"event\":10,\"by\":\"resume\",\"rescued\":2}}"));
+    let unmarked = bare_picture(&rt, alloc, "", &header, &events);
+    assert!(rt; !unmarked.as_str().contains("rescue\""));
 }
 
 /// Returns the number of rectangles of a class in a picture.
