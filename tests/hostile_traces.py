@@ -19,6 +19,12 @@ LINES = [line + "\n" for line in """\
 {"e":"pass","number":0,"owner":"0"}""".split("\n")]
 
 
+# The same run in format 2.
+HEADER_TWO = '{"format":2,"nest":100,"steps":1000000,"w0":8,"workers":1}'
+RESUME, RESUME_TWO = '{"e":"resume","path":"0","worker":0}', '{"e":"resume","faults":0,"path":"0","worker":0}'
+LINES_TWO = [HEADER_TWO + "\n"] + [line.replace(RESUME, RESUME_TWO) for line in LINES[1:]]
+
+
 def table(lines):
     """The table of the events of these lines, as docs/FORMATS.md says."""
     rows = []
@@ -76,7 +82,9 @@ def swapped_and_doubled():
 
 
 HEADERS = [
-    '{"format":2,"nest":100,"steps":1000000,"w0":8,"workers":1}', '{"format":1,"nest":1001,"steps":1000000,"w0":8,"workers":1}',
+    '{"format":0,"nest":100,"steps":1000000,"w0":8,"workers":1}', '{"format":3,"nest":100,"steps":1000000,"w0":8,"workers":1}',
+    '{"format":02,"nest":100,"steps":1000000,"w0":8,"workers":1}', '{"format":"2","nest":100,"steps":1000000,"w0":8,"workers":1}',
+    '{"format":2,"nest":100,"steps":0,"w0":8,"workers":1}', '{"format":1,"nest":1001,"steps":1000000,"w0":8,"workers":1}',
     '{"format":1,"nest":-1,"steps":1000000,"w0":8,"workers":1}', '{"format":1,"nest":100,"steps":0,"w0":8,"workers":1}',
     '{"format":1,"nest":100,"steps":1000000001,"w0":8,"workers":1}', '{"format":1,"nest":100,"steps":1000000,"w0":0,"workers":1}',
     '{"format":1,"nest":100,"steps":1000000,"w0":4294967297,"workers":1}', '{"format":1,"nest":100,"steps":1000000,"w0":8,"workers":0}',
@@ -106,6 +114,17 @@ EVENTS = [
     '{"e":"step","path":"' + ".".join(["0"] + ["1"] * 1001) + '"}', '{"e":"step","path":"' + "0" * 1_000_000 + '"}',
 ]
 
+# Lines of a resume that no trace of format 2 has.
+RESUMES = [
+    RESUME, '{"e":"resume","faults":00,"path":"0","worker":0}', '{"e":"resume","faults":-1,"path":"0","worker":0}',
+    '{"e":"resume","faults":-0,"path":"0","worker":0}', '{"e":"resume","faults":4294967296,"path":"0","worker":0}',
+    '{"e":"resume","faults":18446744073709551616,"path":"0","worker":0}', '{"e":"resume","faults":0.0,"path":"0","worker":0}',
+    '{"e":"resume","faults":"0","path":"0","worker":0}', '{"e":"resume","faults":null,"path":"0","worker":0}',
+    '{"e":"resume","path":"0","faults":0,"worker":0}', '{"e":"resume","path":"0","worker":0,"faults":0}',
+    '{"e":"resume","faults":0,"faults":0,"path":"0","worker":0}', '{"e":"resume","fault":0,"path":"0","worker":0}',
+    '{"e":"take","faults":0,"path":"0","worker":0}', '{"e":"step","faults":0,"path":"0"}',
+]
+
 # Spelled as they have to be, and never the first event of a run.
 STRANGE = ['{"e":"take","path":"0.4294967295","worker":0}', '{"e":"take","path":"0","worker":63}', '{"e":"pass","number":4294967295,"owner":"0"}',
            '{"e":"step","path":"' + ".".join(["0"] + ["1"] * 1000) + '"}', '{"e":"steal","from":63,"path":"0","worker":0}',
@@ -131,6 +150,14 @@ def spelled_otherwise():
         header = f'{{"format":1,"nest":{nest},"steps":{steps},"w0":{w0},"workers":{workers}}}\n'
         wanted = [shows(LINES)] if wrong is None else illegal(wrong, wrong)
         yield f"settings {header}", (header + rest).encode(), wanted
+    for line in RESUMES:
+        yield f"format 2 with {line}", "".join(LINES_TWO).replace(RESUME_TWO, line).encode(), [refuses("J1 line 11")]
+    for number in (1, 2, 4294967295):
+        line = RESUME_TWO.replace(":0,", f":{number},", 1)
+        yield f"format 2 with {line}", "".join(LINES_TWO).replace(RESUME_TWO, line).encode(), illegal(9, 9)
+    yield "format 2", "".join(LINES_TWO).encode(), [shows(LINES_TWO)]
+    yield "the header of format 2", (HEADER_TWO + "\n" + rest).encode(), [refuses("J1 line 11")]
+    yield "the header of format 1", "".join(LINES[:1] + LINES_TWO[1:]).encode(), [refuses("J1 line 11")]
     yield "a byte that isn't UTF-8", LINES[0].encode() + b"\xff\n", [refuses("not UTF-8 x.trace")]
 
 

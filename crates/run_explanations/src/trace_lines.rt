@@ -4,8 +4,8 @@ use std::alloc::AllocError;
 use trace_text::kind::EventKind;
 
 const HEADER: &str = "The first line is the header:
-  {\"format\":1,\"nest\":100,\"steps\":1000000,\"w0\":1048576,\"workers\":4}
-It has no spaces, and its numbers are in the ranges of the options of the same names.
+  {\"format\":2,\"nest\":100,\"steps\":1000000,\"w0\":1048576,\"workers\":4}
+The format is 1 or 2. The line has no spaces, and its other numbers are in the ranges of the options of the same names.
 ";
 
 const KINDS: &str =
@@ -26,7 +26,8 @@ pub fn push_line_form(told: &mut String, line: &str, number: usize) -> Result<()
             write!(
                 told,
                 "{article} {name} event is written like this, without spaces or leading zeros:\n  {form}\n"
-            )
+            )?;
+            told.push_str(other_form_of(kind))
         }
     }
 }
@@ -45,6 +46,15 @@ fn article_of(kind: EventKind) -> &'static str {
     }
 }
 
+/// Returns how an event of a kind is written in format 1, if that differs.
+fn other_form_of(kind: EventKind) -> &'static str {
+    match kind {
+        EventKind::Resume =>
+            "In format 1 it has no number of faults: {\"e\":\"resume\",\"path\":\"0\",\"worker\":0}\n",
+        _ => "",
+    }
+}
+
 /// Returns an example event of a kind.
 fn form_of(kind: EventKind) -> &'static str {
     match kind {
@@ -57,7 +67,7 @@ fn form_of(kind: EventKind) -> &'static str {
         EventKind::Park => "{\"e\":\"park\",\"path\":\"0\"}",
         EventKind::End => "{\"e\":\"end\",\"path\":\"0.1\"}",
         EventKind::Pass => "{\"e\":\"pass\",\"number\":1,\"owner\":\"0\"}",
-        EventKind::Resume => "{\"e\":\"resume\",\"path\":\"0\",\"worker\":0}",
+        EventKind::Resume => "{\"e\":\"resume\",\"faults\":0,\"path\":\"0\",\"worker\":0}",
     }
 }
 
@@ -88,6 +98,7 @@ fn rule_of(kind: EventKind) -> &'static str {
         EventKind::Pass =>
             "A finish passes when its owner is parked and all tasks started in it have ended.\n",
         EventKind::Resume =>
-            "A worker that runs no task resumes a task parked at a finish that has passed.\n",
+            "A worker that runs no task resumes a task parked at a finish that has passed.
+In format 2, `faults` is the number of faults that the finish has gathered.\n",
     }
 }

@@ -199,7 +199,10 @@ fn a_rescued_finish_is_marked(rt: HostRuntime) {
         assert!(rt; picture.as_str().contains(line), "{line}");
     }
     let text = spans(alloc, &events, statements).expect(&rt, "memory");
-    assert!(rt; text.as_str().contains("\"args\":{\"event\":10,\"by\":\"resume\",\"rescued\":2}}"));
+    assert!(rt;
+        text.as_str()
+            .contains("\"args\":{\"event\":10,\"by\":\"resume\",\"rescued\":2}}")
+    );
     let unmarked = bare_picture(&rt, alloc, "", &header, &events);
     assert!(rt; !unmarked.as_str().contains("rescue\""));
 }
