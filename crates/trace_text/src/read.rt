@@ -218,7 +218,7 @@ fn by_worker_in(
 
 /// Parses `,"from":0,"path":"0.1","worker":1}`
 fn steal_in(alloc: Global, rest: &str) -> Result<Option<Event>, AllocError>
-    ensures spelled { IfOk result (λ o. IfSome o (λ e. IsSpelled (event_of e))) }
+    ensures spelled { (f : AnyFormat) → IfOk result (λ o. IfSome o (λ e. IsSpelled f (event_of e))) }
     ensures told { IfOk result (λ o. (w f : ℕ) (p : List ℕ) → IsTheft w f p
         → rest.now ≡ steal_fields w f p → option_map event_of o ≡ Some (IsSteal w f p)) }
 {
@@ -281,7 +281,7 @@ fn counted_resume_in(alloc: Global, rest: &str) -> Result<Option<Event>, AllocEr
 
 /// Parses `,"number":1,"owner":"0"}`
 fn pass_in(alloc: Global, rest: &str) -> Result<Option<Event>, AllocError>
-    ensures spelled { IfOk result (λ o. IfSome o (λ e. IsSpelled (event_of e))) }
+    ensures spelled { (f : AnyFormat) → IfOk result (λ o. IfSome o (λ e. IsSpelled f (event_of e))) }
     ensures told { IfOk result (λ o. (id : AnyScopeId) → IsScope id
         → rest.now ≡ pass_fields id.number id.owner → option_map event_of o ≡ Some (IsPass id)) }
 {

@@ -19,6 +19,12 @@ returns-in-Resume-clause-told c =
     if_ok_then c.resume_in.result c.resume_in.ensures.told (λ o found e h kind same.
     told_resume c.args.format c.args.rest.now (option_map event o) found e h (sym c.in-Resume.is ∙ kind) same)
 
+pub returns-in-Steal-clause-spelled : goal.returns-in-Steal-clause-spelled
+returns-in-Steal-clause-spelled c = c.steal_in.ensures.spelled c.args.format
+
+pub returns-in-Pass-clause-spelled : goal.returns-in-Pass-clause-spelled
+returns-in-Pass-clause-spelled c = c.pass_in.ensures.spelled c.args.format
+
 pub returns-in-Steal-clause-told : goal.returns-in-Steal-clause-told
 returns-in-Steal-clause-told c =
     if_ok_then c.steal_in.result c.steal_in.ensures.told (λ o found e h kind same.
