@@ -85,7 +85,7 @@ fn rescued_at(
     events: &[Event],
     steps: &mut TaskSteps,
 ) -> Result<Vec<u64>, AllocError> {
-    let mut opened = HashMap::new(alloc);
+    let mut opened: HashMap<Path, Vec<usize>> = HashMap::new(alloc);
     let mut rescued: Vec<u64> = Vec::new(alloc);
     for (number, event) in events.iter().enumerate() {
         let faults = match event {
